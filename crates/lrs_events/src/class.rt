@@ -1,0 +1,132 @@
+//! Classes of assets, and the assets.
+
+ghost use Rattle.std.specs.Prelude.{◌≡◌, IsTrue};
+ghost use Rattle.std.specs.Option.{SomeIff};
+ghost use Rattle.lrs_events.specs.Names;
+
+use lrs_measure::Text;
+use lrs_measure::alphabet::{are_capitals, are_word_bytes, has_length, is_lone_dash};
+use std::marker::Model;
+
+fn is_class_name(bytes: &[u8]) -> bool
+    ensures { result ≡ Names.is_class_name bytes.now }
+{
+    has_length(bytes, 8) && are_capitals(bytes)
+}
+
+fn is_value(bytes: &[u8]) -> bool
+    ensures { result ≡ Names.is_value bytes.now }
+{
+    has_length(bytes, 12) && are_word_bytes(bytes) && !is_lone_dash(bytes)
+}
+
+/// The name of a class: 1 to 8 bytes of `A-Z0-9`.
+#[derive(Clone, Copy, Debug, PartialEq, Eq, PartialOrd, Ord)]
+pub struct ClassName {
+    text: Text<8>,
+}
+
+impl Model for ClassName {
+    ghost use Rattle.std.specs.Prelude.{List, ℕ, IsTrue};
+    ghost use Rattle.lrs_events.specs.Names.{is_class_name};
+
+    ghost Value = { List ℕ };
+
+    ghost view = { λ name. name.text };
+
+    ghost invariant = { λ name. IsTrue (is_class_name name.text) };
+
+    ghost inverse = { λ text. record { text = text } };
+}
+
+impl ClassName {
+    ghost use Rattle.lrs_events.specs.Names.{is_class_name};
+
+    /// The name of this text, if it is one.
+    pub fn new(bytes: &[u8]) -> Option<ClassName>
+        ensures { SomeIff result (IsTrue (is_class_name bytes.now)) bytes.now }
+    {
+        if !is_class_name(bytes) {
+            return None;
+        }
+        Some(ClassName {
+            text: Text::new(bytes),
+        })
+    }
+
+    /// Its text.
+    pub fn bytes(&self) -> &[u8]
+        ensures text { result.now ≡ self.now }
+        ensures alphabet { IsTrue (is_class_name self.now) }
+    {
+        self.text.bytes()
+    }
+}
+
+/// What an asset tells of the places that it holds: 1 to 12 bytes of `A-Za-z0-9._-`, not `-` alone.
+#[derive(Clone, Copy, Debug, PartialEq, Eq, PartialOrd, Ord)]
+pub struct Value {
+    text: Text<12>,
+}
+
+impl Model for Value {
+    ghost use Rattle.std.specs.Prelude.{List, ℕ, IsTrue};
+    ghost use Rattle.lrs_events.specs.Names.{is_value};
+
+    ghost Value = { List ℕ };
+
+    ghost view = { λ value. value.text };
+
+    ghost invariant = { λ value. IsTrue (is_value value.text) };
+
+    ghost inverse = { λ text. record { text = text } };
+}
+
+impl Value {
+    ghost use Rattle.lrs_events.specs.Names.{is_value};
+
+    /// The value of this text, if it is one.
+    pub fn new(bytes: &[u8]) -> Option<Value>
+        ensures { SomeIff result (IsTrue (is_value bytes.now)) bytes.now }
+    {
+        if !is_value(bytes) {
+            return None;
+        }
+        Some(Value {
+            text: Text::new(bytes),
+        })
+    }
+
+    /// Its text.
+    pub fn bytes(&self) -> &[u8]
+        ensures text { result.now ≡ self.now }
+        ensures alphabet { IsTrue (is_value self.now) }
+    {
+        self.text.bytes()
+    }
+}
+
+/// Where the assets of a class lie: at points, over stretches, or over stretches of which no two of the
+/// class lie on one place.
+#[derive(Clone, Copy, Debug, PartialEq, Eq)]
+pub enum Kind {
+    Point,
+    Stretch,
+    Exclusive,
+}
+
+/// A class of assets.
+#[derive(Clone, Copy, Debug, PartialEq, Eq)]
+pub struct Class {
+    pub name: ClassName,
+    pub kind: Kind,
+}
+
+/// An asset of the inventory. Its lateral offset is in millimetres from the linear element.
+#[derive(Clone, Copy, Debug, PartialEq, Eq)]
+pub struct Asset {
+    pub number: u64,
+    pub class: ClassName,
+    pub value: Value,
+    pub lateral: u32,
+}

@@ -1,0 +1,14 @@
+//! Numbers, exact fractions and short texts.
+//!
+//! The base of linear referencing without floating point: a fraction is its value in lowest terms, a
+//! text of bounded length lies in the value itself, and a list is seen by contracts as its elements.
+#![tactic(auto)]
+
+pub mod alphabet;
+mod fraction;
+mod rows;
+mod text;
+
+pub use fraction::{Frac, gcd};
+pub use rows::Rows;
+pub use text::Text;

@@ -1,0 +1,4 @@
+pub mod Names
+pub mod Expressions
+pub mod Locating
+pub mod Routes
