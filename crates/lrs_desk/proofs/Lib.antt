@@ -1,2 +1,10 @@
 pub mod Runs
 pub mod Keeping
+pub mod Registers
+pub mod Ledgers
+pub mod Checks
+pub mod Lawful
+pub mod Totals
+pub mod Members
+pub mod Pairs
+pub mod SoundImages

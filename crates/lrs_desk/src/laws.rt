@@ -1,6 +1,22 @@
 //! Laws of the ground machine, over all states and lists of commands.
 
-ghost use Rattle.lrs_desk.specs.Laws.{ActsOnce, OnlyDoneChanges, RouteEditsKeep, EmptyIsSound};
+ghost use Rattle.lrs_desk.specs.Laws.{StepKeepsLaws, RunsAreLawful, LawfulAddsUp, SoundIsLawful, ActsOnce, OnlyDoneChanges, RouteEditsKeep, EmptyIsSound};
+
+/// Every step keeps a lawful state lawful: each ledger pair once, held what was entered and is not
+/// gone, no place held by two assets of one exclusive class.
+pub fn every_step_keeps_the_laws()
+    ensures { StepKeepsLaws }
+{}
+
+/// So after every list of commands, from the empty inventory, the state is lawful.
+pub fn every_run_is_lawful()
+    ensures { RunsAreLawful }
+{}
+
+/// For each class, what is present is what was entered less what was retired and abandoned.
+pub fn totals_add_up()
+    ensures { LawfulAddsUp }
+{}
 
 /// The state after a list of commands is the state after the list without every later command whose
 /// key was accepted before.
@@ -16,6 +32,11 @@ pub fn route_edits_keep()
 /// Only an accepted command changes the state.
 pub fn only_done_changes()
     ensures { OnlyDoneChanges }
+{}
+
+/// A sound image stands for a lawful state: balanced, exclusive, and its ledgers named.
+pub fn sound_images_are_lawful()
+    ensures { SoundIsLawful }
 {}
 
 /// The image without entries is sound, and stands for the empty state.

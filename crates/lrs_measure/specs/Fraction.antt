@@ -1,3 +1,4 @@
+-- Exact fractions: values in lowest terms, and what it is to be a quotient, a floor or the nearest whole number.
 use Rattle.std.specs.Prelude.{◌≡◌, ℕ, ◌*◌, ◌<◌, ◌≤◌, ℤ, pos, ◌+ℤ◌, ◌*ℤ◌, ◌≤ℤ◌, ◌<ℤ◌, negsuc, neg_ℤ, unsigned_abs}
 use Rattle.std.specs.Int.{IsGcd}
 

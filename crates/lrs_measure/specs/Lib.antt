@@ -6,3 +6,4 @@ pub mod Alphabets
 pub mod Runs
 pub mod Texts
 pub mod Lists
+pub mod Numerals

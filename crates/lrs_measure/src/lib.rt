@@ -6,9 +6,13 @@
 
 pub mod alphabet;
 mod fraction;
+mod metres;
+mod reading;
 mod rows;
 mod text;
 
 pub use fraction::{Frac, gcd};
+pub use metres::Metres;
+pub use reading::{read_digits, read_fraction, read_signed};
 pub use rows::Rows;
 pub use text::Text;

@@ -1,0 +1,4 @@
+//! Worked examples.
+#![tactic(auto)]
+
+pub mod stored;

@@ -1,0 +1,4 @@
+pub mod Tables
+pub mod Decoding
+pub mod Content
+pub mod Laws
