@@ -54,9 +54,9 @@ balanced_beside s links classes assets routes referents done h = record {
 }
 
 -- links, routes and referents are of no matter to the laws
-ground : (n : ℕ) (s : State) (links : Register nat_cmp ℕ) (routes : Register name_cmp Alignment) (referents : Name → Option Millimetre) → Fits n s
+beside_assets : (n : ℕ) (s : State) (links : Register nat_cmp ℕ) (routes : Register name_cmp Alignment) (referents : Name → Option Millimetre) → Fits n s
     → Fits n (record s { links = links; routes = routes; referents = referents })
-ground n s links routes referents h = record {
+beside_assets n s links routes referents h = record {
   balanced = balanced_beside s _ _ _ _ _ _ h.balanced;
   exclusive = h.exclusive;
   asset_known = h.asset_known;
@@ -133,39 +133,39 @@ module _ (n : ℕ) (s : State) (low : 1 ≤ n) (h : Fits n s) where
       (and_from _ _ (ap (λ o. option_map_or (λ (a : Asset). same_name a.class e.class) o false) got ∙ same_class y.class e.class same) among)))
 
   -- a change of links, routes or referents
-  only_ground : (links : Register nat_cmp ℕ) (routes : Register name_cmp Alignment) (referents : Name → Option Millimetre)
+  only_beside : (links : Register nat_cmp ℕ) (routes : Register name_cmp Alignment) (referents : Name → Option Millimetre)
       → Goes (record s { links = links; routes = routes; referents = referents })
-  only_ground links routes referents = record { fits = ground n s links routes referents h; done = refl }
+  only_beside links routes referents = record { fits = beside_assets n s links routes referents h; done = refl }
 
   -- held pairs go, and with them routes and referents
   away : (reason : Reason) (taken : ℕ → Place → Bool) (routes : Register name_cmp Alignment) (referents : Name → Option Millimetre)
       → Goes (record (take_away n reason taken s) { routes = routes; referents = referents })
-  away reason taken routes referents = record { fits = ground n (take_away n reason taken s) s.links routes referents (fits_away n reason taken s low h); done = refl }
+  away reason taken routes referents = record { fits = beside_assets n (take_away n reason taken s) s.links routes referents (fits_away n reason taken s low h); done = refl }
 
   attempt_fits : (command : Command) → IfOk (attempt n command s) Goes
   unfolding attempt
-  attempt_fits (verb.Link l) = unless _ (contains_key s.links l.number) _ _ (λ _. only_ground _ s.routes s.referents)
+  attempt_fits (verb.Link l) = unless _ (contains_key s.links l.number) _ _ (λ _. only_beside _ s.routes s.referents)
   attempt_fits (verb.Class c) = unless _ (contains_key s.classes c.name) _ _ (λ unknown. record { fits = new_class n s c.name c.kind unknown h; done = refl })
   attempt_fits (verb.Route name pieces marks) =
       unless _ (contains_key s.routes name) _ _ (λ _. behind _ (check_pieces s pieces) _ (unless _ (is_too_long (course_of pieces)) _ _ (λ _. behind _ (check_free s pieces) _
-      (behind _ (check_marks (length (course_of pieces)) marks) _ (only_ground s.links _ s.referents)))))
+      (behind _ (check_marks (length (course_of pieces)) marks) _ (only_beside s.links _ s.referents)))))
   attempt_fits (verb.Ref name route at) =
-      unless _ (is_some (s.referents name)) _ _ (λ _. bind _ (route_named s route) _ (λ a _. bind _ (located_chainage s a at) _ (λ x _. only_ground s.links s.routes _)))
-  attempt_fits (verb.Unref name) = unless _ (is_none (s.referents name)) _ _ (λ _. only_ground s.links s.routes _)
+      unless _ (is_some (s.referents name)) _ _ (λ _. bind _ (route_named s route) _ (λ a _. bind _ (located_chainage s a at) _ (λ x _. only_beside s.links s.routes _)))
+  attempt_fits (verb.Unref name) = unless _ (is_none (s.referents name)) _ _ (λ _. only_beside s.links s.routes _)
   attempt_fits (verb.Enter e) = do_enter_fits e
   attempt_fits (verb.Retire asset route location) =
       bind _ (ok_or (kind_of_asset s asset) cause.NoAsset) _ (λ kind _. bind _ (route_named s route) _ (λ a _. unless _ (is_wrong_kind kind location.to) _ _ (λ _.
       bind _ (extent_of s a location) _ (λ extent _. unless _ (is_empty_extent extent || not (list_any (s.holds asset) (places_on B (part_of a.course extent)))) _ _ (λ _.
       away Retired (belongs_to asset (part_of a.course extent)) s.routes s.referents)))))
   attempt_fits (verb.Split route at name) =
-      bind _ (route_named s route) _ (λ a _. unless _ (contains_key s.routes name) _ _ (λ _. unless _ (not (is_inner_mark a.marks at)) _ _ (λ _. only_ground s.links _ s.referents)))
+      bind _ (route_named s route) _ (λ a _. unless _ (contains_key s.routes name) _ _ (λ _. unless _ (not (is_inner_mark a.marks at)) _ _ (λ _. only_beside s.links _ s.referents)))
   attempt_fits (verb.Join first second) = bind _ (route_named s first) _ (λ a _. bind _ (route_named s second) _ (λ b _. join_fits a b))
     where
       join_fits : (a b : Alignment) → IfOk (do_join_of first second a b s) Goes
       join_fits a b = unless _ (same_name first second) _ _ (λ _. unless _ (is_too_long (a.course ++ b.course) || nat_lt most_marks (length (joined_marks a.marks b.marks))) _ _ (λ _.
-          unless _ (is_out_of_range (joined_marks a.marks b.marks)) _ _ (λ _. only_ground s.links _ s.referents)))
-  attempt_fits (verb.Renumber route name) = bind _ (route_named s route) _ (λ a _. unless _ (contains_key s.routes name) _ _ (λ _. only_ground s.links _ s.referents))
-  attempt_fits (verb.Recalibrate route marks) = bind _ (route_named s route) _ (λ a _. behind _ (check_marks (length a.course) marks) _ (only_ground s.links _ s.referents))
+          unless _ (is_out_of_range (joined_marks a.marks b.marks)) _ _ (λ _. only_beside s.links _ s.referents)))
+  attempt_fits (verb.Renumber route name) = bind _ (route_named s route) _ (λ a _. unless _ (contains_key s.routes name) _ _ (λ _. only_beside s.links _ s.referents))
+  attempt_fits (verb.Recalibrate route marks) = bind _ (route_named s route) _ (λ a _. behind _ (check_marks (length a.course) marks) _ (only_beside s.links _ s.referents))
   attempt_fits (verb.Realign route first end pieces marks) = bind _ (route_named s route) _ (λ a _.
       unless _ (nat_lt (length a.course) first || nat_lt (length a.course) end) _ _ (λ _. unless _ (nat_lt end first || (nat_eq first end && is_nothing (unwrap_or pieces []))) _ _ (λ _.
       behind _ (check_pieces s (unwrap_or pieces [])) _ (behind _ (check_free s (unwrap_or pieces [])) _
@@ -173,7 +173,7 @@ module _ (n : ℕ) (s : State) (low : 1 ≤ n) (h : Fits n s) where
       unless _ (is_too_long course) _ _ (λ _. unless _ (is_nothing course) _ _ (λ _. behind _ (check_marks (length course) marks) _ (away Abandoned _ _ _))))))))
   attempt_fits (verb.Close route) = bind _ (route_named s route) _ (λ a _. away Abandoned _ _ _)
   attempt_fits (verb.Supersede e) = do_supersede_fits e
-  attempt_fits (verb.Turn route) = bind _ (route_named s route) _ (λ a _. only_ground s.links _ s.referents)
+  attempt_fits (verb.Turn route) = bind _ (route_named s route) _ (λ a _. only_beside s.links _ s.referents)
 
 -- a lawful state may name one edit more
 fits_next : (s : State) → IsLawful s → Fits (length s.done + 1) s

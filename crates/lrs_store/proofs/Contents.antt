@@ -1,0 +1,158 @@
+-- An image that a store holds is sound: what the tests of the tables read is what the tests of the image read.
+use Rattle.std.proofs.Common.{◌≡◌, Bool, true, false, cond, List, [], ◌∷◌, map, Option, Some, None, Ok, Err, refl, sym, ap, subst, ◌∙◌}
+use Rattle.std.specs.Prelude.{Result, IsTrue, IfSome, IfOk, if◌then◌else◌}
+use Rattle.std.specs.List.{list_any, list_all, filter}
+use Rattle.lrs_measure.specs.Texts.{same_name}
+use Rattle.lrs_element.specs.declared.marks.Mark.{Mark}
+use Rattle.lrs_position.specs.declared.route.Route.{Route}
+use Rattle.lrs_position.specs.Routes.{is_route}
+use Rattle.lrs_events.specs.declared.class.Asset.{Asset}
+use Rattle.lrs_desk.specs.declared.image.RouteEntry.{RouteEntry}
+use Rattle.lrs_desk.specs.declared.image.Image.{Image}
+use Rattle.lrs_desk.specs.declared.keeper.Table.{Table}
+use Rattle.lrs_desk.specs.declared.keeper.Table.TheVariants as table
+use Rattle.lrs_desk.specs.Image.{nothing}
+use Rattle.lrs_desk.specs.Sound.{RouteCourse, Test, first_failed, first_unsound, tests, IsSound, are_links, are_classes, are_assets, are_courses, are_all_marks, are_all_referents, are_spans, are_entered, are_gone, are_edits}
+use Rattle.lrs_store.specs.Tables.{Tables, MarkRow, RefRow, SpanRow}
+use Rattle.lrs_store.specs.Decoding.{if_true, only_if, each_of, each_numbered, link_of, class_of, asset_of, mark_of, referent_of, span_of, part_of, gone_of, edit_of}
+use Rattle.lrs_store.specs.Decoding as option
+use Rattle.lrs_store.specs.Content.{read, Measured, is_first_version, grouped, course_of_group, is_one_of, marks_of, referents_of, spans_of, measured_of, route_of, routes_of, entry_of, entries_of, image_of, content_of, has_no_rows}
+use Rattle.lrs_store.specs.Content as content
+
+-- what is read was decoded and passes its test
+record WasRead {A : Type 0} (o : Option A) (test : A → Bool) (x : A) : Type 0 where
+  decoded : o ≡ Some x
+  passes : test x ≡ true
+
+-- a step takes what was read before it
+behind_read : {A B : Type 0} (P : B → Type 0) (t : Table) (o : Option A) (test : A → Bool) (f : A → Result B Table)
+    → ((x : A) → WasRead o test x → IfOk (f x) P) → IfOk (content.◌>>=◌ (read t o test) f) P
+behind_read P t None test f h = tt
+behind_read P t (Some x) test f h =
+    elim (test x) as (λ b. test x ≡ b → IfOk (content.◌>>=◌ (cond b (Ok x) (Err t)) f) P) [
+      | true ↦ λ passes. h x (record { decoded = refl; passes = passes })
+      | false ↦ λ _. tt
+    ] refl
+
+-- a step takes what was there before it
+behind_some : {A B : Type 0} (P : B → Type 0) (o : Option A) (f : A → Option B) → ((x : A) → IfSome (f x) P) → IfSome (option.◌>>=◌ o f) P
+behind_some P None f h = tt
+behind_some P (Some x) f h = h x
+
+behind_true : {A : Type 0} (P : A → Type 0) (b : Bool) (value : IsTrue b → A) → ((h : IsTrue b) → P (value h)) → IfSome (if_true b value) P
+behind_true P true value h = h refl
+behind_true P false value h = tt
+
+is_some_as : {A : Type 0} (P : A → Type 0) (o : Option A) (x : A) → IfSome o P → o ≡ Some x → P x
+is_some_as P (Some y) x h e = let same : y ≡ x = cc in subst P same h
+is_some_as P None x h e = absurd (cc)
+
+-- what every row says, row by row
+map-each_of : {X Y Z : Type 0} (f : X → Option Y) (g : Y → Z) (h : X → Z) → ((x : X) → IfSome (f x) (λ y. g y ≡ h x)) → (xs : List X) → IfSome (each_of f xs) (λ ys. map g ys ≡ map h xs)
+map-each_of f g h each [] = refl
+map-each_of f g h each (x ∷ xs) = by (f x) (each x) (each_of f xs) (map-each_of f g h each xs)
+  where
+    by : (o : Option _) → IfSome o (λ y. g y ≡ h x) → (r : Option (List _)) → IfSome r (λ ys. map g ys ≡ map h xs)
+        → IfSome (option.◌>>=◌ o (λ y. option.◌>>=◌ r (λ ys. Some (y ∷ ys)))) (λ ys. map g ys ≡ h x ∷ map h xs)
+    by None first r rest = tt
+    by (Some y) first None rest = tt
+    by (Some y) first (Some ys) rest = cc
+
+map_id : {X : Type 0} (xs : List X) → map (λ x. x) xs ≡ xs
+map_id [] = refl
+map_id (x ∷ xs) = ap (λ t. x ∷ t) (map_id xs)
+
+map-map : {X Y Z : Type 0} (f : Y → Z) (g : X → Y) (xs : List X) → map f (map g xs) ≡ map (λ x. f (g x)) xs
+map-map f g [] = refl
+map-map f g (x ∷ xs) = ap (λ t. f (g x) ∷ t) (map-map f g xs)
+
+-- the marks of one course
+abbrev marks_in : RouteCourse → List MarkRow → Option (List Mark)
+marks_in c known = each_numbered 0 (λ r. r.n) mark_of (filter (λ r. same_name r.route c.route) known)
+
+-- they are read course by course
+measured-courses : (rows : List MarkRow) (courses : List RouteCourse) → IfSome (measured_of rows courses) (λ ms. map (λ m. m.course) ms ≡ map (λ c. c) courses)
+measured-courses rows courses =
+    behind_some _ (only_if (list_all (λ r. is_one_of courses r.route) rows) rows) _ (λ known.
+    map-each_of (λ c. option.◌>>=◌ (marks_in c known) (λ marks. Some (record { course = c; marks = marks }))) (λ (m : Measured). m.course) (λ (c : RouteCourse). c)
+      (λ c. behind_some _ (marks_in c known) _ (λ marks. refl)) courses)
+
+-- what a route has of its course and marks
+abbrev measured : Route → Measured
+measured r = record { course = record { route = r.name; entries = r.course }; marks = r.marks }
+
+-- the referents are read route by route
+routes-measured : (rows : List RefRow) (ms : List Measured) → IfSome (routes_of rows ms) (λ rs. map measured rs ≡ map (λ m. m) ms)
+routes-measured rows ms =
+    behind_some _ (only_if (list_all (λ r. list_any (λ m. same_name m.course.route r.route) ms) rows) rows) _ (λ known.
+    map-each_of (route_of known) measured (λ (m : Measured). m)
+      (λ m. behind_some _ (each_of referent_of (filter (λ r. same_name r.route m.course.route) known)) _ (λ refs. behind_true _ (is_route m.course.entries m.marks refs) _ (λ fits. refl))) ms)
+
+-- the spans are read route by route
+entries-routes : (assets : List Asset) (rows : List SpanRow) (rs : List Route) → IfSome (entries_of assets rows rs) (λ es. map (λ e. e.route) es ≡ map (λ r. r) rs)
+entries-routes assets rows rs =
+    behind_some _ (only_if (list_all (λ r. list_any (λ route. same_name route.name r.route) rs) rows) rows) _ (λ known.
+    map-each_of (entry_of assets known) (λ (e : RouteEntry). e.route) (λ (r : Route). r)
+      (λ r. behind_some _ (each_of (span_of assets) (filter (λ row. same_name row.route r.name) known)) _ (λ spans. refl)) rs)
+
+first_failed-passed : (t : Test) (ts : List Test) → t.passes ≡ true → first_failed (t ∷ ts) ≡ first_failed ts
+first_failed-passed t ts h = ap (λ b. cond b (first_failed ts) (Some t.table)) h
+
+-- every test passes
+abbrev AllPassed : List Test → Type 0
+AllPassed [] = Unit {0}
+AllPassed (t ∷ ts) = (t.passes ≡ true) × AllPassed ts
+
+none_failed : (ts : List Test) → AllPassed ts → first_failed ts ≡ None
+none_failed [] h = refl
+none_failed (t ∷ ts) h = first_failed-passed t ts h.0 ∙ none_failed ts h.1
+
+all_passed : (i : Image) → AllPassed (tests i) → IsSound i
+unfolding first_unsound
+all_passed i h = none_failed (tests i) h
+
+image_is_sound : (t : Tables) → IfOk (image_of t) IsSound
+image_is_sound t =
+    behind_read _ table.Version (Some t.version) is_first_version _ (λ version _.
+    behind_read _ table.Link (each_of link_of t.link) are_links _ (λ links link.
+    behind_read _ table.Class (each_of class_of t.class) are_classes _ (λ classes class.
+    behind_read _ table.Asset (each_of asset_of t.asset) (are_assets classes) _ (λ assets asset.
+    behind_read _ table.Piece (each_of course_of_group (grouped t.piece)) (are_courses links) _ (λ courses piece.
+    behind_read _ table.Mark (measured_of t.mark courses) (λ ms. are_all_marks (map marks_of ms)) _ (λ ms mark.
+    behind_read _ table.Ref (routes_of t.ref ms) (λ rs. are_all_referents (map referents_of rs)) _ (λ rs ref.
+    behind_read _ table.Span (entries_of assets t.span rs) (λ es. are_spans links classes assets (map spans_of es)) _ (λ es span.
+    behind_read _ table.Entered (each_of part_of t.entered) (are_entered links assets) _ (λ entered enter.
+    behind_read _ table.Gone (each_of gone_of t.gone) (are_gone links assets (map spans_of es) entered) _ (λ gone go.
+    behind_read _ table.Edit (each_numbered 1 (λ r. r.number) edit_of t.edit) (are_edits entered gone) _ (λ edits edit.
+      let of_courses : map (λ m. m.course) ms ≡ courses = is_some_as _ _ ms (measured-courses t.mark courses) mark.decoded ∙ map_id courses in
+      let of_ms : map measured rs ≡ ms = is_some_as _ _ rs (routes-measured t.ref ms) ref.decoded ∙ map_id ms in
+      let of_rs : map (λ e. e.route) es ≡ rs = is_some_as _ _ es (entries-routes assets t.span rs) span.decoded ∙ map_id rs in
+      let through : map (λ e. measured e.route) es ≡ ms = sym (map-map measured (λ (e : RouteEntry). e.route) es) ∙ ap (map measured) of_rs ∙ of_ms in
+      all_passed _ (
+        link.passes,
+        (class.passes,
+        (asset.passes,
+        (ap (are_courses links) (sym (map-map (λ (m : Measured). m.course) (λ (e : RouteEntry). measured e.route) es) ∙ ap (map (λ (m : Measured). m.course)) through ∙ of_courses) ∙ piece.passes,
+        (ap are_all_marks (sym (map-map marks_of (λ (e : RouteEntry). measured e.route) es) ∙ ap (map marks_of) through) ∙ mark.passes,
+        (ap are_all_referents (sym (map-map referents_of (λ (e : RouteEntry). e.route) es) ∙ ap (map referents_of) of_rs) ∙ ref.passes,
+        (span.passes,
+        (enter.passes,
+        (go.passes,
+        (edit.passes, tt)))))))))
+      ))))))))))))
+
+nothing_is_sound : IsSound nothing
+unfolding first_unsound
+nothing_is_sound = refl
+
+pub content_is_sound : (t : Tables) (i : Image) → content_of t ≡ Ok i → IsSound i
+unfolding content_of
+content_is_sound t i e = by (has_no_rows t) e
+  where
+    by : (b : Bool) → cond b (Ok nothing) (image_of t) ≡ Ok i → IsSound i
+    by true h = let same : nothing ≡ i = cc in subst IsSound same nothing_is_sound
+    by false h = from (image_of t) (image_is_sound t) h
+      where
+        from : (r : Result Image Table) → IfOk r IsSound → r ≡ Ok i → IsSound i
+        from (Ok x) is h = let same : x ≡ i = cc in subst IsSound same is
+        from (Err t) is h = absurd (cc)
