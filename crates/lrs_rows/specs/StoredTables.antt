@@ -1,28 +1,17 @@
 -- The rows of a store after the speed limit is entered, and for changes of them the table that is named as unsound.
-use Rattle.std.specs.Prelude.{◌≡◌, ℕ, ◌+◌, Bool, ℤ, pos, negsuc, List, [], ◌∷◌, ◌++◌, map, codes, true, false, Result, Ok, Err, refl, length}
+use Rattle.std.specs.Prelude.{◌≡◌, ℕ, pos, negsuc, ◌+◌, List, [], ◌∷◌, ◌++◌, codes, Ok, Err, refl}
+use Rattle.std.specs.Fmt.{digits}
 use Rattle.lrs_measure.specs.Texts.{Name}
-use Rattle.lrs_element.specs.declared.link.Link.{Link}
-use Rattle.lrs_element.specs.declared.link.Piece.{Piece}
-use Rattle.lrs_element.specs.declared.marks.Mark.{Mark}
-use Rattle.lrs_element.specs.Course.{course_of}
-use Rattle.lrs_position.specs.declared.route.Referent.{Referent}
-use Rattle.lrs_events.specs.declared.class.Kind.TheVariants.{Point, Stretch, Exclusive}
-use Rattle.lrs_events.specs.declared.side.Side.TheVariants.{B}
-use Rattle.lrs_events.specs.declared.side.LinkSide.{LinkSide}
-use Rattle.lrs_events.specs.declared.side.LinkSide.TheVariants.{Left, Right}
-use Rattle.lrs_events.specs.declared.part.Part.{Part}
-use Rattle.lrs_desk.specs.declared.image.Image.{Image}
 use Rattle.lrs_desk.specs.declared.keeper.Table.{Table}
 use Rattle.lrs_desk.specs.declared.keeper.Table.TheVariants as table
-use Rattle.lrs_store.specs.Tables.{Tables, PieceRow, MarkRow, RefRow, SpanRow, EnteredRow, GoneRow, EditRow}
+use Rattle.lrs_desk.specs.Lines.{line_of}
+use Rattle.lrs_desk.specs.Machine.{Record}
+use Rattle.lrs_store.specs.Tables.{Tables, PieceRow, MarkRow, RefRow, SpanRow, EnteredRow, EditRow}
 use Rattle.lrs_store.specs.Content.{content_of}
+use Rattle.lrs_rows.specs.Sheet.{a1, b1, km2, speed, rail, sign, sheet, with_speed}
+use Rattle.lrs_rows.specs.Images.{speed_image}
 
-abbrev pub a1 : Name
-a1 = codes "A1"
-
-abbrev pub speed : Name
-speed = codes "SPEED"
-
+-- rows of the route A1, of asset 10 and of the ledgers
 abbrev pub piece_row : ℕ → ℕ → ℕ → ℕ → ℕ → PieceRow
 piece_row n link a b dir = record { route = a1; n = pos n; link = pos link; a = pos a; b = pos b; dir = pos dir }
 
@@ -38,12 +27,10 @@ span_row route lo hi = record { asset = pos 10; route = route; lo = pos lo; hi =
 abbrev pub entered_row : ℕ → ℕ → ℕ → ℕ → ℕ → EnteredRow
 entered_row edit link lo hi side = record { edit = pos edit; asset = pos 10; link = pos link; lo = pos lo; hi = pos hi; side = pos side }
 
-abbrev pub edit_rows : ℕ → List Name → List EditRow
+-- accepted commands, numbered from n on
+abbrev pub edit_rows : ℕ → List Record → List EditRow
 edit_rows n [] = []
-edit_rows n (key ∷ keys) = record { number = pos n; token = key; line = codes "any text" } ∷ edit_rows (n + 1) keys
-
-abbrev pub keys : List Name
-keys = codes "s1" ∷ codes "s2" ∷ codes "s3" ∷ codes "s4" ∷ codes "s5" ∷ codes "s6" ∷ codes "s7" ∷ codes "e1" ∷ []
+edit_rows n (r ∷ rs) = record { number = pos n; token = r.key; line = line_of r.command } ∷ edit_rows (n + 1) rs
 
 abbrev pub pieces : List PieceRow
 pieces = piece_row 0 1 0 10 0 ∷ piece_row 1 2 0 6 1 ∷ []
@@ -59,39 +46,20 @@ abbrev pub stored : Tables
 stored = record {
   version = pos 1 ∷ [];
   link = record { number = pos 1; length = pos 10 } ∷ record { number = pos 2; length = pos 6 } ∷ record { number = pos 3; length = pos 4 } ∷ [];
-  class = record { name = codes "RAIL"; kind = pos 1 } ∷ record { name = codes "SIGN"; kind = pos 0 } ∷ record { name = speed; kind = pos 2 } ∷ [];
+  class = record { name = rail; kind = pos 1 } ∷ record { name = sign; kind = pos 0 } ∷ record { name = speed; kind = pos 2 } ∷ [];
   asset = record { number = pos 10; class = speed; value = codes "80"; lateral = pos 0 } ∷ [];
-  piece = pieces; mark = marks; ref = []; span = span_row a1 5 16 ∷ [];
-  entered = entered_rows; gone = []; edit = edit_rows 1 keys;
-}
-
-abbrev pub part : ℕ → ℕ → ℕ → LinkSide → Part
-part link lo hi side = record { edit = 8; asset = 10; link = link; lo = lo; hi = hi; side = side }
-
-abbrev pub piece : ℕ → ℕ → ℕ → Bool → Piece
-piece link a b forward = record { link = link; a = a; b = b; forward = forward }
-
-abbrev pub mark : ℕ → ℕ → Mark
-mark chainage measure = record { chainage = chainage; measure = measure }
-
--- the image of those rows
-abbrev pub image : Image
-image = record {
-  links = record { number = 1; length = 10; limits = refl } ∷ record { number = 2; length = 6; limits = refl } ∷ record { number = 3; length = 4; limits = refl } ∷ [];
-  classes = record { name = codes "RAIL"; kind = Stretch } ∷ record { name = codes "SIGN"; kind = Point } ∷ record { name = speed; kind = Exclusive } ∷ [];
-  assets = record { number = 10; class = speed; value = codes "80"; lateral = 0 } ∷ [];
-  routes = record {
-    route = record { name = a1; course = course_of (piece 1 0 10 true ∷ piece 2 0 6 false ∷ []); marks = mark 0 0 ∷ mark 10 12 ∷ mark 16 18 ∷ []; refs = []; fits = refl };
-    spans = record { asset = 10; class = speed; from = 5; to = 16; side = B } ∷ [];
-  } ∷ [];
-  entered = part 1 5 10 Left ∷ part 1 5 10 Right ∷ part 2 0 6 Left ∷ part 2 0 6 Right ∷ [];
+  piece = pieces;
+  mark = marks;
+  ref = [];
+  span = span_row a1 5 16 ∷ [];
+  entered = entered_rows;
   gone = [];
-  edits = map (λ key. record { key = key; line = codes "any text" }) keys;
+  edit = edit_rows 1 with_speed;
 }
 
 -- The rows are those of the image.
-pub stored_image : content_of stored ≡ Ok image
-unfolding content_of
+pub stored_image : content_of stored ≡ Ok speed_image
+unfolding digits content_of
 stored_image = refl
 
 -- A change of the rows makes this table the first unsound one.
@@ -109,7 +77,7 @@ UnsoundLinks = MakesUnsound (record stored { link = stored.link ++ record { numb
 
 -- a kind that is none, and a name with a small letter
 abbrev pub UnsoundClasses : Type 0
-UnsoundClasses = MakesUnsound (record stored { class = record { name = codes "SIGN"; kind = pos 3 } ∷ [] }) table.Class
+UnsoundClasses = MakesUnsound (record stored { class = record { name = sign; kind = pos 3 } ∷ [] }) table.Class
     × MakesUnsound (record stored { class = record { name = codes "sign"; kind = pos 0 } ∷ [] }) table.Class
 
 -- a lateral offset above its limit, and an unknown class
@@ -127,18 +95,18 @@ UnsoundPieces = MakesUnsound (record stored { piece = piece_row 0 1 0 10 0 ∷ p
 -- a last mark before the end, and a mark of no route
 abbrev pub UnsoundMarks : Type 0
 UnsoundMarks = MakesUnsound (record stored { mark = mark_row a1 0 0 0 ∷ mark_row a1 1 10 12 ∷ mark_row a1 2 15 18 ∷ [] }) table.Mark
-    × MakesUnsound (record stored { mark = marks ++ mark_row (codes "B1") 0 0 0 ∷ [] }) table.Mark
+    × MakesUnsound (record stored { mark = marks ++ mark_row b1 0 0 0 ∷ [] }) table.Mark
 
 -- a referent beyond the end, and one of no route
 abbrev pub UnsoundReferents : Type 0
-UnsoundReferents = MakesUnsound (record stored { ref = ref_row (codes "KM2") a1 16 ∷ [] }) table.Ref × MakesUnsound (record stored { ref = ref_row (codes "KM2") (codes "B1") 0 ∷ [] }) table.Ref
+UnsoundReferents = MakesUnsound (record stored { ref = ref_row km2 a1 16 ∷ [] }) table.Ref × MakesUnsound (record stored { ref = ref_row km2 b1 0 ∷ [] }) table.Ref
 
 -- a second row over the same millimetres; two rows in the place of one; beyond the end; on no route
 abbrev pub UnsoundSpans : Type 0
 UnsoundSpans = MakesUnsound (record stored { span = span_row a1 5 16 ∷ span_row a1 14 16 ∷ [] }) table.Span
     × MakesUnsound (record stored { span = span_row a1 5 8 ∷ span_row a1 8 16 ∷ [] }) table.Span
     × MakesUnsound (record stored { span = span_row a1 5 17 ∷ [] }) table.Span
-    × MakesUnsound (record stored { span = span_row (codes "B1") 5 16 ∷ [] }) table.Span
+    × MakesUnsound (record stored { span = span_row b1 5 16 ∷ [] }) table.Span
 
 -- beyond the end of a link, and a pair twice
 abbrev pub UnsoundEntered : Type 0
@@ -153,9 +121,9 @@ UnsoundGone = MakesUnsound (record stored { entered = [] }) table.Gone
 
 -- an edit that the ledger names is not there; a key twice; numbers from 0
 abbrev pub UnsoundEdits : Type 0
-UnsoundEdits = MakesUnsound (record stored { edit = edit_rows 1 (codes "s1" ∷ codes "s2" ∷ codes "s3" ∷ codes "s4" ∷ codes "s5" ∷ codes "s6" ∷ codes "s7" ∷ []) }) table.Edit
-    × MakesUnsound (record stored { edit = edit_rows 1 (keys ++ codes "s1" ∷ []) }) table.Edit
-    × MakesUnsound (record stored { edit = edit_rows 0 keys }) table.Edit
+UnsoundEdits = MakesUnsound (record stored { edit = edit_rows 1 sheet }) table.Edit
+    × MakesUnsound (record stored { edit = edit_rows 1 (with_speed ++ sheet) }) table.Edit
+    × MakesUnsound (record stored { edit = edit_rows 0 with_speed }) table.Edit
 
 -- each table by itself
 abbrev pub NamedTables : Type 0

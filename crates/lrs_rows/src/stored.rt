@@ -1,8 +1,8 @@
-//! Which table of a store is named as the first unsound one.
+//! Examples of stored rows.
 
 ghost use Rattle.lrs_rows.specs.StoredTables.{NamedTables};
 
 /// Changes of stored rows, and the table that each makes unsound.
-pub fn unsound_tables()
+pub fn stored_tables()
     ensures { NamedTables }
 {}

@@ -75,7 +75,7 @@ measured-courses : (rows : List MarkRow) (courses : List RouteCourse) → IfSome
 measured-courses rows courses =
     behind_some _ (only_if (list_all (λ r. is_one_of courses r.route) rows) rows) _ (λ known.
     map-each_of (λ c. option.◌>>=◌ (marks_in c known) (λ marks. Some (record { course = c; marks = marks }))) (λ (m : Measured). m.course) (λ (c : RouteCourse). c)
-      (λ c. behind_some _ (marks_in c known) _ (λ marks. refl)) courses)
+    (λ c. behind_some _ (marks_in c known) _ (λ marks. refl)) courses)
 
 -- what a route has of its course and marks
 abbrev measured : Route → Measured
@@ -86,14 +86,14 @@ routes-measured : (rows : List RefRow) (ms : List Measured) → IfSome (routes_o
 routes-measured rows ms =
     behind_some _ (only_if (list_all (λ r. list_any (λ m. same_name m.course.route r.route) ms) rows) rows) _ (λ known.
     map-each_of (route_of known) measured (λ (m : Measured). m)
-      (λ m. behind_some _ (each_of referent_of (filter (λ r. same_name r.route m.course.route) known)) _ (λ refs. behind_true _ (is_route m.course.entries m.marks refs) _ (λ fits. refl))) ms)
+    (λ m. behind_some _ (each_of referent_of (filter (λ r. same_name r.route m.course.route) known)) _ (λ refs. behind_true _ (is_route m.course.entries m.marks refs) _ (λ fits. refl))) ms)
 
 -- the spans are read route by route
 entries-routes : (assets : List Asset) (rows : List SpanRow) (rs : List Route) → IfSome (entries_of assets rows rs) (λ es. map (λ e. e.route) es ≡ map (λ r. r) rs)
 entries-routes assets rows rs =
     behind_some _ (only_if (list_all (λ r. list_any (λ route. same_name route.name r.route) rs) rows) rows) _ (λ known.
     map-each_of (entry_of assets known) (λ (e : RouteEntry). e.route) (λ (r : Route). r)
-      (λ r. behind_some _ (each_of (span_of assets) (filter (λ row. same_name row.route r.name) known)) _ (λ spans. refl)) rs)
+    (λ r. behind_some _ (each_of (span_of assets) (filter (λ row. same_name row.route r.name) known)) _ (λ spans. refl)) rs)
 
 first_failed-passed : (t : Test) (ts : List Test) → t.passes ≡ true → first_failed (t ∷ ts) ≡ first_failed ts
 first_failed-passed t ts h = ap (λ b. cond b (first_failed ts) (Some t.table)) h
@@ -124,22 +124,38 @@ image_is_sound t =
     behind_read _ table.Entered (each_of part_of t.entered) (are_entered links assets) _ (λ entered enter.
     behind_read _ table.Gone (each_of gone_of t.gone) (are_gone links assets (map spans_of es) entered) _ (λ gone go.
     behind_read _ table.Edit (each_numbered 1 (λ r. r.number) edit_of t.edit) (are_edits entered gone) _ (λ edits edit.
-      let of_courses : map (λ m. m.course) ms ≡ courses = is_some_as _ _ ms (measured-courses t.mark courses) mark.decoded ∙ map_id courses in
-      let of_ms : map measured rs ≡ ms = is_some_as _ _ rs (routes-measured t.ref ms) ref.decoded ∙ map_id ms in
-      let of_rs : map (λ e. e.route) es ≡ rs = is_some_as _ _ es (entries-routes assets t.span rs) span.decoded ∙ map_id rs in
-      let through : map (λ e. measured e.route) es ≡ ms = sym (map-map measured (λ (e : RouteEntry). e.route) es) ∙ ap (map measured) of_rs ∙ of_ms in
-      all_passed _ (
-        link.passes,
-        (class.passes,
-        (asset.passes,
-        (ap (are_courses links) (sym (map-map (λ (m : Measured). m.course) (λ (e : RouteEntry). measured e.route) es) ∙ ap (map (λ (m : Measured). m.course)) through ∙ of_courses) ∙ piece.passes,
-        (ap are_all_marks (sym (map-map marks_of (λ (e : RouteEntry). measured e.route) es) ∙ ap (map marks_of) through) ∙ mark.passes,
-        (ap are_all_referents (sym (map-map referents_of (λ (e : RouteEntry). e.route) es) ∙ ap (map referents_of) of_rs) ∙ ref.passes,
-        (span.passes,
-        (enter.passes,
-        (go.passes,
-        (edit.passes, tt)))))))))
-      ))))))))))))
+    let of_courses : map (λ m. m.course) ms ≡ courses = is_some_as _ _ ms (measured-courses t.mark courses) mark.decoded ∙ map_id courses in
+    let of_ms : map measured rs ≡ ms = is_some_as _ _ rs (routes-measured t.ref ms) ref.decoded ∙ map_id ms in
+    let of_rs : map (λ e. e.route) es ≡ rs = is_some_as _ _ es (entries-routes assets t.span rs) span.decoded ∙ map_id rs in
+    let through : map (λ e. measured e.route) es ≡ ms = sym (map-map measured (λ (e : RouteEntry). e.route) es) ∙ ap (map measured) of_rs ∙ of_ms in
+    all_passed _ (
+      link.passes,
+      (
+        class.passes,
+        (
+          asset.passes,
+          (
+            ap (are_courses links) (sym (map-map (λ (m : Measured). m.course) (λ (e : RouteEntry). measured e.route) es) ∙ ap (map (λ (m : Measured). m.course)) through ∙ of_courses) ∙ piece.passes,
+            (
+              ap are_all_marks (sym (map-map marks_of (λ (e : RouteEntry). measured e.route) es) ∙ ap (map marks_of) through) ∙ mark.passes,
+              (
+                ap are_all_referents (sym (map-map referents_of (λ (e : RouteEntry). e.route) es) ∙ ap (map referents_of) of_rs) ∙ ref.passes,
+                (
+                  span.passes,
+                  (
+                    enter.passes,
+                    (
+                      go.passes,
+                      (edit.passes, tt),
+                    ),
+                  ),
+                ),
+              ),
+            ),
+          ),
+        ),
+      ),
+    ))))))))))))
 
 nothing_is_sound : IsSound nothing
 unfolding first_unsound

@@ -26,8 +26,7 @@ pub loop-byte-preserved : goal.loop-byte-preserved
 loop-byte-preserved c =
     let at : c.loop-byte.byte-index < length c.args.bytes.now = omega arith in
     let more = digits_value_more 10 c.args.bytes.now c.loop-byte.byte-index at in
-    let digit = digit_value_digit (get_or c.args.bytes.now c.loop-byte.byte-index 0) c.if-not-is_ascii_digit.ensures.cases in
-    (
+    let digit = digit_value_digit (get_or c.args.bytes.now c.loop-byte.byte-index 0) c.if-not-is_ascii_digit.ensures.cases in (
       digits_more 10 c.args.bytes.now c.loop-byte.byte-index at c.loop-byte.invariant.0 c.if-not-is_ascii_digit.ensures.bound,
       omega (arith, more, digit, c.loop-byte.invariant.1, c.in_ok-tens.ensures.1, c.in_ok-value.ensures.1),
     )

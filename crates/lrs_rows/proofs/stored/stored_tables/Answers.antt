@@ -1,9 +1,10 @@
 use Rattle.std.proofs.Common.{refl}
+use Rattle.std.specs.Fmt.{digits}
 use Rattle.lrs_store.specs.Content.{content_of}
-use Rattle.lrs_rows.proofs.stored.unsound_tables.Goals as goal
+use Rattle.lrs_rows.proofs.stored.stored_tables.Goals as goal
 
 pub returns : goal.returns
-unfolding content_of
+unfolding digits content_of
 returns c = (
   (refl, refl),
   (refl, refl),
