@@ -8,3 +8,8 @@ pub mod Totals
 pub mod Members
 pub mod Pairs
 pub mod SoundImages
+pub mod Joined
+pub mod Decimals
+pub mod ExpressionTexts
+pub mod ListTexts
+pub mod LinesApart

@@ -14,6 +14,8 @@ use Rattle.lrs_desk.specs.Machine.{Record, step, step_record, state_after, place
 use Rattle.lrs_desk.specs.Image.{state_of, nothing}
 use Rattle.lrs_desk.specs.Readings.{total_present, total_entered, total_gone}
 use Rattle.lrs_desk.specs.Sound.{IsSound}
+use Rattle.lrs_desk.specs.Lines.{line_of}
+use Rattle.lrs_desk.specs.WellFormed.{IsWellFormed}
 
 -- Each pair of asset and place is entered at most once and taken away at most once; held is what was entered and is not gone, and nothing is gone that was not entered.
 pub record IsBalanced (s : State) : Type 0 where
@@ -96,3 +98,7 @@ SoundIsLawful = (i : Image) → IsSound i → IsLawful (state_of i)
 -- The image without entries is sound, and stands for the empty state.
 abbrev pub EmptyIsSound : Type 0
 EmptyIsSound = IsSound nothing × (state_of nothing ≡ nothing_known)
+
+-- Equal lines come only of equal commands; each command that a program can make is well formed, by the types of its parts.
+abbrev pub LinesTellCommandsApart : Type 0
+LinesTellCommandsApart = (a b : Command) → IsWellFormed a → IsWellFormed b → line_of a ≡ line_of b → a ≡ b

@@ -4,6 +4,7 @@ pub mod Bounds
 pub mod Register
 pub mod State
 pub mod Lines
+pub mod WellFormed
 pub mod Machine
 pub mod Image
 pub mod Readings

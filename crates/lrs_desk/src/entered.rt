@@ -40,7 +40,8 @@ impl AssetNumber {
 
     /// The number.
     pub fn get(self) -> u64
-        ensures { result ≡ self }
+        ensures number { result ≡ self }
+        ensures limits { IsTrue (is_asset_number self) }
     {
         self.number
     }
@@ -80,7 +81,8 @@ impl Chainage {
 
     /// The chainage in millimetres.
     pub fn get(self) -> u64
-        ensures { result ≡ self }
+        ensures distance { result ≡ self }
+        ensures limits { IsTrue (is_chainage self) }
     {
         self.distance
     }
@@ -120,7 +122,8 @@ impl LateralOffset {
 
     /// The offset in millimetres.
     pub fn get(self) -> u32
-        ensures { result ≡ self }
+        ensures distance { result ≡ self }
+        ensures limits { IsTrue (is_lateral_offset self) }
     {
         self.distance
     }

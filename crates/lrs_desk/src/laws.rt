@@ -1,6 +1,6 @@
 //! Laws of the ground machine, over all states and lists of commands.
 
-ghost use Rattle.lrs_desk.specs.Laws.{StepKeepsLaws, RunsAreLawful, LawfulAddsUp, SoundIsLawful, ActsOnce, OnlyDoneChanges, RouteEditsKeep, EmptyIsSound};
+ghost use Rattle.lrs_desk.specs.Laws.{StepKeepsLaws, RunsAreLawful, LawfulAddsUp, SoundIsLawful, ActsOnce, OnlyDoneChanges, RouteEditsKeep, EmptyIsSound, LinesTellCommandsApart};
 
 /// Every step keeps a lawful state lawful: each ledger pair once, held what was entered and is not
 /// gone, no place held by two assets of one exclusive class.
@@ -42,4 +42,9 @@ pub fn sound_images_are_lawful()
 /// The image without entries is sound, and stands for the empty state.
 pub fn empty_image_is_sound()
     ensures { EmptyIsSound }
+{}
+
+/// Equal canonical lines come only of equal commands.
+pub fn lines_tell_commands_apart()
+    ensures { LinesTellCommandsApart }
 {}
