@@ -1,5 +1,5 @@
 -- Images: one that stands for the state of the speed limit, and its neighbours, in each of which one table is unsound.
-use Rattle.std.specs.Prelude.{◌≡◌, ℕ, IsTrue, ◌+◌, Bool, true, false, ◌&&◌, List, [], ◌∷◌, ◌++◌, length, map, codes, Option, Some, None, replicate, refl}
+use Rattle.std.specs.Prelude.{◌≡◌, ℕ, IsTrue, Bool, true, false, ◌&&◌, List, [], ◌∷◌, ◌++◌, length, map, codes, Option, Some, None, replicate, refl}
 use Rattle.std.specs.List.{list_all, range_with_len, flat_map}
 use Rattle.std.specs.Fmt.{digits}
 use Rattle.lrs_measure.specs.Lists.{same_bool}
@@ -38,7 +38,7 @@ use Rattle.lrs_desk.specs.declared.keeper.Table.{Table}
 use Rattle.lrs_desk.specs.declared.keeper.Table.TheVariants as table
 use Rattle.lrs_desk.specs.Image.{state_of}
 use Rattle.lrs_desk.specs.Sound.{first_unsound, are_entered}
-use Rattle.lrs_rows.specs.Sheet.{a1, b1, km2, speed, rail, sign, abs, between, at, link, class, forth, back, plain, enter, full, keyed, after, totals_of, totals, row, route_of, over, both_sides_along, first_pieces, first_marks, first_classes, sheet, with_speed, lower_limit}
+use Rattle.lrs_rows.specs.Sheet.{a1, b1, km2, speed, rail, sign, abs, between, link, class, forth, back, plain, enter, full, keyed, after, totals_of, totals, row, route_of, over, both_sides_along, first_pieces, first_marks, first_classes, sheet, with_speed, lower_limit}
 use Rattle.lrs_rows.specs.Routes.{realigned_route}
 use Rattle.lrs_rows.specs.Retiring.{superseded}
 

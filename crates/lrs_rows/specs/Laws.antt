@@ -21,6 +21,7 @@ use Rattle.lrs_rows.specs.Readings.{all_three, three_classes, with_lanes}
 abbrev pub adds_up : State → Name → Bool
 adds_up s class = nat_eq (total_present class s + total_gone Retired class s + total_gone Abandoned class s) (total_entered class s)
 
+-- ... of every class
 abbrev pub all_add_up : State → Bool
 all_add_up s = list_all (adds_up s) (map (λ c. c.0) s.classes.rows)
 
@@ -35,6 +36,7 @@ times_gone s asset p = count_by (λ n. s.gone n Retired asset p) (edits_of s) + 
 abbrev pub is_balanced_at : State → ℕ → Place → Bool
 is_balanced_at s asset p = nat_le (times_entered s asset p) 1 && nat_eq (times_gone s asset p + (if s.holds asset p then 1 else 0)) (times_entered s asset p)
 
+-- ... each place of every asset
 abbrev pub is_balanced : State → Bool
 is_balanced s = list_all (λ a. list_all (is_balanced_at s a.0) (all_places s)) s.assets.rows
 
@@ -42,7 +44,7 @@ is_balanced s = list_all (λ a. list_all (is_balanced_at s a.0) (all_places s)) 
 abbrev pub is_held_once : State → Name → Bool
 is_held_once s class = list_all (λ p. nat_le (count_by (λ asset. s.holds asset p) (assets_of class s)) 1) (all_places s)
 
--- the examples
+-- the states of the examples, by their records
 abbrev pub worked : List (List Record)
 worked =
     sheet ∷ with_speed ∷ with_sign ∷ with_barrier ∷ exact_ends ∷ common_end
@@ -52,17 +54,17 @@ worked =
     ∷ all_three ∷ three_classes ∷ with_lanes ∷ []
 
 -- After each example the totals of each class add up.
-pub totals_add_up : map (λ records. all_add_up (after records)) worked ≡ replicate 29 true
+pub totals_add_up : list_all (λ records. all_add_up (after records)) worked ≡ true
 unfolding digits step attempt
 totals_add_up = refl
 
 -- After each example each asset's place was entered once, and is held or gone.
-pub places_balanced : map (λ records. is_balanced (after records)) worked ≡ replicate 29 true
+pub places_balanced : list_all (λ records. is_balanced (after records)) worked ≡ true
 unfolding digits step attempt
 places_balanced = refl
 
 -- After each example no two speed limits lie on one place.
-pub one_limit_on_a_place : map (λ records. is_held_once (after records) speed) worked ≡ replicate 29 true
+pub one_limit_on_a_place : list_all (λ records. is_held_once (after records) speed) worked ≡ true
 unfolding digits step attempt
 one_limit_on_a_place = refl
 

@@ -1,5 +1,5 @@
 -- Canonical lines, as an accepted command of each verb is kept.
-use Rattle.std.specs.Prelude.{◌≡◌, ◌+◌, [], ◌∷◌, map, codes, refl}
+use Rattle.std.specs.Prelude.{◌≡◌, [], ◌∷◌, map, codes, refl}
 use Rattle.std.specs.Fmt.{digits}
 use Rattle.lrs_events.specs.declared.class.Kind.TheVariants.{Point, Stretch, Exclusive}
 use Rattle.lrs_events.specs.declared.side.Side.TheVariants.{L, R, B}

@@ -149,6 +149,20 @@ pub on_the_right : segments left_superseded (speed ∷ []) Right ≡ segment 0 5
 unfolding digits step attempt
 on_the_right = refl
 
+-- Left and right are seen along the route, also where it runs backwards.
+abbrev pub on_the_backward_piece : List Record
+on_the_backward_piece = adding sheet (enter 10 speed L (between (abs 12) (abs 18)) (codes "80") ∷ [])
+
+-- The speed limit is on the left ...
+pub left_of_the_backward_piece : segments on_the_backward_piece (speed ∷ []) Left ≡ segment 0 10 (None ∷ []) ∷ segment 10 16 (Some (codes "80") ∷ []) ∷ []
+unfolding digits step attempt
+left_of_the_backward_piece = refl
+
+-- ... and not on the right.
+pub right_of_the_backward_piece : segments on_the_backward_piece (speed ∷ []) Right ≡ segment 0 16 (None ∷ []) ∷ []
+unfolding digits step attempt
+right_of_the_backward_piece = refl
+
 -- Lanes and speed limits: a segment ends where either of them changes, in the order asked for.
 abbrev pub with_lanes : List Record
 with_lanes = adding with_speed (class (codes "LANE") Exclusive ∷ enter 40 (codes "LANE") B (between (abs 3) (abs 12)) (codes "2") ∷ [])

@@ -1,5 +1,5 @@
 -- Refusals: each cause, and which of two faults is named.
-use Rattle.std.specs.Prelude.{◌≡◌, ℕ, IsTrue, ◌+◌, List, [], ◌∷◌, ◌++◌, map, codes, Some, None, replicate, refl}
+use Rattle.std.specs.Prelude.{◌≡◌, ℕ, IsTrue, List, [], ◌∷◌, ◌++◌, map, codes, Some, None, replicate, refl}
 use Rattle.std.specs.Fmt.{digits}
 use Rattle.lrs_measure.specs.Texts.{Name}
 use Rattle.lrs_element.specs.declared.link.Piece.{Piece}
@@ -33,7 +33,7 @@ barrier from to = enter 40 rail L (between from to) (codes "STEEL")
 abbrev pub tree : Name
 tree = codes "TREE"
 
--- a first command that is done is edit 10; what was refused before it has changed nothing
+-- Causes one after another: what is refused changes nothing, so the first command that is done is edit 10.
 abbrev pub EveryRefusal : Type 0
 EveryRefusal =
     replies busy (
@@ -54,7 +54,7 @@ EveryRefusal =
     ∷ Refused cause.NoAsset ∷ Refused (cause.BadMarks 1) ∷ Refused cause.RouteKnown
     ∷ Done 10 ∷ Done 11 ∷ []
 
--- The causes that the first list leaves out.
+-- Some causes that the first list leaves out.
 pub more_refusals : replies busy (
     enter 40 speed L (between (abs 5) (abs 7)) (codes "60") ∷ split 5 ∷ verb.Join a1 a1 ∷ verb.Join a1 nowhere
     ∷ realign_away 0 16 (plain 1) ∷ new_route (forth 3 0 4 ∷ back 2 0 1 ∷ []) (plain 5) ∷ [])

@@ -1,5 +1,5 @@
 -- Routes: what each route edit makes of courses, marks and referents, and what it leaves of the assets.
-use Rattle.std.specs.Prelude.{◌≡◌, ◌+◌, true, false, List, [], ◌∷◌, ◌++◌, map, codes, Some, None, refl}
+use Rattle.std.specs.Prelude.{◌≡◌, true, false, List, [], ◌∷◌, ◌++◌, map, codes, Some, None, refl}
 use Rattle.std.specs.Fmt.{digits}
 use Rattle.lrs_element.specs.Course.{course_of, piece_count}
 use Rattle.lrs_element.specs.Marks.{mirrored}
@@ -11,7 +11,7 @@ use Rattle.lrs_desk.specs.declared.command.Command.{Command}
 use Rattle.lrs_desk.specs.declared.command.Command.TheVariants as verb
 use Rattle.lrs_desk.specs.Machine.{Record, attempt, step}
 use Rattle.lrs_desk.specs.Readings.{rows_of, places_of, hits_at}
-use Rattle.lrs_rows.specs.Sheet.{a1, a2, b1, nowhere, km2, km5, speed, rail, sign, abs, past, short_of, between, link, forth, back, mark, plain, enter, split, join, realign, realign_away, adding, after, replies, totals_of, totals, row, route_of, over, referent_at, place, both_sides_along, first_pieces, first_marks, sheet, with_speed, with_sign, second_kilometre, with_referent}
+use Rattle.lrs_rows.specs.Sheet.{a1, a2, b1, nowhere, km2, km5, speed, rail, sign, abs, past, short_of, between, forth, back, mark, plain, enter, split, join, realign, realign_away, adding, after, replies, totals_of, totals, row, route_of, over, referent_at, place, both_sides_along, first_pieces, first_marks, sheet, with_speed, with_sign, second_kilometre, with_referent}
 
 -- A piece that is run backwards begins with its last millimetre.
 pub backward_piece : course_of (forth 1 3 5 ∷ back 2 0 3 ∷ [])

@@ -1,7 +1,7 @@
 -- The first sheet of the examples, in which a millimetre stands for half a metre, and the words of the examples: commands, answers and readings.
-use Rattle.std.specs.Prelude.{◌≡◌, ℕ, pos, neg_ℤ, ◌+◌, Bool, true, false, IsTrue, List, [], ◌∷◌, ◌++◌, length, map, codes, Option, Some, None, refl}
+use Rattle.std.specs.Prelude.{ℕ, pos, neg_ℤ, ◌+◌, true, false, IsTrue, List, [], ◌∷◌, ◌++◌, length, map, codes, Option, Some, None, refl}
 use Rattle.std.specs.List.{range_with_len, flat_map}
-use Rattle.std.specs.Option.{option_map, option_and_then}
+use Rattle.std.specs.Option.{option_and_then}
 use Rattle.lrs_measure.specs.Texts.{Name}
 use Rattle.lrs_measure.specs.Runs.{Run}
 use Rattle.lrs_element.specs.declared.link.Piece.{Piece}
@@ -16,13 +16,12 @@ use Rattle.lrs_events.specs.declared.class.Class.{Class}
 use Rattle.lrs_events.specs.declared.class.Kind.{Kind}
 use Rattle.lrs_events.specs.declared.class.Kind.TheVariants.{Point, Stretch, Exclusive}
 use Rattle.lrs_events.specs.declared.side.Side.{Side}
-use Rattle.lrs_events.specs.declared.side.Side.TheVariants.{L, R, B}
+use Rattle.lrs_events.specs.declared.side.Side.TheVariants.{L, B}
 use Rattle.lrs_events.specs.declared.side.LinkSide.{LinkSide}
 use Rattle.lrs_events.specs.declared.side.LinkSide.TheVariants.{Left, Right}
 use Rattle.lrs_events.specs.Places.{Place}
 use Rattle.lrs_desk.specs.declared.answer.Limits.{Limits}
 use Rattle.lrs_desk.specs.declared.answer.Answer.{Answer}
-use Rattle.lrs_desk.specs.declared.answer.Answer.TheVariants.{Done, Again, Refused}
 use Rattle.lrs_desk.specs.declared.command.Command.{Command}
 use Rattle.lrs_desk.specs.declared.command.Command.TheVariants as verb
 use Rattle.lrs_desk.specs.Register.{get}
