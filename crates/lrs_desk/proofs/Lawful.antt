@@ -12,7 +12,7 @@ use Rattle.lrs_measure.specs.Texts.{Name, same_name, name_cmp}
 use Rattle.lrs_measure.specs.Lists.{is_nothing}
 use Rattle.lrs_element.specs.Limits.{most_marks}
 use Rattle.lrs_element.specs.Course.{Millimetre, course_of, is_too_long}
-use Rattle.lrs_element.specs.Marks.{is_inner_mark, joined_marks}
+use Rattle.lrs_element.specs.Marks.{is_inner_mark, joined_marks, is_out_of_range}
 use Rattle.lrs_position.specs.Locating.{Alignment}
 use Rattle.lrs_events.specs.declared.class.Kind.{Kind}
 use Rattle.lrs_events.specs.declared.class.Kind.TheVariants.{Exclusive}
@@ -27,7 +27,7 @@ use Rattle.lrs_desk.specs.declared.command.Command.{Command}
 use Rattle.lrs_desk.specs.declared.command.Command.TheVariants as verb
 use Rattle.lrs_desk.specs.Register.{Register, get, insert, contains_key, entries}
 use Rattle.lrs_desk.specs.State.{State, Asset, Edit, Reason, Retired, Abandoned, nothing_known}
-use Rattle.lrs_desk.specs.Machine.{route_named, is_wrong_kind, check_pieces, check_free, check_marks, located_chainage, kind_of_asset, part_of, belongs_to, is_out_of_range}
+use Rattle.lrs_desk.specs.Machine.{route_named, is_wrong_kind, check_pieces, check_free, check_marks, located_chainage, kind_of_asset, part_of, belongs_to}
 use Rattle.lrs_desk.specs.Machine.{extent_of, is_empty_extent, Wanted, wanted_of, first_holder, is_of_class, take_away, enter_asset, do_enter, do_supersede, do_join_of, attempt}
 use Rattle.lrs_desk.specs.Machine.{next, check_room, accept, outcome_of, step_by_key, place_of_key, step, step_record, Record, state_after}
 use Rattle.lrs_desk.specs.Laws.{IsBalanced, IsLawful, StepKeepsLaws, RunsAreLawful}

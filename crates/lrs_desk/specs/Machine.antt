@@ -8,9 +8,9 @@ use Rattle.lrs_element.specs.declared.link.Link.{Link}
 use Rattle.lrs_element.specs.declared.link.Piece.{Piece}
 use Rattle.lrs_element.specs.declared.link.Ground.{Ground}
 use Rattle.lrs_element.specs.declared.marks.Mark.{Mark}
-use Rattle.lrs_element.specs.Limits.{most_marks, greatest_measure}
+use Rattle.lrs_element.specs.Limits.{most_marks}
 use Rattle.lrs_element.specs.Course.{Millimetre, expand, course_of, meets, runs_over, ground_at, entry_of, turned, is_too_long, first_repeated}
-use Rattle.lrs_element.specs.Marks.{bad_mark, is_inner_mark, marks_to, marks_from, joined_marks, mirrored}
+use Rattle.lrs_element.specs.Marks.{bad_mark, is_out_of_range, is_inner_mark, marks_to, marks_from, joined_marks, mirrored}
 use Rattle.lrs_position.specs.declared.expression.Expr.{Expr}
 use Rattle.lrs_position.specs.Expressions.{Ends}
 use Rattle.lrs_position.specs.Locating.{Alignment, lacks_referent, located, snap, cell}
@@ -252,9 +252,6 @@ do_split route at name s = do
   refuse_if (contains_key s.routes name) cause.RouteKnown
   refuse_if (not (is_inner_mark a.marks at)) cause.NoMark
   Ok (set_route route (take at a.course) (marks_to at a.marks) (set_route name (drop at a.course) (marks_from at a.marks) s))
-
-abbrev pub is_out_of_range : List Mark → Bool
-is_out_of_range marks = list_any (λ m. nat_lt greatest_measure m.measure) marks
 
 -- two routes of these names become one
 abbrev pub do_join_of : Name → Name → Alignment → Alignment → State → Result State Cause

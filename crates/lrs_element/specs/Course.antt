@@ -1,8 +1,8 @@
 -- Courses: what a list of pieces runs over, one entry for each millimetre (ISO 19148: linear element).
-use Rattle.std.specs.Prelude.{◌≡◌, ℕ, ◌+◌, ◌-◌, ◌<◌, Bool, true, false, ◌||◌, ◌&&◌, not, nat_lt, nat_eq, if◌then◌else◌, List, [], ◌∷◌, ◌++◌, map, reverse, length, Option, Some, None, slice_get, is_some}
+use Rattle.std.specs.Prelude.{◌≡◌, ℕ, ◌+◌, ◌-◌, ◌<◌, Bool, true, false, ◌||◌, ◌&&◌, not, nat_lt, nat_le, nat_eq, if◌then◌else◌, List, [], ◌∷◌, ◌++◌, map, reverse, length, Option, Some, None, slice_get, is_some}
 use Rattle.std.specs.List.{range_with_len, list_any, flat_map, find, position, AllByRecursion}
-use Rattle.std.specs.Option.{option_map}
-use Rattle.lrs_measure.specs.Lists.{same_bool}
+use Rattle.std.specs.Option.{option_map, option_map_or}
+use Rattle.lrs_measure.specs.Lists.{same_bool, each_two}
 use Rattle.lrs_element.specs.declared.link.Link.{Link}
 use Rattle.lrs_element.specs.declared.link.Piece.{Piece}
 use Rattle.lrs_element.specs.declared.link.Ground.{Ground}
@@ -70,7 +70,30 @@ pub record IsFewest (pieces : List Piece) : Type 0 where
 abbrev pub lacks_link : List Link → Piece → Bool
 lacks_link links p = not (list_any (λ l. nat_eq l.number p.link) links)
 
+-- in the order of their numbers, each number once
+abbrev pub are_in_order : List Link → Bool
+are_in_order links = each_two (λ a b. nat_lt a.number b.number) links
+
+-- the length of a link, 0 where there is none of this number
+abbrev pub length_of : List Link → ℕ → ℕ
+length_of links n = option_map_or (λ l. l.length) (find (λ l. nat_eq l.number n) links) 0
+
+-- the piece has no millimetre, or goes past the end of its link
+abbrev pub is_bad_piece : List Link → Piece → Bool
+is_bad_piece links p = nat_le p.b p.a || nat_lt (length_of links p.link) p.b
+
+-- whether the two run over a millimetre of the link
+abbrev pub share_link : List Ground → List Ground → ℕ → Bool
+share_link xs ys n = list_any (λ g. nat_eq g.link n && runs_over ys (g.link, g.mm)) xs
+
 -- the first piece that shares a millimetre with one before it, or with what stands before them all
 abbrev pub first_repeated : List Ground → List Piece → Option ℕ
 first_repeated before [] = None
 first_repeated before (p ∷ ps) = if meets (expand p) before then Some 0 else option_map (λ i. i + 1) (first_repeated (before ++ expand p) ps)
+
+-- Nothing is wrong with the pieces of a course.
+pub record AreGood (links : List Link) (pieces : List Piece) : Type 0 where
+  pub linked : position (lacks_link links) pieces ≡ None
+  pub filled : position (is_bad_piece links) pieces ≡ None
+  pub once : first_repeated [] pieces ≡ None
+  pub limits : is_too_long (course_of pieces) ≡ false

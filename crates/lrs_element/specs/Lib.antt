@@ -1,3 +1,7 @@
 pub mod Limits
 pub mod Course
+pub mod Pieces
+pub mod Faults
+pub mod Kept
 pub mod Marks
+pub mod Lines

@@ -86,3 +86,7 @@ joined_marks first second = first ++ map (λ m. record { chainage = m.chainage +
 -- seen from the other end: (c, m) becomes (length - c, first + last - m)
 abbrev pub mirrored : List Mark → List Mark
 mirrored marks = reverse (map (λ m. record { chainage = (last_mark marks).chainage - m.chainage; measure = ((first_mark marks).measure + (last_mark marks).measure) - m.measure }) marks)
+
+-- whether a measure is above the greatest one
+abbrev pub is_out_of_range : List Mark → Bool
+is_out_of_range marks = list_any (λ m. nat_lt greatest_measure m.measure) marks

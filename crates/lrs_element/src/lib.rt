@@ -3,10 +3,15 @@
 //! A course is its list of ground millimetres, one entry for each; marks are a line.
 #![tactic(auto)]
 
+mod checks;
 mod course;
 mod link;
 mod marks;
+mod pieces;
 
-pub use course::Course;
+pub use course::{Course, CourseFault, JoinFault};
 pub use link::{Ground, Link, Piece};
-pub use marks::{Mark, Marks};
+pub use marks::{Mark, MarkFault, Marks};
+
+#[cfg(test)]
+mod tests;

@@ -1,0 +1,6 @@
+pub mod Expanding
+pub mod Counting
+pub mod Walking
+pub mod Lining
+pub mod Apart
+pub mod Finding

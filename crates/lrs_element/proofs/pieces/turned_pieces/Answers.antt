@@ -1,0 +1,15 @@
+use Rattle.std.proofs.Common.{◌≡◌, ◌+◌, length, arith, rules, refl, sym, ◌∙◌, ap}
+use Rattle.lrs_element.specs.Course.{course_of}
+use Rattle.lrs_element.proofs.Counting.{IsFewest-nil}
+use Rattle.lrs_element.proofs.Walking.{turned_step, turned_none}
+use Rattle.lrs_element.proofs.pieces.turned_pieces.Goals as goal
+
+pub loop-i-init : goal.loop-i-init
+loop-i-init c = rw c.new-out.ensures.items (record { fewest = IsFewest-nil; turned = turned_none c.args.pieces.now _ (omega arith); count = omega arith })
+
+pub loop-i-preserved : goal.loop-i-preserved
+loop-i-preserved c = record {
+  fewest = c.in_ok-push_piece.ensures.fewest;
+  turned = turned_step _ _ c.loop-i.i _ _ _ _ (omega (arith, c.loop-i.auto.i)) (omega arith) c.loop-i.invariant.turned c.turned.ensures.turned c.in_ok-push_piece.ensures.ok;
+  count = omega (arith, c.loop-i.invariant.count, c.in_ok-push_piece.ensures.count);
+}

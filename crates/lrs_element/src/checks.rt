@@ -1,0 +1,125 @@
+//! What is wrong with the pieces of a course.
+
+ghost use Rattle.std.specs.Prelude.{◌≡◌, ℕ, ◌+◌, ◌<◌, ◌≤◌, [], nat_eq, is_some, find, position, length, true, false, slice_index_or, AllPairs, IfOk};
+ghost use Rattle.std.specs.Bool.{OnTrue, OnFalse};
+ghost use Rattle.std.specs.List.{AllByRecursion, AllAdjacentBelow};
+ghost use Rattle.std.specs.List.Sorted.{IsPermutation};
+ghost use Rattle.lrs_element.specs.Course.{lacks_link, is_bad_piece, first_repeated};
+ghost use Rattle.lrs_element.specs.declared.link.Link.{Link};
+ghost use Rattle.lrs_element.specs.declared.link.Piece.{Piece};
+ghost use Rattle.lrs_element.specs.Pieces.{pieces_meet, IsFilled, IsInOrder};
+
+use crate::link::{Link, Piece};
+use std::alloc::{AllocError, Global};
+
+/// How many of the links have a lower number.
+fn links_below(links: &[Link], number: u32) -> usize
+    requires { AllPairs (λ l m. l.number < m.number) links.now }
+    ensures bound { result ≤ length links.now }
+    ensures below { (k : ℕ) (l : Link) → k < result → (slice_index_or links.now k l).number < number }
+    ensures from { (k : ℕ) (l : Link) → result ≤ k → k < length links.now → number ≤ (slice_index_or links.now k l).number }
+{
+    links.partition_point(|link| link.number < number)
+}
+
+/// The link of this number, by binary search.
+fn find_link(links: &[Link], number: u32) -> Option<Link>
+    requires { AllPairs (λ l m. l.number < m.number) links.now }
+    ensures { result ≡ find (λ l. nat_eq l.number number) links.now }
+{
+    let at = links_below(links, number);
+    if at < links.len() && links[at].number == number {
+        Some(links[at])
+    } else {
+        None
+    }
+}
+
+/// Whether a piece is of no link.
+fn lacks_link(links: &[Link], piece: Piece) -> bool
+    requires { AllPairs (λ l m. l.number < m.number) links.now }
+    ensures { result ≡ lacks_link links.now piece }
+{
+    find_link(links, piece.link).is_none()
+}
+
+/// Whether a piece has no millimetre, or goes past the end of its link.
+fn is_bad_piece(links: &[Link], piece: Piece) -> bool
+    requires { AllPairs (λ l m. l.number < m.number) links.now }
+    ensures { result ≡ is_bad_piece links.now piece }
+{
+    let length = find_link(links, piece.link).map_or(0, |link| link.length);
+    piece.b <= piece.a || length < piece.b
+}
+
+/// The first piece of no link.
+pub(crate) fn first_unlinked(links: &[Link], pieces: &[Piece]) -> Option<usize>
+    requires { AllPairs (λ l m. l.number < m.number) links.now }
+    ensures { result ≡ position (lacks_link links.now) pieces.now }
+{
+    pieces.iter().position(|piece| lacks_link(links, *piece))
+}
+
+/// The first piece that has no millimetre, or goes past the end of its link.
+pub(crate) fn first_bad_piece(links: &[Link], pieces: &[Piece]) -> Option<usize>
+    requires { AllPairs (λ l m. l.number < m.number) links.now }
+    ensures { result ≡ position (is_bad_piece links.now) pieces.now }
+{
+    pieces.iter().position(|piece| is_bad_piece(links, *piece))
+}
+
+/// Whether two neighbours share a millimetre.
+fn neighbours_meet(pieces: &[Piece]) -> bool
+    ensures meet { OnTrue result ((k : ℕ) × (k + 1 < length pieces.now) × ((d : Piece) → pieces_meet (slice_index_or pieces.now k d) (slice_index_or pieces.now (k + 1) d) ≡ true)) }
+    ensures apart { OnFalse result ((k : ℕ) (d : Piece) → k + 1 < length pieces.now → pieces_meet (slice_index_or pieces.now k d) (slice_index_or pieces.now (k + 1) d) ≡ false) }
+{
+    for i in 1..pieces.len() {
+        if pieces[i - 1].meets(pieces[i]) {
+            return true;
+        }
+    }
+    false
+}
+
+/// The pieces sorted by link and start.
+fn sorted_by_start(alloc: Global, pieces: &[Piece]) -> Result<Vec<Piece>, AllocError>
+    ensures permutation { IfOk result (λ sorted. IsPermutation pieces.now sorted.items) }
+    ensures sorted { IfOk result (λ sorted. AllAdjacentBelow IsInOrder sorted.items (length sorted.items)) }
+{
+    let mut sorted = Vec::from_slice(alloc, pieces)?;
+    sorted.sort_unstable_by_key(|piece| (piece.link, piece.a));
+    Ok(sorted)
+}
+
+/// Whether two of the pieces share a millimetre.
+///
+/// A sort by link and start brings two that do side by side.
+fn have_repeat(alloc: Global, pieces: &[Piece]) -> Result<bool, AllocError>
+    requires { AllByRecursion IsFilled pieces.now }
+    ensures { IfOk result (λ repeat. repeat ≡ is_some (first_repeated [] pieces.now)) }
+{
+    let sorted = sorted_by_start(alloc, pieces)?;
+    Ok(neighbours_meet(&sorted))
+}
+
+/// The first piece that shares a millimetre with one before it: a binary search for the longest front
+/// whose pieces share none.
+pub(crate) fn first_repeated(alloc: Global, pieces: &[Piece]) -> Result<Option<usize>, AllocError>
+    requires { AllByRecursion IsFilled pieces.now }
+    ensures { IfOk result (λ first. first ≡ first_repeated [] pieces.now) }
+{
+    if !have_repeat(alloc, pieces)? {
+        return Ok(None);
+    }
+    let mut clean = 0;
+    let mut repeats = pieces.len();
+    while clean + 1 < repeats {
+        let middle = clean + (repeats - clean) / 2;
+        if have_repeat(alloc, &pieces[..middle])? {
+            repeats = middle;
+        } else {
+            clean = middle;
+        }
+    }
+    Ok(Some(clean))
+}
