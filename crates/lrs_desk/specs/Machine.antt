@@ -65,7 +65,7 @@ length_of_link s number = unwrap_or (get s.links number) 0
 abbrev pub entry_of_referent : State → Alignment → Name → Option ℕ
 entry_of_referent s a name = option_and_then (entry_of a.course) (s.referents name)
 
--- the chainage that a position expression locates
+-- the chainage that a position expression locates; one that can be entered is never too fine
 abbrev pub located_chainage : State → Alignment → Expr → Result (ℕ × ℕ) Cause
 located_chainage s a e = do
   refuse_if (lacks_referent (entry_of_referent s a) e) cause.NoRef

@@ -228,7 +228,7 @@ abbrev pub first_failed : List Test → Option Table
 first_failed [] = None
 first_failed (t ∷ ts) = if t.passes then first_failed ts else Some t.table
 
--- The first unsound table of an image.
+-- The first unsound table of an image. `version` is a matter of stored rows alone, as kinds, sides and numbering are.
 unfoldable pub first_unsound : Image → Option Table
 first_unsound i = first_failed (tests i)
 

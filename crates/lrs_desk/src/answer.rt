@@ -68,6 +68,8 @@ pub enum Answer {
 
 /// How many routes there may be at one time, how many assets ever and how many edits ever: at most
 /// 10,000, 1,000,000 and 10,000,000.
+///
+/// In a specification the ghost field of literal bounds is `bounds = refl`.
 #[derive(Clone, Copy, Debug, PartialEq, Eq)]
 pub struct Limits {
     pub routes: u64,

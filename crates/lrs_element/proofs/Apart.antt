@@ -1,10 +1,10 @@
 -- Which pieces have a millimetre in common.
-use Rattle.std.proofs.Common.{ℕ, zero, suc, ◌≡◌, ◌≢◌, ◌+◌, ◌-◌, ◌<◌, ◌≤◌, Bool, true, false, if◌then◌else◌, List, [], ◌∷◌, ◌++◌, length, get_or, set, take, drop, max, sym, ◌∙◌, ap, refl, subst, arith, rules, ⊎_elim, ◌⊎◌, inl, inr, Some, None, Option}
+use Rattle.std.proofs.Common.{ℕ, zero, suc, ◌≡◌, ◌≢◌, ◌+◌, ◌-◌, ◌<◌, ◌≤◌, Bool, true, false, if◌then◌else◌, List, [], ◌∷◌, ◌++◌, length, get_or, set, take, max, sym, ◌∙◌, ap, refl, subst, arith, ⊎_elim, ◌⊎◌, inl, inr, Some, None, Option}
 use Rattle.std.specs.Bool.{OnTrue, OnFalse}
 use Rattle.std.specs.Ordering.{nat_cmp, is_lt, ordering_then}
-use Rattle.std.specs.Prelude.{not, nat_lt, nat_le, nat_eq, ◌||◌, ◌&&◌, is_some, swap}
+use Rattle.std.specs.Prelude.{nat_lt, nat_eq, ◌||◌, ◌&&◌, is_some, swap}
 use Rattle.std.specs.Option.{option_map, IfNone, IfSome}
-use Rattle.std.specs.List.{list_any, All, AllByRecursion, AllAdjacentBelow}
+use Rattle.std.specs.List.{list_any, AllByRecursion, AllAdjacentBelow}
 use Rattle.std.proofs.lemmas.Bool.Decides.{nat_tests}
 use Rattle.std.specs.List.Sorted.{IsPermutation}
 use Rattle.std.proofs.lemmas.Bool.{cases_lt, cases_eq, or_left, or_right, or_parts, or_from, and_left, and_right, le-ltb, and_parts, and_from, lt-ltb, ltb-true, eq-eqb, eqb-true, ne_eqb, false_from_ne_true, both_ways, OnTrue_at, OnFalse_at}

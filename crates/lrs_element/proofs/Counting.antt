@@ -1,9 +1,9 @@
 -- In how few pieces a course can be written, as pieces come to its end.
-use Rattle.std.proofs.Common.{ℕ, zero, suc, ◌≡◌, ◌≢◌, ◌+◌, ◌-◌, ◌<◌, ◌≤◌, Bool, true, false, if◌then◌else◌, List, [], ◌∷◌, ◌++◌, length, get_or, take, drop, set, sym, ◌∙◌, ap, refl, subst, arith, rules, ⊎_elim}
+use Rattle.std.proofs.Common.{ℕ, zero, suc, ◌≡◌, ◌+◌, ◌-◌, ◌<◌, Bool, true, false, if◌then◌else◌, List, [], ◌∷◌, ◌++◌, length, get_or, take, set, sym, ◌∙◌, ap, refl, subst, arith}
 use Rattle.std.specs.Prelude.{nat_eq, ◌&&◌}
-use Rattle.std.proofs.lemmas.Bool.{cases_lt, cases_eq, and_from, and_parts, eq-eqb, eqb-true, cases_Bool, false_from_ne_true}
-use Rattle.std.specs.List.{flat_map, All, AllByRecursion}
-use Rattle.std.proofs.lemmas.List.{length-append, append_assoc, append-nil, length_push, get_or-append_right, get_or_append_left, get_or_read, length-set}
+use Rattle.std.proofs.lemmas.Bool.{and_from, and_parts, eq-eqb, eqb-true, false_from_ne_true}
+use Rattle.std.specs.List.{AllByRecursion}
+use Rattle.std.proofs.lemmas.List.{length-append, append_assoc, append-nil, length_push, get_or-append_right, length-set}
 use Rattle.std.proofs.lemmas.List.Elements.{All-from_recursion, recursion_from_All, All-push, All-set}
 use Rattle.std.proofs.lemmas.List.Concat.{flat_map-append}
 use Rattle.lrs_measure.specs.Lists.{same_bool}

@@ -1,5 +1,5 @@
 -- Links by their numbers.
-use Rattle.std.proofs.Common.{ℕ, zero, suc, ◌≡◌, ◌≢◌, ◌+◌, ◌<◌, ◌≤◌, Bool, true, false, if◌then◌else◌, List, [], ◌∷◌, length, get_or, sym, ◌∙◌, ap, refl, arith, ⊎_elim, Some, None, Option, slice_get}
+use Rattle.std.proofs.Common.{ℕ, zero, suc, ◌≡◌, ◌≢◌, ◌<◌, ◌≤◌, Bool, true, false, if◌then◌else◌, List, [], ◌∷◌, length, get_or, sym, ◌∙◌, ap, refl, arith, ⊎_elim, Some, None, Option, slice_get}
 use Rattle.std.specs.Prelude.{not, ◌||◌, nat_eq, nat_lt, is_none, is_some, find, position, AllPairs}
 use Rattle.std.specs.List.{list_any, position_or_len, AllByRecursion}
 use Rattle.std.specs.List.Sorted.{IsNonDecreasingBy}

@@ -1,9 +1,9 @@
 -- The marks' rules, from the first bad mark to what each place keeps, and back.
-use Rattle.std.proofs.Common.{ℕ, zero, suc, ◌≡◌, ◌+◌, ◌-◌, ◌<◌, ◌≤◌, Bool, true, false, if◌then◌else◌, List, [], ◌∷◌, ◌++◌, length, get_or, take, drop, map, sym, ◌∙◌, ap, refl, subst, arith, rules, ⊎_elim, Some, None, Option}
+use Rattle.std.proofs.Common.{ℕ, zero, suc, ◌≡◌, ◌+◌, ◌-◌, ◌<◌, ◌≤◌, Bool, true, false, if◌then◌else◌, List, [], ◌∷◌, ◌++◌, length, get_or, take, drop, map, sym, ◌∙◌, ap, refl, subst, arith, ⊎_elim, Some, None, Option}
 use Rattle.std.specs.Prelude.{reverse, not, nat_lt, nat_le, nat_eq, ◌||◌, ◌&&◌, is_none, filter}
 use Rattle.std.specs.Option.{option_map}
-use Rattle.std.specs.List.{list_any, All}
-use Rattle.std.proofs.lemmas.Bool.{cases_lt, or_parts, or_from, and_parts, and_from, not-false, ltb-true, ltb-false, leb-true, leb-false, eqb-true, lt-ltb, le-ltb, le-leb, lt-leb, eq-eqb, ne_eqb, false_from_ne_true, both_ways}
+use Rattle.std.specs.List.{All}
+use Rattle.std.proofs.lemmas.Bool.{cases_lt, or_parts, or_from, and_parts, and_from, not-false, ltb-true, ltb-false, eqb-true, lt-ltb, le-ltb, le-leb, lt-leb, eq-eqb, ne_eqb, false_from_ne_true, both_ways}
 use Rattle.std.proofs.lemmas.List.{length-map, length-take, length-drop, length-append, length-reverse, get_or-map, get_or-take, get_or-drop, get_or-reverse, get_or_append_left, get_or-append_right, drop_more, drop_all, take-append-drop, append-nil, append_assoc, reverse-append}
 use Rattle.std.proofs.lemmas.List.Folds.{Any-from_list_any, list_any_at}
 use Rattle.std.proofs.lemmas.List.Elements.{filter-append}

@@ -1,5 +1,5 @@
 -- Courses: what a list of pieces runs over, one entry for each millimetre (ISO 19148: linear element).
-use Rattle.std.specs.Prelude.{◌≡◌, ℕ, ◌+◌, ◌-◌, ◌<◌, Bool, true, false, ◌||◌, ◌&&◌, not, nat_lt, nat_le, nat_eq, if◌then◌else◌, List, [], ◌∷◌, ◌++◌, map, reverse, length, Option, Some, None, slice_get, is_some}
+use Rattle.std.specs.Prelude.{◌≡◌, ℕ, ◌+◌, ◌-◌, ◌<◌, Bool, false, ◌||◌, ◌&&◌, not, nat_lt, nat_le, nat_eq, if◌then◌else◌, List, [], ◌∷◌, ◌++◌, map, reverse, length, Option, Some, None, slice_get}
 use Rattle.std.specs.List.{range_with_len, list_any, flat_map, find, position, AllByRecursion}
 use Rattle.std.specs.Option.{option_map, option_map_or}
 use Rattle.lrs_measure.specs.Lists.{same_bool, each_two}

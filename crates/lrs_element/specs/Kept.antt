@@ -1,5 +1,5 @@
 -- What a course keeps: its pieces, where each one starts, and its length.
-use Rattle.std.specs.Prelude.{◌≡◌, ℕ, false, List, length}
+use Rattle.std.specs.Prelude.{◌≡◌, false, List, length}
 use Rattle.lrs_element.specs.declared.link.Ground.{Ground}
 use Rattle.lrs_element.specs.declared.course.Course.TheInside.{Inside}
 use Rattle.lrs_element.specs.Course.{course_of, is_too_long, IsFewest}

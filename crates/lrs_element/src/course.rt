@@ -216,7 +216,7 @@ impl Course {
         ensures course { course_of result.now ≡ self.now }
         ensures fewest { IsFewest result.now }
     {
-        &self.pieces
+        self.pieces.as_slice()
     }
 
     /// The millimetre at chainage `j`.

@@ -161,7 +161,7 @@ impl Marks {
         ensures list { result.now ≡ self.now }
         ensures marks { IsTrue (are_marks self.now) }
     {
-        &self.list
+        self.list.as_slice()
     }
 
     /// Equal marks.

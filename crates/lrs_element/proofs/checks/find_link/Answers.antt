@@ -1,4 +1,3 @@
-use Rattle.std.proofs.Common.{◌≡◌}
 use Rattle.lrs_element.proofs.Finding.{find_link_read, find_link_other, find_link_past}
 use Rattle.lrs_element.proofs.checks.find_link.Goals.{else-at-links-via-then-at-links+else-links-at, else-at-links-via-else-at-links}
 use Rattle.lrs_element.proofs.checks.find_link.Goals as goal

@@ -1,4 +1,3 @@
-use Rattle.std.proofs.Common.{◌≡◌}
 use Rattle.lrs_element.proofs.Apart.{repeat_answer}
 use Rattle.lrs_element.proofs.checks.have_repeat.Goals as goal
 

@@ -1,4 +1,3 @@
-use Rattle.std.proofs.Common.{◌≡◌}
 use Rattle.lrs_element.proofs.Finding.{lacking}
 use Rattle.lrs_element.proofs.checks.lacks_link.Goals as goal
 

@@ -1,4 +1,4 @@
-use Rattle.std.proofs.Common.{◌≡◌, sym, ◌∙◌}
+use Rattle.std.proofs.Common.{sym, ◌∙◌}
 use Rattle.lrs_element.proofs.Apart.{adjacent_found, adjacent_more}
 use Rattle.lrs_element.proofs.checks.neighbours_meet.Goals as goal
 

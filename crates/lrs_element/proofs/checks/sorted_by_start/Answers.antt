@@ -1,6 +1,5 @@
 use Rattle.std.proofs.Common.{◌≡◌, arith, rules}
 use Rattle.std.proofs.lemmas.List.Sorted.{answers_always}
-use Rattle.lrs_element.specs.declared.link.Piece.{Piece}
 use Rattle.lrs_element.proofs.Apart.{in_order}
 use Rattle.lrs_element.proofs.checks.sorted_by_start.Goals as goal
 

@@ -1,4 +1,3 @@
-use Rattle.std.proofs.Common.{◌≡◌}
 use Rattle.lrs_element.proofs.Lining.{search_on}
 use Rattle.lrs_element.specs.Marks.{no_mark}
 use Rattle.lrs_element.proofs.marks.first_bad_mark.Goals as goal

@@ -1,8 +1,7 @@
-use Rattle.std.proofs.Common.{◌≡◌, ◌+◌, ◌++◌, List, map, drop, length, ap, sym, ◌∙◌, arith, rules}
+use Rattle.std.proofs.Common.{◌++◌, map, drop, ap, sym, ◌∙◌, arith}
 use Rattle.lrs_element.specs.declared.marks.Mark.{Mark}
-use Rattle.lrs_element.specs.Limits.{greatest_measure}
 use Rattle.lrs_element.specs.Lines.{moved_on}
-use Rattle.lrs_element.specs.Marks.{last_mark, first_mark}
+use Rattle.lrs_element.specs.Marks.{first_mark}
 use Rattle.lrs_element.proofs.Lining.{in_bounds, first_mark_is, map_done}
 use Rattle.lrs_element.proofs.marks.joined_marks.Goals as goal
 

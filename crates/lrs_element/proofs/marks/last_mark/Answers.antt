@@ -1,4 +1,4 @@
-use Rattle.std.proofs.Common.{◌≡◌, sym}
+use Rattle.std.proofs.Common.{sym}
 use Rattle.lrs_element.proofs.Lining.{last_mark_is}
 use Rattle.lrs_element.proofs.marks.last_mark.Goals as goal
 

@@ -1,4 +1,4 @@
-use Rattle.std.proofs.Common.{◌≡◌, ◌+◌, ◌-◌, ◌≤◌, ◌<◌, length, arith, rules}
+use Rattle.std.proofs.Common.{◌-◌, arith}
 use Rattle.lrs_element.proofs.Lining.{in_bounds}
 use Rattle.lrs_element.proofs.marks.mirrored_marks.Goals as goal
 

@@ -1,4 +1,4 @@
-use Rattle.std.proofs.Common.{◌≡◌, ℕ, min, length, List, ◌++◌, sym, ap, ◌∙◌, append-nil}
+use Rattle.std.proofs.Common.{◌≡◌, min, length, List, ◌++◌, sym, ap, ◌∙◌, append-nil}
 use Rattle.lrs_element.specs.declared.link.Ground.{Ground}
 use Rattle.lrs_element.specs.Course.{expand, course_of}
 use Rattle.lrs_element.proofs.Walking.{range_capped, range_none}

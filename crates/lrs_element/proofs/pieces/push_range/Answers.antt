@@ -1,4 +1,4 @@
-use Rattle.std.proofs.Common.{◌≡◌, arith}
+use Rattle.std.proofs.Common.{arith}
 use Rattle.lrs_element.proofs.Walking.{range_step}
 use Rattle.lrs_element.proofs.pieces.push_range.Goals as goal
 

@@ -1,4 +1,4 @@
-use Rattle.std.proofs.Common.{◌≡◌, ℕ, ◌+◌, ◌<◌, length, arith, sym, ◌∙◌, rules}
+use Rattle.std.proofs.Common.{◌<◌, length, arith, rules}
 use Rattle.lrs_element.proofs.Walking.{starts_more, starts_all, start_of_more, start_of_all}
 use Rattle.lrs_element.proofs.pieces.starts_of.Goals as goal
 

@@ -1,5 +1,4 @@
-use Rattle.std.proofs.Common.{◌≡◌, ◌+◌, length, arith, rules, refl, sym, ◌∙◌, ap}
-use Rattle.lrs_element.specs.Course.{course_of}
+use Rattle.std.proofs.Common.{arith}
 use Rattle.lrs_element.proofs.Counting.{IsFewest-nil}
 use Rattle.lrs_element.proofs.Walking.{turned_step, turned_none}
 use Rattle.lrs_element.proofs.pieces.turned_pieces.Goals as goal

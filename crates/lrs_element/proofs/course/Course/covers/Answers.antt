@@ -1,4 +1,4 @@
-use Rattle.std.proofs.Common.{◌≡◌, ◌∙◌}
+use Rattle.std.proofs.Common.{◌∙◌}
 use Rattle.std.proofs.lemmas.Bool.{le-ltb}
 use Rattle.lrs_element.proofs.Apart.{covers_some, covers_none}
 use Rattle.lrs_element.proofs.course.Course.covers.Goals as goal

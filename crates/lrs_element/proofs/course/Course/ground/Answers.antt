@@ -1,4 +1,4 @@
-use Rattle.std.proofs.Common.{◌≡◌, ◌-◌, ◌<◌, sym, ap, ◌∙◌, Some}
+use Rattle.std.proofs.Common.{sym, ap, ◌∙◌, Some}
 use Rattle.lrs_element.proofs.Walking.{reads_place, starts_in_order}
 use Rattle.lrs_element.proofs.course.Course.ground.Goals as goal
 

@@ -1,5 +1,5 @@
-use Rattle.std.proofs.Common.{◌≡◌, sym, ◌∙◌}
-use Rattle.lrs_element.proofs.Apart.{IsLeastShared, least_step_same, least_step_lesser, least_end}
+use Rattle.std.proofs.Common.{sym, ◌∙◌}
+use Rattle.lrs_element.proofs.Apart.{least_step_same, least_step_lesser}
 use Rattle.lrs_element.proofs.course.Course.meets.Goals.{then-covers, else-covers}
 use Rattle.lrs_element.proofs.course.Course.meets.Goals as goal
 

@@ -1,4 +1,4 @@
-use Rattle.std.proofs.Common.{◌≡◌, take}
+use Rattle.std.proofs.Common.{take}
 use Rattle.lrs_element.specs.Course.{course_of}
 use Rattle.lrs_element.proofs.Apart.{IsLeastShared}
 use Rattle.lrs_element.proofs.course.Course.meets.Given as goal

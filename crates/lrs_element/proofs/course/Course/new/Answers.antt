@@ -1,4 +1,4 @@
-use Rattle.std.proofs.Common.{◌≡◌, sym, ◌∙◌}
+use Rattle.std.proofs.Common.{sym}
 use Rattle.lrs_element.proofs.Finding.{filled_from_none, in_order_from_test}
 use Rattle.lrs_element.proofs.course.Course.new.Goals as goal
 

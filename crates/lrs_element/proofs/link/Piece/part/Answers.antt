@@ -1,4 +1,3 @@
-use Rattle.std.proofs.Common.{◌≡◌}
 use Rattle.lrs_element.proofs.Expanding.{part_forward, part_backward}
 use Rattle.lrs_element.proofs.link.Piece.part.Goals as goal
 

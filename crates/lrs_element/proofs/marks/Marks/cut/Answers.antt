@@ -1,4 +1,3 @@
-use Rattle.std.proofs.Common.{◌≡◌}
 use Rattle.lrs_element.proofs.Lining.{are_marks-to, are_marks-from}
 use Rattle.lrs_element.proofs.marks.Marks.cut.Goals as goal
 

@@ -1,4 +1,3 @@
-use Rattle.std.proofs.Common.{◌≡◌}
 use Rattle.lrs_element.proofs.Lining.{are_marks-joined}
 use Rattle.lrs_element.proofs.marks.Marks.join.Goals as goal
 

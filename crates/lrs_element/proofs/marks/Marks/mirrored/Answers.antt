@@ -1,4 +1,3 @@
-use Rattle.std.proofs.Common.{◌≡◌}
 use Rattle.lrs_element.proofs.Lining.{are_marks-mirrored}
 use Rattle.lrs_element.proofs.marks.Marks.mirrored.Goals as goal
 

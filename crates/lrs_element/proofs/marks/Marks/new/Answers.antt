@@ -1,4 +1,4 @@
-use Rattle.std.proofs.Common.{◌≡◌, sym, ◌∙◌}
+use Rattle.std.proofs.Common.{sym}
 use Rattle.lrs_element.proofs.Lining.{are_marks-new}
 use Rattle.lrs_element.proofs.marks.Marks.new.Goals as goal
 
