@@ -4,3 +4,4 @@ pub mod Walking
 pub mod Lining
 pub mod Apart
 pub mod Finding
+pub mod LineLemmas

@@ -5,3 +5,4 @@ pub mod Faults
 pub mod Kept
 pub mod Marks
 pub mod Lines
+pub mod Line

@@ -5,6 +5,7 @@
 
 mod checks;
 mod course;
+mod line;
 mod link;
 mod marks;
 mod pieces;

@@ -7,9 +7,16 @@
 mod expression;
 mod locating;
 mod name;
+mod reading;
 mod route;
+mod translating;
 
 pub use expression::{EnteredPosition, EventLocation, Expr, Method, Target};
-pub use locating::PlaceFault;
+pub use locating::{PlaceFault, cell, locate, snap};
 pub use name::{RefName, RouteName};
+pub use reading::{read_expr, read_method, read_target};
 pub use route::{Referent, Route};
+pub use translating::{express, translate};
+
+#[cfg(test)]
+mod tests;

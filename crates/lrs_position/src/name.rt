@@ -7,6 +7,7 @@ ghost use Rattle.lrs_position.specs.Names;
 
 use lrs_measure::Text;
 use lrs_measure::alphabet::{are_capitals, has_dash_first, has_length, is_capital};
+use std::fmt;
 use std::marker::Model;
 
 fn is_route_byte(byte: u8) -> bool
@@ -116,5 +117,18 @@ impl RefName {
         ensures alphabet { IsTrue (is_referent_name self.now) }
     {
         self.text.bytes()
+    }
+}
+
+impl fmt::Display for RefName {
+    ghost use Rattle.std.specs.Prelude.{Some};
+
+    ghost output = { λ name. Some name };
+
+    fn fmt<W: fmt::Write>(&self, f: &mut fmt::Formatter<W>) -> fmt::Result {
+        match str::from_utf8(self.bytes()) {
+            Ok(text) => f.write_str(text),
+            Err(_) => Err(fmt::Error),
+        }
     }
 }

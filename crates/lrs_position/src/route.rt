@@ -1,6 +1,8 @@
 //! Routes: linear elements made of links, with their marks and referents.
 
-ghost use Rattle.std.specs.Prelude.{IsTrue};
+ghost use Rattle.std.specs.Prelude.{◌≡◌, ◌<◌, ◌≤◌, length, IsTrue};
+ghost use Rattle.lrs_element.specs.Limits.{longest_route};
+ghost use Rattle.lrs_element.specs.Marks.{last_mark};
 ghost use Rattle.lrs_position.specs.Routes.{is_route};
 
 use crate::name::{RefName, RouteName};
@@ -24,4 +26,32 @@ pub struct Route {
     pub marks: Marks,
     pub refs: Rows<Referent>,
     pub ghost fits: { IsTrue (is_route course marks refs) },
+}
+
+impl Route {
+    ghost use Rattle.lrs_position.specs.Translating.{referent_at};
+
+    /// Its length in millimetres, which is where its marks end.
+    pub fn length(&self) -> u64
+        ensures length { result ≡ length self.now.course }
+        ensures end { (last_mark self.now.marks).chainage ≡ length self.now.course }
+        ensures positive { 0 < result }
+        ensures longest { result ≤ longest_route }
+    {
+        match self.marks.list() {
+            [.., last] => last.chainage,
+            [] => 0,
+        }
+    }
+
+    /// In which millimetre the referent of a name stands, where it is on this route.
+    pub fn referent(&self, name: RefName) -> Option<u64>
+        ensures { result ≡ referent_at self.now.refs name }
+    {
+        self.refs
+            .as_slice()
+            .iter()
+            .find(|referent| referent.name == name)
+            .map(|referent| referent.at)
+    }
 }

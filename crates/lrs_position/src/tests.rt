@@ -1,0 +1,198 @@
+use super::*;
+use lrs_element::{Course, Link, Mark, Marks, Piece};
+use lrs_measure::{Frac, Rows};
+use std::alloc::Global;
+use std::test::Fail;
+
+const LINKS: [Link; 2] = [
+    Link {
+        number: 1,
+        length: 5_000,
+    },
+    Link {
+        number: 2,
+        length: 3_000,
+    },
+];
+
+const PIECES: [Piece; 2] = [
+    Piece {
+        link: 1,
+        a: 0,
+        b: 5_000,
+        forward: true,
+    },
+    Piece {
+        link: 2,
+        a: 0,
+        b: 3_000,
+        forward: false,
+    },
+];
+
+const MARKS: [Mark; 3] = [
+    Mark {
+        chainage: 0,
+        measure: 0,
+    },
+    Mark {
+        chainage: 5_000,
+        measure: 6_000,
+    },
+    Mark {
+        chainage: 8_000,
+        measure: 9_000,
+    },
+];
+
+/// Link 1 forwards and then link 2 backwards, with referent KM2 in millimetre 2.
+fn example(alloc: Global) -> Option<Route> {
+    let name = RouteName::new(b"R1")?;
+    let course = Course::new(alloc, &PIECES, &LINKS).ok()?;
+    let length = course.len();
+    let marks = Marks::new(Vec::from_slice(alloc, &MARKS).ok()?, length).ok()?;
+    let referent = Referent {
+        name: RefName::new(b"KM2")?,
+        at: 2,
+    };
+    if length <= referent.at {
+        return None;
+    }
+    let refs = Rows::from_vec(Vec::from_slice(alloc, &[referent]).ok()?);
+    Some(Route {
+        name,
+        course,
+        marks,
+        refs,
+    })
+}
+
+/// The expression that a text states by a method, by the target's method.
+fn translated(route: &Route, method: &[u8], text: &[u8], target: &[u8]) -> Option<Expr> {
+    let expression = read_expr(read_method(method)?, text)?;
+    translate(route, expression, read_target(target)?).ok()
+}
+
+/// The fault of the expression that a text states by a method.
+fn fault_of(route: &Route, method: &[u8], text: &[u8]) -> Option<PlaceFault> {
+    let expression = read_expr(read_method(method)?, text)?;
+    locate(route, expression).err()
+}
+
+#[test]
+fn positions_are_translated_and_back(rt: HostRuntime) -> Result<(), Fail> {
+    let alloc = rt.alloc();
+    let Some(route) = example(alloc) else {
+        assert!(rt; false, "the example is a route");
+        return Ok(());
+    };
+    let cases: [(&[u8], &[u8], &[u8], &str, &str); 6] = [
+        (b"int", b"1/3", b"abs", "3200", "1/3"),
+        (b"int", b"1/7", b"abs", "9600/7", "1/7"),
+        (b"abs", b"3", b"rel:KM2", "KM2+1/2", "3"),
+        (b"int", b"0/1", b"rel:KM2", "KM2-2", "0/1"),
+        (b"rel", b"KM2-0", b"rel:KM2", "KM2+0", "KM2+0"),
+        (b"abs", b"9000", b"int", "1/1", "9000"),
+    ];
+    for (method, text, target, want, back) in cases {
+        let Some(there) = translated(&route, method, text, target) else {
+            assert!(rt; false, "{want} is on the route");
+            return Ok(());
+        };
+        let shown = format!(in alloc; "{there}")?;
+        assert_eq!(rt; shown.as_str(), want);
+        let own = match read_method(method) {
+            Some(Method::Abs) => Target::Abs,
+            Some(Method::Int) => Target::Int,
+            _ => return Ok(()),
+        };
+        let again = translate(&route, there, own);
+        if let Ok(again) = again {
+            let shown = format!(in alloc; "{again}")?;
+            assert_eq!(rt; shown.as_str(), back);
+        } else {
+            assert!(rt; false, "{want} comes back");
+        }
+    }
+    Ok(())
+}
+
+#[test]
+fn a_half_goes_up_as_an_end(rt: HostRuntime) -> Result<(), Fail> {
+    let alloc = rt.alloc();
+    let Some(route) = example(alloc) else {
+        assert!(rt; false, "the example is a route");
+        return Ok(());
+    };
+    let Some(three) = read_expr(Method::Abs, b"3") else {
+        assert!(rt; false, "a measure");
+        return Ok(());
+    };
+    let Ok(chainage) = locate(&route, three) else {
+        assert!(rt; false, "on the route");
+        return Ok(());
+    };
+    let shown = format!(in alloc; "{chainage}")?;
+    assert_eq!(rt; shown.as_str(), "5/2");
+    assert_eq!(rt; snap(chainage), 3);
+    assert_eq!(rt; cell(chainage, route.length()), 2);
+    Ok(())
+}
+
+#[test]
+fn faults_come_in_order(rt: HostRuntime) {
+    let Some(route) = example(rt.alloc()) else {
+        assert!(rt; false, "the example is a route");
+        return;
+    };
+    let cases: [(&[u8], &[u8], PlaceFault); 4] = [
+        (b"rel", b"KM2-3", PlaceFault::OffRoute),
+        (b"rel", b"KM2+7999", PlaceFault::OffRoute),
+        (b"rel", b"X1+0", PlaceFault::NoRef),
+        (b"abs", b"9001", PlaceFault::OffRoute),
+    ];
+    for (method, text, fault) in cases {
+        assert_eq!(rt; fault_of(&route, method, text), Some(fault));
+    }
+    let fine = Frac::new(1, 10_000_000_000_000_001).map(Expr::Abs);
+    let fault = fine.and_then(|expression| locate(&route, expression).err());
+    assert_eq!(rt; fault, Some(PlaceFault::TooFine));
+}
+
+#[test]
+fn texts_are_read_whole(rt: HostRuntime) -> Result<(), Fail> {
+    let alloc = rt.alloc();
+    let stated: [(Method, &[u8], &str); 4] = [
+        (Method::Int, b"0000001/2", "1/2"),
+        (Method::Abs, b"0000000000000000000000003", "3"),
+        (Method::Rel, b"KM2-0", "KM2+0"),
+        (Method::Rel, b"KM2-0012", "KM2-12"),
+    ];
+    for (method, text, want) in stated {
+        if let Some(expression) = read_expr(method, text) {
+            let shown = format!(in alloc; "{expression}")?;
+            assert_eq!(rt; shown.as_str(), want);
+        } else {
+            assert!(rt; false, "{want} is stated");
+        }
+    }
+    let refused: [(Method, &[u8]); 13] = [
+        (Method::Int, b"1/0"),
+        (Method::Int, b"3/2"),
+        (Method::Int, b"1000001/1000001"),
+        (Method::Int, b"1/"),
+        (Method::Int, b"-1/2"),
+        (Method::Int, b""),
+        (Method::Abs, b"+5"),
+        (Method::Abs, b"5.0"),
+        (Method::Abs, b"100000000001"),
+        (Method::Rel, b"KM2"),
+        (Method::Rel, b"KM2++1"),
+        (Method::Rel, b"km2+1"),
+        (Method::Rel, b"KM2+10000000001"),
+    ];
+    for (method, text) in refused {
+        assert!(rt; read_expr(method, text).is_none());
+    }
+    Ok(())
+}
