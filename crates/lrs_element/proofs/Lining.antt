@@ -2,15 +2,15 @@
 use Rattle.std.proofs.Common.{ℕ, zero, suc, ◌≡◌, ◌+◌, ◌-◌, ◌<◌, ◌≤◌, Bool, true, false, if◌then◌else◌, List, [], ◌∷◌, ◌++◌, length, get_or, take, drop, map, sym, ◌∙◌, ap, refl, subst, arith, ⊎_elim, Some, None, Option}
 use Rattle.std.specs.Prelude.{reverse, not, nat_lt, nat_le, nat_eq, ◌||◌, ◌&&◌, is_none, filter}
 use Rattle.std.specs.Option.{option_map}
-use Rattle.std.specs.List.{All}
-use Rattle.std.proofs.lemmas.Bool.{cases_lt, or_parts, or_from, and_parts, and_from, not-false, ltb-true, ltb-false, eqb-true, lt-ltb, le-ltb, le-leb, lt-leb, eq-eqb, ne_eqb, false_from_ne_true, both_ways}
+use Rattle.std.specs.List.{list_any, All}
+use Rattle.std.proofs.lemmas.Bool.{cases_lt, or_right, or_parts, or_from, and_parts, and_from, not-false, ltb-true, ltb-false, eqb-true, lt-ltb, le-ltb, le-leb, lt-leb, eq-eqb, ne_eqb, false_from_ne_true, both_ways}
 use Rattle.std.proofs.lemmas.List.{length-map, length-take, length-drop, length-append, length-reverse, get_or-map, get_or-take, get_or-drop, get_or-reverse, get_or_append_left, get_or-append_right, drop_more, drop_all, take-append-drop, append-nil, append_assoc, reverse-append}
-use Rattle.std.proofs.lemmas.List.Folds.{Any-from_list_any, list_any_at}
+use Rattle.std.proofs.lemmas.List.Folds.{Any-from_list_any, list_any_at, list_any-append, list_any_none}
 use Rattle.std.proofs.lemmas.List.Elements.{filter-append}
 use Rattle.lrs_element.specs.declared.marks.Mark.{Mark}
 use Rattle.lrs_element.specs.Limits.{greatest_measure, most_marks}
 use Rattle.lrs_element.specs.Marks.{no_mark, last_of, first_mark, last_mark, is_out_of_order, misses_the_end, first_bad_mark, bad_mark, are_marks, is_inner_mark, marks_to, marks_from, joined_marks, mirrored, is_out_of_range}
-use Rattle.lrs_element.specs.Lines.{mark_at, Rises, IsLine}
+use Rattle.lrs_element.specs.Lines.{moved_on, mark_at, Rises, IsLine}
 
 -- ---- the last mark and the first one
 
@@ -504,3 +504,37 @@ are_marks-joined xs ys h k few small =
 
 pub are_marks-new : (len : ℕ) (xs : List Mark) → bad_mark len xs ≡ None → are_marks xs ≡ true
 are_marks-new len xs h = are_marks-from_line len xs (IsLine-from_none len xs h)
+
+-- ---- past the greatest measure
+
+list_any_mapped : (p : Mark → Bool) (f : Mark → Mark) (ys : List Mark) → list_any p (map f ys) ≡ list_any (λ y. p (f y)) ys
+list_any_mapped p f [] = refl
+list_any_mapped p f (y ∷ ys) = ap (λ (b : Bool). p (f y) || b) (list_any_mapped p f ys)
+
+-- the highest measure of two lines is that of the second's last mark
+pub is_out_of_range-joined : (xs ys : List Mark) → are_marks xs ≡ true → are_marks ys ≡ true
+    → is_out_of_range (joined_marks xs ys) ≡ nat_lt greatest_measure ((last_mark xs).measure + ((last_mark ys).measure - (mark_at ys 0).measure))
+is_out_of_range-joined xs ys h k =
+    let b = in_bounds ys k in
+    let l = line_from_are_marks xs h in
+    let m = line_from_are_marks ys k in
+    let above : Mark → Bool = λ m. nat_lt greatest_measure m.measure in
+    let f : Mark → Mark = moved_on (last_mark xs) (first_mark ys) in
+    let e : (last_mark ys).measure ≡ (mark_at ys (length ys - 1)).measure = ap (λ (m : Mark). m.measure) (last_mark_is ys b.some) in
+    let s : (first_mark ys).measure ≡ (mark_at ys 0).measure = ap (λ (m : Mark). m.measure) (first_mark_is ys) in
+    let up = b.above (length ys - 1) (omega (arith, b.some)) in
+    let place : mark_at (drop 1 ys) (length ys - 2) ≡ mark_at ys (length ys - 1) = get_or-drop 1 ys (length ys - 2) no_mark ∙ ap (mark_at ys) (omega (arith, m.enough)) in
+    let split : is_out_of_range (joined_marks xs ys) ≡ (list_any above xs || list_any above (map f (drop 1 ys))) = list_any-append above xs (map f (drop 1 ys)) in
+    ⊎_elim
+    (λ (high : greatest_measure < (last_mark xs).measure + ((last_mark ys).measure - (mark_at ys 0).measure)).
+    split ∙ or_right _ _ (list_any_mapped above f (drop 1 ys) ∙ list_any_at (λ (m : Mark). above (f m)) (drop 1 ys) (length ys - 2) no_mark (omega (arith, length-drop 1 ys, m.enough))
+    (rw place (lt-ltb _ _ (omega (arith, high, e, s, up))))) ∙ sym (lt-ltb _ _ high))
+    (λ (low : (last_mark xs).measure + ((last_mark ys).measure - (mark_at ys 0).measure) ≤ greatest_measure).
+    split ∙ or_from _ _
+    (list_any_none above xs (λ i d lt. rw (at_default xs i d lt) (le-ltb _ _ (l.small i lt))))
+    (list_any_mapped above f (drop 1 ys) ∙ list_any_none (λ (m : Mark). above (f m)) (drop 1 ys) (λ i d lt.
+    let in' : 1 + i < length ys = omega (arith, length-drop 1 ys) in
+    let under = b.below (1 + i) in' in
+    rw (get_or-drop 1 ys i d, at_default ys (1 + i) d in') (le-ltb _ _ (omega (arith, low, s, under, up, e)))))
+    ∙ sym (le-ltb _ _ low))
+    (cases_lt greatest_measure ((last_mark xs).measure + ((last_mark ys).measure - (mark_at ys 0).measure)))

@@ -194,6 +194,13 @@ impl Marks {
         Ok((before, after))
     }
 
+    /// Whether a join with other marks would take a measure past the greatest one.
+    pub fn joins_out_of_range(&self, other: &Marks) -> bool
+        ensures { result ≡ is_out_of_range (joined_marks self.now other.now) }
+    {
+        goes_out_of_range(&self.list, &other.list)
+    }
+
     /// Goes on with other marks where these end: their measures move by as much as that asks.
     ///
     /// # Errors
@@ -220,6 +227,17 @@ impl Marks {
         let list = mirrored_marks(*self.list.allocator(), &self.list)?;
         Ok(Marks { list })
     }
+}
+
+/// Whether a second line goes on past the greatest measure where it follows the first: its last mark tells.
+fn goes_out_of_range(first: &[Mark], second: &[Mark]) -> bool
+    requires first { IsTrue (are_marks first.now) }
+    requires second { IsTrue (are_marks second.now) }
+    ensures { result ≡ is_out_of_range (joined_marks first.now second.now) }
+{
+    let last = last_mark(second);
+    let rise = last.measure - second[0].measure;
+    last_mark(first).measure + rise > GREATEST_MEASURE
 }
 
 /// A mark of a second line that goes on where the first line ends.

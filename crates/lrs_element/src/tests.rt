@@ -262,6 +262,7 @@ fn marks_are_cut_and_joined(rt: HostRuntime) {
     let (mut before, after) = marks.cut(4).expect(&rt, "memory");
     assert_eq!(rt; before.list(), [mark(0, 10), mark(4, 12)].as_slice());
     assert_eq!(rt; after.list(), [mark(0, 12), mark(5, 30)].as_slice());
+    assert!(rt; !before.joins_out_of_range(&after));
     before.join(&after).expect(&rt, "memory");
     assert_eq!(rt; before.list(), marks.list());
     let copy = before.copy().expect(&rt, "memory");

@@ -124,7 +124,7 @@ proportion_in_range len n d p l fine h =
 
 -- ---- what an answer says
 
-found_value : (b c : Bool) (o : Option (ℕ × ℕ)) (x : Fraction) → IsAnswer (cond b (Err NoRef) (cond c (Err TooFine) (ok_or o OffRoute))) (Ok x) → (y : ℕ × ℕ) × (o ≡ Some y) × IsQuotient x (pos y.0) y.1 × IsLowest x
+pub found_value : (b c : Bool) (o : Option (ℕ × ℕ)) (x : Fraction) → IsAnswer (cond b (Err NoRef) (cond c (Err TooFine) (ok_or o OffRoute))) (Ok x) → (y : ℕ × ℕ) × (o ≡ Some y) × IsQuotient x (pos y.0) y.1 × IsLowest x
 found_value true c o x h = absurd (cc h)
 found_value false true o x h = absurd (cc h)
 found_value false false None x h = absurd (cc h)

@@ -5,3 +5,4 @@ pub mod Whole
 pub mod Expressing
 pub mod RoundTrips
 pub mod Stated
+pub mod OnLinks

@@ -4,3 +4,4 @@ pub mod Locating
 pub mod Routes
 pub mod Translating
 pub mod Readings
+pub mod LinkPositions

@@ -5,6 +5,7 @@
 #![tactic(auto)]
 
 mod expression;
+mod linking;
 mod locating;
 mod name;
 mod reading;
@@ -12,6 +13,7 @@ mod route;
 mod translating;
 
 pub use expression::{EnteredPosition, EventLocation, Expr, Method, Target};
+pub use linking::route_to_link;
 pub use locating::{PlaceFault, cell, locate, snap};
 pub use name::{RefName, RouteName};
 pub use reading::{read_expr, read_method, read_target};

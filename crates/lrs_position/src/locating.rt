@@ -1,6 +1,6 @@
 //! Where a position expression is on a route.
 
-ghost use Rattle.std.specs.Prelude.{◌≡◌, ℕ, ◌*◌, ◌<◌, ◌≤◌, ◌≤ℤ◌, ℤ, pos, false, length, min, unsigned_abs, IfOk, IsOkAnd};
+ghost use Rattle.std.specs.Prelude.{◌≡◌, ℕ, ◌*◌, ◌^◌, ◌<◌, ◌≤◌, ◌≤ℤ◌, ℤ, pos, false, length, min, unsigned_abs, IfOk, IsOkAnd};
 ghost use Rattle.std.specs.Option.{ok_or};
 ghost use Rattle.lrs_measure.specs.Fraction.{IsLowest, IsQuotient};
 ghost use Rattle.lrs_element.specs.Limits.{longest_route};
@@ -45,7 +45,8 @@ pub fn locate(route: &Route, expression: Expr) -> Result<Frac, PlaceFault>
     ensures lowest { IfOk result (λ x. IsLowest x) }
     ensures on_route { IfOk result (λ x. IsOnRoute (length route.now.course) x) }
 
-    // The number of the expression is known to be in lowest terms.
+    // How fine a chainage can be, and what the number of the expression is known to be.
+    ensures den { IfOk result (λ x. x.den ≤ 10 ^ 27) }
     ensures number { IsLowest (number_of expression) }
 {
     match expression {

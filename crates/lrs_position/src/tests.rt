@@ -48,22 +48,31 @@ const MARKS: [Mark; 3] = [
 /// Link 1 forwards and then link 2 backwards, with referent KM2 in millimetre 2.
 fn example(alloc: Global) -> Option<Route> {
     let name = RouteName::new(b"R1")?;
-    let course = Course::new(alloc, &PIECES, &LINKS).ok()?;
-    let length = course.len();
-    let marks = Marks::new(Vec::from_slice(alloc, &MARKS).ok()?, length).ok()?;
     let referent = Referent {
         name: RefName::new(b"KM2")?,
         at: 2,
     };
+    let Ok(list) = Vec::from_slice(alloc, &MARKS) else {
+        return None;
+    };
+    let Ok(refs) = Vec::from_slice(alloc, &[referent]) else {
+        return None;
+    };
+    let Ok(course) = Course::new(alloc, &PIECES, &LINKS) else {
+        return None;
+    };
+    let length = course.len();
+    let Ok(marks) = Marks::new(list, length) else {
+        return None;
+    };
     if length <= referent.at {
         return None;
     }
-    let refs = Rows::from_vec(Vec::from_slice(alloc, &[referent]).ok()?);
     Some(Route {
         name,
         course,
         marks,
-        refs,
+        refs: Rows::from_vec(refs),
     })
 }
 
@@ -96,7 +105,7 @@ fn positions_are_translated_and_back(rt: HostRuntime) -> Result<(), Fail> {
     ];
     for (method, text, target, want, back) in cases {
         let Some(there) = translated(&route, method, text, target) else {
-            assert!(rt; false, "{want} is on the route");
+            assert!(rt; false, "a place on the route");
             return Ok(());
         };
         let shown = format!(in alloc; "{there}")?;
@@ -111,7 +120,7 @@ fn positions_are_translated_and_back(rt: HostRuntime) -> Result<(), Fail> {
             let shown = format!(in alloc; "{again}")?;
             assert_eq!(rt; shown.as_str(), back);
         } else {
-            assert!(rt; false, "{want} comes back");
+            assert!(rt; false, "the way back");
         }
     }
     Ok(())
@@ -173,7 +182,7 @@ fn texts_are_read_whole(rt: HostRuntime) -> Result<(), Fail> {
             let shown = format!(in alloc; "{expression}")?;
             assert_eq!(rt; shown.as_str(), want);
         } else {
-            assert!(rt; false, "{want} is stated");
+            assert!(rt; false, "a stated expression");
         }
     }
     let refused: [(Method, &[u8]); 13] = [

@@ -5,6 +5,7 @@ use Rattle.lrs_position.specs.declared.expression.Expr.TheVariants.{Abs, Rel, In
 use Rattle.lrs_position.specs.declared.locating.PlaceFault.{PlaceFault}
 use Rattle.lrs_position.specs.Translating.{alignment_of, referent_at, IsAnswer, LocatesAt}
 use Rattle.lrs_position.proofs.Answering.{IsSound-from_route, place_of, found_from, on_route_of}
+use Rattle.lrs_position.proofs.OnLinks.{den_of}
 use Rattle.lrs_position.proofs.locating.locate.Goals as goal
 
 pub returns-in-Abs-clause-place : goal.returns-in-Abs-clause-place
@@ -33,3 +34,12 @@ returns-in-Rel-clause-on_route c = on_route_of (alignment_of c.args.route.now) (
 
 pub returns-in-Int-clause-on_route : goal.returns-in-Int-clause-on_route
 returns-in-Int-clause-on_route c = on_route_of (alignment_of c.args.route.now) (referent_at c.args.route.now.refs) (Int c.in-Int.proportion) c.locate_proportion.result (IsSound-from_route c.args.route.now) c.locate_proportion.ensures.number.positive c.locate_proportion.ensures.answer
+
+pub returns-in-Abs-clause-den : goal.returns-in-Abs-clause-den
+returns-in-Abs-clause-den c = den_of (alignment_of c.args.route.now) (referent_at c.args.route.now.refs) (Abs c.in-Abs.measure) c.locate_measure.result (IsSound-from_route c.args.route.now) c.locate_measure.ensures.number.positive c.locate_measure.ensures.answer
+
+pub returns-in-Rel-clause-den : goal.returns-in-Rel-clause-den
+returns-in-Rel-clause-den c = den_of (alignment_of c.args.route.now) (referent_at c.args.route.now.refs) (Rel c.in-Rel.name c.in-Rel.distance) c.locate_distance.result (IsSound-from_route c.args.route.now) c.locate_distance.ensures.number.positive c.locate_distance.ensures.answer
+
+pub returns-in-Int-clause-den : goal.returns-in-Int-clause-den
+returns-in-Int-clause-den c = den_of (alignment_of c.args.route.now) (referent_at c.args.route.now.refs) (Int c.in-Int.proportion) c.locate_proportion.result (IsSound-from_route c.args.route.now) c.locate_proportion.ensures.number.positive c.locate_proportion.ensures.answer
