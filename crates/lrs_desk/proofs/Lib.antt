@@ -13,3 +13,13 @@ pub mod Decimals
 pub mod ExpressionTexts
 pub mod ListTexts
 pub mod LinesApart
+pub mod Ascii
+pub mod Words
+pub mod Inserts
+pub mod Tables
+pub mod Filed
+pub mod Keyed
+pub mod Deciding
+pub mod Leaving
+pub mod NewLink
+pub mod NewClass

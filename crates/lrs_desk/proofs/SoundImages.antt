@@ -38,43 +38,43 @@ use Rattle.lrs_desk.proofs.Pairs.{HasPlace, place_had, pair_had, one_row, each_t
 
 -- ---- the tests that a sound image passes
 
-here : (t : Test) (ts : List Test) → first_failed (t ∷ ts) ≡ None → t.passes ≡ true
+pub here : (t : Test) (ts : List Test) → first_failed (t ∷ ts) ≡ None → t.passes ≡ true
 here t ts h = by t.passes h
   where
     by : (b : Bool) → cond b (first_failed ts) (Some t.table) ≡ None → b ≡ true
     by true k = refl
     by false k = cc
 
-later : (t : Test) (ts : List Test) → first_failed (t ∷ ts) ≡ None → first_failed ts ≡ None
+pub later : (t : Test) (ts : List Test) → first_failed (t ∷ ts) ≡ None → first_failed ts ≡ None
 later t ts h = by t.passes h
   where
     by : (b : Bool) → cond b (first_failed ts) (Some t.table) ≡ None → first_failed ts ≡ None
     by true k = k
     by false k = cc
 
-passed : (t : Test) (ts : List Test) → first_failed ts ≡ None → In t ts → t.passes ≡ true
+pub passed : (t : Test) (ts : List Test) → first_failed ts ≡ None → In t ts → t.passes ≡ true
 passed t [] h m = absurd m
 passed t (u ∷ us) h (inl e) = ap (λ w. w.passes) e ∙ here u us h
 passed t (u ∷ us) h (inr m) = passed t us (later u us h) m
 
 -- what the laws need of the parts of a ledger
-record PartsTested (i : Image) (parts : List Part) : Type 0 where
+pub record PartsTested (i : Image) (parts : List Part) : Type 0 where
   pub inside : list_all (is_part i.links i.assets) parts ≡ true
   pub apart : each_two share_nothing parts ≡ true
 
-and_three : (a b c : Bool) → (a && b && c) ≡ true → (a ≡ true) × (b ≡ true) × (c ≡ true)
+pub and_three : (a b c : Bool) → (a && b && c) ≡ true → (a ≡ true) × (b ≡ true) × (c ≡ true)
 and_three true true true h = (refl, refl, refl)
 and_three true true false h = absurd (false≢true h)
 and_three true false c h = absurd (false≢true h)
 and_three false b c h = absurd (false≢true h)
 
-parts_tested : (i : Image) (parts : List Part) → are_parts i.links i.assets parts ≡ true → PartsTested i parts
+pub parts_tested : (i : Image) (parts : List Part) → are_parts i.links i.assets parts ≡ true → PartsTested i parts
 parts_tested i parts h =
     let all = and_three (list_all (is_part i.links i.assets) parts) (each_two share_nothing parts) (list_all (λ a. nat_le (pairs_of a.number parts) most_pairs) i.assets) h in
     record { inside = all.0; apart = all.1 }
 
 -- what the laws need of the tables
-record Tested (i : Image) : Type 0 where
+pub record Tested (i : Image) : Type 0 where
   pub assets : list_all (is_asset i.classes) i.assets ≡ true
   pub courses : list_all (is_course i.links) (courses_of i) ≡ true
   pub spans : list_all (are_spans_of i.assets) (spans_of i) ≡ true
@@ -85,7 +85,7 @@ record Tested (i : Image) : Type 0 where
   pub entered_named : list_all (is_named_by i.edits) i.entered ≡ true
   pub gone_named : list_all (is_named_by i.edits) (parts_of i.gone) ≡ true
 
-tested : (i : Image) → IsSound i → Tested i
+pub tested : (i : Image) → IsSound i → Tested i
 unfolding first_unsound
 tested i h =
     let assets = and_three (each_two asset_before i.assets) (list_all (is_asset i.classes) i.assets) (nat_le (length i.assets) most_assets)
@@ -118,7 +118,7 @@ tested i h =
 abbrev done : Edit → state.Edit
 done e = record { key = e.key; line = e.line }
 
-abbrev holds : Image → ℕ → Place → Bool
+abbrev pub holds : Image → ℕ → Place → Bool
 holds i a p = list_any (λ e. holds_on e a p) i.routes
 
 abbrev enters : Image → ℕ → ℕ → Place → Bool
@@ -129,10 +129,10 @@ takes i m why a p = list_any (takes_away m why a p) i.gone
 
 module _ (i : Image) (t : Tested i) where
   -- the pair of an asset and a place is balanced
-  abbrev IsBalancedAt : ℕ → Place → Type 0
+  abbrev pub IsBalancedAt : ℕ → Place → Type 0
   IsBalancedAt a p = Balance (holds i a p) (has_asset_place i.entered a p) (has_asset_place (parts_of i.gone) a p)
 
-  balanced_at : (x : Asset) (a : ℕ) (p : Place) → In x i.assets → x.number ≡ a → In p (places_of i.links) → IsBalancedAt a p
+  pub balanced_at : (x : Asset) (a : ℕ) (p : Place) → In x i.assets → x.number ≡ a → In p (places_of i.links) → IsBalancedAt a p
   balanced_at x a p m e n =
       let all : list_all (is_balanced_at (spans_of i) i.entered (parts_of i.gone) x.number) (places_of i.links) ≡ true =
       all_at (λ a. list_all (is_balanced_at (spans_of i) i.entered (parts_of i.gone) a.number) (places_of i.links)) x i.assets t.balanced m in
@@ -141,7 +141,7 @@ module _ (i : Image) (t : Tested i) where
       subst (λ b. Balance b (has_asset_place i.entered a p) (has_asset_place (parts_of i.gone) a p)) (list_any-map (λ s. holds_by_spans s.course s.rows a p) (λ e. record { course = e.route.course; rows = e.spans }) i.routes) at
 
   -- a part of a ledger is of a known asset and a place of the links
-  by_part : (parts : List Part) (a : ℕ) (p : Place) → PartsTested i parts → has_asset_place parts a p ≡ true → IsBalancedAt a p
+  pub by_part : (parts : List Part) (a : ℕ) (p : Place) → PartsTested i parts → has_asset_place parts a p ≡ true → IsBalancedAt a p
   by_part parts a p good h =
       let found = any_found (λ part. nat_eq part.asset a && has_place part p) parts h in
       let inside = all_at (is_part i.links i.assets) found.0 parts good.inside found.1 in
@@ -150,7 +150,7 @@ module _ (i : Image) (t : Tested i) where
       balanced_at x.0 a p x.1 (x.2 ∙ has.of_asset) (part_on i.links i.assets found.0 a p inside has)
 
   -- what is held is of a known asset and a place of the links
-  held_by : (a : ℕ) (p : Place) → holds i a p ≡ true → ((x : Asset) × In x i.assets × (x.number ≡ a)) × In p (places_of i.links)
+  pub held_by : (a : ℕ) (p : Place) → holds i a p ≡ true → ((x : Asset) × In x i.assets × (x.number ≡ a)) × In p (places_of i.links)
   held_by a p h =
       let found = any_found (λ e. holds_on e a p) i.routes h in
       let e = found.0 in

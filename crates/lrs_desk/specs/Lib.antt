@@ -5,8 +5,17 @@ pub mod Register
 pub mod State
 pub mod Lines
 pub mod WellFormed
+pub mod Texts
 pub mod Machine
 pub mod Image
 pub mod Readings
 pub mod Sound
 pub mod Laws
+pub mod Lists
+pub mod Change
+pub mod Keeping
+pub mod Index
+pub mod Plan
+pub mod Decide
+pub mod DeskView
+pub mod Desk

@@ -165,3 +165,27 @@ impl Model for MarkList {
 
     ghost invariant = { λ list. IsTrue (are_entered_marks list.marks.items) };
 }
+
+impl PieceList {
+    ghost use Rattle.lrs_desk.specs.Entered.{are_entered_pieces};
+
+    /// The pieces in their order.
+    pub fn as_slice(&self) -> &[Piece]
+        ensures pieces { result.now ≡ self.now }
+        ensures entered { IsTrue (are_entered_pieces self.now) }
+    {
+        self.pieces.as_slice()
+    }
+}
+
+impl MarkList {
+    ghost use Rattle.lrs_desk.specs.Entered.{are_entered_marks};
+
+    /// The marks in their order.
+    pub fn as_slice(&self) -> &[Mark]
+        ensures marks { result.now ≡ self.now }
+        ensures entered { IsTrue (are_entered_marks self.now) }
+    {
+        self.marks.as_slice()
+    }
+}

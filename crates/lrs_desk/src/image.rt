@@ -1,6 +1,6 @@
 //! What a desk knows.
 
-ghost use Rattle.std.specs.Prelude.{◌≡◌};
+ghost use Rattle.std.specs.Prelude.{◌≡◌, IfOk};
 
 use crate::key::Key;
 use crate::line::Line;
@@ -8,7 +8,7 @@ use lrs_element::Link;
 use lrs_events::{Asset, Class, Gone, Part, Spans};
 use lrs_measure::Rows;
 use lrs_position::Route;
-use std::alloc::Global;
+use std::alloc::{AllocError, Global};
 
 /// A route and what lies on it.
 #[derive(Drop)]
@@ -22,6 +22,22 @@ pub struct RouteEntry {
 pub struct Edit {
     pub key: Key,
     pub line: Line,
+}
+
+impl Edit {
+    /// An equal edit.
+    ///
+    /// # Errors
+    ///
+    /// When memory runs out.
+    pub fn copy(&self, alloc: Global) -> Result<Edit, AllocError>
+        ensures { IfOk result (λ edit. edit ≡ self.now) }
+    {
+        Ok(Edit {
+            key: self.key,
+            line: self.line.copy(alloc)?,
+        })
+    }
 }
 
 /// All that is known, each list in the order of its key: links and assets by number, classes and routes by

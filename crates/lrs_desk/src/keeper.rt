@@ -1,5 +1,9 @@
 //! Where an image is kept.
 
+use crate::change::Change;
+use crate::image::Image;
+use std::alloc::{AllocError, Global};
+
 /// The tables of a store, in the order in which an unsound one is named.
 #[derive(Clone, Copy, Debug, PartialEq, Eq)]
 pub enum Table {
@@ -14,4 +18,51 @@ pub enum Table {
     Entered,
     Gone,
     Edit,
+}
+
+/// Why a keeper did not do what it was asked.
+#[derive(Clone, Copy, Debug, PartialEq, Eq)]
+pub enum KeepFault {
+    Memory,
+    Store,
+    Unsound(Table),
+}
+
+/// Keeps an image, on a device that may fail.
+pub trait Keeper {
+    ghost use Rattle.std.specs.Prelude.{◌≡◌, ◌≤◌, ℕ, Bool, true, Ok, Err, Result, IfOk, OnOk, IsErrOf, ◌⊎◌};
+    ghost use Rattle.lrs_desk.specs.declared.image.Image.{Image};
+    ghost use Rattle.lrs_desk.specs.declared.keeper.Table.{Table};
+    ghost use Rattle.lrs_desk.specs.Change.{apply};
+    ghost use Rattle.lrs_desk.specs.Sound.{IsSound};
+    ghost use Rattle.lrs_desk.specs.Keeping.{HasRisen, IsOldOrNew};
+
+    /// What is kept: a sound image, or the first unsound table.
+    ghost content: { Self → Result Image Table };
+
+    /// Whether the last `load` answered Ok.
+    ghost is_loaded: { Self → Bool };
+
+    /// How often the device has failed.
+    ghost failures: { Self → ℕ };
+
+    /// Reads the image. It leaves the content as it is, whatever it answers.
+    fn load(&mut self, alloc: Global) -> Result<Image, KeepFault>
+        ensures image { IfOk result (λ image. content self.old ≡ Ok image) }
+        ensures sound { IfOk result (λ image. IsSound image) }
+        ensures loaded { OnOk result (is_loaded self.new ≡ true) }
+        ensures unsound { (t : Table) → result ≡ Err (KeepFault.Unsound t) → content self.old ≡ Err t }
+        ensures store { result ≡ Err KeepFault.Store → HasRisen (failures self.old) (failures self.new) }
+        ensures content { content self.new ≡ content self.old };
+
+    /// Makes a change, as a whole.
+    fn commit(&mut self, change: &Change) -> Result<(), KeepFault>
+        requires loaded { is_loaded self.old ≡ true }
+        requires sound { IfOk (content self.old) (λ image. IsSound (apply change.now image)) }
+        ensures ok { OnOk result (IfOk (content self.old) (λ image. content self.new ≡ Ok (apply change.now image))) }
+        ensures memory { result ≡ Err KeepFault.Memory → content self.new ≡ content self.old }
+        ensures store { result ≡ Err KeepFault.Store → IfOk (content self.old) (IsOldOrNew change.now (content self.new)) }
+        ensures cause { result ≡ Err KeepFault.Store → HasRisen (failures self.old) (failures self.new) }
+        ensures only { (t : Table) → result ≡ Err (KeepFault.Unsound t) → ⊥ }
+        ensures loaded { is_loaded self.new ≡ true };
 }

@@ -1,0 +1,134 @@
+-- How the ground machine answers a command, by what is found in an image.
+use Rattle.std.proofs.Common.{◌≡◌, ℕ, ◌+◌, ◌<◌, ◌≤◌, suc, zero, Bool, true, false, cond, List, [], ◌∷◌, length, map, Some, None, Result, Ok, Err, refl, sym, ap, ◌∙◌, arith}
+use Rattle.std.specs.Prelude.{not, ◌&&◌, nat_le, nat_lt, slice_index_or}
+use Rattle.std.specs.List.{position, position_or_len, prefix_len, list_all}
+use Rattle.std.proofs.lemmas.Bool.{and_parts, leb-true}
+use Rattle.std.proofs.lemmas.Bool.Decides.{nat_tests}
+use Rattle.std.proofs.lemmas.List.{map-append, length-map}
+use Rattle.lrs_measure.specs.Texts.{Name, same_name}
+use Rattle.lrs_desk.specs.declared.answer.Limits.{Limits}
+use Rattle.lrs_desk.specs.declared.answer.What.{What}
+use Rattle.lrs_desk.specs.declared.answer.What.TheVariants.{Edits, Assets, Routes}
+use Rattle.lrs_desk.specs.declared.answer.Cause.{Cause}
+use Rattle.lrs_desk.specs.declared.answer.Cause.TheVariants as cause
+use Rattle.lrs_desk.specs.declared.answer.Answer.TheVariants.{Done, Refused}
+use Rattle.lrs_desk.specs.declared.command.Command.{Command}
+use Rattle.lrs_desk.specs.declared.image.Edit.{Edit}
+use Rattle.lrs_desk.specs.declared.image.Image.{Image}
+use Rattle.lrs_desk.specs.declared.change.Parts.{Parts}
+use Rattle.lrs_desk.specs.Bounds.{most_routes, most_assets, most_edits}
+use Rattle.lrs_desk.specs.State.{State}
+use Rattle.lrs_desk.specs.State as state
+use Rattle.lrs_desk.specs.Image.{state_of, asset_entry, route_entry}
+use Rattle.lrs_desk.specs.Change.{with_parts}
+use Rattle.lrs_desk.specs.Index.{place_among}
+use Rattle.lrs_desk.specs.Lines.{line_of}
+use Rattle.lrs_desk.specs.Machine.{Outcome, step, attempt, step_by_key, outcome_of, next, answer_known, line_at, check_room, refuse_if, ◌>>◌, needs_asset, needs_route}
+use Rattle.lrs_desk.specs.Plan.{Makes}
+use Rattle.lrs_desk.specs.Decide.{IsDoneBy, HasRoom, LacksRoom, edit_of, done_image}
+
+-- an edit as the ground machine keeps it
+abbrev pub kept_edit : Edit → state.Edit
+kept_edit e = record { key = e.key; line = e.line }
+
+module _ {X Y : Type 0} (f : X → Y) (p : Y → Bool) where
+  prefix_len-map : (xs : List X) → prefix_len (λ y. not (p y)) (map f xs) ≡ prefix_len (λ x. not (p (f x))) xs
+  prefix_len-map [] = refl
+  prefix_len-map (x ∷ xs) = ap (λ n. cond (not (p (f x))) (1 + n) 0) (prefix_len-map xs)
+
+  pub position-map : (xs : List X) → position p (map f xs) ≡ position (λ x. p (f x)) xs
+  position-map xs = λ j. cond (nat_lt (prefix_len-map xs j) (length-map xs f j)) (Some (prefix_len-map xs j)) None
+
+module _ {X : Type 0} (p : X → Bool) where
+  none_in_front : (xs : List X) → length xs ≤ prefix_len (λ x. not (p x)) xs → list_all (λ x. not (p x)) xs ≡ true
+  none_in_front [] h = refl
+  none_in_front (x ∷ xs) h =
+      elim (not (p x)) as (λ b. length (x ∷ xs) ≤ cond b (1 + prefix_len (λ x. not (p x)) xs) 0 → (b && list_all (λ x. not (p x)) xs) ≡ true) [
+        | true ↦ λ k. none_in_front xs (omega (arith, k))
+        | false ↦ λ k. absurd (omega (arith, k))
+      ] h
+
+  pub none_passes : (xs : List X) → position p xs ≡ None → list_all (λ x. not (p x)) xs ≡ true
+  none_passes xs h = none_in_front xs (at_end (nat_lt (position_or_len p xs) (length xs)) refl h)
+    where
+      at_end : (b : Bool) → nat_lt (position_or_len p xs) (length xs) ≡ b → cond b (Some (position_or_len p xs)) None ≡ None → length xs ≤ position_or_len p xs
+      at_end true e k = cc
+      at_end false e k = grind (arith, nat_tests)
+
+line_at-kept : (edits : List Edit) (place : ℕ) (d : Edit) → place < length edits → line_at place (map kept_edit edits) ≡ (slice_index_or edits place d).line
+line_at-kept [] place d h = absurd (omega (arith, h))
+line_at-kept (e ∷ es) zero d h = refl
+line_at-kept (e ∷ es) (suc k) d h = line_at-kept es k d (omega (arith, h))
+
+-- The key is known: nothing changes.
+pub step-known : (limits : Limits) (key : Name) (command : Command) (i : Image) (place : ℕ) (d : Edit) → place < length i.edits → place_among i.edits key ≡ Some place
+    → step limits key command (state_of i) ≡ record { answer = answer_known (place + 1) (slice_index_or i.edits place d).line (line_of command); state = state_of i }
+unfolding step state_of
+step-known limits key command i place d within at =
+    ap (step_by_key limits key command (state_of i)) (position-map kept_edit (λ e. same_name e.key key) i.edits ∙ at)
+    ∙ ap (λ line. let o : Outcome = record { answer = answer_known (place + 1) line (line_of command); state = state_of i } in o) (line_at-kept i.edits place d within)
+
+-- The key is new.
+step-new : (limits : Limits) (key : Name) (command : Command) (i : Image) → place_among i.edits key ≡ None
+    → step limits key command (state_of i) ≡ outcome_of key command (state_of i) (next limits command (state_of i))
+unfolding step state_of
+step-new limits key command i none =
+    ap (step_by_key limits key command (state_of i)) (position-map kept_edit (λ e. same_name e.key key) i.edits ∙ none)
+
+abbrev three : Bool → Bool → Bool → Result (Unit {0}) Cause
+three a b c = refuse_if a (cause.TooMany Edits) >> (refuse_if b (cause.TooMany Assets) >> refuse_if c (cause.TooMany Routes))
+
+-- the limits, by the lengths of the image's lists
+room-image : (limits : Limits) (command : Command) (i : Image)
+    → check_room limits command (state_of i) ≡ three (nat_le limits.edits (length i.edits)) (needs_asset command && nat_le limits.assets (length i.assets)) (needs_route command && nat_le limits.routes (length i.routes))
+unfolding state_of
+room-image limits command i =
+    let edits = length-map i.edits kept_edit in
+    let assets = length-map i.assets asset_entry in
+    let routes = length-map i.routes route_entry in
+    λ j. three (nat_le limits.edits (edits j)) (needs_asset command && nat_le limits.assets (assets j)) (needs_route command && nat_le limits.routes (routes j))
+
+-- A limit leaves no room.
+lacks : (what : What) (limits : Limits) (command : Command) (i : Image) → LacksRoom what limits command i
+    → three (nat_le limits.edits (length i.edits)) (needs_asset command && nat_le limits.assets (length i.assets)) (needs_route command && nat_le limits.routes (length i.routes)) ≡ Err (cause.TooMany what)
+lacks Edits limits command i h = λ j. three (h j) (needs_asset command && nat_le limits.assets (length i.assets)) (needs_route command && nat_le limits.routes (length i.routes))
+lacks Assets limits command i h = λ j. three (h.0 j) (h.1 j) (needs_route command && nat_le limits.routes (length i.routes))
+lacks Routes limits command i h = λ j. three (h.0 j) (h.1 j) (h.2 j)
+
+-- limits are no greater than there may be edits
+limits_few : (limits : Limits) → limits.edits ≤ most_edits
+limits_few limits = leb-true limits.edits most_edits (and_parts (nat_le limits.routes most_routes && nat_le limits.assets most_assets) (nat_le limits.edits most_edits) limits.bounds).1
+
+module _ (limits : Limits) (key : Name) (command : Command) (i : Image) (none : place_among i.edits key ≡ None) where
+  pub step-limited : (what : What) → LacksRoom what limits command i → step limits key command (state_of i) ≡ record { answer = Refused (cause.TooMany what); state = state_of i }
+  step-limited what h =
+      step-new limits key command i none
+      ∙ ap (λ r. outcome_of key command (state_of i) (r >> attempt (length (state_of i).done + 1) command (state_of i))) (room-image limits command i ∙ lacks what limits command i h)
+
+  -- what is next is what the verb does
+  next-attempt : HasRoom limits command i → next limits command (state_of i) ≡ attempt (length i.edits + 1) command (state_of i)
+  unfolding state_of
+  next-attempt room =
+      ap (λ r. r >> attempt (length (state_of i).done + 1) command (state_of i)) (room-image limits command i ∙ (λ j. three (room.edits j) (room.assets j) (room.routes j)))
+      ∙ ap (λ n. attempt (n + 1) command (state_of i)) (length-map i.edits kept_edit)
+
+  pub step-refused : (c : Cause) → HasRoom limits command i → attempt (length i.edits + 1) command (state_of i) ≡ Err c
+      → step limits key command (state_of i) ≡ record { answer = Refused c; state = state_of i }
+  step-refused c room refused = step-new limits key command i none ∙ ap (outcome_of key command (state_of i)) (next-attempt room ∙ refused)
+
+  done_is : (p : Parts) → outcome_of key command (state_of i) (Ok (state_of (with_parts p i))) ≡ record { answer = Done (length i.edits + 1); state = state_of (done_image key command p i) }
+  unfolding state_of
+  done_is p = λ j. record {
+    answer = Done (length-map i.edits kept_edit j + 1);
+    state = record (state_of (with_parts p i)) { done = sym (map-append kept_edit i.edits (edit_of key command ∷ [])) j };
+  }
+
+  pub is_done : (p : Parts) → HasRoom limits command i → Makes command i p → IsDoneBy limits key command i p
+  is_done p room makes = record {
+    outcome = step-new limits key command i none ∙ ap (outcome_of key command (state_of i)) (next-attempt room ∙ makes.state) ∙ done_is p;
+    sound = makes.sound (edit_of key command) (none_passes (λ (e : Edit). same_name e.key key) i.edits none) (few room.edits (limits_few limits));
+    new_key = none;
+  }
+    where
+      few : nat_le limits.edits (length i.edits) ≡ false → limits.edits ≤ most_edits → length i.edits + 1 ≤ most_edits
+      few h k = grind (arith, nat_tests)

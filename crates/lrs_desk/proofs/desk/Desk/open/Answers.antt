@@ -1,0 +1,10 @@
+use Rattle.std.proofs.Common.{◌≡◌, List, true, not, sym, subst}
+use Rattle.lrs_measure.specs.Lists.{each_two}
+use Rattle.lrs_measure.specs.Texts.{same_name}
+use Rattle.lrs_desk.specs.declared.image.Edit.{Edit}
+use Rattle.lrs_desk.proofs.Tables.{keys_once}
+use Rattle.lrs_desk.proofs.desk.Desk.open.Goals as goal
+
+pub index_of-requires : goal.index_of-requires
+index_of-requires g c =
+    record { once = subst (λ (es : List Edit). each_two (λ d e. not (same_name d.key e.key)) es ≡ true) (sym c.as_slice.ensures) (keys_once c.in-Ok.image c.in-Ok.ensures.sound) }

@@ -1,0 +1,8 @@
+use Rattle.std.proofs.Common.{refl, sym, ap, subst}
+use Rattle.lrs_desk.specs.declared.image.Image.{Image}
+use Rattle.lrs_desk.specs.Sound.{IsSound, first_unsound}
+use Rattle.lrs_desk.proofs.plain.Plain.empty.Goals as goal
+
+pub new-requires-clause-sound : goal.new-requires-clause-sound
+unfolding first_unsound
+new-requires-clause-sound c = subst (λ (i : Image). IsSound i) (sym c.empty.ensures) refl

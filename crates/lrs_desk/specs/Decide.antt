@@ -1,0 +1,53 @@
+-- What is decided about a command.
+use Rattle.std.specs.Prelude.{◌≡◌, ◌+◌, ◌&&◌, true, false, nat_le, length, None}
+use Rattle.lrs_measure.specs.Texts.{Name}
+use Rattle.lrs_desk.specs.declared.answer.What.{What}
+use Rattle.lrs_desk.specs.declared.answer.What.TheVariants.{Edits, Assets, Routes}
+use Rattle.lrs_desk.specs.declared.answer.Answer.TheVariants.{Done}
+use Rattle.lrs_desk.specs.declared.answer.Limits.{Limits}
+use Rattle.lrs_desk.specs.declared.command.Command.{Command}
+use Rattle.lrs_desk.specs.declared.image.Edit.{Edit}
+use Rattle.lrs_desk.specs.declared.image.Image.{Image}
+use Rattle.lrs_desk.specs.declared.change.Parts.{Parts}
+use Rattle.lrs_desk.specs.declared.decide.Decision.{Decision}
+use Rattle.lrs_desk.specs.declared.decide.Decision.TheVariants.{Stay, Make}
+use Rattle.lrs_desk.specs.Image.{state_of}
+use Rattle.lrs_desk.specs.Change.{with_parts, with_edit}
+use Rattle.lrs_desk.specs.Index.{place_among}
+use Rattle.lrs_desk.specs.Lines.{line_of}
+use Rattle.lrs_desk.specs.Machine.{step, needs_asset, needs_route}
+use Rattle.lrs_desk.specs.Sound.{IsSound}
+
+-- the edit that keeps a command
+abbrev pub edit_of : Name → Command → Edit
+edit_of key command = record { key = key; line = line_of command }
+
+-- the image after a command that is done
+abbrev pub done_image : Name → Command → Parts → Image → Image
+done_image key command parts i = with_edit (edit_of key command) (with_parts parts i)
+
+-- The command is done by these parts under a new key, and leaves the image sound.
+pub record IsDoneBy (limits : Limits) (key : Name) (command : Command) (i : Image) (parts : Parts) : Type 0 where
+  pub outcome : step limits key command (state_of i) ≡ record { answer = Done (length i.edits + 1); state = state_of (done_image key command parts i) }
+  pub sound : IsSound (done_image key command parts i)
+  pub new_key : place_among i.edits key ≡ None
+
+-- A decision is the ground machine's.
+abbrev pub IsDecision : Limits → Name → Command → Image → Decision → Type 0
+IsDecision limits key command i (Stay answer) = step limits key command (state_of i) ≡ record { answer = answer; state = state_of i }
+IsDecision limits key command i (Make parts) = IsDoneBy limits key command i parts
+
+-- the limits leave room for the command
+pub record HasRoom (limits : Limits) (command : Command) (i : Image) : Type 0 where
+  pub edits : nat_le limits.edits (length i.edits) ≡ false
+  pub assets : (needs_asset command && nat_le limits.assets (length i.assets)) ≡ false
+  pub routes : (needs_route command && nat_le limits.routes (length i.routes)) ≡ false
+
+-- ... or for this they leave no room, and for what is looked at before it they do
+abbrev pub LacksRoom : What → Limits → Command → Image → Type 0
+LacksRoom Edits limits command i = nat_le limits.edits (length i.edits) ≡ true
+LacksRoom Assets limits command i =
+    (nat_le limits.edits (length i.edits) ≡ false) × ((needs_asset command && nat_le limits.assets (length i.assets)) ≡ true)
+LacksRoom Routes limits command i =
+    (nat_le limits.edits (length i.edits) ≡ false) × ((needs_asset command && nat_le limits.assets (length i.assets)) ≡ false)
+    × ((needs_route command && nat_le limits.routes (length i.routes)) ≡ true)

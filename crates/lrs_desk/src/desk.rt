@@ -1,0 +1,282 @@
+//! The desk: it does commands, and keeps what they change.
+
+ghost use Rattle.std.specs.Prelude.{◌≡◌, ◌+◌, ◌≤◌, ◌↔◌, IsTrue, IfOk, IfErr, OnOk, OnErr, Ok, Err, length, true, false, not, None};
+ghost use Rattle.lrs_measure.specs.Lists.{each_two};
+ghost use Rattle.lrs_measure.specs.Texts.{same_name};
+ghost use Rattle.lrs_desk.specs.declared.keeper.Table.{Table};
+ghost use Rattle.lrs_desk.specs.Change.{apply};
+ghost use Rattle.lrs_desk.specs.Image.{state_of};
+ghost use Rattle.lrs_desk.specs.Machine.{step, answers, state_after};
+ghost use Rattle.lrs_desk.specs.Laws.{once};
+ghost use Rattle.lrs_desk.specs.Index.{IsIndex, place_among};
+ghost use Rattle.lrs_desk.specs.Sound.{IsSound};
+ghost use Rattle.lrs_desk.specs.Keeping.{HasRisen, IsOldOrNew};
+ghost use Rattle.lrs_desk.specs.Desk.{IsUnchanged, HasBroken, records_of};
+
+use crate::answer::{Answer, Limits};
+use crate::change::{Change, Parts};
+use crate::decide::{Decision, decide};
+use crate::image::{Edit, Image};
+use crate::index::KeyIndex;
+use crate::keep::keep;
+use crate::keeper::{KeepFault, Keeper, Table};
+use crate::key::Key;
+use crate::planned::Planned;
+use std::alloc::{AllocError, AllocFailed, Global};
+use std::marker::Model;
+
+/// Why a desk did not answer.
+#[derive(Clone, Copy, Debug, PartialEq, Eq)]
+pub enum Fault {
+    Memory,
+    Keep,
+    MustReopen,
+}
+
+impl From<AllocError> for Fault {
+    ghost use Rattle.lrs_desk.specs.declared.desk.Fault.TheVariants.{Memory};
+
+    ghost from_gives = { λ _ e. e ≡ Memory };
+
+    fn from(_: AllocError) -> Self {
+        Fault::Memory
+    }
+}
+
+impl<T: Drop> From<AllocFailed<T>> for Fault {
+    ghost use Rattle.lrs_desk.specs.declared.desk.Fault.TheVariants.{Memory};
+
+    ghost from_gives = { λ _ e. e ≡ Memory };
+
+    fn from(_: AllocFailed<T>) -> Self {
+        Fault::Memory
+    }
+}
+
+/// Why a desk is not opened.
+#[derive(Clone, Copy, Debug, PartialEq, Eq)]
+pub enum OpenFault {
+    Unsound(Table),
+    Keep,
+    Memory,
+}
+
+fn open_fault(fault: KeepFault) -> OpenFault
+    ensures memory { fault ≡ KeepFault.Memory → result ≡ OpenFault.Memory }
+    ensures keep { result ≡ OpenFault.Keep → fault ≡ KeepFault.Store }
+    ensures unsound { (t : Table) → result ≡ OpenFault.Unsound t → fault ≡ KeepFault.Unsound t }
+{
+    match fault {
+        KeepFault::Memory => OpenFault::Memory,
+        KeepFault::Store => OpenFault::Keep,
+        KeepFault::Unsound(table) => OpenFault::Unsound(table),
+    }
+}
+
+// The places of the keys of edits, of which each has a key of its own.
+fn index_of(edits: &[Edit], alloc: Global) -> Result<KeyIndex, AllocError>
+    requires once { each_two (λ d e. not (same_name d.key e.key)) edits.now ≡ true }
+    ensures { IfOk result (λ keys. IsIndex keys edits.now) }
+{
+    let mut keys = KeyIndex::new(alloc);
+    for (i, edit) in edits.iter().enumerate() {
+        keys.insert(edit.key, i as u64)?;
+    }
+    Ok(keys)
+}
+
+/// Does commands under keys, over any keeper.
+#[derive(Drop)]
+pub struct Desk<K: Keeper> {
+    keeper: K,
+    image: Image,
+    keys: KeyIndex,
+    limits: Limits,
+    must_reopen: bool,
+    alloc: Global,
+}
+
+impl<K: Keeper> Model for Desk<K> {
+    ghost use Rattle.lrs_desk.specs.DeskView.{DeskView, IsWorking};
+
+    ghost Value = { DeskView };
+
+    ghost view = { λ d. record {
+      image = d.image;
+      limits = d.limits;
+      must_reopen = d.must_reopen;
+      content = K.content d.keeper;
+      failures = K.failures d.keeper;
+    } };
+
+    ghost invariant = { λ d. IsWorking d.image d.keys d.must_reopen (K.content d.keeper) (K.is_loaded d.keeper) };
+}
+
+impl<K: Keeper> Desk<K> {
+    /// Opens a desk over what a keeper has, which is read as a whole. With a fault the keeper is given back,
+    /// and has what it had.
+    ///
+    /// # Errors
+    ///
+    /// `Unsound` with the first unsound table of what is kept, `Keep` if the keeper's device failed.
+    pub fn open(mut keeper: K, limits: Limits, alloc: Global) -> Result<Desk<K>, (OpenFault, K)>
+        ensures image { IfOk result (λ desk. K.content keeper ≡ Ok desk.image) }
+        ensures content { IfOk result (λ desk. desk.content ≡ K.content keeper) }
+        ensures limits { IfOk result (λ desk. desk.limits ≡ limits) }
+        ensures open { IfOk result (λ desk. desk.must_reopen ≡ false) }
+        ensures unsound { IfErr result (λ e. (t : Table) → e.0 ≡ OpenFault.Unsound t → K.content keeper ≡ Err t) }
+        ensures cause { IfErr result (λ e. e.0 ≡ OpenFault.Keep → HasRisen (K.failures keeper) (K.failures e.1)) }
+        ensures err { IfErr result (λ e. K.content e.1 ≡ K.content keeper) }
+    {
+        let image = match keeper.load(alloc) {
+            Ok(image) => image,
+            Err(fault) => return Err((open_fault(fault), keeper)),
+        };
+        let Ok(keys) = index_of(image.edits.as_slice(), alloc) else {
+            return Err((OpenFault::Memory, keeper));
+        };
+        Ok(Desk {
+            keeper,
+            image,
+            keys,
+            limits,
+            must_reopen: false,
+            alloc,
+        })
+    }
+
+    /// What is known.
+    pub fn image(&self) -> &Image
+        ensures image { result.now ≡ self.now.image }
+        ensures sound { IsSound self.now.image }
+    {
+        &self.image
+    }
+
+    /// Gives the keeper back.
+    pub fn into_keeper(self) -> K
+        ensures content { K.content result ≡ self.content }
+        ensures failures { K.failures result ≡ self.failures }
+    {
+        let Desk { keeper, .. } = self;
+        keeper
+    }
+
+    /// Does a command, unless its key was accepted before or a check fails.
+    pub fn act(&mut self, key: Key, command: &Planned) -> Result<Answer, Fault>
+        // The answer and the next state are the ground machine's.
+        ensures answer { IfOk result (λ answer. answer ≡ (step self.old.limits key command.now (state_of self.old.image)).answer) }
+        ensures image { OnOk result (state_of self.new.image ≡ (step self.old.limits key command.now (state_of self.old.image)).state) }
+        ensures content { OnOk result (self.new.content ≡ Ok self.new.image) }
+
+        // Want of memory changes nothing.
+        ensures memory { result ≡ Err Fault.Memory → IsUnchanged self.old self.new }
+
+        // After a failed commit, which only a failure of the device makes, what is kept is the old content or the next state's.
+        ensures keep { result ≡ Err Fault.Keep → HasBroken key command.now self.old self.new }
+
+        // From then on the desk asks to be opened again, and at no other time.
+        ensures reopen { (result ≡ Err Fault.MustReopen) ↔ IsTrue self.old.must_reopen }
+        ensures stays { result ≡ Err Fault.MustReopen → IsUnchanged self.old self.new }
+        ensures limits { self.new.limits ≡ self.old.limits }
+        ensures open { OnOk result (self.new.must_reopen ≡ false) }
+    {
+        if self.must_reopen {
+            return Err(Fault::MustReopen);
+        }
+        let line = command.line(self.alloc)?;
+        let decision = decide(
+            self.alloc,
+            &self.image,
+            &self.limits,
+            &self.keys,
+            &key,
+            command,
+            &line,
+        )?;
+        match decision {
+            Decision::Stay(answer) => Ok(answer),
+            Decision::Make(parts) => {
+                let edit = Edit { key, line };
+                let made = make(
+                    &mut self.image,
+                    &mut self.keys,
+                    &mut self.keeper,
+                    edit,
+                    parts,
+                );
+                self.must_reopen = matches!(made, Err(Fault::Keep));
+                made
+            }
+        }
+    }
+}
+
+// Makes a change, and answers the number of its edit. Its key is indexed before the commit, which needs
+// memory, and taken out again if the commit fails, which needs none.
+fn make<K: Keeper>(
+    image: &mut Image,
+    keys: &mut KeyIndex,
+    keeper: &mut K,
+    edit: Edit,
+    parts: Parts,
+) -> Result<Answer, Fault>
+    requires loaded { K.is_loaded keeper.old ≡ true }
+    requires kept { K.content keeper.old ≡ Ok image.old }
+    requires sound { IsSound (apply (record { edit = edit; parts = parts }) image.old) }
+    requires keys { IsIndex keys.old image.old.edits }
+    requires new_key { place_among image.old.edits edit.key ≡ None }
+    ensures answer { IfOk result (λ answer. answer ≡ Answer.Done (length image.old.edits + 1)) }
+    ensures ok { OnOk result (image.new ≡ apply (record { edit = edit; parts = parts }) image.old) }
+    ensures ok_kept { OnOk result (K.content keeper.new ≡ Ok (apply (record { edit = edit; parts = parts }) image.old)) }
+    ensures err { OnErr result (image.new ≡ image.old) }
+    ensures memory { result ≡ Err Fault.Memory → K.content keeper.new ≡ K.content keeper.old }
+    ensures store { result ≡ Err Fault.Keep → IsOldOrNew (record { edit = edit; parts = parts }) (K.content keeper.new) image.old }
+    ensures cause { result ≡ Err Fault.Keep → HasRisen (K.failures keeper.old) (K.failures keeper.new) }
+    ensures only { result ≡ Err Fault.MustReopen → ⊥ }
+    ensures loaded { K.is_loaded keeper.new ≡ true }
+    ensures keys { IsIndex keys.new image.new.edits }
+{
+    let place = image.edits.len() as u64;
+    let key = edit.key;
+    keys.insert(key, place)?;
+    match keep(image, keeper, Change { edit, parts }) {
+        Ok(()) => Ok(Answer::Done(place + 1)),
+        Err(fault) => {
+            keys.remove(&key);
+            Err(commit_fault(fault))
+        }
+    }
+}
+
+fn commit_fault(fault: KeepFault) -> Fault
+    requires only { (t : Table) → fault ≡ KeepFault.Unsound t → ⊥ }
+    ensures memory { result ≡ Fault.Memory → fault ≡ KeepFault.Memory }
+    ensures keep { result ≡ Fault.Keep → fault ≡ KeepFault.Store }
+    ensures only { result ≡ Fault.MustReopen → ⊥ }
+{
+    match fault {
+        KeepFault::Memory => Fault::Memory,
+        KeepFault::Store => Fault::Keep,
+        KeepFault::Unsound(_) => unreachable!(),
+    }
+}
+
+/// Does commands under keys, one after the other. The answers and the image are those of the ground
+/// machine over the list, unless a fault ends the run; a key that was accepted before acts no more.
+pub fn run<K: Keeper>(
+    desk: &mut Desk<K>,
+    records: &[(Key, Planned)],
+    alloc: Global,
+) -> Result<Vec<Answer>, Fault>
+    ensures answers { IfOk result (λ given. given.items ≡ answers desk.old.limits (records_of records.now) (state_of desk.old.image)) }
+    ensures image { OnOk result (state_of desk.new.image ≡ state_after desk.old.limits (records_of records.now) (state_of desk.old.image)) }
+    ensures once { OnOk result (state_of desk.new.image ≡ state_after desk.old.limits (once desk.old.limits (records_of records.now) (state_of desk.old.image)) (state_of desk.old.image)) }
+{
+    let mut given = Vec::new(alloc);
+    for (key, command) in records {
+        let answer = desk.act(*key, command)?;
+        given.push(answer)?;
+    }
+    Ok(given)
+}

@@ -1,0 +1,88 @@
+//! What a command would change, or why its verb refuses it.
+
+ghost use Rattle.std.specs.Prelude.{◌≡◌, ◌+◌, [], length, IfOk, nat_eq};
+ghost use Rattle.std.specs.List.{list_any};
+ghost use Rattle.lrs_measure.specs.Texts.{same_name};
+ghost use Rattle.lrs_desk.specs.declared.command.Command.TheVariants as verb;
+ghost use Rattle.lrs_desk.specs.Change as change;
+ghost use Rattle.lrs_desk.specs.Plan.{Plans};
+ghost use Rattle.lrs_desk.specs.Sound.{IsSound};
+
+use crate::answer::Cause;
+use crate::change::Parts;
+use crate::command::Command;
+use crate::image::Image;
+use crate::planned::Planned;
+use lrs_element::Link;
+use lrs_events::{Class, ClassName};
+use lrs_measure::Rows;
+use std::alloc::{AllocError, Global};
+
+/// What a command would change, or the first check of its verb that fails.
+pub fn plan(
+    alloc: Global,
+    image: &Image,
+    command: &Planned,
+) -> Result<Result<Parts, Cause>, AllocError>
+    requires sound { IsSound image.now }
+    ensures planned { IfOk result (Plans command.now image.now) }
+{
+    match command.command() {
+        Command::Link(link) => Ok(plan_link(alloc, image, *link)),
+        Command::Class(class) => Ok(plan_class(alloc, image, *class)),
+        _ => unreachable!(),
+    }
+}
+
+// Parts that change nothing.
+fn no_parts(alloc: Global) -> Parts
+    ensures { result ≡ change.no_parts }
+{
+    Parts {
+        link: None,
+        class: None,
+        asset: None,
+        dropped: Rows::new(alloc),
+        written: Rows::new(alloc),
+        entered: Rows::new(alloc),
+        gone: Rows::new(alloc),
+    }
+}
+
+fn plan_link(alloc: Global, image: &Image, link: Link) -> Result<Parts, Cause>
+    requires sound { IsSound image.now }
+    ensures planned { Plans (verb.Link link) image.now result }
+{
+    if knows_link(image.links.as_slice(), link.number) {
+        return Err(Cause::LinkKnown);
+    }
+    let mut parts = no_parts(alloc);
+    parts.link = Some(link);
+    Ok(parts)
+}
+
+fn knows_link(links: &[Link], number: u32) -> bool
+    ensures { result ≡ list_any (λ link. nat_eq number link.number) links.now }
+{
+    links.iter().any(|link| number == link.number)
+}
+
+fn plan_class(alloc: Global, image: &Image, class: Class) -> Result<Parts, Cause>
+    requires sound { IsSound image.now }
+    ensures planned { Plans (verb.Class class) image.now result }
+{
+    if knows_class(image.classes.as_slice(), &class.name) {
+        return Err(Cause::ClassKnown);
+    }
+    let mut parts = no_parts(alloc);
+    parts.class = Some(class);
+    Ok(parts)
+}
+
+fn knows_class(classes: &[Class], name: &ClassName) -> bool
+    ensures { result ≡ list_any (λ class. same_name class.name name.now) classes.now }
+{
+    classes
+        .iter()
+        .any(|class| class.name.bytes() == name.bytes())
+}
