@@ -141,7 +141,7 @@ located-some a entry_of (Int p) x s h = proportion_some (length a.course) p.den 
 same_quotient : (n den x d y b : ℕ) → 0 < den → n * d ≡ x * den → n * b ≡ y * den → x * b ≡ y * d
 same_quotient n den x d y b p e f =
     eq_of_mul-eq-mul_right den p (x * b) (y * d)
-      (let g : n * d * b ≡ x * den * b = ap (λ (k : ℕ). k * b) e in let h : n * b * d ≡ y * den * d = ap (λ (k : ℕ). k * d) f in omega arith)
+    (let g : n * d * b ≡ x * den * b = ap (λ (k : ℕ). k * b) e in let h : n * b * d ≡ y * den * d = ap (λ (k : ℕ). k * d) f in omega arith)
 
 pub Locates-same : (a : Alignment) (entry_of : Name → Option ℕ) (e : Expr) (x y : ℕ × ℕ) → IsSound a → 0 < (number_of e).den → Locates a entry_of e x → Locates a entry_of e y → x.0 * y.1 ≡ y.0 * x.1
 Locates-same a entry_of (Abs m) x y s dp h k =
@@ -161,7 +161,7 @@ Locates-same a entry_of (Int p) x y s dp h k =
 other_quotient : (n den x d y b : ℕ) → 0 < d → n * d ≡ x * den → x * b ≡ y * d → n * b ≡ y * den
 other_quotient n den x d y b p e f =
     eq_of_mul-eq-mul_right d p (n * b) (y * den)
-      (let g : n * d * b ≡ x * den * b = ap (λ (k : ℕ). k * b) e in let h : x * b * den ≡ y * d * den = ap (λ (k : ℕ). k * den) f in omega arith)
+    (let g : n * d * b ≡ x * den * b = ap (λ (k : ℕ). k * b) e in let h : x * b * den ≡ y * d * den = ap (λ (k : ℕ). k * den) f in omega arith)
 
 bound_scaled : (len x d y b : ℕ) → 0 < d → x * b ≡ y * d → x ≤ len * d → y ≤ len * b
 bound_scaled len x d y b p e h =
@@ -195,7 +195,7 @@ Locates-within a entry_of (Int p) x s dp h =
 same_numbers : (n den m b x d : ℕ) → 0 < d → n * d ≡ x * den → m * d ≡ x * b → n * b ≡ m * den
 same_numbers n den m b x d p e f =
     eq_of_mul-eq-mul_right d p (n * b) (m * den)
-      (let g : n * d * b ≡ x * den * b = ap (λ (k : ℕ). k * b) e in let h : m * d * den ≡ x * b * den = ap (λ (k : ℕ). k * den) f in omega arith)
+    (let g : n * d * b ≡ x * den * b = ap (λ (k : ℕ). k * b) e in let h : m * d * den ≡ x * b * den = ap (λ (k : ℕ). k * den) f in omega arith)
 
 -- naturals with one value are fractions with one value
 equal_naturals : (p q : Fraction) (n m : ℕ) → p.num ≡ pos n → q.num ≡ pos m → n * q.den ≡ m * p.den → IsEqual p q

@@ -1,5 +1,4 @@
 use Rattle.std.proofs.Common.{ℕ, suc, ◌≡◌, ◌+◌, ◌-◌, ◌*◌, ◌/◌, ◌%◌, ◌^◌, ◌<◌, ◌≤◌, min, sym, ◌∙◌, ap, refl, subst, arith, ℤ, pos, negsuc, ◌+ℤ◌, unsigned_abs, ⊎_elim, Bool, true, false, cond, nat_le, List, length, Option, Some, None, Result, Ok, Err}
-
 use Rattle.std.specs.Option.{ok_or, option_and_then, IsSomeAnd, IfSome, IsSome}
 use Rattle.std.specs.Result.{IfOk}
 use Rattle.std.proofs.Math.Nat.{div-add-mod', le_trans, le_of_dvd, mul-le-mul_right}
@@ -65,8 +64,10 @@ in_entry len n d dp lp h = ⊎_elim (inside) (at_end) (cases_lt (n / d) len)
   where
     e : n / d * d + n % d ≡ n
     e = div-add-mod' n d
+
     inside : n / d < len → (min (n / d) (len - 1) < len) × (min (n / d) (len - 1) * d ≤ n) × (n - min (n / d) (len - 1) * d ≤ d)
     inside l = let s : min (n / d) (len - 1) ≡ n / d = omega arith in let m = mod_below n d dp in rw s (l, omega (arith, e), omega (arith, e))
+
     at_end : len ≤ n / d → (min (n / d) (len - 1) < len) × (min (n / d) (len - 1) * d ≤ n) × (n - min (n / d) (len - 1) * d ≤ d)
     at_end l =
         let s : min (n / d) (len - 1) ≡ len - 1 = omega arith in

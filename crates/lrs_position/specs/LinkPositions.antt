@@ -15,7 +15,7 @@ along_link g j (n, d) = if g.forward then g.mm * d + (n - j * d) else (g.mm + 1)
 -- The chainage x of a course is on this link at this distance from its start. At a seam the later entry is meant, at the end the last one.
 pub record LiesOn (course : List Ground) (x : Fraction) (link : ℕ) (distance : Fraction) : Type 0 where
   pub entry : Ground
-  pub ground : slice_get course (cell (length course) (unsigned_abs x.num, x.den)) ≡ Some entry
+  pub stands : slice_get course (cell (length course) (unsigned_abs x.num, x.den)) ≡ Some entry
   pub same_link : link ≡ entry.link
   pub value : IsQuotient distance (pos (along_link entry (cell (length course) (unsigned_abs x.num, x.den)) (unsigned_abs x.num, x.den))) x.den
   pub lowest : IsLowest distance

@@ -104,8 +104,7 @@ fn is_entered(expression: &Expr) -> bool
                 && measure.num().unsigned_abs() <= u128::from(GREATEST_MEASURE)
         }
         Expr::Rel(_, distance) => {
-            distance.den() == 1
-                && distance.num().unsigned_abs() <= u128::from(GREATEST_DISTANCE)
+            distance.den() == 1 && distance.num().unsigned_abs() <= u128::from(GREATEST_DISTANCE)
         }
         Expr::Int(proportion) => {
             proportion.den() <= u128::from(GREATEST_DENOMINATOR)

@@ -30,16 +30,16 @@ pub fn route_to_link(route: &Route, expression: Expr) -> Result<(u32, Frac), Pla
 
 /// The distance from the start of a link, in the chainage's fractions of a millimetre, of a place so far
 /// behind the start of a course's entry.
-fn along(ground: Ground, within: u128, den: u128) -> u128
+fn along(entry: Ground, within: u128, den: u128) -> u128
     requires inside { within ≤ den }
     requires fine { den ≤ 10 ^ 27 }
-    ensures value { result ≡ (if ground.forward then ground.mm * den + within else (ground.mm + 1) * den - within) }
+    ensures value { result ≡ (if entry.forward then entry.mm * den + within else (entry.mm + 1) * den - within) }
     ensures small { result ≤ 10 ^ 37 }
 {
-    if ground.forward {
-        u128::from(ground.mm) * den + within
+    if entry.forward {
+        u128::from(entry.mm) * den + within
     } else {
-        (u128::from(ground.mm) + 1) * den - within
+        (u128::from(entry.mm) + 1) * den - within
     }
 }
 
@@ -52,10 +52,10 @@ fn link_position(route: &Route, chainage: Frac) -> Option<(u32, Frac)>
     let num = chainage.num() as u128;
     let den = chainage.den();
     let place = cell(chainage, route.length());
-    let ground = route.course.ground(place);
-    let distance = along(ground, num - u128::from(place) * den, den);
+    let entry = route.course.ground(place);
+    let distance = along(entry, num - u128::from(place) * den, den);
     match Frac::new(distance as i128, den) {
-        Some(distance) => Some((ground.link, distance)),
+        Some(distance) => Some((entry.link, distance)),
         None => None,
     }
 }

@@ -54,9 +54,7 @@ fn whole(n: i64) -> Option<Frac>
 fn sign_place(bytes: &[u8]) -> Option<usize>
     ensures { result ≡ position is_sign bytes.now }
 {
-    bytes
-        .iter()
-        .position(|byte| *byte == b'+' || *byte == b'-')
+    bytes.iter().position(|byte| *byte == b'+' || *byte == b'-')
 }
 
 /// What stands before the first sign, and from it on, where there is one.

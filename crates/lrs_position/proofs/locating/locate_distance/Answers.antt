@@ -14,4 +14,4 @@ given c =
 pub returns-else-den-gt-FINEST-clause-answer : goal.returns-else-den-gt-FINEST-clause-answer
 returns-else-den-gt-FINEST-clause-answer c =
     distance_is (alignment_of c.args.route.now) (referent_at c.args.route.now.refs) c.args.name c.args.distance c.in-Some.at c.on_route.result (sym c.referent.ensures ∙ c.in-Some.is) (omega arith)
-      (distance_answer _ _ c.in-Some.at c.args.distance.den _ c.args.distance.num _ c.on_route.result c.length.ensures.length c.den-den.ensures (given c) c.on_route.ensures)
+    (distance_answer _ _ c.in-Some.at c.args.distance.den _ c.args.distance.num _ c.on_route.result c.length.ensures.length c.den-den.ensures (given c) c.on_route.ensures)

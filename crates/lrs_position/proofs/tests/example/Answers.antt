@@ -27,5 +27,5 @@ fits_one course marks list refs r len l long bad m e h =
 
 pub invariant_of-result : goal.invariant_of-result
 invariant_of-result c = record {
-  fits = fits_one c.in-Ok-new.course c.in-Ok-new-2.marks c.in-Ok.list.items c.from_vec.result _ c.len-length.result c.len-length.ensures.len c.len-length.ensures.limits (c.in-Ok-new-2.ensures.ok.0 refl) c.in-Ok-new-2.ensures.marks (c.from_vec.ensures ∙ c.in-Ok-from_slice.ensures.items) c.if-length-referent.false
+  fits = fits_one c.in-Ok-new.course c.in-Ok-new-2.marks c.in-Ok.list.items c.from_vec.result _ c.len-length.result c.len-length.ensures.len c.len-length.ensures.limits (c.in-Ok-new-2.ensures.ok.0 refl) c.in-Ok-new-2.ensures.marks (c.from_vec.ensures ∙ c.in-Ok-from_slice.ensures.items) c.if-length-referent.false;
 }
