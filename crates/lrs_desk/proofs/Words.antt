@@ -25,3 +25,12 @@ module _ {X : Type 0} (text : X → Text) where
       ap (λ ts. words (map text ts)) (take_more (x ∷ xs) (suc i) d h)
       ∙ later x (take i xs) (slice_index_or xs i d)
       ∙ ap (λ b. after_words b (words (map text (x ∷ take i xs))) (text (slice_index_or xs i d))) (sym (not_first i))
+
+-- Fields joined in three parts and then together.
+pub fields-joined : (a b c d m f t v o entered location told : Text) → entered ≡ a ++ 44 ∷ (b ++ 44 ∷ (c ++ 44 ∷ d)) → location ≡ m ++ 44 ∷ (f ++ 44 ∷ t) → told ≡ v ++ 44 ∷ o
+    → entered ++ 44 ∷ (location ++ 44 ∷ told) ≡ a ++ 44 ∷ (b ++ 44 ∷ (c ++ 44 ∷ (d ++ 44 ∷ (m ++ 44 ∷ (f ++ 44 ∷ (t ++ 44 ∷ (v ++ 44 ∷ o)))))))
+fields-joined a b c d m f t v o entered location told e l k =
+    ap (λ x. x ++ 44 ∷ (location ++ 44 ∷ told)) e
+    ∙ ap (λ x. (a ++ 44 ∷ (b ++ 44 ∷ (c ++ 44 ∷ d))) ++ 44 ∷ (x ++ 44 ∷ told)) l
+    ∙ ap (λ x. (a ++ 44 ∷ (b ++ 44 ∷ (c ++ 44 ∷ d))) ++ 44 ∷ ((m ++ 44 ∷ (f ++ 44 ∷ t)) ++ 44 ∷ x)) k
+    ∙ (simp append_assoc)

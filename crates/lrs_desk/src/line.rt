@@ -1,19 +1,20 @@
 //! Canonical lines of commands, as they are kept.
 
-ghost use Rattle.std.specs.Prelude.{◌≡◌, IfOk, string_bytes, [], ◌∷◌};
-ghost use Rattle.lrs_desk.specs.Lines.{line_of, fields};
+ghost use Rattle.std.specs.Prelude.{◌≡◌, IfOk, string_bytes, [], ◌∷◌, ◌++◌};
+ghost use Rattle.lrs_desk.specs.Lines.{line_of, fields, side_text, location_fields, entry_fields};
 ghost use Rattle.std.specs.Fmt.{decimal};
 ghost use Rattle.lrs_desk.specs.declared.command.Command.TheVariants as verb;
 
-use crate::command::Command;
-use crate::entered::{Chainage, MarkList, PieceList};
+use crate::command::{Command, Entry};
+use crate::entered::{AssetNumber, Chainage, MarkList, PieceList};
 use crate::planned::Planned;
 use crate::texts::{
-    class_text, kind_text, marks_text, pieces_text, referent_text, route_text, some_pieces_text,
+    class_text, expression_text, kind_text, location_text, marks_text, method_text, pieces_text,
+    referent_text, route_text, side_text, some_pieces_text, value_text,
 };
 use lrs_element::Link;
 use lrs_events::Class;
-use lrs_position::{RefName, RouteName};
+use lrs_position::{Expr, RefName, RouteName};
 use std::alloc::{AllocError, Global};
 use std::marker::Model;
 
@@ -96,11 +97,84 @@ fn route_line(
     format!(in alloc; "route,{name},{pieces},{marks}")
 }
 
+fn ref_line(
+    alloc: Global,
+    name: &RefName,
+    route: &RouteName,
+    at: &Expr,
+) -> Result<String, AllocError>
+    ensures { IfOk result (λ text. string_bytes text ≡ line_of (verb.Ref name.now route.now at.now)) }
+{
+    let name = referent_text(name);
+    let route = route_text(route);
+    let method = method_text(at);
+    let at = expression_text(alloc, at)?;
+    format!(in alloc; "ref,{name},{route},{method},{at}")
+}
+
 fn unref_line(alloc: Global, name: &RefName) -> Result<String, AllocError>
     ensures { IfOk result (λ text. string_bytes text ≡ line_of (verb.Unref name.now)) }
 {
     let name = referent_text(name);
     format!(in alloc; "unref,{name}")
+}
+
+// An entry's asset, class, route and side.
+fn entered_text(alloc: Global, entry: &Entry) -> Result<String, AllocError>
+    ensures { IfOk result (λ text. string_bytes text ≡ fields (decimal entry.now.asset ∷ entry.now.class ∷ entry.now.route ∷ side_text entry.now.side ∷ [])) }
+{
+    let asset = entry.asset.get();
+    let class = class_text(&entry.class);
+    let route = route_text(&entry.route);
+    let side = side_text(entry.side);
+    format!(in alloc; "{asset},{class},{route},{side}")
+}
+
+// What an entry tells of its places.
+fn told_text(alloc: Global, entry: &Entry) -> Result<String, AllocError>
+    ensures { IfOk result (λ text. string_bytes text ≡ fields (entry.now.value ∷ decimal entry.now.offset ∷ [])) }
+{
+    let value = value_text(&entry.value);
+    let offset = entry.offset.get();
+    format!(in alloc; "{value},{offset}")
+}
+
+fn joined_text(alloc: Global, first: &str, second: &str, third: &str) -> Result<String, AllocError>
+    ensures { IfOk result (λ text. string_bytes text ≡ fields (first.now ∷ second.now ∷ third.now ∷ [])) }
+{
+    format!(in alloc; "{first},{second},{third}")
+}
+
+// The fields of an entry, from the text of its location.
+fn entry_text(alloc: Global, entry: &Entry, location: &str) -> Result<String, AllocError>
+    requires { location.now ≡ fields (location_fields entry.now.location) }
+    ensures { IfOk result (λ text. string_bytes text ≡ fields (entry_fields entry.now)) }
+{
+    let entered = entered_text(alloc, entry)?;
+    let told = told_text(alloc, entry)?;
+    joined_text(alloc, entered.as_str(), location, told.as_str())
+}
+
+// The line of a verb with an entry.
+fn entry_line(alloc: Global, verb: &str, entry: &str) -> Result<String, AllocError>
+    ensures { IfOk result (λ text. string_bytes text ≡ verb.now ++ 44 ∷ entry.now) }
+{
+    format!(in alloc; "{verb},{entry}")
+}
+
+fn retire_line(
+    alloc: Global,
+    asset: AssetNumber,
+    route: &RouteName,
+    from: &Expr,
+    to: &Option<Expr>,
+) -> Result<String, AllocError>
+    ensures { IfOk result (λ text. string_bytes text ≡ line_of (verb.Retire asset route.now (record { from = from.now; to = to.now }))) }
+{
+    let asset = asset.get();
+    let route = route_text(route);
+    let location = location_text(alloc, from, to)?;
+    format!(in alloc; "retire,{asset},{route},{location}")
 }
 
 fn split_line(

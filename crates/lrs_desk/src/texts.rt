@@ -1,6 +1,7 @@
 //! The texts of a command's parts.
 
-ghost use Rattle.std.specs.Prelude.{◌≡◌, IfOk, OnOk, string_bytes};
+ghost use Rattle.std.specs.Prelude.{◌≡◌, ◌++◌, codes, unsigned_abs, IfOk, OnOk, string_bytes};
+ghost use Rattle.std.specs.Fmt.{decimal};
 ghost use Rattle.std.specs.Str.{IsAscii};
 ghost use Rattle.lrs_desk.specs.Lines;
 ghost use Rattle.lrs_desk.specs.Texts.{after_words};
@@ -8,7 +9,8 @@ ghost use Rattle.lrs_desk.specs.Texts.{after_words};
 use crate::entered::PieceList;
 use lrs_element::{Mark, Piece};
 use lrs_events::{ClassName, Kind, Side, Value};
-use lrs_position::{RefName, RouteName};
+use lrs_measure::Frac;
+use lrs_position::{Expr, RefName, RouteName};
 use std::alloc::{AllocError, Global};
 
 pub fn kind_text(kind: Kind) -> &'static str
@@ -123,4 +125,68 @@ fn push_word(words: &mut String, is_first: bool, word: &str) -> Result<(), Alloc
         words.push(' ')?;
     }
     words.push_str(word)
+}
+
+pub fn method_text(expression: &Expr) -> &'static str
+    ensures { result.now ≡ Lines.method_text expression.now }
+{
+    match expression {
+        Expr::Abs(_) => "abs",
+        Expr::Rel(..) => "rel",
+        Expr::Int(_) => "int",
+    }
+}
+
+fn signed_text(alloc: Global, number: i128) -> Result<String, AllocError>
+    ensures { IfOk result (λ text. string_bytes text ≡ Lines.signed_text number) }
+{
+    let sign = if number < 0 { "-" } else { "+" };
+    let size = number.unsigned_abs();
+    format!(in alloc; "{sign}{size}")
+}
+
+fn proportion_text(alloc: Global, proportion: &Frac) -> Result<String, AllocError>
+    ensures { IfOk result (λ text. string_bytes text ≡ decimal (unsigned_abs proportion.now.num) ++ codes "/" ++ decimal proportion.now.den) }
+{
+    let num = proportion.num().unsigned_abs();
+    let den = proportion.den();
+    format!(in alloc; "{num}/{den}")
+}
+
+/// An entered expression: a whole measure, a referent and a whole distance, or a proportion.
+pub fn expression_text(alloc: Global, expression: &Expr) -> Result<String, AllocError>
+    ensures { IfOk result (λ text. string_bytes text ≡ Lines.expression_text expression.now) }
+{
+    match expression {
+        Expr::Abs(measure) => {
+            let measure = measure.num().unsigned_abs();
+            format!(in alloc; "{measure}")
+        }
+        Expr::Rel(name, distance) => {
+            let name = referent_text(name);
+            let distance = signed_text(alloc, distance.num())?;
+            format!(in alloc; "{name}{distance}")
+        }
+        Expr::Int(proportion) => proportion_text(alloc, proportion),
+    }
+}
+
+/// ... and nothing where there is none.
+fn end_text(alloc: Global, end: &Option<Expr>) -> Result<String, AllocError>
+    ensures { IfOk result (λ text. string_bytes text ≡ Lines.end_text end.now) }
+{
+    match end {
+        None => Ok(String::new(alloc)),
+        Some(end) => expression_text(alloc, end),
+    }
+}
+
+/// The method and the ends of a location, as fields.
+pub fn location_text(alloc: Global, from: &Expr, to: &Option<Expr>) -> Result<String, AllocError>
+    ensures { IfOk result (λ text. string_bytes text ≡ Lines.fields (Lines.location_fields (record { from = from.now; to = to.now }))) }
+{
+    let method = method_text(from);
+    let from = expression_text(alloc, from)?;
+    let to = end_text(alloc, to)?;
+    format!(in alloc; "{method},{from},{to}")
 }
