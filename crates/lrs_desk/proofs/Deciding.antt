@@ -6,24 +6,24 @@ use Rattle.std.proofs.lemmas.Bool.{and_parts, leb-true}
 use Rattle.std.proofs.lemmas.Bool.Decides.{nat_tests}
 use Rattle.std.proofs.lemmas.List.{map-append, length-map}
 use Rattle.lrs_measure.specs.Texts.{Name, same_name}
-use Rattle.lrs_desk.specs.declared.answer.Limits.{Limits}
-use Rattle.lrs_desk.specs.declared.answer.What.{What}
-use Rattle.lrs_desk.specs.declared.answer.What.TheVariants.{Edits, Assets, Routes}
-use Rattle.lrs_desk.specs.declared.answer.Cause.{Cause}
-use Rattle.lrs_desk.specs.declared.answer.Cause.TheVariants as cause
-use Rattle.lrs_desk.specs.declared.answer.Answer.TheVariants.{Done, Refused}
-use Rattle.lrs_desk.specs.declared.command.Command.{Command}
-use Rattle.lrs_desk.specs.declared.image.Edit.{Edit}
-use Rattle.lrs_desk.specs.declared.image.Image.{Image}
+use Rattle.lrs_machine.specs.declared.answer.Limits.{Limits}
+use Rattle.lrs_machine.specs.declared.answer.What.{What}
+use Rattle.lrs_machine.specs.declared.answer.What.TheVariants.{Edits, Assets, Routes}
+use Rattle.lrs_machine.specs.declared.answer.Cause.{Cause}
+use Rattle.lrs_machine.specs.declared.answer.Cause.TheVariants as cause
+use Rattle.lrs_machine.specs.declared.answer.Answer.TheVariants.{Done, Refused}
+use Rattle.lrs_machine.specs.declared.command.Command.{Command}
+use Rattle.lrs_machine.specs.declared.image.Edit.{Edit}
+use Rattle.lrs_machine.specs.declared.image.Image.{Image}
 use Rattle.lrs_desk.specs.declared.change.Parts.{Parts}
-use Rattle.lrs_desk.specs.Bounds.{most_routes, most_assets, most_edits}
-use Rattle.lrs_desk.specs.State.{State}
-use Rattle.lrs_desk.specs.State as state
-use Rattle.lrs_desk.specs.Image.{state_of, asset_entry, route_entry}
+use Rattle.lrs_machine.specs.Bounds.{most_routes, most_assets, most_edits}
+use Rattle.lrs_machine.specs.State.{State}
+use Rattle.lrs_machine.specs.State as state
+use Rattle.lrs_machine.specs.Image.{state_of, asset_entry, route_entry}
 use Rattle.lrs_desk.specs.Change.{with_parts}
 use Rattle.lrs_desk.specs.Index.{place_among}
-use Rattle.lrs_desk.specs.Lines.{line_of}
-use Rattle.lrs_desk.specs.Machine.{Outcome, step, attempt, step_by_key, outcome_of, next, answer_known, line_at, check_room, refuse_if, ◌>>◌, needs_asset, needs_route}
+use Rattle.lrs_machine.specs.Lines.{line_of}
+use Rattle.lrs_machine.specs.Machine.{Outcome, step, attempt, step_by_key, outcome_of, next, answer_known, line_at, check_room, refuse_if, ◌>>◌, needs_asset, needs_route}
 use Rattle.lrs_desk.specs.Plan.{Makes}
 use Rattle.lrs_desk.specs.Decide.{IsDoneBy, HasRoom, LacksRoom, edit_of, done_image}
 

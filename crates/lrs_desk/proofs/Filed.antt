@@ -7,7 +7,7 @@ use Rattle.std.specs.declared.cmp.Ordering.TheVariants.{Less, Equal, Greater}
 use Rattle.std.specs.Ordering.{eq_by_cmp, is_lt, is_eq, nat_cmp}
 use Rattle.std.specs.Cmp.{IsTotalOrder, Equal-is}
 use Rattle.std.specs.FinMap.{find, IsAntisymmetric}
-use Rattle.lrs_desk.specs.Register.{by_order, put}
+use Rattle.lrs_machine.specs.Register.{by_order, put}
 use Rattle.std.proofs.lemmas.Bool.{false≢true}
 use Rattle.lrs_desk.specs.Lists.{insert_by}
 

@@ -11,7 +11,7 @@ use Rattle.std.proofs.lemmas.List.Folds.{list_all-append}
 use Rattle.std.proofs.lemmas.List.Sums.{sum_by-cons}
 use Rattle.lrs_measure.specs.Lists.{each_two}
 use Rattle.lrs_desk.specs.Lists.{place_by, insert_by}
-use Rattle.lrs_desk.proofs.Members.{In}
+use Rattle.lrs_machine.proofs.Members.{In}
 
 -- To put an element in its place is to insert it there.
 pub insert_by-place : {X : Type 0} (before : X → X → Bool) (x : X) (xs : List X) → insert_by before x xs ≡ insert xs (place_by (before x) xs) x

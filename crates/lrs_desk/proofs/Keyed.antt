@@ -15,7 +15,7 @@ use Rattle.std.proofs.lemmas.List.{take_more, length-take}
 use Rattle.std.proofs.lemmas.List.Folds.{prefix_len-append}
 use Rattle.std.proofs.lemmas.List.Sums.{prefix_len-le-length}
 use Rattle.lrs_measure.specs.Texts.{Name, name_cmp, same_name}
-use Rattle.lrs_desk.specs.declared.image.Edit.{Edit}
+use Rattle.lrs_machine.specs.declared.image.Edit.{Edit}
 use Rattle.lrs_desk.specs.Index.{IsIndex, place_among}
 
 exact : IsAntisymmetric name_cmp

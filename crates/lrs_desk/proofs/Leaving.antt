@@ -1,6 +1,6 @@
 -- What parts leave as it is.
 use Rattle.std.proofs.Common.{◌≡◌, List, [], ◌∷◌, refl, ap}
-use Rattle.lrs_desk.specs.declared.image.RouteEntry.{RouteEntry}
+use Rattle.lrs_machine.specs.declared.image.RouteEntry.{RouteEntry}
 use Rattle.lrs_desk.specs.Change.{without}
 
 -- no route is dropped

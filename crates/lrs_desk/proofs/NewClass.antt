@@ -15,24 +15,24 @@ use Rattle.lrs_events.specs.declared.class.Class.{Class}
 use Rattle.lrs_events.specs.declared.class.Kind.{Kind}
 use Rattle.lrs_events.specs.Places.{Place}
 use Rattle.lrs_report.specs.Segments.{is_exclusive}
-use Rattle.lrs_desk.specs.declared.answer.Cause.TheVariants as cause
-use Rattle.lrs_desk.specs.declared.command.Command.TheVariants as verb
-use Rattle.lrs_desk.specs.declared.image.Edit.{Edit}
-use Rattle.lrs_desk.specs.declared.image.Image.{Image}
+use Rattle.lrs_machine.specs.declared.answer.Cause.TheVariants as cause
+use Rattle.lrs_machine.specs.declared.command.Command.TheVariants as verb
+use Rattle.lrs_machine.specs.declared.image.Edit.{Edit}
+use Rattle.lrs_machine.specs.declared.image.Image.{Image}
 use Rattle.lrs_desk.specs.declared.change.Parts.{Parts}
-use Rattle.lrs_desk.specs.Bounds.{most_edits, most_assets}
-use Rattle.lrs_desk.specs.Entered.{is_asset_number, is_lateral_offset}
-use Rattle.lrs_desk.specs.Register.{insert, contains_key}
+use Rattle.lrs_machine.specs.Bounds.{most_edits, most_assets}
+use Rattle.lrs_machine.specs.Entered.{is_asset_number, is_lateral_offset}
+use Rattle.lrs_machine.specs.Register.{insert, contains_key}
 use Rattle.lrs_desk.specs.Lists.{insert_by}
-use Rattle.lrs_desk.specs.Image.{state_of}
+use Rattle.lrs_machine.specs.Image.{state_of}
 use Rattle.lrs_desk.specs.Change.{with_parts, with_edit, no_parts}
-use Rattle.lrs_desk.specs.Machine.{attempt, refuse_if, ◌>>◌}
+use Rattle.lrs_machine.specs.Machine.{attempt, refuse_if, ◌>>◌}
 use Rattle.lrs_desk.specs.Plan.{is_new, Makes}
-use Rattle.lrs_desk.specs.Sound.{class_before, asset_before, is_asset, are_assets, spans_of, holds_in, holders_of, places_of, keeps_exclusive, are_spans_of, IsSound}
+use Rattle.lrs_machine.specs.Sound.{class_before, asset_before, is_asset, are_assets, spans_of, holds_in, holders_of, places_of, keeps_exclusive, are_spans_of, IsSound}
 use Rattle.lrs_desk.proofs.Filed.{is_some-find_row, put-insert_by}
 use Rattle.lrs_desk.proofs.Inserts.{is_false, and_weaker, all_weaker, all_from, none_counted, all-insert_by, any-insert_by, each_two-insert_by, before-chain, before-comparable}
-use Rattle.lrs_desk.proofs.Members.{In, all_at}
-use Rattle.lrs_desk.proofs.SoundImages.{tested}
+use Rattle.lrs_machine.proofs.Members.{In, all_at}
+use Rattle.lrs_machine.proofs.SoundImages.{tested}
 use Rattle.lrs_desk.proofs.Tables.{passes, sound, edits_push}
 use Rattle.lrs_desk.proofs.Leaving.{without-none}
 

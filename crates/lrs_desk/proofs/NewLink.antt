@@ -21,24 +21,24 @@ use Rattle.lrs_events.specs.Places.{Place, places_of_link}
 use Rattle.lrs_events.specs.Spans.{holds_by_spans}
 use Rattle.lrs_events.specs.Parts.{has_place}
 use Rattle.lrs_report.specs.Segments.{is_exclusive}
-use Rattle.lrs_desk.specs.declared.answer.Cause.TheVariants as cause
-use Rattle.lrs_desk.specs.declared.command.Command.TheVariants as verb
-use Rattle.lrs_desk.specs.declared.image.Edit.{Edit}
-use Rattle.lrs_desk.specs.declared.image.Image.{Image}
+use Rattle.lrs_machine.specs.declared.answer.Cause.TheVariants as cause
+use Rattle.lrs_machine.specs.declared.command.Command.TheVariants as verb
+use Rattle.lrs_machine.specs.declared.image.Edit.{Edit}
+use Rattle.lrs_machine.specs.declared.image.Image.{Image}
 use Rattle.lrs_desk.specs.declared.change.Parts.{Parts}
-use Rattle.lrs_desk.specs.Bounds.{most_edits, most_routes, most_pairs}
-use Rattle.lrs_desk.specs.Register.{insert, contains_key}
+use Rattle.lrs_machine.specs.Bounds.{most_edits, most_routes, most_pairs}
+use Rattle.lrs_machine.specs.Register.{insert, contains_key}
 use Rattle.lrs_desk.specs.Lists.{insert_by}
-use Rattle.lrs_desk.specs.Image.{state_of, link_entry}
+use Rattle.lrs_machine.specs.Image.{state_of, link_entry}
 use Rattle.lrs_desk.specs.Change.{with_parts, with_edit, no_parts}
-use Rattle.lrs_desk.specs.Machine.{attempt, refuse_if, ◌>>◌}
+use Rattle.lrs_machine.specs.Machine.{attempt, refuse_if, ◌>>◌}
 use Rattle.lrs_desk.specs.Plan.{is_new, Makes}
-use Rattle.lrs_desk.specs.Sound.{link_before, is_on_a_link, differs, is_course, RouteCourse, course_before, are_courses, courses_of, spans_of, holds_in, holders_of, places_of, keeps_exclusive, are_spans_of, is_part, share_nothing, pairs_of, are_parts, parts_of, has_asset_place, is_balanced_at, are_balanced, part_before, gone_before, IsSound}
+use Rattle.lrs_machine.specs.Sound.{link_before, is_on_a_link, differs, is_course, RouteCourse, course_before, are_courses, courses_of, spans_of, holds_in, holders_of, places_of, keeps_exclusive, are_spans_of, is_part, share_nothing, pairs_of, are_parts, parts_of, has_asset_place, is_balanced_at, are_balanced, part_before, gone_before, IsSound}
 use Rattle.lrs_desk.proofs.Filed.{is_some-find_row, put-insert_by, numbers_agree}
 use Rattle.lrs_desk.proofs.Inserts.{is_false, and_weaker, all_weaker, all_from, none_counted, any-insert_by, is_comparable, each_two-insert_by, all_made-insert_by}
-use Rattle.lrs_desk.proofs.Members.{In, any_found, any_of, all_at, flat_map_found, list_any-map}
-use Rattle.lrs_desk.proofs.Pairs.{place_had, part_on}
-use Rattle.lrs_desk.proofs.SoundImages.{tested, PartsTested, held_by}
+use Rattle.lrs_machine.proofs.Members.{In, any_found, any_of, all_at, flat_map_found, list_any-map}
+use Rattle.lrs_machine.proofs.Pairs.{place_had, part_on}
+use Rattle.lrs_machine.proofs.SoundImages.{tested, PartsTested, held_by}
 use Rattle.lrs_desk.proofs.Tables.{passes, sound, edits_push}
 use Rattle.lrs_desk.proofs.Leaving.{without-none}
 

@@ -7,13 +7,13 @@ use Rattle.lrs_measure.specs.Lists.{each_two}
 use Rattle.lrs_measure.specs.Texts.{same_name}
 use Rattle.lrs_events.specs.declared.part.Part.{Part}
 use Rattle.lrs_events.specs.declared.part.Gone.{Gone}
-use Rattle.lrs_desk.specs.declared.image.Edit.{Edit}
-use Rattle.lrs_desk.specs.declared.image.Image.{Image}
-use Rattle.lrs_desk.specs.declared.keeper.Table.TheVariants as table
-use Rattle.lrs_desk.specs.Bounds.{most_edits}
+use Rattle.lrs_machine.specs.declared.image.Edit.{Edit}
+use Rattle.lrs_machine.specs.declared.image.Image.{Image}
+use Rattle.lrs_machine.specs.declared.table.Table.TheVariants as table
+use Rattle.lrs_machine.specs.Bounds.{most_edits}
 use Rattle.lrs_desk.specs.Plan.{is_new}
-use Rattle.lrs_desk.specs.Sound.{are_links, are_classes, are_assets, are_courses, courses_of, are_all_marks, marks_of, are_all_referents, referents_of, are_spans, spans_of, are_entered, are_gone, are_edits, is_named_by, parts_of, Test, IsSound, first_unsound, first_failed, tests}
-use Rattle.lrs_desk.proofs.SoundImages.{passed}
+use Rattle.lrs_machine.specs.Sound.{are_links, are_classes, are_assets, are_courses, courses_of, are_all_marks, marks_of, are_all_referents, referents_of, are_spans, spans_of, are_entered, are_gone, are_edits, is_named_by, parts_of, Test, IsSound, first_unsound, first_failed, tests}
+use Rattle.lrs_machine.proofs.SoundImages.{passed}
 use Rattle.lrs_desk.proofs.Inserts.{all_weaker, and_weaker, each_two-push}
 
 pub record Passes (i : Image) : Type 0 where

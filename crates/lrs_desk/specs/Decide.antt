@@ -1,22 +1,22 @@
 -- What is decided about a command.
 use Rattle.std.specs.Prelude.{◌≡◌, ◌+◌, ◌&&◌, true, false, nat_le, length, None}
 use Rattle.lrs_measure.specs.Texts.{Name}
-use Rattle.lrs_desk.specs.declared.answer.What.{What}
-use Rattle.lrs_desk.specs.declared.answer.What.TheVariants.{Edits, Assets, Routes}
-use Rattle.lrs_desk.specs.declared.answer.Answer.TheVariants.{Done}
-use Rattle.lrs_desk.specs.declared.answer.Limits.{Limits}
-use Rattle.lrs_desk.specs.declared.command.Command.{Command}
-use Rattle.lrs_desk.specs.declared.image.Edit.{Edit}
-use Rattle.lrs_desk.specs.declared.image.Image.{Image}
+use Rattle.lrs_machine.specs.declared.answer.What.{What}
+use Rattle.lrs_machine.specs.declared.answer.What.TheVariants.{Edits, Assets, Routes}
+use Rattle.lrs_machine.specs.declared.answer.Answer.TheVariants.{Done}
+use Rattle.lrs_machine.specs.declared.answer.Limits.{Limits}
+use Rattle.lrs_machine.specs.declared.command.Command.{Command}
+use Rattle.lrs_machine.specs.declared.image.Edit.{Edit}
+use Rattle.lrs_machine.specs.declared.image.Image.{Image}
 use Rattle.lrs_desk.specs.declared.change.Parts.{Parts}
 use Rattle.lrs_desk.specs.declared.decide.Decision.{Decision}
 use Rattle.lrs_desk.specs.declared.decide.Decision.TheVariants.{Stay, Make}
-use Rattle.lrs_desk.specs.Image.{state_of}
+use Rattle.lrs_machine.specs.Image.{state_of}
 use Rattle.lrs_desk.specs.Change.{with_parts, with_edit}
 use Rattle.lrs_desk.specs.Index.{place_among}
-use Rattle.lrs_desk.specs.Lines.{line_of}
-use Rattle.lrs_desk.specs.Machine.{step, needs_asset, needs_route}
-use Rattle.lrs_desk.specs.Sound.{IsSound}
+use Rattle.lrs_machine.specs.Lines.{line_of}
+use Rattle.lrs_machine.specs.Machine.{step, needs_asset, needs_route}
+use Rattle.lrs_machine.specs.Sound.{IsSound}
 
 -- the edit that keeps a command
 abbrev pub edit_of : Name → Command → Edit

@@ -1,11 +1,11 @@
 -- What a desk's calls leave.
 use Rattle.std.specs.Prelude.{◌≡◌, ◌⊎◌, true, Ok, List, map}
 use Rattle.lrs_measure.specs.Texts.{Name}
-use Rattle.lrs_desk.specs.declared.command.Command.{Command}
-use Rattle.lrs_desk.specs.declared.image.Image.{Image}
-use Rattle.lrs_desk.specs.Image.{state_of}
-use Rattle.lrs_desk.specs.Machine.{step, Record}
-use Rattle.lrs_desk.specs.Sound.{IsSound}
+use Rattle.lrs_machine.specs.declared.command.Command.{Command}
+use Rattle.lrs_machine.specs.declared.image.Image.{Image}
+use Rattle.lrs_machine.specs.Image.{state_of}
+use Rattle.lrs_machine.specs.Machine.{step, Record}
+use Rattle.lrs_machine.specs.Sound.{IsSound}
 use Rattle.lrs_desk.specs.Keeping.{HasRisen}
 use Rattle.lrs_desk.specs.DeskView.{DeskView}
 

@@ -2,11 +2,11 @@
 use Rattle.std.specs.Prelude.{◌≡◌, ℕ, Bool, true, false, Result, Ok}
 use Rattle.std.specs.FinMap.{FinMap}
 use Rattle.lrs_measure.specs.Texts.{name_cmp}
-use Rattle.lrs_desk.specs.declared.answer.Limits.{Limits}
-use Rattle.lrs_desk.specs.declared.image.Image.{Image}
-use Rattle.lrs_desk.specs.declared.keeper.Table.{Table}
+use Rattle.lrs_machine.specs.declared.answer.Limits.{Limits}
+use Rattle.lrs_machine.specs.declared.image.Image.{Image}
+use Rattle.lrs_machine.specs.declared.table.Table.{Table}
 use Rattle.lrs_desk.specs.Index.{IsIndex}
-use Rattle.lrs_desk.specs.Sound.{IsSound}
+use Rattle.lrs_machine.specs.Sound.{IsSound}
 
 pub record DeskView : Type 0 where
   pub image : Image

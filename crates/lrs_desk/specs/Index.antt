@@ -3,7 +3,7 @@ use Rattle.std.specs.Prelude.{◌≡◌, ℕ, List, Option}
 use Rattle.std.specs.List.{position}
 use Rattle.std.specs.FinMap.{FinMap, get}
 use Rattle.lrs_measure.specs.Texts.{Name, name_cmp, same_name}
-use Rattle.lrs_desk.specs.declared.image.Edit.{Edit}
+use Rattle.lrs_machine.specs.declared.image.Edit.{Edit}
 
 -- at which place a key is
 abbrev pub place_among : List Edit → Name → Option ℕ

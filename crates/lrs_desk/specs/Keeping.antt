@@ -1,8 +1,8 @@
 -- What a keeper's calls leave.
 use Rattle.std.specs.Prelude.{◌≡◌, ◌⊎◌, ℕ, ◌<◌, ◌-◌, ◌^◌, Result, Ok}
-use Rattle.lrs_desk.specs.declared.image.Image.{Image}
+use Rattle.lrs_machine.specs.declared.image.Image.{Image}
 use Rattle.lrs_desk.specs.declared.change.Change.{Change}
-use Rattle.lrs_desk.specs.declared.keeper.Table.{Table}
+use Rattle.lrs_machine.specs.declared.table.Table.{Table}
 use Rattle.lrs_desk.specs.Change.{apply}
 
 -- a count of failures has risen; one at its greatest number stays, and is taken as risen

@@ -2,17 +2,17 @@
 use Rattle.std.specs.Prelude.{◌≡◌, ◌+◌, ◌≤◌, Bool, true, false, not, List, length, Result, Ok, Err}
 use Rattle.std.specs.List.{list_all}
 use Rattle.lrs_measure.specs.Texts.{same_name}
-use Rattle.lrs_desk.specs.declared.answer.Cause.{Cause}
-use Rattle.lrs_desk.specs.declared.command.Command.{Command}
-use Rattle.lrs_desk.specs.declared.command.Command.TheVariants as verb
-use Rattle.lrs_desk.specs.declared.image.Edit.{Edit}
-use Rattle.lrs_desk.specs.declared.image.Image.{Image}
+use Rattle.lrs_machine.specs.declared.answer.Cause.{Cause}
+use Rattle.lrs_machine.specs.declared.command.Command.{Command}
+use Rattle.lrs_machine.specs.declared.command.Command.TheVariants as verb
+use Rattle.lrs_machine.specs.declared.image.Edit.{Edit}
+use Rattle.lrs_machine.specs.declared.image.Image.{Image}
 use Rattle.lrs_desk.specs.declared.change.Parts.{Parts}
-use Rattle.lrs_desk.specs.Bounds.{most_edits}
-use Rattle.lrs_desk.specs.Image.{state_of}
+use Rattle.lrs_machine.specs.Bounds.{most_edits}
+use Rattle.lrs_machine.specs.Image.{state_of}
 use Rattle.lrs_desk.specs.Change.{with_parts, with_edit}
-use Rattle.lrs_desk.specs.Machine.{attempt}
-use Rattle.lrs_desk.specs.Sound.{IsSound}
+use Rattle.lrs_machine.specs.Machine.{attempt}
+use Rattle.lrs_machine.specs.Sound.{IsSound}
 
 -- the verbs that have a plan
 abbrev pub is_planned : Command → Bool

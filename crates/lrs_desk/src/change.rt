@@ -1,9 +1,9 @@
 //! What an accepted command changes.
 
-use crate::image::{Edit, RouteEntry};
 use crate::lists::Ordered;
 use lrs_element::Link;
 use lrs_events::{Asset, Class, Gone, Part};
+use lrs_machine::{Edit, RouteEntry};
 use lrs_measure::Rows;
 use lrs_position::RouteName;
 
@@ -28,7 +28,7 @@ pub struct Change {
 }
 
 impl Ordered for Link {
-    ghost use Rattle.lrs_desk.specs.Sound.{link_before};
+    ghost use Rattle.lrs_machine.specs.Sound.{link_before};
 
     ghost before = { link_before };
 
@@ -38,7 +38,7 @@ impl Ordered for Link {
 }
 
 impl Ordered for Class {
-    ghost use Rattle.lrs_desk.specs.Sound.{class_before};
+    ghost use Rattle.lrs_machine.specs.Sound.{class_before};
 
     ghost before = { class_before };
 
@@ -48,7 +48,7 @@ impl Ordered for Class {
 }
 
 impl Ordered for Asset {
-    ghost use Rattle.lrs_desk.specs.Sound.{asset_before};
+    ghost use Rattle.lrs_machine.specs.Sound.{asset_before};
 
     ghost before = { asset_before };
 

@@ -1,22 +1,18 @@
 //! What is decided about a command: an answer, or what it changes.
 
 ghost use Rattle.std.specs.Prelude.{◌≡◌, ◌≤◌, ◌+◌, ◌<◌, length, slice_index_or, IfOk, IfSome, IfNone};
-ghost use Rattle.lrs_desk.specs.Lines.{line_of};
-ghost use Rattle.lrs_desk.specs.Machine.{answer_known};
-ghost use Rattle.lrs_desk.specs.Sound.{IsSound};
+ghost use Rattle.lrs_machine.specs.Lines.{line_of};
+ghost use Rattle.lrs_machine.specs.Machine.{answer_known};
+ghost use Rattle.lrs_machine.specs.Sound.{IsSound};
 ghost use Rattle.lrs_desk.specs.Index.{IsIndex};
 ghost use Rattle.lrs_desk.specs.Decide.{IsDecision, HasRoom, LacksRoom};
-ghost use Rattle.lrs_desk.specs.declared.image.Edit.{Edit as DeclaredEdit};
+ghost use Rattle.lrs_machine.specs.declared.image.Edit.{Edit as DeclaredEdit};
 
-use crate::answer::{Answer, Cause, Limits, What};
 use crate::change::Parts;
-use crate::command::Command;
-use crate::image::{Edit, Image};
 use crate::index::KeyIndex;
-use crate::key::Key;
-use crate::line::Line;
 use crate::plan::plan;
 use crate::planned::Planned;
+use lrs_machine::{Answer, Cause, Command, Edit, Image, Key, Limits, Line, What};
 use std::alloc::{AllocError, Global};
 
 /// What becomes of a command.

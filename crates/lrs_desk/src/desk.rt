@@ -3,25 +3,23 @@
 ghost use Rattle.std.specs.Prelude.{◌≡◌, ◌+◌, ◌≤◌, ◌↔◌, IsTrue, IfOk, IfErr, OnOk, OnErr, Ok, Err, length, true, false, not, None};
 ghost use Rattle.lrs_measure.specs.Lists.{each_two};
 ghost use Rattle.lrs_measure.specs.Texts.{same_name};
-ghost use Rattle.lrs_desk.specs.declared.keeper.Table.{Table};
+ghost use Rattle.lrs_machine.specs.declared.table.Table.{Table};
 ghost use Rattle.lrs_desk.specs.Change.{apply};
-ghost use Rattle.lrs_desk.specs.Image.{state_of};
-ghost use Rattle.lrs_desk.specs.Machine.{step, answers, state_after};
-ghost use Rattle.lrs_desk.specs.Laws.{once};
+ghost use Rattle.lrs_machine.specs.Image.{state_of};
+ghost use Rattle.lrs_machine.specs.Machine.{step, answers, state_after};
+ghost use Rattle.lrs_machine.specs.Laws.{once};
 ghost use Rattle.lrs_desk.specs.Index.{IsIndex, place_among};
-ghost use Rattle.lrs_desk.specs.Sound.{IsSound};
+ghost use Rattle.lrs_machine.specs.Sound.{IsSound};
 ghost use Rattle.lrs_desk.specs.Keeping.{HasRisen, IsOldOrNew};
 ghost use Rattle.lrs_desk.specs.Desk.{IsUnchanged, HasBroken, records_of};
 
-use crate::answer::{Answer, Limits};
 use crate::change::{Change, Parts};
 use crate::decide::{Decision, decide};
-use crate::image::{Edit, Image};
 use crate::index::KeyIndex;
 use crate::keep::keep;
-use crate::keeper::{KeepFault, Keeper, Table};
-use crate::key::Key;
+use crate::keeper::{KeepFault, Keeper};
 use crate::planned::Planned;
+use lrs_machine::{Answer, Edit, Image, Key, Limits, Table};
 use std::alloc::{AllocError, AllocFailed, Global};
 use std::marker::Model;
 
@@ -184,7 +182,7 @@ impl<K: Keeper> Desk<K> {
         if self.must_reopen {
             return Err(Fault::MustReopen);
         }
-        let line = command.line(self.alloc)?;
+        let line = command.command().line(self.alloc)?;
         let decision = decide(
             self.alloc,
             &self.image,

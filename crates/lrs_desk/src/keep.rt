@@ -4,16 +4,16 @@ ghost use Rattle.std.specs.Prelude.{◌≡◌, ◌≤◌, ◌+◌, ◌++◌, ◌
 ghost use Rattle.std.specs.List.{list_any};
 ghost use Rattle.lrs_measure.specs.Texts.{same_name};
 ghost use Rattle.lrs_desk.specs.Change.{without, apply};
-ghost use Rattle.lrs_desk.specs.Sound.{IsSound};
+ghost use Rattle.lrs_machine.specs.Sound.{IsSound};
 ghost use Rattle.lrs_desk.specs.Keeping.{HasRisen, IsOldOrNew};
-ghost use Rattle.lrs_desk.specs.declared.keeper.Table.{Table};
+ghost use Rattle.lrs_machine.specs.declared.table.Table.{Table};
 
 use crate::change::Change;
-use crate::image::{Image, RouteEntry};
 use crate::keeper::{KeepFault, Keeper};
 use crate::lists::{
     append_in_room, insert_all_ordered, insert_some_ordered, make_room, push_in_room,
 };
+use lrs_machine::{Image, RouteEntry};
 use lrs_position::RouteName;
 use std::alloc::AllocError;
 

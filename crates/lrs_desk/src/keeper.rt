@@ -1,24 +1,8 @@
 //! Where an image is kept.
 
 use crate::change::Change;
-use crate::image::Image;
+use lrs_machine::{Image, Table};
 use std::alloc::{AllocError, Global};
-
-/// The tables of a store, in the order in which an unsound one is named.
-#[derive(Clone, Copy, Debug, PartialEq, Eq)]
-pub enum Table {
-    Version,
-    Link,
-    Class,
-    Asset,
-    Piece,
-    Mark,
-    Ref,
-    Span,
-    Entered,
-    Gone,
-    Edit,
-}
 
 /// Why a keeper did not do what it was asked.
 #[derive(Clone, Copy, Debug, PartialEq, Eq)]
@@ -31,10 +15,10 @@ pub enum KeepFault {
 /// Keeps an image, on a device that may fail.
 pub trait Keeper {
     ghost use Rattle.std.specs.Prelude.{◌≡◌, ◌≤◌, ℕ, Bool, true, Ok, Err, Result, IfOk, OnOk, IsErrOf, ◌⊎◌};
-    ghost use Rattle.lrs_desk.specs.declared.image.Image.{Image};
-    ghost use Rattle.lrs_desk.specs.declared.keeper.Table.{Table};
+    ghost use Rattle.lrs_machine.specs.declared.image.Image.{Image};
+    ghost use Rattle.lrs_machine.specs.declared.table.Table.{Table};
     ghost use Rattle.lrs_desk.specs.Change.{apply};
-    ghost use Rattle.lrs_desk.specs.Sound.{IsSound};
+    ghost use Rattle.lrs_machine.specs.Sound.{IsSound};
     ghost use Rattle.lrs_desk.specs.Keeping.{HasRisen, IsOldOrNew};
 
     /// What is kept: a sound image, or the first unsound table.

@@ -2,16 +2,16 @@
 
 ghost use Rattle.std.specs.Prelude.{◌≡◌, [], Ok, Err, IfOk, OnOk, OnErr};
 ghost use Rattle.lrs_desk.specs.Change.{apply};
-ghost use Rattle.lrs_desk.specs.Image.{nothing};
-ghost use Rattle.lrs_desk.specs.Sound.{IsSound};
+ghost use Rattle.lrs_machine.specs.Image.{nothing};
+ghost use Rattle.lrs_machine.specs.Sound.{IsSound};
 ghost use Rattle.lrs_desk.specs.Keeping.{HasRisen, IsOldOrNew};
-ghost use Rattle.lrs_desk.specs.declared.image.Image.{Image as DeclaredImage};
-ghost use Rattle.lrs_desk.specs.declared.keeper.Table.{Table};
+ghost use Rattle.lrs_machine.specs.declared.image.Image.{Image as DeclaredImage};
+ghost use Rattle.lrs_machine.specs.declared.table.Table.{Table};
 
 use crate::change::{Change, Parts};
-use crate::image::{Edit, Image};
 use crate::keeper::{KeepFault, Keeper};
 use crate::lists::{append_in_room, insert_some_ordered, make_room, push_in_room};
+use lrs_machine::{Edit, Image};
 use lrs_measure::Rows;
 use std::alloc::{AllocError, Global};
 use std::marker::Model;
@@ -28,8 +28,8 @@ pub struct Plain {
 
 impl Model for Plain {
     ghost use Rattle.std.specs.Prelude.{◌≡◌, []};
-    ghost use Rattle.lrs_desk.specs.declared.image.Image.{Image};
-    ghost use Rattle.lrs_desk.specs.Sound.{IsSound};
+    ghost use Rattle.lrs_machine.specs.declared.image.Image.{Image};
+    ghost use Rattle.lrs_machine.specs.Sound.{IsSound};
 
     ghost Value = { Image };
 

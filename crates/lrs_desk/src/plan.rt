@@ -3,18 +3,16 @@
 ghost use Rattle.std.specs.Prelude.{◌≡◌, ◌+◌, [], length, IfOk, nat_eq};
 ghost use Rattle.std.specs.List.{list_any};
 ghost use Rattle.lrs_measure.specs.Texts.{same_name};
-ghost use Rattle.lrs_desk.specs.declared.command.Command.TheVariants as verb;
+ghost use Rattle.lrs_machine.specs.declared.command.Command.TheVariants as verb;
 ghost use Rattle.lrs_desk.specs.Change as change;
 ghost use Rattle.lrs_desk.specs.Plan.{Plans};
-ghost use Rattle.lrs_desk.specs.Sound.{IsSound};
+ghost use Rattle.lrs_machine.specs.Sound.{IsSound};
 
-use crate::answer::Cause;
 use crate::change::Parts;
-use crate::command::Command;
-use crate::image::Image;
 use crate::planned::Planned;
 use lrs_element::Link;
 use lrs_events::{Class, ClassName};
+use lrs_machine::{Cause, Command, Image};
 use lrs_measure::Rows;
 use std::alloc::{AllocError, Global};
 

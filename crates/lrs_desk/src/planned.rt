@@ -4,7 +4,7 @@ ghost use Rattle.std.specs.Prelude.{◌≡◌, IsTrue};
 ghost use Rattle.std.specs.Option.{SomeIff};
 ghost use Rattle.lrs_desk.specs.Plan.{is_planned};
 
-use crate::command::Command;
+use lrs_machine::Command;
 use std::marker::Model;
 
 /// A command that a desk does: one of the verbs `link` and `class`.
@@ -15,7 +15,7 @@ pub struct Planned {
 
 impl Model for Planned {
     ghost use Rattle.std.specs.Prelude.{IsTrue};
-    ghost use Rattle.lrs_desk.specs.declared.command.Command.{Command};
+    ghost use Rattle.lrs_machine.specs.declared.command.Command.{Command};
     ghost use Rattle.lrs_desk.specs.Plan.{is_planned};
 
     ghost Value = { Command };

@@ -10,11 +10,11 @@ use Rattle.lrs_position.specs.Locating.{located, located_or_fault, Locates, snap
 use Rattle.lrs_events.specs.declared.class.Kind.TheVariants.{Exclusive}
 use Rattle.lrs_events.specs.declared.side.Side.TheVariants.{L, R, B}
 use Rattle.lrs_events.specs.declared.side.LinkSide.TheVariants.{Left, Right}
-use Rattle.lrs_desk.specs.declared.answer.Answer.TheVariants.{Done, Again, Refused}
-use Rattle.lrs_desk.specs.declared.answer.Cause.TheVariants as cause
-use Rattle.lrs_desk.specs.State.{nothing_known}
-use Rattle.lrs_desk.specs.Machine.{Record, answers, attempt, step}
-use Rattle.lrs_desk.specs.Readings.{rows_of, places_of}
+use Rattle.lrs_machine.specs.declared.answer.Answer.TheVariants.{Done, Again, Refused}
+use Rattle.lrs_machine.specs.declared.answer.Cause.TheVariants as cause
+use Rattle.lrs_machine.specs.State.{nothing_known}
+use Rattle.lrs_machine.specs.Machine.{Record, answers, attempt, step}
+use Rattle.lrs_machine.specs.Readings.{rows_of, places_of}
 use Rattle.lrs_rows.specs.Sheet.{a1, km2, speed, rail, sign, abs, past, short_of, share, between, at, link, class, forth, back, mark, enter, full, under, adding, after, replies, totals_of, totals, row, route_of, over, place, places_along, both_sides_along, first_alignment, sheet, speed_limit, with_speed, stop_sign, with_sign, lower_limit}
 
 -- The first sheet is done, and its route runs over links 1 and 2, the second one backwards.

@@ -19,25 +19,25 @@ use Rattle.lrs_events.specs.declared.side.Side.TheVariants.{L, R, B}
 use Rattle.lrs_events.specs.declared.side.LinkSide.{LinkSide}
 use Rattle.lrs_events.specs.declared.side.LinkSide.TheVariants.{Left, Right}
 use Rattle.lrs_events.specs.Places.{Place}
-use Rattle.lrs_desk.specs.declared.answer.Answer.TheVariants.{Done, Refused}
-use Rattle.lrs_desk.specs.declared.answer.Cause.TheVariants as cause
-use Rattle.lrs_desk.specs.declared.command.Command.TheVariants as verb
-use Rattle.lrs_desk.specs.State.{State, Retired, Abandoned}
-use Rattle.lrs_desk.specs.Lines.{line_of}
-use Rattle.lrs_desk.specs.Machine.{Record, answers, attempt, step}
-use Rattle.lrs_desk.specs.Readings.{rows_of, places_of, all_places, edits_of}
+use Rattle.lrs_machine.specs.declared.answer.Answer.TheVariants.{Done, Refused}
+use Rattle.lrs_machine.specs.declared.answer.Cause.TheVariants as cause
+use Rattle.lrs_machine.specs.declared.command.Command.TheVariants as verb
+use Rattle.lrs_machine.specs.State.{State, Retired, Abandoned}
+use Rattle.lrs_machine.specs.Lines.{line_of}
+use Rattle.lrs_machine.specs.Machine.{Record, answers, attempt, step}
+use Rattle.lrs_machine.specs.Readings.{rows_of, places_of, all_places, edits_of}
 use Rattle.lrs_position.specs.declared.route.Referent.{Referent}
 use Rattle.lrs_position.specs.Routes.{is_route}
 use Rattle.lrs_events.specs.declared.part.Part.{Part}
 use Rattle.lrs_events.specs.declared.part.Gone.{Gone}
 use Rattle.lrs_events.specs.declared.span.Span.{Span}
-use Rattle.lrs_desk.specs.declared.image.RouteEntry.{RouteEntry}
-use Rattle.lrs_desk.specs.declared.image.Edit.{Edit}
-use Rattle.lrs_desk.specs.declared.image.Image.{Image}
-use Rattle.lrs_desk.specs.declared.keeper.Table.{Table}
-use Rattle.lrs_desk.specs.declared.keeper.Table.TheVariants as table
-use Rattle.lrs_desk.specs.Image.{state_of}
-use Rattle.lrs_desk.specs.Sound.{first_unsound, are_entered}
+use Rattle.lrs_machine.specs.declared.image.RouteEntry.{RouteEntry}
+use Rattle.lrs_machine.specs.declared.image.Edit.{Edit}
+use Rattle.lrs_machine.specs.declared.image.Image.{Image}
+use Rattle.lrs_machine.specs.declared.table.Table.{Table}
+use Rattle.lrs_machine.specs.declared.table.Table.TheVariants as table
+use Rattle.lrs_machine.specs.Image.{state_of}
+use Rattle.lrs_machine.specs.Sound.{first_unsound, are_entered}
 use Rattle.lrs_rows.specs.Sheet.{a1, b1, km2, speed, rail, sign, abs, between, link, class, forth, back, plain, enter, full, keyed, after, totals_of, totals, row, route_of, over, both_sides_along, first_pieces, first_marks, first_classes, sheet, with_speed, lower_limit}
 use Rattle.lrs_rows.specs.Routes.{realigned_route}
 use Rattle.lrs_rows.specs.Retiring.{superseded}

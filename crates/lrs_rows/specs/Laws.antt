@@ -4,13 +4,13 @@ use Rattle.std.specs.List.{list_all, count_by}
 use Rattle.std.specs.Fmt.{digits}
 use Rattle.lrs_measure.specs.Texts.{Name}
 use Rattle.lrs_events.specs.Places.{Place}
-use Rattle.lrs_desk.specs.declared.answer.Answer.TheVariants.{Done, Again, Refused}
-use Rattle.lrs_desk.specs.declared.answer.Cause.TheVariants as cause
-use Rattle.lrs_desk.specs.declared.command.Command.TheVariants as verb
-use Rattle.lrs_desk.specs.State.{State, Retired, Abandoned, nothing_known}
-use Rattle.lrs_desk.specs.Machine.{Record, answers, attempt, step}
-use Rattle.lrs_desk.specs.Readings.{places_of, total_present, total_entered, total_gone, all_places, edits_of, assets_of}
-use Rattle.lrs_desk.specs.Laws.{once, is_route_edit}
+use Rattle.lrs_machine.specs.declared.answer.Answer.TheVariants.{Done, Again, Refused}
+use Rattle.lrs_machine.specs.declared.answer.Cause.TheVariants as cause
+use Rattle.lrs_machine.specs.declared.command.Command.TheVariants as verb
+use Rattle.lrs_machine.specs.State.{State, Retired, Abandoned, nothing_known}
+use Rattle.lrs_machine.specs.Machine.{Record, answers, attempt, step}
+use Rattle.lrs_machine.specs.Readings.{places_of, total_present, total_entered, total_gone, all_places, edits_of, assets_of}
+use Rattle.lrs_machine.specs.Laws.{once, is_route_edit}
 use Rattle.lrs_rows.specs.Sheet.{a1, b1, nowhere, km2, speed, class, plain, split, join, realign_away, full, under, after, totals_of, totals, both_sides_along, sheet, speed_limit, with_speed, with_sign, lower_limit}
 use Rattle.lrs_rows.specs.Entering.{exact_ends, common_end}
 use Rattle.lrs_rows.specs.Routes.{split_route, joined_route, joined_after_recalibration, recalibrated_route, realigned_route, shortened, longer_route, closed, turned, turned_sign, turned_twice, renumbered, with_barrier, split_referents, moved_along}

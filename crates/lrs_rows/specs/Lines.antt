@@ -3,9 +3,9 @@ use Rattle.std.specs.Prelude.{◌≡◌, [], ◌∷◌, map, codes, refl}
 use Rattle.std.specs.Fmt.{digits}
 use Rattle.lrs_events.specs.declared.class.Kind.TheVariants.{Point, Stretch, Exclusive}
 use Rattle.lrs_events.specs.declared.side.Side.TheVariants.{L, R, B}
-use Rattle.lrs_desk.specs.declared.command.Command.TheVariants as verb
-use Rattle.lrs_desk.specs.Lines.{line_of}
-use Rattle.lrs_desk.specs.Machine.{attempt, step}
+use Rattle.lrs_machine.specs.declared.command.Command.TheVariants as verb
+use Rattle.lrs_machine.specs.Lines.{line_of}
+use Rattle.lrs_machine.specs.Machine.{attempt, step}
 use Rattle.lrs_rows.specs.Sheet.{a1, km2, km5, speed, rail, sign, abs, past, short_of, share, between, at, link, class, forth, back, mark, plain, enter, supersede, split, join, realign, realign_away, retire, adding, after, with_speed}
 
 -- A link: its number and its length.

@@ -7,11 +7,11 @@ use Rattle.lrs_element.specs.declared.link.Piece.{Piece}
 use Rattle.lrs_element.specs.declared.marks.Mark.{Mark}
 use Rattle.lrs_element.specs.Course.{course_of, is_too_long}
 use Rattle.lrs_position.specs.Locating.{Alignment}
-use Rattle.lrs_desk.specs.declared.answer.Answer.TheVariants.{Done, Refused}
-use Rattle.lrs_desk.specs.declared.answer.Cause.TheVariants as cause
-use Rattle.lrs_desk.specs.declared.command.Command.TheVariants as verb
-use Rattle.lrs_desk.specs.State.{State, nothing_known}
-use Rattle.lrs_desk.specs.Machine.{answers, attempt, step}
+use Rattle.lrs_machine.specs.declared.answer.Answer.TheVariants.{Done, Refused}
+use Rattle.lrs_machine.specs.declared.answer.Cause.TheVariants as cause
+use Rattle.lrs_machine.specs.declared.command.Command.TheVariants as verb
+use Rattle.lrs_machine.specs.State.{State, nothing_known}
+use Rattle.lrs_machine.specs.Machine.{answers, attempt, step}
 use Rattle.lrs_rows.specs.Sheet.{a1, a2, b1, forth, back, mark, plain, realign, full, keyed, replies, alignment, sheet}
 
 -- so many pieces of one millimetre, each run backwards, in rising order: none continues the one before it

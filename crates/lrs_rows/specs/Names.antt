@@ -7,9 +7,9 @@ use Rattle.lrs_position.specs.declared.expression.Expr.TheVariants.{Abs, Rel}
 use Rattle.lrs_position.specs.Names.{is_route_name, is_referent_name}
 use Rattle.lrs_position.specs.Expressions.{is_entered, are_alike}
 use Rattle.lrs_events.specs.Names.{is_class_name, is_value}
-use Rattle.lrs_desk.specs.Keys.{is_key}
-use Rattle.lrs_desk.specs.Entered.{is_asset_number, is_chainage, is_lateral_offset, are_entered_pieces, are_entered_marks}
-use Rattle.lrs_desk.specs.Bounds.{are_limits}
+use Rattle.lrs_machine.specs.Keys.{is_key}
+use Rattle.lrs_machine.specs.Entered.{is_asset_number, is_chainage, is_lateral_offset, are_entered_pieces, are_entered_marks}
+use Rattle.lrs_machine.specs.Bounds.{are_limits}
 use Rattle.lrs_rows.specs.Sheet.{km2, km5, abs, past, short_of, share, forth, mark}
 
 -- A route's name: capitals, digits and dashes, no dash first, at most twelve.

@@ -13,10 +13,10 @@ use Rattle.lrs_events.specs.Places.{is_among}
 use Rattle.lrs_events.specs.Canonical.{canonical_rows}
 use Rattle.lrs_report.specs.declared.segments.SegFault.TheVariants.{NoClass, NotExclusive, SideB}
 use Rattle.lrs_report.specs.Segments.{Values, segment_fault}
-use Rattle.lrs_desk.specs.declared.command.Command.TheVariants as verb
-use Rattle.lrs_desk.specs.Register.{get}
-use Rattle.lrs_desk.specs.Machine.{Record, attempt, step}
-use Rattle.lrs_desk.specs.Readings.{rows_of, places_of, hits_at, segments_on}
+use Rattle.lrs_machine.specs.declared.command.Command.TheVariants as verb
+use Rattle.lrs_machine.specs.Register.{get}
+use Rattle.lrs_machine.specs.Machine.{Record, attempt, step}
+use Rattle.lrs_machine.specs.Readings.{rows_of, places_of, hits_at, segments_on}
 use Rattle.lrs_rows.specs.Sheet.{a1, nowhere, km2, speed, rail, sign, abs, past, share, between, at, class, forth, plain, enter, supersede, realign, retire, adding, after, totals_of, totals, row, route_of, place, first_pieces, first_classes, sheet, with_speed, with_sign, lower_limit}
 
 -- totals

@@ -8,15 +8,15 @@ use Rattle.lrs_element.specs.Marks.{bad_mark}
 use Rattle.lrs_position.specs.declared.expression.Expr.{Expr}
 use Rattle.lrs_events.specs.declared.class.Kind.TheVariants.{Point}
 use Rattle.lrs_events.specs.declared.side.Side.TheVariants.{L, B}
-use Rattle.lrs_desk.specs.declared.answer.Limits.{Limits}
-use Rattle.lrs_desk.specs.declared.answer.What.TheVariants.{Edits, Assets, Routes}
-use Rattle.lrs_desk.specs.declared.answer.Answer.TheVariants.{Done, Again, Refused}
-use Rattle.lrs_desk.specs.declared.answer.Cause.TheVariants as cause
-use Rattle.lrs_desk.specs.declared.command.Command.{Command}
-use Rattle.lrs_desk.specs.declared.command.Command.TheVariants as verb
-use Rattle.lrs_desk.specs.Bounds.{are_limits}
-use Rattle.lrs_desk.specs.State.{nothing_known}
-use Rattle.lrs_desk.specs.Machine.{Record, answers, attempt, step}
+use Rattle.lrs_machine.specs.declared.answer.Limits.{Limits}
+use Rattle.lrs_machine.specs.declared.answer.What.TheVariants.{Edits, Assets, Routes}
+use Rattle.lrs_machine.specs.declared.answer.Answer.TheVariants.{Done, Again, Refused}
+use Rattle.lrs_machine.specs.declared.answer.Cause.TheVariants as cause
+use Rattle.lrs_machine.specs.declared.command.Command.{Command}
+use Rattle.lrs_machine.specs.declared.command.Command.TheVariants as verb
+use Rattle.lrs_machine.specs.Bounds.{are_limits}
+use Rattle.lrs_machine.specs.State.{nothing_known}
+use Rattle.lrs_machine.specs.Machine.{Record, answers, attempt, step}
 use Rattle.lrs_rows.specs.Sheet.{a1, a2, b1, nowhere, km2, km5, speed, rail, sign, abs, past, short_of, between, at, link, class, forth, back, mark, plain, enter, supersede, split, realign, realign_away, retire, keyed, under, adding, after, replies, first_marks, sheet, speed_limit, with_speed, lower_limit, second_kilometre}
 
 -- The state that is asked: a speed limit, a referent and the third link free.

@@ -4,12 +4,12 @@ use Rattle.std.specs.Fmt.{digits}
 use Rattle.lrs_events.specs.declared.class.Kind.TheVariants.{Exclusive}
 use Rattle.lrs_events.specs.declared.side.Side.TheVariants.{L, R, B}
 use Rattle.lrs_events.specs.declared.side.LinkSide.TheVariants.{Left, Right}
-use Rattle.lrs_desk.specs.declared.answer.Answer.TheVariants.{Done, Refused}
-use Rattle.lrs_desk.specs.declared.answer.Cause.TheVariants as cause
-use Rattle.lrs_desk.specs.declared.command.Command.{Command}
-use Rattle.lrs_desk.specs.State.{Retired, Abandoned}
-use Rattle.lrs_desk.specs.Machine.{Record, attempt, step}
-use Rattle.lrs_desk.specs.Readings.{rows_of, places_of, hits_at}
+use Rattle.lrs_machine.specs.declared.answer.Answer.TheVariants.{Done, Refused}
+use Rattle.lrs_machine.specs.declared.answer.Cause.TheVariants as cause
+use Rattle.lrs_machine.specs.declared.command.Command.{Command}
+use Rattle.lrs_machine.specs.State.{Retired, Abandoned}
+use Rattle.lrs_machine.specs.Machine.{Record, attempt, step}
+use Rattle.lrs_machine.specs.Readings.{rows_of, places_of, hits_at}
 use Rattle.lrs_rows.specs.Sheet.{a1, speed, rail, abs, between, at, class, enter, supersede, retire, adding, after, replies, totals_of, totals, row, place, places_along, speed_limit, with_speed, with_sign}
 
 -- A speed limit that is retired does not lie where nothing of it was asked for, and its number is not used again.

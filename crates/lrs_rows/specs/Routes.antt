@@ -5,12 +5,12 @@ use Rattle.lrs_element.specs.Course.{course_of, piece_count}
 use Rattle.lrs_element.specs.Marks.{mirrored}
 use Rattle.lrs_events.specs.declared.side.Side.TheVariants.{L, R, B}
 use Rattle.lrs_events.specs.declared.side.LinkSide.TheVariants.{Right}
-use Rattle.lrs_desk.specs.declared.answer.Answer.TheVariants.{Done, Refused}
-use Rattle.lrs_desk.specs.declared.answer.Cause.TheVariants as cause
-use Rattle.lrs_desk.specs.declared.command.Command.{Command}
-use Rattle.lrs_desk.specs.declared.command.Command.TheVariants as verb
-use Rattle.lrs_desk.specs.Machine.{Record, attempt, step}
-use Rattle.lrs_desk.specs.Readings.{rows_of, places_of, hits_at}
+use Rattle.lrs_machine.specs.declared.answer.Answer.TheVariants.{Done, Refused}
+use Rattle.lrs_machine.specs.declared.answer.Cause.TheVariants as cause
+use Rattle.lrs_machine.specs.declared.command.Command.{Command}
+use Rattle.lrs_machine.specs.declared.command.Command.TheVariants as verb
+use Rattle.lrs_machine.specs.Machine.{Record, attempt, step}
+use Rattle.lrs_machine.specs.Readings.{rows_of, places_of, hits_at}
 use Rattle.lrs_rows.specs.Sheet.{a1, a2, b1, nowhere, km2, km5, speed, rail, sign, abs, past, short_of, between, forth, back, mark, plain, enter, split, join, realign, realign_away, adding, after, replies, totals_of, totals, row, route_of, over, referent_at, place, both_sides_along, first_pieces, first_marks, sheet, with_speed, with_sign, second_kilometre, with_referent}
 
 -- A piece that is run backwards begins with its last millimetre.

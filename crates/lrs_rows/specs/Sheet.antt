@@ -20,14 +20,14 @@ use Rattle.lrs_events.specs.declared.side.Side.TheVariants.{L, B}
 use Rattle.lrs_events.specs.declared.side.LinkSide.{LinkSide}
 use Rattle.lrs_events.specs.declared.side.LinkSide.TheVariants.{Left, Right}
 use Rattle.lrs_events.specs.Places.{Place}
-use Rattle.lrs_desk.specs.declared.answer.Limits.{Limits}
-use Rattle.lrs_desk.specs.declared.answer.Answer.{Answer}
-use Rattle.lrs_desk.specs.declared.command.Command.{Command}
-use Rattle.lrs_desk.specs.declared.command.Command.TheVariants as verb
-use Rattle.lrs_desk.specs.Register.{get}
-use Rattle.lrs_desk.specs.State.{State, Retired, Abandoned, nothing_known}
-use Rattle.lrs_desk.specs.Machine.{Record, answers, state_after, entry_of_referent}
-use Rattle.lrs_desk.specs.Readings.{total_present, total_entered, total_gone}
+use Rattle.lrs_machine.specs.declared.answer.Limits.{Limits}
+use Rattle.lrs_machine.specs.declared.answer.Answer.{Answer}
+use Rattle.lrs_machine.specs.declared.command.Command.{Command}
+use Rattle.lrs_machine.specs.declared.command.Command.TheVariants as verb
+use Rattle.lrs_machine.specs.Register.{get}
+use Rattle.lrs_machine.specs.State.{State, Retired, Abandoned, nothing_known}
+use Rattle.lrs_machine.specs.Machine.{Record, answers, state_after, entry_of_referent}
+use Rattle.lrs_machine.specs.Readings.{total_present, total_entered, total_gone}
 
 -- names: three routes and two referents
 

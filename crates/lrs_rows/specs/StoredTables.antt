@@ -2,10 +2,10 @@
 use Rattle.std.specs.Prelude.{◌≡◌, ℕ, pos, negsuc, ◌+◌, List, [], ◌∷◌, ◌++◌, codes, Ok, Err, refl}
 use Rattle.std.specs.Fmt.{digits}
 use Rattle.lrs_measure.specs.Texts.{Name}
-use Rattle.lrs_desk.specs.declared.keeper.Table.{Table}
-use Rattle.lrs_desk.specs.declared.keeper.Table.TheVariants as table
-use Rattle.lrs_desk.specs.Lines.{line_of}
-use Rattle.lrs_desk.specs.Machine.{Record}
+use Rattle.lrs_machine.specs.declared.table.Table.{Table}
+use Rattle.lrs_machine.specs.declared.table.Table.TheVariants as table
+use Rattle.lrs_machine.specs.Lines.{line_of}
+use Rattle.lrs_machine.specs.Machine.{Record}
 use Rattle.lrs_store.specs.Tables.{Tables, PieceRow, MarkRow, RefRow, SpanRow, EnteredRow, EditRow}
 use Rattle.lrs_store.specs.Content.{content_of}
 use Rattle.lrs_rows.specs.Sheet.{a1, b1, km2, speed, rail, sign, sheet, with_speed}

@@ -1,18 +1,18 @@
 -- An image that a store holds is sound: what the tests of the tables read is what the tests of the image read.
 use Rattle.std.proofs.Common.{◌≡◌, Bool, true, false, cond, List, [], ◌∷◌, map, Option, Some, None, Ok, Err, refl, sym, ap, subst, ◌∙◌}
-use Rattle.std.specs.Prelude.{Result, IsTrue, IfSome, IfOk, if◌then◌else◌}
+use Rattle.std.specs.Prelude.{Result, IsTrue, IfSome, IfOk}
 use Rattle.std.specs.List.{list_any, list_all, filter}
 use Rattle.lrs_measure.specs.Texts.{same_name}
 use Rattle.lrs_element.specs.declared.marks.Mark.{Mark}
 use Rattle.lrs_position.specs.declared.route.Route.{Route}
 use Rattle.lrs_position.specs.Routes.{is_route}
 use Rattle.lrs_events.specs.declared.class.Asset.{Asset}
-use Rattle.lrs_desk.specs.declared.image.RouteEntry.{RouteEntry}
-use Rattle.lrs_desk.specs.declared.image.Image.{Image}
-use Rattle.lrs_desk.specs.declared.keeper.Table.{Table}
-use Rattle.lrs_desk.specs.declared.keeper.Table.TheVariants as table
-use Rattle.lrs_desk.specs.Image.{nothing}
-use Rattle.lrs_desk.specs.Sound.{RouteCourse, Test, first_failed, first_unsound, tests, IsSound, are_links, are_classes, are_assets, are_courses, are_all_marks, are_all_referents, are_spans, are_entered, are_gone, are_edits}
+use Rattle.lrs_machine.specs.declared.image.RouteEntry.{RouteEntry}
+use Rattle.lrs_machine.specs.declared.image.Image.{Image}
+use Rattle.lrs_machine.specs.declared.table.Table.{Table}
+use Rattle.lrs_machine.specs.declared.table.Table.TheVariants as table
+use Rattle.lrs_machine.specs.Image.{nothing}
+use Rattle.lrs_machine.specs.Sound.{RouteCourse, Test, first_failed, first_unsound, tests, IsSound, are_links, are_classes, are_assets, are_courses, are_all_marks, are_all_referents, are_spans, are_entered, are_gone, are_edits}
 use Rattle.lrs_store.specs.Tables.{Tables, MarkRow, RefRow, SpanRow}
 use Rattle.lrs_store.specs.Decoding.{if_true, only_if, each_of, each_numbered, link_of, class_of, asset_of, mark_of, referent_of, span_of, part_of, gone_of, edit_of}
 use Rattle.lrs_store.specs.Decoding as option

@@ -1,29 +1,24 @@
 -- What a store holds: the sound image of its rows, or the first table that is unsound, each table read with the ones before it.
-use Rattle.std.specs.Prelude.{◌≡◌, ℕ, ℤ, pos, negsuc, Bool, true, false, ◌&&◌, ◌||◌, nat_eq, not, List, [], ◌∷◌, map, length, filter, Option, Some, None, Result, Ok, Err, if◌then◌else◌, IsTrue}
+use Rattle.std.specs.Prelude.{ℤ, pos, Bool, false, ◌&&◌, nat_eq, List, [], ◌∷◌, map, length, filter, Option, Some, None, Result, Ok, Err, if◌then◌else◌}
 use Rattle.std.specs.List.{list_any, list_all}
 use Rattle.lrs_measure.specs.Lists.{is_nothing}
 use Rattle.lrs_measure.specs.Texts.{Name, same_name}
-use Rattle.lrs_element.specs.declared.link.Link.{Link}
 use Rattle.lrs_element.specs.declared.link.Piece.{Piece}
 use Rattle.lrs_element.specs.declared.link.Ground.{Ground}
 use Rattle.lrs_element.specs.declared.marks.Mark.{Mark}
 use Rattle.lrs_element.specs.Course.{course_of, piece_count}
 use Rattle.lrs_position.specs.declared.route.Route.{Route}
-use Rattle.lrs_position.specs.declared.route.Referent.{Referent}
 use Rattle.lrs_position.specs.Names.{is_route_name}
 use Rattle.lrs_position.specs.Routes.{is_route}
-use Rattle.lrs_events.specs.declared.class.Class.{Class}
 use Rattle.lrs_events.specs.declared.class.Asset.{Asset}
 use Rattle.lrs_events.specs.declared.span.Span.{Span}
-use Rattle.lrs_events.specs.declared.part.Part.{Part}
-use Rattle.lrs_events.specs.declared.part.Gone.{Gone}
 use Rattle.lrs_events.specs.Spans.{span_before}
-use Rattle.lrs_desk.specs.declared.image.RouteEntry.{RouteEntry}
-use Rattle.lrs_desk.specs.declared.image.Image.{Image}
-use Rattle.lrs_desk.specs.declared.keeper.Table.{Table}
-use Rattle.lrs_desk.specs.declared.keeper.Table.TheVariants as table
-use Rattle.lrs_desk.specs.Image.{nothing}
-use Rattle.lrs_desk.specs.Sound.{RouteCourse, RouteMarks, RouteReferents, RouteSpans, are_links, are_classes, are_assets, are_courses, are_all_marks, are_all_referents, are_spans, are_entered, are_gone, are_edits}
+use Rattle.lrs_machine.specs.declared.image.RouteEntry.{RouteEntry}
+use Rattle.lrs_machine.specs.declared.image.Image.{Image}
+use Rattle.lrs_machine.specs.declared.table.Table.{Table}
+use Rattle.lrs_machine.specs.declared.table.Table.TheVariants as table
+use Rattle.lrs_machine.specs.Image.{nothing}
+use Rattle.lrs_machine.specs.Sound.{RouteCourse, RouteMarks, RouteReferents, RouteSpans, are_links, are_classes, are_assets, are_courses, are_all_marks, are_all_referents, are_spans, are_entered, are_gone, are_edits}
 use Rattle.lrs_store.specs.Tables.{Tables, PieceRow, MarkRow, RefRow, SpanRow}
 use Rattle.lrs_store.specs.Decoding.{if_true, only_if, each_of, each_numbered, link_of, class_of, asset_of, piece_of, mark_of, referent_of, span_of, part_of, gone_of, edit_of}
 use Rattle.lrs_store.specs.Decoding as option

@@ -1,8 +1,8 @@
 -- What holds of every content of a store.
-use Rattle.std.specs.Prelude.{◌≡◌, Result, Ok}
-use Rattle.lrs_desk.specs.declared.image.Image.{Image}
-use Rattle.lrs_desk.specs.Image.{nothing}
-use Rattle.lrs_desk.specs.Sound.{IsSound}
+use Rattle.std.specs.Prelude.{◌≡◌, Ok}
+use Rattle.lrs_machine.specs.declared.image.Image.{Image}
+use Rattle.lrs_machine.specs.Image.{nothing}
+use Rattle.lrs_machine.specs.Sound.{IsSound}
 use Rattle.lrs_store.specs.Tables.{Tables, no_rows}
 use Rattle.lrs_store.specs.Content.{content_of}
 

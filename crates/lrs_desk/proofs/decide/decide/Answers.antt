@@ -2,10 +2,10 @@ use Rattle.std.proofs.Common.{◌≡◌, ◌<◌, ◌+◌, List, length, Some, N
 use Rattle.std.specs.Prelude.{slice_index_or}
 use Rattle.std.proofs.lemmas.List.Quantifiers.{position-Some}
 use Rattle.lrs_measure.specs.Texts.{same_name}
-use Rattle.lrs_desk.specs.declared.image.Edit.{Edit}
-use Rattle.lrs_desk.specs.Image.{state_of}
+use Rattle.lrs_machine.specs.declared.image.Edit.{Edit}
+use Rattle.lrs_machine.specs.Image.{state_of}
 use Rattle.lrs_desk.specs.Index.{place_among}
-use Rattle.lrs_desk.specs.Machine.{Outcome, answer_known}
+use Rattle.lrs_machine.specs.Machine.{Outcome, answer_known}
 use Rattle.lrs_desk.specs.Decide.{edit_of}
 use Rattle.lrs_desk.specs.Plan.{Plans}
 use Rattle.lrs_desk.proofs.Deciding.{step-known, step-limited, step-refused, is_done}

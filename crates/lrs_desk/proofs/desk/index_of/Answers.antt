@@ -1,7 +1,7 @@
 use Rattle.std.proofs.Common.{ℕ, ◌+◌, [], take, sym, ap, ◌∙◌, subst}
 use Rattle.std.specs.FinMap.{FinMap, insert}
 use Rattle.lrs_measure.specs.Texts.{name_cmp}
-use Rattle.lrs_desk.specs.declared.image.Edit.{Edit}
+use Rattle.lrs_machine.specs.declared.image.Edit.{Edit}
 use Rattle.lrs_desk.specs.Index.{IsIndex}
 use Rattle.lrs_desk.proofs.Keyed.{IsIndex-empty, IsIndex-next}
 use Rattle.lrs_desk.proofs.desk.index_of.Goals as goal

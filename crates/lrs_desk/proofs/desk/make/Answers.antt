@@ -1,7 +1,7 @@
 use Rattle.std.proofs.Common.{ℕ, length, arith, length-append, ◌∷◌, [], sym, ap, ◌∙◌, subst}
 use Rattle.std.specs.FinMap.{FinMap, insert, remove}
 use Rattle.lrs_measure.specs.Texts.{name_cmp}
-use Rattle.lrs_desk.specs.declared.image.Image.{Image}
+use Rattle.lrs_machine.specs.declared.image.Image.{Image}
 use Rattle.lrs_desk.specs.Change.{apply}
 use Rattle.lrs_desk.specs.Index.{IsIndex}
 use Rattle.lrs_desk.proofs.Tables.{few_edits}

@@ -1,9 +1,9 @@
 use Rattle.std.proofs.Common.{◌≡◌, arith, ◌∙◌}
 use Rattle.std.proofs.lemmas.Grind.{common_steps}
-use Rattle.lrs_desk.specs.Image.{state_of}
-use Rattle.lrs_desk.specs.Machine.{state_after}
+use Rattle.lrs_machine.specs.Image.{state_of}
+use Rattle.lrs_machine.specs.Machine.{state_after}
 use Rattle.lrs_desk.specs.Desk.{records_of}
-use Rattle.lrs_desk.proofs.Runs.{repeated_key_acts_once}
+use Rattle.lrs_machine.proofs.Runs.{repeated_key_acts_once}
 use Rattle.lrs_desk.proofs.desk.run.Goals as goal
 
 pub returns-clause-once : goal.returns-clause-once

@@ -1,6 +1,6 @@
 use Rattle.std.proofs.Common.{◌≡◌, ◌++◌, drop}
-use Rattle.lrs_desk.specs.Image.{state_of}
-use Rattle.lrs_desk.specs.Machine.{answers, state_after}
+use Rattle.lrs_machine.specs.Image.{state_of}
+use Rattle.lrs_machine.specs.Machine.{answers, state_after}
 use Rattle.lrs_desk.specs.Desk.{records_of}
 use Rattle.lrs_desk.proofs.desk.run.Given as goal
 

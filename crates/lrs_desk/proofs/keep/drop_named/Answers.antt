@@ -1,7 +1,7 @@
 use Rattle.std.proofs.Common.{not, rules}
 use Rattle.std.proofs.lemmas.Fn.{filter_same}
 use Rattle.std.specs.List.{list_any}
-use Rattle.lrs_desk.specs.declared.image.RouteEntry.{RouteEntry}
+use Rattle.lrs_machine.specs.declared.image.RouteEntry.{RouteEntry}
 use Rattle.lrs_measure.specs.Texts.{same_name}
 use Rattle.lrs_desk.proofs.keep.drop_named.Goals as goal
 

@@ -1,6 +1,6 @@
 use Rattle.std.proofs.Common.{◌≡◌, Some, false, true, sym, subst}
 use Rattle.std.specs.List.{list_any}
-use Rattle.lrs_desk.specs.declared.command.Command.TheVariants as verb
+use Rattle.lrs_machine.specs.declared.command.Command.TheVariants as verb
 use Rattle.lrs_desk.specs.declared.change.Parts.{Parts}
 use Rattle.lrs_desk.specs.Plan.{Makes}
 use Rattle.lrs_desk.proofs.NewLink.{refuses_known, makes, has_number}

@@ -1,8 +1,8 @@
 use Rattle.std.proofs.Common.{refl}
 use Rattle.std.specs.Fmt.{digits}
-use Rattle.lrs_desk.specs.Machine.{step, attempt}
-use Rattle.lrs_desk.specs.Image.{state_of}
-use Rattle.lrs_desk.specs.Sound.{first_unsound}
+use Rattle.lrs_machine.specs.Machine.{step, attempt}
+use Rattle.lrs_machine.specs.Image.{state_of}
+use Rattle.lrs_machine.specs.Sound.{first_unsound}
 use Rattle.lrs_rows.proofs.images.image_stands.Goals as goal
 
 pub returns : goal.returns

@@ -1,6 +1,6 @@
 use Rattle.std.proofs.Common.{refl}
 use Rattle.std.specs.Fmt.{digits}
-use Rattle.lrs_desk.specs.Sound.{first_unsound}
+use Rattle.lrs_machine.specs.Sound.{first_unsound}
 use Rattle.lrs_rows.proofs.images.unsound_tables.Goals as goal
 
 pub returns : goal.returns

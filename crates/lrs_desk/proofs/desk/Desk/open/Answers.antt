@@ -1,7 +1,7 @@
 use Rattle.std.proofs.Common.{◌≡◌, List, true, not, sym, subst}
 use Rattle.lrs_measure.specs.Lists.{each_two}
 use Rattle.lrs_measure.specs.Texts.{same_name}
-use Rattle.lrs_desk.specs.declared.image.Edit.{Edit}
+use Rattle.lrs_machine.specs.declared.image.Edit.{Edit}
 use Rattle.lrs_desk.proofs.Tables.{keys_once}
 use Rattle.lrs_desk.proofs.desk.Desk.open.Goals as goal
 

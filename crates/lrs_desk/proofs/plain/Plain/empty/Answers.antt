@@ -1,6 +1,6 @@
-use Rattle.std.proofs.Common.{refl, sym, ap, subst}
-use Rattle.lrs_desk.specs.declared.image.Image.{Image}
-use Rattle.lrs_desk.specs.Sound.{IsSound, first_unsound}
+use Rattle.std.proofs.Common.{refl, sym, subst}
+use Rattle.lrs_machine.specs.declared.image.Image.{Image}
+use Rattle.lrs_machine.specs.Sound.{IsSound, first_unsound}
 use Rattle.lrs_desk.proofs.plain.Plain.empty.Goals as goal
 
 pub new-requires-clause-sound : goal.new-requires-clause-sound

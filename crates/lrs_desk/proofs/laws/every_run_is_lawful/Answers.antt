@@ -1,5 +1,0 @@
-use Rattle.lrs_desk.proofs.Lawful.{every_run_is_lawful}
-use Rattle.lrs_desk.proofs.laws.every_run_is_lawful.Goals as goal
-
-pub returns : goal.returns
-returns c = every_run_is_lawful

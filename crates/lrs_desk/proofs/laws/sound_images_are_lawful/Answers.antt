@@ -1,5 +1,0 @@
-use Rattle.lrs_desk.proofs.SoundImages.{sound_is_lawful}
-use Rattle.lrs_desk.proofs.laws.sound_images_are_lawful.Goals as goal
-
-pub returns : goal.returns
-returns c = sound_is_lawful

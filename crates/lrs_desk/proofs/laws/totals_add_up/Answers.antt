@@ -1,5 +1,0 @@
-use Rattle.lrs_desk.proofs.Totals.{totals_add_up}
-use Rattle.lrs_desk.proofs.laws.totals_add_up.Goals as goal
-
-pub returns : goal.returns
-returns c = totals_add_up

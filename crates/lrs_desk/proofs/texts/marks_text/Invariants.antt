@@ -1,6 +1,0 @@
-use Rattle.std.proofs.Common.{◌≡◌, string_bytes, take}
-use Rattle.lrs_desk.specs.Lines
-use Rattle.lrs_desk.proofs.texts.marks_text.Given as goal
-
-abbrev pub invariant-loop-i : goal.invariant-loop-i
-invariant-loop-i l = string_bytes l.words ≡ Lines.marks_text (take l.i l.marks)

@@ -1,0 +1,17 @@
+pub mod Runs
+pub mod Keeping
+pub mod Registers
+pub mod Ledgers
+pub mod Checks
+pub mod Lawful
+pub mod Totals
+pub mod Members
+pub mod Pairs
+pub mod SoundImages
+pub mod Joined
+pub mod Decimals
+pub mod ExpressionTexts
+pub mod ListTexts
+pub mod LinesApart
+pub mod Ascii
+pub mod Words

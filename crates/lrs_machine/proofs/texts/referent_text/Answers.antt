@@ -1,0 +1,5 @@
+use Rattle.lrs_machine.proofs.Ascii.{IsAscii-referent}
+use Rattle.lrs_machine.proofs.texts.referent_text.Goals as goal
+
+pub as_text-requires : goal.as_text-requires
+as_text-requires c = rw c.bytes.ensures.text (IsAscii-referent c.args.name.now c.bytes.ensures.alphabet)

@@ -1,0 +1,104 @@
+-- What holds of every state of the ground machine, and of its runs.
+use Rattle.std.specs.Prelude.{◌≡◌, ℕ, ◌+◌, ◌≤◌, Bool, true, false, ◌⊎◌, List, [], ◌∷◌, length, if◌then◌else◌, Some, is_some}
+use Rattle.lrs_measure.specs.Texts.{Name}
+use Rattle.lrs_events.specs.declared.class.Kind.TheVariants.{Exclusive}
+use Rattle.lrs_events.specs.Places.{Place}
+use Rattle.lrs_machine.specs.declared.command.Command.{Command}
+use Rattle.lrs_machine.specs.declared.command.Command.TheVariants as verb
+use Rattle.lrs_machine.specs.declared.answer.Answer.TheVariants.{Done}
+use Rattle.lrs_machine.specs.declared.answer.Limits.{Limits}
+use Rattle.lrs_machine.specs.declared.image.Image.{Image}
+use Rattle.lrs_machine.specs.Register.{get, contains_key}
+use Rattle.lrs_machine.specs.State.{State, Asset, Reason, Retired, Abandoned, nothing_known}
+use Rattle.lrs_machine.specs.Machine.{Record, step, step_record, state_after, place_of_key}
+use Rattle.lrs_machine.specs.Image.{state_of, nothing}
+use Rattle.lrs_machine.specs.Readings.{total_present, total_entered, total_gone}
+use Rattle.lrs_machine.specs.Sound.{IsSound}
+use Rattle.lrs_machine.specs.Lines.{line_of}
+use Rattle.lrs_machine.specs.WellFormed.{IsWellFormed}
+
+-- Each pair of asset and place is entered at most once and taken away at most once; held is what was entered and is not gone, and nothing is gone that was not entered.
+pub record IsBalanced (s : State) : Type 0 where
+  pub entered_once : (m n asset : ℕ) (p : Place) → s.entered m asset p ≡ true → s.entered n asset p ≡ true → m ≡ n
+  pub gone_once : (m n asset : ℕ) (why because : Reason) (p : Place) → s.gone m why asset p ≡ true → s.gone n because asset p ≡ true → (m ≡ n) × (why ≡ because)
+  pub gone_entered : (n asset : ℕ) (why : Reason) (p : Place) → s.gone n why asset p ≡ true → (m : ℕ) × (s.entered m asset p ≡ true)
+  pub held_entered : (asset : ℕ) (p : Place) → s.holds asset p ≡ true → (m : ℕ) × (s.entered m asset p ≡ true)
+  pub held_or_gone : (m asset : ℕ) (p : Place) → s.entered m asset p ≡ true → (s.holds asset p ≡ true) ⊎ ((n : ℕ) × (why : Reason) × (s.gone n why asset p ≡ true))
+  pub held_not_gone : (n asset : ℕ) (why : Reason) (p : Place) → s.holds asset p ≡ true → s.gone n why asset p ≡ true → ⊥
+
+-- No place is held by two assets of one exclusive class.
+abbrev pub IsExclusive : State → Type 0
+IsExclusive s = (a b : ℕ) (x y : Asset) (p : Place) → get s.assets a ≡ Some x → get s.assets b ≡ Some y → x.class ≡ y.class → get s.classes x.class ≡ Some Exclusive
+    → s.holds a p ≡ true → s.holds b p ≡ true → a ≡ b
+
+-- The ledgers name edits that were done and assets that are known, and the assets are of known classes.
+pub record IsNamed (s : State) : Type 0 where
+  pub asset_known : (m asset : ℕ) (p : Place) → s.entered m asset p ≡ true → contains_key s.assets asset ≡ true
+  pub class_known : (a : ℕ) (x : Asset) → get s.assets a ≡ Some x → contains_key s.classes x.class ≡ true
+  pub entered_done : (m asset : ℕ) (p : Place) → s.entered m asset p ≡ true → (1 ≤ m) × (m ≤ length s.done)
+  pub gone_done : (m asset : ℕ) (why : Reason) (p : Place) → s.gone m why asset p ≡ true → (1 ≤ m) × (m ≤ length s.done)
+
+pub record IsLawful (s : State) : Type 0 where
+  pub balanced : IsBalanced s
+  pub exclusive : IsExclusive s
+  pub named : IsNamed s
+
+-- Every step keeps a lawful state lawful: balanced, exclusive, and its ledgers named.
+abbrev pub StepKeepsLaws : Type 0
+StepKeepsLaws = (limits : Limits) (key : Name) (command : Command) (s : State) → IsLawful s → IsLawful (step limits key command s).state
+
+-- So after every list of commands, from the empty state, the state is lawful.
+abbrev pub RunsAreLawful : Type 0
+RunsAreLawful = (limits : Limits) (rs : List Record) → IsLawful (state_after limits rs nothing_known)
+
+-- For each class, present is what was entered less what was retired and abandoned.
+abbrev pub AddsUp : State → Type 0
+AddsUp s = (class : Name) → total_present class s + total_gone Retired class s + total_gone Abandoned class s ≡ total_entered class s
+
+abbrev pub LawfulAddsUp : Type 0
+LawfulAddsUp = (s : State) → IsLawful s → AddsUp s
+
+-- The records without those whose key was accepted before them.
+abbrev pub once : Limits → List Record → State → List Record
+once limits [] s = []
+once limits (r ∷ rs) s = if is_some (place_of_key r.key s.done) then once limits rs s else r ∷ once limits rs (step_record limits r s).state
+
+-- A repeated key acts once: the state after a list is the state after the list without every later record whose key was accepted before.
+abbrev pub ActsOnce : Type 0
+ActsOnce = (limits : Limits) (rs : List Record) (s : State) → state_after limits rs s ≡ state_after limits (once limits rs s) s
+
+-- the edits that change a route's name, marks, direction or extent and no ground
+abbrev pub is_route_edit : Command → Bool
+is_route_edit (verb.Split route at name) = true
+is_route_edit (verb.Join first second) = true
+is_route_edit (verb.Renumber route name) = true
+is_route_edit (verb.Recalibrate route marks) = true
+is_route_edit (verb.Turn route) = true
+is_route_edit _ = false
+
+-- what the ledgers and the assets say, and who holds what
+pub record SameAssets (old new : State) : Type 0 where
+  pub assets : new.assets ≡ old.assets
+  pub holds : new.holds ≡ old.holds
+  pub entered : new.entered ≡ old.entered
+  pub gone : new.gone ≡ old.gone
+
+-- A route edit leaves what every asset holds, with its sides, and both ledgers.
+abbrev pub RouteEditsKeep : Type 0
+RouteEditsKeep = (limits : Limits) (key : Name) (command : Command) (s : State) → is_route_edit command ≡ true → SameAssets s (step limits key command s).state
+
+-- Only a command that is done changes the state: any other answer leaves it.
+abbrev pub OnlyDoneChanges : Type 0
+OnlyDoneChanges = (limits : Limits) (key : Name) (command : Command) (s : State) → ((step limits key command s).answer ≡ Done (length s.done + 1)) ⊎ ((step limits key command s).state ≡ s)
+
+-- A sound image stands for a lawful state.
+abbrev pub SoundIsLawful : Type 0
+SoundIsLawful = (i : Image) → IsSound i → IsLawful (state_of i)
+
+-- The image without entries is sound, and stands for the empty state.
+abbrev pub EmptyIsSound : Type 0
+EmptyIsSound = IsSound nothing × (state_of nothing ≡ nothing_known)
+
+-- Equal lines come only of equal commands; each command that a program can make is well formed, by the types of its parts.
+abbrev pub LinesTellCommandsApart : Type 0
+LinesTellCommandsApart = (a b : Command) → IsWellFormed a → IsWellFormed b → line_of a ≡ line_of b → a ≡ b

@@ -1,0 +1,13 @@
+pub mod Keys
+pub mod Entered
+pub mod Bounds
+pub mod Register
+pub mod State
+pub mod Lines
+pub mod WellFormed
+pub mod Texts
+pub mod Machine
+pub mod Image
+pub mod Readings
+pub mod Sound
+pub mod Laws

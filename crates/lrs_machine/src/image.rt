@@ -1,0 +1,73 @@
+//! What a desk knows.
+
+ghost use Rattle.std.specs.Prelude.{◌≡◌, IfOk};
+
+use crate::key::Key;
+use crate::line::Line;
+use lrs_element::Link;
+use lrs_events::{Asset, Class, Gone, Part, Spans};
+use lrs_measure::Rows;
+use lrs_position::Route;
+use std::alloc::{AllocError, Global};
+
+/// A route and what lies on it.
+#[derive(Drop)]
+pub struct RouteEntry {
+    pub route: Route,
+    pub spans: Spans,
+}
+
+/// An accepted command: its key and its canonical line.
+#[derive(Drop)]
+pub struct Edit {
+    pub key: Key,
+    pub line: Line,
+}
+
+impl Edit {
+    /// An equal edit.
+    ///
+    /// # Errors
+    ///
+    /// When memory runs out.
+    pub fn copy(&self, alloc: Global) -> Result<Edit, AllocError>
+        ensures { IfOk result (λ edit. edit ≡ self.now) }
+    {
+        Ok(Edit {
+            key: self.key,
+            line: self.line.copy(alloc)?,
+        })
+    }
+}
+
+/// All that is known, each list in the order of its key: links and assets by number, classes and routes by
+/// name, the ledgers by edit, asset, link, start and side, edits by number.
+#[derive(Drop)]
+pub struct Image {
+    pub links: Rows<Link>,
+    pub classes: Rows<Class>,
+    pub assets: Rows<Asset>,
+    pub routes: Rows<RouteEntry>,
+    pub entered: Rows<Part>,
+    pub gone: Rows<Gone>,
+    pub edits: Rows<Edit>,
+}
+
+impl Image {
+    ghost use Rattle.lrs_machine.specs.Image.{nothing};
+
+    /// The image without entries. It takes no memory.
+    pub fn empty(alloc: Global) -> Image
+        ensures { result ≡ nothing }
+    {
+        Image {
+            links: Rows::new(alloc),
+            classes: Rows::new(alloc),
+            assets: Rows::new(alloc),
+            routes: Rows::new(alloc),
+            entered: Rows::new(alloc),
+            gone: Rows::new(alloc),
+            edits: Rows::new(alloc),
+        }
+    }
+}

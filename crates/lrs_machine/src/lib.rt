@@ -1,0 +1,24 @@
+//! The ground machine: commands under keys, their answers, and what they make of an inventory.
+//!
+//! What each command asks and changes is defined over a small model with one entry for each millimetre
+//! (`specs/Machine`). An image, which is what a desk keeps, stands for a state of that model
+//! (`specs/Image`). The laws of the model, over all states and lists of commands, are in `laws`.
+#![tactic(auto)]
+
+mod answer;
+mod command;
+mod entered;
+mod image;
+mod key;
+pub mod laws;
+mod line;
+mod table;
+mod texts;
+
+pub use answer::{Answer, Cause, Field, Limits, What};
+pub use command::{Command, Entry};
+pub use entered::{AssetNumber, Chainage, LateralOffset, MarkList, PieceList};
+pub use image::{Edit, Image, RouteEntry};
+pub use key::Key;
+pub use line::Line;
+pub use table::Table;
