@@ -8,6 +8,7 @@
 mod answer;
 mod command;
 mod entered;
+mod formed;
 mod image;
 mod key;
 pub mod laws;
@@ -18,6 +19,7 @@ mod texts;
 pub use answer::{Answer, Cause, Field, Limits, What};
 pub use command::{Command, Entry};
 pub use entered::{AssetNumber, Chainage, LateralOffset, MarkList, PieceList};
+pub use formed::every_command_is_well_formed;
 pub use image::{Edit, Image, RouteEntry};
 pub use key::Key;
 pub use line::Line;
