@@ -1,8 +1,10 @@
 -- What a list in order becomes by one more element, and what stays the same of it.
-use Rattle.std.proofs.Common.{◌≡◌, ◌+◌, Bool, true, false, cond, ◌⊎◌, inl, inr, List, [], ◌∷◌, ◌++◌, length, map, refl, sym, ap, ◌∙◌, arith}
-use Rattle.std.specs.Prelude.{◌||◌, ◌&&◌}
+use Rattle.std.proofs.Common.{◌≡◌, ◌+◌, Bool, true, false, cond, List, [], ◌∷◌, ◌++◌, length, map, refl, sym, ap, ◌∙◌, arith}
+use Rattle.std.specs.Prelude.{◌||◌}
 use Rattle.std.specs.List.{list_any, list_all, flat_map}
 use Rattle.std.proofs.lemmas.Bool.{and_parts, and_from}
+use Rattle.std.proofs.lemmas.List.Folds.{list_all-map}
+use Rattle.lrs_machine.proofs.Members.{list_any-map}
 use Rattle.lrs_measure.specs.Lists.{each_two}
 use Rattle.lrs_desk.specs.Lists.{insert_by}
 use Rattle.lrs_desk.proofs.Inserts.{all-insert_by}
@@ -49,6 +51,13 @@ module _ {X Y : Type 0} where
         | true ↦ ap (λ zs. zs ++ flat_map f (y ∷ ys)) none
         | false ↦ ap (λ zs. f y ++ zs) (made-insert_by_none f before x ys none)
       ]
+
+  -- a test of what stands for the elements
+  pub all_mapped-insert_by : (p : Y → Bool) (f : X → Y) (before : X → X → Bool) (x : X) (xs : List X) → p (f x) ≡ true → list_all p (map f xs) ≡ true → list_all p (map f (insert_by before x xs)) ≡ true
+  all_mapped-insert_by p f before x xs here h = list_all-map p f (insert_by before x xs) ∙ all-insert_by (λ y. p (f y)) before x xs here (sym (list_all-map p f xs) ∙ h)
+
+  pub any_mapped-insert_by : (p : Y → Bool) (f : X → Y) (before : X → X → Bool) (x : X) (xs : List X) → p (f x) ≡ false → list_any p (map f (insert_by before x xs)) ≡ list_any p (map f xs)
+  any_mapped-insert_by p f before x xs fails = list_any-map p f (insert_by before x xs) ∙ any-insert_by_other (λ y. p (f y)) before x xs fails ∙ sym (list_any-map p f xs)
 
   -- what stands for the elements is in order as they are
   pub map-insert_by : (f : X → Y) (before : Y → Y → Bool) (x : X) (xs : List X) → map f (insert_by (λ a b. before (f a) (f b)) x xs) ≡ insert_by before (f x) (map f xs)

@@ -8,3 +8,4 @@ pub mod Leaving
 pub mod NewLink
 pub mod NewClass
 pub mod NewCourse
+pub mod NewRoute

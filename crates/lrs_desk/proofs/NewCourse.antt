@@ -1,25 +1,26 @@
 -- The course of a new route: what the checks of its pieces say of an image's links and routes.
-use Rattle.std.proofs.Common.{◌≡◌, ℕ, ◌+◌, ◌-◌, ◌<◌, ◌≤◌, zero, suc, Bool, true, false, cond, ◌⊎◌, inl, inr, List, [], ◌∷◌, ◌++◌, map, length, reverse, Option, Some, None, Result, Ok, Err, refl, sym, ap, subst, ◌∙◌, arith, get_or, append_assoc}
-use Rattle.std.specs.Prelude.{nat_eq, nat_lt, nat_le, not, ◌||◌, ◌&&◌, is_none, is_some, unwrap_or}
-use Rattle.std.specs.List.{list_any, list_all, flat_map, position, range_with_len}
+use Rattle.std.proofs.Common.{◌≡◌, ℕ, ◌+◌, ◌-◌, ◌<◌, ◌≤◌, suc, Bool, true, false, cond, inl, inr, List, [], ◌∷◌, ◌++◌, map, length, Option, Some, None, refl, sym, ap, subst, ◌∙◌, arith, get_or, append_assoc}
+use Rattle.std.specs.Prelude.{nat_eq, nat_lt, nat_le, not, ◌||◌, ◌&&◌, is_none, unwrap_or}
+use Rattle.std.specs.List.{list_any, list_all, position}
 use Rattle.std.specs.List as list
 use Rattle.std.specs.Option.{option_map, option_map_or}
 use Rattle.std.specs.Ordering.{nat_cmp, eq_by_cmp}
 use Rattle.std.specs.Cmp.{unsigned_tied}
 use Rattle.std.specs.FinMap.{find}
-use Rattle.std.proofs.lemmas.Bool.{false≢true, both_ways, and_parts, and_from, or_cases, or_left, or_right, or_parts, eq-eqb, eqb-true, ltb-true, lt-ltb, ltb-false, ne_eqb}
+use Rattle.std.proofs.lemmas.Bool.{false≢true, both_ways, and_parts, and_from, or_left, or_parts, eq-eqb, eqb-true, lt-ltb, ltb-false, ne_eqb}
 use Rattle.std.proofs.lemmas.List.{append-nil}
-use Rattle.std.proofs.lemmas.List.Folds.{list_all-append}
+use Rattle.std.proofs.lemmas.List.Folds.{list_all-append, list_any_at}
+use Rattle.std.proofs.lemmas.List.Quantifiers.{position-Some}
 use Rattle.lrs_measure.specs.Lists.{each_two}
 use Rattle.lrs_element.specs.declared.link.Link.{Link}
 use Rattle.lrs_element.specs.declared.link.Piece.{Piece}
 use Rattle.lrs_element.specs.declared.link.Ground.{Ground}
-use Rattle.lrs_element.specs.Course.{Millimetre, millimetres, expand, course_of, is_at, runs_over, meets, lacks_link, length_of, is_bad_piece, first_repeated}
+use Rattle.lrs_element.specs.Course.{expand, course_of, is_at, runs_over, meets, lacks_link, length_of, is_bad_piece, first_repeated}
 use Rattle.lrs_element.specs.Pieces.{piece_len, ground_of}
 use Rattle.lrs_element.proofs.Expanding.{length-expand, get_or-expand}
 use Rattle.lrs_machine.specs.Image.{link_entry}
 use Rattle.lrs_machine.specs.Sound.{is_on_a_link, differs}
-use Rattle.lrs_machine.proofs.Members.{In, any_found, any_of, all_at, map_found, flat_map_found}
+use Rattle.lrs_machine.proofs.Members.{In, any_found, any_of, flat_map_found}
 use Rattle.lrs_desk.proofs.Deciding.{none_passes}
 use Rattle.lrs_desk.proofs.Inserts.{is_false, all_from}
 
@@ -83,6 +84,12 @@ module _ {X : Type 0} (p : X → Bool) where
 
   pub no_place : (xs : List X) → position p xs ≡ None → list_any p xs ≡ false
   no_place xs h = none_of xs (none_passes p xs h)
+
+  pub some_place : (xs : List X) (k : ℕ) → position p xs ≡ Some k → list_any p xs ≡ true
+  some_place [] k h = absurd (cc h)
+  some_place (x ∷ xs) k h =
+      let at = position-Some p (x ∷ xs) k x h in
+      list_any_at p (x ∷ xs) k x at.0 at.1
 
   pub fails_at : (x : X) (xs : List X) → list_any p xs ≡ false → In x xs → p x ≡ false
   fails_at x xs h m = is_false (p x) (λ t. both_ways (list_any p xs) h (any_of p x xs m t))
@@ -187,11 +194,11 @@ on_links links pieces none = all_from (is_on_a_link links) (course_of pieces) (�
 -- ---- free ground
 
 -- Where no piece meets a course, what they run over does not, nor does it that.
-pub apart_from : (pieces : List Piece) (other : List Ground) → list_any (λ p. meets (expand p) other) pieces ≡ false → meets (course_of pieces) other ≡ false
+pub apart_from : (pieces : List Piece) (other : List Ground) → ((p : Piece) → In p pieces → meets (expand p) other ≡ false) → meets (course_of pieces) other ≡ false
 apart_from pieces other h = is_false (meets (course_of pieces) other) (λ t.
     let g = any_found (λ g. runs_over other (g.link, g.mm)) (course_of pieces) t in
     let found = flat_map_found expand g.0 pieces g.1 in
-    both_ways (meets (expand found.0) other) (fails_at (λ p. meets (expand p) other) found.0 pieces h found.1) (any_of (λ g. runs_over other (g.link, g.mm)) g.0 (expand found.0) found.2 g.2))
+    both_ways (meets (expand found.0) other) (h found.0 found.1) (any_of (λ g. runs_over other (g.link, g.mm)) g.0 (expand found.0) found.2 g.2))
 
 pub apart_too : (xs ys : List Ground) → meets xs ys ≡ false → meets ys xs ≡ false
 apart_too xs ys h = is_false (meets ys xs) (λ t.
