@@ -1,4 +1,4 @@
--- The course of a new route: what the checks of its pieces say of an image's links and routes.
+-- The course and the marks of a new route: what their checks say of an image's links and routes.
 use Rattle.std.proofs.Common.{◌≡◌, ℕ, ◌+◌, ◌-◌, ◌<◌, ◌≤◌, suc, Bool, true, false, cond, inl, inr, List, [], ◌∷◌, ◌++◌, map, length, Option, Some, None, refl, sym, ap, subst, ◌∙◌, arith, get_or, append_assoc}
 use Rattle.std.specs.Prelude.{nat_eq, nat_lt, nat_le, not, ◌||◌, ◌&&◌, is_none, unwrap_or}
 use Rattle.std.specs.List.{list_any, list_all, position}
@@ -7,15 +7,19 @@ use Rattle.std.specs.Option.{option_map, option_map_or}
 use Rattle.std.specs.Ordering.{nat_cmp, eq_by_cmp}
 use Rattle.std.specs.Cmp.{unsigned_tied}
 use Rattle.std.specs.FinMap.{find}
-use Rattle.std.proofs.lemmas.Bool.{false≢true, both_ways, and_parts, and_from, or_left, or_parts, eq-eqb, eqb-true, lt-ltb, ltb-false, ne_eqb}
+use Rattle.std.proofs.lemmas.Bool.{false≢true, both_ways, and_parts, and_from, or_left, or_parts, eq-eqb, eqb-true, lt-ltb, ltb-true, ltb-false, ne_eqb}
 use Rattle.std.proofs.lemmas.List.{append-nil}
 use Rattle.std.proofs.lemmas.List.Folds.{list_all-append, list_any_at}
 use Rattle.std.proofs.lemmas.List.Quantifiers.{position-Some}
-use Rattle.lrs_measure.specs.Lists.{each_two}
+use Rattle.lrs_measure.specs.Lists.{each_two, is_nothing}
 use Rattle.lrs_element.specs.declared.link.Link.{Link}
 use Rattle.lrs_element.specs.declared.link.Piece.{Piece}
 use Rattle.lrs_element.specs.declared.link.Ground.{Ground}
-use Rattle.lrs_element.specs.Course.{expand, course_of, is_at, runs_over, meets, lacks_link, length_of, is_bad_piece, first_repeated}
+use Rattle.lrs_element.specs.declared.marks.Mark.{Mark}
+use Rattle.lrs_element.specs.Limits.{most_marks, greatest_measure}
+use Rattle.lrs_element.specs.Marks.{is_out_of_order, misses_the_end, first_bad_mark, bad_mark}
+use Rattle.lrs_position.specs.Routes.{is_route, is_route_course, have_marks, are_referents}
+use Rattle.lrs_element.specs.Course.{expand, course_of, is_at, runs_over, meets, lacks_link, length_of, is_bad_piece, is_too_long, first_repeated}
 use Rattle.lrs_element.specs.Pieces.{piece_len, ground_of}
 use Rattle.lrs_element.proofs.Expanding.{length-expand, get_or-expand}
 use Rattle.lrs_machine.specs.Image.{link_entry}
@@ -205,3 +209,53 @@ apart_too xs ys h = is_false (meets ys xs) (λ t.
     let y = any_found (λ g. runs_over xs (g.link, g.mm)) ys t in
     let x = any_found (is_at (y.0.link, y.0.mm)) xs y.2 in
     both_ways (meets xs ys) h (any_of (λ g. runs_over ys (g.link, g.mm)) x.0 xs x.1 (any_of (is_at (x.0.link, x.0.mm)) y.0 ys y.1 (at_same x.0 y.0 ∙ x.2))))
+
+-- ---- marks
+
+not_false : (b : Bool) → not b ≡ false → b ≡ true
+not_false true h = refl
+not_false false h = sym h
+
+-- a mark that follows another is above it, and the last is at the end
+above : (len : ℕ) (b m : Mark) (rest : List Mark) → first_bad_mark len (Some b) (m ∷ rest) ≡ None → (b.chainage < m.chainage) × (misses_the_end len m rest ≡ false) × (first_bad_mark len (Some m) rest ≡ None)
+above len b m rest h =
+    let step = first_step (is_out_of_order (Some b) m || nat_lt greatest_measure m.measure || misses_the_end len m rest) (first_bad_mark len (Some m) rest) h in
+    let outer = or_parts (is_out_of_order (Some b) m || nat_lt greatest_measure m.measure) (misses_the_end len m rest) step.0 in
+    let inner = or_parts (is_out_of_order (Some b) m) (nat_lt greatest_measure m.measure) outer.0 in
+    let rises = and_parts (nat_lt b.chainage m.chainage) (nat_lt b.measure m.measure) (not_false (nat_lt b.chainage m.chainage && nat_lt b.measure m.measure) inner.0) in
+    (ltb-true b.chainage m.chainage rises.0, outer.1, step.1)
+
+-- so the course goes on behind the first
+goes_on : (len : ℕ) (b m : Mark) (rest : List Mark) → first_bad_mark len (Some b) (m ∷ rest) ≡ None → b.chainage < len
+goes_on len b m [] h =
+    let a = above len b m [] h in
+    let e = eqb-true m.chainage len (not_false (nat_eq m.chainage len) a.1) in
+    omega (arith, e, a.0)
+goes_on len b m (n ∷ ns) h =
+    let a = above len b m (n ∷ ns) h in
+    let further = goes_on len m n ns a.2 in
+    omega (arith, a.0, further)
+
+-- marks without a fault are those of a course that is not empty
+has_ground : (len : ℕ) (marks : List Mark) → bad_mark len marks ≡ None → 0 < len
+has_ground len [] h = absurd (cc h)
+has_ground len (m ∷ []) h = absurd (cc h)
+has_ground len (m ∷ n ∷ rest) h = by (nat_lt (length (m ∷ n ∷ rest)) 2) (nat_lt most_marks (length (m ∷ n ∷ rest))) h
+  where
+    by : (a b : Bool) → cond a (Some 0) (cond b (Some most_marks) (first_bad_mark len None (m ∷ n ∷ rest))) ≡ None → 0 < len
+    by true b k = absurd (cc k)
+    by false true k = absurd (cc k)
+    by false false k =
+        let step = first_step (is_out_of_order None m || nat_lt greatest_measure m.measure || misses_the_end len m (n ∷ rest)) (first_bad_mark len (Some m) (n ∷ rest)) k in
+        let further = goes_on len m n rest step.1 in
+        omega (arith, further)
+
+-- Such a course and such marks are a route's.
+pub fits_alone : (course : List Ground) (marks : List Mark) → is_too_long course ≡ false → bad_mark (length course) marks ≡ None → is_route course marks [] ≡ true
+fits_alone course marks short good =
+    and_from (is_route_course course && have_marks course marks) (are_referents (length course) [])
+    (and_from (is_route_course course) (have_marks course marks) (and_from (not (is_nothing course)) (not (is_too_long course)) (some course (has_ground (length course) marks good)) (ap not short)) (ap is_none good)) refl
+  where
+    some : (xs : List Ground) → 0 < length xs → not (is_nothing xs) ≡ true
+    some [] h = absurd (omega (arith, h))
+    some (x ∷ xs) h = refl

@@ -11,10 +11,11 @@ use Rattle.std.proofs.lemmas.List.{append-nil, length-map}
 use Rattle.std.proofs.lemmas.List.Folds.{list_all-map, flat_map-map}
 use Rattle.lrs_measure.specs.Lists.{each_two, same_bool}
 use Rattle.lrs_measure.specs.Texts.{Name, name_cmp, same_name}
+use Rattle.lrs_element.specs.declared.link.Link.{Link}
 use Rattle.lrs_element.specs.declared.link.Piece.{Piece}
 use Rattle.lrs_element.specs.declared.link.Ground.{Ground}
 use Rattle.lrs_element.specs.declared.marks.Mark.{Mark}
-use Rattle.lrs_element.specs.Course.{expand, course_of, meets, lacks_link, is_bad_piece, is_too_long, first_repeated}
+use Rattle.lrs_element.specs.Course.{expand, course_of, meets, lacks_link, is_bad_piece, is_too_long, first_repeated, AreGood}
 use Rattle.lrs_position.specs.Routes.{is_route_course, have_marks, are_referents}
 use Rattle.lrs_position.specs.declared.route.Referent.{Referent}
 use Rattle.lrs_events.specs.declared.class.Class.{Class}
@@ -27,29 +28,25 @@ use Rattle.lrs_machine.specs.declared.command.Command.TheVariants as verb
 use Rattle.lrs_machine.specs.declared.image.Edit.{Edit}
 use Rattle.lrs_machine.specs.declared.image.Image.{Image}
 use Rattle.lrs_machine.specs.declared.image.RouteEntry.{RouteEntry}
-use Rattle.lrs_desk.specs.declared.change.Parts.{Parts}
 use Rattle.lrs_machine.specs.Bounds.{most_edits, most_routes}
 use Rattle.lrs_machine.specs.Register.{contains_key}
 use Rattle.lrs_desk.specs.Lists.{insert_by}
 use Rattle.lrs_machine.specs.Image.{state_of, route_entry, referent_entry, referents_on, holds_on}
-use Rattle.lrs_desk.specs.Change.{route_before, with_parts, with_edit, no_parts}
+use Rattle.lrs_desk.specs.Change.{route_before, with_parts, with_edit}
 use Rattle.lrs_machine.specs.State.{State}
 use Rattle.lrs_machine.specs.Machine.{attempt, refuse_if, refuse_at, ◌>>◌, ◌>>=◌, check_marks, set_route, is_taken}
 use Rattle.lrs_machine.specs.Machine as machine
 use Rattle.lrs_desk.specs.Plan.{is_new, Makes}
-use Rattle.lrs_desk.specs.NewRoute.{free_course, IsEntryOf}
+use Rattle.lrs_desk.specs.NewRoute.{free_course, IsEntryOf, route_parts}
 use Rattle.lrs_machine.specs.Sound.{RouteCourse, course_before, is_course, is_on_a_link, differs, are_courses, courses_of, RouteMarks, RouteReferents, are_all_referents, referents_of, RouteSpans, spans_of, are_spans, are_spans_of, holds_in, places_of, keeps_exclusive, are_parts, parts_of, has_asset_place, are_gone, are_balanced, gone_before, IsSound}
 use Rattle.lrs_machine.proofs.Members.{In, list_any-map}
 use Rattle.lrs_machine.proofs.SoundImages.{and_three}
 use Rattle.lrs_desk.proofs.Filed.{is_some-find_row, put-insert_by}
 use Rattle.lrs_desk.proofs.Inserts.{and_weaker, all_from, all-insert_by, each_two-insert_by, before-chain, before-comparable}
 use Rattle.lrs_desk.proofs.Inserted.{length-insert_by, any-insert_by_other, each_two-insert_among, made-insert_by_none, all_mapped-insert_by, any_mapped-insert_by, map-insert_by}
-use Rattle.lrs_desk.proofs.NewCourse.{lacks, bad, no_place, fails_at, once, on_links, apart_from, apart_too}
+use Rattle.lrs_desk.proofs.NewCourse.{lacks, bad, no_place, some_place, fails_at, once, on_links, apart_from, apart_too}
 use Rattle.lrs_desk.proofs.Tables.{passes, sound, edits_push}
 use Rattle.lrs_desk.proofs.Leaving.{without-none}
-
-abbrev pub route_parts : RouteEntry → Parts
-route_parts e = record no_parts { written = e ∷ [] }
 
 -- the image with the route
 abbrev pub with_route : RouteEntry → Image → Image
@@ -117,6 +114,33 @@ free_of i pieces course h =
     by false None None true t eb ec et k = absurd (cc k)
     by false None None false (Some x) eb ec et k = absurd (cc k)
     by false None None false None eb ec et k = (record { good = eb; repeated = ec; free = et }, cc)
+
+-- What is found among the links of the image is what the state finds.
+module _ (i : Image) (pieces : List Piece) (links : List Link) (is : links ≡ i.links) where
+  by_links : free_course (state_of i) pieces ≡ checked (list_any (lacks_link links) pieces) (position (is_bad_piece links) pieces) (first_repeated [] pieces) (is_too_long (course_of pieces)) (first_covered i pieces) (course_of pieces)
+  by_links =
+      free_course_is i pieces
+      ∙ ap (λ ls. checked (list_any (lacks_link ls) pieces) (position (is_bad_piece ls) pieces) (first_repeated [] pieces) (is_too_long (course_of pieces)) (first_covered i pieces) (course_of pieces)) (sym is)
+
+  pub no_link : (k : ℕ) → position (lacks_link links) pieces ≡ Some k → Err cause.NoLink ≡ free_course (state_of i) pieces
+  no_link k found = sym (by_links
+      ∙ ap (λ a. checked a (position (is_bad_piece links) pieces) (first_repeated [] pieces) (is_too_long (course_of pieces)) (first_covered i pieces) (course_of pieces)) (some_place (lacks_link links) pieces k found))
+
+  module _ (linked : position (lacks_link links) pieces ≡ None) where
+    known : list_any (lacks_link links) pieces ≡ false
+    known = no_place (lacks_link links) pieces linked
+
+    pub bad_piece : (k : ℕ) → position (is_bad_piece links) pieces ≡ Some k → Err (cause.BadPiece k) ≡ free_course (state_of i) pieces
+    bad_piece k found = sym (by_links ∙ (λ j. checked (known j) (found j) (first_repeated [] pieces) (is_too_long (course_of pieces)) (first_covered i pieces) (course_of pieces)))
+
+    pub twice : (k : ℕ) → position (is_bad_piece links) pieces ≡ None → first_repeated [] pieces ≡ Some k → Err (cause.Taken k) ≡ free_course (state_of i) pieces
+    twice k good found = sym (by_links ∙ (λ j. checked (known j) (good j) (found j) (is_too_long (course_of pieces)) (first_covered i pieces) (course_of pieces)))
+
+    pub too_long : position (is_bad_piece links) pieces ≡ None → first_repeated [] pieces ≡ None → is_too_long (course_of pieces) ≡ true → Err cause.TooLong ≡ free_course (state_of i) pieces
+    too_long good repeated long = sym (by_links ∙ (λ j. checked (known j) (good j) (repeated j) (long j) (first_covered i pieces) (course_of pieces)))
+
+  pub good_pieces : AreGood links pieces → (refuse_at (first_covered i pieces) cause.Taken >> Ok (course_of pieces)) ≡ free_course (state_of i) pieces
+  good_pieces good = sym (by_links ∙ (λ j. checked (known good.linked j) (good.filled j) (good.once j) (good.limits j) (first_covered i pieces) (course_of pieces)))
 
 -- ---- what the verb does
 

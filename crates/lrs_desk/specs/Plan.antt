@@ -18,6 +18,7 @@ use Rattle.lrs_machine.specs.Sound.{IsSound}
 abbrev pub is_planned : Command → Bool
 is_planned (verb.Link l) = true
 is_planned (verb.Class c) = true
+is_planned (verb.Route name pieces marks) = true
 is_planned _ = false
 
 -- no edit has the key
