@@ -1,7 +1,7 @@
 //! Answers, and why a command is refused.
 
-ghost use Rattle.std.specs.Prelude.{IsTrue};
-ghost use Rattle.lrs_machine.specs.Bounds.{are_limits};
+ghost use Rattle.std.specs.Prelude.{◌≡◌, IsTrue};
+ghost use Rattle.lrs_machine.specs.Bounds.{are_limits, most_routes, most_assets, most_edits};
 
 /// A field of a record.
 #[derive(Clone, Copy, Debug, PartialEq, Eq)]
@@ -76,4 +76,19 @@ pub struct Limits {
     pub assets: u64,
     pub edits: u64,
     pub ghost bounds: { IsTrue (are_limits routes assets edits) },
+}
+
+impl Limits {
+    /// As much as an inventory may hold at all.
+    pub fn full() -> Limits
+        ensures routes { result.routes ≡ most_routes }
+        ensures assets { result.assets ≡ most_assets }
+        ensures edits { result.edits ≡ most_edits }
+    {
+        Limits {
+            routes: 10_000,
+            assets: 1_000_000,
+            edits: 10_000_000,
+        }
+    }
 }

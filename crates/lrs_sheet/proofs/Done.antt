@@ -1,0 +1,199 @@
+-- Records done one after the other.
+use Rattle.std.proofs.Common.{◌≡◌, ℕ, Ok, Err, List, [], ◌∷◌, ◌++◌, ◌+◌, ◌≤◌, Option, Some, Bool, length, refl, sym, ap, ◌∙◌, append_assoc, length-append, arith, inl, inr}
+use Rattle.std.specs.Prelude.{count_by}
+use Rattle.std.proofs.Common.{cond}
+use Rattle.std.proofs.lemmas.List.Sums.{sum_by-append}
+use Rattle.std.proofs.lemmas.List.{append-nil, flat_map_more}
+use Rattle.csv.proofs.WriteFacts.{appends-more, appends-none}
+use Rattle.csv.specs.Reading.{expected_len}
+use Rattle.csv.specs.declared.reader.Reader.{Reader}
+use Rattle.lrs_machine.specs.Image.{state_of}
+use Rattle.lrs_machine.specs.State.{State}
+use Rattle.lrs_machine.specs.declared.answer.Limits.{Limits}
+use Rattle.lrs_machine.specs.declared.answer.Answer.{Answer}
+use Rattle.lrs_machine.specs.declared.answer.Answer.TheVariants.{Done, Again, Refused}
+use Rattle.lrs_desk.specs.DeskView.{DeskView}
+use Rattle.lrs_sheet.specs.declared.reply.Reply.{Reply}
+use Rattle.lrs_sheet.specs.declared.reply.Tally.{Tally}
+use Rattle.lrs_sheet.specs.declared.fault.SheetFault.{SheetFault}
+use Rattle.lrs_sheet.specs.declared.fault.SheetFault.TheVariants as fault
+use Rattle.lrs_sheet.specs.Replies.{IsReplied, Replied, answer_count, counted, is_again, is_done, is_refused, lines_of, reply_text, tally_of}
+use Rattle.lrs_sheet.specs.Sheets.{GoesAlong, HaveEleven, max_records}
+use Rattle.lrs_sheet.specs.Rows.{Begins, BreaksAfter, BreaksAtRow, DoesRow, DoesRows, DoesSome, EndsAfter, Gave, HasDone, IsPlain, IsReadFault, IsRowFault, NextDiffers, StopsAtRow}
+
+-- one more record, answered
+pub Replied-more : (limits : Limits) (before middle after : State) (records : List (List (List ℕ))) (replies : List Reply) (fields : List (List ℕ)) (reply : Reply)
+    → Replied limits before records replies middle → IsReplied limits middle fields reply after → Replied limits before (records ++ fields ∷ []) (replies ++ reply ∷ []) after
+unfolding Replied
+Replied-more limits before middle after [] [] fields reply done next = (after, rw done at next, refl)
+Replied-more limits before middle after [] (other ∷ replies) fields reply done next = absurd done
+Replied-more limits before middle after (first ∷ records) [] fields reply done next = absurd done
+Replied-more limits before middle after (first ∷ records) (other ∷ replies) fields reply done next =
+    (done.0, done.1, Replied-more limits done.0 middle after records replies fields reply done.2 next)
+
+-- one more record of eleven fields
+pub eleven-more : (records : List (List (List ℕ))) (fields : List (List ℕ)) → HaveEleven records → length fields ≡ 11
+    → HaveEleven (records ++ fields ∷ [])
+eleven-more [] fields h e = (e, tt)
+eleven-more (first ∷ records) fields h e = (h.0, eleven-more records fields h.1 e)
+
+-- one more line
+pub lines-more : (replies : List Reply) (reply : Reply) → lines_of (replies ++ reply ∷ []) ≡ lines_of replies ++ (reply_text reply ++ 10 ∷ [])
+lines-more replies reply = sym (flat_map_more (λ (r : Reply). reply_text r ++ 10 ∷ []) [] replies reply)
+
+-- one more answer counted, of one kind
+count-more : (test : Reply → Bool) (replies : List Reply) (reply : Reply) → count_by test (replies ++ reply ∷ []) ≡ count_by test replies + count_by test (reply ∷ [])
+count-more test replies reply = sum_by-append (λ r. cond (test r) 1 0) replies (reply ∷ [])
+
+-- equal tallies, number by number
+tally-eq : (d e a b r s : ℕ) → d ≡ e → a ≡ b → r ≡ s → ◌≡◌ {A = Tally} (record { done = d; again = a; refused = r }) (record { done = e; again = b; refused = s })
+tally-eq d e a b r s x y z = rw (x, y, z) refl
+
+-- the three kinds, counted in one more answer
+kinds-more : (replies : List Reply) (reply : Reply) (answer : Answer) → reply.answer ≡ answer → tally_of (replies ++ reply ∷ []) ≡ counted (tally_of replies) answer
+kinds-more replies reply answer e = by answer e (count-more (λ r. is_done r.answer) replies reply) (count-more (λ r. is_again r.answer) replies reply) (count-more (λ r. is_refused r.answer) replies reply)
+  where
+    by : (answer : Answer) → reply.answer ≡ answer
+        → count_by (λ r. is_done r.answer) (replies ++ reply ∷ []) ≡ count_by (λ r. is_done r.answer) replies + count_by (λ r. is_done r.answer) (reply ∷ [])
+        → count_by (λ r. is_again r.answer) (replies ++ reply ∷ []) ≡ count_by (λ r. is_again r.answer) replies + count_by (λ r. is_again r.answer) (reply ∷ [])
+        → count_by (λ r. is_refused r.answer) (replies ++ reply ∷ []) ≡ count_by (λ r. is_refused r.answer) replies + count_by (λ r. is_refused r.answer) (reply ∷ [])
+        → tally_of (replies ++ reply ∷ []) ≡ counted (tally_of replies) answer
+    by (Done n) e d a r = rw (d, a, r, e) (tally-eq _ _ _ _ _ _ refl (omega arith) (omega arith))
+    by (Again n) e d a r = rw (d, a, r, e) (tally-eq _ _ _ _ _ _ (omega arith) refl (omega arith))
+    by (Refused cause) e d a r = rw (d, a, r, e) (tally-eq _ _ _ _ _ _ (omega arith) (omega arith) refl)
+
+-- one more answer counted
+pub tally-more : (replies : List Reply) (reply : Reply) → tally_of (replies ++ reply ∷ []) ≡ counted (tally_of replies) reply.answer
+tally-more replies reply = kinds-more replies reply reply.answer refl
+
+-- a tally has one more answer
+pub count-more-answer : (tally : Tally) (answer : Answer) → answer_count (counted tally answer) ≡ answer_count tally + 1
+count-more-answer tally (Done n) = omega arith
+count-more-answer tally (Again n) = omega arith
+count-more-answer tally (Refused cause) = omega arith
+
+-- a desk that stays goes along
+pub stays : (desk : DeskView) → GoesAlong desk desk
+stays desk = record { limits = refl; kept = λ kept. kept; reopen = refl }
+
+-- one that goes along, and goes along
+along : (a b c : DeskView) → GoesAlong a b → GoesAlong b c → GoesAlong a c
+along a b c first next = record { limits = next.limits ∙ first.limits; kept = λ kept. next.kept (first.kept kept); reopen = next.reopen ∙ first.reopen }
+
+-- before the first turn
+pub start-done : {R : Type 0} (rem : R → Option (List ℕ)) (rows : Reader R) (desk : DeskView) (contents : Option (List ℕ)) (tally : Tally)
+    → IsPlain rows → expected_len rows ≡ Some 11 → tally ≡ tally_of [] → HasDone rem rows rows desk desk contents contents tally 0
+unfolding Replied
+start-done rem rows desk contents tally plain width none = record {
+  records = [];
+  replies = [];
+  plain = plain;
+  width = width;
+  gave = λ input before h. rw (append-nil before) h;
+  answered = record { eleven = tt; replied = refl; written = appends-none contents };
+  desk = stays desk;
+  counts = none;
+  few = rw none refl;
+  in_turn = refl;
+}
+
+-- what a reader gave, and then gave more
+pub gave-more : {R : Type 0} (rem : R → Option (List ℕ)) (a b c : Reader R) (records more : List (List (List ℕ))) → Gave rem a b records → Gave rem b c more → Gave rem a c (records ++ more)
+gave-more rem a b c records more first second = λ input before h. rw (← append_assoc before records more) (second input (before ++ records) (first input before h))
+
+-- one more turn
+pub more-done : {R : Type 0} (rem : R → Option (List ℕ)) (rows now next : Reader R) (before middle after : DeskView) (old mid new : Option (List ℕ)) (tally counts : Tally) (turns : ℕ) (fields : List (List ℕ))
+    → HasDone rem rows now before middle old mid tally turns → IsPlain next → expected_len next ≡ Some (length fields) → length fields ≡ 11 → Gave rem now next (fields ∷ [])
+    → DoesRow middle.limits (state_of middle.image) fields (state_of after.image) mid new tally counts → GoesAlong middle after
+    → HasDone rem rows next before after old new counts (turns + 1)
+more-done rem rows now next before middle after old mid new tally counts turns fields done plain width eleven gave (reply, replied, written, counted') desk = record {
+  records = done.records ++ fields ∷ [];
+  replies = done.replies ++ reply ∷ [];
+  plain = plain;
+  width = width ∙ ap Some eleven;
+  gave = gave-more rem rows now next done.records (fields ∷ []) done.gave gave;
+  answered = record {
+    eleven = eleven-more done.records fields done.answered.eleven eleven;
+    replied = Replied-more before.limits (state_of before.image) (state_of middle.image) (state_of after.image) done.records done.replies fields reply done.answered.replied (rw done.desk.limits at replied);
+    written = rw (lines-more done.replies reply) (appends-more old mid new (lines_of done.replies) (reply_text reply ++ 10 ∷ []) done.answered.written written);
+  };
+  desk = along before middle after done.desk desk;
+  counts = counted' ∙ ap (λ (t : Tally). counted t reply.answer) done.counts ∙ sym (tally-more done.replies reply);
+  few = ap answer_count counted' ∙ count-more-answer tally reply.answer ∙ ap (λ (n : ℕ). n + 1) done.few;
+  in_turn = length-append done.records (fields ∷ []) ∙ ap (λ (n : ℕ). n + 1) done.in_turn;
+}
+
+-- what a reader gave, it goes on with
+pub begins : {R : Type 0} (rem : R → Option (List ℕ)) (a b : Reader R) (records : List (List (List ℕ))) → Gave rem a b records → Begins rem a records
+begins rem a b records gave = λ input before h.
+    let (rest, source, reached) = gave input before h in
+    (b.state, rest, reached)
+
+-- the turns so far are done
+pub some-done : {R : Type 0} (rem : R → Option (List ℕ)) (rows now : Reader R) (before after : DeskView) (old new : Option (List ℕ)) (tally : Tally) (turns : ℕ)
+    → HasDone rem rows now before after old new tally turns → DoesSome rem rows before.limits (state_of before.image) (state_of after.image)
+some-done rem rows now before after old new tally turns done =
+    (done.records, done.replies, done.answered.eleven, done.answered.replied, begins rem rows now done.records done.gave)
+
+-- the next record has another length
+differs : {R : Type 0} (rem : R → Option (List ℕ)) (a b : Reader R) (records : List (List (List ℕ))) (wanted : ℕ) → Gave rem a b records → NextDiffers rem b [] wanted → NextDiffers rem a records wanted
+differs rem a b records wanted gave next = λ input before h.
+    let (fields, begins, bad) = next input (before ++ records) (gave input before h) in
+    (fields, rw (append-nil (before ++ records)) at begins, bad)
+
+-- a read failed
+pub stop-read : {R : Type 0} (rem : R → Option (List ℕ)) (rows now : Reader R) (before after : DeskView) (old new : Option (List ℕ)) (tally : Tally) (turns : ℕ) (e : SheetFault)
+    → HasDone rem rows now before after old new tally turns → IsReadFault rem now e → DoesRows rem rows before.limits (state_of before.image) (state_of after.image) old new (Err e)
+stop-read rem rows now before after old new tally turns fault.Read done why = some-done rem rows now before after old new tally turns done
+stop-read rem rows now before after old new tally turns fault.Memory done why = some-done rem rows now before after old new tally turns done
+stop-read rem rows now before after old new tally turns fault.Write done why = absurd why
+stop-read rem rows now before after old new tally turns fault.BadHeader done why = absurd why
+stop-read rem rows now before after old new tally turns (fault.Desk m) done why = absurd why
+stop-read rem rows now before after old new tally turns fault.BadCsv done (wanted, expected, next) =
+    let is : wanted ≡ 11 = cc (done.width, expected) in
+    (done.records, done.replies, done.answered, differs rem rows now done.records 11 done.gave (rw is at next))
+
+-- the records are at their end
+pub all-done : {R : Type 0} (rem : R → Option (List ℕ)) (rows now : Reader R) (before after : DeskView) (old new : Option (List ℕ)) (tally : Tally) (turns : ℕ)
+    → HasDone rem rows now before after old new tally turns → EndsAfter rem now [] → turns ≤ max_records
+    → DoesRows rem rows before.limits (state_of before.image) (state_of after.image) old new (Ok tally)
+all-done rem rows now before after old new tally turns done ends few =
+    (done.records, done.replies, done.answered, done.counts, λ input start h. rw (append-nil (start ++ done.records)) at (ends input (start ++ done.records) (done.gave input start h)), rw done.in_turn few)
+
+-- a record stopped the run
+stop-some : {R : Type 0} (rem : R → Option (List ℕ)) (rows now next : Reader R) (before middle after : DeskView) (old mid : Option (List ℕ)) (tally : Tally) (turns : ℕ) (fields : List (List ℕ))
+    → HasDone rem rows now before middle old mid tally turns → length fields ≡ 11 → Gave rem now next (fields ∷ []) → StopsAtRow middle.limits (state_of middle.image) fields (state_of after.image)
+    → DoesSome rem rows before.limits (state_of before.image) (state_of after.image)
+stop-some rem rows now next before middle after old mid tally turns fields done eleven gave (inl same) = rw same (some-done rem rows now before middle old mid tally turns done)
+stop-some rem rows now next before middle after old mid tally turns fields done eleven gave (inr (reply, replied)) = (
+  done.records ++ fields ∷ [],
+  done.replies ++ reply ∷ [],
+  eleven-more done.records fields done.answered.eleven eleven,
+  Replied-more before.limits (state_of before.image) (state_of middle.image) (state_of after.image) done.records done.replies fields reply done.answered.replied (rw done.desk.limits at replied),
+  begins rem rows next (done.records ++ fields ∷ []) (gave-more rem rows now next done.records (fields ∷ []) done.gave gave),
+)
+
+pub stop-row : {R : Type 0} (rem : R → Option (List ℕ)) (rows now next : Reader R) (before middle after : DeskView) (old mid new : Option (List ℕ)) (tally : Tally) (turns : ℕ) (fields : List (List ℕ)) (e : SheetFault)
+    → HasDone rem rows now before middle old mid tally turns → length fields ≡ 11 → Gave rem now next (fields ∷ []) → StopsAtRow middle.limits (state_of middle.image) fields (state_of after.image) → IsRowFault e
+    → DoesRows rem rows before.limits (state_of before.image) (state_of after.image) old new (Err e)
+stop-row rem rows now next before middle after old mid new tally turns fields fault.Write done eleven gave stops why = stop-some rem rows now next before middle after old mid tally turns fields done eleven gave stops
+stop-row rem rows now next before middle after old mid new tally turns fields fault.Memory done eleven gave stops why = stop-some rem rows now next before middle after old mid tally turns fields done eleven gave stops
+stop-row rem rows now next before middle after old mid new tally turns fields (fault.Desk m) done eleven gave stops why = stop-some rem rows now next before middle after old mid tally turns fields done eleven gave stops
+stop-row rem rows now next before middle after old mid new tally turns fields fault.Read done eleven gave stops why = absurd why
+stop-row rem rows now next before middle after old mid new tally turns fields fault.BadHeader done eleven gave stops why = absurd why
+stop-row rem rows now next before middle after old mid new tally turns fields fault.BadCsv done eleven gave stops why = absurd why
+
+-- the commit of a record failed
+pub broke : {R : Type 0} (rem : R → Option (List ℕ)) (rows now next : Reader R) (before middle after : DeskView) (old mid : Option (List ℕ)) (tally : Tally) (turns : ℕ) (fields : List (List ℕ))
+    → HasDone rem rows now before middle old mid tally turns → Gave rem now next (fields ∷ []) → BreaksAtRow middle fields after
+    → BreaksAfter rem rows before.limits (state_of before.image) (state_of after.image) after.content
+broke rem rows now next before middle after old mid tally turns fields done gave (same, kept) =
+    rw same (
+      done.records,
+      fields,
+      done.replies,
+      done.answered.eleven,
+      done.answered.replied,
+      begins rem rows next (done.records ++ fields ∷ []) (gave-more rem rows now next done.records (fields ∷ []) done.gave gave),
+      rw done.desk.limits at kept,
+    )

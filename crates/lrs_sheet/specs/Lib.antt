@@ -1,0 +1,5 @@
+pub mod Records
+pub mod Fields
+pub mod Replies
+pub mod Sheets
+pub mod Rows

@@ -1,0 +1,129 @@
+-- The records of a sheet one at a time: what a reader of records has given, and what one turn over them does.
+use Rattle.std.specs.Prelude.{◌≤◌, ◌≡◌, ◌⊎◌, ℕ, List, [], ◌∷◌, ◌++◌, Option, Some, false, length, Result, Ok, Err, ⊤}
+use Rattle.std.specs.Io.KnownBytes.{Appends}
+use Rattle.csv.specs.Reading.{Reached, Ready, default_config, expected_len, is_flexible, reader_config, reader_state, reader_trim, source_of, strip_bom}
+use Rattle.csv.specs.declared.error.ErrorKind.{ErrorKind}
+use Rattle.csv.specs.declared.error.ErrorKind.TheVariants as kind
+use Rattle.csv.specs.declared.parser.State.TheVariants as st
+use Rattle.csv.specs.declared.reader.Reader.{Reader}
+use Rattle.csv.specs.declared.reader.Trim.TheVariants as trim
+use Rattle.lrs_machine.specs.Image.{state_of}
+use Rattle.lrs_machine.specs.Lines.{Text}
+use Rattle.lrs_machine.specs.State.{State}
+use Rattle.lrs_machine.specs.declared.answer.Limits.{Limits}
+use Rattle.lrs_machine.specs.declared.image.Image.{Image}
+use Rattle.lrs_machine.specs.declared.table.Table.{Table}
+use Rattle.lrs_desk.specs.DeskView.{DeskView}
+use Rattle.lrs_sheet.specs.declared.reply.Reply.{Reply}
+use Rattle.lrs_sheet.specs.declared.reply.Tally.{Tally}
+use Rattle.lrs_sheet.specs.declared.fault.SheetFault.{SheetFault}
+use Rattle.lrs_sheet.specs.declared.fault.SheetFault.TheVariants as fault
+use Rattle.lrs_sheet.specs.Replies.{IsReplied, Replied, answer_count, counted, reply_text, tally_of}
+use Rattle.lrs_sheet.specs.Sheets.{AreAll, AreAnswered, BeginsWith, GoesAlong, HasOldOrNext, HaveEleven, max_records}
+
+-- the reader gives the records of a text as `csv` does by default, with no header handling and no trimming
+pub record IsPlain {R : Type 0} (reader : Reader R) : Type 0 where
+  pub trim : reader_trim reader ≡ trim.None
+  pub ready : Ready reader
+  pub config : reader_config reader ≡ default_config
+  pub rigid : is_flexible reader ≡ false
+
+-- the reader has given these records of the input, and no more
+abbrev pub HasRead : {R : Type 0} → (R → Option Text) → Reader R → Text → List (List Text) → Type 0
+HasRead remaining reader input records =
+    (rest : Text) × (source_of remaining reader ≡ Some rest) × Reached default_config st.StartRecord (strip_bom input) records (reader_state reader) rest
+
+-- the fault for an error of `csv`
+abbrev pub fault_of_kind : ErrorKind → SheetFault
+fault_of_kind (kind.UnequalLengths pos expected len) = fault.BadCsv
+fault_of_kind kind.OutOfMemory = fault.Memory
+fault_of_kind (kind.Io e) = fault.Read
+fault_of_kind (kind.Utf8 pos err) = fault.Read
+fault_of_kind (kind.Serialize text) = fault.Read
+fault_of_kind (kind.Deserialize pos err) = fault.Read
+
+-- whatever the reader has read, it goes on with these records, and they are all
+abbrev pub EndsAfter : {R : Type 0} → (R → Option Text) → Reader R → List (List Text) → Type 0
+EndsAfter remaining reader records = (input : Text) (before : List (List Text)) → HasRead remaining reader input before → AreAll input (before ++ records)
+
+-- the same, and then comes a record of another length than is wanted
+abbrev pub NextDiffers : {R : Type 0} → (R → Option Text) → Reader R → List (List Text) → ℕ → Type 0
+NextDiffers remaining reader records wanted = (input : Text) (before : List (List Text)) → HasRead remaining reader input before
+    → (fields : List Text) × BeginsWith input ((before ++ records) ++ fields ∷ []) × (length fields ≡ wanted → ⊥)
+
+-- from one state of a reader to the other it gave these records
+abbrev pub Gave : {R : Type 0} → (R → Option Text) → Reader R → Reader R → List (List Text) → Type 0
+Gave remaining old new records = (input : Text) (before : List (List Text)) → HasRead remaining old input before → HasRead remaining new input (before ++ records)
+
+-- the reader goes on with these records
+abbrev pub Begins : {R : Type 0} → (R → Option Text) → Reader R → List (List Text) → Type 0
+Begins remaining reader records = (input : Text) (before : List (List Text)) → HasRead remaining reader input before → BeginsWith input (before ++ records)
+
+-- a read of a record failed: for the reader, for memory, or since the next record has another length than is wanted
+abbrev pub IsReadFault : {R : Type 0} → (R → Option Text) → Reader R → SheetFault → Type 0
+IsReadFault remaining reader fault.Read = ⊤
+IsReadFault remaining reader fault.Memory = ⊤
+IsReadFault remaining reader fault.BadCsv = (wanted : ℕ) × (expected_len reader ≡ Some wanted) × NextDiffers remaining reader [] wanted
+IsReadFault remaining reader fault.Write = ⊥
+IsReadFault remaining reader fault.BadHeader = ⊥
+IsReadFault remaining reader (fault.Desk e) = ⊥
+
+-- some of the records that come next are done
+abbrev pub DoesSome : {R : Type 0} → (R → Option Text) → Reader R → Limits → State → State → Type 0
+DoesSome remaining reader limits before after =
+    (records : List (List Text)) × (replies : List Reply) × HaveEleven records × Replied limits before records replies after × Begins remaining reader records
+
+-- what doing the records under a header gives
+abbrev pub DoesRows : {R : Type 0} → (R → Option Text) → Reader R → Limits → State → State → Option Text → Option Text → Result Tally SheetFault → Type 0
+DoesRows remaining reader limits before after old new (Ok tally) =
+    (records : List (List Text)) × (replies : List Reply) × AreAnswered limits before records replies after old new
+    × (tally ≡ tally_of replies) × EndsAfter remaining reader records × (length records ≤ max_records)
+DoesRows remaining reader limits before after old new (Err fault.BadCsv) =
+    (records : List (List Text)) × (replies : List Reply) × AreAnswered limits before records replies after old new
+    × NextDiffers remaining reader records 11
+DoesRows remaining reader limits before after old new (Err fault.BadHeader) = ⊥
+DoesRows remaining reader limits before after old new (Err fault.Read) = DoesSome remaining reader limits before after
+DoesRows remaining reader limits before after old new (Err fault.Write) = DoesSome remaining reader limits before after
+DoesRows remaining reader limits before after old new (Err (fault.Desk e)) = DoesSome remaining reader limits before after
+DoesRows remaining reader limits before after old new (Err fault.Memory) = DoesSome remaining reader limits before after
+
+-- the commit of a record failed: the desk's image stays, and what its keeper has stands for the state before it, or for the one after it
+abbrev pub BreaksAtRow : DeskView → List Text → DeskView → Type 0
+BreaksAtRow old fields new = (new.image ≡ old.image) × HasOldOrNext old.limits (state_of old.image) fields new.content
+
+-- the same after some of the records that come next are done
+abbrev pub BreaksAfter : {R : Type 0} → (R → Option Text) → Reader R → Limits → State → State → Result Image Table → Type 0
+BreaksAfter remaining reader limits before after content =
+    (records : List (List Text)) × (fields : List Text) × (replies : List Reply) × HaveEleven records × Replied limits before records replies after
+    × Begins remaining reader (records ++ fields ∷ []) × HasOldOrNext limits after fields content
+
+-- a fault of a record that was read
+abbrev pub IsRowFault : SheetFault → Type 0
+IsRowFault fault.Write = ⊤
+IsRowFault (fault.Desk e) = ⊤
+IsRowFault fault.Memory = ⊤
+IsRowFault fault.Read = ⊥
+IsRowFault fault.BadHeader = ⊥
+IsRowFault fault.BadCsv = ⊥
+
+-- a record is answered, its line is written and it is counted
+abbrev pub DoesRow : Limits → State → List Text → State → Option Text → Option Text → Tally → Tally → Type 0
+DoesRow limits before fields after old new tally counts =
+    (reply : Reply) × IsReplied limits before fields reply after × Appends old new (reply_text reply ++ 10 ∷ []) × (counts ≡ counted tally reply.answer)
+
+-- a record is not done, or done with no line for it
+abbrev pub StopsAtRow : Limits → State → List Text → State → Type 0
+StopsAtRow limits before fields after = (after ≡ before) ⊎ ((reply : Reply) × IsReplied limits before fields reply after)
+
+-- after some turns of the loop over the records
+pub record HasDone {R : Type 0} (remaining : R → Option Text) (first now : Reader R) (before after : DeskView) (old new : Option Text) (tally : Tally) (turns : ℕ) : Type 0 where
+  pub records : List (List Text)
+  pub replies : List Reply
+  pub plain : IsPlain now
+  pub width : expected_len now ≡ Some 11
+  pub gave : Gave remaining first now records
+  pub answered : AreAnswered before.limits (state_of before.image) records replies (state_of after.image) old new
+  pub desk : GoesAlong before after
+  pub counts : tally ≡ tally_of replies
+  pub few : answer_count tally ≡ turns
+  pub in_turn : length records ≡ turns

@@ -1,0 +1,17 @@
+//! Sheets of commands: bytes in, bytes out. Each record is read, done by a desk and answered by a line
+//! before the next one is read, so that nothing grows with the number of records.
+#![tactic(auto)]
+
+mod fault;
+mod header;
+mod record;
+mod reply;
+mod rows;
+mod run;
+mod shape;
+mod verb;
+
+pub use fault::{ReadFault, SheetFault};
+pub use record::command_of;
+pub use reply::{CauseText, Reply, Tally};
+pub use run::run_edits;

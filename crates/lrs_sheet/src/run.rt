@@ -1,0 +1,178 @@
+//! Edit sheets, from their bytes to the bytes of their replies.
+
+ghost use Rattle.std.specs.Prelude.{◌≡◌, ◌≤◌, ◌<◌, ◌^◌, ◌∷◌, ◌++◌, [], Some, Err, length, IfOk, OnOk, IfErr, OnErr, IfSome};
+ghost use Rattle.std.specs.Io.KnownBytes.{Appends};
+ghost use Rattle.csv.specs.Records.{fields_of};
+ghost use Rattle.csv.specs.Reading.{expected_len};
+ghost use Rattle.lrs_machine.specs.Image.{state_of};
+ghost use Rattle.lrs_machine.specs.Machine.{step};
+ghost use Rattle.lrs_desk.specs.Desk.{HasBroken};
+ghost use Rattle.lrs_sheet.specs.Replies.{IsAnswered, IsReplied, answer_count, reply_text};
+ghost use Rattle.lrs_sheet.specs.Sheets.{RunsEdits, LeavesDesk, HasBrokenOff};
+ghost use Rattle.lrs_sheet.specs.Rows.{IsPlain, DoesRows, IsRowFault, DoesRow, StopsAtRow, BreaksAtRow, BreaksAfter};
+
+use crate::fault::{ReadFault, SheetFault};
+use crate::header::is_edit_header;
+use crate::record::command_of;
+use crate::reply::{Reply, Tally};
+use crate::rows::{next_row, open};
+use crate::shape::text_at;
+use csv::{ByteRecord, Reader};
+use lrs_desk::{Desk, Fault, Keeper, Planned};
+use lrs_machine::{Answer, Cause, Key};
+use std::alloc::Global;
+use std::io::{Read, Write};
+
+/// The most records of a sheet after its header.
+const MAX_RECORDS: u32 = 100_000_000;
+
+/// Does a command at a desk.
+fn act<K: Keeper>(desk: &mut Desk<K>, key: Key, command: &Planned) -> Result<Answer, SheetFault>
+    ensures answer { IfOk result (λ answer. answer ≡ (step desk.old.limits key command.now (state_of desk.old.image)).answer) }
+    ensures state { OnOk result (state_of desk.new.image ≡ (step desk.old.limits key command.now (state_of desk.old.image)).state) }
+    ensures image { OnErr result (desk.new.image ≡ desk.old.image) }
+    ensures desk { LeavesDesk desk.old desk.new result }
+    ensures broken { result ≡ Err (SheetFault.Desk Fault.Keep) → HasBroken key command.now desk.old desk.new }
+    ensures faults { IfErr result IsRowFault }
+{
+    match desk.act(key, command) {
+        Ok(answer) => Ok(answer),
+        Err(fault) => Err(SheetFault::Desk(fault)),
+    }
+}
+
+/// The desk's answer to the command that a record says, or the refusal of its first malformed field.
+fn answer_to<K: Keeper>(
+    alloc: Global,
+    row: &ByteRecord,
+    desk: &mut Desk<K>,
+) -> Result<Answer, SheetFault>
+    requires { length (fields_of row.now) ≤ 11 }
+    ensures answered { IfOk result (λ answer. IsAnswered desk.old.limits (state_of desk.old.image) (fields_of row.now) answer (state_of desk.new.image)) }
+    ensures image { OnErr result (desk.new.image ≡ desk.old.image) }
+    ensures desk { LeavesDesk desk.old desk.new result }
+    ensures broken { result ≡ Err (SheetFault.Desk Fault.Keep) → BreaksAtRow desk.old (fields_of row.now) desk.new }
+    ensures faults { IfErr result IsRowFault }
+{
+    match command_of(alloc, row) {
+        Ok((key, command)) => act(desk, key, &command),
+        Err(ReadFault::Field(field)) => Ok(Answer::Refused(Cause::Malformed(field))),
+        Err(ReadFault::Memory) => Err(SheetFault::Memory),
+    }
+}
+
+fn reply_to<K: Keeper>(
+    alloc: Global,
+    row: &ByteRecord,
+    desk: &mut Desk<K>,
+) -> Result<Reply, SheetFault>
+    requires { length (fields_of row.now) ≤ 11 }
+    ensures replied { IfOk result (λ reply. IsReplied desk.old.limits (state_of desk.old.image) (fields_of row.now) reply (state_of desk.new.image)) }
+    ensures image { OnErr result (desk.new.image ≡ desk.old.image) }
+    ensures desk { LeavesDesk desk.old desk.new result }
+    ensures broken { result ≡ Err (SheetFault.Desk Fault.Keep) → BreaksAtRow desk.old (fields_of row.now) desk.new }
+    ensures faults { IfErr result IsRowFault }
+{
+    match answer_to(alloc, row, desk) {
+        Ok(answer) => Ok(Reply {
+            key: Key::new(text_at(row, 0)),
+            answer,
+        }),
+        Err(fault) => Err(fault),
+    }
+}
+
+fn write_reply<W: Write>(writer: &mut W, reply: Reply) -> Result<(), SheetFault>
+    ensures written { OnOk result (Appends (W.contents writer.old) (W.contents writer.new) (reply_text reply ++ 10 ∷ [])) }
+    ensures faults { IfErr result (λ e. e ≡ SheetFault.Write) }
+{
+    match writeln!(writer, "{reply}") {
+        Ok(()) => Ok(()),
+        Err(_) => Err(SheetFault::Write),
+    }
+}
+
+/// Does what a record says, writes the line of its reply and counts it.
+fn do_row<W: Write, K: Keeper>(
+    alloc: Global,
+    row: &ByteRecord,
+    writer: &mut W,
+    desk: &mut Desk<K>,
+    tally: &mut Tally,
+) -> Result<(), SheetFault>
+    requires width { length (fields_of row.now) ≤ 11 }
+    requires room { answer_count tally.old < 2 ^ 32 }
+    ensures done { OnOk result (DoesRow desk.old.limits (state_of desk.old.image) (fields_of row.now) (state_of desk.new.image) (W.contents writer.old) (W.contents writer.new) tally.old tally.new) }
+    ensures stops { OnErr result (StopsAtRow desk.old.limits (state_of desk.old.image) (fields_of row.now) (state_of desk.new.image)) }
+    ensures desk { LeavesDesk desk.old desk.new result }
+    ensures broken { result ≡ Err (SheetFault.Desk Fault.Keep) → BreaksAtRow desk.old (fields_of row.now) desk.new }
+    ensures faults { IfErr result IsRowFault }
+{
+    let reply = reply_to(alloc, row, desk)?;
+    let answer = reply.answer;
+    write_reply(writer, reply)?;
+    tally.count(answer);
+    Ok(())
+}
+
+/// Does the records under the header.
+fn do_rows<R: Read, W: Write, K: Keeper>(
+    alloc: Global,
+    rows: &mut Reader<R>,
+    row: &mut ByteRecord,
+    writer: &mut W,
+    desk: &mut Desk<K>,
+) -> Result<Tally, SheetFault>
+    requires plain { IsPlain rows.old }
+    requires width { expected_len rows.old ≡ Some 11 }
+    ensures rows { DoesRows R.remaining rows.old desk.old.limits (state_of desk.old.image) (state_of desk.new.image) (W.contents writer.old) (W.contents writer.new) result }
+    ensures desk { LeavesDesk desk.old desk.new result }
+    ensures broken { result ≡ Err (SheetFault.Desk Fault.Keep) → BreaksAfter R.remaining rows.old desk.old.limits (state_of desk.old.image) (state_of desk.new.image) desk.new.content }
+{
+    let mut tally = Tally::default();
+    for _turn in 0..MAX_RECORDS {
+        if !next_row(rows, row)? {
+            return Ok(tally);
+        }
+        do_row(alloc, row, writer, desk, &mut tally)?;
+    }
+    if next_row(rows, row)? {
+        return Err(SheetFault::Read);
+    }
+    Ok(tally)
+}
+
+/// Does the records of an edit sheet in order, and writes the line of each reply before it reads the next
+/// record. The writer is not flushed.
+///
+/// # Errors
+///
+/// `BadHeader` if the first record is not the header of an edit sheet, and nothing is done. `BadCsv` at the
+/// first record that has not eleven fields. `Read` if the reader fails or there are more than 100,000,000
+/// records, `Write` if the writer fails, `Desk` if the desk does not answer. What was done before the fault
+/// stays done.
+pub fn run_edits<R: Read + Drop, W: Write, K: Keeper>(
+    alloc: Global,
+    reader: R,
+    writer: &mut W,
+    desk: &mut Desk<K>,
+) -> Result<Tally, SheetFault>
+    // What is done and written is the reply to the sheet, from the state that the desk's image stands for.
+    ensures runs { IfSome (R.remaining reader) (λ input. RunsEdits desk.old.limits input (state_of desk.old.image) (state_of desk.new.image) (W.contents writer.old) (W.contents writer.new) result) }
+
+    // The keeper goes along, unless a commit failed.
+    ensures desk { LeavesDesk desk.old desk.new result }
+
+    // After a failed commit the keeper has the state of the records that were done, or that of one more.
+    ensures broken { result ≡ Err (SheetFault.Desk Fault.Keep) → IfSome (R.remaining reader) (λ input. HasBrokenOff desk.old.limits input (state_of desk.old.image) (state_of desk.new.image) desk.new.content) }
+{
+    let mut rows = open(alloc, reader);
+    let mut row = ByteRecord::new(alloc);
+    if !next_row(&mut rows, &mut row)? {
+        return Ok(Tally::default());
+    }
+    if !is_edit_header(&row) {
+        return Err(SheetFault::BadHeader);
+    }
+    do_rows(alloc, &mut rows, &mut row, writer, desk)
+}

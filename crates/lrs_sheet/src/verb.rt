@@ -1,0 +1,97 @@
+//! The fields of each verb.
+
+ghost use Rattle.std.specs.Prelude.{◌≡◌, ◌≤◌, IsTrue, length, codes};
+ghost use Rattle.csv.specs.Records.{fields_of};
+ghost use Rattle.lrs_desk.specs.Plan.{is_planned};
+ghost use Rattle.lrs_sheet.specs.Records as spec;
+ghost use Rattle.lrs_sheet.specs.Fields.{NothingFrom, ReadsArguments, ReadsCommand};
+ghost use Rattle.lrs_machine.specs.declared.command.Command.{Command as DeclaredCommand};
+
+use crate::fault::ReadFault;
+use crate::shape::{class_name_at, kind_at, place_of, text_at, whole_at};
+use csv::ByteRecord;
+use lrs_desk::Planned;
+use lrs_element::Link;
+use lrs_events::Class;
+use lrs_machine::{Command, Field};
+use std::alloc::Global;
+
+/// The field at a place after those of the key and the verb.
+fn argument_at(place: usize) -> Field
+    requires low { 2 ≤ place }
+    requires high { place ≤ 10 }
+    ensures { spec.place_of result ≡ place }
+{
+    match place {
+        2 => Field::A,
+        3 => Field::B,
+        4 => Field::C,
+        5 => Field::D,
+        6 => Field::E,
+        7 => Field::F,
+        8 => Field::G,
+        9 => Field::H,
+        _ => Field::I,
+    }
+}
+
+/// The fields that a verb does not use are empty.
+fn nothing_from(row: &ByteRecord, first: Field) -> Result<(), ReadFault>
+    requires eleven { length (fields_of row.now) ≤ 11 }
+    requires argument { 2 ≤ spec.place_of first }
+    ensures { NothingFrom (fields_of row.now) (spec.place_of first) result }
+{
+    for i in place_of(first)..11 {
+        if !text_at(row, i).is_empty() {
+            return Err(ReadFault::Field(argument_at(i)));
+        }
+    }
+    Ok(())
+}
+
+/// A command of a verb that a desk does.
+fn planned(command: Command) -> Planned
+    requires { IsTrue (is_planned command) }
+    ensures { result ≡ command }
+{
+    match Planned::new(command) {
+        Some(planned) => planned,
+        None => unreachable!(),
+    }
+}
+
+fn link_of(row: &ByteRecord) -> Result<Planned, ReadFault>
+    requires { length (fields_of row.now) ≤ 11 }
+    ensures { ReadsArguments (fields_of row.now) (codes "link") result }
+{
+    let number = whole_at(row, Field::A, 1, 999_999)? as u32;
+    let length = whole_at(row, Field::B, 1, 1_000_000_000)? as u32;
+    nothing_from(row, Field::C)?;
+    Ok(planned(Command::Link(Link { number, length })))
+}
+
+fn class_of(row: &ByteRecord) -> Result<Planned, ReadFault>
+    requires { length (fields_of row.now) ≤ 11 }
+    ensures { ReadsArguments (fields_of row.now) (codes "class") result }
+{
+    let name = class_name_at(row, Field::A)?;
+    let kind = kind_at(row, Field::B)?;
+    nothing_from(row, Field::C)?;
+    Ok(planned(Command::Class(Class { name, kind })))
+}
+
+/// The command that the fields after the key say.
+pub(crate) fn command_by_verb(alloc: Global, row: &ByteRecord) -> Result<Planned, ReadFault>
+    requires { length (fields_of row.now) ≤ 11 }
+    ensures { ReadsCommand (fields_of row.now) result }
+{
+    let _alloc = alloc;
+    let verb = text_at(row, 1);
+    if verb == b"link".as_slice() {
+        link_of(row)
+    } else if verb == b"class".as_slice() {
+        class_of(row)
+    } else {
+        Err(ReadFault::Field(Field::Verb))
+    }
+}
