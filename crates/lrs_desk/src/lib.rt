@@ -9,6 +9,7 @@ mod keep;
 mod keeper;
 mod lists;
 mod new_route;
+mod opened;
 mod plain;
 mod plan;
 mod planned;

@@ -3,7 +3,7 @@ use Rattle.std.proofs.lemmas.Fn.{filter_same}
 use Rattle.std.specs.List.{list_any}
 use Rattle.lrs_machine.specs.declared.image.RouteEntry.{RouteEntry}
 use Rattle.lrs_measure.specs.Texts.{same_name}
-use Rattle.lrs_desk.proofs.keep.drop_named.Goals as goal
+use Rattle.lrs_desk.proofs.opened.drop_named.Goals as goal
 
 pub returns-clause-routes : goal.returns-clause-routes
 returns-clause-routes c =
