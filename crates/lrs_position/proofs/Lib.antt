@@ -6,3 +6,4 @@ pub mod Expressing
 pub mod RoundTrips
 pub mod Stated
 pub mod OnLinks
+pub mod Entries

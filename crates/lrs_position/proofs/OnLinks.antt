@@ -1,8 +1,9 @@
-use Rattle.std.proofs.Common.{ℕ, ◌≡◌, ◌+◌, ◌-◌, ◌*◌, ◌/◌, ◌%◌, ◌^◌, ◌<◌, ◌≤◌, min, ◌∙◌, ap, refl, arith, ℤ, pos, negsuc, ◌+ℤ◌, ⊎_elim, Bool, true, false, cond, nat_le, length, Option, Some, None, Result, Ok, Err}
+use Rattle.std.proofs.Common.{ℕ, zero, suc, ◌≡◌, ◌+◌, ◌-◌, ◌*◌, ◌/◌, ◌%◌, ◌^◌, ◌<◌, ◌≤◌, min, ◌∙◌, ap, refl, arith, ℤ, pos, negsuc, ◌+ℤ◌, ◌≤ℤ◌, unsigned_abs, ⊎_elim, Bool, true, false, cond, nat_le, length, Option, Some, None, Result, Ok, Err}
 use Rattle.std.specs.Option.{ok_or, option_and_then}
 use Rattle.std.specs.Result.{IfOk}
 use Rattle.std.proofs.Math.Nat.{div-add-mod', le_trans, le_of_dvd, mul-le-mul_right}
 use Rattle.std.proofs.lemmas.Nat.{mul-le, mod_below}
+use Rattle.std.proofs.lemmas.Int.{ints}
 use Rattle.std.proofs.lemmas.Bool.{ltb-false, cases_lt}
 use Rattle.std.proofs.lemmas.Option.{cond_some}
 use Rattle.lrs_measure.specs.Fraction.{Fraction}
@@ -73,3 +74,13 @@ in_entry len n d dp lp h = ⊎_elim (inside) (at_end) (cases_lt (n / d) len)
         let split : len ≡ (len - 1) + 1 = omega arith in
         let g : len * d ≡ (len - 1) * d + d = ap (λ (k : ℕ). k * d) split ∙ omega arith in
         rw s (omega arith, (let b : len * d ≤ n / d * d = mul-le-mul_right d l in omega (arith, e)), omega arith)
+
+-- a distance is at most a millimetre behind the start of the one that it stands in
+pub cell_inside : (len n d at : ℕ) → at ≡ min (n / d) (len - 1) → 0 < len → n ≤ len * d → n - at * d ≤ d
+cell_inside len n zero at e l h = let z : len * 0 ≡ 0 = omega arith in omega arith
+cell_inside len n (suc d) at e l h = rw e (in_entry len n (suc d) (omega arith) l h).2
+
+-- a number from 0 to a whole is a natural up to it
+pub size_below : (z : ℤ) (m : ℕ) → pos 0 ≤ℤ z → z ≤ℤ pos m → unsigned_abs z ≤ m
+size_below (pos n) m f h = omega (arith, ints)
+size_below (negsuc n) m f h = absurd (omega (arith, ints))

@@ -1,26 +1,60 @@
--- Where a place of a route is on a link: the link, and the distance from its start (ISO 19148: absolute method along a link).
-use Rattle.std.specs.Prelude.{◌≡◌, ℕ, pos, ◌+◌, ◌-◌, ◌*◌, if◌then◌else◌, List, length, Option, Some, Result, Err, IsOkAnd, MatchResult, slice_get, unsigned_abs}
+-- Where a place of a route is on a link, and the reverse: the link, and the distance from its start (ISO 19148: absolute method along a link).
+use Rattle.std.specs.Prelude.{◌≡◌, ℕ, pos, ◌+◌, ◌-◌, ◌*◌, Bool, is_none, is_some, if◌then◌else◌, List, length, Option, Some, None, Result, Err, IsOkAnd, MatchOption, MatchResult, slice_get, unsigned_abs}
+use Rattle.std.specs.List.{find}
+use Rattle.std.specs.Option.{option_or}
 use Rattle.lrs_measure.specs.Fraction.{Fraction, IsLowest, IsQuotient}
 use Rattle.lrs_measure.specs.Texts.{Name}
 use Rattle.lrs_element.specs.declared.link.Ground.{Ground}
+use Rattle.lrs_element.specs.declared.link.Link.{Link}
+use Rattle.lrs_element.specs.Course.{Millimetre, entry_of}
 use Rattle.lrs_position.specs.declared.expression.Expr.{Expr}
 use Rattle.lrs_position.specs.declared.locating.PlaceFault.{PlaceFault}
+use Rattle.lrs_position.specs.declared.locating.PlaceFault.TheVariants.{OffRoute}
+use Rattle.lrs_position.specs.declared.route.Route.{Route}
 use Rattle.lrs_position.specs.Locating.{Alignment, located_or_fault, cell}
-use Rattle.lrs_position.specs.Translating.{IsAnswer}
+use Rattle.lrs_position.specs.Translating.{IsAnswer, chainage_fault}
 
--- The distance from the start of its link, in 1/d mm, of the chainage n/d that stands in entry j of a course: behind the start of the entry's millimetre forwards, before its end backwards.
-abbrev pub along_link : Ground → ℕ → ℕ × ℕ → ℕ
-along_link g j (n, d) = if g.forward then g.mm * d + (n - j * d) else (g.mm + 1) * d - (n - j * d)
+-- The place n/d of one linear element, which stands in its millimetre i, in 1/d mm of another one that has this millimetre as its k-th: behind the start of that where both run one way, before its end where they do not.
+abbrev pub across : Bool → ℕ → ℕ → ℕ × ℕ → ℕ
+across forward i k (n, d) = if forward then k * d + (n - i * d) else (k + 1) * d - (n - i * d)
 
 -- The chainage x of a course is on this link at this distance from its start. At a seam the later entry is meant, at the end the last one.
 pub record LiesOn (course : List Ground) (x : Fraction) (link : ℕ) (distance : Fraction) : Type 0 where
   pub entry : Ground
   pub stands : slice_get course (cell (length course) (unsigned_abs x.num, x.den)) ≡ Some entry
   pub same_link : link ≡ entry.link
-  pub value : IsQuotient distance (pos (along_link entry (cell (length course) (unsigned_abs x.num, x.den)) (unsigned_abs x.num, x.den))) x.den
+  pub value : IsQuotient distance (pos (across entry.forward (cell (length course) (unsigned_abs x.num, x.den)) entry.mm (unsigned_abs x.num, x.den))) x.den
   pub lowest : IsLowest distance
 
 -- The answer is the link and the distance of the chainage that an expression locates, or its fault.
 abbrev pub IsLinkPosition : Alignment → (Name → Option ℕ) → Expr → Result (ℕ × Fraction) PlaceFault → Type 0
 IsLinkPosition a entry_of e answer =
     (place : Result Fraction PlaceFault) × IsAnswer (located_or_fault a entry_of e) place × MatchResult place (λ x. IsOkAnd answer (λ p. LiesOn a.course x p.0 p.1)) (λ fault. answer ≡ Err fault)
+
+-- the millimetre of a link in which a distance from its start stands; at the link's end, the last one
+abbrev pub millimetre_at : Link → Fraction → Millimetre
+millimetre_at link p = (link.number, cell link.length (unsigned_abs p.num, p.den))
+
+-- the route that runs over a millimetre of the ground; where routes share it, the first one
+abbrev pub route_over : List Route → Millimetre → Option Route
+route_over routes m = find (λ r. is_some (entry_of r.course m)) routes
+
+-- The distance p from the start of a link is on the route of this name, at the chainage x.
+pub record LiesOnRoute (routes : List Route) (link : Link) (p : Fraction) (name : Name) (x : Fraction) : Type 0 where
+  pub route : Route
+  pub runs_over : route_over routes (millimetre_at link p) ≡ Some route
+  pub same_name : name ≡ route.name
+  pub at : ℕ
+  pub is_entry : entry_of route.course (millimetre_at link p) ≡ Some at
+  pub entry : Ground
+  pub stands : slice_get route.course at ≡ Some entry
+  pub value : IsQuotient x (pos (across entry.forward (cell link.length (unsigned_abs p.num, p.den)) at (unsigned_abs p.num, p.den))) p.den
+  pub lowest : IsLowest x
+
+-- what is wrong with a distance from the start of a link: it is too fine, not on the link, or on no route
+abbrev pub link_fault : List Route → Link → Fraction → Option PlaceFault
+link_fault routes link p = option_or (chainage_fault link.length p) (if is_none (route_over routes (millimetre_at link p)) then Some OffRoute else None)
+
+-- The answer is the route and the chainage of a distance from the start of a link, or the first fault.
+abbrev pub IsRoutePosition : List Route → Link → Fraction → Result (Name × Fraction) PlaceFault → Type 0
+IsRoutePosition routes link p answer = MatchOption (link_fault routes link p) (IsOkAnd answer (λ a. LiesOnRoute routes link p a.0 a.1)) (λ fault. answer ≡ Err fault)

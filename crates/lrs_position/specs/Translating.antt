@@ -63,7 +63,7 @@ pub record Expresses (a : Alignment) (entry_of : Name → Option ℕ) (x : Fract
   pub lowest : IsLowest (number_of e)
   pub located : LocatesAt a entry_of e x
 
--- what is wrong with a chainage on a route of this length
+-- what is wrong with a chainage on a route of this length, or with a distance along a link of this length
 abbrev pub chainage_fault : ℕ → Fraction → Option PlaceFault
 chainage_fault len x = if nat_lt (10 ^ 16) x.den then Some TooFine else if is_none (within len x.num x.den) then Some OffRoute else None
 

@@ -13,7 +13,7 @@ mod route;
 mod translating;
 
 pub use expression::{EnteredPosition, EventLocation, Expr, Method, Target};
-pub use linking::route_to_link;
+pub use linking::{link_to_route, route_to_link};
 pub use locating::{PlaceFault, cell, locate, snap};
 pub use name::{RefName, RouteName};
 pub use reading::{read_expr, read_method, read_target};

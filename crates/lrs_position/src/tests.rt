@@ -1,3 +1,6 @@
+ghost use Rattle.std.specs.Prelude.{IsTrue};
+ghost use Rattle.lrs_element.specs.Course.{are_in_order};
+
 use super::*;
 use lrs_element::{Course, Link, Mark, Marks, Piece};
 use lrs_measure::{Frac, Rows};
@@ -45,20 +48,27 @@ const MARKS: [Mark; 3] = [
     },
 ];
 
-/// Link 1 forwards and then link 2 backwards, with referent KM2 in millimetre 2.
+/// Link 1 forwards and then link 2 backwards.
 fn example(alloc: Global) -> Option<Route> {
-    let name = RouteName::new(b"R1")?;
+    route_along(alloc, &LINKS, &PIECES, &MARKS)
+}
+
+/// Route A1 over these pieces, with referent KM2 in millimetre 2.
+fn route_along(alloc: Global, links: &[Link], pieces: &[Piece], marks: &[Mark]) -> Option<Route>
+    requires { IsTrue (are_in_order links.now) }
+{
+    let name = RouteName::new(b"A1")?;
     let referent = Referent {
         name: RefName::new(b"KM2")?,
         at: 2,
     };
-    let Ok(list) = Vec::from_slice(alloc, &MARKS) else {
+    let Ok(list) = Vec::from_slice(alloc, marks) else {
         return None;
     };
     let Ok(refs) = Vec::from_slice(alloc, &[referent]) else {
         return None;
     };
-    let Ok(course) = Course::new(alloc, &PIECES, &LINKS) else {
+    let Ok(course) = Course::new(alloc, pieces, links) else {
         return None;
     };
     let length = course.len();
@@ -82,6 +92,12 @@ fn translated(route: &Route, method: &[u8], text: &[u8], target: &[u8]) -> Optio
     translate(route, expression, read_target(target)?).ok()
 }
 
+/// The link position of the expression that a text states by a method.
+fn on_link(route: &Route, method: &[u8], text: &[u8]) -> Option<(u32, Frac)> {
+    let expression = read_expr(read_method(method)?, text)?;
+    route_to_link(route, expression).ok()
+}
+
 /// The fault of the expression that a text states by a method.
 fn fault_of(route: &Route, method: &[u8], text: &[u8]) -> Option<PlaceFault> {
     let expression = read_expr(read_method(method)?, text)?;
@@ -95,12 +111,14 @@ fn positions_are_translated_and_back(rt: HostRuntime) -> Result<(), Fail> {
         assert!(rt; false, "the example is a route");
         return Ok(());
     };
-    let cases: [(&[u8], &[u8], &[u8], &str, &str); 6] = [
+    let cases: [(&[u8], &[u8], &[u8], &str, &str); 8] = [
         (b"int", b"1/3", b"abs", "3200", "1/3"),
         (b"int", b"1/7", b"abs", "9600/7", "1/7"),
         (b"abs", b"3", b"rel:KM2", "KM2+1/2", "3"),
         (b"int", b"0/1", b"rel:KM2", "KM2-2", "0/1"),
         (b"rel", b"KM2-0", b"rel:KM2", "KM2+0", "KM2+0"),
+        (b"rel", b"KM2+498", b"abs", "600", "KM2+498"),
+        (b"rel", b"KM2+1498", b"int", "3/16", "KM2+1498"),
         (b"abs", b"9000", b"int", "1/1", "9000"),
     ];
     for (method, text, target, want, back) in cases {
@@ -111,12 +129,11 @@ fn positions_are_translated_and_back(rt: HostRuntime) -> Result<(), Fail> {
         let shown = format!(in alloc; "{there}")?;
         assert_eq!(rt; shown.as_str(), want);
         let own = match read_method(method) {
-            Some(Method::Abs) => Target::Abs,
-            Some(Method::Int) => Target::Int,
-            _ => return Ok(()),
+            Some(Method::Rel) => b"rel:KM2",
+            _ => method,
         };
-        let again = translate(&route, there, own);
-        if let Ok(again) = again {
+        let again = read_target(own).and_then(|own| translate(&route, there, own).ok());
+        if let Some(again) = again {
             let shown = format!(in alloc; "{again}")?;
             assert_eq!(rt; shown.as_str(), back);
         } else {
@@ -203,5 +220,190 @@ fn texts_are_read_whole(rt: HostRuntime) -> Result<(), Fail> {
     for (method, text) in refused {
         assert!(rt; read_expr(method, text).is_none());
     }
+    Ok(())
+}
+
+#[test]
+fn a_seam_is_on_the_later_piece(rt: HostRuntime) -> Result<(), Fail> {
+    let alloc = rt.alloc();
+    let Some(route) = example(alloc) else {
+        assert!(rt; false, "the example is a route");
+        return Ok(());
+    };
+    let cases: [(&[u8], &[u8], &str); 4] = [
+        (b"int", b"1/3", "1:8000/3"),
+        (b"abs", b"6000", "2:3000"),
+        (b"abs", b"6001", "2:2999"),
+        (b"abs", b"9000", "2:0"),
+    ];
+    for (method, text, want) in cases {
+        if let Some((link, distance)) = on_link(&route, method, text) {
+            let shown = format!(in alloc; "{link}:{distance}")?;
+            assert_eq!(rt; shown.as_str(), want);
+        } else {
+            assert!(rt; false, "a place on a link");
+        }
+    }
+    Ok(())
+}
+
+const LINK_3: Link = Link {
+    number: 3,
+    length: 2_000,
+};
+
+#[test]
+fn a_place_on_a_link_is_found_on_its_route(rt: HostRuntime) -> Result<(), Fail> {
+    let alloc = rt.alloc();
+    let Some(route) = example(alloc) else {
+        assert!(rt; false, "the example is a route");
+        return Ok(());
+    };
+    let routes = [route];
+    let [first, second] = LINKS;
+    let cases: [(Link, i128, u128, &str); 6] = [
+        (first, 8_000, 3, "8000/3"),
+        (first, 5_000, 1, "5000"),
+        (second, 3_000, 1, "5000"),
+        (second, 5_999, 2, "10001/2"),
+        (second, 2_999, 1, "5001"),
+        (second, 0, 1, "8000"),
+    ];
+    for (link, n, d, want) in cases {
+        let found = Frac::new(n, d).and_then(|position| link_to_route(
+            &routes, link, position,
+        ).ok());
+        if let Some((name, chainage)) = found {
+            let shown = format!(in alloc; "{chainage}")?;
+            assert_eq!(rt; shown.as_str(), want);
+            assert!(rt; RouteName::new(b"A1") == Some(name));
+        } else {
+            assert!(rt; false, "a place on the route");
+        }
+    }
+    Ok(())
+}
+
+#[test]
+fn faults_of_places_on_links_come_in_order(rt: HostRuntime) {
+    let Some(route) = example(rt.alloc()) else {
+        assert!(rt; false, "the example is a route");
+        return;
+    };
+    let routes = [route];
+    let [first, _] = LINKS;
+    let fine = 10_000_000_000_000_001;
+    let cases: [(Link, i128, u128, PlaceFault); 5] = [
+        (LINK_3, 0, 1, PlaceFault::OffRoute),
+        (first, 5_001, 1, PlaceFault::OffRoute),
+        (first, -1, 1, PlaceFault::OffRoute),
+        (first, -1, fine, PlaceFault::TooFine),
+        (LINK_3, 1, fine, PlaceFault::TooFine),
+    ];
+    for (link, n, d, fault) in cases {
+        let found = Frac::new(n, d).and_then(|position| link_to_route(
+            &routes, link, position,
+        ).err());
+        assert_eq!(rt; found, Some(fault));
+    }
+}
+
+const LONG_LINKS: [Link; 10] = [
+    Link {
+        number: 11,
+        length: 1_000_000_000,
+    },
+    Link {
+        number: 12,
+        length: 1_000_000_000,
+    },
+    Link {
+        number: 13,
+        length: 1_000_000_000,
+    },
+    Link {
+        number: 14,
+        length: 1_000_000_000,
+    },
+    Link {
+        number: 15,
+        length: 1_000_000_000,
+    },
+    Link {
+        number: 16,
+        length: 1_000_000_000,
+    },
+    Link {
+        number: 17,
+        length: 1_000_000_000,
+    },
+    Link {
+        number: 18,
+        length: 1_000_000_000,
+    },
+    Link {
+        number: 19,
+        length: 1_000_000_000,
+    },
+    Link {
+        number: 20,
+        length: 1_000_000_000,
+    },
+];
+
+#[test]
+fn the_longest_route_has_its_last_millimetre(rt: HostRuntime) -> Result<(), Fail> {
+    let alloc = rt.alloc();
+    let mut pieces = Vec::new(alloc);
+    for link in LONG_LINKS {
+        pieces.push(Piece {
+            link: link.number,
+            a: 0,
+            b: link.length,
+            forward: true,
+        })?;
+    }
+    let marks = [
+        Mark {
+            chainage: 0,
+            measure: 0,
+        },
+        Mark {
+            chainage: 10_000_000_000,
+            measure: 100_000_000_000,
+        },
+    ];
+    let Some(route) = route_along(alloc, &LONG_LINKS, &pieces, &marks) else {
+        assert!(rt; false, "the longest route");
+        return Ok(());
+    };
+    let Some(measure) = read_expr(Method::Abs, b"99999999999") else {
+        assert!(rt; false, "a measure");
+        return Ok(());
+    };
+    let Ok(chainage) = locate(&route, measure) else {
+        assert!(rt; false, "on the route");
+        return Ok(());
+    };
+    let shown = format!(in alloc; "{chainage}")?;
+    assert_eq!(rt; shown.as_str(), "99999999999/10");
+    assert_eq!(rt; cell(chainage, route.length()), 9_999_999_999);
+    assert_eq!(rt; snap(chainage), 10_000_000_000);
+    Ok(())
+}
+
+#[test]
+fn a_copied_route_has_its_referents(rt: HostRuntime) -> Result<(), Fail> {
+    let alloc = rt.alloc();
+    let Some(route) = example(alloc) else {
+        assert!(rt; false, "the example is a route");
+        return Ok(());
+    };
+    let copy = route.copy(alloc)?;
+    assert_eq!(rt; copy.length(), 8_000);
+    assert_eq!(rt;
+        RefName::new(b"KM2").and_then(|name| copy.referent(name)),
+        Some(2)
+    );
     Ok(())
 }

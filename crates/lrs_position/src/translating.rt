@@ -2,6 +2,7 @@
 
 ghost use Rattle.std.specs.Prelude.{◌≡◌, ◌<◌, ◌≤◌, ◌*◌, pos, length, None, Some, IfOk, IfErr, MatchResult};
 ghost use Rattle.lrs_measure.specs.Fraction.{IsLowest};
+ghost use Rattle.lrs_element.specs.Limits.{longest_route};
 ghost use Rattle.lrs_position.specs.declared.expression.Target.TheVariants.{Abs, Rel, Int};
 ghost use Rattle.lrs_position.specs.Translating.{alignment_of, referent_at, chainage_fault, IsExpression, Translates, RoundTrip};
 
@@ -25,21 +26,31 @@ pub fn express(route: &Route, chainage: Frac, target: Target) -> Result<Expr, Pl
     }
 }
 
+/// The numerator of a distance that is on a linear element of this length and not too fine.
+pub(crate) fn checked_along(length: u64, distance: Frac) -> Result<u128, PlaceFault>
+    requires { length ≤ longest_route }
+    ensures ok { IfOk result (λ n. (chainage_fault length distance ≡ None) × (distance.num ≡ pos n) × (n ≤ length * distance.den) × (distance.den ≤ FINEST)) }
+    ensures err { IfErr result (λ fault. chainage_fault length distance ≡ Some fault) }
+    ensures lowest { IsLowest distance }
+{
+    let num = distance.num();
+    let den = distance.den();
+    if den > FINEST {
+        return Err(PlaceFault::TooFine);
+    }
+    if num < 0 || num as u128 > u128::from(length) * den {
+        return Err(PlaceFault::OffRoute);
+    }
+    Ok(num as u128)
+}
+
 /// The numerator of a chainage that is on the route and not too fine.
 fn checked(route: &Route, chainage: Frac) -> Result<u128, PlaceFault>
     ensures ok { IfOk result (λ n. (chainage_fault (length route.now.course) chainage ≡ None) × (chainage.num ≡ pos n) × (n ≤ length route.now.course * chainage.den) × (chainage.den ≤ FINEST)) }
     ensures err { IfErr result (λ fault. chainage_fault (length route.now.course) chainage ≡ Some fault) }
     ensures lowest { IsLowest chainage }
 {
-    let num = chainage.num();
-    let den = chainage.den();
-    if den > FINEST {
-        return Err(PlaceFault::TooFine);
-    }
-    if num < 0 || num as u128 > route.length() as u128 * den {
-        return Err(PlaceFault::OffRoute);
-    }
-    Ok(num as u128)
+    checked_along(route.length(), chainage)
 }
 
 /// The measure at a chainage.

@@ -7,7 +7,7 @@ use Rattle.lrs_element.specs.Course.{is_too_long}
 use Rattle.lrs_element.specs.Marks.{bad_mark}
 use Rattle.lrs_position.specs.declared.route.Referent.{Referent}
 use Rattle.lrs_position.specs.Routes.{is_route, is_route_course, have_marks, are_referents}
-use Rattle.lrs_position.proofs.tests.example.Goals as goal
+use Rattle.lrs_position.proofs.tests.route_along.Goals as goal
 
 not_nothing : (course : List Ground) (n : ℕ) → n < length course → is_nothing course ≡ false
 not_nothing [] n h = absurd (omega arith)
