@@ -16,7 +16,7 @@ use std::marker::Model;
 const MOST_PIECES: usize = 1_000;
 
 /// The length in millimetres that a route may have.
-const LONGEST_ROUTE: u64 = 10_000_000_000;
+pub(crate) const LONGEST_ROUTE: u64 = 10_000_000_000;
 
 /// Why courses are not joined.
 #[derive(Clone, Copy, Debug, PartialEq, Eq)]

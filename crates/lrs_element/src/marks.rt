@@ -88,7 +88,7 @@ fn bad_mark(marks: &[Mark], len: u64) -> Option<usize>
 }
 
 /// The last mark.
-fn last_mark(marks: &[Mark]) -> Mark
+pub(crate) fn last_mark(marks: &[Mark]) -> Mark
     requires { 0 < length marks.now }
     ensures { result ≡ last_mark marks.now }
 {
