@@ -1,14 +1,14 @@
-use Rattle.std.proofs.Common.{ℕ, zero, suc, ◌≡◌, ◌+◌, ◌-◌, ◌*◌, ◌<◌, ◌≤◌, max, sym, ◌∙◌, ap, refl, subst, arith, rules, ℤ, pos, negsuc, ◌≤ℤ◌, ◌*ℤ◌, unsigned_abs, Bool, true, false, not, ◌||◌, ◌&&◌, cond, nat_lt, nat_le, nat_eq, List, [], ◌∷◌, length, get_or, slice_get, Option, Some, None, is_none, IsTrue, inl, inr, ◌⊎◌}
+use Rattle.std.proofs.Common.{ℕ, zero, suc, ◌≡◌, ◌+◌, ◌-◌, ◌*◌, ◌<◌, ◌≤◌, sym, ◌∙◌, ap, refl, subst, arith, ℤ, pos, negsuc, ◌*ℤ◌, unsigned_abs, Bool, true, false, cond, nat_lt, List, [], ◌∷◌, length, get_or, slice_get, Option, Some, None, is_none, IsTrue, inl, inr, ◌⊎◌}
 use Rattle.std.specs.List.{AllAdjacentBelow}
 use Rattle.std.specs.List.Sorted.{IsNonDecreasingBy}
 use Rattle.std.specs.Option.{option_map, IsSomeAnd, IsSome, IfSome}
-use Rattle.std.proofs.Math.Nat.{mul-le-mul, mul-le-mul_right, mul-pos, le_of_mul-le-mul_right, eq_of_mul-eq-mul_right, mul-lt-mul_of_pos_right, le_trans}
+use Rattle.std.proofs.Math.Nat.{mul-le-mul_right, mul-pos, le_of_mul-le-mul_right, le_trans}
 use Rattle.std.proofs.lemmas.Nat.{mul-le}
 use Rattle.std.proofs.lemmas.Int.{ints}
 use Rattle.std.proofs.lemmas.Bool.{or_parts, not-false, and_parts, ltb-true, ltb-false, eqb-true}
 use Rattle.std.proofs.lemmas.Option.{get_or_from_slice_get, slice_get_within}
 use Rattle.lrs_element.specs.declared.marks.Mark.{Mark}
-use Rattle.lrs_element.specs.Limits.{greatest_measure, most_marks}
+use Rattle.lrs_element.specs.Limits.{most_marks}
 use Rattle.lrs_element.specs.Marks.{no_mark, last_of, first_mark, last_mark, is_out_of_order, misses_the_end, first_bad_mark, bad_mark, are_marks, IsBetween, IsOnLine}
 use Rattle.lrs_element.specs.Line.{Rises, IsFirstFrom, AreAt, AreRound, IsOutside, IsReadable, HasMeasure, chainage_of, measure_of}
 use Rattle.lrs_measure.specs.Fraction.{Fraction, IsQuotient}

@@ -1,5 +1,5 @@
 -- The line that the marks of a route draw: which measure a chainage has, and which chainage a measure is at (ISO 19148: absolute linear referencing method).
-use Rattle.std.specs.Prelude.{◌≡◌, ℕ, ◌+◌, ◌*◌, max, ◌<◌, ◌≤◌, ℤ, pos, ◌≤ℤ◌, List, length, slice_get, Some, slice_index_or, ◌⊎◌}
+use Rattle.std.specs.Prelude.{◌≡◌, ℕ, ◌+◌, ◌*◌, max, ◌<◌, ◌≤◌, pos, ◌≤ℤ◌, List, length, slice_get, Some, slice_index_or, ◌⊎◌}
 use Rattle.lrs_measure.specs.Fraction.{Fraction}
 use Rattle.lrs_element.specs.declared.marks.Mark.{Mark}
 use Rattle.lrs_element.specs.Marks.{IsOnLine, first_mark, last_mark}

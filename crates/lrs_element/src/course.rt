@@ -16,7 +16,7 @@ use std::marker::Model;
 const MOST_PIECES: usize = 1_000;
 
 /// The length in millimetres that a route may have.
-const LONGEST_ROUTE: u64 = 10_000_000_000;
+pub(crate) const LONGEST_ROUTE: u64 = 10_000_000_000;
 
 /// Why courses are not joined.
 #[derive(Clone, Copy, Debug, PartialEq, Eq)]
@@ -28,6 +28,11 @@ pub enum JoinFault {
 }
 
 impl fmt::Display for JoinFault {
+    ghost use Rattle.std.specs.Prelude.{Some};
+    ghost use Rattle.lrs_element.specs.Faults.{join_fault_text};
+
+    ghost output = { λ fault. Some (join_fault_text fault) };
+
     fn fmt<W: fmt::Write>(&self, f: &mut fmt::Formatter<W>) -> fmt::Result {
         match self {
             JoinFault::TooLong => write!(f, "too long a course"),
@@ -65,6 +70,11 @@ pub enum CourseFault {
 }
 
 impl fmt::Display for CourseFault {
+    ghost use Rattle.std.specs.Prelude.{Some};
+    ghost use Rattle.lrs_element.specs.Faults.{course_fault_text};
+
+    ghost output = { λ fault. Some (course_fault_text fault) };
+
     fn fmt<W: fmt::Write>(&self, f: &mut fmt::Formatter<W>) -> fmt::Result {
         match self {
             CourseFault::NoLink(i) => write!(f, "piece {i} is of no link"),

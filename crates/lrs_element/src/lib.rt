@@ -15,4 +15,6 @@ pub use link::{Ground, Link, Piece};
 pub use marks::{Mark, MarkFault, Marks};
 
 #[cfg(test)]
+mod refused;
+#[cfg(test)]
 mod tests;

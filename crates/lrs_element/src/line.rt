@@ -1,12 +1,13 @@
 //! The line that the marks of a route draw (ISO 19148, absolute linear referencing method).
 
-ghost use Rattle.std.specs.Prelude.{◌≡◌, ◌+◌, ◌-◌, ◌*◌, ◌<◌, ◌≤◌, ◌≤ℤ◌, ◌↔◌, ◌⊎◌, pos, length, slice_get, Some, IsTrue, IsSome, IfSome, IsSomeAnd, MatchOption};
+ghost use Rattle.std.specs.Prelude.{◌≡◌, ◌+◌, ◌-◌, ◌*◌, ◌<◌, ◌≤◌, ◌≤ℤ◌, ◌↔◌, ◌⊎◌, pos, length, slice_get, Some, None, IsTrue, IsSome, IfSome, IsSomeAnd, MatchOption};
 ghost use Rattle.lrs_measure.specs.Fraction.{IsLowest, IsQuotient};
 ghost use Rattle.lrs_element.specs.Limits.{longest_route, greatest_measure};
 ghost use Rattle.lrs_element.specs.Marks.{are_marks, first_mark, last_mark};
 ghost use Rattle.lrs_element.specs.Line.{IsReadable, HasMeasure, IsFirstFrom, AreAt, AreRound, IsOutside, chainage_of, measure_of};
 
-use crate::marks::{Mark, Marks};
+use crate::course::LONGEST_ROUTE;
+use crate::marks::{Mark, Marks, last_mark};
 use lrs_measure::Frac;
 
 /// The finest denominator at which the line is read.
@@ -123,15 +124,26 @@ fn round_measure(marks: &[Mark], n: u128, d: u128) -> Option<(Mark, Mark)>
 }
 
 impl Marks {
+    /// Whether no route is as long as these marks, so that fractions on their line may not fit.
+    fn are_too_long(&self) -> bool
+        ensures { IsTrue result ↔ (longest_route < (last_mark self.now).chainage) }
+    {
+        last_mark(self.list()).chainage > LONGEST_ROUTE
+    }
+
     /// The measure at a chainage in millimetres, exact.
     ///
-    /// `None` outside the marks, and where the denominator is above 10^16.
+    /// `None` outside the marks, where the denominator is above 10^16, and on marks that end above
+    /// 10,000,000,000 mm, which are of no route.
     pub fn measure_at(&self, chainage: Frac) -> Option<Frac>
-        requires short { (last_mark self.now).chainage ≤ longest_route }
-        ensures some { IsSome result ↔ IsReadable 0 (last_mark self.now).chainage chainage }
+        ensures some { (last_mark self.now).chainage ≤ longest_route → (IsSome result ↔ IsReadable 0 (last_mark self.now).chainage chainage) }
+        ensures none { longest_route < (last_mark self.now).chainage → result ≡ None }
         ensures value { IfSome result (λ measure. HasMeasure self.now chainage measure) }
         ensures lowest { IfSome result (λ measure. IsLowest measure) }
     {
+        if self.are_too_long() {
+            return None;
+        }
         let (n, d) = parts(chainage)?;
         let (p, q) = round_chainage(self.list(), n, d)?;
         straight(
@@ -150,13 +162,17 @@ impl Marks {
 
     /// The chainage in millimetres at a measure, exact.
     ///
-    /// `None` outside the marks, and where the denominator is above 10^16.
+    /// `None` outside the marks, where the denominator is above 10^16, and on marks that end above
+    /// 10,000,000,000 mm, which are of no route.
     pub fn chainage_at(&self, measure: Frac) -> Option<Frac>
-        requires short { (last_mark self.now).chainage ≤ longest_route }
-        ensures some { IsSome result ↔ IsReadable (first_mark self.now).measure (last_mark self.now).measure measure }
+        ensures some { (last_mark self.now).chainage ≤ longest_route → (IsSome result ↔ IsReadable (first_mark self.now).measure (last_mark self.now).measure measure) }
+        ensures none { longest_route < (last_mark self.now).chainage → result ≡ None }
         ensures value { IfSome result (λ chainage. HasMeasure self.now chainage measure) }
         ensures lowest { IfSome result (λ chainage. IsLowest chainage) }
     {
+        if self.are_too_long() {
+            return None;
+        }
         let (n, d) = parts(measure)?;
         let (p, q) = round_measure(self.list(), n, d)?;
         straight(

@@ -28,6 +28,11 @@ pub struct Mark {
 pub struct MarkFault(pub usize);
 
 impl fmt::Display for MarkFault {
+    ghost use Rattle.std.specs.Prelude.{Some};
+    ghost use Rattle.lrs_element.specs.Faults.{mark_fault_text};
+
+    ghost output = { λ fault. Some (mark_fault_text fault) };
+
     fn fmt<W: fmt::Write>(&self, f: &mut fmt::Formatter<W>) -> fmt::Result {
         let MarkFault(i) = self;
         write!(f, "bad mark {i}")
@@ -83,7 +88,7 @@ fn bad_mark(marks: &[Mark], len: u64) -> Option<usize>
 }
 
 /// The last mark.
-fn last_mark(marks: &[Mark]) -> Mark
+pub(crate) fn last_mark(marks: &[Mark]) -> Mark
     requires { 0 < length marks.now }
     ensures { result ≡ last_mark marks.now }
 {

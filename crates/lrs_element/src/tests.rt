@@ -3,7 +3,7 @@ use std::alloc::Global;
 use std::process::Abort;
 
 /// A forward piece.
-fn ahead(link: u32, a: u32, b: u32) -> Piece {
+pub(super) fn ahead(link: u32, a: u32, b: u32) -> Piece {
     Piece {
         link,
         a,
@@ -22,7 +22,7 @@ fn back(link: u32, a: u32, b: u32) -> Piece {
     }
 }
 
-const LINKS: [Link; 2] = [
+pub(super) const LINKS: [Link; 2] = [
     Link {
         number: 3,
         length: 5_000,

@@ -1,9 +1,9 @@
-use Rattle.std.proofs.Common.{◌≡◌, ℕ, ◌+◌, ◌-◌, ◌*◌, ◌<◌, ◌≤◌, ℤ, pos, to_z, arith, rules, Option, Some, None}
+use Rattle.std.proofs.Common.{◌≡◌, ℕ, ◌+◌, ◌-◌, ◌*◌, ◌≤◌, pos, to_z, arith, Option, Some, None}
 use Rattle.std.specs.Int.{w128}
 use Rattle.std.specs.Option.{IsSomeAnd, IsSome, IfSome}
 use Rattle.std.proofs.lemmas.Int.{to_z_pos, ints}
 use Rattle.std.proofs.Math.Nat.{mul-pos}
-use Rattle.lrs_measure.specs.Fraction.{Fraction, IsQuotient, IsInRange}
+use Rattle.lrs_measure.specs.Fraction.{IsInRange}
 use Rattle.lrs_element.proofs.LineLemmas.{value_limit, width_limit}
 use Rattle.lrs_element.proofs.line.straight.Goals as goal
 

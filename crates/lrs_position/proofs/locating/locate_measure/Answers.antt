@@ -9,4 +9,4 @@ returns-in-Some-clause-answer c =
 
 pub returns-in-None-clause-answer : goal.returns-in-None-clause-answer
 returns-in-None-clause-answer c =
-    measure_off (alignment_of c.args.route.now) (referent_at c.args.route.now.refs) c.args.measure (IsSound-from_route c.args.route.now) c.num-num.ensures.lowest (omega arith) (λ h. absurd (cc (c.in-None.ensures.some.1 h)))
+    measure_off (alignment_of c.args.route.now) (referent_at c.args.route.now.refs) c.args.measure (IsSound-from_route c.args.route.now) c.num-num.ensures.lowest (omega arith) (λ h. absurd (cc ((c.in-None.ensures.some (rw (c.length-length.ensures.end, ← c.length-length.ensures.length) c.length-length.ensures.longest)).1 h)))

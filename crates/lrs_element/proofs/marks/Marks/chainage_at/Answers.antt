@@ -11,7 +11,7 @@ round_it c = let P = λ (marks : List Mark). AreRound measure_of marks c.in_ok-n
 
 pub returns-clause-some : goal.returns-clause-some
 returns-clause-some c =
-    let w = within_marks measure_of (λ p q h. h.measure) c.args.self.now c.in_ok-n.n c.in_ok-n.d _ _ c.list.ensures.marks (round_it c) in (
+    let w = within_marks measure_of (λ p q h. h.measure) c.args.self.now c.in_ok-n.n c.in_ok-n.d _ _ c.list.ensures.marks (round_it c) in λ _. (
       λ _. IsReadable-from (first_mark c.args.self.now).measure (last_mark c.args.self.now).measure c.args.measure c.in_ok-n.n c.in_ok-n.d c.in_ok-n.ensures.parts.0 c.in_ok-n.ensures.parts.1 (c.in_ok-n.ensures.some.0 refl).0 w,
       λ _. IsSome-from_and _ _ c.straight.ensures.value,
     )

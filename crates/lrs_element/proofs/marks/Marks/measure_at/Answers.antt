@@ -11,7 +11,7 @@ round_it c = let P = λ (marks : List Mark). AreRound chainage_of marks c.in_ok-
 
 pub returns-clause-some : goal.returns-clause-some
 returns-clause-some c =
-    let w = within_marks chainage_of (λ p q h. h.chainage) c.args.self.now c.in_ok-n.n c.in_ok-n.d _ _ c.list.ensures.marks (round_it c) in (
+    let w = within_marks chainage_of (λ p q h. h.chainage) c.args.self.now c.in_ok-n.n c.in_ok-n.d _ _ c.list.ensures.marks (round_it c) in λ _. (
       λ _. IsReadable-from 0 (last_mark c.args.self.now).chainage c.args.chainage c.in_ok-n.n c.in_ok-n.d c.in_ok-n.ensures.parts.0 c.in_ok-n.ensures.parts.1 (c.in_ok-n.ensures.some.0 refl).0 (let z : 0 * c.in_ok-n.d ≤ c.in_ok-n.n = omega arith in z, w.1),
       λ _. IsSome-from_and _ _ c.straight.ensures.value,
     )
