@@ -1,0 +1,2 @@
+pub mod Occupied
+pub mod Stretches

@@ -1,0 +1,9 @@
+//! Which ground is run over, found by search.
+#![tactic(auto)]
+
+mod occupied;
+
+pub use occupied::OccupiedGround;
+
+#[cfg(test)]
+mod tests;
