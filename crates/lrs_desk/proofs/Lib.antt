@@ -1,4 +1,6 @@
 pub mod Inserts
+pub mod Places
+pub mod Dropped
 pub mod Tables
 pub mod Filed
 pub mod Keyed

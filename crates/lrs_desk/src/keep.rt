@@ -1,9 +1,7 @@
 //! A change of an image, here and in what is kept.
 
-ghost use Rattle.std.specs.Prelude.{◌≡◌, ◌≤◌, ◌+◌, ◌++◌, ◌<◌, ◌⊎◌, OnOk, OnErr, IfOk, Ok, Err, true, vec_len, vec_capacity};
-ghost use Rattle.std.specs.List.{list_any};
-ghost use Rattle.lrs_measure.specs.Texts.{same_name};
-ghost use Rattle.lrs_desk.specs.Change.{without, apply};
+ghost use Rattle.std.specs.Prelude.{◌≡◌, OnOk, OnErr, Ok, Err, true};
+ghost use Rattle.lrs_desk.specs.Change.{apply};
 ghost use Rattle.lrs_machine.specs.Sound.{IsSound};
 ghost use Rattle.lrs_desk.specs.Keeping.{HasRisen, IsOldOrNew};
 ghost use Rattle.lrs_machine.specs.declared.table.Table.{Table};
@@ -13,8 +11,8 @@ use crate::keeper::{KeepFault, Keeper};
 use crate::lists::{
     append_in_room, insert_all_ordered, insert_some_ordered, make_room, push_in_room,
 };
-use lrs_machine::{Image, RouteEntry};
-use lrs_position::RouteName;
+use crate::routes::drop_named;
+use lrs_machine::Image;
 use std::alloc::AllocError;
 
 impl From<AllocError> for KeepFault {
@@ -27,32 +25,13 @@ impl From<AllocError> for KeepFault {
     }
 }
 
-fn drop_named(routes: &mut Vec<RouteEntry>, names: &[RouteName])
-    ensures routes { routes.new.items ≡ without names.now routes.old.items }
-    ensures len { vec_len routes.new ≤ vec_len routes.old }
-    ensures capacity { vec_capacity routes.new ≡ vec_capacity routes.old }
-{
-    routes.retain(|entry| !is_named(entry, names));
-}
-
-fn is_named(entry: &RouteEntry, names: &[RouteName]) -> bool
-    ensures { result ≡ list_any (same_name entry.now.route.name) names.now }
-{
-    let name = &entry.route.name;
-    for other in names {
-        if name.bytes() == other.bytes() {
-            return true;
-        }
-    }
-    false
-}
-
 /// Makes a change of an image, in what is kept and here. Room for it is made first, so that nothing
 /// fails after the commit.
 pub fn keep<K: Keeper>(image: &mut Image, keeper: &mut K, change: Change) -> Result<(), KeepFault>
     requires loaded { K.is_loaded keeper.old ≡ true }
     requires kept { K.content keeper.old ≡ Ok image.old }
-    requires sound { IsSound (apply change image.old) }
+    requires sound { IsSound image.old }
+    requires next_sound { IsSound (apply change image.old) }
     ensures ok { OnOk result (image.new ≡ apply change image.old) }
     ensures ok_kept { OnOk result (K.content keeper.new ≡ Ok (apply change image.old)) }
     ensures err { OnErr result (image.new ≡ image.old) }

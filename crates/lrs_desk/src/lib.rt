@@ -11,6 +11,7 @@ mod lists;
 mod plain;
 mod plan;
 mod planned;
+mod routes;
 
 pub use change::{Change, Parts};
 pub use desk::{Desk, Fault, OpenFault, run};

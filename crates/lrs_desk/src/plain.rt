@@ -116,6 +116,7 @@ fn copy_of_image(image: &Image, alloc: Global) -> Result<Image, AllocError>
 fn change_image(image: &mut Image, edit: Edit, parts: &Parts) -> Result<(), AllocError>
     requires no_routes { image.old.routes ≡ [] }
     requires unwritten { parts.now.written ≡ [] }
+    requires sound { IsSound (apply (record { edit = edit; parts = parts.now }) image.old) }
     ensures ok { OnOk result (image.new ≡ apply (record { edit = edit; parts = parts.now }) image.old) }
     ensures err { OnErr result (image.new ≡ image.old) }
     ensures no_routes { image.new.routes ≡ [] }
