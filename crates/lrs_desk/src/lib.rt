@@ -8,6 +8,7 @@ mod index;
 mod keep;
 mod keeper;
 mod lists;
+mod opened;
 mod plain;
 mod plan;
 mod planned;
