@@ -28,7 +28,8 @@ impl From<AllocError> for KeepFault {
 pub fn keep<K: Keeper>(image: &mut Image, keeper: &mut K, change: Change) -> Result<(), KeepFault>
     requires loaded { K.is_loaded keeper.old ≡ true }
     requires kept { K.content keeper.old ≡ Ok image.old }
-    requires sound { IsSound (apply change image.old) }
+    requires sound { IsSound image.old }
+    requires next_sound { IsSound (apply change image.old) }
     ensures ok { OnOk result (image.new ≡ apply change image.old) }
     ensures ok_kept { OnOk result (K.content keeper.new ≡ Ok (apply change image.old)) }
     ensures err { OnErr result (image.new ≡ image.old) }
@@ -48,7 +49,8 @@ pub fn keep<K: Keeper>(image: &mut Image, keeper: &mut K, change: Change) -> Res
 fn commit<K: Keeper>(lists: &mut OpenImage, keeper: &mut K, change: Change) -> Result<(), KeepFault>
     requires loaded { K.is_loaded keeper.old ≡ true }
     requires kept { K.content keeper.old ≡ Ok (image_of lists.old) }
-    requires sound { IsSound (apply change (image_of lists.old)) }
+    requires sound { IsSound (image_of lists.old) }
+    requires next_sound { IsSound (apply change (image_of lists.old)) }
     ensures ok { OnOk result (image_of lists.new ≡ apply change (image_of lists.old)) }
     ensures ok_kept { OnOk result (K.content keeper.new ≡ Ok (apply change (image_of lists.old))) }
     ensures err { OnErr result (image_of lists.new ≡ image_of lists.old) }

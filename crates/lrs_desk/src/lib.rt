@@ -14,6 +14,7 @@ mod plain;
 mod plan;
 mod planned;
 mod taken;
+mod routes;
 
 pub use change::{Change, Parts};
 pub use desk::{Desk, Fault, OpenFault, run};

@@ -1,20 +1,19 @@
 //! An image that is open for a change.
 
-ghost use Rattle.std.specs.Prelude.{◌≡◌, ◌≤◌, OnOk, OnErr, vec_len, vec_capacity};
-ghost use Rattle.std.specs.List.{list_any};
-ghost use Rattle.lrs_measure.specs.Texts.{same_name};
-ghost use Rattle.lrs_desk.specs.Change.{without, apply};
+ghost use Rattle.std.specs.Prelude.{◌≡◌, OnOk, OnErr};
+ghost use Rattle.lrs_machine.specs.Sound.{IsSound};
+ghost use Rattle.lrs_desk.specs.Change.{apply};
 ghost use Rattle.lrs_desk.specs.Opened.{image_of, HasRoomFor};
 
 use crate::change::{Change, Parts};
 use crate::lists::{
     append_in_room, insert_all_ordered, insert_some_ordered, make_room, push_in_room,
 };
+use crate::routes::drop_named;
 use lrs_element::Link;
 use lrs_events::{Asset, Class, Gone, Part};
 use lrs_machine::{Edit, Image, RouteEntry};
 use lrs_measure::Rows;
-use lrs_position::RouteName;
 use std::alloc::AllocError;
 use std::mem;
 
@@ -85,6 +84,8 @@ impl OpenImage {
     /// Makes a change that there is room for. It takes no memory.
     pub fn change(&mut self, change: Change)
         requires room { HasRoomFor change.parts self.old }
+        requires sound { IsSound (image_of self.old) }
+        requires next_sound { IsSound (apply change (image_of self.old)) }
         ensures { image_of self.new ≡ apply change (image_of self.old) }
     {
         let Change { edit, parts } = change;
@@ -99,32 +100,14 @@ impl OpenImage {
     }
 }
 
-fn drop_named(routes: &mut Vec<RouteEntry>, names: &[RouteName])
-    ensures routes { routes.new.items ≡ without names.now routes.old.items }
-    ensures len { vec_len routes.new ≤ vec_len routes.old }
-    ensures capacity { vec_capacity routes.new ≡ vec_capacity routes.old }
-{
-    routes.retain(|entry| !is_named(entry, names));
-}
-
-fn is_named(entry: &RouteEntry, names: &[RouteName]) -> bool
-    ensures { result ≡ list_any (same_name entry.now.route.name) names.now }
-{
-    let name = &entry.route.name;
-    for other in names {
-        if name.bytes() == other.bytes() {
-            return true;
-        }
-    }
-    false
-}
-
 /// Makes a change of an image, for which room is made first.
 ///
 /// # Errors
 ///
 /// When memory runs out; the image is then as it was.
 pub fn change_image(image: &mut Image, change: Change) -> Result<(), AllocError>
+    requires sound { IsSound image.old }
+    requires next_sound { IsSound (apply change image.old) }
     ensures ok { OnOk result (image.new ≡ apply change image.old) }
     ensures err { OnErr result (image.new ≡ image.old) }
 {
