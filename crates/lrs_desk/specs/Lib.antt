@@ -3,6 +3,7 @@ pub mod Change
 pub mod Keeping
 pub mod Index
 pub mod Plan
+pub mod NewRoute
 pub mod Decide
 pub mod DeskView
 pub mod Desk

@@ -1,11 +1,15 @@
 //! What an accepted command changes.
 
+ghost use Rattle.std.specs.Prelude.{◌≡◌};
+ghost use Rattle.lrs_desk.specs.Change as change;
+
 use crate::lists::Ordered;
 use lrs_element::Link;
 use lrs_events::{Asset, Class, Gone, Part};
 use lrs_machine::{Edit, RouteEntry};
 use lrs_measure::Rows;
 use lrs_position::RouteName;
+use std::alloc::Global;
 
 /// The rows that go from an image and those that come to it: the routes of these names go before the
 /// written ones come.
@@ -18,6 +22,21 @@ pub struct Parts {
     pub written: Rows<RouteEntry>,
     pub entered: Rows<Part>,
     pub gone: Rows<Gone>,
+}
+
+/// Parts that change nothing.
+pub fn no_parts(alloc: Global) -> Parts
+    ensures { result ≡ change.no_parts }
+{
+    Parts {
+        link: None,
+        class: None,
+        asset: None,
+        dropped: Rows::new(alloc),
+        written: Rows::new(alloc),
+        entered: Rows::new(alloc),
+        gone: Rows::new(alloc),
+    }
 }
 
 /// An accepted command, and what it changes.

@@ -8,9 +8,11 @@ mod index;
 mod keep;
 mod keeper;
 mod lists;
+mod new_route;
 mod plain;
 mod plan;
 mod planned;
+mod taken;
 
 pub use change::{Change, Parts};
 pub use desk::{Desk, Fault, OpenFault, run};
