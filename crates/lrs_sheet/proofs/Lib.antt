@@ -5,3 +5,5 @@ pub mod Done
 pub mod Whole
 pub mod KeyBytes
 pub mod Breaking
+pub mod OneCommand
+pub mod Determined

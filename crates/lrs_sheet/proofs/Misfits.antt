@@ -17,7 +17,7 @@ text_at-past (f ∷ fs) zero h = absurd (omega arith)
 text_at-past (f ∷ fs) (suc i) h = text_at-past fs i (omega arith)
 
 -- a field at an equal place
-fits-along : (fields : List (List ℕ)) (shape : Option Shape) (a b : ℕ) → a ≡ b → Fits shape (text_at fields a) → Fits shape (text_at fields b)
+pub fits-along : (fields : List (List ℕ)) (shape : Option Shape) (a b : ℕ) → a ≡ b → Fits shape (text_at fields a) → Fits shape (text_at fields b)
 fits-along fields shape a b e h = subst (λ (p : ℕ). Fits shape (text_at fields p)) e h
 
 -- the first misfit, by its place among the shapes

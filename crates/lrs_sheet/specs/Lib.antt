@@ -3,3 +3,4 @@ pub mod Fields
 pub mod Replies
 pub mod Sheets
 pub mod Rows
+pub mod Laws
