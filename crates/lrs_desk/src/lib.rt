@@ -13,8 +13,8 @@ mod opened;
 mod plain;
 mod plan;
 mod planned;
-mod taken;
 mod routes;
+mod taken;
 
 pub use change::{Change, Parts};
 pub use desk::{Desk, Fault, OpenFault, run};
