@@ -1,6 +1,7 @@
 pub mod Inserts
 pub mod Places
 pub mod Dropped
+pub mod Inserted
 pub mod Tables
 pub mod Filed
 pub mod Keyed
@@ -8,3 +9,5 @@ pub mod Deciding
 pub mod Leaving
 pub mod NewLink
 pub mod NewClass
+pub mod NewCourse
+pub mod NewRoute

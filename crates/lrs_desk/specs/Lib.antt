@@ -4,6 +4,7 @@ pub mod Opened
 pub mod Keeping
 pub mod Index
 pub mod Plan
+pub mod NewRoute
 pub mod Decide
 pub mod DeskView
 pub mod Desk

@@ -1,6 +1,7 @@
 //! What an accepted command changes.
 
 ghost use Rattle.std.specs.Prelude.{◌≡◌, IfOk};
+ghost use Rattle.lrs_desk.specs.Change as change;
 
 use crate::lists::Ordered;
 use lrs_element::Link;
@@ -21,6 +22,21 @@ pub struct Parts {
     pub written: Rows<RouteEntry>,
     pub entered: Rows<Part>,
     pub gone: Rows<Gone>,
+}
+
+/// Parts that change nothing.
+pub fn no_parts(alloc: Global) -> Parts
+    ensures { result ≡ change.no_parts }
+{
+    Parts {
+        link: None,
+        class: None,
+        asset: None,
+        dropped: Rows::new(alloc),
+        written: Rows::new(alloc),
+        entered: Rows::new(alloc),
+        gone: Rows::new(alloc),
+    }
 }
 
 impl Parts {

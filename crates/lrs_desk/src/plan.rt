@@ -4,16 +4,15 @@ ghost use Rattle.std.specs.Prelude.{◌≡◌, ◌+◌, [], length, IfOk, nat_eq
 ghost use Rattle.std.specs.List.{list_any};
 ghost use Rattle.lrs_measure.specs.Texts.{same_name};
 ghost use Rattle.lrs_machine.specs.declared.command.Command.TheVariants as verb;
-ghost use Rattle.lrs_desk.specs.Change as change;
 ghost use Rattle.lrs_desk.specs.Plan.{Plans};
 ghost use Rattle.lrs_machine.specs.Sound.{are_links, are_classes, IsSound};
 
-use crate::change::Parts;
+use crate::change::{Parts, no_parts};
+use crate::new_route::plan_route;
 use crate::planned::Planned;
 use lrs_element::Link;
 use lrs_events::{Class, ClassName};
 use lrs_machine::{Cause, Command, Image};
-use lrs_measure::Rows;
 use std::alloc::{AllocError, Global};
 
 /// What a command would change, or the first check of its verb that fails.
@@ -28,22 +27,12 @@ pub fn plan(
     match command.command() {
         Command::Link(link) => Ok(plan_link(alloc, image, *link)),
         Command::Class(class) => Ok(plan_class(alloc, image, *class)),
+        Command::Route {
+            name,
+            pieces,
+            marks,
+        } => plan_route(alloc, image, *name, pieces, marks),
         _ => unreachable!(),
-    }
-}
-
-// Parts that change nothing.
-fn no_parts(alloc: Global) -> Parts
-    ensures { result ≡ change.no_parts }
-{
-    Parts {
-        link: None,
-        class: None,
-        asset: None,
-        dropped: Rows::new(alloc),
-        written: Rows::new(alloc),
-        entered: Rows::new(alloc),
-        gone: Rows::new(alloc),
     }
 }
 
