@@ -1,10 +1,57 @@
 //! Numbers and lists as commands state them, in the limits of their texts.
 
 ghost use Rattle.std.specs.Prelude.{◌≡◌, IsTrue};
+ghost use Rattle.std.specs.List.{list_all};
 ghost use Rattle.std.specs.Option.{SomeIff};
+ghost use Rattle.lrs_element.specs.Limits;
+ghost use Rattle.lrs_machine.specs.Entered;
 
 use lrs_element::{Mark, Piece};
 use std::marker::Model;
+
+fn is_link_number(number: u32) -> bool
+    ensures { result ≡ Limits.is_link_number number }
+{
+    1 <= number && number <= 999_999
+}
+
+fn is_entered_piece(piece: &Piece) -> bool
+    ensures { result ≡ Entered.is_entered_piece piece.now }
+{
+    is_link_number(piece.link) && piece.a <= 1_000_000_000 && piece.b <= 1_000_000_000
+}
+
+fn each_is_entered(pieces: &[Piece]) -> bool
+    ensures { result ≡ list_all Entered.is_entered_piece pieces.now }
+{
+    pieces.iter().all(|piece| is_entered_piece(piece))
+}
+
+fn are_entered_pieces(pieces: &[Piece]) -> bool
+    ensures { result ≡ Entered.are_entered_pieces pieces.now }
+{
+    let count = pieces.len();
+    1 <= count && count <= 1_000 && each_is_entered(pieces)
+}
+
+fn is_entered_mark(mark: &Mark) -> bool
+    ensures { result ≡ Entered.is_entered_mark mark.now }
+{
+    mark.chainage <= 10_000_000_000 && mark.measure <= 100_000_000_000
+}
+
+fn each_is_entered_mark(marks: &[Mark]) -> bool
+    ensures { result ≡ list_all Entered.is_entered_mark marks.now }
+{
+    marks.iter().all(|mark| is_entered_mark(mark))
+}
+
+fn are_entered_marks(marks: &[Mark]) -> bool
+    ensures { result ≡ Entered.are_entered_marks marks.now }
+{
+    let count = marks.len();
+    2 <= count && count <= 1_000 && each_is_entered_mark(marks)
+}
 
 /// The number of an asset: 1 to 1,000,000,000,000.
 #[derive(Clone, Copy, Debug, PartialEq, Eq)]
@@ -169,6 +216,16 @@ impl Model for MarkList {
 impl PieceList {
     ghost use Rattle.lrs_machine.specs.Entered.{are_entered_pieces};
 
+    /// These pieces, if there are 1 to 1,000 of them, each in the limits of its text.
+    pub fn new(pieces: Vec<Piece>) -> Option<PieceList>
+        ensures { SomeIff result (IsTrue (are_entered_pieces pieces.items)) pieces.items }
+    {
+        if !are_entered_pieces(pieces.as_slice()) {
+            return None;
+        }
+        Some(PieceList { pieces })
+    }
+
     /// The pieces in their order.
     pub fn as_slice(&self) -> &[Piece]
         ensures pieces { result.now ≡ self.now }
@@ -180,6 +237,16 @@ impl PieceList {
 
 impl MarkList {
     ghost use Rattle.lrs_machine.specs.Entered.{are_entered_marks};
+
+    /// These marks, if there are 2 to 1,000 of them, each in the limits of its text.
+    pub fn new(marks: Vec<Mark>) -> Option<MarkList>
+        ensures { SomeIff result (IsTrue (are_entered_marks marks.items)) marks.items }
+    {
+        if !are_entered_marks(marks.as_slice()) {
+            return None;
+        }
+        Some(MarkList { marks })
+    }
 
     /// The marks in their order.
     pub fn as_slice(&self) -> &[Mark]
