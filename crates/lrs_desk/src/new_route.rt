@@ -7,8 +7,8 @@ ghost use Rattle.lrs_measure.specs.Texts.{same_name};
 ghost use Rattle.lrs_machine.specs.declared.command.Command.TheVariants as verb;
 ghost use Rattle.lrs_machine.specs.Image.{state_of};
 ghost use Rattle.lrs_machine.specs.Sound.{IsSound};
-ghost use Rattle.lrs_desk.specs.NewRoute as specs;
 ghost use Rattle.lrs_desk.specs.Change.{route_before};
+ghost use Rattle.lrs_desk.specs.NewRoute as specs;
 ghost use Rattle.lrs_desk.specs.Plan.{Plans};
 
 use crate::change::{Parts, no_parts};
@@ -46,6 +46,7 @@ pub fn plan_route(
     Ok(Ok(route_parts(alloc, entry)?))
 }
 
+// Whether a route of this name is there, by binary search.
 fn knows_route(routes: &[RouteEntry], name: &RouteName) -> bool
     requires order { each_two route_before routes.now ≡ true }
     ensures { result ≡ list_any (λ e. same_name e.route.name name.now) routes.now }
