@@ -1,6 +1,6 @@
 -- What is left of rows in the order of their keys when the row of a key goes.
-use Rattle.std.proofs.Common.{◌≡◌, ℕ, ◌+◌, ◌<◌, zero, suc, Bool, true, false, cond, List, [], ◌∷◌, length, get_or, drop, filter, remove, refl, sym, ap, ◌∙◌, arith, Ordering, Result, Ok, Err, Some, None}
-use Rattle.std.specs.Prelude.{◌≤◌, ◌||◌, not, nat_lt}
+use Rattle.std.proofs.Common.{◌≡◌, ℕ, ◌+◌, ◌<◌, zero, suc, Bool, true, false, cond, List, [], ◌∷◌, length, get_or, drop, filter, remove, refl, sym, ap, ◌∙◌, arith, Ordering, Result, Ok, Err, Some, None, ◌⊎◌, inl, inr}
+use Rattle.std.specs.Prelude.{◌≤◌, ◌||◌, not, nat_lt, is_some}
 use Rattle.std.specs.Result.{result_ok}
 use Rattle.std.specs.List.{list_any, list_all, position, position_or_len}
 use Rattle.std.specs.List.Sorted.{IsBinarySearchResult, IsSearchInRange}
@@ -8,7 +8,7 @@ use Rattle.std.specs.declared.cmp.Ordering.TheVariants.{Less, Equal, Greater}
 use Rattle.std.specs.Ordering.{is_lt, is_eq, ordering_reverse}
 use Rattle.std.specs.Cmp.{IsTotalOrder, Equal-is}
 use Rattle.std.specs.Cmp.Lexicographic.{nat_list_cmp_total, texts_ties}
-use Rattle.std.proofs.lemmas.Bool.{false≢true, and_parts, and_from, or_parts, lt-ltb, le-ltb}
+use Rattle.std.proofs.lemmas.Bool.{false≢true, and_parts, and_from, or_parts, lt-ltb, le-ltb, cases_lt}
 use Rattle.std.proofs.lemmas.List.Sums.{position_or_len_is}
 use Rattle.std.proofs.lemmas.List.Quantifiers.{position-Some}
 use Rattle.std.proofs.lemmas.List.{drop_more}
@@ -163,3 +163,26 @@ without-step names routes next whole i n h is e rest =
 
 pub without-end : (names : List Name) (routes whole : List RouteEntry) (i : ℕ) → length names ≤ i → without (drop i names) routes ≡ whole → routes ≡ whole
 without-end names routes whole i h rest = sym (without-none routes) ∙ ap (λ l. without l routes) (sym (drop_of_length-le names h)) ∙ rest
+
+both_next : (a b : ℕ) → nat_lt (1 + a) (suc b) ≡ nat_lt a b
+both_next a b = by (cases_lt a b)
+  where
+    by : (a < b) ⊎ (b ≤ a) → nat_lt (1 + a) (suc b) ≡ nat_lt a b
+    by (inl h) = lt-ltb (1 + a) (suc b) (omega (arith, h)) ∙ sym (lt-ltb a b h)
+    by (inr h) = le-ltb (1 + a) (suc b) (omega (arith, h)) ∙ sym (le-ltb a b h)
+
+some_before_end : {X : Type 0} (p : X → Bool) (xs : List X) → nat_lt (position_or_len p xs) (length xs) ≡ list_any p xs
+some_before_end p [] = refl
+some_before_end p (y ∷ ys) =
+    elim (p y) as (λ b. nat_lt (cond (not b) (1 + position_or_len p ys) 0) (length (y ∷ ys)) ≡ (b || list_any p ys)) [
+      | true ↦ lt-ltb 0 (suc (length ys)) (omega arith)
+      | false ↦ both_next (position_or_len p ys) (length ys) ∙ some_before_end p ys
+    ]
+
+-- There is a place where some element passes.
+pub has_place : {X : Type 0} (p : X → Bool) (xs : List X) → is_some (position p xs) ≡ list_any p xs
+has_place p xs = is_some-cond (nat_lt (position_or_len p xs) (length xs)) ∙ some_before_end p xs
+  where
+    is_some-cond : (b : Bool) → is_some (cond b (Some (position_or_len p xs)) None) ≡ b
+    is_some-cond true = refl
+    is_some-cond false = refl

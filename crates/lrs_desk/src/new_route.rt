@@ -1,6 +1,6 @@
 //! A new route.
 
-ghost use Rattle.std.specs.Prelude.{◌≡◌, true, IfOk};
+ghost use Rattle.std.specs.Prelude.{◌≡◌, IfOk, true};
 ghost use Rattle.std.specs.List.{list_any};
 ghost use Rattle.lrs_measure.specs.Lists.{each_two};
 ghost use Rattle.lrs_measure.specs.Texts.{same_name};
@@ -12,6 +12,7 @@ ghost use Rattle.lrs_desk.specs.NewRoute as specs;
 ghost use Rattle.lrs_desk.specs.Plan.{Plans};
 
 use crate::change::{Parts, no_parts};
+use crate::routes::place_of;
 use crate::taken::first_taken;
 use lrs_element::{Course, CourseFault, Mark, MarkFault, Marks, Piece};
 use lrs_events::Spans;
@@ -50,9 +51,7 @@ fn knows_route(routes: &[RouteEntry], name: &RouteName) -> bool
     requires order { each_two route_before routes.now ≡ true }
     ensures { result ≡ list_any (λ e. same_name e.route.name name.now) routes.now }
 {
-    routes
-        .binary_search_by(|entry| entry.route.name.bytes().cmp(name.bytes()))
-        .is_ok()
+    place_of(routes, name).is_some()
 }
 
 // The course of these pieces, or the first check of the ground that fails.
