@@ -5,3 +5,4 @@ pub mod Gaining
 pub mod Pieces
 pub mod Losing
 pub mod Gathering
+pub mod Once

@@ -69,7 +69,7 @@ begins_here p = begins_is (p.link, p.a) p ∙ ties (p.link, p.a) (p.link, p.a) r
 
 -- ---- no millimetre twice
 
-abbrev differ : Ground → Ground → Bool
+abbrev pub differ : Ground → Ground → Bool
 differ g h = not (is_at (g.link, g.mm) h)
 
 -- two entries at one millimetre
@@ -83,13 +83,13 @@ same_place m g h a b d =
     let k' : h.mm ≡ m.1 = eqb-true _ _ v.1 in
     both_ways _ (not-true _ d) (and_from (nat_eq h.link g.link) (nat_eq h.mm g.mm) (eq-eqb _ _ (l' ∙ sym l)) (eq-eqb _ _ (k' ∙ sym k)))
 
-among : (m : Millimetre) (g : Ground) (ys : List Ground) → is_at m g ≡ true → list_all (differ g) ys ≡ true → runs_over ys m ≡ true → ⊥
+pub among : (m : Millimetre) (g : Ground) (ys : List Ground) → is_at m g ≡ true → list_all (differ g) ys ≡ true → runs_over ys m ≡ true → ⊥
 among m g ys a d r =
     let y = Any-from_list_any (is_at m) ys r in
     same_place m g y.1 a y.4 (ap (differ g) (sym y.3) ∙ AllPass-from_list_all (differ g) ys d y.0 y.1 y.2)
 
 -- not in the front and again behind it
-across : (m : Millimetre) (xs ys : List Ground) → is_run_once (xs ++ ys) ≡ true → runs_over xs m ≡ true → runs_over ys m ≡ true → ⊥
+pub across : (m : Millimetre) (xs ys : List Ground) → is_run_once (xs ++ ys) ≡ true → runs_over xs m ≡ true → runs_over ys m ≡ true → ⊥
 across m [] ys o r s = absurd (cc r)
 across m (x ∷ xs) ys o r s =
     let u = and_parts (list_all (differ x) (xs ++ ys)) (is_run_once (xs ++ ys)) o in
@@ -98,7 +98,7 @@ across m (x ∷ xs) ys o r s =
     (λ (t : runs_over xs m ≡ true). across m xs ys u.1 t s)
     (or_cases (is_at m x) (runs_over xs m) r)
 
-behind : (xs ys : List Ground) → is_run_once (xs ++ ys) ≡ true → is_run_once ys ≡ true
+pub behind : (xs ys : List Ground) → is_run_once (xs ++ ys) ≡ true → is_run_once ys ≡ true
 behind [] ys o = o
 behind (x ∷ xs) ys o = behind xs ys (and_parts (list_all (differ x) (xs ++ ys)) (is_run_once (xs ++ ys)) o).1
 
