@@ -1,6 +1,8 @@
 -- The words of the program: its command line as `clap` reads it, and what a job says of the words.
-use Rattle.std.specs.Prelude.{◌≡◌, List, [], ◌∷◌, Option, Some, codes, map, true, IsSomeAnd}
-use Rattle.clap.specs.Words.{App, Row, Rule, Text, first_of, new_app, new_rule, subcommand_of, with_rule, with_subcommand}
+use Rattle.std.specs.Prelude.{◌≡◌, ◌≢◌, List, [], ◌∷◌, Option, Some, codes, map, true, IsSomeAnd}
+use Rattle.clap.specs.Words.{App, IsAmong, Row, Rule, Text, fault_of, first_of, new_app, new_rule, subcommand_of, with_rule, with_subcommand}
+use Rattle.clap.specs.declared.error.ErrorKind.{ErrorKind}
+use Rattle.clap.specs.declared.error.ErrorKind.TheVariants as kind
 use Rattle.lrs_cli.specs.declared.words.Job.{Job}
 use Rattle.lrs_cli.specs.declared.words.Job.TheVariants.{Edit}
 
@@ -40,3 +42,11 @@ IsMet job met = IsSomeAnd met (λ m. (m.0 ≡ name_of job) × HasWords job m.1)
 -- the words, read by `clap`, are those of this job
 abbrev pub IsJobOf : List Text → Job → Type 0
 IsJobOf words job = IsMet job (subcommand_of line_of_program words)
+
+-- the words ask for help
+abbrev pub AsksForHelp : List Text → Type 0
+AsksForHelp words = IsAmong kind.DisplayHelp (fault_of line_of_program words)
+
+-- `clap` has another fault to find with the words
+abbrev pub IsMisused : List Text → Type 0
+IsMisused words = (k : ErrorKind) × (k ≢ kind.DisplayHelp) × IsAmong k (fault_of line_of_program words)

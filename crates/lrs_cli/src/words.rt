@@ -1,9 +1,9 @@
 //! The words of the program.
 
-ghost use Rattle.std.specs.Prelude.{◌≡◌, ◌≢◌, IfOk, IfSome, IfNone, Some, None, codes, map, false};
+ghost use Rattle.std.specs.Prelude.{◌≡◌, ◌≢◌, IfOk, Err, IfSome, IfNone, Some, None, codes, map, false};
 ghost use Rattle.clap.specs.Words.{app_of, first_of, found_of, kind_of, rows_of, rule_of, subcommand_rows_of};
 ghost use Rattle.clap.specs.declared.builder.command.Command.TheViews.{out-Command};
-ghost use Rattle.lrs_cli.specs.Words.{HasWords, IsJobOf, IsMet, edit_line, line_of_program, name_of, required};
+ghost use Rattle.lrs_cli.specs.Words.{AsksForHelp, HasWords, IsJobOf, IsMet, IsMisused, edit_line, line_of_program, name_of, required};
 
 use clap::error::ErrorKind;
 use clap::{Arg, ArgMatches, Command, Error};
@@ -116,6 +116,8 @@ fn job_in<'a>(matches: &ArgMatches<'a>) -> Option<Job<'a>>
 /// What these words, which are those after the program's name, ask for.
 pub fn job_of<'a>(alloc: Global, words: &'a [&'a str]) -> Result<Job<'a>, WordsFault>
     ensures job { IfOk result (IsJobOf (map (λ w. w.now) words.now)) }
+    ensures help { (text : _) → result ≡ Err (WordsFault.Help text) → AsksForHelp (map (λ w. w.now) words.now) }
+    ensures usage { (text : _) → result ≡ Err (WordsFault.Usage text) → IsMisused (map (λ w. w.now) words.now) }
 {
     let command = program(alloc)?;
     let matches = match command.try_get_matches_from(words) {
