@@ -99,6 +99,11 @@ lacks Routes limits command i h = λ j. three (h.0 j) (h.1 j) (h.2 j)
 limits_few : (limits : Limits) → limits.edits ≤ most_edits
 limits_few limits = leb-true limits.edits most_edits (and_parts (nat_le limits.routes most_routes && nat_le limits.assets most_assets) (nat_le limits.edits most_edits) limits.bounds).1
 
+limits_few_routes : (limits : Limits) → limits.routes ≤ most_routes
+limits_few_routes limits =
+    let both = and_parts (nat_le limits.routes most_routes && nat_le limits.assets most_assets) (nat_le limits.edits most_edits) limits.bounds in
+    leb-true limits.routes most_routes (and_parts (nat_le limits.routes most_routes) (nat_le limits.assets most_assets) both.0).0
+
 module _ (limits : Limits) (key : Name) (command : Command) (i : Image) (none : place_among i.edits key ≡ None) where
   pub step-limited : (what : What) → LacksRoom what limits command i → step limits key command (state_of i) ≡ record { answer = Refused (cause.TooMany what); state = state_of i }
   step-limited what h =
@@ -126,9 +131,13 @@ module _ (limits : Limits) (key : Name) (command : Command) (i : Image) (none : 
   pub is_done : (p : Parts) → HasRoom limits command i → Makes command i p → IsDoneBy limits key command i p
   is_done p room makes = record {
     outcome = step-new limits key command i none ∙ ap (outcome_of key command (state_of i)) (next-attempt room ∙ makes.state) ∙ done_is p;
-    sound = makes.sound (edit_of key command) (none_passes (λ (e : Edit). same_name e.key key) i.edits none) (few room.edits (limits_few limits));
+    sound = makes.sound (edit_of key command) (none_passes (λ (e : Edit). same_name e.key key) i.edits none) (few room.edits (limits_few limits)) (few_routes (needs_route command) room.routes (limits_few_routes limits));
     new_key = none;
   }
     where
       few : nat_le limits.edits (length i.edits) ≡ false → limits.edits ≤ most_edits → length i.edits + 1 ≤ most_edits
       few h k = grind (arith, nat_tests)
+
+      few_routes : (b : Bool) → (b && nat_le limits.routes (length i.routes)) ≡ false → limits.routes ≤ most_routes → b ≡ true → length i.routes + 1 ≤ most_routes
+      few_routes true h k e = grind (arith, nat_tests)
+      few_routes false h k e = absurd (cc e)

@@ -1,4 +1,7 @@
 pub mod Inserts
+pub mod Inserted
+pub mod Places
+pub mod Dropped
 pub mod Tables
 pub mod Filed
 pub mod Keyed
@@ -6,3 +9,5 @@ pub mod Deciding
 pub mod Leaving
 pub mod NewLink
 pub mod NewClass
+pub mod NewCourse
+pub mod NewRoute

@@ -1,8 +1,10 @@
 pub mod Lists
 pub mod Change
+pub mod Opened
 pub mod Keeping
 pub mod Index
 pub mod Plan
+pub mod NewRoute
 pub mod Decide
 pub mod DeskView
 pub mod Desk

@@ -8,9 +8,13 @@ mod index;
 mod keep;
 mod keeper;
 mod lists;
+mod new_route;
+mod opened;
 mod plain;
 mod plan;
 mod planned;
+mod routes;
+mod taken;
 
 pub use change::{Change, Parts};
 pub use desk::{Desk, Fault, OpenFault, run};

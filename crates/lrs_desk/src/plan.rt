@@ -1,19 +1,18 @@
 //! What a command would change, or why its verb refuses it.
 
-ghost use Rattle.std.specs.Prelude.{◌≡◌, ◌+◌, [], length, IfOk, nat_eq};
+ghost use Rattle.std.specs.Prelude.{◌≡◌, ◌+◌, [], length, IfOk, nat_eq, true};
 ghost use Rattle.std.specs.List.{list_any};
 ghost use Rattle.lrs_measure.specs.Texts.{same_name};
 ghost use Rattle.lrs_machine.specs.declared.command.Command.TheVariants as verb;
-ghost use Rattle.lrs_desk.specs.Change as change;
 ghost use Rattle.lrs_desk.specs.Plan.{Plans};
-ghost use Rattle.lrs_machine.specs.Sound.{IsSound};
+ghost use Rattle.lrs_machine.specs.Sound.{are_links, are_classes, IsSound};
 
-use crate::change::Parts;
+use crate::change::{Parts, no_parts};
+use crate::new_route::plan_route;
 use crate::planned::Planned;
 use lrs_element::Link;
 use lrs_events::{Class, ClassName};
 use lrs_machine::{Cause, Command, Image};
-use lrs_measure::Rows;
 use std::alloc::{AllocError, Global};
 
 /// What a command would change, or the first check of its verb that fails.
@@ -28,22 +27,12 @@ pub fn plan(
     match command.command() {
         Command::Link(link) => Ok(plan_link(alloc, image, *link)),
         Command::Class(class) => Ok(plan_class(alloc, image, *class)),
+        Command::Route {
+            name,
+            pieces,
+            marks,
+        } => plan_route(alloc, image, *name, pieces, marks),
         _ => unreachable!(),
-    }
-}
-
-// Parts that change nothing.
-fn no_parts(alloc: Global) -> Parts
-    ensures { result ≡ change.no_parts }
-{
-    Parts {
-        link: None,
-        class: None,
-        asset: None,
-        dropped: Rows::new(alloc),
-        written: Rows::new(alloc),
-        entered: Rows::new(alloc),
-        gone: Rows::new(alloc),
     }
 }
 
@@ -59,10 +48,14 @@ fn plan_link(alloc: Global, image: &Image, link: Link) -> Result<Parts, Cause>
     Ok(parts)
 }
 
+// Whether a link of this number is there, by binary search.
 fn knows_link(links: &[Link], number: u32) -> bool
+    requires order { are_links links.now ≡ true }
     ensures { result ≡ list_any (λ link. nat_eq number link.number) links.now }
 {
-    links.iter().any(|link| number == link.number)
+    links
+        .binary_search_by_key(&number, |link| link.number)
+        .is_ok()
 }
 
 fn plan_class(alloc: Global, image: &Image, class: Class) -> Result<Parts, Cause>
@@ -77,10 +70,12 @@ fn plan_class(alloc: Global, image: &Image, class: Class) -> Result<Parts, Cause
     Ok(parts)
 }
 
+// Whether a class of this name is there, by binary search.
 fn knows_class(classes: &[Class], name: &ClassName) -> bool
+    requires order { are_classes classes.now ≡ true }
     ensures { result ≡ list_any (λ class. same_name class.name name.now) classes.now }
 {
     classes
-        .iter()
-        .any(|class| class.name.bytes() == name.bytes())
+        .binary_search_by(|class| class.name.bytes().cmp(name.bytes()))
+        .is_ok()
 }

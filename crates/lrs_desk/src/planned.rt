@@ -7,7 +7,7 @@ ghost use Rattle.lrs_desk.specs.Plan.{is_planned};
 use lrs_machine::Command;
 use std::marker::Model;
 
-/// A command that a desk does: one of the verbs `link` and `class`.
+/// A command that a desk does: one of the verbs `link`, `class` and `route`.
 #[derive(Drop)]
 pub struct Planned {
     command: Command,
@@ -31,7 +31,9 @@ impl Planned {
         ensures { SomeIff result (IsTrue (is_planned command)) command }
     {
         match command {
-            Command::Link(_) | Command::Class(_) => Some(Planned { command }),
+            Command::Link(_) | Command::Class(_) | Command::Route { .. } => Some(Planned {
+                command,
+            }),
             _ => None,
         }
     }

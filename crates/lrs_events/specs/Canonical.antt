@@ -1,5 +1,5 @@
 -- Canonical rows: the maximal runs of neighbouring millimetres of a course where an asset holds the same side or sides.
-use Rattle.std.specs.Prelude.{ℕ, Bool, true, false, List, map, Option, Some, None}
+use Rattle.std.specs.Prelude.{Bool, true, false, List, map, Option, Some, None}
 use Rattle.std.specs.List.{filter_map}
 use Rattle.std.specs.Option.{option_map}
 use Rattle.lrs_measure.specs.Runs.{Run, runs_of, same_option}

@@ -1,5 +1,5 @@
 -- Places: a millimetre of a link and a side of it, seen along the link (ISO 19148: linear element, lateral offset).
-use Rattle.std.specs.Prelude.{ℕ, Bool, true, false, ◌&&◌, nat_eq, List, [], ◌∷◌, slice_range}
+use Rattle.std.specs.Prelude.{ℕ, Bool, true, false, ◌&&◌, nat_eq, List, [], ◌∷◌}
 use Rattle.std.specs.List.{range_with_len, list_any, flat_map}
 use Rattle.lrs_element.specs.declared.link.Ground.{Ground}
 use Rattle.lrs_element.specs.Course.{runs_over}

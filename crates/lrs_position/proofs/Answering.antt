@@ -1,21 +1,20 @@
-use Rattle.std.proofs.Common.{ℕ, zero, suc, ◌≡◌, ◌+◌, ◌-◌, ◌*◌, ◌^◌, ◌<◌, ◌≤◌, sym, ◌∙◌, ap, refl, subst, arith, rules, ℤ, pos, negsuc, to_z, of_z, ◌+ℤ◌, ◌*ℤ◌, unsigned_abs, Bool, true, false, not, ◌&&◌, cond, nat_lt, nat_le, is_some, is_none, IsTrue, List, ◌∷◌, [], length, get_or, Option, Some, None, Result, Ok, Err}
+use Rattle.std.proofs.Common.{ℕ, ◌≡◌, ◌-◌, ◌*◌, ◌^◌, ◌<◌, ◌≤◌, sym, ◌∙◌, ap, refl, subst, arith, ℤ, pos, negsuc, to_z, of_z, ◌+ℤ◌, unsigned_abs, Bool, true, false, cond, IsTrue, List, ◌∷◌, [], length, get_or, Option, Some, None, Result, Ok, Err}
 use Rattle.std.specs.Int.{w128}
-use Rattle.std.specs.Option.{ok_or, IfSome, IsSome}
+use Rattle.std.specs.Option.{ok_or}
 use Rattle.std.specs.Result.{IsOkAnd, IfOk}
-use Rattle.std.proofs.Math.Nat.{mul-le-mul_right, mul-pos, le_of_mul-le-mul_right, eq_of_mul-eq-mul_right, le_trans}
+use Rattle.std.proofs.Math.Nat.{mul-le-mul_right, eq_of_mul-eq-mul_right}
 use Rattle.std.proofs.lemmas.Nat.{mul-le}
 use Rattle.std.proofs.lemmas.Int.{ints, to_z-of_z, to_z_pos}
 use mir.Val.{SFits}
 use lib.Signed.{lt_z}
 use Rattle.std.proofs.lemmas.Result.{IfOk-weaker}
-use Rattle.std.proofs.lemmas.Bool.{and_parts, or_parts, not-true, ltb-true, ltb-false, le-ltb, lt-ltb}
+use Rattle.std.proofs.lemmas.Bool.{and_parts, or_parts, not-true, ltb-false, le-ltb}
 use Rattle.lrs_measure.specs.Fraction.{Fraction, IsLowest, IsQuotient, IsInRange}
 use Rattle.lrs_measure.specs.Lists.{is_nothing}
 use Rattle.lrs_measure.specs.Texts.{Name}
 use Rattle.lrs_element.specs.declared.marks.Mark.{Mark}
 use Rattle.lrs_element.specs.declared.link.Ground.{Ground}
-use Rattle.lrs_element.specs.Limits.{longest_route, most_pieces}
-use Rattle.lrs_element.specs.Course.{is_too_long, piece_count}
+use Rattle.lrs_element.specs.Course.{is_too_long}
 use Rattle.lrs_element.specs.Marks.{no_mark, first_mark, last_of, last_mark, IsOnLine}
 use Rattle.lrs_element.specs.Line.{HasMeasure, IsReadable}
 use Rattle.lrs_element.proofs.LineLemmas.{natural_quotient, KeepRules, KeepRules-from_none, last_mark-get_or, ends_at, measure_limit}
@@ -25,7 +24,7 @@ use Rattle.lrs_position.specs.declared.locating.PlaceFault.{PlaceFault}
 use Rattle.lrs_position.specs.declared.locating.PlaceFault.TheVariants.{NoRef, TooFine, OffRoute}
 use Rattle.lrs_position.specs.declared.route.Referent.{Referent}
 use Rattle.lrs_position.specs.declared.route.Route.{Route}
-use Rattle.lrs_position.specs.Routes.{is_route, is_route_course, have_marks, are_referents}
+use Rattle.lrs_position.specs.Routes.{is_route}
 use Rattle.lrs_position.specs.Locating.{Alignment, Locates, located, located_or_fault, lacks_referent, is_too_fine, within}
 use Rattle.lrs_position.specs.Translating.{alignment_of, number_of, LocatesAt, IsAnswer, IsOnRoute}
 use Rattle.lrs_position.proofs.Line.{Climb, Climb-from_follow, after_first, before_last}

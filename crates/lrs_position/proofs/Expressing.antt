@@ -1,21 +1,21 @@
-use Rattle.std.proofs.Common.{ℕ, suc, ◌≡◌, ◌+◌, ◌-◌, ◌*◌, ◌^◌, ◌<◌, ◌≤◌, sym, ◌∙◌, ap, refl, subst, arith, rules, ℤ, pos, negsuc, to_z, of_z, ◌+ℤ◌, ◌-ℤ◌, ◌*ℤ◌, unsigned_abs, Bool, true, false, cond, FitsSigned, List, length, Option, Some, None, Result, Ok, Err}
+use Rattle.std.proofs.Common.{ℕ, ◌≡◌, ◌*◌, ◌^◌, ◌<◌, ◌≤◌, sym, ◌∙◌, ap, refl, subst, arith, ℤ, pos, negsuc, to_z, of_z, ◌+ℤ◌, ◌-ℤ◌, ◌*ℤ◌, unsigned_abs, Bool, true, false, cond, FitsSigned, length, Option, Some, None, Result, Ok, Err}
 use Rattle.std.specs.Int.{w128}
 use Rattle.std.specs.Option.{MatchOption}
 use Rattle.std.specs.Result.{IsOkAnd}
 use Rattle.std.proofs.Math.Nat.{mul-pos, le_of_mul-le-mul_right, mul-le-mul_right, le_trans}
 use Rattle.std.proofs.lemmas.Nat.{mul-le}
-use Rattle.std.proofs.lemmas.Int.{ints, to_z_pos, to_z-of_z}
+use Rattle.std.proofs.lemmas.Int.{ints, to_z_pos}
 use Rattle.lrs_measure.specs.Fraction.{Fraction, IsLowest, IsQuotient, IsInRange}
 use Rattle.lrs_measure.specs.Texts.{Name}
 use Rattle.lrs_element.proofs.LineLemmas.{natural_quotient}
 use Rattle.lrs_position.specs.declared.expression.Expr.{Expr}
-use Rattle.lrs_position.specs.declared.expression.Expr.TheVariants.{Abs, Rel, Int}
+use Rattle.lrs_position.specs.declared.expression.Expr.TheVariants.{Rel, Int}
 use Rattle.lrs_position.specs.declared.expression.Target.{Target}
 use Rattle.lrs_position.specs.declared.expression.Target.TheVariants as target
 use Rattle.lrs_position.specs.declared.locating.PlaceFault.{PlaceFault}
 use Rattle.lrs_position.specs.declared.locating.PlaceFault.TheVariants.{NoRef}
-use Rattle.lrs_position.specs.Locating.{Alignment, Locates}
-use Rattle.lrs_position.specs.Translating.{misses_referent, chainage_fault, Expresses, IsExpression, LocatesAt}
+use Rattle.lrs_position.specs.Locating.{Alignment}
+use Rattle.lrs_position.specs.Translating.{misses_referent, chainage_fault, Expresses, IsExpression}
 use Rattle.lrs_position.proofs.Located.{IsSound, distance_scaled}
 
 -- where the referent stands and the chainage is right, the answer is the expression

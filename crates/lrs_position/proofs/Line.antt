@@ -1,4 +1,4 @@
-use Rattle.std.proofs.Common.{ℕ, zero, suc, ◌≡◌, ◌+◌, ◌-◌, ◌*◌, ◌<◌, ◌≤◌, sym, ◌∙◌, ap, refl, subst, arith, rules, Bool, true, false, ◌&&◌, cond, nat_le, is_some, List, [], ◌∷◌, map, length, Option, Some, None, inl, inr, ◌⊎◌}
+use Rattle.std.proofs.Common.{ℕ, ◌≡◌, ◌+◌, ◌-◌, ◌*◌, ◌<◌, ◌≤◌, sym, ◌∙◌, ap, refl, subst, arith, Bool, true, false, ◌&&◌, cond, nat_le, is_some, List, [], ◌∷◌, map, Option, Some, inl, inr}
 use Rattle.std.specs.Int.{IsGcd, ◌∣◌}
 use Rattle.std.proofs.lemmas.Nat.Gcd.{IsGcd-swap}
 use Rattle.lrs_measure.proofs.Lowest.{divides_other}
@@ -7,7 +7,7 @@ use Rattle.std.proofs.lemmas.Nat.{mul-le}
 use Rattle.std.proofs.lemmas.Bool.{and_parts, and_from, both_ways, leb-true, le-leb}
 use Rattle.std.proofs.lemmas.Option.{same_Some}
 use Rattle.lrs_element.specs.declared.marks.Mark.{Mark}
-use Rattle.lrs_element.specs.Marks.{last_of, first_mark, last_mark, IsBetween, IsOnLine, chainage_at, chainage_between}
+use Rattle.lrs_element.specs.Marks.{last_of, last_mark, IsBetween, IsOnLine, chainage_at, chainage_between}
 use Rattle.lrs_element.specs.Line.{Rises}
 use Rattle.lrs_element.proofs.LineLemmas.{Follow, rises_next, IsBetween-from_chainage}
 

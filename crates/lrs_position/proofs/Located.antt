@@ -1,22 +1,19 @@
-use Rattle.std.proofs.Common.{ℕ, zero, suc, ◌≡◌, ◌+◌, ◌-◌, ◌*◌, ◌^◌, ◌<◌, ◌≤◌, sym, ◌∙◌, ap, refl, subst, arith, rules, ℤ, pos, negsuc, ◌+ℤ◌, ◌*ℤ◌, unsigned_abs, Bool, true, false, cond, nat_lt, nat_le, is_some, List, ◌∷◌, [], length, Option, Some, None, Result, Ok, Err}
-use Rattle.std.specs.Int.{IsGcd, ◌∣◌}
-use Rattle.std.specs.Option.{ok_or, option_and_then}
-use Rattle.std.specs.Result.{IsOkAnd}
-use Rattle.std.proofs.Math.Nat.{mul-le-mul_right, mul-pos, le_of_mul-le-mul_right, eq_of_mul-eq-mul_right, le_trans, le_of_dvd, dvd-mul_left, dvd-sub}
-use Rattle.std.proofs.lemmas.Nat.{mul-le}
-use Rattle.std.proofs.lemmas.Nat.Gcd.{IsGcd-swap}
-use Rattle.std.proofs.lemmas.Int.{ints, unsigned_abs-mul}
+use Rattle.std.proofs.Common.{ℕ, suc, ◌≡◌, ◌+◌, ◌-◌, ◌*◌, ◌<◌, ◌≤◌, sym, ◌∙◌, ap, refl, subst, arith, ℤ, pos, negsuc, ◌+ℤ◌, ◌*ℤ◌, unsigned_abs, true, nat_le, is_some, List, ◌∷◌, [], length, Option, Some, None}
+use Rattle.std.specs.Int.{◌∣◌}
+use Rattle.std.specs.Option.{option_and_then}
+use Rattle.std.proofs.Math.Nat.{mul-le-mul_right, mul-pos, le_of_mul-le-mul_right, eq_of_mul-eq-mul_right, dvd-mul_left, dvd-sub}
+use Rattle.std.proofs.lemmas.Int.{ints}
 use Rattle.std.proofs.lemmas.Bool.{leb-true, le-leb}
 use Rattle.std.proofs.lemmas.Option.{cond_some, same_Some}
-use Rattle.lrs_measure.specs.Fraction.{Fraction, IsLowest, IsQuotient, IsEqual}
+use Rattle.lrs_measure.specs.Fraction.{Fraction, IsLowest, IsEqual}
 use Rattle.lrs_measure.specs.Texts.{Name}
-use Rattle.lrs_measure.proofs.Lowest.{same_fraction, divides_other, den_divides}
+use Rattle.lrs_measure.proofs.Lowest.{same_fraction}
 use Rattle.lrs_element.specs.declared.marks.Mark.{Mark}
-use Rattle.lrs_element.specs.Marks.{last_of, last_mark, IsOnLine, chainage_at}
+use Rattle.lrs_element.specs.Marks.{last_mark, IsOnLine}
 use Rattle.lrs_position.specs.declared.expression.Expr.{Expr}
 use Rattle.lrs_position.specs.declared.expression.Expr.TheVariants.{Abs, Rel, Int}
 use Rattle.lrs_position.specs.Locating.{Alignment, Locates, located, within, at_measure, at_proportion}
-use Rattle.lrs_position.specs.Translating.{number_of, target_of, LocatesAt}
+use Rattle.lrs_position.specs.Translating.{number_of, target_of}
 use Rattle.lrs_position.proofs.Line.{Climb, same_measure, same_chainage, IsOnLine-scale, before_last, chainage_at-IsOnLine, chainage_at-some}
 
 -- what a route is known to keep

@@ -1,12 +1,11 @@
-use Rattle.std.proofs.Common.{ℕ, suc, ◌≡◌, ◌+◌, ◌-◌, ◌*◌, ◌/◌, ◌%◌, ◌^◌, ◌<◌, ◌≤◌, min, sym, ◌∙◌, ap, refl, subst, arith, ℤ, pos, negsuc, ◌+ℤ◌, unsigned_abs, ⊎_elim, Bool, true, false, cond, nat_le, List, length, Option, Some, None, Result, Ok, Err}
-use Rattle.std.specs.Option.{ok_or, option_and_then, IsSomeAnd, IfSome, IsSome}
+use Rattle.std.proofs.Common.{ℕ, ◌≡◌, ◌+◌, ◌-◌, ◌*◌, ◌/◌, ◌%◌, ◌^◌, ◌<◌, ◌≤◌, min, ◌∙◌, ap, refl, arith, ℤ, pos, negsuc, ◌+ℤ◌, ⊎_elim, Bool, true, false, cond, nat_le, length, Option, Some, None, Result, Ok, Err}
+use Rattle.std.specs.Option.{ok_or, option_and_then}
 use Rattle.std.specs.Result.{IfOk}
 use Rattle.std.proofs.Math.Nat.{div-add-mod', le_trans, le_of_dvd, mul-le-mul_right}
 use Rattle.std.proofs.lemmas.Nat.{mul-le, mod_below}
-use Rattle.std.proofs.lemmas.Int.{ints, to_z_pos}
 use Rattle.std.proofs.lemmas.Bool.{ltb-false, cases_lt}
 use Rattle.std.proofs.lemmas.Option.{cond_some}
-use Rattle.lrs_measure.specs.Fraction.{Fraction, IsLowest, IsQuotient, IsInRange}
+use Rattle.lrs_measure.specs.Fraction.{Fraction}
 use Rattle.lrs_measure.specs.Texts.{Name}
 use Rattle.lrs_measure.proofs.Lowest.{den_divides}
 use Rattle.lrs_element.specs.Marks.{last_mark}
@@ -14,7 +13,7 @@ use Rattle.lrs_position.specs.declared.expression.Expr.{Expr}
 use Rattle.lrs_position.specs.declared.expression.Expr.TheVariants.{Abs, Rel, Int}
 use Rattle.lrs_position.specs.declared.locating.PlaceFault.{PlaceFault}
 use Rattle.lrs_position.specs.declared.locating.PlaceFault.TheVariants.{NoRef, TooFine, OffRoute}
-use Rattle.lrs_position.specs.Locating.{Alignment, Locates, located, located_or_fault, lacks_referent, is_too_fine, at_measure, at_proportion, within}
+use Rattle.lrs_position.specs.Locating.{Alignment, located, located_or_fault, lacks_referent, is_too_fine, at_measure, at_proportion, within}
 use Rattle.lrs_position.specs.Translating.{number_of, IsAnswer}
 use Rattle.lrs_position.proofs.Line.{chainage_at-den}
 use Rattle.lrs_position.proofs.Located.{IsSound, located-sound, Locates-within, located_within}

@@ -1,14 +1,13 @@
-use Rattle.std.proofs.Common.{ℕ, suc, ◌≡◌, ◌+◌, ◌-◌, ◌*◌, ◌^◌, ◌<◌, ◌≤◌, sym, ◌∙◌, ap, refl, subst, arith, rules, ℤ, pos, negsuc, ◌+ℤ◌, ◌*ℤ◌, unsigned_abs, Bool, true, false, not, ◌&&◌, cond, nat_lt, nat_le, is_none, IsTrue, List, length, Option, Some, None, Result, Ok, Err}
-use Rattle.std.specs.Int.{IsGcd, ◌∣◌}
+use Rattle.std.proofs.Common.{ℕ, ◌≡◌, ◌*◌, ◌^◌, ◌<◌, ◌≤◌, sym, ◌∙◌, ap, refl, subst, arith, ℤ, pos, negsuc, ◌+ℤ◌, ◌*ℤ◌, unsigned_abs, Bool, true, false, cond, nat_le, IsTrue, length, Option, Some, None, Result, Ok, Err}
+use Rattle.std.specs.Int.{IsGcd}
 use Rattle.std.specs.Option.{ok_or, MatchOption, option_and_then}
 use Rattle.std.specs.Result.{IsOkAnd, MatchResult}
 use Rattle.std.proofs.Math.Nat.{mul-pos, le_trans, le_of_dvd, dvd-mul_left, eq_of_mul-eq-mul_right}
 use Rattle.std.proofs.lemmas.Nat.{mul-le}
 use Rattle.std.proofs.lemmas.Nat.Gcd.{IsGcd-swap}
-use Rattle.std.proofs.lemmas.Int.{ints}
 use Rattle.std.proofs.lemmas.Option.{cond_some}
 use Rattle.std.proofs.lemmas.Bool.{and_parts, eqb-true, leb-true, le-leb, le-ltb}
-use Rattle.lrs_measure.specs.Fraction.{Fraction, IsLowest, IsQuotient, IsEqual}
+use Rattle.lrs_measure.specs.Fraction.{Fraction, IsLowest, IsQuotient}
 use Rattle.lrs_measure.specs.Texts.{Name}
 use Rattle.lrs_measure.proofs.Lowest.{same_fraction, divides_other, den_divides}
 use Rattle.lrs_element.proofs.LineLemmas.{natural_quotient}
@@ -17,9 +16,9 @@ use Rattle.lrs_position.specs.declared.expression.Expr.{Expr}
 use Rattle.lrs_position.specs.declared.expression.Expr.TheVariants.{Abs, Rel, Int}
 use Rattle.lrs_position.specs.declared.expression.Target.{Target}
 use Rattle.lrs_position.specs.declared.locating.PlaceFault.{PlaceFault}
-use Rattle.lrs_position.specs.declared.locating.PlaceFault.TheVariants.{NoRef, TooFine, OffRoute}
+use Rattle.lrs_position.specs.declared.locating.PlaceFault.TheVariants.{NoRef, OffRoute}
 use Rattle.lrs_position.specs.Expressions.{is_entered}
-use Rattle.lrs_position.specs.Locating.{Alignment, Locates, located, located_or_fault, lacks_referent, is_too_fine, at_measure, at_proportion, within}
+use Rattle.lrs_position.specs.Locating.{Alignment, Locates, located, is_too_fine, at_measure, at_proportion, within}
 use Rattle.lrs_position.specs.Translating.{number_of, target_of, misses_referent, LocatesAt, IsAnswer, chainage_fault, Expresses, IsExpression, Translates, RoundTrip}
 use Rattle.lrs_position.proofs.Line.{den_on_line, chainage_at-den}
 use Rattle.lrs_position.proofs.Located.{IsSound, located-sound, located-some, Locates-same, Locates-scale, Locates-within, same_expression, distance_divides, located_within}

@@ -1,9 +1,7 @@
-use Rattle.std.proofs.Common.{ℕ, ◌≡◌, ◌*◌, ◌<◌, ◌≤◌, sym, ◌∙◌, ap, refl, arith, ℤ, pos, ◌*ℤ◌, unsigned_abs, List, Option, Some, None}
-use Rattle.std.specs.Int.{IsGcd}
+use Rattle.std.proofs.Common.{ℕ, ◌≡◌, ◌*◌, ◌<◌, ◌≤◌, ap, arith, ℤ, pos, unsigned_abs, List, Option, Some, None}
 use Rattle.std.specs.Option.{IsSome, IfSome}
 use Rattle.std.proofs.Math.Nat.{one-dvd, le_of_mul-le-mul_right, mul-le-mul_right}
 use Rattle.std.proofs.lemmas.Nat.Gcd.{dvd_refl}
-use Rattle.std.proofs.lemmas.Int.{ints}
 use Rattle.lrs_measure.specs.Fraction.{Fraction, IsLowest, IsQuotient, IsInRange}
 use Rattle.lrs_measure.proofs.Lowest.{same_fraction}
 use Rattle.lrs_measure.specs.Numerals.{IsFractionText, numerator_text, denominator_text}
@@ -13,7 +11,7 @@ use Rattle.lrs_position.specs.declared.expression.Expr.{Expr}
 use Rattle.lrs_position.specs.declared.expression.Expr.TheVariants.{Abs, Rel, Int}
 use Rattle.lrs_position.specs.declared.expression.Method.TheVariants as method
 use Rattle.lrs_position.specs.Expressions.{greatest_denominator}
-use Rattle.lrs_position.specs.Readings.{whole, States, StatesProportion}
+use Rattle.lrs_position.specs.Readings.{whole, States}
 use Rattle.lrs_position.proofs.RoundTrips.{same_place}
 
 -- a whole number is in lowest terms

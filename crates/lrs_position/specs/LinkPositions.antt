@@ -1,5 +1,5 @@
 -- Where a place of a route is on a link: the link, and the distance from its start (ISO 19148: absolute method along a link).
-use Rattle.std.specs.Prelude.{◌≡◌, ℕ, ℤ, pos, ◌+◌, ◌-◌, ◌*◌, if◌then◌else◌, List, length, Option, Some, Result, Ok, Err, IsOkAnd, MatchResult, slice_get, unsigned_abs}
+use Rattle.std.specs.Prelude.{◌≡◌, ℕ, pos, ◌+◌, ◌-◌, ◌*◌, if◌then◌else◌, List, length, Option, Some, Result, Err, IsOkAnd, MatchResult, slice_get, unsigned_abs}
 use Rattle.lrs_measure.specs.Fraction.{Fraction, IsLowest, IsQuotient}
 use Rattle.lrs_measure.specs.Texts.{Name}
 use Rattle.lrs_element.specs.declared.link.Ground.{Ground}

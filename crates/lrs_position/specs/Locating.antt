@@ -1,6 +1,6 @@
 -- Which chainage a position expression locates on a route (ISO 19148: absolute, relative and interpolative method).
-use Rattle.std.specs.Prelude.{◌≡◌, ℕ, ℤ, pos, negsuc, ◌+ℤ◌, ◌+◌, ◌-◌, ◌*◌, ◌/◌, ◌^◌, ◌<◌, nat_lt, min, ◌≤◌, Bool, true, false, ◌*ℤ◌, is_none, nat_le, if◌then◌else◌, List, length, Option, Some, None, Result, Ok, Err}
-use Rattle.std.specs.Option.{option_and_then, option_map_or, ok_or}
+use Rattle.std.specs.Prelude.{◌≡◌, ℕ, ℤ, pos, negsuc, ◌+ℤ◌, ◌+◌, ◌-◌, ◌*◌, ◌/◌, ◌^◌, ◌<◌, nat_lt, min, ◌≤◌, Bool, false, ◌*ℤ◌, is_none, nat_le, if◌then◌else◌, List, length, Option, Some, None, Result, Err}
+use Rattle.std.specs.Option.{option_and_then, ok_or}
 use Rattle.lrs_measure.specs.Texts.{Name}
 use Rattle.lrs_element.specs.declared.link.Ground.{Ground}
 use Rattle.lrs_element.specs.declared.marks.Mark.{Mark}

@@ -1,5 +1,5 @@
 -- What the calls on a route answer: which chainage an expression locates, which expression locates a chainage, and the way from one method to another and back (ISO 19148: position expression).
-use Rattle.std.specs.Prelude.{◌≡◌, ℕ, ℤ, pos, ◌*◌, ◌≤ℤ◌, ◌^◌, nat_lt, Bool, false, is_none, if◌then◌else◌, IsTrue, List, length, Option, Some, None, Result, Ok, Err, IsOkAnd, MatchOption, MatchResult}
+use Rattle.std.specs.Prelude.{◌≡◌, ℕ, pos, ◌*◌, ◌≤ℤ◌, ◌^◌, nat_lt, Bool, false, is_none, if◌then◌else◌, IsTrue, List, length, Option, Some, None, Result, Ok, Err, IsOkAnd, MatchOption, MatchResult}
 use Rattle.std.specs.List.{find}
 use Rattle.std.specs.Option.{option_map}
 use Rattle.lrs_measure.specs.Fraction.{Fraction, IsLowest, IsQuotient}

@@ -1,6 +1,6 @@
 //! Routes: linear elements made of links, with their marks and referents.
 
-ghost use Rattle.std.specs.Prelude.{◌≡◌, ◌<◌, ◌≤◌, length, IsTrue};
+ghost use Rattle.std.specs.Prelude.{◌≡◌, ◌<◌, ◌≤◌, length, IsTrue, IfOk};
 ghost use Rattle.lrs_element.specs.Limits.{longest_route};
 ghost use Rattle.lrs_element.specs.Marks.{last_mark};
 ghost use Rattle.lrs_position.specs.Routes.{is_route};
@@ -8,6 +8,7 @@ ghost use Rattle.lrs_position.specs.Routes.{is_route};
 use crate::name::{RefName, RouteName};
 use lrs_element::{Course, Marks};
 use lrs_measure::Rows;
+use std::alloc::{AllocError, Global};
 
 /// A known place on a route (ISO 19148, referent): it stands in the millimetre `at` of chainage.
 #[derive(Clone, Copy, PartialEq, Eq)]
@@ -53,5 +54,20 @@ impl Route {
             .iter()
             .find(|referent| referent.name == name)
             .map(|referent| referent.at)
+    }
+
+    /// An equal route.
+    ///
+    /// # Errors
+    /// When memory runs out.
+    pub fn copy(&self, alloc: Global) -> Result<Route, AllocError>
+        ensures { IfOk result (λ route. route ≡ self.now) }
+    {
+        Ok(Route {
+            name: self.name,
+            course: self.course.copy()?,
+            marks: self.marks.copy()?,
+            refs: self.refs.copy(alloc)?,
+        })
     }
 }

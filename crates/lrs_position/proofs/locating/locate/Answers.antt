@@ -1,9 +1,5 @@
-use Rattle.std.proofs.Common.{◌≡◌, ap, subst, sym, ℕ, Result}
-use Rattle.std.specs.Result.{IfOk}
-use Rattle.lrs_measure.specs.Fraction.{Fraction}
 use Rattle.lrs_position.specs.declared.expression.Expr.TheVariants.{Abs, Rel, Int}
-use Rattle.lrs_position.specs.declared.locating.PlaceFault.{PlaceFault}
-use Rattle.lrs_position.specs.Translating.{alignment_of, referent_at, IsAnswer, LocatesAt}
+use Rattle.lrs_position.specs.Translating.{alignment_of, referent_at}
 use Rattle.lrs_position.proofs.Answering.{IsSound-from_route, place_of, found_from, on_route_of}
 use Rattle.lrs_position.proofs.OnLinks.{den_of}
 use Rattle.lrs_position.proofs.locating.locate.Goals as goal

@@ -1,4 +1,4 @@
-use Rattle.std.proofs.Common.{refl, arith, ◌^◌, ◌≤◌}
+use Rattle.std.proofs.Common.{arith}
 use Rattle.lrs_position.specs.Translating.{alignment_of, referent_at}
 use Rattle.lrs_position.proofs.Answering.{IsSound-from_route, measure_ok, measure_off}
 use Rattle.lrs_position.proofs.locating.locate_measure.Goals as goal

@@ -1,4 +1,4 @@
-use Rattle.std.proofs.Common.{◌≤◌, ◌<◌, arith, rules}
+use Rattle.std.proofs.Common.{arith, rules}
 use Rattle.lrs_position.specs.Translating.{alignment_of, referent_at}
 use Rattle.lrs_position.proofs.Answering.{IsSound-from_route, natural_read, product_ok, product_in_range}
 use Rattle.lrs_position.proofs.locating.locate_proportion.Goals as goal

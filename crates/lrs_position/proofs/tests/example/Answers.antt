@@ -1,4 +1,4 @@
-use Rattle.std.proofs.Common.{ℕ, ◌≡◌, ◌<◌, ◌∙◌, List, [], ◌∷◌, length, Option, None, Bool, true, false, not, ◌&&◌, IsTrue, nat_lt, is_none, refl, ap, arith}
+use Rattle.std.proofs.Common.{ℕ, ◌≡◌, ◌<◌, ◌∙◌, List, [], ◌∷◌, length, None, true, false, IsTrue, refl, arith}
 use Rattle.std.proofs.lemmas.Bool.{and_from, not_from_false, lt-ltb}
 use Rattle.lrs_measure.specs.Lists.{is_nothing}
 use Rattle.lrs_element.specs.declared.link.Ground.{Ground}

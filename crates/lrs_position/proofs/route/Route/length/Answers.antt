@@ -1,4 +1,4 @@
-use Rattle.std.proofs.Common.{◌≡◌, ◌-◌, ◌≤◌, ◌<◌, length, get_or}
+use Rattle.std.proofs.Common.{◌≡◌, ◌-◌, length, get_or}
 use Rattle.lrs_element.specs.Marks.{no_mark}
 use Rattle.lrs_position.proofs.Answering.{IsSound-from_route, last_at_end}
 use Rattle.lrs_position.proofs.route.Route.length.Goals as goal
