@@ -1,0 +1,51 @@
+-- The names of faults, as the program prints them.
+use Rattle.std.specs.Prelude.{List, ℕ, ◌++◌, codes}
+use Rattle.lrs_machine.specs.declared.table.Table.{Table}
+use Rattle.lrs_machine.specs.declared.table.Table.TheVariants as table
+use Rattle.lrs_desk.specs.declared.desk.Fault.{Fault}
+use Rattle.lrs_desk.specs.declared.desk.Fault.TheVariants as desk
+use Rattle.lrs_sheet.specs.declared.fault.SheetFault.{SheetFault}
+use Rattle.lrs_sheet.specs.declared.fault.SheetFault.TheVariants as sheet
+use Rattle.lrs_cli.specs.declared.fault.ProgramFault.{ProgramFault}
+use Rattle.lrs_cli.specs.declared.fault.ProgramFault.TheVariants.{Open, Unsound, Memory, Keep, MustReopen, Read, Write, BadHeader, BadCsv}
+
+-- a table's name
+abbrev pub table_text : Table → List ℕ
+table_text table.Version = codes "version"
+table_text table.Link = codes "link"
+table_text table.Class = codes "class"
+table_text table.Asset = codes "asset"
+table_text table.Piece = codes "piece"
+table_text table.Mark = codes "mark"
+table_text table.Ref = codes "ref"
+table_text table.Span = codes "span"
+table_text table.Entered = codes "entered"
+table_text table.Gone = codes "gone"
+table_text table.Edit = codes "edit"
+
+-- a fault's name, with the first unsound table of `Unsound`
+abbrev pub fault_text : ProgramFault → List ℕ
+fault_text Open = codes "Open"
+fault_text (Unsound t) = codes "Unsound:" ++ table_text t
+fault_text Memory = codes "Memory"
+fault_text Keep = codes "Keep"
+fault_text MustReopen = codes "MustReopen"
+fault_text Read = codes "Read"
+fault_text Write = codes "Write"
+fault_text BadHeader = codes "BadHeader"
+fault_text BadCsv = codes "BadCsv"
+
+-- what a desk's fault is for the program
+abbrev pub fault_of_desk : Fault → ProgramFault
+fault_of_desk desk.Memory = Memory
+fault_of_desk desk.Keep = Keep
+fault_of_desk desk.MustReopen = MustReopen
+
+-- what a sheet's fault is for the program
+abbrev pub fault_of_sheet : SheetFault → ProgramFault
+fault_of_sheet sheet.Read = Read
+fault_of_sheet sheet.Write = Write
+fault_of_sheet sheet.BadHeader = BadHeader
+fault_of_sheet sheet.BadCsv = BadCsv
+fault_of_sheet (sheet.Desk fault) = fault_of_desk fault
+fault_of_sheet sheet.Memory = Memory

@@ -1,0 +1,328 @@
+"""`roadlrs edit :memory: SHEET`: bytes in, bytes out, status. The expected bytes are those of the formats' text."""
+
+import os
+import pathlib
+import pty
+import subprocess
+import tempfile
+import threading
+
+from program import HEADER, PROGRAM, ends, faults, lines, record, replies, run, run_sheet, sheet_of
+
+# the first sheet: three links and three classes
+FIRST = sheet_of(
+    "s1,link,1,5000",
+    "s2,link,2,3000",
+    "s3,link,3,2000",
+    "s4,class,SPEED,exclusive",
+    "s5,class,RAIL,stretch",
+    "s6,class,SIGN,point",
+)
+FIRST_REPLIES = lines("s1,done,1", "s2,done,2", "s3,done,3", "s4,done,4", "s5,done,5", "s6,done,6")
+
+MARK = b"\xef\xbb\xbf"
+
+
+def test_empty_sheet_has_no_reply():
+    for sheet in [b"", HEADER, HEADER.rstrip(b"\n"), b"\n", b"\r\n\r\n\n", HEADER + b"\n\r\n"]:
+        ends(run_sheet(sheet), b"", 0)
+
+
+def test_first_sheet():
+    ends(run_sheet(FIRST), FIRST_REPLIES, 0)
+
+
+def test_first_sheet_cut_after_each_byte():
+    for at in range(len(FIRST) + 1):
+        head, *rest = FIRST[:at].split(b"\n")
+        done = FIRST_REPLIES.splitlines(keepends=True)[: max(0, len(rest) - 1)]
+        ended = run_sheet(FIRST[:at])
+        if at > 0 and head + b"\n" != HEADER:
+            faults(ended, "BadHeader")
+        elif rest and rest[-1] and rest[-1].count(b",") < 10:
+            faults(ended, "BadCsv", b"".join(done))
+        else:
+            if rest and rest[-1]:
+                done = FIRST_REPLIES.splitlines(keepends=True)[: len(rest)]
+            ends(ended, b"".join(done), 0)
+
+
+def test_limits_of_links():
+    replies(
+        ("a1,link,999999,1000000000", "a1,done,1"),
+        ("a2,link,0,1", "a2,refused,Malformed:a"),
+        ("a3,link,1000000,1", "a3,refused,Malformed:a"),
+        ("a4,link,4,0", "a4,refused,Malformed:b"),
+        ("a5,link,4,1000000001", "a5,refused,Malformed:b"),
+        ("a6,link,1,1", "a6,done,2"),
+        ("a7,link,0000000000000000000000000000000000004,00007", "a7,done,3"),
+        ("a8,link,18446744073709551620,1", "a8,refused,Malformed:a"),
+        ("a9,link,5,18446744073709551617", "a9,refused,Malformed:b"),
+        ("b1,link,,1", "b1,refused,Malformed:a"),
+        ("b2,link,5,", "b2,refused,Malformed:b"),
+        ("b3,link,+5,1", "b3,refused,Malformed:a"),
+        ("b4,link,-5,1", "b4,refused,Malformed:a"),
+        ("b5,link, 5,1", "b5,refused,Malformed:a"),
+        ("b6,link,5,1.0", "b6,refused,Malformed:b"),
+        ("b7,link,5,1e3", "b7,refused,Malformed:b"),
+        ("b8,link,\u0665,1", "b8,refused,Malformed:a"),
+        ("b9,link,0,0,x", "b9,refused,Malformed:a"),
+    )
+
+
+def test_known_link():
+    replies(
+        ("a,link,1,7", "a,done,1"),
+        ("b,link,1,7", "b,refused,LinkKnown"),
+        ("c,link,001,8", "c,refused,LinkKnown"),
+        ("d,link,2,7", "d,done,2"),
+    )
+
+
+def test_classes():
+    replies(
+        ("a,class,A,point", "a,done,1"),
+        ("b,class,ABCDEFG9,stretch", "b,done,2"),
+        ("c,class,0,exclusive", "c,done,3"),
+        ("d,class,ABCDEFGHI,point", "d,refused,Malformed:a"),
+        ("e,class,,point", "e,refused,Malformed:a"),
+        ("f,class,a,point", "f,refused,Malformed:a"),
+        ("g,class,A-B,point", "g,refused,Malformed:a"),
+        ("h,class,B,Point", "h,refused,Malformed:b"),
+        ("i,class,B,", "i,refused,Malformed:b"),
+        ("j,class,B,points", "j,refused,Malformed:b"),
+        ("k,class,A,stretch", "k,refused,ClassKnown"),
+        ("l,class,A,point", "l,refused,ClassKnown"),
+    )
+
+
+def test_fields_that_a_verb_does_not_use_are_empty():
+    for place, letter in enumerate("cdefghi"):
+        row = "k,link,1,5" + "," * (place + 1) + "x"
+        replies((row, f"k,refused,Malformed:{letter}"))
+        replies((row.replace("link,1,5", "class,A,point"), f"k,refused,Malformed:{letter}"))
+    replies(("k,link,1,5,,x,,x", "k,refused,Malformed:d"))
+
+
+def test_keys():
+    longest = "Az09.:_-" * 5
+    replies(
+        (f"{longest},link,1,1", f"{longest},done,1"),
+        (f"{longest}x,link,2,1", "-,refused,Malformed:key"),
+        ("-,link,2,1", "-,refused,Malformed:key"),
+        (",link,2,1", "-,refused,Malformed:key"),
+        ("a b,link,2,1", "-,refused,Malformed:key"),
+        ("a/b,link,2,1", "-,refused,Malformed:key"),
+        ("\u00e9,link,2,1", "-,refused,Malformed:key"),
+        ("--,link,2,1", "--,done,2"),
+        (".,link,3,1", ".,done,3"),
+        ("?,nothing,0,0", "-,refused,Malformed:key"),
+    )
+
+
+def test_unknown_verbs():
+    replies(*((f"k,{verb},0,0", "k,refused,Malformed:verb") for verb in ["", "Link", "links", "LINK", " link", "edit"]))
+
+
+def test_repeated_keys():
+    replies(
+        ("a,link,1,5", "a,done,1"),
+        ("b,link,2,5", "b,done,2"),
+        ("a,link,1,5", "a,again,1"),
+        ("a,link,01,005", "a,again,1"),
+        ("a,link,1,6", "a,refused,KeyUsed:1"),
+        ("a,class,A,point", "a,refused,KeyUsed:1"),
+        ("b,link,2,5", "b,again,2"),
+        ("a,link,1,0", "a,refused,Malformed:b"),
+        ("c,link,2,5", "c,refused,LinkKnown"),
+        ("c,link,3,5", "c,done,3"),
+        ("A,link,4,5", "A,done,4"),
+    )
+
+
+def test_headers_that_are_refused():
+    good = HEADER.rstrip(b"\n")
+    for header in [
+        b"key,verb",
+        b"key",
+        b"key,asset,class,route,side,method,from,to,value,offset",
+        good + b",",
+        good + b",j",
+        good[:-2],
+        good.upper(),
+        good + b" ",
+        b" " + good,
+        good.replace(b"verb", b"Verb"),
+        good.replace(b",", b";"),
+        b"k1,link,1,5,,,,,,,",
+    ]:
+        faults(run_sheet(header + b"\nk1,link,1,5,,,,,,,\n"), "BadHeader")
+        faults(run_sheet(header), "BadHeader")
+    faults(run_sheet(b"key,verb\n\n,,,\n"), "BadHeader")
+
+
+def test_records_of_another_length():
+    good = record("k1,link,1,5") + record("k2,link,0,5")
+    answered = lines("k1,done,1", "k2,refused,Malformed:a")
+    for row in [b"k3,link,3,5,,,,,,\n", b"k3,link,3,5,,,,,,,,\n", b" \n", b'""\n', b"k3\n", b'k3,"link']:
+        faults(run_sheet(HEADER + good + row + record("k4,link,4,5")), "BadCsv", answered)
+    faults(run_sheet(HEADER + b'k1,"link\n'), "BadCsv")
+    faults(run_sheet(HEADER + b'"'), "BadCsv")
+
+
+def test_line_ends():
+    for end in [b"\n", b"\r", b"\r\n", b"\n\n", b"\r\r\n", b"\n\r\n\n"]:
+        sheet = FIRST.replace(b"\n", end)
+        ends(run_sheet(sheet), FIRST_REPLIES, 0)
+        ends(run_sheet(end + sheet), FIRST_REPLIES, 0)
+        ends(run_sheet(sheet[: -len(end)]), FIRST_REPLIES, 0)
+
+
+def test_quoted_fields():
+    rows = [
+        (b'"a","link","1","5"', "a,done,1"),
+        (b'b,"li"nk,2,5', "b,done,2"),
+        (b'"c",link,"3",5', "c,done,3"),
+        (b'd,li"nk",4,5', "d,refused,Malformed:verb"),
+        (b'e,link,"4,",5', "e,refused,Malformed:a"),
+        (b'f,link,"4\n",5', "f,refused,Malformed:a"),
+        (b'g,link,"""4""",5', "g,refused,Malformed:a"),
+        (b'"h""",link,4,5', "-,refused,Malformed:key"),
+        (b'"i" ,link,4,5', "-,refused,Malformed:key"),
+        (b' "j",link,4,5', "-,refused,Malformed:key"),
+        (b'k,link,"4"",",5', "k,refused,Malformed:a"),
+    ]
+    sheet = HEADER + b"".join(row + b",,,,,,,\n" for row, _ in rows)
+    ends(run_sheet(sheet), lines(*(reply for _, reply in rows)), 1)
+
+
+def test_mark_before_the_header():
+    body = FIRST[len(HEADER) :]
+    quoted = b'"key",' + HEADER[4:]
+    for sheet in [MARK + FIRST, MARK + MARK + FIRST, MARK + quoted + body, b"\n" + MARK + FIRST]:
+        ends(run_sheet(sheet), FIRST_REPLIES, 0)
+    ends(run_sheet(b'"' + MARK + b'key",' + HEADER[4:] + body), FIRST_REPLIES, 0)
+    ends(run_sheet(MARK), b"", 0)
+    for sheet in [MARK * 3 + FIRST, MARK + MARK + quoted + body, b" " + MARK + FIRST]:
+        faults(run_sheet(sheet), "BadHeader")
+    ends(run_sheet(HEADER + MARK + record("k,link,1,5")), lines("-,refused,Malformed:key"), 1)
+
+
+def test_bytes_that_are_no_text():
+    row = b"k\xff,link,1,5,,,,,,,\n" + b"k,l\x00nk,1,5,,,,,,,\n" + b"k,link,1,5\x80,,,,,,,\n"
+    ends(run_sheet(HEADER + row), lines("-,refused,Malformed:key", "k,refused,Malformed:verb", "k,refused,Malformed:b"), 1)
+
+
+def test_long_fields():
+    long = "9" * 100_000
+    replies(
+        (f"{long},link,1,5", "-,refused,Malformed:key"),
+        (f"k,{long},1,5", "k,refused,Malformed:verb"),
+        (f"k,link,{long},5", "k,refused,Malformed:a"),
+        ("k,link," + "0" * 100_000 + "1,5", "k,done,1"),
+    )
+
+
+def test_words_that_are_not_understood():
+    for words in [
+        [],
+        ["edit"],
+        ["edit", ":memory:"],
+        ["edit", ":memory:", "stdin", "more"],
+        ["edits", ":memory:", "stdin"],
+        ["EDIT", ":memory:", "stdin"],
+        ["edit", "--fast", ":memory:", "stdin"],
+        ["edit", "nowhere/db", "stdin", "more"],
+        [""],
+    ]:
+        ended = run(*words, given=FIRST)
+        assert (ended.stdout, ended.status) == (b"", 2) and ended.stderr, (words, ended)
+
+
+def test_help():
+    for words in [["--help"], ["-h"], ["help"], ["edit", "--help"], ["help", "edit"]]:
+        ended = run(*words)
+        assert (ended.stderr, ended.status) == (b"", 0) and ended.stdout, (words, ended)
+
+
+def test_an_inventory_that_cannot_be_opened():
+    with tempfile.TemporaryDirectory() as folder:
+        faults(run("edit", f"{folder}/none/db", "stdin", given=FIRST), "Open")
+        # the inventory is opened before the sheet
+        faults(run("edit", f"{folder}/none/db", f"{folder}/sheet"), "Open")
+        # and the words are read before both
+        assert run("edit", f"{folder}/none/db", f"{folder}/sheet", "more").status == 2
+
+
+def test_sheets_in_files():
+    with tempfile.TemporaryDirectory() as folder:
+        sheet = pathlib.Path(folder) / "stdin"
+        sheet.write_bytes(FIRST)
+        ends(run("edit", ":memory:", str(sheet)), FIRST_REPLIES, 0)
+        ends(run("edit", ":memory:", "./stdin", cwd=folder), FIRST_REPLIES, 0)
+        ends(run("edit", ":memory:", "stdin", cwd=folder), b"", 0)
+        faults(run("edit", ":memory:", f"{folder}/none", given=FIRST), "Read")
+        faults(run("edit", ":memory:", folder, given=FIRST), "Read")
+
+
+def test_replies_that_cannot_be_written():
+    with open("/dev/full", "wb") as full:
+        done = subprocess.run([PROGRAM, "edit", ":memory:", "stdin"], input=FIRST, stdout=full, stderr=subprocess.PIPE, timeout=600)
+    assert (done.stderr, done.returncode) == (b"roadlrs: fault Write\n", 3), done
+    read, write = os.pipe()
+    os.close(read)
+    done = subprocess.run([PROGRAM, "edit", ":memory:", "stdin"], input=FIRST, stdout=write, stderr=subprocess.PIPE, timeout=600)
+    os.close(write)
+    assert (done.stderr, done.returncode) == (b"roadlrs: fault Write\n", 3), done
+
+
+def long_sheet(count):
+    sheet = HEADER + b"".join(b"k%d,link,%d,5,,,,,,,\n" % (n, n) for n in range(1, count + 1))
+    return sheet, b"".join(b"k%d,done,%d\n" % (n, n) for n in range(1, count + 1))
+
+
+def shown_on(terminal):
+    """Reads all that is written to a terminal, on a thread of its own."""
+    seen = []
+
+    def read():
+        while True:
+            try:
+                piece = os.read(terminal, 65536)
+            except OSError:
+                return
+            if not piece:
+                return
+            seen.append(piece)
+
+    reader = threading.Thread(target=read)
+    reader.start()
+    return reader, seen
+
+
+def test_a_long_sheet():
+    sheet, expected = long_sheet(60_000)
+    ends(run_sheet(sheet), expected, 0)
+
+
+def test_progress_is_shown_on_a_terminal_alone():
+    sheet, expected = long_sheet(60_000)
+    outer, inner = pty.openpty()
+    reader, seen = shown_on(outer)
+    done = subprocess.run([PROGRAM, "edit", ":memory:", "stdin"], input=sheet, stdout=subprocess.PIPE, stderr=inner, timeout=600)
+    os.close(inner)
+    reader.join()
+    os.close(outer)
+    shown = b"".join(seen)
+    assert (done.stdout, done.returncode) == (expected, 0), done.returncode
+    assert b" records" in shown and shown.endswith(b"\r\x1b[K"), shown[-200:]
+
+
+def test_a_short_sheet_shows_no_progress():
+    outer, inner = pty.openpty()
+    reader, seen = shown_on(outer)
+    done = subprocess.run([PROGRAM, "edit", ":memory:", "stdin"], input=FIRST, stdout=subprocess.PIPE, stderr=inner, timeout=600)
+    os.close(inner)
+    reader.join()
+    os.close(outer)
+    assert (done.stdout, done.returncode, b"".join(seen)) == (FIRST_REPLIES, 0, b""), seen
