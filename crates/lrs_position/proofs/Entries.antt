@@ -83,10 +83,10 @@ some_is n l i h = let c = cond_some (nat_lt n l) n i (sym h) in (c.1, ltb-true n
 none_is : (n l : ℕ) → None ≡ (if nat_lt n l then Some n else None) → l ≤ n
 none_is n l h = ltb-false n l (false_from_ne_true _ (λ t. none-some n (h ∙ ap (λ (b : Bool). if b then Some n else None) t)))
 
-some_from : (n l i : ℕ) → n ≡ i → i < l → Some i ≡ (if nat_lt n l then Some n else None)
+pub some_from : (n l i : ℕ) → n ≡ i → i < l → Some i ≡ (if nat_lt n l then Some n else None)
 some_from n l i e h = sym (ap (λ (k : ℕ). if nat_lt k l then Some k else None) e ∙ ap (λ (b : Bool). if b then Some i else None) (lt-ltb i l h))
 
-none_from : (n l : ℕ) → l ≤ n → None ≡ (if nat_lt n l then Some n else None)
+pub none_from : (n l : ℕ) → l ≤ n → None ≡ (if nat_lt n l then Some n else None)
 none_from n l h = sym (ap (λ (b : Bool). if b then Some n else None) (le-ltb n l h))
 
 pub position_below : {X : Type 0} (p : X → Bool) (xs : List X) (i : ℕ) → Some i ≡ position p xs → i < length xs

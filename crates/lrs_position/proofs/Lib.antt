@@ -7,3 +7,4 @@ pub mod RoundTrips
 pub mod Stated
 pub mod OnLinks
 pub mod Entries
+pub mod Returning

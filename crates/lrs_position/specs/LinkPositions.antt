@@ -1,5 +1,5 @@
 -- Where a place of a route is on a link, and the reverse: the link, and the distance from its start (ISO 19148: absolute method along a link).
-use Rattle.std.specs.Prelude.{◌≡◌, ℕ, pos, ◌+◌, ◌-◌, ◌*◌, Bool, is_none, is_some, if◌then◌else◌, List, length, Option, Some, None, Result, Err, IsOkAnd, MatchOption, MatchResult, slice_get, unsigned_abs}
+use Rattle.std.specs.Prelude.{◌≡◌, ◌≢◌, ℕ, pos, ◌+◌, ◌-◌, ◌*◌, Bool, is_none, is_some, if◌then◌else◌, List, length, Option, Some, None, Result, Ok, Err, IsOkAnd, MatchOption, MatchResult, Ok, slice_get, unsigned_abs}
 use Rattle.std.specs.List.{find}
 use Rattle.std.specs.Option.{option_or}
 use Rattle.lrs_measure.specs.Fraction.{Fraction, IsLowest, IsQuotient}
@@ -12,7 +12,7 @@ use Rattle.lrs_position.specs.declared.locating.PlaceFault.{PlaceFault}
 use Rattle.lrs_position.specs.declared.locating.PlaceFault.TheVariants.{OffRoute}
 use Rattle.lrs_position.specs.declared.route.Route.{Route}
 use Rattle.lrs_position.specs.Locating.{Alignment, located_or_fault, cell}
-use Rattle.lrs_position.specs.Translating.{IsAnswer, chainage_fault}
+use Rattle.lrs_position.specs.Translating.{IsAnswer, IsOnRoute, chainage_fault}
 
 -- The place n/d of one linear element, which stands in its millimetre i, in 1/d mm of another one that has this millimetre as its k-th: behind the start of that where both run one way, before its end where they do not.
 abbrev pub across : Bool → ℕ → ℕ → ℕ × ℕ → ℕ
@@ -58,3 +58,14 @@ link_fault routes link p = option_or (chainage_fault link.length p) (if is_none 
 -- The answer is the route and the chainage of a distance from the start of a link, or the first fault.
 abbrev pub IsRoutePosition : List Route → Link → Fraction → Result (Name × Fraction) PlaceFault → Type 0
 IsRoutePosition routes link p answer = MatchOption (link_fault routes link p) (IsOkAnd answer (λ a. LiesOnRoute routes link p a.0 a.1)) (λ fault. answer ≡ Err fault)
+
+-- No two entries of the routes are of one millimetre of the ground.
+abbrev pub ShareNoGround : List Route → Type 0
+ShareNoGround routes =
+    (i j : ℕ) (r : Route) (g : Ground) (k l : ℕ) (s : Route) (h : Ground) → slice_get routes i ≡ Some r → slice_get r.course j ≡ Some g → slice_get routes k ≡ Some s → slice_get s.course l ≡ Some h → g.link ≡ h.link → g.mm ≡ h.mm → (i ≡ k) × (j ≡ l)
+
+-- The way back: where the routes share no ground, and a chainage in the middle of a millimetre of one of them is at a distance p on a link that is on it and not too fine, the answer is that route and that chainage.
+abbrev pub ComesBack : List Route → Link → Fraction → Result (Name × Fraction) PlaceFault → Type 0
+ComesBack routes link p answer =
+    ShareNoGround routes → (i : ℕ) (r : Route) (x : Fraction) → slice_get routes i ≡ Some r → IsOnRoute (length r.course) x → IsLowest x → x.den ≢ 1
+    → LiesOn r.course x link.number p → chainage_fault link.length p ≡ None → answer ≡ Ok (r.name, x)

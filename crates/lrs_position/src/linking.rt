@@ -6,7 +6,7 @@ ghost use Rattle.lrs_element.specs.Course as ground;
 ghost use Rattle.lrs_element.specs.Course.{expand, is_at};
 ghost use Rattle.lrs_element.specs.Limits.{longest_route};
 ghost use Rattle.lrs_position.specs.LinkPositions as linked;
-ghost use Rattle.lrs_position.specs.LinkPositions.{LiesOn, IsLinkPosition, IsRoutePosition};
+ghost use Rattle.lrs_position.specs.LinkPositions.{LiesOn, IsLinkPosition, IsRoutePosition, ComesBack};
 ghost use Rattle.lrs_position.specs.Locating as place;
 ghost use Rattle.lrs_position.specs.Translating.{alignment_of, referent_at, chainage_fault, IsOnRoute};
 
@@ -49,7 +49,10 @@ pub fn link_to_route(
     link: Link,
     position: Frac,
 ) -> Result<(RouteName, Frac), PlaceFault>
-    ensures { IsRoutePosition routes.now link position result }
+    ensures answer { IsRoutePosition routes.now link position result }
+
+    // The reverse of `route_to_link`: a chainage in the middle of a millimetre comes back.
+    ensures back { ComesBack routes.now link position result }
 {
     match millimetre_at(link, position) {
         Err(fault) => Err(fault),
