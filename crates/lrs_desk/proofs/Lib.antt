@@ -9,3 +9,4 @@ pub mod NewLink
 pub mod NewClass
 pub mod NewCourse
 pub mod NewRoute
+pub mod RunOver

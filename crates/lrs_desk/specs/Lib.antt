@@ -2,6 +2,7 @@ pub mod Lists
 pub mod Change
 pub mod Keeping
 pub mod Index
+pub mod RunOver
 pub mod Plan
 pub mod NewRoute
 pub mod Decide
