@@ -16,7 +16,7 @@ use Rattle.lrs_desk.proofs.desk.make.Goals as goal
 
 pub overflow_add-result : goal.overflow_add-result
 overflow_add-result g c =
-    let few = few_edits (apply (record { edit = c.args.edit; parts = c.args.parts }) c.args.image.now) c.requires.sound in
+    let few = few_edits (apply (record { edit = c.args.edit; parts = c.args.parts }) c.args.image.now) c.requires.next_sound in
     omega (arith, few, length-append c.args.image.now.edits (c.args.edit ∷ []), c.len-place.ensures)
 
 pub index_change-requires-clause-once : goal.index_change-requires-clause-once
@@ -24,14 +24,14 @@ index_change-requires-clause-once g c =
     let i = c.args.image.now in
     let parts = c.args.parts in
     ap is_run_once (ap course_of c.deref.ensures.value ∙ c.in_ok-pieces.ensures.course ∙ ap ground_of_routes c.as_slice.ensures)
-    ∙ behind (ground_of_routes i.routes) (ground_of_routes parts.written) (change_once c.args.edit parts i c.requires.dropped c.requires.sound)
+    ∙ behind (ground_of_routes i.routes) (ground_of_routes parts.written) (change_once c.args.edit parts i c.requires.dropped c.requires.next_sound)
 
 pub index_change-requires-clause-free : goal.index_change-requires-clause-free
 index_change-requires-clause-free g c =
     let i = c.args.image.now in
     let parts = c.args.parts in
     ap (is_shared c.args.occupied.now) (ap course_of c.deref.ensures.value ∙ c.in_ok-pieces.ensures.course ∙ ap ground_of_routes c.as_slice.ensures)
-    ∙ free_behind c.args.occupied.now (ground_of_routes i.routes) (ground_of_routes parts.written) c.requires.routes.at (change_once c.args.edit parts i c.requires.dropped c.requires.sound)
+    ∙ free_behind c.args.occupied.now (ground_of_routes i.routes) (ground_of_routes parts.written) c.requires.routes.at (change_once c.args.edit parts i c.requires.dropped c.requires.next_sound)
 
 pub returns-in-Ok-clause-keys : goal.returns-in-Ok-clause-keys
 returns-in-Ok-clause-keys g c =
