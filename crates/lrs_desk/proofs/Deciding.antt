@@ -130,6 +130,7 @@ module _ (limits : Limits) (key : Name) (command : Command) (i : Image) (none : 
 
   pub is_done : (p : Parts) → HasRoom limits command i → Makes command i p → IsDoneBy limits key command i p
   is_done p room makes = record {
+    dropped = makes.dropped;
     outcome = step-new limits key command i none ∙ ap (outcome_of key command (state_of i)) (next-attempt room ∙ makes.state) ∙ done_is p;
     sound = makes.sound (edit_of key command) (none_passes (λ (e : Edit). same_name e.key key) i.edits none) (few room.edits (limits_few limits)) (few_routes (needs_route command) room.routes (limits_few_routes limits));
     new_key = none;

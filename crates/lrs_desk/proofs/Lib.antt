@@ -11,3 +11,4 @@ pub mod NewLink
 pub mod NewClass
 pub mod NewCourse
 pub mod NewRoute
+pub mod RunOver

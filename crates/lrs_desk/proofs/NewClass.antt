@@ -128,6 +128,7 @@ module _ (c : Class) (i : Image) (fresh : list_any (has_name c.name) i.classes �
 
   pub makes : Makes (verb.Class c) i (class_parts c)
   makes = record {
+    dropped = refl;
     state = makes_new c i (length i.edits + 1) fresh;
     sound = λ e new_key room routes. subst (λ t. IsSound (with_edit e t)) (sym (with_parts-class c i)) (stays_sound e new_key room);
   }

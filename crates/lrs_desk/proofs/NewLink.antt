@@ -225,6 +225,7 @@ module _ (l : Link) (i : Image) (fresh : list_any (has_number l.number) i.links 
 
   pub makes : Makes (verb.Link l) i (link_parts l)
   makes = record {
+    dropped = refl;
     state = makes_new l i (length i.edits + 1) fresh;
     sound = λ e new_key room routes. subst (λ t. IsSound (with_edit e t)) (sym (with_parts-link l i)) (stays_sound e new_key room);
   }

@@ -320,6 +320,7 @@ pub makes : (name : Name) (pieces : List Piece) (marks : List Mark) (course : Li
 makes name pieces marks course i e fresh is marked of s =
     let ground = free_of i pieces course is in
     record {
+      dropped = refl;
       state = after_marks name pieces marks i (length i.edits + 1) fresh course (Ok tt) is marked
           ∙ ap Ok (state-with_route e i name course marks of fresh ∙ ap state_of (sym (with_parts-route e i)));
       sound = λ d new_key room routes. subst (λ t. IsSound (with_edit d t)) (sym (with_parts-route e i))

@@ -1,5 +1,5 @@
 -- What is decided about a command.
-use Rattle.std.specs.Prelude.{◌≡◌, ◌+◌, ◌&&◌, true, false, nat_le, length, None}
+use Rattle.std.specs.Prelude.{◌≡◌, ◌+◌, ◌&&◌, true, false, nat_le, [], length, None}
 use Rattle.lrs_measure.specs.Texts.{Name}
 use Rattle.lrs_machine.specs.declared.answer.What.{What}
 use Rattle.lrs_machine.specs.declared.answer.What.TheVariants.{Edits, Assets, Routes}
@@ -26,8 +26,9 @@ edit_of key command = record { key = key; line = line_of command }
 abbrev pub done_image : Name → Command → Parts → Image → Image
 done_image key command parts i = with_edit (edit_of key command) (with_parts parts i)
 
--- The command is done by these parts under a new key, and leaves the image sound.
+-- The command is done by these parts under a new key, and leaves the image sound. No route goes.
 pub record IsDoneBy (limits : Limits) (key : Name) (command : Command) (i : Image) (parts : Parts) : Type 0 where
+  pub dropped : parts.dropped ≡ []
   pub outcome : step limits key command (state_of i) ≡ record { answer = Done (length i.edits + 1); state = state_of (done_image key command parts i) }
   pub sound : IsSound (done_image key command parts i)
   pub new_key : place_among i.edits key ≡ None

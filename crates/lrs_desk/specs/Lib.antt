@@ -3,6 +3,7 @@ pub mod Change
 pub mod Opened
 pub mod Keeping
 pub mod Index
+pub mod RunOver
 pub mod Plan
 pub mod NewRoute
 pub mod Decide

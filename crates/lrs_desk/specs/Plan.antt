@@ -1,5 +1,5 @@
 -- What the plan of a command says of the ground.
-use Rattle.std.specs.Prelude.{◌≡◌, ◌+◌, ◌≤◌, Bool, true, false, not, List, length, Result, Ok, Err}
+use Rattle.std.specs.Prelude.{◌≡◌, ◌+◌, ◌≤◌, Bool, true, false, not, List, [], length, Result, Ok, Err}
 use Rattle.std.specs.List.{list_all}
 use Rattle.lrs_measure.specs.Texts.{same_name}
 use Rattle.lrs_machine.specs.declared.answer.Cause.{Cause}
@@ -25,8 +25,9 @@ is_planned _ = false
 abbrev pub is_new : Edit → List Edit → Bool
 is_new e edits = list_all (λ d. not (same_name d.key e.key)) edits
 
--- The parts make of an image what the command makes of the ground, and with a new edit leave it sound, where there is room for what is new.
+-- The parts make of an image what the command makes of the ground, and with a new edit leave it sound, where there is room for what is new. No route goes.
 pub record Makes (command : Command) (i : Image) (p : Parts) : Type 0 where
+  pub dropped : p.dropped ≡ []
   pub state : attempt (length i.edits + 1) command (state_of i) ≡ Ok (state_of (with_parts p i))
   pub sound : (e : Edit) → is_new e i.edits ≡ true → length i.edits + 1 ≤ most_edits → (needs_route command ≡ true → length i.routes + 1 ≤ most_routes) → IsSound (with_edit e (with_parts p i))
 

@@ -5,6 +5,7 @@ ghost use Rattle.lrs_machine.specs.Lines.{line_of};
 ghost use Rattle.lrs_machine.specs.Machine.{answer_known};
 ghost use Rattle.lrs_machine.specs.Sound.{IsSound};
 ghost use Rattle.lrs_desk.specs.Index.{IsIndex};
+ghost use Rattle.lrs_desk.specs.RunOver.{IsOccupiedBy};
 ghost use Rattle.lrs_desk.specs.Decide.{IsDecision, HasRoom, LacksRoom};
 ghost use Rattle.lrs_machine.specs.declared.image.Edit.{Edit as DeclaredEdit};
 
@@ -12,6 +13,7 @@ use crate::change::Parts;
 use crate::index::KeyIndex;
 use crate::plan::plan;
 use crate::planned::Planned;
+use lrs_index::OccupiedGround;
 use lrs_machine::{Answer, Cause, Command, Edit, Image, Key, Limits, Line, What};
 use std::alloc::{AllocError, Global};
 
@@ -30,12 +32,14 @@ pub fn decide(
     image: &Image,
     limits: &Limits,
     keys: &KeyIndex,
+    occupied: &OccupiedGround,
     key: &Key,
     command: &Planned,
     line: &Line,
 ) -> Result<Decision, AllocError>
     requires sound { IsSound image.now }
     requires keys { IsIndex keys.now image.now.edits }
+    requires routes { IsOccupiedBy occupied.now image.now.routes }
     requires line { line.now ≡ line_of command.now }
     ensures decided { IfOk result (IsDecision limits.now key.now command.now image.now) }
 {
@@ -46,7 +50,7 @@ pub fn decide(
     if let Some(what) = lacks_room(image, limits, command) {
         return Ok(Decision::Stay(Answer::Refused(Cause::TooMany(what))));
     }
-    match plan(alloc, image, command)? {
+    match plan(alloc, image, occupied, command)? {
         Ok(parts) => Ok(Decision::Make(parts)),
         Err(cause) => Ok(Decision::Stay(Answer::Refused(cause))),
     }

@@ -1,6 +1,6 @@
 //! The desk: it does commands, and keeps what they change.
 
-ghost use Rattle.std.specs.Prelude.{◌≡◌, ◌+◌, ◌≤◌, ◌↔◌, IsTrue, IfOk, IfErr, OnOk, OnErr, Ok, Err, length, true, false, not, None};
+ghost use Rattle.std.specs.Prelude.{◌≡◌, ◌+◌, ◌≤◌, ◌↔◌, IsTrue, IfOk, IfErr, OnOk, OnErr, Ok, Err, length, true, false, not, None, []};
 ghost use Rattle.lrs_measure.specs.Lists.{each_two};
 ghost use Rattle.lrs_measure.specs.Texts.{same_name};
 ghost use Rattle.lrs_machine.specs.declared.table.Table.{Table};
@@ -9,6 +9,12 @@ ghost use Rattle.lrs_machine.specs.Image.{state_of};
 ghost use Rattle.lrs_machine.specs.Machine.{step, answers, state_after};
 ghost use Rattle.lrs_machine.specs.Laws.{once};
 ghost use Rattle.lrs_desk.specs.Index.{IsIndex, place_among};
+ghost use Rattle.lrs_desk.specs.RunOver.{IsOccupiedBy};
+ghost use Rattle.lrs_index.specs.Occupied.{HasGained, is_run_once, is_shared};
+ghost use Rattle.lrs_element.specs.Course.{course_of};
+ghost use Rattle.lrs_element.specs.Pieces.{IsFilled};
+ghost use Rattle.std.specs.List.{AllByRecursion};
+ghost use Rattle.std.specs.FinMap as map;
 ghost use Rattle.lrs_machine.specs.Sound.{IsSound};
 ghost use Rattle.lrs_desk.specs.Keeping.{HasRisen, IsOldOrNew};
 ghost use Rattle.lrs_desk.specs.Desk.{IsUnchanged, HasBroken, records_of};
@@ -19,6 +25,9 @@ use crate::index::KeyIndex;
 use crate::keep::keep;
 use crate::keeper::{KeepFault, Keeper};
 use crate::planned::Planned;
+use crate::taken::{ground_of, pieces_of};
+use lrs_element::Piece;
+use lrs_index::OccupiedGround;
 use lrs_machine::{Answer, Edit, Image, Key, Limits, Table};
 use std::alloc::{AllocError, AllocFailed, Global};
 use std::marker::Model;
@@ -89,6 +98,7 @@ pub struct Desk<K: Keeper> {
     keeper: K,
     image: Image,
     keys: KeyIndex,
+    occupied: OccupiedGround,
     limits: Limits,
     must_reopen: bool,
     alloc: Global,
@@ -107,7 +117,7 @@ impl<K: Keeper> Model for Desk<K> {
       failures = K.failures d.keeper;
     } };
 
-    ghost invariant = { λ d. IsWorking d.image d.keys d.must_reopen (K.content d.keeper) (K.is_loaded d.keeper) };
+    ghost invariant = { λ d. IsWorking d.image d.keys d.occupied d.must_reopen (K.content d.keeper) (K.is_loaded d.keeper) };
 }
 
 impl<K: Keeper> Desk<K> {
@@ -133,10 +143,14 @@ impl<K: Keeper> Desk<K> {
         let Ok(keys) = index_of(image.edits.as_slice(), alloc) else {
             return Err((OpenFault::Memory, keeper));
         };
+        let Ok(occupied) = ground_of(image.routes.as_slice(), alloc) else {
+            return Err((OpenFault::Memory, keeper));
+        };
         Ok(Desk {
             keeper,
             image,
             keys,
+            occupied,
             limits,
             must_reopen: false,
             alloc,
@@ -188,6 +202,7 @@ impl<K: Keeper> Desk<K> {
             &self.image,
             &self.limits,
             &self.keys,
+            &self.occupied,
             &key,
             command,
             &line,
@@ -197,8 +212,10 @@ impl<K: Keeper> Desk<K> {
             Decision::Make(parts) => {
                 let edit = Edit { key, line };
                 let made = make(
+                    self.alloc,
                     &mut self.image,
                     &mut self.keys,
+                    &mut self.occupied,
                     &mut self.keeper,
                     edit,
                     parts,
@@ -210,11 +227,13 @@ impl<K: Keeper> Desk<K> {
     }
 }
 
-// Makes a change, and answers the number of its edit. Its key is indexed before the commit, which needs
-// memory, and taken out again if the commit fails, which needs none.
+// Makes a change, and answers the number of its edit. What comes is indexed before the commit, which
+// needs memory, and taken out again if the commit fails, which needs none.
 fn make<K: Keeper>(
+    alloc: Global,
     image: &mut Image,
     keys: &mut KeyIndex,
+    occupied: &mut OccupiedGround,
     keeper: &mut K,
     edit: Edit,
     parts: Parts,
@@ -224,7 +243,9 @@ fn make<K: Keeper>(
     requires sound { IsSound image.old }
     requires next_sound { IsSound (apply (record { edit = edit; parts = parts }) image.old) }
     requires keys { IsIndex keys.old image.old.edits }
+    requires routes { IsOccupiedBy occupied.old image.old.routes }
     requires new_key { place_among image.old.edits edit.key ≡ None }
+    requires dropped { parts.dropped ≡ [] }
     ensures answer { IfOk result (λ answer. answer ≡ Answer.Done (length image.old.edits + 1)) }
     ensures ok { OnOk result (image.new ≡ apply (record { edit = edit; parts = parts }) image.old) }
     ensures ok_kept { OnOk result (K.content keeper.new ≡ Ok (apply (record { edit = edit; parts = parts }) image.old)) }
@@ -235,15 +256,44 @@ fn make<K: Keeper>(
     ensures only { result ≡ Err Fault.MustReopen → ⊥ }
     ensures loaded { K.is_loaded keeper.new ≡ true }
     ensures keys { IsIndex keys.new image.new.edits }
+    ensures routes { IsOccupiedBy occupied.new image.new.routes }
 {
     let place = image.edits.len() as u64;
     let key = edit.key;
-    keys.insert(key, place)?;
+    let pieces = pieces_of(parts.written.as_slice(), alloc)?;
+    index_change(keys, occupied, key, place, &pieces)?;
     match keep(image, keeper, Change { edit, parts }) {
         Ok(()) => Ok(Answer::Done(place + 1)),
         Err(fault) => {
             keys.remove(&key);
+            occupied.remove_all(&pieces);
             Err(commit_fault(fault))
+        }
+    }
+}
+
+// Indexes a key and the ground of pieces, or neither.
+fn index_change(
+    keys: &mut KeyIndex,
+    occupied: &mut OccupiedGround,
+    key: Key,
+    place: u64,
+    pieces: &[Piece],
+) -> Result<(), AllocError>
+    requires filled { AllByRecursion IsFilled pieces.now }
+    requires once { is_run_once (course_of pieces.now) ≡ true }
+    requires free { is_shared occupied.old (course_of pieces.now) ≡ false }
+    ensures ok_key { OnOk result (keys.new ≡ map.insert keys.old key place) }
+    ensures ok_ground { OnOk result (HasGained occupied.old occupied.new pieces.now) }
+    ensures err_key { OnErr result (keys.new ≡ keys.old) }
+    ensures err_ground { OnErr result (occupied.new ≡ occupied.old) }
+{
+    occupied.add_all(pieces)?;
+    match keys.insert(key, place) {
+        Ok(()) => Ok(()),
+        Err(fault) => {
+            occupied.remove_all(pieces);
+            Err(fault)
         }
     }
 }

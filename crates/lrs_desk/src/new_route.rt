@@ -10,12 +10,13 @@ ghost use Rattle.lrs_machine.specs.Sound.{IsSound};
 ghost use Rattle.lrs_desk.specs.Change.{route_before};
 ghost use Rattle.lrs_desk.specs.NewRoute as specs;
 ghost use Rattle.lrs_desk.specs.Plan.{Plans};
+ghost use Rattle.lrs_desk.specs.RunOver.{IsOccupiedBy};
 
 use crate::change::{Parts, no_parts};
 use crate::routes::place_of;
-use crate::taken::first_taken;
 use lrs_element::{Course, CourseFault, Mark, MarkFault, Marks, Piece};
 use lrs_events::Spans;
+use lrs_index::OccupiedGround;
 use lrs_machine::{Cause, Image, MarkList, PieceList, RouteEntry};
 use lrs_measure::Rows;
 use lrs_position::{Route, RouteName};
@@ -25,17 +26,19 @@ use std::alloc::{AllocError, Global};
 pub fn plan_route(
     alloc: Global,
     image: &Image,
+    occupied: &OccupiedGround,
     name: RouteName,
     pieces: &PieceList,
     marks: &MarkList,
 ) -> Result<Result<Parts, Cause>, AllocError>
     requires sound { IsSound image.now }
+    requires routes { IsOccupiedBy occupied.now image.now.routes }
     ensures planned { IfOk result (Plans (verb.Route name pieces.now marks.now) image.now) }
 {
     if knows_route(image.routes.as_slice(), &name) {
         return Ok(Err(Cause::RouteKnown));
     }
-    let course = match free_course(alloc, image, pieces.as_slice())? {
+    let course = match free_course(alloc, image, occupied, pieces.as_slice())? {
         Ok(course) => course,
         Err(cause) => return Ok(Err(cause)),
     };
@@ -58,13 +61,15 @@ fn knows_route(routes: &[RouteEntry], name: &RouteName) -> bool
 fn free_course(
     alloc: Global,
     image: &Image,
+    occupied: &OccupiedGround,
     pieces: &[Piece],
 ) -> Result<Result<Course, Cause>, AllocError>
     requires sound { IsSound image.now }
+    requires routes { IsOccupiedBy occupied.now image.now.routes }
     ensures { IfOk result (λ course. course ≡ specs.free_course (state_of image.now) pieces.now) }
 {
     match Course::new(alloc, pieces, image.links.as_slice()) {
-        Ok(course) => match first_taken(image, pieces) {
+        Ok(course) => match occupied.first_shared(pieces) {
             Some(i) => Ok(Err(Cause::Taken(i as u64))),
             None => Ok(Ok(course)),
         },

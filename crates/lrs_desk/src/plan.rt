@@ -5,6 +5,7 @@ ghost use Rattle.std.specs.List.{list_any};
 ghost use Rattle.lrs_measure.specs.Texts.{same_name};
 ghost use Rattle.lrs_machine.specs.declared.command.Command.TheVariants as verb;
 ghost use Rattle.lrs_desk.specs.Plan.{Plans};
+ghost use Rattle.lrs_desk.specs.RunOver.{IsOccupiedBy};
 ghost use Rattle.lrs_machine.specs.Sound.{are_links, are_classes, IsSound};
 
 use crate::change::{Parts, no_parts};
@@ -12,6 +13,7 @@ use crate::new_route::plan_route;
 use crate::planned::Planned;
 use lrs_element::Link;
 use lrs_events::{Class, ClassName};
+use lrs_index::OccupiedGround;
 use lrs_machine::{Cause, Command, Image};
 use std::alloc::{AllocError, Global};
 
@@ -19,9 +21,11 @@ use std::alloc::{AllocError, Global};
 pub fn plan(
     alloc: Global,
     image: &Image,
+    occupied: &OccupiedGround,
     command: &Planned,
 ) -> Result<Result<Parts, Cause>, AllocError>
     requires sound { IsSound image.now }
+    requires routes { IsOccupiedBy occupied.now image.now.routes }
     ensures planned { IfOk result (Plans command.now image.now) }
 {
     match command.command() {
@@ -31,7 +35,7 @@ pub fn plan(
             name,
             pieces,
             marks,
-        } => plan_route(alloc, image, *name, pieces, marks),
+        } => plan_route(alloc, image, occupied, *name, pieces, marks),
         _ => unreachable!(),
     }
 }

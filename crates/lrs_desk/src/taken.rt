@@ -1,29 +1,37 @@
-//! Ground that routes run over.
+//! The index of the ground that routes run over.
 
-ghost use Rattle.std.specs.Prelude.{◌≡◌, position};
-ghost use Rattle.std.specs.List.{list_any};
-ghost use Rattle.lrs_element.specs.Course.{expand, meets};
-ghost use Rattle.lrs_machine.specs.Image.{state_of};
-ghost use Rattle.lrs_machine.specs.Machine as machine;
+ghost use Rattle.std.specs.Prelude.{◌≡◌, true, IfOk};
+ghost use Rattle.std.specs.List.{AllByRecursion};
+ghost use Rattle.lrs_element.specs.Course.{course_of};
+ghost use Rattle.lrs_element.specs.Pieces.{IsFilled};
+ghost use Rattle.lrs_index.specs.Occupied.{is_run_once};
+ghost use Rattle.lrs_desk.specs.RunOver.{ground_of_routes, IsOccupiedBy};
 
 use lrs_element::Piece;
-use lrs_machine::{Image, RouteEntry};
+use lrs_index::OccupiedGround;
+use lrs_machine::RouteEntry;
+use std::alloc::{AllocError, Global};
 
-/// The first piece of which some route runs over a millimetre.
-pub fn first_taken(image: &Image, pieces: &[Piece]) -> Option<usize>
-    ensures { result ≡ position (λ p. machine.is_taken (state_of image.now) (expand p)) pieces.now }
+/// The ground of routes that run over no millimetre twice.
+pub fn ground_of(routes: &[RouteEntry], alloc: Global) -> Result<OccupiedGround, AllocError>
+    requires once { is_run_once (ground_of_routes routes.now) ≡ true }
+    ensures { IfOk result (λ occupied. IsOccupiedBy occupied routes.now) }
 {
-    first_covered(image.routes.as_slice(), pieces)
+    let mut occupied = OccupiedGround::new(alloc);
+    for entry in routes {
+        occupied.add_all(entry.route.course.pieces())?;
+    }
+    Ok(occupied)
 }
 
-fn first_covered(routes: &[RouteEntry], pieces: &[Piece]) -> Option<usize>
-    ensures { result ≡ position (λ p. list_any (λ e. meets (expand p) e.route.course) routes.now) pieces.now }
+/// The pieces of routes, one after another.
+pub fn pieces_of(routes: &[RouteEntry], alloc: Global) -> Result<Vec<Piece>, AllocError>
+    ensures course { IfOk result (λ pieces. course_of pieces.items ≡ ground_of_routes routes.now) }
+    ensures filled { IfOk result (λ pieces. AllByRecursion IsFilled pieces.items) }
 {
-    pieces.iter().position(|piece| is_covered(routes, *piece))
-}
-
-fn is_covered(routes: &[RouteEntry], piece: Piece) -> bool
-    ensures { result ≡ list_any (λ e. meets (expand piece) e.route.course) routes.now }
-{
-    routes.iter().any(|entry| entry.route.course.covers(piece))
+    let mut pieces = Vec::new(alloc);
+    for entry in routes {
+        pieces.extend_from_slice(entry.route.course.pieces())?;
+    }
+    Ok(pieces)
 }

@@ -4,6 +4,7 @@ use Rattle.lrs_element.specs.declared.link.Link.{Link}
 use Rattle.lrs_machine.specs.declared.answer.Cause.TheVariants as cause
 use Rattle.lrs_machine.specs.Machine.{refuse_at, ◌>>◌}
 use Rattle.lrs_desk.proofs.NewRoute.{no_link, bad_piece, twice, too_long, good_pieces}
+use Rattle.lrs_desk.proofs.RunOver.{first_is_taken}
 use Rattle.lrs_desk.proofs.Tables.{passes}
 use Rattle.lrs_desk.proofs.new_route.free_course.Goals as goal
 
@@ -14,13 +15,13 @@ pub returns-in-Some : goal.returns-in-Some
 returns-in-Some c =
     let i = c.args.image.now in
     let pieces = c.args.pieces.now in
-    ap (λ o. refuse_at o cause.Taken >> Ok (course_of pieces)) (sym c.in-Some.is ∙ c.first_taken.ensures) ∙ good_pieces i pieces c.as_slice.result.now c.as_slice.ensures c.in-Ok.ensures.ok
+    ap (λ o. refuse_at o cause.Taken >> Ok (course_of pieces)) (sym c.in-Some.is ∙ c.first_shared.ensures ∙ first_is_taken c.args.occupied.now i pieces c.requires.routes) ∙ good_pieces i pieces c.as_slice.result.now c.as_slice.ensures c.in-Ok.ensures.ok
 
 pub returns-in-None : goal.returns-in-None
 returns-in-None c =
     let i = c.args.image.now in
     let pieces = c.args.pieces.now in
-    ap Ok c.in-Ok.ensures.course ∙ ap (λ o. refuse_at o cause.Taken >> Ok (course_of pieces)) (sym c.in-None.is ∙ c.first_taken.ensures) ∙ good_pieces i pieces c.as_slice.result.now c.as_slice.ensures c.in-Ok.ensures.ok
+    ap Ok c.in-Ok.ensures.course ∙ ap (λ o. refuse_at o cause.Taken >> Ok (course_of pieces)) (sym c.in-None.is ∙ c.first_shared.ensures ∙ first_is_taken c.args.occupied.now i pieces c.requires.routes) ∙ good_pieces i pieces c.as_slice.result.now c.as_slice.ensures c.in-Ok.ensures.ok
 
 pub returns-in-Err-NoLink : goal.returns-in-Err-NoLink
 returns-in-Err-NoLink c =
