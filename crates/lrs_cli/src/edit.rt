@@ -1,8 +1,10 @@
 //! Edit sheets, from a file or the standard input, and their replies.
 
-ghost use Rattle.std.specs.Prelude.{◌≡◌, IfOk, IfErr, codes, false};
-ghost use Rattle.lrs_machine.specs.Image.{nothing};
+ghost use Rattle.std.specs.Prelude.{◌≡◌, ◌⊎◌, IfOk, IfErr, IfSome, codes, false};
+ghost use Rattle.lrs_machine.specs.Bounds.{most_assets, most_edits, most_routes};
+ghost use Rattle.lrs_machine.specs.Image.{nothing, state_of};
 ghost use Rattle.lrs_cli.specs.Faults.{fault_of_desk, fault_of_sheet};
+ghost use Rattle.lrs_sheet.specs.Sheets.{RunsEdits};
 
 use crate::fault::ProgramFault;
 use crate::progress::{Progress, Shown};
@@ -43,6 +45,7 @@ fn sheet_fault(fault: SheetFault) -> ProgramFault
 // Opens the inventory that a word names: so far only a fresh one in memory.
 fn open_inventory(alloc: Global, db: &str) -> Result<Desk<Plain>, ProgramFault>
     ensures fresh { IfOk result (λ desk. (db.now ≡ codes ":memory:") × (desk.image ≡ nothing) × (desk.must_reopen ≡ false)) }
+    ensures limits { IfOk result (λ desk. (desk.limits.routes ≡ most_routes) × (desk.limits.assets ≡ most_assets) × (desk.limits.edits ≡ most_edits)) }
     ensures memory { db.now ≡ codes ":memory:" → IfErr result (λ e. e ≡ ProgramFault.Memory) }
 {
     if db != ":memory:" {
@@ -54,22 +57,24 @@ fn open_inventory(alloc: Global, db: &str) -> Result<Desk<Plain>, ProgramFault>
     }
 }
 
-// Writes the replies to a sheet's bytes. What a fault leaves in the buffer goes out too.
+// Runs a sheet's bytes, and gives the writer back with all that was answered. So a fault of the sheet
+// is handed out beside the writer; what fails here is the writing itself, or there is no memory for it.
 fn write_replies<S: Read + Drop, W: Write + Drop>(
     alloc: Global,
     sheet: S,
     to: W,
     desk: &mut Desk<Plain>,
-) -> Result<Tally, ProgramFault> {
+) -> Result<(W, Result<Tally, SheetFault>), ProgramFault>
+    ensures runs { IfOk result (λ done. IfSome (S.remaining sheet) (λ input. RunsEdits desk.old.limits input (state_of desk.old.image) (state_of desk.new.image) (W.contents to) (W.contents done.0) done.1)) }
+    ensures faults { IfErr result (λ e. (e ≡ ProgramFault.Memory) ⊎ (e ≡ ProgramFault.Write)) }
+{
     let Ok(mut writer) = BufWriter::with_capacity(alloc, REPLY_BUFFER, to) else {
         return Err(ProgramFault::Memory);
     };
     let outcome = run_edits(alloc, sheet, &mut writer, desk);
-    let flushed = writer.flush();
-    match (outcome, flushed) {
-        (Err(fault), _) => Err(sheet_fault(fault)),
-        (Ok(_), Err(_)) => Err(ProgramFault::Write),
-        (Ok(tally), Ok(())) => Ok(tally),
+    match writer.into_inner() {
+        Ok(to) => Ok((to, outcome)),
+        Err(_) => Err(ProgramFault::Write),
     }
 }
 
@@ -80,7 +85,10 @@ fn reply_to<R: Runtime<A = Global>, S: Read + Drop>(
     shown: Shown,
 ) -> Result<Tally, ProgramFault> {
     let mut progress = Progress::new(io::writer(rt), rt, shown);
-    let outcome = write_replies(rt.alloc(), sheet, &mut progress, desk);
+    let outcome = match write_replies(rt.alloc(), sheet, &mut progress, desk) {
+        Ok((_, outcome)) => outcome.map_err(sheet_fault),
+        Err(fault) => Err(fault),
+    };
     progress.clear();
     outcome
 }

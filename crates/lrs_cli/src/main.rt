@@ -103,3 +103,6 @@ fn main(rt: HostRuntime) -> ExitCode {
     }
     ExitCode::from(status(ending))
 }
+
+#[cfg(test)]
+mod tests;
