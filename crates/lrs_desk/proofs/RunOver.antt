@@ -1,10 +1,10 @@
 -- The index of occupied ground beside the routes.
-use Rattle.std.proofs.Common.{ℕ, ◌≡◌, ◌+◌, ◌<◌, ◌≤◌, Bool, true, false, cond, List, [], ◌∷◌, ◌++◌, length, take, drop, get_or, Option, refl, sym, ap, subst, ◌∙◌, arith, append-nil, ⊎_elim}
+use Rattle.std.proofs.Common.{ℕ, ◌≡◌, ◌+◌, ◌<◌, Bool, true, false, cond, List, [], ◌∷◌, ◌++◌, length, take, drop, get_or, refl, sym, ap, subst, ◌∙◌, arith, append-nil, ⊎_elim}
 use Rattle.std.specs.Prelude.{◌||◌, ◌&&◌, not, nat_le, position, map}
 use Rattle.std.specs.List.{list_any, list_all, flat_map}
 use Rattle.std.specs.FinMap.{empty}
 use Rattle.std.proofs.lemmas.Bool.{and_parts, false_from_ne_true, both_ways, not-true, or_cases}
-use Rattle.std.proofs.lemmas.List.{take_more, take_all, take-append-drop}
+use Rattle.std.proofs.lemmas.List.{take_more, take-append-drop}
 use Rattle.std.proofs.lemmas.List.Concat.{flat_map-append}
 use Rattle.std.proofs.lemmas.List.Folds.{list_any-append, Any-from_list_any, list_any_at}
 use Rattle.lrs_measure.specs.Lists.{each_two}
@@ -12,15 +12,15 @@ use Rattle.lrs_element.specs.declared.link.Link.{Link}
 use Rattle.lrs_element.specs.declared.link.Piece.{Piece}
 use Rattle.lrs_element.specs.declared.link.Ground.{Ground}
 use Rattle.lrs_element.specs.Course.{Millimetre, course_of, expand, meets, runs_over, is_at}
-use Rattle.lrs_index.specs.Occupied.{Stretches, is_occupied, is_shared, is_run_once, HasGained}
+use Rattle.lrs_index.specs.Occupied.{Stretches, is_shared, is_run_once, HasGained}
 use Rattle.lrs_index.proofs.Sharing.{same_test, nothing_occupied}
-use Rattle.lrs_index.proofs.Once.{times, times-append, once_times, times_once, once_both, front, runs_alike, free_behind, gained_behind}
+use Rattle.lrs_index.proofs.Once.{times, times-append, once_times, times_once, once_both, front, runs_alike, gained_behind}
 use Rattle.lrs_machine.specs.declared.image.Image.{Image}
 use Rattle.lrs_machine.specs.declared.image.RouteEntry.{RouteEntry}
 use Rattle.lrs_machine.specs.Bounds.{most_routes}
 use Rattle.lrs_machine.specs.Image.{state_of}
 use Rattle.lrs_machine.specs.Machine.{is_taken}
-use Rattle.lrs_machine.specs.Sound.{RouteCourse, course_before, is_course, is_on_a_link, differs, are_courses, courses_of, IsSound}
+use Rattle.lrs_machine.specs.Sound.{RouteCourse, course_before, is_course, is_on_a_link, differs, courses_of, IsSound}
 use Rattle.lrs_position.specs.Routes.{is_route_course}
 use Rattle.lrs_desk.specs.Lists.{insert_by, insert_all}
 use Rattle.lrs_machine.specs.declared.image.Edit.{Edit}

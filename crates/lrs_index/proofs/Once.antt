@@ -1,8 +1,8 @@
 -- Courses that run over each of their millimetres once, in parts and in another order.
-use Rattle.std.proofs.Common.{ℕ, ◌≡◌, ◌+◌, ◌<◌, ◌≤◌, Bool, true, false, cond, List, [], ◌∷◌, ◌++◌, refl, sym, ap, ◌∙◌, arith, ⊎_elim, add-zero, zero-add}
-use Rattle.std.specs.Prelude.{◌||◌, ◌&&◌, not, nat_lt, nat_eq}
+use Rattle.std.proofs.Common.{ℕ, ◌≡◌, ◌+◌, ◌<◌, ◌≤◌, Bool, true, false, cond, List, [], ◌∷◌, ◌++◌, refl, sym, ap, ◌∙◌, arith, ⊎_elim, zero-add}
+use Rattle.std.specs.Prelude.{◌||◌, not, nat_lt, nat_eq}
 use Rattle.std.specs.List.{list_any, list_all, count_by}
-use Rattle.std.proofs.lemmas.Bool.{cases_Bool, cases_lt, or_parts, eqb-true, and_parts, and_from, or_left, both_ways, false_from_ne_true, lt-ltb, ltb-true, eq-eqb, not_from_false}
+use Rattle.std.proofs.lemmas.Bool.{cases_Bool, cases_lt, or_parts, eqb-true, and_parts, and_from, both_ways, false_from_ne_true, lt-ltb, ltb-true, eq-eqb, not_from_false}
 use Rattle.std.proofs.lemmas.List.Folds.{Any-from_list_any, list_any-append, list_any_at}
 use Rattle.std.proofs.lemmas.List.Sums.{sum_by-cons, sum_by-append}
 use Rattle.lrs_element.specs.declared.link.Piece.{Piece}
@@ -10,7 +10,6 @@ use Rattle.lrs_element.specs.declared.link.Ground.{Ground}
 use Rattle.lrs_element.specs.Course.{Millimetre, course_of, runs_over, meets, is_at}
 use Rattle.lrs_index.specs.Occupied.{Stretches, is_occupied, is_shared, is_run_once, HasGained}
 use Rattle.lrs_index.proofs.Pieces.{differ, among, across}
-use Rattle.lrs_index.proofs.Sharing.{same_test}
 
 -- how often a course runs over a millimetre
 abbrev pub times : Millimetre → List Ground → ℕ

@@ -1,4 +1,3 @@
-use Rattle.std.proofs.Common.{sym, subst}
 use Rattle.lrs_desk.proofs.desk.index_change.Goals as goal
 
 pub returns-in-Err-clause-err_ground : goal.returns-in-Err-clause-err_ground

@@ -1,4 +1,4 @@
-use Rattle.std.proofs.Common.{◌≡◌, true, List, sym, ap, subst, ◌++◌, take, ◌∙◌}
+use Rattle.std.proofs.Common.{◌≡◌, true, List, sym, ap, subst, take, ◌∙◌}
 use Rattle.lrs_element.specs.declared.link.Ground.{Ground}
 use Rattle.lrs_index.specs.Occupied.{is_run_once, is_shared}
 use Rattle.lrs_index.proofs.Pieces.{behind}
