@@ -9,7 +9,7 @@ use Rattle.std.specs.Option.{IsSome}
 use Rattle.std.specs.FinMap.{from_entries, get, IsAntisymmetric, nat_cmp-IsAntisymmetric}
 use Rattle.std.specs.BTreeMap.{BTreeMap}
 use Rattle.std.specs.BTreeMap.Range.{IsRangeOf}
-use Rattle.std.proofs.lemmas.Bool.{cases_eq, false_from_ne_true}
+use Rattle.std.proofs.lemmas.Bool.{cases_lt, false_from_ne_true}
 use Rattle.std.proofs.lemmas.Cmp.{ranked, nat_cmp_total}
 use Rattle.std.proofs.lemmas.Map.Lookups.{exact_pairs}
 use Rattle.lrs_element.specs.Course.{Millimetre}
@@ -87,7 +87,7 @@ module _ (m : BTreeMap Millimetre ℕ) (l e : ℕ) where
       }
     where
       cases : (a c : ℕ) → (a < c) ⊎ (c ≤ a)
-      cases a c = Rattle.std.proofs.lemmas.Bool.cases_lt a c
+      cases a c = cases_lt a c
 
       lower_not_last : {o : Ordering} → is_lt o ≡ false → o ≡ Less → ⊥
       lower_not_last h e = cc (h, e)
