@@ -1,7 +1,7 @@
 -- Courses that run over each of their millimetres once, in parts and in another order.
 use Rattle.std.proofs.Common.{ℕ, ◌≡◌, ◌+◌, ◌<◌, ◌≤◌, Bool, true, false, cond, List, [], ◌∷◌, ◌++◌, refl, sym, ap, ◌∙◌, arith, ⊎_elim, zero-add}
-use Rattle.std.specs.Prelude.{◌||◌, not, nat_lt, nat_eq}
-use Rattle.std.specs.List.{list_any, list_all, count_by}
+use Rattle.std.specs.Prelude.{◌||◌, nat_lt, nat_eq}
+use Rattle.std.specs.List.{list_all, count_by}
 use Rattle.std.proofs.lemmas.Bool.{cases_Bool, cases_lt, or_parts, eqb-true, and_parts, and_from, both_ways, false_from_ne_true, lt-ltb, ltb-true, eq-eqb, not_from_false}
 use Rattle.std.proofs.lemmas.List.Folds.{Any-from_list_any, list_any-append, list_any_at}
 use Rattle.std.proofs.lemmas.List.Sums.{sum_by-cons, sum_by-append}
