@@ -5,8 +5,10 @@ use Rattle.std.specs.List.{list_any}
 use Rattle.std.specs.declared.cmp.Ordering.{Ordering}
 use Rattle.std.specs.declared.cmp.Ordering.TheVariants.{Less, Equal, Greater}
 use Rattle.std.specs.Ordering.{eq_by_cmp, is_lt, is_eq, nat_cmp}
-use Rattle.std.specs.Cmp.{IsTotalOrder, Equal-is}
-use Rattle.std.specs.FinMap.{find, IsAntisymmetric}
+use Rattle.std.specs.Cmp.{IsTotalOrder, Equal-is, eq_by_cmp_equiv}
+use Rattle.std.specs.Cmp.Lexicographic.{nat_list_cmp_total, texts_ties}
+use Rattle.std.specs.FinMap.{find, IsAntisymmetric, nat_cmp-IsAntisymmetric, slice_cmp-IsAntisymmetric}
+use Rattle.lrs_measure.specs.Texts.{Name, name_cmp, same_name}
 use Rattle.lrs_machine.specs.Register.{by_order, put}
 use Rattle.std.proofs.lemmas.Bool.{false≢true}
 use Rattle.lrs_desk.specs.Lists.{insert_by}
@@ -79,3 +81,12 @@ numbers_agree m n = by (nat_lt m n) (nat_eq m n)
     by true c = refl
     by false true = refl
     by false false = refl
+
+-- names are one where they tie
+pub names_exact : IsAntisymmetric name_cmp
+names_exact = slice_cmp-IsAntisymmetric nat_cmp-IsAntisymmetric
+
+-- rows that tie with a name are those that have it
+pub names_tie : {Row : Type 0} (name : Row → Name) (q : Name) (rows : List Row) → list_any (λ r. eq_by_cmp name_cmp q (name r)) rows ≡ list_any (λ r. same_name (name r) q) rows
+names_tie name q [] = refl
+names_tie name q (r ∷ rows) = λ j. ((eq_by_cmp_equiv nat_list_cmp_total).symm q (name r) ∙ sym (texts_ties (name r) q)) j || names_tie name q rows j

@@ -1,5 +1,7 @@
 pub mod Inserts
 pub mod Inserted
+pub mod Places
+pub mod Dropped
 pub mod Tables
 pub mod Filed
 pub mod Keyed

@@ -1,11 +1,9 @@
 -- A new class.
-use Rattle.std.proofs.Common.{◌≡◌, ℕ, ◌+◌, ◌≤◌, Bool, true, false, List, [], ◌∷◌, length, Some, Ok, Err, refl, sym, ap, ◌∙◌, subst}
-use Rattle.std.specs.Prelude.{nat_le, ◌||◌, ◌&&◌, not}
+use Rattle.std.proofs.Common.{◌≡◌, ℕ, ◌+◌, ◌≤◌, Bool, true, false, List, length, Some, Ok, Err, refl, sym, ap, ◌∙◌, subst}
+use Rattle.std.specs.Prelude.{nat_le, ◌&&◌, not}
 use Rattle.std.specs.List.{list_any, list_all}
 use Rattle.std.specs.Ordering.{eq_by_cmp}
-use Rattle.std.specs.Cmp.{eq_by_cmp_equiv}
-use Rattle.std.specs.Cmp.Lexicographic.{nat_list_cmp_total, texts_ties, bytes_decides}
-use Rattle.std.specs.FinMap.{nat_cmp-IsAntisymmetric, slice_cmp-IsAntisymmetric, IsAntisymmetric}
+use Rattle.std.specs.Cmp.Lexicographic.{nat_list_cmp_total, bytes_decides}
 use Rattle.std.proofs.lemmas.Bool.{both_ways, and_parts, or_right}
 use Rattle.std.proofs.lemmas.List.{append-nil}
 use Rattle.lrs_measure.specs.Lists.{each_two}
@@ -29,7 +27,7 @@ use Rattle.lrs_desk.specs.Change.{with_parts, with_edit, no_parts}
 use Rattle.lrs_machine.specs.Machine.{attempt, refuse_if, ◌>>◌}
 use Rattle.lrs_desk.specs.Plan.{is_new, Makes}
 use Rattle.lrs_machine.specs.Sound.{class_before, asset_before, is_asset, are_assets, spans_of, holds_in, holders_of, places_of, keeps_exclusive, are_spans_of, IsSound}
-use Rattle.lrs_desk.proofs.Filed.{is_some-find_row, put-insert_by}
+use Rattle.lrs_desk.proofs.Filed.{is_some-find_row, put-insert_by, names_exact, names_tie}
 use Rattle.lrs_desk.proofs.Inserts.{is_false, and_weaker, all_weaker, all_from, none_counted, all-insert_by, any-insert_by, each_two-insert_by, before-chain, before-comparable}
 use Rattle.lrs_machine.proofs.Members.{In, all_at}
 use Rattle.lrs_machine.proofs.SoundImages.{tested}
@@ -46,9 +44,6 @@ with_class c i = record i { classes = insert_by class_before c i.classes }
 pub with_parts-class : (c : Class) (i : Image) → with_parts (class_parts c) i ≡ with_class c i
 with_parts-class c i = λ j. record (with_class c i) { routes = without-none i.routes j; entered = append-nil i.entered j; gone = append-nil i.gone j }
 
-names_exact : IsAntisymmetric name_cmp
-names_exact = slice_cmp-IsAntisymmetric nat_cmp-IsAntisymmetric
-
 abbrev class_entry : Class → Name × Kind
 class_entry c = (c.name, c.kind)
 
@@ -56,8 +51,7 @@ abbrev pub has_name : Name → Class → Bool
 has_name name c = same_name c.name name
 
 ties : (name : Name) (classes : List Class) → list_any (λ c. eq_by_cmp name_cmp name c.name) classes ≡ list_any (has_name name) classes
-ties name [] = refl
-ties name (c ∷ cs) = λ j. ((eq_by_cmp_equiv nat_list_cmp_total).symm name c.name ∙ sym (texts_ties c.name name)) j || ties name cs j
+ties name classes = names_tie (λ (c : Class). c.name) name classes
 
 knows : (name : Name) (i : Image) → contains_key (state_of i).classes name ≡ list_any (has_name name) i.classes
 unfolding state_of

@@ -1,11 +1,10 @@
 -- A new route.
-use Rattle.std.proofs.Common.{◌≡◌, ℕ, ◌+◌, ◌≤◌, Bool, true, false, List, [], ◌∷◌, length, Option, Some, None, Result, Ok, Err, refl, sym, ap, ◌∙◌, subst, arith}
+use Rattle.std.proofs.Common.{◌≡◌, ℕ, ◌+◌, ◌≤◌, Bool, true, false, List, [], length, Option, Some, None, Result, Ok, Err, refl, sym, ap, ◌∙◌, subst, arith}
 use Rattle.std.specs.Prelude.{nat_le, ◌||◌, ◌&&◌, not}
 use Rattle.std.specs.List.{list_any, list_all, position, flat_map, filter_map, count_by}
 use Rattle.std.specs.Ordering.{eq_by_cmp}
-use Rattle.std.specs.Cmp.{eq_by_cmp_equiv}
-use Rattle.std.specs.Cmp.Lexicographic.{nat_list_cmp_total, texts_ties}
-use Rattle.std.specs.FinMap.{find, nat_cmp-IsAntisymmetric, slice_cmp-IsAntisymmetric, IsAntisymmetric}
+use Rattle.std.specs.Cmp.Lexicographic.{nat_list_cmp_total}
+use Rattle.std.specs.FinMap.{find}
 use Rattle.std.proofs.lemmas.Bool.{and_parts, and_from, le-leb}
 use Rattle.std.proofs.lemmas.List.{append-nil, length-map}
 use Rattle.std.proofs.lemmas.List.Folds.{list_all-map, flat_map-map}
@@ -41,7 +40,7 @@ use Rattle.lrs_desk.specs.NewRoute.{free_course, IsEntryOf, route_parts}
 use Rattle.lrs_machine.specs.Sound.{RouteCourse, course_before, is_course, is_on_a_link, differs, are_courses, courses_of, RouteMarks, RouteReferents, are_all_referents, referents_of, RouteSpans, spans_of, are_spans, are_spans_of, holds_in, places_of, keeps_exclusive, are_parts, parts_of, has_asset_place, are_gone, are_balanced, gone_before, IsSound}
 use Rattle.lrs_machine.proofs.Members.{In, list_any-map}
 use Rattle.lrs_machine.proofs.SoundImages.{and_three}
-use Rattle.lrs_desk.proofs.Filed.{is_some-find_row, put-insert_by}
+use Rattle.lrs_desk.proofs.Filed.{is_some-find_row, put-insert_by, names_exact, names_tie}
 use Rattle.lrs_desk.proofs.Inserts.{and_weaker, all_from, all-insert_by, each_two-insert_by, before-chain, before-comparable}
 use Rattle.lrs_desk.proofs.Inserted.{length-insert_by, any-insert_by_other, each_two-insert_among, made-insert_by_none, all_mapped-insert_by, any_mapped-insert_by, map-insert_by}
 use Rattle.lrs_desk.proofs.NewCourse.{lacks, bad, no_place, some_place, fails_at, once, on_links, apart_from, apart_too}
@@ -57,15 +56,11 @@ with_parts-route e i = λ j. record i { routes = insert_by route_before e (witho
 
 -- ---- names
 
-names_exact : IsAntisymmetric name_cmp
-names_exact = slice_cmp-IsAntisymmetric nat_cmp-IsAntisymmetric
-
 abbrev pub has_name : Name → RouteEntry → Bool
 has_name name e = same_name e.route.name name
 
 ties : (name : Name) (routes : List RouteEntry) → list_any (λ e. eq_by_cmp name_cmp name e.route.name) routes ≡ list_any (has_name name) routes
-ties name [] = refl
-ties name (e ∷ es) = λ j. ((eq_by_cmp_equiv nat_list_cmp_total).symm name e.route.name ∙ sym (texts_ties e.route.name name)) j || ties name es j
+ties name routes = names_tie (λ (e : RouteEntry). e.route.name) name routes
 
 knows : (name : Name) (i : Image) → contains_key (state_of i).routes name ≡ list_any (has_name name) i.routes
 unfolding state_of

@@ -1,5 +1,5 @@
 -- The tests that a sound image passes, one for each table, and what a new edit leaves of them.
-use Rattle.std.proofs.Common.{◌≡◌, ℕ, ◌+◌, ◌≤◌, true, cond, inl, inr, List, [], ◌∷◌, ◌++◌, length, Some, None, refl, ap, ◌∙◌, arith, length-append}
+use Rattle.std.proofs.Common.{◌≡◌, ℕ, ◌+◌, ◌≤◌, true, cond, inl, inr, List, [], ◌∷◌, ◌++◌, length, Some, None, refl, sym, ap, ◌∙◌, arith, length-append}
 use Rattle.std.specs.Prelude.{◌&&◌, not, nat_le}
 use Rattle.std.specs.List.{list_all}
 use Rattle.std.proofs.lemmas.Bool.{and_parts, and_from, leb-true, le-leb}
@@ -10,10 +10,14 @@ use Rattle.lrs_events.specs.declared.part.Gone.{Gone}
 use Rattle.lrs_machine.specs.declared.image.Edit.{Edit}
 use Rattle.lrs_machine.specs.declared.image.Image.{Image}
 use Rattle.lrs_machine.specs.declared.table.Table.TheVariants as table
-use Rattle.lrs_machine.specs.Bounds.{most_edits}
+use Rattle.lrs_machine.specs.Bounds.{most_routes, most_assets, most_edits}
+use Rattle.lrs_machine.specs.declared.image.RouteEntry.{RouteEntry}
+use Rattle.lrs_element.specs.Course.{meets}
+use Rattle.lrs_desk.specs.Change.{route_before}
 use Rattle.lrs_desk.specs.Plan.{is_new}
-use Rattle.lrs_machine.specs.Sound.{are_links, are_classes, are_assets, are_courses, courses_of, are_all_marks, marks_of, are_all_referents, referents_of, are_spans, spans_of, are_entered, are_gone, are_edits, is_named_by, parts_of, Test, IsSound, first_unsound, first_failed, tests}
+use Rattle.lrs_machine.specs.Sound.{link_before, class_before, asset_before, course_before, is_asset, is_course, are_links, are_classes, are_assets, are_courses, courses_of, are_all_marks, marks_of, are_all_referents, referents_of, are_spans, spans_of, are_entered, are_gone, are_edits, is_named_by, parts_of, Test, IsSound, first_unsound, first_failed, tests}
 use Rattle.lrs_machine.proofs.SoundImages.{passed}
+use Rattle.lrs_machine.proofs.Pairs.{each_two-map}
 use Rattle.lrs_desk.proofs.Inserts.{all_weaker, and_weaker, each_two-push}
 
 pub record Passes (i : Image) : Type 0 where
@@ -91,3 +95,26 @@ edits_push entered gone edits e h new room =
     still_named : (p : Part) → is_named_by edits p ≡ true → is_named_by (edits ++ e ∷ []) p ≡ true
     still_named p k = and_weaker (nat_le 1 p.edit) (nat_le p.edit (length edits)) (nat_le 1 p.edit) (nat_le p.edit (length (edits ++ e ∷ []))) (λ low. low)
         (λ high. le-leb p.edit (length (edits ++ e ∷ [])) (longer p.edit (leb-true p.edit (length edits) high))) k
+
+-- The tables of a sound image are in order.
+pub links_in_order : (i : Image) → IsSound i → each_two link_before i.links ≡ true
+links_in_order i h = (passes i h).links
+
+pub classes_in_order : (i : Image) → IsSound i → each_two class_before i.classes ≡ true
+classes_in_order i h = (passes i h).classes
+
+pub assets_in_order : (i : Image) → IsSound i → each_two asset_before i.assets ≡ true
+assets_in_order i h =
+    let order = each_two asset_before i.assets in
+    let each = list_all (is_asset i.classes) i.assets in
+    (and_parts order each (and_parts (order && each) (nat_le (length i.assets) most_assets) (passes i h).assets).0).0
+
+pub routes_in_order : (i : Image) → IsSound i → each_two route_before i.routes ≡ true
+routes_in_order i h =
+    let courses = courses_of i in
+    let order = each_two course_before courses in
+    let each = list_all (is_course i.links) courses in
+    let free = each_two (λ c d. not (meets c.entries d.entries)) courses in
+    let few = nat_le (length courses) most_routes in
+    sym (each_two-map course_before (λ (e : RouteEntry). record { route = e.route.name; entries = e.route.course }) i.routes)
+    ∙ (and_parts order each (and_parts (order && each) free (and_parts (order && each && free) few (passes i h).courses).0).0).0

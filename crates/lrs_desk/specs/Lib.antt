@@ -1,5 +1,6 @@
 pub mod Lists
 pub mod Change
+pub mod Opened
 pub mod Keeping
 pub mod Index
 pub mod Plan

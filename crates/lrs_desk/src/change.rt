@@ -1,15 +1,15 @@
 //! What an accepted command changes.
 
-ghost use Rattle.std.specs.Prelude.{◌≡◌};
+ghost use Rattle.std.specs.Prelude.{◌≡◌, IfOk};
 ghost use Rattle.lrs_desk.specs.Change as change;
 
 use crate::lists::Ordered;
 use lrs_element::Link;
 use lrs_events::{Asset, Class, Gone, Part};
 use lrs_machine::{Edit, RouteEntry};
-use lrs_measure::Rows;
+use lrs_measure::{Rows, TryCopy};
 use lrs_position::RouteName;
-use std::alloc::Global;
+use std::alloc::{AllocError, Global};
 
 /// The rows that go from an image and those that come to it: the routes of these names go before the
 /// written ones come.
@@ -39,11 +39,43 @@ pub fn no_parts(alloc: Global) -> Parts
     }
 }
 
+impl Parts {
+    fn copy(&self, alloc: Global) -> Result<Parts, AllocError>
+        ensures { IfOk result (λ parts. parts ≡ self.now) }
+    {
+        Ok(Parts {
+            link: self.link,
+            class: self.class,
+            asset: self.asset,
+            dropped: self.dropped.copy(alloc)?,
+            written: self.written.copy_each(alloc)?,
+            entered: self.entered.copy(alloc)?,
+            gone: self.gone.copy(alloc)?,
+        })
+    }
+}
+
 /// An accepted command, and what it changes.
 #[derive(Drop)]
 pub struct Change {
     pub edit: Edit,
     pub parts: Parts,
+}
+
+impl Change {
+    /// An equal change.
+    ///
+    /// # Errors
+    ///
+    /// When memory runs out.
+    pub fn copy(&self, alloc: Global) -> Result<Change, AllocError>
+        ensures { IfOk result (λ change. change ≡ self.now) }
+    {
+        Ok(Change {
+            edit: self.edit.copy(alloc)?,
+            parts: self.parts.copy(alloc)?,
+        })
+    }
 }
 
 impl Ordered for Link {

@@ -221,7 +221,8 @@ fn make<K: Keeper>(
 ) -> Result<Answer, Fault>
     requires loaded { K.is_loaded keeper.old ≡ true }
     requires kept { K.content keeper.old ≡ Ok image.old }
-    requires sound { IsSound (apply (record { edit = edit; parts = parts }) image.old) }
+    requires sound { IsSound image.old }
+    requires next_sound { IsSound (apply (record { edit = edit; parts = parts }) image.old) }
     requires keys { IsIndex keys.old image.old.edits }
     requires new_key { place_among image.old.edits edit.key ≡ None }
     ensures answer { IfOk result (λ answer. answer ≡ Answer.Done (length image.old.edits + 1)) }

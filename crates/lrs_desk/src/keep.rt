@@ -1,20 +1,16 @@
 //! A change of an image, here and in what is kept.
 
-ghost use Rattle.std.specs.Prelude.{◌≡◌, ◌≤◌, ◌+◌, ◌++◌, ◌<◌, ◌⊎◌, OnOk, OnErr, IfOk, Ok, Err, true, vec_len, vec_capacity};
-ghost use Rattle.std.specs.List.{list_any};
-ghost use Rattle.lrs_measure.specs.Texts.{same_name};
-ghost use Rattle.lrs_desk.specs.Change.{without, apply};
+ghost use Rattle.std.specs.Prelude.{◌≡◌, OnOk, OnErr, Ok, Err, true};
+ghost use Rattle.lrs_desk.specs.Change.{apply};
 ghost use Rattle.lrs_machine.specs.Sound.{IsSound};
 ghost use Rattle.lrs_desk.specs.Keeping.{HasRisen, IsOldOrNew};
+ghost use Rattle.lrs_desk.specs.Opened.{image_of};
 ghost use Rattle.lrs_machine.specs.declared.table.Table.{Table};
 
 use crate::change::Change;
 use crate::keeper::{KeepFault, Keeper};
-use crate::lists::{
-    append_in_room, insert_all_ordered, insert_some_ordered, make_room, push_in_room,
-};
-use lrs_machine::{Image, RouteEntry};
-use lrs_position::RouteName;
+use crate::opened::OpenImage;
+use lrs_machine::Image;
 use std::alloc::AllocError;
 
 impl From<AllocError> for KeepFault {
@@ -27,32 +23,13 @@ impl From<AllocError> for KeepFault {
     }
 }
 
-fn drop_named(routes: &mut Vec<RouteEntry>, names: &[RouteName])
-    ensures routes { routes.new.items ≡ without names.now routes.old.items }
-    ensures len { vec_len routes.new ≤ vec_len routes.old }
-    ensures capacity { vec_capacity routes.new ≡ vec_capacity routes.old }
-{
-    routes.retain(|entry| !is_named(entry, names));
-}
-
-fn is_named(entry: &RouteEntry, names: &[RouteName]) -> bool
-    ensures { result ≡ list_any (same_name entry.now.route.name) names.now }
-{
-    let name = &entry.route.name;
-    for other in names {
-        if name.bytes() == other.bytes() {
-            return true;
-        }
-    }
-    false
-}
-
 /// Makes a change of an image, in what is kept and here. Room for it is made first, so that nothing
 /// fails after the commit.
 pub fn keep<K: Keeper>(image: &mut Image, keeper: &mut K, change: Change) -> Result<(), KeepFault>
     requires loaded { K.is_loaded keeper.old ≡ true }
     requires kept { K.content keeper.old ≡ Ok image.old }
-    requires sound { IsSound (apply change image.old) }
+    requires sound { IsSound image.old }
+    requires next_sound { IsSound (apply change image.old) }
     ensures ok { OnOk result (image.new ≡ apply change image.old) }
     ensures ok_kept { OnOk result (K.content keeper.new ≡ Ok (apply change image.old)) }
     ensures err { OnErr result (image.new ≡ image.old) }
@@ -62,29 +39,29 @@ pub fn keep<K: Keeper>(image: &mut Image, keeper: &mut K, change: Change) -> Res
     ensures only { (t : Table) → result ≡ Err (KeepFault.Unsound t) → ⊥ }
     ensures loaded { K.is_loaded keeper.new ≡ true }
 {
-    let links = &mut image.links;
-    let classes = &mut image.classes;
-    let assets = &mut image.assets;
-    let routes = &mut image.routes;
-    let entered = &mut image.entered;
-    let gone = &mut image.gone;
-    let edits = &mut image.edits;
-    make_room(&mut links.items, 1)?;
-    make_room(&mut classes.items, 1)?;
-    make_room(&mut assets.items, 1)?;
-    make_room(&mut routes.items, change.parts.written.len())?;
-    make_room(&mut entered.items, change.parts.entered.len())?;
-    make_room(&mut gone.items, change.parts.gone.len())?;
-    make_room(&mut edits.items, 1)?;
+    let mut lists = OpenImage::take(image);
+    let kept = commit(&mut lists, keeper, change);
+    *image = lists.close();
+    kept
+}
+
+// Makes a change of the lists after the commit.
+fn commit<K: Keeper>(lists: &mut OpenImage, keeper: &mut K, change: Change) -> Result<(), KeepFault>
+    requires loaded { K.is_loaded keeper.old ≡ true }
+    requires kept { K.content keeper.old ≡ Ok (image_of lists.old) }
+    requires sound { IsSound (image_of lists.old) }
+    requires next_sound { IsSound (apply change (image_of lists.old)) }
+    ensures ok { OnOk result (image_of lists.new ≡ apply change (image_of lists.old)) }
+    ensures ok_kept { OnOk result (K.content keeper.new ≡ Ok (apply change (image_of lists.old))) }
+    ensures err { OnErr result (image_of lists.new ≡ image_of lists.old) }
+    ensures memory { result ≡ Err KeepFault.Memory → K.content keeper.new ≡ K.content keeper.old }
+    ensures store { result ≡ Err KeepFault.Store → IsOldOrNew change (K.content keeper.new) (image_of lists.old) }
+    ensures cause { result ≡ Err KeepFault.Store → HasRisen (K.failures keeper.old) (K.failures keeper.new) }
+    ensures only { (t : Table) → result ≡ Err (KeepFault.Unsound t) → ⊥ }
+    ensures loaded { K.is_loaded keeper.new ≡ true }
+{
+    lists.make_room_for(&change.parts)?;
     keeper.commit(&change)?;
-    let Change { edit, parts } = change;
-    insert_some_ordered(&mut links.items, parts.link);
-    insert_some_ordered(&mut classes.items, parts.class);
-    insert_some_ordered(&mut assets.items, parts.asset);
-    drop_named(&mut routes.items, parts.dropped.as_slice());
-    insert_all_ordered(&mut routes.items, parts.written.into_vec());
-    append_in_room(&mut entered.items, parts.entered.into_vec());
-    append_in_room(&mut gone.items, parts.gone.into_vec());
-    push_in_room(&mut edits.items, edit);
+    lists.change(change);
     Ok(())
 }

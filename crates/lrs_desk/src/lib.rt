@@ -9,9 +9,11 @@ mod keep;
 mod keeper;
 mod lists;
 mod new_route;
+mod opened;
 mod plain;
 mod plan;
 mod planned;
+mod routes;
 mod taken;
 
 pub use change::{Change, Parts};

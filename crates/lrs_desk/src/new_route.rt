@@ -1,11 +1,13 @@
 //! A new route.
 
-ghost use Rattle.std.specs.Prelude.{◌≡◌, IfOk};
+ghost use Rattle.std.specs.Prelude.{◌≡◌, true, IfOk};
 ghost use Rattle.std.specs.List.{list_any};
+ghost use Rattle.lrs_measure.specs.Lists.{each_two};
 ghost use Rattle.lrs_measure.specs.Texts.{same_name};
 ghost use Rattle.lrs_machine.specs.declared.command.Command.TheVariants as verb;
 ghost use Rattle.lrs_machine.specs.Image.{state_of};
 ghost use Rattle.lrs_machine.specs.Sound.{IsSound};
+ghost use Rattle.lrs_desk.specs.Change.{route_before};
 ghost use Rattle.lrs_desk.specs.NewRoute as specs;
 ghost use Rattle.lrs_desk.specs.Plan.{Plans};
 
@@ -43,12 +45,14 @@ pub fn plan_route(
     Ok(Ok(route_parts(alloc, entry)?))
 }
 
+// Whether a route of this name is there, by binary search.
 fn knows_route(routes: &[RouteEntry], name: &RouteName) -> bool
+    requires order { each_two route_before routes.now ≡ true }
     ensures { result ≡ list_any (λ e. same_name e.route.name name.now) routes.now }
 {
     routes
-        .iter()
-        .any(|entry| entry.route.name.bytes() == name.bytes())
+        .binary_search_by(|entry| entry.route.name.bytes().cmp(name.bytes()))
+        .is_ok()
 }
 
 // The course of these pieces, or the first check of the ground that fails.

@@ -1,11 +1,11 @@
 //! What a command would change, or why its verb refuses it.
 
-ghost use Rattle.std.specs.Prelude.{◌≡◌, ◌+◌, [], length, IfOk, nat_eq};
+ghost use Rattle.std.specs.Prelude.{◌≡◌, ◌+◌, [], length, IfOk, nat_eq, true};
 ghost use Rattle.std.specs.List.{list_any};
 ghost use Rattle.lrs_measure.specs.Texts.{same_name};
 ghost use Rattle.lrs_machine.specs.declared.command.Command.TheVariants as verb;
 ghost use Rattle.lrs_desk.specs.Plan.{Plans};
-ghost use Rattle.lrs_machine.specs.Sound.{IsSound};
+ghost use Rattle.lrs_machine.specs.Sound.{are_links, are_classes, IsSound};
 
 use crate::change::{Parts, no_parts};
 use crate::new_route::plan_route;
@@ -48,10 +48,14 @@ fn plan_link(alloc: Global, image: &Image, link: Link) -> Result<Parts, Cause>
     Ok(parts)
 }
 
+// Whether a link of this number is there, by binary search.
 fn knows_link(links: &[Link], number: u32) -> bool
+    requires order { are_links links.now ≡ true }
     ensures { result ≡ list_any (λ link. nat_eq number link.number) links.now }
 {
-    links.iter().any(|link| number == link.number)
+    links
+        .binary_search_by_key(&number, |link| link.number)
+        .is_ok()
 }
 
 fn plan_class(alloc: Global, image: &Image, class: Class) -> Result<Parts, Cause>
@@ -66,10 +70,12 @@ fn plan_class(alloc: Global, image: &Image, class: Class) -> Result<Parts, Cause
     Ok(parts)
 }
 
+// Whether a class of this name is there, by binary search.
 fn knows_class(classes: &[Class], name: &ClassName) -> bool
+    requires order { are_classes classes.now ≡ true }
     ensures { result ≡ list_any (λ class. same_name class.name name.now) classes.now }
 {
     classes
-        .iter()
-        .any(|class| class.name.bytes() == name.bytes())
+        .binary_search_by(|class| class.name.bytes().cmp(name.bytes()))
+        .is_ok()
 }

@@ -6,7 +6,7 @@ use crate::key::Key;
 use crate::line::Line;
 use lrs_element::Link;
 use lrs_events::{Asset, Class, Gone, Part, Spans};
-use lrs_measure::Rows;
+use lrs_measure::{Rows, TryCopy};
 use lrs_position::Route;
 use std::alloc::{AllocError, Global};
 
@@ -17,6 +17,15 @@ pub struct RouteEntry {
     pub spans: Spans,
 }
 
+impl TryCopy for RouteEntry {
+    fn copy(&self, alloc: Global) -> Result<RouteEntry, AllocError> {
+        Ok(RouteEntry {
+            route: self.route.copy(alloc)?,
+            spans: self.spans.copy(alloc)?,
+        })
+    }
+}
+
 /// An accepted command: its key and its canonical line.
 #[derive(Drop)]
 pub struct Edit {
@@ -24,15 +33,8 @@ pub struct Edit {
     pub line: Line,
 }
 
-impl Edit {
-    /// An equal edit.
-    ///
-    /// # Errors
-    ///
-    /// When memory runs out.
-    pub fn copy(&self, alloc: Global) -> Result<Edit, AllocError>
-        ensures { IfOk result (λ edit. edit ≡ self.now) }
-    {
+impl TryCopy for Edit {
+    fn copy(&self, alloc: Global) -> Result<Edit, AllocError> {
         Ok(Edit {
             key: self.key,
             line: self.line.copy(alloc)?,
@@ -69,5 +71,24 @@ impl Image {
             gone: Rows::new(alloc),
             edits: Rows::new(alloc),
         }
+    }
+
+    /// An equal image.
+    ///
+    /// # Errors
+    ///
+    /// When memory runs out.
+    pub fn copy(&self, alloc: Global) -> Result<Image, AllocError>
+        ensures { IfOk result (λ image. image ≡ self.now) }
+    {
+        Ok(Image {
+            links: self.links.copy(alloc)?,
+            classes: self.classes.copy(alloc)?,
+            assets: self.assets.copy(alloc)?,
+            routes: self.routes.copy_each(alloc)?,
+            entered: self.entered.copy(alloc)?,
+            gone: self.gone.copy(alloc)?,
+            edits: self.edits.copy_each(alloc)?,
+        })
     }
 }

@@ -14,5 +14,5 @@ mod text;
 pub use fraction::{Frac, gcd};
 pub use metres::Metres;
 pub use reading::{read_digits, read_fraction, read_signed};
-pub use rows::Rows;
+pub use rows::{Rows, TryCopy};
 pub use text::Text;

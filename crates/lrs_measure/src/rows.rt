@@ -1,9 +1,21 @@
 //! A list in a vector, which contracts see as a list.
 
-ghost use Rattle.std.specs.Prelude.{◌≡◌, [], length, IsTrue, ◌↔◌};
+ghost use Rattle.std.specs.Prelude.{◌≡◌, [], length, IsTrue, ◌↔◌, IfOk};
 
-use std::alloc::Global;
+use std::alloc::{AllocError, Global};
 use std::marker::Model;
+
+/// A value whose copy takes memory.
+pub trait TryCopy: Sized {
+    ghost use Rattle.std.specs.Prelude.{◌≡◌, IfOk};
+
+    /// An equal value.
+    ///
+    /// # Errors
+    /// When memory runs out.
+    fn copy(&self, alloc: Global) -> Result<Self, AllocError>
+        ensures { IfOk result (λ copy. copy ≡ self.now) };
+}
 
 /// A list. Its room plays no part in what it is equal to.
 ///
@@ -64,5 +76,35 @@ impl<T> Rows<T> {
         ensures { result.now ≡ self.now }
     {
         self.items.as_slice()
+    }
+}
+
+impl<T: Copy> Rows<T> {
+    /// An equal list.
+    ///
+    /// # Errors
+    /// When memory runs out.
+    pub fn copy(&self, alloc: Global) -> Result<Rows<T>, AllocError>
+        ensures { IfOk result (λ rows. rows ≡ self.now) }
+    {
+        Ok(Rows {
+            items: Vec::from_slice(alloc, &self.items)?,
+        })
+    }
+}
+
+impl<T: TryCopy + Drop> Rows<T> {
+    /// An equal list, of copies.
+    ///
+    /// # Errors
+    /// When memory runs out.
+    pub fn copy_each(&self, alloc: Global) -> Result<Rows<T>, AllocError>
+        ensures { IfOk result (λ rows. rows ≡ self.now) }
+    {
+        let mut items = Vec::new(alloc);
+        for item in &self.items {
+            items.push(item.copy(alloc)?)?;
+        }
+        Ok(Rows { items })
     }
 }

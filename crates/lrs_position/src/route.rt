@@ -67,13 +67,7 @@ impl Route {
             name: self.name,
             course: self.course.copy()?,
             marks: self.marks.copy()?,
-            refs: copy_of_referents(&self.refs, alloc)?,
+            refs: self.refs.copy(alloc)?,
         })
     }
-}
-
-fn copy_of_referents(refs: &Rows<Referent>, alloc: Global) -> Result<Rows<Referent>, AllocError>
-    ensures { IfOk result (λ copy. copy ≡ refs.now) }
-{
-    Ok(Rows::from_vec(Vec::from_slice(alloc, refs.as_slice())?))
 }

@@ -10,7 +10,7 @@ use Rattle.lrs_desk.proofs.desk.make.Goals as goal
 
 pub overflow_add-result : goal.overflow_add-result
 overflow_add-result g c =
-    let few = few_edits (apply (record { edit = c.args.edit; parts = c.args.parts }) c.args.image.now) c.requires.sound in
+    let few = few_edits (apply (record { edit = c.args.edit; parts = c.args.parts }) c.args.image.now) c.requires.next_sound in
     omega (arith, few, length-append c.args.image.now.edits (c.args.edit ∷ []), c.len-place.ensures)
 
 pub returns-in-Ok-clause-keys : goal.returns-in-Ok-clause-keys

@@ -7,8 +7,14 @@ use Rattle.lrs_desk.specs.declared.change.Parts.{Parts}
 use Rattle.lrs_desk.specs.NewRoute.{free_course, EntersRoute}
 use Rattle.lrs_machine.specs.Machine.{check_marks}
 use Rattle.lrs_desk.specs.Plan.{Makes}
+use Rattle.lrs_measure.specs.Lists.{each_two}
+use Rattle.lrs_desk.specs.Change.{route_before}
+use Rattle.lrs_desk.proofs.Tables.{routes_in_order}
 use Rattle.lrs_desk.proofs.NewRoute.{has_name, refuses_known, refuses_ground, after_marks, makes}
 use Rattle.lrs_desk.proofs.new_route.plan_route.Goals as goal
+
+pub knows_route-requires : goal.knows_route-requires
+knows_route-requires c = record { order = ap (each_two route_before) c.as_slice.ensures ∙ routes_in_order c.args.image.now c.requires.sound }
 
 pub returns-then-knows_route : goal.returns-then-knows_route
 returns-then-knows_route c =

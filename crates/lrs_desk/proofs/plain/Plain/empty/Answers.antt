@@ -3,6 +3,6 @@ use Rattle.lrs_machine.specs.declared.image.Image.{Image}
 use Rattle.lrs_machine.specs.Sound.{IsSound, first_unsound}
 use Rattle.lrs_desk.proofs.plain.Plain.empty.Goals as goal
 
-pub new-requires-clause-sound : goal.new-requires-clause-sound
+pub new-requires : goal.new-requires
 unfolding first_unsound
-new-requires-clause-sound c = subst (λ (i : Image). IsSound i) (sym c.empty.ensures) refl
+new-requires c = record { sound = subst (λ (i : Image). IsSound i) (sym c.empty.ensures) refl }
