@@ -5,6 +5,7 @@
 mod fault;
 mod header;
 pub mod laws;
+mod list;
 mod record;
 mod reply;
 mod rows;
