@@ -1,3 +1,4 @@
+pub mod Wording
 pub mod Misfits
 pub mod HeaderFields
 pub mod ReadRows

@@ -5,6 +5,7 @@
 mod fault;
 mod header;
 pub mod laws;
+mod list;
 mod record;
 mod reply;
 mod rows;
@@ -16,3 +17,6 @@ pub use fault::{ReadFault, SheetFault};
 pub use record::command_of;
 pub use reply::{CauseText, Reply, Tally};
 pub use run::run_edits;
+
+#[cfg(test)]
+mod tests;
