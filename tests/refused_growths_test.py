@@ -1,0 +1,51 @@
+"""Want of memory: the tests of refused growths (crates/*/src/refused.rt) run with one allocation refused, each in turn."""
+
+import concurrent.futures
+import pathlib
+import re
+import subprocess
+
+CRATES = pathlib.Path(__file__).resolve().parent.parent / "crates"
+
+# Above the number of allocations that one of those tests makes.
+MOST_ALLOCATIONS = 100
+
+
+def run_refusing(crate, allocation):
+    """What the crate's tests print where this allocation of each of them fails; rt try needs no proof for that."""
+    command = ["rt", "try", "--test", "--fail-alloc", str(allocation)]
+    where = {"cwd": CRATES / crate, "stdin": subprocess.DEVNULL, "stdout": subprocess.PIPE, "stderr": subprocess.STDOUT}
+    return subprocess.run(command, text=True, timeout=300, **where).stdout
+
+
+def refused_calls(printed):
+    """The calls that were refused a growth; each test of them passed. The crate's other tests may fail for it."""
+    assert re.search(r"^run=ended ", printed, re.M), printed
+    results = re.findall(r"^test refused::\w+ \.\.\. (\w+)$", printed, re.M)
+    assert results and set(results) == {"ok"}, printed
+    return set(re.findall(r"^ +refused: (\S+)$", printed, re.M))
+
+
+def each_refused_call(crate):
+    """The calls that were refused, with one allocation after another refused until none is left to refuse."""
+    refused = set()
+    with concurrent.futures.ThreadPoolExecutor(2) as pool:
+        for first in range(1, MOST_ALLOCATIONS, 2):
+            runs = pool.map(lambda n: run_refusing(crate, n), (first, first + 1))
+            calls = [refused_calls(printed) for printed in runs]
+            refused.update(*calls)
+            if not all(calls):
+                return refused
+    raise AssertionError(f"{crate}: a test makes {MOST_ALLOCATIONS} allocations or more")
+
+
+def test_courses_and_marks_bear_a_refused_growth():
+    courses = {f"Course::{call}" for call in ("new", "copy", "cut", "concat", "replace", "turned")}
+    marks = {f"Marks::{call}" for call in ("copy", "cut", "join", "mirrored")}
+    assert each_refused_call("lrs_element") == courses | marks
+
+
+def test_a_desk_bears_a_refused_growth():
+    verbs = {"link", "class", "route"}
+    made_by_the_tests = {"list_of", "records"}
+    assert each_refused_call("lrs_desk") == {"Desk::open", "run"} | verbs | made_by_the_tests
