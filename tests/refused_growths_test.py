@@ -8,7 +8,7 @@ import subprocess
 CRATES = pathlib.Path(__file__).resolve().parent.parent / "crates"
 
 # Above the number of allocations that one of those tests makes.
-MOST_ALLOCATIONS = 60
+MOST_ALLOCATIONS = 100
 
 
 def run_refusing(crate, allocation):
@@ -26,12 +26,12 @@ def refused_calls(printed):
     return set(re.findall(r"^ +refused: (\S+)$", printed, re.M))
 
 
-def each_refused_call(crate):
-    """The calls that were refused, with one allocation after another refused until none is left to refuse."""
+def each_refused_call(crate, step=1):
+    """The calls that were refused, with each step-th allocation refused until none is left to refuse."""
     refused = set()
     with concurrent.futures.ThreadPoolExecutor(2) as pool:
-        for first in range(1, MOST_ALLOCATIONS, 2):
-            runs = pool.map(lambda n: run_refusing(crate, n), (first, first + 1))
+        for first in range(1, MOST_ALLOCATIONS, 2 * step):
+            runs = pool.map(lambda n: run_refusing(crate, n), (first, first + step))
             calls = [refused_calls(printed) for printed in runs]
             refused.update(*calls)
             if not all(calls):
@@ -43,3 +43,7 @@ def test_courses_and_marks_bear_a_refused_growth():
     courses = {f"Course::{call}" for call in ("new", "copy", "cut", "concat", "replace", "turned")}
     marks = {f"Marks::{call}" for call in ("copy", "cut", "join", "mirrored")}
     assert each_refused_call("lrs_element") == courses | marks
+
+
+def test_a_desk_bears_a_refused_growth():
+    assert each_refused_call("lrs_desk", step=4) >= {"Desk::open", "run", "link", "class", "route"}

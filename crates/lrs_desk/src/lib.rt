@@ -21,3 +21,8 @@ pub use desk::{Desk, Fault, OpenFault, run};
 pub use keeper::{KeepFault, Keeper};
 pub use plain::Plain;
 pub use planned::Planned;
+
+#[cfg(test)]
+mod refused;
+#[cfg(test)]
+mod tests;
