@@ -231,6 +231,30 @@ fn no_room_for_more_edits(rt: HostRuntime) -> Result<(), Fail> {
 }
 
 #[test]
+fn limits_of_numbers(rt: HostRuntime) -> Result<(), Fail> {
+    let alloc = rt.alloc();
+    let few = Limits {
+        routes: 1,
+        assets: 1,
+        edits: 8,
+    };
+    let mut sheet = String::from_str(alloc, SHEET)?;
+    sheet.push_str("t1,route,C1,3:0:10:+,0:0 10:10,,,,,,\n")?;
+    sheet.push_str("t2,route,A1,9:0:10:+,0:0 10:10,,,,,,\n")?;
+    sheet.push_str("t3,link,999999,1000000000,,,,,,,\n")?;
+    sheet.push_str("t4,link,1,1,,,,,,,\n")?;
+    sheet.push_str("t3,link,999999,1000000000,,,,,,,\n")?;
+    let mut replies = String::from_str(alloc, REPLIES)?;
+    replies.push_str("t1,refused,TooMany:routes\nt2,refused,TooMany:routes\n")?;
+    replies.push_str("t3,done,8\nt4,refused,TooMany:edits\nt3,again,8\n")?;
+    let mut written = Vec::new(alloc);
+    let result = run(alloc, few, sheet.as_str().as_bytes(), &mut written)?;
+    assert_eq!(rt; written.as_slice(), replies.as_str().as_bytes());
+    assert_eq!(rt; result, tally(8, 1, 3));
+    Ok(())
+}
+
+#[test]
 fn what_csv_reads_as_a_record(rt: HostRuntime) -> Result<(), Fail> {
     let alloc = rt.alloc();
     let done = "k,done,1\n";
