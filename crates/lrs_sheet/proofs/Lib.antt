@@ -1,3 +1,4 @@
+pub mod Wording
 pub mod Misfits
 pub mod HeaderFields
 pub mod ReadRows
@@ -5,3 +6,5 @@ pub mod Done
 pub mod Whole
 pub mod KeyBytes
 pub mod Breaking
+pub mod OneCommand
+pub mod Determined

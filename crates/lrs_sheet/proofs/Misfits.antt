@@ -1,10 +1,11 @@
 -- The fields of a record by their places.
-use Rattle.std.proofs.Common.{Err, Option, ◌-◌, sym, subst, ◌≡◌, ℕ, zero, suc, ◌≤◌, ◌<◌, ◌+◌, List, [], ◌∷◌, length, arith, refl, inl, inr, Some, None}
+use Rattle.std.proofs.Common.{Ok, Err, Result, ◌∙◌, Option, ◌-◌, sym, subst, ◌≡◌, ℕ, zero, suc, ◌≤◌, ◌<◌, ◌+◌, List, [], ◌∷◌, length, arith, refl, inl, inr, Some, None}
 use Rattle.std.specs.Prelude.{slice_get, Contains, IsTrue}
 use Rattle.std.specs.List.{AllByRecursion}
 use Rattle.csv.specs.Records.{field_at}
 use Rattle.lrs_sheet.specs.Records.{Fits, FirstMalformed, IsWellFormed, IsVerb, Refuses, Shape, place_of, shapes_of, text_at}
-use Rattle.lrs_sheet.specs.Fields.{FirstMisfit, ReadsCommand}
+use Rattle.lrs_sheet.specs.Fields.{FirstMisfit, ReadsArguments, ReadsCommand}
+use Rattle.lrs_machine.specs.declared.command.Command.{Command}
 use Rattle.lrs_sheet.specs.declared.fault.ReadFault.{ReadFault}
 use Rattle.lrs_sheet.specs.declared.fault.ReadFault.TheVariants as fault
 use Rattle.lrs_machine.specs.Keys.{is_key}
@@ -17,7 +18,7 @@ text_at-past (f ∷ fs) zero h = absurd (omega arith)
 text_at-past (f ∷ fs) (suc i) h = text_at-past fs i (omega arith)
 
 -- a field at an equal place
-fits-along : (fields : List (List ℕ)) (shape : Option Shape) (a b : ℕ) → a ≡ b → Fits shape (text_at fields a) → Fits shape (text_at fields b)
+pub fits-along : (fields : List (List ℕ)) (shape : Option Shape) (a b : ℕ) → a ≡ b → Fits shape (text_at fields a) → Fits shape (text_at fields b)
 fits-along fields shape a b e h = subst (λ (p : ℕ). Fits shape (text_at fields p)) e h
 
 -- the first misfit, by its place among the shapes
@@ -79,3 +80,9 @@ refuses fields (fault.Field at) key (inl (is, unknown)) = rw is (record { malfor
     first zero below = key
     first (suc i) below = absurd (omega arith)
 refuses fields (fault.Field at) key (inr (known, misfit)) = misfit-malformed fields (place_of at) key known misfit
+
+-- the fields of a verb that there is
+pub reads-verb : (fields : List (List ℕ)) (verb : List ℕ) (result : Result Command ReadFault) → IsVerb verb → text_at fields 1 ≡ verb → ReadsArguments fields verb result → ReadsCommand fields result
+reads-verb fields verb (Ok command) known is reads = (rw is known, is ∙ sym reads.0, rw reads.0 reads.1)
+reads-verb fields verb (Err (fault.Field field)) known is reads = inr (rw is known, rw is reads)
+reads-verb fields verb (Err fault.Memory) known is reads = tt

@@ -21,6 +21,12 @@ ReadsField shape said fields field result = MatchResult result
     (λ x. Says shape (text_at fields (place_of field)) (said x) × Fits (Some shape) (text_at fields (place_of field)))
     (λ e. (e ≡ fault.Field field) × (Fits (Some shape) (text_at fields (place_of field)) → ⊥))
 
+-- one field that has a list: the same, or want of memory
+abbrev pub ReadsList : {X : Type 0} → Shape → (X → Argument) → List Text → Field → Result X ReadFault → Type 0
+ReadsList shape said fields field (Ok x) = Says shape (text_at fields (place_of field)) (said x) × Fits (Some shape) (text_at fields (place_of field))
+ReadsList shape said fields field (Err (fault.Field at)) = (at ≡ field) × (Fits (Some shape) (text_at fields (place_of field)) → ⊥)
+ReadsList shape said fields field (Err fault.Memory) = ⊤
+
 -- the fields from a place on: that they are empty, or the first that is not
 abbrev pub NothingFrom : List Text → ℕ → Result (Unit {0}) ReadFault → Type 0
 NothingFrom fields place (Ok done) = (i : ℕ) → place ≤ i → text_at fields i ≡ []

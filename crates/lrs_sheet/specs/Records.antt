@@ -1,11 +1,14 @@
 -- What a record of an edit sheet says: a key and a command, or which of its fields is the first malformed one. A table of the verbs and what their fields may say.
 use Rattle.std.specs.Prelude.{◌≡◌, ℕ, zero, suc, ◌+◌, ◌<◌, ◌≤◌, List, [], ◌∷◌, Option, Some, None, IsTrue, ⊤, codes, map, slice_get, unwrap_or, Contains, if◌then◌else◌}
 use Rattle.std.specs.Str.{bytes_eq}
-use Rattle.std.specs.Str.Parse.{IsNumeral, digits_value}
 use Rattle.csv.specs.Records.{field_at}
 use Rattle.lrs_element.specs.Limits.{longest_link}
+use Rattle.lrs_element.specs.declared.link.Piece.{Piece}
+use Rattle.lrs_element.specs.declared.marks.Mark.{Mark}
+use Rattle.lrs_position.specs.Names.{is_route_name}
 use Rattle.lrs_events.specs.Names.{is_class_name}
 use Rattle.lrs_events.specs.declared.class.Kind.{Kind}
+use Rattle.lrs_machine.specs.Entered.{are_entered_pieces, are_entered_marks}
 use Rattle.lrs_machine.specs.Keys.{is_key}
 use Rattle.lrs_machine.specs.Lines.{Text, kind_text}
 use Rattle.lrs_machine.specs.declared.answer.Field.{Field}
@@ -14,31 +17,35 @@ use Rattle.lrs_machine.specs.declared.command.Command.{Command}
 use Rattle.lrs_machine.specs.declared.command.Command.TheVariants as verb
 use Rattle.lrs_sheet.specs.declared.fault.ReadFault.{ReadFault}
 use Rattle.lrs_sheet.specs.declared.fault.ReadFault.TheVariants as fault
+use Rattle.lrs_sheet.specs.Words.{AreSaid, IsMarkText, IsPieceText, SaysNumber, words_of}
 
 -- an argument of a command
 pub data Argument : Type 0 where
   Number : ℕ → Argument
   Word : Text → Argument
   KindOf : Kind → Argument
+  PiecesOf : List Piece → Argument
+  MarksOf : List Mark → Argument
 
--- what a field may say: a number between two bounds, the name of a class, a kind
+-- what a field may say: a number between two bounds, a name, a kind, a list
 pub data Shape : Type 0 where
   Whole : ℕ → ℕ → Shape
   ClassName : Shape
   ClassKind : Shape
+  RouteName : Shape
+  Pieces : Shape
+  Marks : Shape
 
--- The text says this argument: digits, with leading zeros or without, a name of its alphabet, one of the words for kinds.
+-- The text says this argument: a number, a name of its alphabet, one of the words for kinds, or words between spaces that say pieces or marks.
 abbrev pub Says : Shape → Text → Argument → Type 0
-Says (Whole low high) text (Number n) = IsNumeral 10 text × (n ≡ digits_value 10 text) × (low ≤ n) × (n ≤ high)
+Says (Whole low high) text (Number n) = SaysNumber low high text n
 Says ClassName text (Word name) = IsTrue (is_class_name text) × (name ≡ text)
 Says ClassKind text (KindOf kind) = text ≡ kind_text kind
+Says RouteName text (Word name) = IsTrue (is_route_name text) × (name ≡ text)
+Says Pieces text (PiecesOf pieces) = AreSaid IsPieceText (words_of text) pieces × IsTrue (are_entered_pieces pieces)
+Says Marks text (MarksOf marks) = AreSaid IsMarkText (words_of text) marks × IsTrue (are_entered_marks marks)
 -- no other argument is said
-Says (Whole low high) text (Word name) = ⊥
-Says (Whole low high) text (KindOf kind) = ⊥
-Says ClassName text (Number n) = ⊥
-Says ClassName text (KindOf kind) = ⊥
-Says ClassKind text (Number n) = ⊥
-Says ClassKind text (Word name) = ⊥
+Says _ text _ = ⊥
 
 -- a verb, and what its fields a, b, .. say
 pub record Verb : Type 0 where
@@ -50,6 +57,7 @@ abbrev pub verbs : List Verb
 verbs =
     record { name = codes "link"; shapes = Whole 1 999_999 ∷ Whole 1 longest_link ∷ [] }
     ∷ record { name = codes "class"; shapes = ClassName ∷ ClassKind ∷ [] }
+    ∷ record { name = codes "route"; shapes = RouteName ∷ Pieces ∷ Marks ∷ [] }
     ∷ []
 
 abbrev pub IsVerb : Text → Type 0
@@ -67,12 +75,14 @@ shapes_of name = shapes_in verbs name
 abbrev pub verb_of : Command → Text
 verb_of (verb.Link l) = codes "link"
 verb_of (verb.Class c) = codes "class"
+verb_of (verb.Route name pieces marks) = codes "route"
 verb_of _ = []
 
 -- the arguments of a command, in the order of the fields a, b, ..
 abbrev pub arguments_of : Command → List Argument
 arguments_of (verb.Link l) = Number l.number ∷ Number l.length ∷ []
 arguments_of (verb.Class c) = Word c.name ∷ KindOf c.kind ∷ []
+arguments_of (verb.Route name pieces marks) = Word name ∷ PiecesOf pieces ∷ MarksOf marks ∷ []
 arguments_of _ = []
 
 -- the field at a place, which is empty past the end

@@ -4,6 +4,8 @@
 
 mod fault;
 mod header;
+pub mod laws;
+mod list;
 mod record;
 mod reply;
 mod rows;

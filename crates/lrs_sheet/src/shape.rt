@@ -3,14 +3,16 @@
 ghost use Rattle.std.specs.Prelude.{◌≡◌};
 ghost use Rattle.csv.specs.Records.{fields_of};
 ghost use Rattle.lrs_sheet.specs.Records as spec;
-ghost use Rattle.lrs_sheet.specs.Records.{Number, Word, KindOf, Whole};
-ghost use Rattle.lrs_sheet.specs.Fields.{ReadsField};
+ghost use Rattle.lrs_sheet.specs.Records.{Number, Word, KindOf, PiecesOf, MarksOf, Whole};
+ghost use Rattle.lrs_sheet.specs.Fields.{ReadsField, ReadsList};
 
 use crate::fault::ReadFault;
+use crate::list::{number, read_list};
 use csv::ByteRecord;
 use lrs_events::{ClassName, Kind};
-use lrs_machine::Field;
-use lrs_measure::read_digits;
+use lrs_machine::{Field, MarkList, PieceList};
+use lrs_position::RouteName;
+use std::alloc::Global;
 
 /// The field at a place, which is empty past the end.
 pub(crate) fn text_at(row: &ByteRecord, place: usize) -> &[u8]
@@ -50,9 +52,9 @@ pub(crate) fn whole_at(
 ) -> Result<u64, ReadFault>
     ensures { ReadsField (Whole low high) Number (fields_of row.now) field result }
 {
-    match read_digits(text_at(row, place_of(field)), high) {
-        Some(number) if low <= number => Ok(number),
-        _ => Err(ReadFault::Field(field)),
+    match number(text_at(row, place_of(field)), low, high) {
+        Some(number) => Ok(number),
+        None => Err(ReadFault::Field(field)),
     }
 }
 
@@ -79,5 +81,47 @@ pub(crate) fn kind_at(row: &ByteRecord, field: Field) -> Result<Kind, ReadFault>
         Ok(Kind::Exclusive)
     } else {
         Err(ReadFault::Field(field))
+    }
+}
+
+/// The name of a route.
+pub(crate) fn route_name_at(row: &ByteRecord, field: Field) -> Result<RouteName, ReadFault>
+    ensures { ReadsField spec.RouteName Word (fields_of row.now) field result }
+{
+    match RouteName::new(text_at(row, place_of(field))) {
+        Some(name) => Ok(name),
+        None => Err(ReadFault::Field(field)),
+    }
+}
+
+/// A list of pieces.
+pub(crate) fn pieces_at(
+    alloc: Global,
+    row: &ByteRecord,
+    field: Field,
+) -> Result<PieceList, ReadFault>
+    ensures { ReadsList spec.Pieces PiecesOf (fields_of row.now) field result }
+{
+    match read_list(alloc, text_at(row, place_of(field))) {
+        Ok(Some(pieces)) => match PieceList::new(pieces) {
+            Some(list) => Ok(list),
+            None => Err(ReadFault::Field(field)),
+        },
+        Ok(None) => Err(ReadFault::Field(field)),
+        Err(_) => Err(ReadFault::Memory),
+    }
+}
+
+/// A list of marks.
+pub(crate) fn marks_at(alloc: Global, row: &ByteRecord, field: Field) -> Result<MarkList, ReadFault>
+    ensures { ReadsList spec.Marks MarksOf (fields_of row.now) field result }
+{
+    match read_list(alloc, text_at(row, place_of(field))) {
+        Ok(Some(marks)) => match MarkList::new(marks) {
+            Some(list) => Ok(list),
+            None => Err(ReadFault::Field(field)),
+        },
+        Ok(None) => Err(ReadFault::Field(field)),
+        Err(_) => Err(ReadFault::Memory),
     }
 }

@@ -8,7 +8,9 @@ ghost use Rattle.lrs_sheet.specs.Fields.{NothingFrom, ReadsArguments, ReadsComma
 ghost use Rattle.lrs_machine.specs.declared.command.Command.{Command as DeclaredCommand};
 
 use crate::fault::ReadFault;
-use crate::shape::{class_name_at, kind_at, place_of, text_at, whole_at};
+use crate::shape::{
+    class_name_at, kind_at, marks_at, pieces_at, place_of, route_name_at, text_at, whole_at,
+};
 use csv::ByteRecord;
 use lrs_desk::Planned;
 use lrs_element::Link;
@@ -80,17 +82,33 @@ fn class_of(row: &ByteRecord) -> Result<Planned, ReadFault>
     Ok(planned(Command::Class(Class { name, kind })))
 }
 
+fn route_of(alloc: Global, row: &ByteRecord) -> Result<Planned, ReadFault>
+    requires { length (fields_of row.now) ≤ 11 }
+    ensures { ReadsArguments (fields_of row.now) (codes "route") result }
+{
+    let name = route_name_at(row, Field::A)?;
+    let pieces = pieces_at(alloc, row, Field::B)?;
+    let marks = marks_at(alloc, row, Field::C)?;
+    nothing_from(row, Field::D)?;
+    Ok(planned(Command::Route {
+        name,
+        pieces,
+        marks,
+    }))
+}
+
 /// The command that the fields after the key say.
 pub(crate) fn command_by_verb(alloc: Global, row: &ByteRecord) -> Result<Planned, ReadFault>
     requires { length (fields_of row.now) ≤ 11 }
     ensures { ReadsCommand (fields_of row.now) result }
 {
-    let _alloc = alloc;
     let verb = text_at(row, 1);
     if verb == b"link".as_slice() {
         link_of(row)
     } else if verb == b"class".as_slice() {
         class_of(row)
+    } else if verb == b"route".as_slice() {
+        route_of(alloc, row)
     } else {
         Err(ReadFault::Field(Field::Verb))
     }
