@@ -8,6 +8,7 @@ the environment names another program to measure in its place.
 
 import os
 import pathlib
+import random
 import subprocess
 import sys
 import tempfile
@@ -18,6 +19,7 @@ BUILT = TOP / "crates" / "lrs_cli" / "out" / "lrs_cli"
 HEADER = b"key,verb,a,b,c,d,e,f,g,h,i\n"
 READ_BY_PYTHON = "import csv, sys\nfor row in csv.reader(open(sys.argv[1], newline='')): pass\n"
 MOST_LINKS = 999_999
+MOST_ROUTES = 10_000
 
 
 def link(n):
@@ -25,7 +27,9 @@ def link(n):
 
 
 def route(n):
-    return b"r%d,route,R%d,%d:0:5000:+,0:0 5000:5000,,,,,,\n" % (n, n, n)
+    """The n-th of routes of 10 mm, a thousand on each stretch of the first thousand links."""
+    number, start = 1 + n % 1_000, n // 1_000 * 10
+    return b"r%d,route,R%d,%d:%d:%d:+,0:0 10:10,,,,,,\n" % (n, n, number, start, start + 10)
 
 
 def write(path, records):
@@ -94,9 +98,9 @@ def marginal(program, folder, what, known, more):
 def verbs_of(program, folder):
     """The verbs that the program has, of those that are measured."""
     path = str(folder / "verbs")
-    write(path, [link(1), route(1)])
+    write(path, [link(1), route(0)])
     done = subprocess.run([program, "edit", ":memory:", path], capture_output=True, check=False)
-    return ["link", "route"] if b"r1,done,2" in done.stdout else ["link"]
+    return ["link", "route"] if b"r0,done,2" in done.stdout else ["link"]
 
 
 def main():
@@ -109,6 +113,10 @@ def main():
         path = str(folder / "sheet")
         write(path, [link(n) if n <= MOST_LINKS else link(1) for n in range(1, records + 1)])
         compare(program, "links", path, records)
+        mixed = [link(n) for n in range(1, records * 3 // 10 + 1)]
+        random.Random(1).shuffle(mixed)
+        write(path, mixed)
+        compare(program, "links, their numbers in no order", path, len(mixed))
         write(path, [b"k%d,link,0,5000,,,,,,,\n" % n for n in range(1, records + 1)])
         compare(program, "malformed records", path, records)
         write(path, [link(1) for _ in range(records)])
@@ -119,7 +127,7 @@ def main():
                 if verb == "link":
                     more = [link(n) for n in range(known + 1, known + 100_001)]
                 else:
-                    more = [route(n) for n in range(1, 1_001)]
+                    more = [route(n) for n in range(MOST_ROUTES)]
                 costs.append(marginal(program, folder, verb, known, more))
             print(f"  a {verb} command costs {costs[1] / costs[0]:.2f} times as much beside 300,000 links as beside 1,000")
 

@@ -1,21 +1,18 @@
 -- Where `clap` finds no fault with the words, they name a job, and each of its words is there.
-use Rattle.std.proofs.Common.{◌≡◌, ◌∙◌, ◌&&◌, ◌||◌, ℕ, Bool, true, false, true≢false, not, cond, List, [], ◌∷◌, Option, Some, None, is_some, option_map, refl, sym, ap, subst, codes}
-use Rattle.std.specs.Prelude.{IsSomeAnd}
-use Rattle.std.specs.List.{find, slice_index_or}
+use Rattle.std.proofs.Common.{◌≡◌, ◌∙◌, ◌||◌, Bool, true, false, true≢false, not, cond, List, [], ◌∷◌, Option, Some, None, is_some, option_map, refl, sym, ap, subst, codes}
+use Rattle.std.specs.List.{slice_index_or}
 use Rattle.std.specs.Option.{option_map_or}
 use Rattle.std.specs.Str.{bytes_eq}
 use Rattle.std.proofs.lemmas.Slice.Eq.{bytes_eq-Decides}
-use Rattle.clap.specs.Kinds.{Kinds, or_else}
-use Rattle.clap.specs.Walk.{Held, Row, Rule, Text, answers_to, finished, first_of, has_long, has_short, nothing_held, walk, walk_from}
+use Rattle.clap.specs.Walk.{Row, Rule, Text, answers_to, finished, has_long, has_short, nothing_held, walk, walk_from}
 use Rattle.clap.specs.Takes.{is_given}
-use Rattle.clap.specs.Faults.{is_simple_and_free, check_fault, default_fault, defaults_fault, entered_fault, fault_of, level_fault, settle_fault, walk_fault}
+use Rattle.clap.specs.Faults.{is_simple_and_free, check_fault, defaults_fault, entered_fault, fault_of, level_fault, settle_fault, walk_fault}
 use Rattle.clap.specs.Simple.{App, HasMatchesOf, Shape, built, is_simple, subcommand_rows_of, entered, help_rule, help_shape, label_of, names_of, rows_at, subcommand_of}
 use Rattle.clap.specs.declared.ArgMatches.{ArgMatches}
-use Rattle.clap.specs.declared.error.ErrorKind.{ErrorKind}
 use Rattle.clap.specs.declared.error.ErrorKind.TheVariants as kind
 use Rattle.lrs_cli.specs.Words.{HasJobWords, line_of_program}
 use Rattle.lrs_cli.proofs.JobNames.{first_none, names_help, no_kinds, second_none, walk_stops}
-use Rattle.lrs_cli.proofs.JobValues.{Filled, HasFlag, IsFilled, IsFlag, given_first, rows-filled}
+use Rattle.lrs_cli.proofs.JobValues.{HasFlag, given_first, rows-filled}
 
 abbrev program : App
 program = built line_of_program

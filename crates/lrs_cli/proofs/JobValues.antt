@@ -1,11 +1,11 @@
 -- Each row that `clap` makes of the words of a job has a value.
-use Rattle.std.proofs.Common.{◌≡◌, ◌∙◌, ◌&&◌, ℕ, Bool, true, false, true≢false, cond, zero, suc, List, [], ◌∷◌, ◌++◌, Option, Some, None, is_some, refl, sym, ap, subst, codes, length, drop}
+use Rattle.std.proofs.Common.{◌≡◌, ◌&&◌, ℕ, Bool, true, false, true≢false, cond, zero, suc, List, [], ◌∷◌, ◌++◌, Option, Some, None, is_some, refl, sym, subst, length, drop}
 use Rattle.std.specs.List.{fold, find, list_all, slice_get}
 use Rattle.std.specs.Option.{option_map_or, option_and_then}
 use Rattle.std.specs.Str.{bytes_eq, chars}
-use Rattle.std.specs.Prelude.{encode_utf8, min}
+use Rattle.std.specs.Prelude.{encode_utf8}
 use Rattle.clap.specs.Lexer.{long_of, short_of}
-use Rattle.clap.specs.Walk.{Held, Names, Outcome, done, waits, plain, refused, Row, Rule, Step, next, trailing, subcommand, value, Text, Waiting, idle, option, positional, Walk, action_of, after_flag, after_step, arg_by_id, arg_by_index, arg_by_long, arg_by_short, at_row, bundle, bundle_met, bundle_step, counted, default_rows, finished, first_of, flag_met, has_row, is_pending, long_met, long_or_other, long_word, more_values, option_word, plain_word, positional_held, pushed, reacted, reading_by, settled, settled_rows, short_met, short_or_plain, subcommand_met, subcommand_or_other, takes_several, takes_values, to_positional, used, used_as, used_by_id, walked, walked_from, with_default, with_values, word_met}
+use Rattle.clap.specs.Walk.{Held, Names, Outcome, done, waits, plain, refused, Row, Rule, Step, next, trailing, subcommand, value, Text, Waiting, idle, option, positional, Walk, action_of, after_flag, after_step, arg_by_id, arg_by_index, arg_by_long, arg_by_short, at_row, bundle, bundle_met, bundle_step, default_rows, finished, first_of, flag_met, has_row, is_pending, long_met, long_or_other, more_values, option_word, plain_word, positional_held, pushed, reacted, reading_by, settled, settled_rows, short_met, short_or_plain, subcommand_met, subcommand_or_other, takes_several, takes_values, to_positional, used, used_as, used_by_id, walked, walked_from, with_default, with_values, word_met}
 use Rattle.clap.specs.Takes.{is_given}
 use Rattle.clap.specs.Facts.{explicit_source}
 use Rattle.clap.specs.declared.builder.ArgAction.{ArgAction}
