@@ -2,12 +2,14 @@
 
     python3 bench/sheets.py [RECORDS]
 
-Each line is the best of three runs. Nothing but Python is needed. The program is built first, by ./roadlrs; ROADLRS in
-the environment names another program to measure in its place.
+A line has records, seconds, processor time, records a second and the most memory. Times are the least of three runs;
+those of one command are processor time, the least of seven. Nothing but Python is needed. The program is built first,
+by ./roadlrs; ROADLRS in the environment names another program to measure in its place.
 """
 
 import os
 import pathlib
+import random
 import subprocess
 import sys
 import tempfile
@@ -18,6 +20,8 @@ BUILT = TOP / "crates" / "lrs_cli" / "out" / "lrs_cli"
 HEADER = b"key,verb,a,b,c,d,e,f,g,h,i\n"
 READ_BY_PYTHON = "import csv, sys\nfor row in csv.reader(open(sys.argv[1], newline='')): pass\n"
 MOST_LINKS = 999_999
+MOST_ROUTES = 10_000
+FEW_AND_MANY = (1_000, 300_000)
 
 
 def link(n):
@@ -25,7 +29,9 @@ def link(n):
 
 
 def route(n):
-    return b"r%d,route,R%d,%d:0:5000:+,0:0 5000:5000,,,,,,\n" % (n, n, n)
+    """The n-th of routes of 10 mm, a thousand on each stretch of the first thousand links."""
+    number, start = 1 + n % 1_000, n // 1_000 * 10
+    return b"r%d,route,R%d,%d:%d:%d:+,0:0 10:10,,,,,,\n" % (n, n, number, start, start + 10)
 
 
 def write(path, records):
@@ -38,17 +44,18 @@ def start(words):
     return subprocess.Popen(words, stdout=subprocess.DEVNULL)
 
 
-def seconds_of(words):
-    """The least seconds of three runs."""
-    least = None
-    for _ in range(3):
+def seconds_of(words, runs=3):
+    """The least seconds that pass, and the least of processor time, of some runs."""
+    passed, used = [], []
+    for _ in range(runs):
         started = time.monotonic()
-        status = start(words).wait()
-        seconds = time.monotonic() - started
-        if status not in (0, 1):
-            sys.exit(f"{words[0]} ended with {status}")
-        least = seconds if least is None else min(least, seconds)
-    return least
+        child = start(words)
+        _, status, usage = os.wait4(child.pid, 0)
+        passed.append(time.monotonic() - started)
+        used.append(usage.ru_utime + usage.ru_stime)
+        if os.waitstatus_to_exitcode(status) not in (0, 1):
+            sys.exit(f"{words[0]} ended with {os.waitstatus_to_exitcode(status)}")
+    return min(passed), min(used)
 
 
 def peak_of(words):
@@ -66,37 +73,30 @@ def peak_of(words):
     return peak
 
 
-def measured(words):
-    return seconds_of(words), peak_of(words)
-
-
-def show(what, records, seconds, kilobytes):
-    print(f"{what:<44}{records:>10,}{seconds:>9.2f} s{records / seconds:>12,.0f}/s{kilobytes / 1024:>9.1f} MB", flush=True)
-
-
 def compare(program, what, path, records):
-    show(what, records, *measured([program, "edit", ":memory:", path]))
-    show("  the same sheet read by Python's csv", records, *measured([sys.executable, "-c", READ_BY_PYTHON, path]))
+    python = [sys.executable, "-c", READ_BY_PYTHON, path]
+    for name, words in [(what, [program, "edit", ":memory:", path]), ("  read by Python's csv", python)]:
+        passed, used = seconds_of(words)
+        memory = peak_of(words) / 1024
+        print(f"{name:<32}{records:>10,}{passed:>8.2f} s{used:>8.2f} s{records / passed:>12,.0f}/s{memory:>8.1f} MB", flush=True)
 
 
-def marginal(program, folder, what, known, more):
-    """What one more command costs where so many links are known."""
-    path = str(folder / "sheet")
+def cost(program, path, known, more):
+    """The processor time of one more command where so many links are known."""
     before = [link(n) for n in range(1, known + 1)]
     write(path, before)
-    base = seconds_of([program, "edit", ":memory:", path])
+    _, base = seconds_of([program, "edit", ":memory:", path], runs=7)
     write(path, before + more)
-    whole, kilobytes = measured([program, "edit", ":memory:", path])
-    show(f"{what} beside {known:,} links", len(more), max(whole - base, 1e-6), kilobytes)
+    _, whole = seconds_of([program, "edit", ":memory:", path], runs=7)
     return (whole - base) / len(more)
 
 
 def verbs_of(program, folder):
     """The verbs that the program has, of those that are measured."""
     path = str(folder / "verbs")
-    write(path, [link(1), route(1)])
+    write(path, [link(1), route(0)])
     done = subprocess.run([program, "edit", ":memory:", path], capture_output=True, check=False)
-    return ["link", "route"] if b"r1,done,2" in done.stdout else ["link"]
+    return ["link", "route"] if b"r0,done,2" in done.stdout else ["link"]
 
 
 def main():
@@ -109,19 +109,21 @@ def main():
         path = str(folder / "sheet")
         write(path, [link(n) if n <= MOST_LINKS else link(1) for n in range(1, records + 1)])
         compare(program, "links", path, records)
+        mixed = [link(n) for n in range(1, records * 3 // 10 + 1)]
+        random.Random(1).shuffle(mixed)
+        write(path, mixed)
+        compare(program, "links, their numbers in no order", path, len(mixed))
         write(path, [b"k%d,link,0,5000,,,,,,,\n" % n for n in range(1, records + 1)])
         compare(program, "malformed records", path, records)
         write(path, [link(1) for _ in range(records)])
         compare(program, "one link again and again", path, records)
         for verb in verbs_of(program, folder):
             costs = []
-            for known in (1_000, 300_000):
-                if verb == "link":
-                    more = [link(n) for n in range(known + 1, known + 100_001)]
-                else:
-                    more = [route(n) for n in range(1, 1_001)]
-                costs.append(marginal(program, folder, verb, known, more))
-            print(f"  a {verb} command costs {costs[1] / costs[0]:.2f} times as much beside 300,000 links as beside 1,000")
+            for known in FEW_AND_MANY:
+                more = [link(known + n) for n in range(1, 100_001)] if verb == "link" else [route(n) for n in range(MOST_ROUTES)]
+                costs.append(cost(program, path, known, more))
+            few, many = (f"{microseconds * 1e6:.2f} µs" for microseconds in costs)
+            print(f"one {verb}: {few} beside 1,000 links, {many} beside 300,000, {costs[1] / costs[0]:.2f} times as much", flush=True)
 
 
 if __name__ == "__main__":

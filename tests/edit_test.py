@@ -9,7 +9,7 @@ import threading
 
 from program import HEADER, PROGRAM, ends, faults, lines, record, replies, run, run_sheet, sheet_of
 
-# the first sheet: three links and three classes
+# the first sheet: three links, three classes, and a route over two of the links
 FIRST = sheet_of(
     "s1,link,1,5000",
     "s2,link,2,3000",
@@ -17,8 +17,9 @@ FIRST = sheet_of(
     "s4,class,SPEED,exclusive",
     "s5,class,RAIL,stretch",
     "s6,class,SIGN,point",
+    "s7,route,A1,1:0:5000:+ 2:0:3000:-,0:0 5000:6000 8000:9000",
 )
-FIRST_REPLIES = lines("s1,done,1", "s2,done,2", "s3,done,3", "s4,done,4", "s5,done,5", "s6,done,6")
+FIRST_REPLIES = lines(*(f"s{n},done,{n}" for n in range(1, 8)))
 
 MARK = b"\xef\xbb\xbf"
 
@@ -67,6 +68,72 @@ def test_limits_of_links():
         ("b7,link,5,1e3", "b7,refused,Malformed:b"),
         ("b8,link,\u0665,1", "b8,refused,Malformed:a"),
         ("b9,link,0,0,x", "b9,refused,Malformed:a"),
+    )
+
+
+def after_first(*rows):
+    """After the first sheet these records get these replies."""
+    expected = FIRST_REPLIES + lines(*(reply for _, reply in rows))
+    refused = any(",refused," in reply for _, reply in rows)
+    ends(run_sheet(FIRST + b"".join(record(text) for text, _ in rows)), expected, 1 if refused else 0)
+
+
+def test_routes_that_are_refused():
+    after_first(
+        ("a1,route,A1,9:0:1:+,0:0 1:1", "a1,refused,RouteKnown"),
+        ("a2,route,C1,9:0:1:+,0:0 1:1", "a2,refused,NoLink"),
+        ("a3,route,C1,3:5:5:+,0:0 1:1", "a3,refused,BadPiece:0"),
+        ("a4,route,C1,3:0:10:+ 3:0:2001:-,0:0 1:1", "a4,refused,BadPiece:1"),
+        ("a5,route,C1,3:0:10:+ 3:9:20:-,0:0 21:21", "a5,refused,Taken:1"),
+        ("a6,route,C1,3:0:10:+ 1:3999:5000:+,0:0 1:1", "a6,refused,Taken:1"),
+        ("a7,route,C1,3:0:10:+,0:0 9:9", "a7,refused,BadMarks:1"),
+        ("a8,route,C1,3:0:10:+,0:5 10:5", "a8,refused,BadMarks:1"),
+        ("a9,route,C1,3:0:10:+,1:0 10:9", "a9,refused,BadMarks:0"),
+        ("b1,route,C1,3:0:2000:+,0:99999999000 2000:100000000000", "b1,done,8"),
+        ("b2,route,D1,3:1999:2000:+,0:0 1:1", "b2,refused,Taken:0"),
+        ("s7,route,A1,01:0:5000:+ 2:0:3000:-,0:0 5000:06000 8000:9000", "s7,again,7"),
+        ("s7,route,A1,1:0:5000:+ 2:0:3000:-,0:0 8000:9000", "s7,refused,KeyUsed:7"),
+    )
+
+
+def test_routes_that_are_malformed():
+    after_first(
+        ("a1,route,,3:0:10:+,0:0 10:9", "a1,refused,Malformed:a"),
+        ("a2,route,-A,3:0:10:+,0:0 10:9", "a2,refused,Malformed:a"),
+        ("a3,route,ABCDEFGHIJKLM,3:0:10:+,0:0 10:9", "a3,refused,Malformed:a"),
+        ("a4,route,C1,,0:0 10:9", "a4,refused,Malformed:b"),
+        ("a5,route,C1,3:0:10,0:0 10:9", "a5,refused,Malformed:b"),
+        ("a6,route,C1,3:0:10:*,0:0 10:9", "a6,refused,Malformed:b"),
+        ("a7,route,C1,3:0:10:+  3:10:20:+,0:0 10:9", "a7,refused,Malformed:b"),
+        ("a8,route,C1, 3:0:10:+,0:0 10:9", "a8,refused,Malformed:b"),
+        ("a9,route,C1,0:0:10:+,0:0 10:9", "a9,refused,Malformed:b"),
+        ("b1,route,C1,1000000:0:10:+,0:0 10:9", "b1,refused,Malformed:b"),
+        ("b2,route,C1,3:0:1000000001:+,0:0 10:9", "b2,refused,Malformed:b"),
+        ("b3,route,C1,3:0:10:+,", "b3,refused,Malformed:c"),
+        ("b4,route,C1,3:0:10:+,0:0", "b4,refused,Malformed:c"),
+        ("b5,route,C1,3:0:10:+,0:0 10:100000000001", "b5,refused,Malformed:c"),
+        ("b6,route,C1,3:0:10:+,0:0 10000000001:9", "b6,refused,Malformed:c"),
+        ("b7,route,C1,3:0:10:+,0:0 10:9,x", "b7,refused,Malformed:d"),
+    )
+
+
+def test_longest_route():
+    links = [(f"k{n},link,{n},1000000000", f"k{n},done,{n - 10}") for n in range(11, 22)]
+    pieces = [f"{n}:0:1000000000:+" for n in range(11, 22)]
+    replies(
+        *links,
+        (f"a,route,A,{' '.join(pieces)},0:0 10000000000:1", "a,refused,TooLong"),
+        (f"b,route,A,{' '.join(pieces[:10])},0:0 10000000000:100000000000", "b,done,12"),
+    )
+
+
+def test_most_pieces_and_marks():
+    apart = " ".join(f"3:{2 * n}:{2 * n + 1}:+" for n in range(1000))
+    marks = " ".join(f"{n}:{n}" for n in range(999)) + " 1000:1000"
+    after_first(
+        (f"a,route,C1,{apart} 1:0:1:+,0:0 1001:1", "a,refused,Malformed:b"),
+        (f"b,route,C1,{apart},{marks} 1001:1001", "b,refused,Malformed:c"),
+        (f"c,route,C1,{apart},{marks}", "c,done,8"),
     )
 
 

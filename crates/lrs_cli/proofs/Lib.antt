@@ -1,1 +1,4 @@
 pub mod CommandLine
+pub mod JobNames
+pub mod JobThere
+pub mod JobValues

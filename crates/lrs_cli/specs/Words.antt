@@ -1,5 +1,5 @@
 -- The words of the program: its command line as `clap` reads it, and what a job says of the words.
-use Rattle.std.specs.Prelude.{◌≡◌, ◌≢◌, List, [], ◌∷◌, Option, Some, codes, map, true, IsSomeAnd}
+use Rattle.std.specs.Prelude.{◌≡◌, ◌≢◌, List, [], ◌∷◌, Option, Some, codes, map, true, is_some, IsSomeAnd}
 use Rattle.clap.specs.Words.{App, IsAmong, Row, Rule, Text, fault_of, first_of, new_app, new_rule, subcommand_of, with_rule, with_subcommand}
 use Rattle.clap.specs.declared.error.ErrorKind.{ErrorKind}
 use Rattle.clap.specs.declared.error.ErrorKind.TheVariants as kind
@@ -50,3 +50,8 @@ AsksForHelp words = IsAmong kind.DisplayHelp (fault_of line_of_program words)
 -- `clap` has another fault to find with the words
 abbrev pub IsMisused : List Text → Type 0
 IsMisused words = (k : ErrorKind) × (k ≢ kind.DisplayHelp) × IsAmong k (fault_of line_of_program words)
+
+-- a job was met, and each of its words was given
+abbrev pub HasJobWords : Option (Text × List Row) → Type 0
+HasJobWords met = IsSomeAnd met (λ m.
+    (m.0 ≡ codes "edit") × (is_some (first_of (codes "DB") m.1) ≡ true) × (is_some (first_of (codes "SHEET") m.1) ≡ true))

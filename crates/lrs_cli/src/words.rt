@@ -1,9 +1,9 @@
 //! The words of the program.
 
-ghost use Rattle.std.specs.Prelude.{◌≡◌, ◌≢◌, IfOk, Err, IfSome, IfNone, Some, None, codes, map, false};
+ghost use Rattle.std.specs.Prelude.{◌≡◌, ◌≢◌, IfOk, Err, IfSome, IfNone, IsSome, Some, None, codes, is_some, map, false, true};
 ghost use Rattle.clap.specs.Words.{app_of, first_of, found_of, kind_of, rows_of, rule_of, subcommand_rows_of};
 ghost use Rattle.clap.specs.declared.builder.command.Command.TheViews.{out-Command};
-ghost use Rattle.lrs_cli.specs.Words.{AsksForHelp, HasWords, IsJobOf, IsMet, IsMisused, edit_line, line_of_program, name_of, required};
+ghost use Rattle.lrs_cli.specs.Words.{AsksForHelp, HasJobWords, HasWords, IsJobOf, IsMet, IsMisused, edit_line, line_of_program, name_of, required};
 
 use clap::error::ErrorKind;
 use clap::{Arg, ArgMatches, Command, Error};
@@ -97,7 +97,8 @@ fn word_in<'a>(given: &ArgMatches<'a>, id: &str) -> Option<&'a str>
 }
 
 fn edit_job<'a>(given: &ArgMatches<'a>) -> Option<Job<'a>>
-    ensures { IfSome result (λ job. (name_of job ≡ codes "edit") × HasWords job (rows_of (found_of given.now))) }
+    ensures job { IfSome result (λ job. (name_of job ≡ codes "edit") × HasWords job (rows_of (found_of given.now))) }
+    ensures there { is_some (first_of (codes "DB") (rows_of (found_of given.now))) ≡ true → is_some (first_of (codes "SHEET") (rows_of (found_of given.now))) ≡ true → IsSome result }
 {
     let db = word_in(given, "DB")?;
     let sheet = word_in(given, "SHEET")?;
@@ -105,7 +106,8 @@ fn edit_job<'a>(given: &ArgMatches<'a>) -> Option<Job<'a>>
 }
 
 fn job_in<'a>(matches: &ArgMatches<'a>) -> Option<Job<'a>>
-    ensures { IfSome result (λ job. IsMet job (subcommand_rows_of matches.now)) }
+    ensures job { IfSome result (λ job. IsMet job (subcommand_rows_of matches.now)) }
+    ensures there { HasJobWords (subcommand_rows_of matches.now) → IsSome result }
 {
     match matches.subcommand() {
         Some(("edit", given)) => edit_job(given),
@@ -124,5 +126,8 @@ pub fn job_of<'a>(alloc: Global, words: &'a [&'a str]) -> Result<Job<'a>, WordsF
         Ok(matches) => matches,
         Err(error) => return Err(fault_of(alloc, &error)),
     };
-    job_in(&matches).ok_or(WordsFault::Memory)
+    match job_in(&matches) {
+        Some(job) => Ok(job),
+        None => unreachable!(),
+    }
 }
