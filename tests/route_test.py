@@ -1,6 +1,6 @@
-"""The verb `route`: the whole first sheet, and each reason for which a route is refused, one run of the program for each."""
+"""The verb `route` behind the first sheet: keys sent again, refusals, two faults at once, limits, texts."""
 
-from program import lines, record, replies, run_sheet, sheet_of, ends
+from program import replies
 
 FIRST = [
     "s1,link,1,5000",
@@ -17,10 +17,6 @@ FIRST_DONE = [f"s{n},done,{n}" for n in range(1, 8)]
 def after_first(*pairs):
     """The replies to these records behind the first sheet."""
     replies(*zip(FIRST, FIRST_DONE), *pairs)
-
-
-def test_first_sheet_whole():
-    ends(run_sheet(sheet_of(*FIRST)), lines(*FIRST_DONE), 0)
 
 
 def test_a_route_under_its_key_again():
