@@ -96,6 +96,25 @@ def test_routes_that_are_refused():
     )
 
 
+def test_the_first_of_two_faults_of_a_route():
+    after_first(
+        ("t1,route,A1,3:5:5:+,0:0 1:1", "t1,refused,RouteKnown"),
+        ("t2,route,C1,3:5:5:+ 9:0:1:+,0:0 1:1", "t2,refused,NoLink"),
+        ("t3,route,C1,3:0:10:+ 3:0:10:+ 3:7:7:+,0:0 1:1", "t3,refused,BadPiece:2"),
+        ("t4,route,C1,1:0:10:+ 1:0:10:+,0:0 1:1", "t4,refused,Taken:1"),
+        ("t5,route,C1,1:0:10:+,0:0 1:1", "t5,refused,Taken:0"),
+    )
+
+
+def test_routes_that_touch():
+    after_first(
+        ("r1,route,C1,3:0:10:+ 3:20:30:-,0:7 20:8", "r1,done,8"),
+        ("r2,route,C2,3:9:11:-,0:0 2:2", "r2,refused,Taken:0"),
+        ("r3,route,C2,3:30:31:+ 3:19:21:-,0:0 3:3", "r3,refused,Taken:1"),
+        ("r4,route,C2,3:10:20:-,0:0 10:10", "r4,done,9"),
+    )
+
+
 def test_routes_that_are_malformed():
     after_first(
         ("a1,route,,3:0:10:+,0:0 10:9", "a1,refused,Malformed:a"),
