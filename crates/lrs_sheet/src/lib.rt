@@ -17,3 +17,6 @@ pub use fault::{ReadFault, SheetFault};
 pub use record::command_of;
 pub use reply::{CauseText, Reply, Tally};
 pub use run::run_edits;
+
+#[cfg(test)]
+mod tests;
