@@ -86,7 +86,7 @@ step_stops c word w h value other e = placed c (arg_by_index c w.position) word 
 
 turn_from : (s : Shape) (names : Names) (w : Walk) (word : Text) (stop : Option (Text × List Text)) → s.disable_help_subcommand ≡ false
     → cond (is_some stop) [] (or_else (word_fault s names w.is_trailing w.waiting word w.held)
-      (step_fault s w.position (word_met s.rules names w.is_trailing w.waiting w.position word w.held).0 (word_met s.rules names w.is_trailing w.waiting w.position word w.held).1)) ≡ []
+    (step_fault s w.position (word_met s.rules names w.is_trailing w.waiting w.position word w.held).0 (word_met s.rules names w.is_trailing w.waiting w.position word w.held).1)) ≡ []
     → names_help stop ≡ false → names_help w.stopped ≡ false → names_help (walked_from s.rules names stop w word).stopped ≡ false
 turn_from s names w word (Some p) off e stays stopped = stays
 turn_from s names w word None off e stays stopped =
