@@ -1,7 +1,7 @@
 use super::*;
 use lrs_element::{Link, Mark, Piece};
 use lrs_events::{Class, ClassName, Kind};
-use lrs_machine::{Answer, Cause, Command, Key, Limits, MarkList, PieceList, What};
+use lrs_machine::{Answer, Cause, Command, Image, Key, Limits, MarkList, PieceList, What};
 use lrs_position::RouteName;
 use std::process::Abort;
 
@@ -128,6 +128,17 @@ pub fn open<K: Keeper + Drop>(
     }
 }
 
+/// The desk gives this, for the command under the key of this text.
+pub fn gives<K: Keeper>(
+    rt: &(impl Abort + AllocGlobal),
+    desk: &mut Desk<K>,
+    text: &str,
+    command: &Planned,
+    wanted: Result<Answer, Fault>,
+) {
+    assert_eq!(rt; desk.act(key(rt, text), command), wanted);
+}
+
 /// A desk after the first sheet.
 pub fn after_first_sheet(rt: &(impl Abort + AllocGlobal), limits: Limits) -> Desk<Plain> {
     let mut desk = open(rt, Plain::empty(rt.alloc()), limits);
@@ -143,15 +154,23 @@ fn the_first_sheet_is_done(rt: HostRuntime) {
     let sheet = first_sheet(&rt);
     for i in 0..7 {
         let done = Answer::Done(i as u64 + 1);
-        assert_eq!(rt; desk.act(key(&rt, KEYS[i]), &sheet[i]), Ok(done));
+        gives(&rt, &mut desk, KEYS[i], &sheet[i], Ok(done));
     }
 
-    let image = desk.image();
+    links_are_in_order(&rt, desk.image());
+    classes_are_in_order(&rt, desk.image());
+    lines_are_kept(&rt, desk.image());
+}
+
+fn links_are_in_order(rt: &impl Abort, image: &Image) {
     let lengths = [5_000, 3_000, 2_000];
     assert_eq!(rt; image.links.len(), 3);
     for (link, length) in image.links.as_slice().iter().zip(lengths.iter()) {
         assert_eq!(rt; link.length, *length);
     }
+}
+
+fn classes_are_in_order(rt: &impl Abort, image: &Image) {
     let classes = [
         ("RAIL", Kind::Stretch),
         ("SIGN", Kind::Point),
@@ -162,6 +181,9 @@ fn the_first_sheet_is_done(rt: HostRuntime) {
         assert_eq!(rt; class.name.bytes(), want.0.as_bytes());
         assert_eq!(rt; class.kind, want.1);
     }
+}
+
+fn lines_are_kept(rt: &impl Abort, image: &Image) {
     let lines = [
         "link,1,5000",
         "link,2,3000",
@@ -183,7 +205,7 @@ fn a_command_again_does_nothing(rt: HostRuntime) {
     let sheet = first_sheet(&rt);
     for i in 0..7 {
         let again = Answer::Again(i as u64 + 1);
-        assert_eq!(rt; desk.act(key(&rt, KEYS[i]), &sheet[i]), Ok(again));
+        gives(&rt, &mut desk, KEYS[i], &sheet[i], Ok(again));
     }
     let longer = link(
         &rt,
@@ -193,7 +215,7 @@ fn a_command_again_does_nothing(rt: HostRuntime) {
         },
     );
     let used = Answer::Refused(Cause::KeyUsed(1));
-    assert_eq!(rt; desk.act(key(&rt, "s1"), &longer), Ok(used));
+    gives(&rt, &mut desk, "s1", &longer, Ok(used));
     assert_eq!(rt; desk.image().edits.len(), 7);
     assert_eq!(rt; desk.image().links.len(), 3);
 }
@@ -243,19 +265,19 @@ fn there_are_no_more_edits_and_routes_than_their_limits(rt: HostRuntime) {
     );
     let known = route(&rt, "A1", &[ahead(9, 0, 1)], &[mark(0, 0), mark(1, 1)]);
     let no_route = Answer::Refused(Cause::TooMany(What::Routes));
-    assert_eq!(rt; desk.act(key(&rt, "t1"), &second), Ok(no_route));
-    assert_eq!(rt; desk.act(key(&rt, "t1"), &known), Ok(no_route));
+    gives(&rt, &mut desk, "t1", &second, Ok(no_route));
+    gives(&rt, &mut desk, "t1", &known, Ok(no_route));
 
     let eighth = link(&rt, LONGEST);
-    assert_eq!(rt; desk.act(key(&rt, "t8"), &eighth), Ok(Answer::Done(8)));
+    gives(&rt, &mut desk, "t8", &eighth, Ok(Answer::Done(8)));
     let no_edit = Answer::Refused(Cause::TooMany(What::Edits));
-    assert_eq!(rt; desk.act(key(&rt, "t9"), &eighth), Ok(no_edit));
-    assert_eq!(rt; desk.act(key(&rt, "t9"), &second), Ok(no_edit));
+    gives(&rt, &mut desk, "t9", &eighth, Ok(no_edit));
+    gives(&rt, &mut desk, "t9", &second, Ok(no_edit));
 
     // A known key is looked for before the limits.
-    assert_eq!(rt; desk.act(key(&rt, "t8"), &eighth), Ok(Answer::Again(8)));
+    gives(&rt, &mut desk, "t8", &eighth, Ok(Answer::Again(8)));
     let used = Answer::Refused(Cause::KeyUsed(8));
-    assert_eq!(rt; desk.act(key(&rt, "t8"), &second), Ok(used));
+    gives(&rt, &mut desk, "t8", &second, Ok(used));
     assert_eq!(rt; desk.image().edits.len(), 8);
 }
 
@@ -269,7 +291,7 @@ fn a_full_sheet_has_no_more(rt: HostRuntime) {
     let mut desk = after_first_sheet(&rt, limits);
     let no_edit = Answer::Refused(Cause::TooMany(What::Edits));
     let known = class(&rt, "RAIL", Kind::Point);
-    assert_eq!(rt; desk.act(key(&rt, "t1"), &known), Ok(no_edit));
+    gives(&rt, &mut desk, "t1", &known, Ok(no_edit));
 }
 
 #[test]
@@ -283,13 +305,13 @@ fn links_and_classes_are_known_once(rt: HostRuntime) {
         },
     );
     let known = Answer::Refused(Cause::LinkKnown);
-    assert_eq!(rt; desk.act(key(&rt, "t1"), &shorter), Ok(known));
+    gives(&rt, &mut desk, "t1", &shorter, Ok(known));
     let known = Answer::Refused(Cause::ClassKnown);
     let points = class(&rt, "RAIL", Kind::Point);
-    assert_eq!(rt; desk.act(key(&rt, "t1"), &points), Ok(known));
+    gives(&rt, &mut desk, "t1", &points, Ok(known));
     assert_eq!(rt; desk.image().edits.len(), 7);
 
     // A refused command leaves its key free.
     let longest = link(&rt, LONGEST);
-    assert_eq!(rt; desk.act(key(&rt, "t1"), &longest), Ok(Answer::Done(8)));
+    gives(&rt, &mut desk, "t1", &longest, Ok(Answer::Done(8)));
 }

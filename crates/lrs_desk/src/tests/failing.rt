@@ -57,27 +57,26 @@ fn a_desk_asks_to_be_opened_again_after_a_failed_commit(rt: HostRuntime) {
     for keeps_new in [false, true] {
         let mut desk = open(&rt, Failing::new(rt.alloc(), 2, keeps_new), AMPLE);
         let sheet = first_sheet(&rt);
-        assert_eq!(rt; desk.act(key(&rt, "s1"), &sheet[0]), Ok(Answer::Done(1)));
+        gives(&rt, &mut desk, "s1", &sheet[0], Ok(Answer::Done(1)));
 
         // A refused command commits nothing.
         let known = Answer::Refused(Cause::LinkKnown);
-        assert_eq!(rt; desk.act(key(&rt, "s2"), &sheet[0]), Ok(known));
-        assert_eq!(rt; desk.act(key(&rt, "s2"), &sheet[1]), Err(Fault::Keep));
+        gives(&rt, &mut desk, "s2", &sheet[0], Ok(known));
+        gives(&rt, &mut desk, "s2", &sheet[1], Err(Fault::Keep));
         assert_eq!(rt; desk.image().links.len(), 1);
         for text in ["s1", "s2", "s3"] {
-            let answer = desk.act(key(&rt, text), &sheet[0]);
-            assert_eq!(rt; answer, Err(Fault::MustReopen));
+            gives(&rt, &mut desk, text, &sheet[0], Err(Fault::MustReopen));
         }
 
         let mut desk = open(&rt, desk.into_keeper(), AMPLE);
-        assert_eq!(rt; desk.act(key(&rt, "s1"), &sheet[0]), Ok(Answer::Again(1)));
+        gives(&rt, &mut desk, "s1", &sheet[0], Ok(Answer::Again(1)));
         let second = if keeps_new {
             Answer::Again(2)
         } else {
             Answer::Done(2)
         };
-        assert_eq!(rt; desk.act(key(&rt, "s2"), &sheet[1]), Ok(second));
-        assert_eq!(rt; desk.act(key(&rt, "s3"), &sheet[2]), Ok(Answer::Done(3)));
+        gives(&rt, &mut desk, "s2", &sheet[1], Ok(second));
+        gives(&rt, &mut desk, "s3", &sheet[2], Ok(Answer::Done(3)));
         assert_eq!(rt; desk.image().links.len(), 3);
     }
 }
@@ -91,7 +90,7 @@ fn a_failed_commit_of_a_route_keeps_the_whole_of_it_or_nothing(rt: HostRuntime) 
             desk.act(key(&rt, KEYS[i]), &sheet[i])
                 .expect(&rt, "an answer");
         }
-        assert_eq!(rt; desk.act(key(&rt, "s7"), &sheet[6]), Err(Fault::Keep));
+        gives(&rt, &mut desk, "s7", &sheet[6], Err(Fault::Keep));
         assert_eq!(rt; desk.image().routes.len(), 0);
         let desk = open(&rt, desk.into_keeper(), AMPLE);
         let (routes, edits) = if keeps_new { (1, 7) } else { (0, 6) };

@@ -17,8 +17,7 @@ fn the_first_route_lies_as_it_was_given(rt: HostRuntime) {
 /// A desk after the first sheet refuses a new route for this cause, and nothing changes.
 fn is_refused(rt: &(impl Abort + AllocGlobal), new: &Planned, cause: Cause) {
     let mut desk = after_first_sheet(rt, AMPLE);
-    let answer = desk.act(key(rt, "t1"), new);
-    assert_eq!(rt; answer, Ok(Answer::Refused(cause)));
+    gives(rt, &mut desk, "t1", new, Ok(Answer::Refused(cause)));
     assert_eq!(rt; desk.image().routes.len(), 1);
     assert_eq!(rt; desk.image().edits.len(), 7);
 }
@@ -103,10 +102,10 @@ fn the_longest_route_runs_over_ten_links(rt: HostRuntime) {
     let marks = [mark(0, 0), mark(10_000_000_000, 100_000_000_000)];
     let eleven = route(&rt, "L1", &pieces, &marks);
     let too_long = Answer::Refused(Cause::TooLong);
-    assert_eq!(rt; desk.act(key(&rt, "t1"), &eleven), Ok(too_long));
+    gives(&rt, &mut desk, "t1", &eleven, Ok(too_long));
     pieces.pop();
     let ten = route(&rt, "L1", &pieces, &marks);
-    assert_eq!(rt; desk.act(key(&rt, "t1"), &ten), Ok(Answer::Done(19)));
+    gives(&rt, &mut desk, "t1", &ten, Ok(Answer::Done(19)));
 }
 
 #[test]
@@ -120,5 +119,5 @@ fn a_route_that_is_too_long_is_not_looked_for_on_taken_ground(rt: HostRuntime) {
             .expect(&rt, "memory");
     }
     let too_long = Answer::Refused(Cause::TooLong);
-    assert_eq!(rt; desk.act(key(&rt, "t1"), &over(&rt, &pieces)), Ok(too_long));
+    gives(&rt, &mut desk, "t1", &over(&rt, &pieces), Ok(too_long));
 }
