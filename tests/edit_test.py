@@ -386,6 +386,17 @@ def shown_on(terminal):
     return reader, seen
 
 
+def run_on_terminal(sheet):
+    """A run whose standard error is a terminal, and what that shows."""
+    outer, inner = pty.openpty()
+    reader, seen = shown_on(outer)
+    done = subprocess.run([PROGRAM, "edit", ":memory:", "stdin"], input=sheet, stdout=subprocess.PIPE, stderr=inner, timeout=600)
+    os.close(inner)
+    reader.join()
+    os.close(outer)
+    return done, b"".join(seen)
+
+
 def test_a_long_sheet():
     sheet, expected = long_sheet(60_000)
     ends(run_sheet(sheet), expected, 0)
@@ -393,22 +404,11 @@ def test_a_long_sheet():
 
 def test_progress_is_shown_on_a_terminal_alone():
     sheet, expected = long_sheet(60_000)
-    outer, inner = pty.openpty()
-    reader, seen = shown_on(outer)
-    done = subprocess.run([PROGRAM, "edit", ":memory:", "stdin"], input=sheet, stdout=subprocess.PIPE, stderr=inner, timeout=600)
-    os.close(inner)
-    reader.join()
-    os.close(outer)
-    shown = b"".join(seen)
+    done, shown = run_on_terminal(sheet)
     assert (done.stdout, done.returncode) == (expected, 0), done.returncode
     assert b" records" in shown and shown.endswith(b"\r\x1b[K"), shown[-200:]
 
 
 def test_a_short_sheet_shows_no_progress():
-    outer, inner = pty.openpty()
-    reader, seen = shown_on(outer)
-    done = subprocess.run([PROGRAM, "edit", ":memory:", "stdin"], input=FIRST, stdout=subprocess.PIPE, stderr=inner, timeout=600)
-    os.close(inner)
-    reader.join()
-    os.close(outer)
-    assert (done.stdout, done.returncode, b"".join(seen)) == (FIRST_REPLIES, 0, b""), seen
+    done, shown = run_on_terminal(FIRST)
+    assert (done.stdout, done.returncode, shown) == (FIRST_REPLIES, 0, b""), shown
