@@ -11,7 +11,7 @@ use Rattle.std.specs.FinMap.{find, IsAntisymmetric, nat_cmp-IsAntisymmetric, sli
 use Rattle.lrs_measure.specs.Texts.{Name, name_cmp, same_name}
 use Rattle.lrs_machine.specs.Register.{by_order, put}
 use Rattle.std.proofs.lemmas.Bool.{false≢true}
-use Rattle.lrs_desk.specs.Lists.{insert_by}
+use Rattle.lrs_measure.specs.Ordered.{insert_by}
 
 -- a row's key and value
 module _ {K X Row : Type 0} {R : K → K → Ordering} (total : IsTotalOrder R) (exact : IsAntisymmetric R) (entry : Row → K × X) where

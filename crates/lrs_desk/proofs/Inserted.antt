@@ -6,7 +6,7 @@ use Rattle.std.proofs.lemmas.Bool.{and_parts, and_from}
 use Rattle.std.proofs.lemmas.List.Folds.{list_all-map}
 use Rattle.lrs_machine.proofs.Members.{list_any-map}
 use Rattle.lrs_measure.specs.Lists.{each_two}
-use Rattle.lrs_desk.specs.Lists.{insert_by}
+use Rattle.lrs_measure.specs.Ordered.{insert_by}
 use Rattle.lrs_desk.proofs.Inserts.{all-insert_by}
 
 module _ {X : Type 0} where

@@ -10,7 +10,7 @@ use Rattle.std.proofs.lemmas.Bool.{false≢true, both_ways, and_parts, and_from,
 use Rattle.std.proofs.lemmas.List.Folds.{list_all-append}
 use Rattle.std.proofs.lemmas.List.Sums.{sum_by-cons}
 use Rattle.lrs_measure.specs.Lists.{each_two}
-use Rattle.lrs_desk.specs.Lists.{place_by, insert_by}
+use Rattle.lrs_measure.specs.Ordered.{place_by, insert_by}
 use Rattle.lrs_machine.proofs.Members.{In}
 
 -- To put an element in its place is to insert it there.

@@ -21,7 +21,7 @@ use Rattle.lrs_desk.specs.declared.change.Parts.{Parts}
 use Rattle.lrs_machine.specs.Bounds.{most_edits, most_assets}
 use Rattle.lrs_machine.specs.Entered.{is_asset_number, is_lateral_offset}
 use Rattle.lrs_machine.specs.Register.{insert, contains_key}
-use Rattle.lrs_desk.specs.Lists.{insert_by}
+use Rattle.lrs_measure.specs.Ordered.{insert_by}
 use Rattle.lrs_machine.specs.Image.{state_of}
 use Rattle.lrs_desk.specs.Change.{with_parts, with_edit, no_parts}
 use Rattle.lrs_machine.specs.Machine.{attempt, refuse_if, ◌>>◌}

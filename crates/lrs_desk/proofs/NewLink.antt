@@ -28,7 +28,7 @@ use Rattle.lrs_machine.specs.declared.image.Image.{Image}
 use Rattle.lrs_desk.specs.declared.change.Parts.{Parts}
 use Rattle.lrs_machine.specs.Bounds.{most_edits, most_routes, most_pairs}
 use Rattle.lrs_machine.specs.Register.{insert, contains_key}
-use Rattle.lrs_desk.specs.Lists.{insert_by}
+use Rattle.lrs_measure.specs.Ordered.{insert_by}
 use Rattle.lrs_machine.specs.Image.{state_of, link_entry}
 use Rattle.lrs_desk.specs.Change.{with_parts, with_edit, no_parts}
 use Rattle.lrs_machine.specs.Machine.{attempt, refuse_if, ◌>>◌}

@@ -29,7 +29,7 @@ use Rattle.lrs_machine.specs.declared.image.Image.{Image}
 use Rattle.lrs_machine.specs.declared.image.RouteEntry.{RouteEntry}
 use Rattle.lrs_machine.specs.Bounds.{most_edits, most_routes}
 use Rattle.lrs_machine.specs.Register.{contains_key}
-use Rattle.lrs_desk.specs.Lists.{insert_by}
+use Rattle.lrs_measure.specs.Ordered.{insert_by}
 use Rattle.lrs_machine.specs.Image.{state_of, route_entry, referent_entry, referents_on, holds_on}
 use Rattle.lrs_desk.specs.Change.{route_before, with_parts, with_edit}
 use Rattle.lrs_machine.specs.State.{State}

@@ -12,7 +12,7 @@ use Rattle.std.proofs.lemmas.List.Folds.{list_any_at}
 use Rattle.std.proofs.lemmas.List.Sorted.{searchable_from_sorted}
 use Rattle.lrs_measure.specs.Lists.{each_two}
 use Rattle.lrs_measure.specs.Texts.{Name, name_cmp, same_name, name_before}
-use Rattle.lrs_desk.specs.Lists.{place_by, insert_by, insert_all}
+use Rattle.lrs_measure.specs.Ordered.{place_by, insert_by, insert_all}
 use Rattle.lrs_desk.proofs.Inserts.{before_by}
 use Rattle.lrs_desk.proofs.Filed.{numbers_agree}
 

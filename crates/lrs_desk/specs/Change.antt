@@ -7,7 +7,7 @@ use Rattle.lrs_machine.specs.declared.image.Edit.{Edit}
 use Rattle.lrs_machine.specs.declared.image.Image.{Image}
 use Rattle.lrs_desk.specs.declared.change.Parts.{Parts}
 use Rattle.lrs_desk.specs.declared.change.Change.{Change}
-use Rattle.lrs_desk.specs.Lists.{insert_some, insert_all}
+use Rattle.lrs_measure.specs.Ordered.{insert_some, insert_all}
 use Rattle.lrs_machine.specs.Sound.{link_before, class_before, asset_before}
 
 abbrev pub route_before : RouteEntry → RouteEntry → Bool

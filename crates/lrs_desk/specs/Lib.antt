@@ -1,4 +1,3 @@
-pub mod Lists
 pub mod Change
 pub mod Opened
 pub mod Keeping

@@ -1,5 +1,6 @@
 pub mod Names
 pub mod Places
 pub mod Spans
+pub mod Members
 pub mod Canonical
 pub mod Parts

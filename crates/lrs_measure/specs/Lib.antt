@@ -7,3 +7,4 @@ pub mod Runs
 pub mod Texts
 pub mod Lists
 pub mod Numerals
+pub mod Ordered

@@ -1,5 +1,5 @@
 use Rattle.std.proofs.Common.{◌∙◌, sym, ap, insert}
-use Rattle.lrs_desk.specs.Lists.{place_by}
+use Rattle.lrs_measure.specs.Ordered.{place_by}
 use Rattle.lrs_desk.proofs.Inserts.{insert_by-place}
 use Rattle.lrs_desk.proofs.lists.insert_ordered.Goals as goal
 

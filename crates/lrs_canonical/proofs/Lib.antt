@@ -1,0 +1,14 @@
+pub mod Members
+pub mod Unique
+pub mod Rows
+pub mod Adding
+pub mod Places
+pub mod Done
+pub mod Fewest
+pub mod Clips
+pub mod Removing
+pub mod Cutting
+pub mod Pushing
+pub mod Changing
+pub mod Merging
+pub mod Differing

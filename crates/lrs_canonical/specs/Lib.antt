@@ -1,0 +1,4 @@
+pub mod Members
+pub mod Order
+pub mod Clips
+pub mod Changes
