@@ -9,7 +9,8 @@ use Rattle.lrs_measure.specs.Texts.{same_name}
 use Rattle.lrs_events.specs.declared.span.Span.{Span}
 use Rattle.lrs_events.specs.Spans.{are_rows, span_before, same_side}
 use Rattle.lrs_canonical.specs.Order.{In}
-use Rattle.lrs_canonical.specs.Changes.{IsChange, same_row, has_row, missing}
+use Rattle.lrs_events.specs.Changes.{same_row, has_row}
+use Rattle.lrs_canonical.specs.Changes.{IsChange, missing}
 use Rattle.lrs_canonical.proofs.Members.{any_found, any_of, In-append_cases, In-drop}
 use Rattle.lrs_canonical.proofs.Unique.{is_same, less_one}
 use Rattle.lrs_canonical.proofs.Rows.{Pairs, BeginsFirst, begins_class, begins_asset, begins_start, begins_first, sides_same, ahead_before, pairs_rear, rows_from}

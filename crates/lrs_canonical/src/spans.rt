@@ -4,7 +4,8 @@ ghost use Rattle.std.specs.Prelude.{◌≡◌, ◌≤◌, ◌↔◌, [], ◌∷�
 ghost use Rattle.std.specs.List.{splice, flat_map};
 ghost use Rattle.lrs_canonical.specs.Clips.{clip, outside, is_left, is_within, of_asset, rear, IsCut, IsLess, IsThat, are_in_order};
 ghost use Rattle.std.specs.List.Sorted.{IsPartitionPoint};
-ghost use Rattle.lrs_canonical.specs.Changes.{IsChange, same_row, has_row, missing};
+ghost use Rattle.lrs_events.specs.Changes.{same_row, has_row};
+ghost use Rattle.lrs_canonical.specs.Changes.{IsChange, missing};
 ghost use Rattle.std.specs.Prelude.{true, false};
 ghost use Rattle.lrs_events.specs.Spans.{are_rows, is_row, span_before};
 ghost use Rattle.lrs_events.specs.Members.{SameMembers};

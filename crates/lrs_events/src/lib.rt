@@ -4,11 +4,13 @@
 //! A span list is a set of (asset, class, millimetre, side), kept as its canonical rows.
 #![tactic(auto)]
 
+mod change;
 mod class;
 mod part;
 mod side;
 mod span;
 
+pub use change::SpanChange;
 pub use class::{Asset, Class, ClassName, Kind, Value};
 pub use part::{Gone, Part};
 pub use side::{LinkSide, Side};
