@@ -12,3 +12,5 @@ pub mod Pushing
 pub mod Changing
 pub mod Merging
 pub mod Differing
+pub mod Fitting
+pub mod Seams
