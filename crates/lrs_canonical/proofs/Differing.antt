@@ -127,8 +127,5 @@ differ old new = record {
     from r (inl c) = kept r c.0 c.1 (cases_Bool (has_row new r))
     from r (inr c) = (in_missing old new r c).0
 
-pub differ_at : (old new o1 o2 n1 n2 gone come o n : List Span) → n1 ≡ n → o1 ≡ o → o2 ≡ o → n2 ≡ n → o ≡ old → n ≡ new → gone ≡ missing n1 o1 → come ≡ missing o2 n2 → IsChange old gone come new
-differ_at old new o1 o2 n1 n2 gone come o n a b c d e f g k =
-    let x : gone ≡ missing new old = g ∙ (λ i. missing (a i) (b i)) ∙ (λ i. missing (f i) (e i)) in
-    let y : come ≡ missing old new = k ∙ (λ i. missing (c i) (d i)) ∙ (λ i. missing (e i) (f i)) in
-    subst (λ (z : List Span). IsChange old z come new) (sym x) (subst (λ (z : List Span). IsChange old (missing new old) z new) (sym y) (differ old new))
+pub differ_at : (old new gone come : List Span) → gone ≡ missing new old → come ≡ missing old new → IsChange old gone come new
+differ_at old new gone come g k = subst (λ (z : List Span). IsChange old z come new) (sym g) (subst (λ (z : List Span). IsChange old (missing new old) z new) (sym k) (differ old new))

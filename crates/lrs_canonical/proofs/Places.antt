@@ -16,7 +16,7 @@ use Rattle.lrs_canonical.proofs.Members.{all_at, In-append_right, In-append_case
 use Rattle.lrs_canonical.proofs.Unique.{is_same}
 use Rattle.lrs_canonical.proofs.Rows.{left_trans, rows_are, IsFull, Pairs, AreRows, BeginsFirst, begins_class, begins_asset, begins_start, begins_first, first_begins, left_first, name_trans, NameCases, name_cases, before, same, behind, sides_same, not_across, pairs_front, pairs_rear, pairs_across, rows_from, full_from}
 use Rattle.lrs_canonical.specs.Clips.{is_left}
-use Rattle.lrs_canonical.proofs.Adding.{Comes, added, added_holds}
+use Rattle.lrs_canonical.proofs.Coming.{Comes, added, added_holds}
 
 module _ {X : Type 0} where
   pub In-get : (xs : List X) (k : ℕ) (d : X) → k < length xs → In (get_or xs k d) xs

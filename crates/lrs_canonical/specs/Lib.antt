@@ -2,3 +2,4 @@ pub mod Members
 pub mod Order
 pub mod Clips
 pub mod Changes
+pub mod Removals
