@@ -89,7 +89,7 @@ module _ (rows : List Span) (row : Span) (at : ℕ) (h : are_rows rows ≡ true)
 
 -- ---- the difference
 
-in_missing : (others rows : List Span) (r : Span) → In r (missing others rows) → In r rows × (In r others → ⊥)
+pub in_missing : (others rows : List Span) (r : Span) → In r (missing others rows) → In r rows × (In r others → ⊥)
 in_missing others [] r m = absurd m
 in_missing others (x ∷ xs) r m = by (has_row others x) refl m (in_missing others xs r)
   where
@@ -98,7 +98,7 @@ in_missing others (x ∷ xs) r m = by (has_row others x) refl m (in_missing othe
     by false e (inl q) later = (inl q, λ n. both_ways (has_row others x) (sym e) (has_in others x (subst (λ z. In z others) q n)))
     by false e (inr n) later = let k = later n in (inr k.0, k.1)
 
-missing_in : (others rows : List Span) (r : Span) → In r rows → (In r others → ⊥) → In r (missing others rows)
+pub missing_in : (others rows : List Span) (r : Span) → In r rows → (In r others → ⊥) → In r (missing others rows)
 missing_in others [] r m n = absurd m
 missing_in others (x ∷ xs) r m n = by (has_row others x) refl m (λ k. missing_in others xs r k n)
   where

@@ -12,3 +12,5 @@ pub mod Pushing
 pub mod Exchanged
 pub mod Gathered
 pub mod Differing
+pub mod Sorted
+pub mod Changing

@@ -51,7 +51,7 @@ module _ {X : Type 0} where
 
 -- ---- the order of starts
 
-begins_trans : (r s t : Span) → BeginsFirst r s → BeginsFirst s t → BeginsFirst r t
+pub begins_trans : (r s t : Span) → BeginsFirst r s → BeginsFirst s t → BeginsFirst r t
 begins_trans r s t (begins_class h) (begins_class k) = begins_class (name_trans r.class s.class t.class h k)
 begins_trans r s t (begins_class h) (begins_asset c k) = begins_class (subst (λ z. name_before r.class z ≡ true) c h)
 begins_trans r s t (begins_class h) (begins_start c a k) = begins_class (subst (λ z. name_before r.class z ≡ true) c h)

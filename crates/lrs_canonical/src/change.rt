@@ -1,6 +1,7 @@
 //! What changed from some rows to others.
 
 ghost use Rattle.std.specs.Prelude.{◌≡◌, IsTrue, IfOk};
+ghost use Rattle.lrs_events.specs.Changes.{changed_rows};
 ghost use Rattle.lrs_events.specs.Spans.{are_rows};
 ghost use Rattle.lrs_canonical.specs.Changes.{IsChange, missing};
 
@@ -35,6 +36,7 @@ pub fn difference(alloc: Global, old: &[Span], new: &[Span]) -> Result<SpanChang
     ensures gone { IfOk result (λ change. change.gone.items ≡ missing new.now old.now) }
     ensures come { IfOk result (λ change. change.come.items ≡ missing old.now new.now) }
     ensures change { IfOk result (λ change. IsChange old.now change.gone.items change.come.items new.now) }
+    ensures new { IfOk result (λ change. changed_rows change old.now ≡ new.now) }
 {
     Ok(SpanChange {
         gone: missing(alloc, new, old)?,
