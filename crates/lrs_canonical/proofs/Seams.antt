@@ -1,10 +1,11 @@
 -- The rows of a route that goes on as another does.
-use Rattle.std.proofs.Common.{◌≡◌, ℕ, ◌+◌, ◌<◌, ◌≤◌, Bool, true, false, ◌⊎◌, inl, inr, List, [], ◌∷◌, ◌++◌, length, get_or, take, drop, refl, sym, ap, subst, ◌∙◌, arith}
-use Rattle.std.specs.Prelude.{◌||◌, not, nat_eq, nat_le}
+use Rattle.std.proofs.Common.{◌≡◌, ℕ, ◌+◌, ◌-◌, ◌<◌, ◌≤◌, Bool, true, false, ◌⊎◌, inl, inr, List, [], ◌∷◌, ◌++◌, length, get_or, take, drop, refl, sym, ap, subst, ◌∙◌, arith}
+use Rattle.std.specs.Prelude.{◌||◌, not, nat_eq, nat_le, slice_range}
+use Rattle.std.proofs.Math.Seq.{take-add}
 use Rattle.std.specs.List.{list_all}
 use Rattle.std.specs.Cmp.Lexicographic.{bytes_decides}
 use Rattle.std.proofs.lemmas.Bool.{both_ways, not-true, or_cases, leb-true, eq-eqb, cases_eq, cases_order, cases_lt, ltb-true, cases_Bool, or_left, or_right, and_from, le-leb, ne_eqb}
-use Rattle.std.proofs.lemmas.List.{take_more, append-nil, take-append-drop, take_all}
+use Rattle.std.proofs.lemmas.List.{append_cancel_left, take_more, append-nil, take-append-drop, take_all}
 use Rattle.lrs_measure.specs.Texts.{Name, same_name, name_before}
 use Rattle.lrs_element.specs.Limits.{longest_route}
 use Rattle.lrs_events.specs.declared.side.LinkSide.{LinkSide}
@@ -18,7 +19,7 @@ use Rattle.lrs_canonical.specs.Changes.{IsChange}
 use Rattle.lrs_canonical.specs.Joins.{moved, end_by, have_room, is_of_one_class, are_of_one_class, IsJoin, IsSeam, apart, goes_on, AddsSeam}
 use Rattle.lrs_canonical.proofs.Members.{all_at, all_from, any_found, any_of, In-append_left, In-append_right, In-append_cases, In-take}
 use Rattle.lrs_canonical.proofs.Unique.{IsOver, over, its_sides}
-use Rattle.lrs_canonical.proofs.Rows.{IsFull, IsAhead, Pairs, AreRows, rows_from, rows_are, full_is, left_place, pairs_append, pairs_front, pairs_across}
+use Rattle.lrs_canonical.proofs.Rows.{IsFull, IsAhead, Pairs, AreRows, rows_from, rows_are, full_from, full_is, left_place, pairs_append, pairs_front, pairs_across}
 use Rattle.lrs_canonical.proofs.Places.{In-get}
 use Rattle.lrs_canonical.proofs.Differing.{has_found, has_in}
 use Rattle.lrs_canonical.proofs.Fitting.{one_test, Fits, fits_elsewhere, two_ahead, In-changed, come-In, stay-In, is_change, changed_rows_are}
@@ -310,3 +311,40 @@ module _ (shift : ℕ) (first second : List Span) (t : AreTwo shift first second
 
     pub joined_all : IsJoin shift first second new
     joined_all = record { before = λ class asset j s l. joined_before class asset j s l; behind = λ class asset j s. joined_behind class asset j s }
+
+-- ---- as the search found them
+
+pub added_seam : (first : List Span) (row : Span) (at start from : ℕ) (gone come new_gone new_come : List Span) → are_rows first ≡ true → is_row row ≡ true → IsPlace first at row → IsStart first at row start from
+    → new_gone ≡ gone ++ slice_range first start at → new_come ≡ come ++ (grown row from row.to ∷ []) → AddsSeam first row gone come new_gone new_come
+added_seam first row at start from gone come new_gone new_come h f p s g k = record {
+  old = s.gone;
+  whole = grown row from row.to;
+  seam = seam_found first row at start from s.gone (full_from row f) (rows_from first h).full p s.parts s.after;
+  goes = g ∙ ap (λ z. gone ++ z) (append_cancel_left (take start first) (slice_range first start at) s.gone (in_two ∙ s.parts));
+  comes = k;
+}
+  where
+    in_two : take start first ++ slice_range first start at ≡ take at first
+    in_two = let l = s.low in let e : start + (at - start) ≡ at = omega (arith, l) in sym (take-add start (at - start) first) ∙ ap (λ n. take n first) e
+
+-- one row of the second more
+pub joined_more : (shift : ℕ) (first second : List Span) (i : ℕ) (row : Span) (gone come new_gone new_come : List Span) → AreTwo shift first second → i < length second → row ≡ get_or second i row
+    → AreJoined shift first (take i second) gone come → AddsSeam first (moved shift row) gone come new_gone new_come → AreJoined shift first (take (i + 1) second) new_gone new_come
+joined_more shift first second i row gone come new_gone new_come t l e h a =
+    let w : take (i + 1) second ≡ take i second ++ row ∷ [] = take_more second i row l ∙ (λ k. take i second ++ sym e k ∷ []) in
+    let p : Pairs (take i second ++ row ∷ []) = subst Pairs w (pairs_front (take (i + 1) second) (drop (i + 1) second) (subst Pairs (sym (take-append-drop (i + 1) second)) t.second_rows.pairs)) in
+    let done = joined_row shift first second t (take i second) gone come row h (λ q m. t.second_rows.full q (In-take q i second m)) (λ q m. pairs_across (take i second) (row ∷ []) q row p m (inl refl)) a.old a.whole a.seam in
+    subst (λ (z : List Span). AreJoined shift first z new_gone new_come) (sym w)
+    (subst (λ (z : List Span). AreJoined shift first (take i second ++ row ∷ []) z new_come) (sym a.goes)
+    (subst (λ (z : List Span). AreJoined shift first (take i second ++ row ∷ []) (gone ++ a.old) z) (sym a.comes) done))
+
+-- the change, whole
+pub record IsJoined (shift : ℕ) (first second gone come : List Span) : Type 0 where
+  pub kept : are_rows (changed span_before gone come first) ≡ true
+  pub change : IsChange first gone come (changed span_before gone come first)
+  pub joined : IsJoin shift first second (changed span_before gone come first)
+
+pub joined_whole : (shift : ℕ) (first second : List Span) (i : ℕ) (gone come : List Span) → AreTwo shift first second → length second ≤ i → AreJoined shift first (take i second) gone come → IsJoined shift first second gone come
+joined_whole shift first second i gone come t l h =
+    let a = subst (λ (z : List Span). AreJoined shift first z gone come) (take_all i second l) h in
+    record { kept = rows_are _ (joined_rows shift first second t gone come a); change = joined_change shift first second t gone come a; joined = joined_all shift first second t gone come a }
