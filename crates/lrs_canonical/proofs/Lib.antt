@@ -16,3 +16,5 @@ pub mod Fitting
 pub mod Seams
 pub mod Sorted
 pub mod Changing
+pub mod Mirrors
+pub mod Sided

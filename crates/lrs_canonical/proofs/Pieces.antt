@@ -92,7 +92,7 @@ pub clip_pieces : (low high : ℕ) (r : Span) → ArePieces 0 r (clip low high r
 clip_pieces = clip_each
 
 -- where a part of a clip lies
-clip_bounds : (low high : ℕ) (r p : Span) → In p (clip low high r) → (low ≤ p.from) × (p.to ≤ high)
+pub clip_bounds : (low high : ℕ) (r p : Span) → In p (clip low high r) → (low ≤ p.from) × (p.to ≤ high)
 clip_bounds low high r p = by (nat_lt (max r.from low) (min r.to high))
   where
     by : (b : Bool) → In p (cond b (grown r (max r.from low) (min r.to high) ∷ []) []) → (low ≤ p.from) × (p.to ≤ high)

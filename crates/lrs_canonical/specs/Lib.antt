@@ -4,3 +4,5 @@ pub mod Clips
 pub mod Changes
 pub mod Joins
 pub mod Removals
+pub mod Turns
+pub mod Sides
