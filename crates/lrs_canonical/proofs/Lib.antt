@@ -14,3 +14,5 @@ pub mod Gathered
 pub mod Differing
 pub mod Sorted
 pub mod Changing
+pub mod Replaced
+pub mod Cleared
