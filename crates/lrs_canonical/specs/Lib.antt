@@ -3,3 +3,4 @@ pub mod Order
 pub mod Clips
 pub mod Changes
 pub mod Removals
+pub mod Cuts

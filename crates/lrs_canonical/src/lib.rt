@@ -8,6 +8,7 @@
 pub mod adding;
 pub mod change;
 pub mod clips;
+pub mod cutting;
 pub mod laws;
 pub mod merging;
 pub mod order;
