@@ -18,7 +18,7 @@ use Rattle.lrs_canonical.proofs.Members.{any_found}
 use Rattle.lrs_canonical.proofs.Unique.{over}
 use Rattle.lrs_canonical.proofs.Rows.{AreRows, rows_from, rows_are}
 use Rattle.lrs_canonical.proofs.Pieces.{outside_pieces, all_parts, outside_holds, clips_rows, clips_hold, rests_rows}
-use Rattle.lrs_canonical.proofs.Replaced.{in_filter, any_filter, instead, new_rows, replaced_change, replaced}
+use Rattle.lrs_canonical.proofs.Replaced.{in_filter, any_filter, instead, is_replaced}
 
 module _ (of : Name → ℕ → Bool) (low high : ℕ) (test : Span → Bool) (rows : List Span) (f : Finds of low high test rows) (class : Name) (asset j : ℕ) (s : LinkSide) where
   abbrev stands : Span → Bool
@@ -89,20 +89,11 @@ pub cleared : (rows found rest : List Span) (removal : Removal) (test : Span →
     → removal.change.gone.items ≡ missing rest found → removal.change.come.items ≡ missing found rest → IsRemoval (of_within of low high) rows removal
 cleared rows found rest removal test of low high l h k e f a b g c =
     let all = rows_from rows h in
-    let pieces = λ (r : Span) (m : In r rows). outside_pieces low high l r in
-    let new = flat_map (instead test (outside low high)) rows in
-    let put = flat_map (outside low high) (filter test rows) in
-    let put_is : rest ≡ put = b ∙ (λ i. flat_map (outside low high) (e i)) in
-    let gone_is : removal.change.gone.items ≡ missing put (filter test rows) = g ∙ (λ i. missing (put_is i) (e i)) in
-    let come_is : removal.change.come.items ≡ missing (filter test rows) put = c ∙ (λ i. missing (e i) (put_is i)) in
-    let put_rows : are_rows put ≡ true = rests_rows low high (filter test rows) l (subst (λ (z : List Span). are_rows z ≡ true) e k) in
-    let made : changed_rows removal.change rows ≡ new = (λ i. changed span_before (gone_is i) (come_is i) rows) ∙ replaced test (outside low high) rows all pieces put_rows in
+    let made = is_replaced test (outside low high) rows all (λ r m. outside_pieces low high l r) found rest removal.change e b (ap are_rows b ∙ rests_rows low high found l k) g c in
     record {
-      kept = subst (λ (z : List Span). are_rows z ≡ true) (sym made) (rows_are new (new_rows test (outside low high) rows all pieces));
-      change = subst (λ (z : List Span). IsChange rows removal.change.gone.items removal.change.come.items z) (sym made)
-          (subst (λ (z : List Span). IsChange rows z removal.change.come.items new) (sym gone_is)
-          (subst (λ (z : List Span). IsChange rows (missing put (filter test rows)) z new) (sym come_is) (replaced_change test (outside low high) rows all pieces)));
-      rest = λ class asset j s. (λ i. is_member (made i) class asset j s) ∙ stay_holds of low high test rows f class asset j s l all;
+      kept = made.kept;
+      change = made.differs;
+      rest = λ class asset j s. (λ i. is_member (made.made i) class asset j s) ∙ stay_holds of low high test rows f class asset j s l all;
       left_rows = (λ i. are_rows (a i)) ∙ clips_rows low high found k;
       left = λ class asset j s. (λ i. is_member (a i) class asset j s) ∙ clips_hold low high found class asset j s
           ∙ (λ i. is_member (e i) class asset j s && is_within low high j) ∙ left_holds of low high test rows f class asset j s;

@@ -19,7 +19,7 @@ use Rattle.lrs_canonical.specs.Cuts.{IsCut, IsCutOff}
 use Rattle.lrs_canonical.proofs.Unique.{over}
 use Rattle.lrs_canonical.proofs.Rows.{IsFull, rows_from, rows_are}
 use Rattle.lrs_canonical.proofs.Pieces.{IsPiece, ArePieces, pieces_rows, clip_pieces, all_parts, clip_holds, clips_rows}
-use Rattle.lrs_canonical.proofs.Replaced.{any_filter, instead, new_rows, replaced_change, replaced}
+use Rattle.lrs_canonical.proofs.Replaced.{any_filter, instead, is_replaced}
 
 rear_pieces : (at : ℕ) (r : Span) → IsFull r → ArePieces at r (rear at r)
 rear_pieces at r f = by (nat_lt at r.to) refl
@@ -82,25 +82,15 @@ pub cut_off : (rows found front : List Span) (cut : Cut) (at : ℕ) → are_rows
     → front ≡ flat_map (clip 0 at) found → cut.rear.items ≡ flat_map (rear at) found
     → cut.change.gone.items ≡ missing front found → cut.change.come.items ≡ missing found front → IsCutOff at rows cut
 cut_off rows found front cut at h k e f b g c =
-    let test = λ (r : Span). nat_lt at r.to in
     let all = rows_from rows h in
-    let pieces = λ (r : Span) (m : In r rows). clip_pieces 0 at r in
-    let new = flat_map (instead test (clip 0 at)) rows in
-    let put = flat_map (clip 0 at) (filter test rows) in
-    let put_is : front ≡ put = f ∙ (λ i. flat_map (clip 0 at) (e i)) in
-    let gone_is : cut.change.gone.items ≡ missing put (filter test rows) = g ∙ (λ i. missing (put_is i) (e i)) in
-    let come_is : cut.change.come.items ≡ missing (filter test rows) put = c ∙ (λ i. missing (e i) (put_is i)) in
-    let put_rows : are_rows put ≡ true = clips_rows 0 at (filter test rows) (subst (λ (z : List Span). are_rows z ≡ true) e k) in
-    let made : changed_rows cut.change rows ≡ new = (λ i. changed span_before (gone_is i) (come_is i) rows) ∙ replaced test (clip 0 at) rows all pieces put_rows in
     let some = rows_from found k in
+    let made = is_replaced (λ r. nat_lt at r.to) (clip 0 at) rows all (λ r m. clip_pieces 0 at r) found front cut.change e f (ap are_rows f ∙ clips_rows 0 at found k) g c in
     record {
-      kept = subst (λ (z : List Span). are_rows z ≡ true) (sym made) (rows_are new (new_rows test (clip 0 at) rows all pieces));
-      change = subst (λ (z : List Span). IsChange rows cut.change.gone.items cut.change.come.items z) (sym made)
-          (subst (λ (z : List Span). IsChange rows z cut.change.come.items new) (sym gone_is)
-          (subst (λ (z : List Span). IsChange rows (missing put (filter test rows)) z new) (sym come_is) (replaced_change test (clip 0 at) rows all pieces)));
+      kept = made.kept;
+      change = made.differs;
       rear_rows = (λ i. are_rows (b i)) ∙ rows_are (flat_map (rear at) found) (pieces_rows at (rear at) found some (λ r m. rear_pieces at r (some.full r m)));
       parts = record {
-        before = λ class asset j s. (λ i. is_member (made i) class asset j s) ∙ front_holds class asset j s at rows;
+        before = λ class asset j s. (λ i. is_member (made.made i) class asset j s) ∙ front_holds class asset j s at rows;
         behind = λ class asset j s. (λ i. is_member (b i) class asset j s) ∙ (λ i. is_member (flat_map (rear at) (e i)) class asset j s) ∙ rear_found class asset j s at rows;
       };
     }

@@ -3,9 +3,10 @@ use Rattle.std.proofs.Common.{◌≡◌, ℕ, ◌<◌, Bool, true, false, cond, 
 use Rattle.std.specs.Prelude.{◌||◌, ◌&&◌}
 use Rattle.std.specs.List.{list_any, filter, flat_map}
 use Rattle.std.proofs.lemmas.Bool.{both_ways, cases_Bool}
+use Rattle.lrs_events.specs.declared.change.SpanChange.{SpanChange}
 use Rattle.lrs_events.specs.declared.span.Span.{Span}
 use Rattle.lrs_events.specs.Spans.{are_rows, span_before}
-use Rattle.lrs_events.specs.Changes.{changed, has_row}
+use Rattle.lrs_events.specs.Changes.{changed, changed_rows, has_row}
 use Rattle.lrs_canonical.specs.Order.{In}
 use Rattle.lrs_canonical.specs.Changes.{IsChange, missing}
 use Rattle.lrs_canonical.proofs.Members.{In-append_left, In-append_right}
@@ -88,7 +89,7 @@ module _ (test : Span → Bool) (f : Span → List Span) (rows : List Span) (h :
       by true = k r m
       by false = record { each = one; pairs = (λ s n. absurd n, tt) }
 
-  pub new_rows : AreRows new
+  new_rows : AreRows new
   new_rows = pieces_rows 0 (instead test f) rows h instead_pieces
 
   put_new : (x : Span) → In x put → In x new
@@ -110,7 +111,7 @@ module _ (test : Span → Bool) (f : Span → List Span) (rows : List Span) (h :
       by r o i (inl e) = subst (λ w. In w found) e o
       by r o i (inr a) = absurd (not_piece r x i a)
 
-  pub replaced_change : IsChange rows (missing put found) (missing found put) new
+  replaced_change : IsChange rows (missing put found) (missing found put) new
   replaced_change = record {
     rows = λ x. (λ m. let g = found_in (instead test f) x rows m in forth x g.0 (test g.0) refl g.1 g.2, λ m. back x m);
     were = λ x m. (in_filter test rows x (in_missing put found x m).0).0;
@@ -139,5 +140,33 @@ module _ (test : Span → Bool) (f : Span → List Span) (rows : List Span) (h :
       back x (inr m) = put_new x (in_missing found put x m).0
 
   -- the difference between the rows that were found and their parts makes the rows with those parts
-  pub replaced : are_rows put ≡ true → changed span_before (missing put found) (missing found put) rows ≡ new
+  replaced : are_rows put ≡ true → changed span_before (missing put found) (missing found put) rows ≡ new
   replaced p = changed_is rows (missing put found) (missing found put) new (rows_are rows h) (rows_are new new_rows) (each_two-filter span_before _ put (rows_sorted put p)) replaced_change
+
+  -- the change to the parts makes canonical rows
+  pub record IsReplaced (change : SpanChange) : Type 0 where
+    pub made : changed_rows change rows ≡ new
+    pub kept : are_rows (changed_rows change rows) ≡ true
+    pub differs : IsChange rows change.gone.items change.come.items (changed_rows change rows)
+
+  pub is_replaced : (some part : List Span) (change : SpanChange) → some ≡ found → part ≡ flat_map f some → are_rows part ≡ true
+      → change.gone.items ≡ missing part some → change.come.items ≡ missing some part → IsReplaced change
+  is_replaced some part change e p o g c = record {
+    made = made;
+    kept = subst (λ (z : List Span). are_rows z ≡ true) (sym made) (rows_are new new_rows);
+    differs = subst (IsChange rows change.gone.items change.come.items) (sym made)
+        (subst (λ (z : List Span). IsChange rows z change.come.items new) (sym gone)
+        (subst (λ (z : List Span). IsChange rows (missing put found) z new) (sym come) replaced_change));
+  }
+    where
+      part_is : part ≡ put
+      part_is = p ∙ (λ i. flat_map f (e i))
+
+      gone : change.gone.items ≡ missing put found
+      gone = g ∙ (λ i. missing (part_is i) (e i))
+
+      come : change.come.items ≡ missing found put
+      come = c ∙ (λ i. missing (e i) (part_is i))
+
+      made : changed_rows change rows ≡ new
+      made = (λ i. changed span_before (gone i) (come i) rows) ∙ replaced (subst (λ (z : List Span). are_rows z ≡ true) part_is o)
