@@ -10,10 +10,11 @@ use Rattle.lrs_events.specs.Spans.{are_rows, span_before}
 use Rattle.lrs_events.specs.Members.{has_member, is_member}
 use Rattle.lrs_events.specs.Changes.{changed, changed_rows}
 use Rattle.lrs_canonical.specs.declared.removing.Removal.{Removal}
+use Rattle.lrs_canonical.specs.Members.{is_of}
 use Rattle.lrs_canonical.specs.Order.{In}
 use Rattle.lrs_canonical.specs.Changes.{IsChange, missing}
 use Rattle.lrs_canonical.specs.Clips.{clip, outside}
-use Rattle.lrs_canonical.specs.Removals.{IsRemoval, IsLess, IsThat, is_within, of_within, Finds, is_met, is_of}
+use Rattle.lrs_canonical.specs.Removals.{IsRemoval, IsLess, IsThat, is_within, of_within, Finds, is_met}
 use Rattle.lrs_canonical.proofs.Members.{any_found}
 use Rattle.lrs_canonical.proofs.Unique.{over}
 use Rattle.lrs_canonical.proofs.Rows.{AreRows, rows_from, rows_are}

@@ -3,7 +3,6 @@ pub mod Unique
 pub mod Rows
 pub mod Coming
 pub mod Places
-pub mod Done
 pub mod Fewest
 pub mod Pieces
 pub mod Stretches
@@ -16,3 +15,4 @@ pub mod Sorted
 pub mod Changing
 pub mod Replaced
 pub mod Cleared
+pub mod OfAsset

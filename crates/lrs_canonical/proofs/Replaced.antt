@@ -1,15 +1,16 @@
 -- Parts stand in the place of the rows that a test finds.
 use Rattle.std.proofs.Common.{◌≡◌, ℕ, ◌<◌, Bool, true, false, cond, ◌⊎◌, inl, inr, List, [], ◌∷◌, refl, sym, ap, subst, ◌∙◌, arith}
 use Rattle.std.specs.Prelude.{◌||◌, ◌&&◌}
-use Rattle.std.specs.List.{list_any, filter, flat_map}
-use Rattle.std.proofs.lemmas.Bool.{both_ways, cases_Bool}
+use Rattle.std.specs.List.{list_any, list_all, filter, flat_map}
+use Rattle.std.proofs.lemmas.Bool.{both_ways, cases_Bool, and_parts, and_from}
+use Rattle.lrs_measure.specs.Lists.{each_two}
 use Rattle.lrs_events.specs.declared.change.SpanChange.{SpanChange}
 use Rattle.lrs_events.specs.declared.span.Span.{Span}
-use Rattle.lrs_events.specs.Spans.{are_rows, span_before}
+use Rattle.lrs_events.specs.Spans.{are_rows, is_row, span_before, are_apart}
 use Rattle.lrs_events.specs.Changes.{changed, changed_rows, has_row}
 use Rattle.lrs_canonical.specs.Order.{In}
 use Rattle.lrs_canonical.specs.Changes.{IsChange, missing}
-use Rattle.lrs_canonical.proofs.Members.{In-append_left, In-append_right}
+use Rattle.lrs_canonical.proofs.Members.{all_at, all_from, In-append_left, In-append_right}
 use Rattle.lrs_canonical.proofs.Rows.{IsFull, IsAhead, Pairs, AreRows, left_place, rows_from, rows_are}
 use Rattle.lrs_canonical.proofs.Pieces.{IsPiece, ArePieces, piece_itself, found_in, pieces_rows}
 use Rattle.lrs_canonical.proofs.Differing.{has_found, has_in, in_missing, missing_in}
@@ -50,6 +51,16 @@ module _ {X : Type 0} where
   in_flat f [] x y m n = absurd m
   in_flat f (z ∷ zs) x y (inl e) n = In-append_left y (f z) (flat_map f zs) (subst (λ w. In y (f w)) e n)
   in_flat f (z ∷ zs) x y (inr m) n = In-append_right y (f z) (flat_map f zs) (in_flat f zs x y m n)
+
+-- rows that a test finds are canonical rows
+pub found_rows : (test : Span → Bool) (rows : List Span) → are_rows rows ≡ true → are_rows (filter test rows) ≡ true
+found_rows test rows h =
+    let a = and_parts (list_all is_row rows && each_two span_before rows) (each_two are_apart rows) h in
+    let b = and_parts (list_all is_row rows) (each_two span_before rows) a.0 in
+    let full = all_from is_row (filter test rows) (λ r m. all_at is_row r rows b.0 (in_filter test rows r m).0) in
+    let sorted = each_two-filter span_before test rows b.1 in
+    and_from (list_all is_row (filter test rows) && each_two span_before (filter test rows)) (each_two are_apart (filter test rows))
+    (and_from (list_all is_row (filter test rows)) (each_two span_before (filter test rows)) full sorted) (each_two-filter are_apart test rows a.1)
 
 -- of two of them one stands in front of the other
 pub pairs_two : (rows : List Span) → Pairs rows → (x y : Span) → In x rows → In y rows → (x ≡ y) ⊎ (IsAhead x y ⊎ IsAhead y x)

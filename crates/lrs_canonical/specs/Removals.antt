@@ -1,6 +1,6 @@
 -- What a removal takes away, and what it leaves.
-use Rattle.std.specs.Prelude.{◌≡◌, ℕ, ◌<◌, Bool, true, ◌&&◌, not, nat_lt, nat_le, nat_eq, List, filter}
-use Rattle.lrs_measure.specs.Texts.{Name, same_name}
+use Rattle.std.specs.Prelude.{◌≡◌, ℕ, ◌<◌, Bool, true, ◌&&◌, not, nat_lt, nat_le, List, filter}
+use Rattle.lrs_measure.specs.Texts.{Name}
 use Rattle.lrs_events.specs.declared.side.LinkSide.{LinkSide}
 use Rattle.lrs_events.specs.declared.span.Span.{Span}
 use Rattle.lrs_events.specs.Spans.{are_rows}
@@ -51,7 +51,3 @@ Clears found low high removal = (rows : List Span) (test : Span → Bool) (of : 
 -- whether the row has a millimetre from low up to high
 abbrev pub is_met : ℕ → ℕ → Span → Bool
 is_met low high r = nat_lt r.from high && nat_lt low r.to
-
--- whether the row is of the asset of the class
-abbrev pub is_of : Name → ℕ → Span → Bool
-is_of class asset r = same_name r.class class && nat_eq r.asset asset
