@@ -1,15 +1,16 @@
 -- What a change makes of rows, where what comes fits what stays.
-use Rattle.std.proofs.Common.{◌≡◌, ◌<◌, ◌≤◌, Bool, true, false, cond, ◌⊎◌, inl, inr, List, [], ◌∷◌, refl, sym, ap, subst, ◌∙◌, arith}
+use Rattle.std.proofs.Common.{◌≡◌, ◌<◌, Bool, true, false, cond, ◌⊎◌, inl, inr, List, [], ◌∷◌, ◌++◌, refl, sym, ap, subst, ◌∙◌, arith}
 use Rattle.std.specs.Prelude.{not}
-use Rattle.std.specs.List.{filter, list_any}
-use Rattle.std.proofs.lemmas.Bool.{both_ways, not-true, cases_Bool, cases_order}
+use Rattle.std.specs.List.{filter, list_all}
+use Rattle.lrs_measure.specs.Lists.{each_two}
+use Rattle.std.proofs.lemmas.Bool.{both_ways, not-true, cases_Bool, cases_order, and_parts, and_from}
 use Rattle.lrs_measure.specs.Ordered.{insert_by, insert_all}
 use Rattle.lrs_events.specs.declared.span.Span.{Span}
 use Rattle.lrs_events.specs.Spans.{span_before}
 use Rattle.lrs_events.specs.Changes.{has_row, without_rows, changed}
-use Rattle.lrs_canonical.specs.Order.{In, IsLeft, by_class, by_asset}
+use Rattle.lrs_canonical.specs.Order.{In, by_class, by_asset}
 use Rattle.lrs_canonical.specs.Changes.{IsChange}
-use Rattle.lrs_canonical.proofs.Members.{any_found, any_of}
+use Rattle.lrs_canonical.proofs.Members.{all_at, all_from, In-append_cases}
 use Rattle.lrs_canonical.proofs.Unique.{less_one, less_both}
 use Rattle.lrs_canonical.proofs.Rows.{IsFull, IsAhead, Pairs, AreRows, BeginsFirst, begins_class, begins_asset, begins_start, begins_first, left_first, ahead_before, left_trans, NameCases, name_cases, before, same, behind}
 use Rattle.lrs_canonical.proofs.Differing.{has_found, has_in}
@@ -19,6 +20,17 @@ pub one_test : (a b : Bool) → (a ≡ true → b ≡ true) → (b ≡ true → 
 one_test true b h k = sym (h refl)
 one_test false true h k = k refl
 one_test false false h k = refl
+
+pub each_two-append : (test : Span → Span → Bool) (xs ys : List Span) → each_two test xs ≡ true → each_two test ys ≡ true → ((x y : Span) → In x xs → In y ys → test x y ≡ true) → each_two test (xs ++ ys) ≡ true
+each_two-append test [] ys h k c = k
+each_two-append test (x ∷ xs) ys h k c =
+    let a = and_parts (list_all (test x) xs) (each_two test xs) h in
+    and_from (list_all (test x) (xs ++ ys)) (each_two test (xs ++ ys)) (all_from (test x) (xs ++ ys) (λ y m. by y a.0 (In-append_cases y xs ys m)))
+    (each_two-append test xs ys a.1 k (λ z y m n. c z y (inr m) n))
+  where
+    by : (y : Span) → list_all (test x) xs ≡ true → In y xs ⊎ In y ys → test x y ≡ true
+    by y a (inl m) = all_at (test x) y xs a m
+    by y a (inr m) = c x y (inl refl) m
 
 module _ {X : Type 0} where
   pub In-filter : (p : X → Bool) (x : X) (xs : List X) → In x (filter p xs) → In x xs × (p x ≡ true)

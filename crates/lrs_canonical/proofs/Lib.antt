@@ -3,7 +3,6 @@ pub mod Unique
 pub mod Rows
 pub mod Coming
 pub mod Places
-pub mod Done
 pub mod Fewest
 pub mod Pieces
 pub mod Stretches
@@ -18,3 +17,7 @@ pub mod Sorted
 pub mod Changing
 pub mod Mirrors
 pub mod Sided
+pub mod Replaced
+pub mod Cleared
+pub mod OfAsset
+pub mod Back

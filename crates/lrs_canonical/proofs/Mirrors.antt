@@ -1,10 +1,9 @@
 -- The rows of a route seen from its other end.
-use Rattle.std.proofs.Common.{◌≡◌, ℕ, ◌+◌, ◌-◌, ◌<◌, ◌≤◌, Bool, true, false, ◌⊎◌, inl, inr, List, [], ◌∷◌, ◌++◌, length, get_or, take, drop, refl, sym, ap, subst, ◌∙◌, arith, append_assoc}
+use Rattle.std.proofs.Common.{◌≡◌, ℕ, ◌+◌, ◌-◌, ◌<◌, ◌≤◌, true, false, ◌⊎◌, inl, inr, List, [], ◌∷◌, ◌++◌, length, get_or, take, drop, refl, sym, ap, subst, ◌∙◌, arith, append_assoc}
 use Rattle.std.specs.Prelude.{◌&&◌, not, nat_lt, nat_le, slice_range}
-use Rattle.std.specs.List.{list_all}
 use Rattle.std.specs.List.Sorted.{IsPartitionPoint}
 use Rattle.std.proofs.lemmas.Bool.{and_parts, and_from, leb-true, ltb-true, lt-ltb, cases_lt, not-true, both_ways, cases_Bool}
-use Rattle.std.proofs.lemmas.List.{append_cancel_right, append-nil, take-append-drop, take_all, drop_all, drop_more}
+use Rattle.std.proofs.lemmas.List.{append_cancel_right, take-append-drop, take_all, drop_all, drop_more}
 use Rattle.std.proofs.lemmas.List.Folds.{drop_split}
 use Rattle.lrs_measure.specs.Texts.{Name}
 use Rattle.lrs_element.specs.Limits.{longest_route}
@@ -17,11 +16,11 @@ use Rattle.lrs_events.specs.Spans.{are_rows}
 use Rattle.lrs_events.specs.Places.{other_side}
 use Rattle.lrs_events.specs.Members.{has_side, has_member, is_member}
 use Rattle.lrs_canonical.specs.Clips.{is_left}
-use Rattle.lrs_canonical.specs.Order.{In, IsLeft, by_class, by_asset, by_place, Joins, grown}
+use Rattle.lrs_canonical.specs.Order.{In, IsLeft, by_class, by_asset, by_place, grown}
 use Rattle.lrs_canonical.specs.Joins.{end_by}
 use Rattle.lrs_canonical.specs.Turns.{turned_side, mirrored, mirrored_rows, IsTurned, IsBlock}
 use Rattle.lrs_canonical.proofs.Members.{all_at, any_found, any_of, In-append_left, In-append_right, In-append_cases, In-take, In-drop}
-use Rattle.lrs_canonical.proofs.Unique.{over, its_sides, less_one}
+use Rattle.lrs_canonical.proofs.Unique.{over, its_sides}
 use Rattle.lrs_canonical.proofs.Rows.{IsFull, IsAhead, Pairs, AreRows, rows_from, rows_are, left_place, pairs_append, pairs_front, pairs_rear, pairs_across}
 use Rattle.lrs_canonical.proofs.Places.{left_from, left_is, all_first, all_last, In-get}
 use Rattle.lrs_canonical.proofs.Stretches.{in_three}
@@ -154,10 +153,12 @@ module _ (len : ℕ) where
       to_row : (r : Span) → In r rows → has_member (mirrored len r) class asset j s ≡ true → (nat_lt j len ≡ true) × (is_member rows class asset (len - 1 - j) (other_side s) ≡ true)
       to_row r m e =
           let o = over (mirrored len r) class asset j s e in
-          let low = o.low in let high = o.high in let l = h r m in let f = (a.full r m).some in
-          (lt-ltb j len (omega (arith, high)), any_of (λ q. has_member q class asset (len - 1 - j) (other_side s)) r rows m
-          (its_sides r class asset (len - 1 - j) (other_side s) (record { of_class = o.of_class; of_asset = o.of_asset; low = omega (arith, high); high = omega (arith, low, high, f) })
-          ∙ sym (turned_has r.side s) ∙ sym (its_sides (mirrored len r) class asset j s o) ∙ e))
+          let low = o.low in let high = o.high in let l = h r m in let f = (a.full r m).some in (
+            lt-ltb j len (omega (arith, high)),
+            any_of (λ q. has_member q class asset (len - 1 - j) (other_side s)) r rows m
+                (its_sides r class asset (len - 1 - j) (other_side s) (record { of_class = o.of_class; of_asset = o.of_asset; low = omega (arith, high); high = omega (arith, low, high, f) })
+                ∙ sym (turned_has r.side s) ∙ sym (its_sides (mirrored len r) class asset j s o) ∙ e),
+          )
 
       from_row : (r : Span) → In r rows → j < len → has_member r class asset (len - 1 - j) (other_side s) ≡ true → is_member out class asset j s ≡ true
       from_row r m i e =

@@ -1,11 +1,12 @@
 -- The rows of a route that goes on as another does.
 use Rattle.std.proofs.Common.{◌≡◌, ℕ, ◌+◌, ◌-◌, ◌<◌, ◌≤◌, Bool, true, false, ◌⊎◌, inl, inr, List, [], ◌∷◌, ◌++◌, length, get_or, take, drop, refl, sym, ap, subst, ◌∙◌, arith}
-use Rattle.std.specs.Prelude.{◌||◌, not, nat_eq, nat_le, slice_range}
+use Rattle.std.specs.Prelude.{not, nat_eq, nat_le, slice_range}
 use Rattle.std.proofs.Math.Seq.{take-add}
 use Rattle.std.specs.List.{list_all}
 use Rattle.std.specs.Cmp.Lexicographic.{bytes_decides}
-use Rattle.std.proofs.lemmas.Bool.{both_ways, not-true, or_cases, leb-true, eq-eqb, cases_eq, cases_order, cases_lt, ltb-true, cases_Bool, or_left, or_right, and_from, le-leb, ne_eqb}
+use Rattle.std.proofs.lemmas.Bool.{both_ways, not-true, or_cases, leb-true, eq-eqb, cases_eq, cases_Bool, or_left, or_right, and_from, le-leb, ne_eqb}
 use Rattle.std.proofs.lemmas.List.{append_cancel_left, take_more, append-nil, take-append-drop, take_all}
+use Rattle.lrs_measure.specs.Lists.{each_two}
 use Rattle.lrs_measure.specs.Texts.{Name, same_name, name_before}
 use Rattle.lrs_element.specs.Limits.{longest_route}
 use Rattle.lrs_events.specs.declared.side.LinkSide.{LinkSide}
@@ -18,11 +19,10 @@ use Rattle.lrs_canonical.specs.Order.{In, IsLeft, by_class, by_asset, by_place, 
 use Rattle.lrs_canonical.specs.Changes.{IsChange}
 use Rattle.lrs_canonical.specs.Joins.{moved, end_by, have_room, is_of_one_class, are_of_one_class, IsJoin, IsSeam, apart, goes_on, AddsSeam}
 use Rattle.lrs_canonical.proofs.Members.{all_at, all_from, any_found, any_of, In-append_left, In-append_right, In-append_cases, In-take}
-use Rattle.lrs_canonical.proofs.Unique.{IsOver, over, its_sides}
-use Rattle.lrs_canonical.proofs.Rows.{IsFull, IsAhead, Pairs, AreRows, rows_from, rows_are, full_from, full_is, left_place, pairs_append, pairs_front, pairs_across}
-use Rattle.lrs_canonical.proofs.Places.{In-get}
+use Rattle.lrs_canonical.proofs.Unique.{over, its_sides}
+use Rattle.lrs_canonical.proofs.Rows.{IsFull, IsAhead, Pairs, AreRows, BeginsFirst, begins_class, begins_asset, first_begins, rows_from, rows_are, full_from, left_place, pairs_append, pairs_front, pairs_across}
 use Rattle.lrs_canonical.proofs.Differing.{has_found, has_in}
-use Rattle.lrs_canonical.proofs.Fitting.{one_test, Fits, fits_elsewhere, two_ahead, In-changed, come-In, stay-In, is_change, changed_rows_are}
+use Rattle.lrs_canonical.proofs.Fitting.{one_test, each_two-append, Fits, fits_elsewhere, two_ahead, In-changed, come-In, stay-In, is_change, changed_rows_are}
 
 -- what is known of the two routes' rows
 pub record AreTwo (shift : ℕ) (first second : List Span) : Type 0 where
@@ -91,9 +91,10 @@ pub record AreJoined (shift : ℕ) (first rows gone come : List Span) : Type 0 w
   pub every : (r : Span) → In r rows → (x : Span) × In x come × Comes shift first gone r x
   pub went : (l : Span) → In l gone → Goes shift first rows come l
   pub pairs : Pairs come
+  pub in_order : each_two span_before gone ≡ true
 
 pub joined_none : (shift : ℕ) (first : List Span) → AreJoined shift first [] [] []
-joined_none shift first = record { each = λ x m. absurd m; every = λ r m. absurd m; went = λ l m. absurd m; pairs = tt }
+joined_none shift first = record { each = λ x m. absurd m; every = λ r m. absurd m; went = λ l m. absurd m; pairs = tt; in_order = refl }
 
 module _ (shift : ℕ) (first second : List Span) (t : AreTwo shift first second) where
   -- what begins with a row of the first is of a row that begins its route
@@ -143,13 +144,23 @@ module _ (shift : ℕ) (first second : List Span) (t : AreTwo shift first second
 
   -- one row more
   module _ (rows gone come : List Span) (row : Span) (h : AreJoined shift first rows gone come) (fr : (q : Span) → In q rows → IsFull q) (ahead : (q : Span) → In q rows → IsAhead q row) where
+    -- what goes for it comes behind what went
+    goes_behind : (g l : Span) → In g gone → In l first → Joins l (moved shift row) → span_before g l ≡ true
+    goes_behind g l m n j = let k = h.went g m in first_begins g l (by k.row k.joins (fr k.row k.of_rows) (ahead k.row k.of_rows).left)
+      where
+        by : (q : Span) → Joins g (moved shift q) → IsFull q → IsLeft q row → BeginsFirst g l
+        by q i f (by_class k) = begins_class (subst (λ c. name_before g.class c ≡ true) (sym j.of_class) (subst (λ c. name_before c row.class ≡ true) (sym i.of_class) k))
+        by q i f (by_asset c k) = let u = i.of_asset in let v = j.of_asset in begins_asset (i.of_class ∙ c ∙ sym j.of_class) (omega (arith, k, u, v))
+        by q i f (by_place c b k) = let z = (at_start l row n j).0 in let s = f.some in absurd (omega (arith, z, s, k))
+
     with_row : (old : List Span) (whole : Span) → Comes shift first (gone ++ old) row whole → ((l : Span) → In l old → Goes shift first (rows ++ row ∷ []) (come ++ whole ∷ []) l)
-        → AreJoined shift first (rows ++ row ∷ []) (gone ++ old) (come ++ whole ∷ [])
-    with_row old whole c w = record {
+        → each_two span_before old ≡ true → ((l : Span) → In l old → In l first × Joins l (moved shift row)) → AreJoined shift first (rows ++ row ∷ []) (gone ++ old) (come ++ whole ∷ [])
+    with_row old whole c w o b = record {
       each = λ x m. each x (In-append_cases x come (whole ∷ []) m);
       every = λ r m. every r (In-append_cases r rows (row ∷ []) m);
       went = λ l m. went l (In-append_cases l gone old m);
       pairs = pairs_append come (whole ∷ []) h.pairs (λ s m. absurd m, tt) (λ x y m n. last x y m n);
+      in_order = each_two-append span_before gone old h.in_order o (λ x y m n. let k = b y n in goes_behind x y m k.0 k.1);
     }
       where
         each : (x : Span) → In x come ⊎ In x (whole ∷ []) → (r : Span) × In r (rows ++ row ∷ []) × Comes shift first (gone ++ old) r x
@@ -164,7 +175,10 @@ module _ (shift : ℕ) (first second : List Span) (t : AreTwo shift first second
 
         went : (l : Span) → In l gone ⊎ In l old → Goes shift first (rows ++ row ∷ []) (come ++ whole ∷ []) l
         went l (inl m) = let g = h.went l m in record {
-          row = g.row; of_rows = In-append_left g.row rows (row ∷ []) g.of_rows; was = g.was; joins = g.joins;
+          row = g.row;
+          of_rows = In-append_left g.row rows (row ∷ []) g.of_rows;
+          was = g.was;
+          joins = g.joins;
           came = In-append_left (grown (moved shift g.row) l.from (g.row.to + shift)) come (whole ∷ []) g.came;
         }
         went l (inr m) = w l m
@@ -175,12 +189,19 @@ module _ (shift : ℕ) (first second : List Span) (t : AreTwo shift first second
         last x y m (inr n) = absurd n
 
     joined_row : (old : List Span) (whole : Span) → IsSeam first (moved shift row) old whole → AreJoined shift first (rows ++ row ∷ []) (gone ++ old) (come ++ whole ∷ [])
-    joined_row _ _ (apart n) = with_row [] (moved shift row) (comes_alone n) (λ l m. absurd m)
-    joined_row _ _ (goes_on l m j) = with_row (l ∷ []) (grown (moved shift row) l.from (row.to + shift)) (comes_with l m (In-append_right l gone (l ∷ []) (inl refl)) j) (λ q n. one q n)
+    joined_row _ _ (apart n) = with_row [] (moved shift row) (comes_alone n) (λ l m. absurd m) refl (λ l m. absurd m)
+    joined_row _ _ (goes_on l m j) = with_row (l ∷ []) (grown (moved shift row) l.from (row.to + shift)) (comes_with l m (In-append_right l gone (l ∷ []) (inl refl)) j) (λ q n. one q n) refl (λ q n. its q n)
       where
+        its : (q : Span) → In q (l ∷ []) → In q first × Joins q (moved shift row)
+        its q (inl e) = (subst (λ z. In z first) (sym e) m, subst (λ z. Joins z (moved shift row)) (sym e) j)
+        its q (inr n) = absurd n
+
         one : (q : Span) → In q (l ∷ []) → Goes shift first (rows ++ row ∷ []) (come ++ grown (moved shift row) l.from (row.to + shift) ∷ []) q
         one q (inl e) = subst (Goes shift first (rows ++ row ∷ []) (come ++ grown (moved shift row) l.from (row.to + shift) ∷ [])) (sym e) (record {
-          row = row; of_rows = In-append_right row rows (row ∷ []) (inl refl); was = m; joins = j;
+          row = row;
+          of_rows = In-append_right row rows (row ∷ []) (inl refl);
+          was = m;
+          joins = j;
           came = In-append_right (grown (moved shift row) l.from (row.to + shift)) come (grown (moved shift row) l.from (row.to + shift) ∷ []) (inl refl);
         })
         one q (inr n) = absurd n
@@ -343,8 +364,9 @@ pub record IsJoined (shift : ℕ) (first second gone come : List Span) : Type 0 
   pub kept : are_rows (changed span_before gone come first) ≡ true
   pub change : IsChange first gone come (changed span_before gone come first)
   pub joined : IsJoin shift first second (changed span_before gone come first)
+  pub in_order : each_two span_before gone ≡ true
 
 pub joined_whole : (shift : ℕ) (first second : List Span) (i : ℕ) (gone come : List Span) → AreTwo shift first second → length second ≤ i → AreJoined shift first (take i second) gone come → IsJoined shift first second gone come
 joined_whole shift first second i gone come t l h =
     let a = subst (λ (z : List Span). AreJoined shift first z gone come) (take_all i second l) h in
-    record { kept = rows_are _ (joined_rows shift first second t gone come a); change = joined_change shift first second t gone come a; joined = joined_all shift first second t gone come a }
+    record { kept = rows_are _ (joined_rows shift first second t gone come a); change = joined_change shift first second t gone come a; joined = joined_all shift first second t gone come a; in_order = a.in_order }

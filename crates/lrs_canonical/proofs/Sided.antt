@@ -1,5 +1,5 @@
 -- A side of what lies on a stretch is removed.
-use Rattle.std.proofs.Common.{◌≡◌, ℕ, ◌+◌, ◌<◌, ◌≤◌, Bool, true, false, cond, ◌⊎◌, inl, inr, List, [], ◌∷◌, ◌++◌, Option, Some, None, min, max, refl, sym, ap, subst, ◌∙◌, arith}
+use Rattle.std.proofs.Common.{◌≡◌, ℕ, ◌<◌, ◌≤◌, Bool, true, false, cond, ◌⊎◌, inl, inr, List, [], ◌∷◌, ◌++◌, Option, Some, None, min, max, refl, sym, ap, subst, ◌∙◌, arith}
 use Rattle.std.specs.Prelude.{◌||◌, ◌&&◌, not, nat_lt, nat_le, nat_eq}
 use Rattle.std.specs.List.{list_any, list_all, filter, flat_map}
 use Rattle.std.specs.Cmp.Lexicographic.{bytes_decides}
@@ -19,16 +19,16 @@ use Rattle.lrs_events.specs.Changes.{has_row, changed}
 use Rattle.lrs_canonical.specs.Order.{In, IsLeft, by_class, by_asset, by_place, grown}
 use Rattle.lrs_canonical.specs.Changes.{IsChange, missing}
 use Rattle.lrs_canonical.specs.Clips.{clip, is_left, follows, are_in_order}
-use Rattle.lrs_canonical.specs.Removals.{is_within, IsLess, IsThat, IsRemoval}
-use Rattle.lrs_canonical.specs.Sides.{shared_side, side_less, clip_on, side_part, side_rest, of_side_within}
+use Rattle.lrs_canonical.specs.Removals.{is_within, IsLess, IsThat}
+use Rattle.lrs_canonical.specs.Sides.{shared_side, side_less, clip_on, side_part, side_rest, of_side_within, ClearsSide}
 use Rattle.lrs_canonical.specs.declared.removing.Removal.{Removal}
-use Rattle.lrs_canonical.proofs.Members.{all_at, all_from, any_found, any_of, In-append_cases}
+use Rattle.lrs_canonical.proofs.Members.{all_from, any_found, any_of, In-append_cases}
 use Rattle.lrs_canonical.proofs.Unique.{over, its_sides, some_side, has_some, at_start}
-use Rattle.lrs_canonical.proofs.Rows.{IsFull, IsAhead, Pairs, AreRows, rows_from, rows_are, full_is, pairs_append}
+use Rattle.lrs_canonical.proofs.Rows.{IsAhead, Pairs, AreRows, rows_from, rows_are, full_is}
 use Rattle.lrs_canonical.proofs.Places.{left_is}
 use Rattle.lrs_canonical.proofs.Differing.{has_found, has_in, in_missing, missing_in}
-use Rattle.lrs_canonical.proofs.Pieces.{IsPiece, clip_pieces, clip_bounds, found_in, all_parts, clip_holds}
-use Rattle.lrs_canonical.proofs.Fitting.{one_test, In-filter, filter-In, In-changed, come-In, stay-In, is_change, Fits, fits_elsewhere, two_ahead, filtered, changed_rows_are}
+use Rattle.lrs_canonical.proofs.Pieces.{clip_pieces, clip_bounds, found_in, all_parts, clip_holds}
+use Rattle.lrs_canonical.proofs.Fitting.{one_test, each_two-append, In-filter, filter-In, In-changed, come-In, stay-In, is_change, Fits, fits_elsewhere, two_ahead, filtered, changed_rows_are}
 
 -- ---- parts in order
 
@@ -51,17 +51,6 @@ follow p q l c = and_from (is_left p q) (not (nat_eq p.asset q.asset) || same_na
     by (inl e) = or_right (not (nat_eq p.asset q.asset)) (same_name p.class q.class) ((bytes_decides p.class q.class).1 (c e))
     by (inr n) = or_left (not (nat_eq p.asset q.asset)) (same_name p.class q.class) (ap not (ne_eqb p.asset q.asset n))
 
-each_two-append : (test : Span → Span → Bool) (xs ys : List Span) → each_two test xs ≡ true → each_two test ys ≡ true → ((x y : Span) → In x xs → In y ys → test x y ≡ true) → each_two test (xs ++ ys) ≡ true
-each_two-append test [] ys h k c = k
-each_two-append test (x ∷ xs) ys h k c =
-    let a = and_parts (list_all (test x) xs) (each_two test xs) h in
-    and_from (list_all (test x) (xs ++ ys)) (each_two test (xs ++ ys)) (all_from (test x) (xs ++ ys) (λ y m. by y a.0 (In-append_cases y xs ys m)))
-    (each_two-append test xs ys a.1 k (λ z y m n. c z y (inr m) n))
-  where
-    by : (y : Span) → list_all (test x) xs ≡ true → In y xs ⊎ In y ys → test x y ≡ true
-    by y a (inl m) = all_at (test x) y xs a m
-    by y a (inr m) = c x y (inl refl) m
-
 parts_follow : (x y p q : Span) → IsAhead x y → IsPart x p → IsPart y q → follows p q ≡ true
 parts_follow x y p q a i k = follow p q (left a.left) (λ e. i.of_class ∙ a.one_class (sym i.of_asset ∙ e ∙ k.of_asset) ∙ sym k.of_class)
   where
@@ -81,12 +70,15 @@ parts_in_order f rows a h = and_from (list_all is_row (flat_map f rows)) (each_t
     turns (r ∷ rs) p k = each_two-append follows (f r) (flat_map f rs) (k r (inl refl)).order (turns rs p.1 (λ s m. k s (inr m)))
         (λ x y m n. let g = found_in f y rs n in parts_follow r g.0 x y (p.0 g.0 g.1) ((k r (inl refl)).each x m) ((k g.0 (inr g.1)).each y g.2))
 
-with_side : Span → Side → Span
+abbrev with_side : Span → Side → Span
 with_side r side = record { asset = r.asset; class = r.class; from = r.from; to = r.to; side = side }
 
 clip_turn : (low high : ℕ) (r : Span) → AreInTurn r (clip low high r)
-clip_turn low high r = record { each = λ p m. let i = (clip_pieces low high r).each p m in let a = i.low in let b = i.high in
-      record { of_class = i.of_class; of_asset = i.of_asset; low = omega (arith, a); some = i.some; high = omega (arith, b) }; order = by (nat_lt (max r.from low) (min r.to high)) }
+clip_turn low high r = record {
+  each = λ p m. let i = (clip_pieces low high r).each p m in let a = i.low in let b = i.high in
+      record { of_class = i.of_class; of_asset = i.of_asset; low = omega (arith, a); some = i.some; high = omega (arith, b) };
+  order = by (nat_lt (max r.from low) (min r.to high));
+}
   where
     by : (b : Bool) → each_two follows (cond b (grown r (max r.from low) (min r.to high) ∷ []) []) ≡ true
     by true = refl
@@ -424,3 +416,59 @@ module _ (rows found rest left : List Span) (of : Name → ℕ → Bool) (low hi
           as_is : (a : Bool) → a ≡ (a && true)
           as_is true = refl
           as_is false = refl
+
+-- ---- as the calls made them
+
+within_up : (low high j : ℕ) → is_within low (max high low) j ≡ is_within low high j
+within_up low high j = by (cases_lt j low)
+  where
+    by : (j < low) ⊎ (low ≤ j) → is_within low (max high low) j ≡ is_within low high j
+    by (inl a) = (λ i. lt-leb low j a i && nat_lt j (max high low)) ∙ sym (λ i. lt-leb low j a i && nat_lt j high)
+    by (inr a) = two (cases_lt j high)
+      where
+        two : (j < high) ⊎ (high ≤ j) → is_within low (max high low) j ≡ is_within low high j
+        two (inl b) = (λ i. nat_le low j && lt-ltb j (max high low) (omega (arith, b)) i) ∙ sym (λ i. nat_le low j && lt-ltb j high b i)
+        two (inr b) = (λ i. nat_le low j && le-ltb j (max high low) (omega (arith, a, b)) i) ∙ sym (λ i. nat_le low j && le-ltb j high b i)
+
+pub parts_ordered : (found parts d : List Span) (low high : ℕ) (side : Side) → are_rows found ≡ true → parts ≡ flat_map (side_part low high side) found → d ≡ parts → are_in_order d ≡ true
+parts_ordered found parts d low high side h p e = (λ i. are_in_order ((e ∙ p) i)) ∙ parts_in_order (side_part low high side) found (rows_from found h) (λ r m. clip_on_turn low high (shared_side r.side side) r)
+
+pub rests_ordered : (found rests d : List Span) (low high : ℕ) (side : Side) → low ≤ high → are_rows found ≡ true → rests ≡ flat_map (side_rest low high side) found → d ≡ rests → are_in_order d ≡ true
+rests_ordered found rests d low high side l h p e = (λ i. are_in_order ((e ∙ p) i)) ∙ parts_in_order (side_rest low high side) found (rows_from found h) (λ r m. side_rest_turn low high side r l)
+
+pub removed : (found rest parts rests d_parts d_rests d_rest : List Span) (low high up : ℕ) (side : Side) (removal : Removal) → up ≡ max high low
+    → parts ≡ flat_map (side_part low up side) found → rests ≡ flat_map (side_rest low up side) found → d_parts ≡ parts → d_rests ≡ rests → d_rest ≡ rest
+    → are_rows removal.left.items ≡ true → SameMembers d_parts removal.left.items → are_rows rest ≡ true → SameMembers d_rests rest
+    → removal.change.gone.items ≡ missing d_rest found → removal.change.come.items ≡ missing found d_rest → ClearsSide found low high side removal
+removed found rest parts rests d_parts d_rests d_rest low high up side removal u p q dp dq dr left_rows left_same rest_rows rest_same g c rows of k f = record {
+  kept = (λ i. are_rows (makes i)) ∙ rows_are _ (new_rows rows found rest removal.left.items of low up side k f rest_rows rest_alike left_alike);
+  change = subst (IsChange rows removal.change.gone.items removal.change.come.items) (sym makes)
+      (subst (λ (z : List Span). IsChange rows z removal.change.come.items made) (sym goes)
+      (subst (λ (z : List Span). IsChange rows (missing rest found) z made) (sym comes) (new_change rows found rest removal.left.items of low up side k f rest_rows rest_alike left_alike)));
+  rest = λ class asset j s. (λ i. is_member (makes i) class asset j s) ∙ new_holds rows found rest removal.left.items of low up side k f rest_rows rest_alike left_alike class asset j s
+      ∙ (λ i. is_member rows class asset j s && not (of class asset && (up_to j i && has_side side s)));
+  left_rows = left_rows;
+  left = λ class asset j s. left_holds rows found rest removal.left.items of low up side k f rest_rows rest_alike left_alike class asset j s
+      ∙ (λ i. is_member rows class asset j s && (of class asset && (up_to j i && has_side side s)));
+}
+  where
+    rest_alike : SameMembers (flat_map (side_rest low up side) found) rest
+    rest_alike = subst (λ (z : List Span). SameMembers z rest) (dq ∙ q) rest_same
+
+    left_alike : SameMembers (flat_map (side_part low up side) found) removal.left.items
+    left_alike = subst (λ (z : List Span). SameMembers z removal.left.items) (dp ∙ p) left_same
+
+    goes : removal.change.gone.items ≡ missing rest found
+    goes = g ∙ ap (λ z. missing z found) dr
+
+    comes : removal.change.come.items ≡ missing found rest
+    comes = c ∙ ap (missing found) dr
+
+    made : List Span
+    made = changed span_before (missing rest found) (missing found rest) rows
+
+    makes : changed span_before removal.change.gone.items removal.change.come.items rows ≡ made
+    makes = λ i. changed span_before (goes i) (comes i) rows
+
+    up_to : (j : ℕ) → is_within low up j ≡ is_within low high j
+    up_to j = (λ i. is_within low (u i) j) ∙ within_up low high j

@@ -6,3 +6,5 @@ pub mod Joins
 pub mod Removals
 pub mod Turns
 pub mod Sides
+pub mod Cuts
+pub mod Undoing

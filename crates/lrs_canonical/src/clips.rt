@@ -14,7 +14,12 @@ pub(crate) const LONGEST_ROUTE: u64 = 10_000_000_000;
 ///
 /// # Errors
 /// When memory runs out.
-pub(crate) fn push_clip(out: &mut Vec<Span>, row: &Span, low: u64, high: u64) -> Result<(), AllocError>
+pub(crate) fn push_clip(
+    out: &mut Vec<Span>,
+    row: &Span,
+    low: u64,
+    high: u64,
+) -> Result<(), AllocError>
     ensures { OnOk result (out.new.items ≡ out.old.items ++ clip low high row.now) }
 {
     let from = row.from.max(low);

@@ -3,7 +3,8 @@
 ghost use Rattle.std.specs.Prelude.{◌≡◌, ◌+◌, ◌<◌, ◌≤◌, IsTrue, IfOk, OnOk};
 ghost use Rattle.lrs_element.specs.Limits.{longest_route};
 ghost use Rattle.lrs_events.specs.Changes.{changed_rows};
-ghost use Rattle.lrs_events.specs.Spans.{are_rows, is_row};
+ghost use Rattle.lrs_events.specs.Spans.{are_rows, is_row, span_before};
+ghost use Rattle.lrs_measure.specs.Lists.{each_two};
 ghost use Rattle.lrs_canonical.specs.Changes.{IsChange};
 ghost use Rattle.lrs_canonical.specs.Joins.{moved, end_by, have_room, are_of_one_class, AddsSeam, IsJoin};
 ghost use Rattle.lrs_canonical.specs.Members.{is_free};
@@ -49,6 +50,7 @@ pub fn joined(
     requires one_class { IsTrue (are_of_one_class first.now second.now) }
     ensures kept { IfOk result (λ change. IsTrue (are_rows (changed_rows change first.now))) }
     ensures change { IfOk result (λ change. IsChange first.now change.gone.items change.come.items (changed_rows change first.now)) }
+    ensures in_order { IfOk result (λ change. IsTrue (each_two span_before change.gone.items)) }
     ensures joined { IfOk result (λ change. IsJoin shift first.now second.now (changed_rows change first.now)) }
 {
     let mut change = SpanChange {

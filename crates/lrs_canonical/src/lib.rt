@@ -8,6 +8,7 @@
 pub mod adding;
 pub mod change;
 pub mod clips;
+pub mod cutting;
 pub mod joining;
 pub mod laws;
 pub mod merging;
@@ -15,3 +16,4 @@ pub mod order;
 pub mod removing;
 pub mod siding;
 pub mod turning;
+pub mod undoing;

@@ -1,7 +1,7 @@
 use Rattle.std.proofs.Common.{subst, sym}
 use Rattle.lrs_canonical.specs.Order.{In}
 use Rattle.lrs_canonical.proofs.Places.{In-get}
-use Rattle.lrs_canonical.proofs.Seams.{AreTwo, two_from, moved_free, joined_more, IsJoined, joined_whole}
+use Rattle.lrs_canonical.proofs.Seams.{two_from, moved_free, joined_more, IsJoined, joined_whole}
 use Rattle.lrs_canonical.proofs.joining.joined.Goals as goal
 
 pub push_seam-requires-clause-free : goal.push_seam-requires-clause-free
@@ -28,3 +28,6 @@ returns-clause-change c = (done c).change
 
 pub returns-clause-joined : goal.returns-clause-joined
 returns-clause-joined c = (done c).joined
+
+pub returns-clause-in_order : goal.returns-clause-in_order
+returns-clause-in_order c = (done c).in_order
