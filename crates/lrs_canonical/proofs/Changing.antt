@@ -1,11 +1,10 @@
 -- What a change makes of rows.
-use Rattle.std.proofs.Common.{◌≡◌, ◌<◌, Bool, true, false, cond, ◌⊎◌, inl, inr, List, [], ◌∷◌, refl, sym, ap, subst, ◌∙◌, arith}
-use Rattle.std.proofs.lemmas.Bool.{and_parts, cases_Bool, both_ways}
+use Rattle.std.proofs.Common.{◌≡◌, Bool, true, false, cond, ◌⊎◌, inl, inr, List, [], ◌∷◌, refl, sym, ◌∙◌, arith}
+use Rattle.std.proofs.lemmas.Bool.{and_parts, cases_Bool}
 use Rattle.std.specs.Prelude.{◌||◌, ◌&&◌, not}
 use Rattle.std.specs.List.{list_any, list_all}
 use Rattle.lrs_measure.specs.Lists.{each_two}
 use Rattle.lrs_measure.specs.Ordered.{insert_by, insert_all}
-use Rattle.lrs_measure.specs.Texts.{name_before}
 use Rattle.lrs_events.specs.declared.span.Span.{Span}
 use Rattle.lrs_events.specs.Spans.{are_rows, is_row, span_before, are_apart}
 use Rattle.lrs_events.specs.Changes.{changed, same_row, has_row, without_rows}
@@ -14,7 +13,7 @@ use Rattle.lrs_canonical.specs.Changes.{IsChange, missing}
 use Rattle.lrs_canonical.proofs.Unique.{less_one}
 use Rattle.lrs_canonical.proofs.Rows.{BeginsFirst, begins_class, begins_asset, begins_start, begins_first, first_begins}
 use Rattle.lrs_canonical.proofs.Places.{begins_trans}
-use Rattle.lrs_canonical.proofs.Sorted.{IsStrict, each_two-filter, one_list, ArePut, put_all}
+use Rattle.lrs_canonical.proofs.Sorted.{IsStrict, each_two-filter, one_list, put_all}
 use Rattle.lrs_canonical.proofs.Differing.{one_row, has_found, has_in, in_missing, missing_in, differ}
 
 begins_itself : (r : Span) → BeginsFirst r r → ⊥

@@ -1,23 +1,22 @@
 -- What is found on a stretch goes.
-use Rattle.std.proofs.Common.{◌≡◌, ℕ, ◌<◌, ◌≤◌, Bool, true, false, cond, ◌⊎◌, inl, inr, List, [], ◌∷◌, refl, sym, ap, subst, ◌∙◌, arith}
+use Rattle.std.proofs.Common.{◌≡◌, ℕ, ◌<◌, Bool, true, false, cond, ◌⊎◌, inl, inr, List, [], ◌∷◌, refl, sym, ap, ◌∙◌, arith}
 use Rattle.std.specs.Prelude.{◌||◌, ◌&&◌, not, nat_lt, nat_le, nat_eq}
 use Rattle.std.specs.List.{list_any, filter, flat_map}
 use Rattle.std.proofs.lemmas.Bool.{both_ways, cases_Bool, and_parts, and_from, leb-true, ltb-true, lt-ltb}
 use Rattle.lrs_measure.specs.Texts.{Name, same_name}
 use Rattle.lrs_events.specs.declared.side.LinkSide.{LinkSide}
 use Rattle.lrs_events.specs.declared.span.Span.{Span}
-use Rattle.lrs_events.specs.Spans.{are_rows, span_before}
+use Rattle.lrs_events.specs.Spans.{are_rows}
 use Rattle.lrs_events.specs.Members.{has_member, is_member}
-use Rattle.lrs_events.specs.Changes.{changed, changed_rows}
 use Rattle.lrs_canonical.specs.declared.removing.Removal.{Removal}
 use Rattle.lrs_canonical.specs.Members.{is_of}
 use Rattle.lrs_canonical.specs.Order.{In}
-use Rattle.lrs_canonical.specs.Changes.{IsChange, missing}
+use Rattle.lrs_canonical.specs.Changes.{missing}
 use Rattle.lrs_canonical.specs.Clips.{clip, outside}
-use Rattle.lrs_canonical.specs.Removals.{IsRemoval, IsLess, IsThat, is_within, of_within, Finds, is_met}
+use Rattle.lrs_canonical.specs.Removals.{IsRemoval, is_within, of_within, Finds, is_met}
 use Rattle.lrs_canonical.proofs.Members.{any_found}
 use Rattle.lrs_canonical.proofs.Unique.{over}
-use Rattle.lrs_canonical.proofs.Rows.{AreRows, rows_from, rows_are}
+use Rattle.lrs_canonical.proofs.Rows.{AreRows, rows_from}
 use Rattle.lrs_canonical.proofs.Pieces.{outside_pieces, all_parts, outside_holds, clips_rows, clips_hold, rests_rows}
 use Rattle.lrs_canonical.proofs.Replaced.{in_filter, any_filter, instead, is_replaced}
 

@@ -8,14 +8,13 @@ use Rattle.std.proofs.lemmas.List.Folds.{list_any-append}
 use Rattle.lrs_measure.specs.Texts.{Name, same_name}
 use Rattle.lrs_events.specs.declared.side.LinkSide.{LinkSide}
 use Rattle.lrs_events.specs.declared.span.Span.{Span}
-use Rattle.lrs_events.specs.Spans.{are_rows, span_before}
+use Rattle.lrs_events.specs.Spans.{are_rows}
 use Rattle.lrs_events.specs.Members.{has_side, has_member, is_member}
-use Rattle.lrs_events.specs.Changes.{changed, changed_rows}
 use Rattle.lrs_canonical.specs.declared.cutting.Cut.{Cut}
 use Rattle.lrs_canonical.specs.Order.{In, grown}
-use Rattle.lrs_canonical.specs.Changes.{IsChange, missing}
+use Rattle.lrs_canonical.specs.Changes.{missing}
 use Rattle.lrs_canonical.specs.Clips.{clip, rear}
-use Rattle.lrs_canonical.specs.Cuts.{IsCut, IsCutOff}
+use Rattle.lrs_canonical.specs.Cuts.{IsCutOff}
 use Rattle.lrs_canonical.proofs.Unique.{over}
 use Rattle.lrs_canonical.proofs.Rows.{IsFull, rows_from, rows_are}
 use Rattle.lrs_canonical.proofs.Pieces.{IsPiece, ArePieces, pieces_rows, clip_pieces, all_parts, clip_holds, clips_rows}

@@ -1,15 +1,13 @@
 -- The rows of one asset.
-use Rattle.std.proofs.Common.{◌≡◌, ℕ, Bool, true, false, List, refl, sym, ap, subst, ◌∙◌}
-use Rattle.std.specs.Prelude.{◌&&◌, nat_eq}
-use Rattle.std.specs.List.{list_any, filter}
+use Rattle.std.proofs.Common.{◌≡◌, ℕ, Bool, true, false, List, refl, sym, ◌∙◌}
+use Rattle.std.specs.Prelude.{nat_eq}
+use Rattle.std.specs.List.{filter}
 use Rattle.std.specs.Cmp.Lexicographic.{bytes_decides}
 use Rattle.std.proofs.lemmas.Bool.{false≢true, and_parts, and_from, eqb-true, eq-eqb}
 use Rattle.lrs_measure.specs.Texts.{Name, same_name}
 use Rattle.lrs_events.specs.declared.side.LinkSide.{LinkSide}
 use Rattle.lrs_events.specs.declared.span.Span.{Span}
-use Rattle.lrs_events.specs.Spans.{are_rows}
 use Rattle.lrs_events.specs.Members.{has_member, is_member}
-use Rattle.lrs_canonical.specs.Order.{In}
 use Rattle.lrs_canonical.specs.Members.{is_of, AssetRowsAreOne}
 use Rattle.lrs_canonical.proofs.Members.{any_found, any_of}
 use Rattle.lrs_canonical.proofs.Unique.{over, rows_are_one}

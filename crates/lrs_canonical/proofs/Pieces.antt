@@ -10,7 +10,7 @@ use Rattle.lrs_element.specs.Limits.{longest_route}
 use Rattle.lrs_events.specs.declared.side.LinkSide.{LinkSide}
 use Rattle.lrs_events.specs.declared.span.Span.{Span}
 use Rattle.lrs_events.specs.Spans.{are_rows}
-use Rattle.lrs_events.specs.Members.{has_side, has_member, is_member}
+use Rattle.lrs_events.specs.Members.{has_side, has_member}
 use Rattle.lrs_canonical.specs.Order.{In, IsLeft, by_class, by_asset, by_place, grown}
 use Rattle.lrs_canonical.specs.Clips.{clip, outside}
 use Rattle.lrs_canonical.specs.Removals.{is_within, IsThat}

@@ -1,5 +1,5 @@
 -- Parts stand in the place of the rows that a test finds.
-use Rattle.std.proofs.Common.{◌≡◌, ℕ, ◌<◌, Bool, true, false, cond, ◌⊎◌, inl, inr, List, [], ◌∷◌, refl, sym, ap, subst, ◌∙◌, arith}
+use Rattle.std.proofs.Common.{◌≡◌, Bool, true, false, cond, ◌⊎◌, inl, inr, List, [], ◌∷◌, refl, sym, ap, subst, ◌∙◌, arith}
 use Rattle.std.specs.Prelude.{◌||◌, ◌&&◌}
 use Rattle.std.specs.List.{list_any, list_all, filter, flat_map}
 use Rattle.std.proofs.lemmas.Bool.{both_ways, cases_Bool, and_parts, and_from}
@@ -11,7 +11,7 @@ use Rattle.lrs_events.specs.Changes.{changed, changed_rows, has_row}
 use Rattle.lrs_canonical.specs.Order.{In}
 use Rattle.lrs_canonical.specs.Changes.{IsChange, missing}
 use Rattle.lrs_canonical.proofs.Members.{all_at, all_from, In-append_left, In-append_right}
-use Rattle.lrs_canonical.proofs.Rows.{IsFull, IsAhead, Pairs, AreRows, left_place, rows_from, rows_are}
+use Rattle.lrs_canonical.proofs.Rows.{IsAhead, Pairs, AreRows, left_place, rows_are}
 use Rattle.lrs_canonical.proofs.Pieces.{IsPiece, ArePieces, piece_itself, found_in, pieces_rows}
 use Rattle.lrs_canonical.proofs.Differing.{has_found, has_in, in_missing, missing_in}
 use Rattle.lrs_canonical.proofs.Sorted.{each_two-filter}

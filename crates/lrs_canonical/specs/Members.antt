@@ -1,10 +1,7 @@
 -- What rows of spans stand for, by class, asset, chainage and side.
-use Rattle.std.specs.Prelude.{◌≡◌, ℕ, ◌≤◌, length, min, max, Bool, true, false, ◌||◌, ◌&&◌, not, nat_lt, nat_le, nat_eq, List, filter}
+use Rattle.std.specs.Prelude.{◌≡◌, ℕ, ◌≤◌, length, min, max, Bool, true, ◌||◌, ◌&&◌, not, nat_le, nat_eq, List, filter}
 use Rattle.std.specs.List.{list_any, list_all}
-use Rattle.lrs_events.specs.declared.side.Side.{Side}
-use Rattle.lrs_events.specs.declared.side.Side.TheVariants.{L, R, B}
 use Rattle.lrs_events.specs.declared.side.LinkSide.{LinkSide}
-use Rattle.lrs_events.specs.declared.side.LinkSide.TheVariants.{Left, Right}
 use Rattle.lrs_events.specs.declared.span.Span.{Span}
 use Rattle.lrs_measure.specs.Lists.{each_two}
 use Rattle.lrs_measure.specs.Texts.{Name, same_name}

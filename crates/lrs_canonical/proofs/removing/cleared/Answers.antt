@@ -1,6 +1,5 @@
 use Rattle.std.proofs.Common.{◌∙◌, ap}
 use Rattle.lrs_events.specs.Spans.{are_rows}
-use Rattle.lrs_canonical.specs.Changes.{missing}
 use Rattle.lrs_canonical.proofs.Pieces.{rests_rows}
 use Rattle.lrs_canonical.proofs.Cleared.{cleared}
 use Rattle.lrs_canonical.proofs.removing.cleared.Goals as goal
