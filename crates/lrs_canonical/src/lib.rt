@@ -13,3 +13,5 @@ pub mod laws;
 pub mod merging;
 pub mod order;
 pub mod removing;
+#[cfg(test)]
+mod tests;
