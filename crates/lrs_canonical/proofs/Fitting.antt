@@ -1,9 +1,9 @@
 -- What a change makes of rows, where what comes fits what stays.
-use Rattle.std.proofs.Common.{◌≡◌, ◌<◌, Bool, true, false, cond, ◌⊎◌, inl, inr, List, [], ◌∷◌, ◌++◌, refl, sym, ap, subst, ◌∙◌, arith}
+use Rattle.std.proofs.Common.{◌≡◌, ◌<◌, Bool, true, false, cond, ◌⊎◌, inl, inr, List, [], ◌∷◌, ◌++◌, refl, sym, subst, arith}
 use Rattle.std.specs.Prelude.{not}
-use Rattle.std.specs.List.{filter, list_all}
+use Rattle.std.specs.List.{list_all}
 use Rattle.lrs_measure.specs.Lists.{each_two}
-use Rattle.std.proofs.lemmas.Bool.{both_ways, not-true, cases_Bool, cases_order, and_parts, and_from}
+use Rattle.std.proofs.lemmas.Bool.{both_ways, cases_order, and_parts, and_from}
 use Rattle.lrs_measure.specs.Ordered.{insert_by, insert_all}
 use Rattle.lrs_events.specs.declared.span.Span.{Span}
 use Rattle.lrs_events.specs.Spans.{span_before}
@@ -14,7 +14,7 @@ use Rattle.lrs_canonical.proofs.Members.{all_at, all_from, In-append_cases}
 use Rattle.lrs_canonical.proofs.Unique.{less_one, less_both}
 use Rattle.lrs_canonical.proofs.Rows.{rows_from, rows_are, IsFull, IsAhead, Pairs, AreRows, BeginsFirst, begins_class, begins_asset, begins_start, begins_first, left_first, ahead_before, left_trans, NameCases, name_cases, before, same, behind}
 use Rattle.lrs_canonical.proofs.Differing.{in_missing, missing_in}
-use Rattle.lrs_canonical.proofs.Inserted.{In-insert, insert-In, In-insert_all, insert_all-In}
+use Rattle.lrs_canonical.proofs.Inserted.{In-insert, In-insert_all, insert_all-In}
 use Rattle.lrs_canonical.proofs.Replaced.{found_rows}
 
 -- two tests that tell each other are one
