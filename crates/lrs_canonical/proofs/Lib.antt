@@ -22,3 +22,4 @@ pub mod Replaced
 pub mod Cleared
 pub mod OfAsset
 pub mod Back
+pub mod Slices
