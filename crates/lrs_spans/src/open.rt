@@ -1,6 +1,6 @@
 //! The spans of a route while they are open for a change.
 
-ghost use Rattle.std.specs.Prelude.{◌≡◌, IsTrue, OnOk, true, [], length, vec_capacity};
+ghost use Rattle.std.specs.Prelude.{◌≡◌, IsTrue, IfOk, OnOk, true, []};
 ghost use Rattle.lrs_measure.specs.Lists.{each_two};
 ghost use Rattle.lrs_events.specs.Changes.{changed_rows};
 ghost use Rattle.lrs_events.specs.Spans.{are_rows, span_before};
@@ -8,8 +8,8 @@ ghost use Rattle.lrs_spans.specs.Opened.{HasRoom};
 ghost use Rattle.lrs_spans.specs.Tied.{AreTied};
 
 use crate::lanes::{ClassLanes, add_classes, change_lanes, make_lanes_room};
-use lrs_lanes::{RowOrder, change_in_room};
 use lrs_events::{Span, SpanChange};
+use lrs_lanes::{RowOrder, change_in_room};
 use std::alloc::{AllocError, Global};
 use std::marker::Model;
 
@@ -18,17 +18,19 @@ use std::marker::Model;
 pub struct OpenSpans {
     rows: Vec<Span>,
     lanes: Vec<ClassLanes>,
+    // What comes into one lane, while the lanes change.
+    picked: Vec<Span>,
 }
 
 impl Model for OpenSpans {
-    ghost use Rattle.std.specs.Prelude.{vec_capacity};
+    ghost use Rattle.std.specs.Prelude.{◌+◌, length, min, vec_capacity};
     ghost use Rattle.lrs_spans.specs.Opened.{Opened};
 
     ghost Value = { Opened };
 
     ghost use Rattle.lrs_spans.specs.Tied.{AreKept};
 
-    ghost view = { λ spans. record { rows = spans.rows.items; room = vec_capacity spans.rows; lanes = spans.lanes.items } };
+    ghost view = { λ spans. record { rows = spans.rows.items; room = min (vec_capacity spans.rows) (length spans.rows.items + vec_capacity spans.picked); lanes = spans.lanes.items } };
 
     ghost invariant = { λ spans. AreKept spans.rows.items spans.lanes.items };
 }
@@ -41,7 +43,36 @@ impl OpenSpans {
         OpenSpans {
             rows: Vec::new(alloc),
             lanes: Vec::new(alloc),
+            picked: Vec::new(alloc),
         }
+    }
+
+    /// The spans of a route with these canonical rows.
+    ///
+    /// # Errors
+    /// When memory runs out.
+    pub fn of_rows(alloc: Global, rows: Vec<Span>) -> Result<OpenSpans, AllocError>
+        requires { IsTrue (are_rows rows.items) }
+        ensures { IfOk result (λ spans. spans.rows ≡ rows.items) }
+    {
+        let mut spans = OpenSpans::empty(alloc);
+        let change = SpanChange {
+            gone: Vec::new(alloc),
+            come: rows,
+        };
+        spans.make_room(&change)?;
+        spans.change(&change);
+        Ok(spans)
+    }
+
+    /// Spans with equal rows.
+    ///
+    /// # Errors
+    /// When memory runs out.
+    pub fn copy(&self, alloc: Global) -> Result<OpenSpans, AllocError>
+        ensures { IfOk result (λ spans. spans.rows ≡ self.now.rows) }
+    {
+        OpenSpans::of_rows(alloc, Vec::from_slice(alloc, self.rows())?)
     }
 
     /// The rows in their order.
@@ -71,6 +102,7 @@ impl OpenSpans {
         ensures ok { OnOk result (HasRoom change.now self.new) }
     {
         self.rows.reserve(change.come.len())?;
+        self.picked.reserve(change.come.len())?;
         add_classes(&mut self.lanes, &change.come)?;
         make_lanes_room(&mut self.lanes, &change.come)
     }
@@ -82,7 +114,14 @@ impl OpenSpans {
         requires canonical { IsTrue (are_rows (changed_rows change.now self.old.rows)) }
         ensures { self.new.rows ≡ changed_rows change.now self.old.rows }
     {
-        change_lanes(&mut self.lanes, change);
-        change_in_room(RowOrder::ByAsset, &mut self.rows, &change.gone, &change.come);
+        change_lanes(&mut self.lanes, change, &mut self.picked);
+        // Its memory is not needed from here on.
+        self.picked = Vec::new(*self.rows.allocator());
+        change_in_room(
+            RowOrder::ByAsset,
+            &mut self.rows,
+            &change.gone,
+            &change.come,
+        );
     }
 }
