@@ -1,3 +1,4 @@
 pub mod Tied
+pub mod Meeting
 pub mod Opened
 pub mod Plans

@@ -4,6 +4,7 @@
 
 mod calls;
 mod lanes;
+mod meeting;
 mod open;
 mod plans;
 mod searching;
