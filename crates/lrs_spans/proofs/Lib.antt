@@ -1,3 +1,4 @@
 mod Putting
 mod Holding
 mod Tying
+mod Searching

@@ -4,6 +4,7 @@
 
 mod lanes;
 mod open;
+mod search;
 
 pub use lanes::ClassLanes;
 pub use open::OpenSpans;
