@@ -6,7 +6,7 @@ ghost use Rattle.lrs_measure.specs.Lists.{each_two};
 ghost use Rattle.lrs_events.specs.declared.span.Span.{Span as DeclaredSpan};
 ghost use Rattle.lrs_events.specs.Changes.{has_row};
 ghost use Rattle.lrs_events.specs.Spans.{are_rows};
-ghost use Rattle.lrs_canonical.specs.Members.{is_of};
+ghost use Rattle.lrs_canonical.specs.Members.{is_of, leaves_free, is_free};
 ghost use Rattle.lrs_lanes.specs.Order.{place_before};
 ghost use Rattle.lrs_spans.specs.Tied.{AreKept, is_on};
 ghost use Rattle.lrs_spans.specs.Search.{IsPlaceOf, one_side, IsOver, lesser_of};
@@ -105,4 +105,33 @@ pub(crate) fn over(rows: &[Span], lanes: &[ClassLanes], from: u64, to: u64, clas
             over_on(rows, lanes, from, to, class, LinkSide::Right),
         ),
     }
+}
+
+/// Whether the row leaves the span its millimetres, and is of its class if it is of its asset.
+fn leaves_free(span: &Span, row: &Span) -> bool
+    ensures { result ≡ leaves_free span.now row.now }
+{
+    row.asset != span.asset
+        || (row.class == span.class && (row.to <= span.from || span.to <= row.from))
+}
+
+/// Whether each of the rows leaves the span free.
+fn all_leave_free(rows: &[Span], span: &Span) -> bool
+    ensures { result ≡ is_free rows.now span.now }
+{
+    rows.iter().all(|row| leaves_free(span, row))
+}
+
+/// Whether no row of the span's asset is of another class or has a millimetre of it: the rows of the asset are
+/// searched for in each class that has lanes.
+pub(crate) fn is_free(rows: &[Span], lanes: &[ClassLanes], span: &Span) -> bool
+    requires kept { AreKept rows.now lanes.now }
+    ensures { result ≡ is_free rows.now span.now }
+{
+    for i in 0..lanes.len() {
+        if !all_leave_free(asset_rows(rows, lanes[i].class, span.asset), span) {
+            return false;
+        }
+    }
+    true
 }
