@@ -3,3 +3,5 @@ mod Holding
 mod Tying
 mod Loading
 mod Gathering
+mod Searching
+mod SearchFree

@@ -2,3 +2,4 @@ pub mod Tied
 pub mod Meeting
 pub mod Opened
 pub mod Plans
+pub mod Search

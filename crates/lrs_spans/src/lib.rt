@@ -9,6 +9,7 @@ mod open;
 mod plans;
 mod searching;
 mod spans;
+mod search;
 
 pub use lanes::ClassLanes;
 pub use open::OpenSpans;
