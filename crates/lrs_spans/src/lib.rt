@@ -7,9 +7,9 @@ mod lanes;
 mod meeting;
 mod open;
 mod plans;
+mod search;
 mod searching;
 mod spans;
-mod search;
 
 pub use lanes::ClassLanes;
 pub use open::OpenSpans;
