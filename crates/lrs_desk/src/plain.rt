@@ -48,9 +48,9 @@ impl Plain {
 }
 
 impl Keeper for Plain {
-    ghost use Rattle.std.specs.Prelude.{Ok, true};
+    ghost use Rattle.std.specs.Prelude.{◌≡◌, Ok, true};
 
-    ghost content = { λ plain. Ok plain };
+    ghost may_hold = { λ plain c. c ≡ Ok plain };
 
     ghost is_loaded = { λ plain. true };
 

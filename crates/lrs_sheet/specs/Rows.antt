@@ -88,8 +88,8 @@ DoesRows remaining reader limits before after old new (Err (fault.Desk e)) = Doe
 DoesRows remaining reader limits before after old new (Err fault.Memory) = DoesSome remaining reader limits before after
 
 -- the commit of a record failed: the desk's image stays, and what its keeper has stands for the state before it, or for the one after it
-abbrev pub BreaksAtRow : DeskView → List Text → DeskView → Type 0
-BreaksAtRow old fields new = (new.image ≡ old.image) × HasOldOrNext old.limits (state_of old.image) fields new.content
+abbrev pub BreaksAtRow : {K : Type 0} → (K → Result Image Table → Type 0) → DeskView K → List Text → DeskView K → Type 0
+BreaksAtRow holds old fields new = (new.image ≡ old.image) × ((c : Result Image Table) → holds new.keeper c → HasOldOrNext old.limits (state_of old.image) fields c)
 
 -- the same after some of the records that come next are done
 abbrev pub BreaksAfter : {R : Type 0} → (R → Option Text) → Reader R → Limits → State → State → Result Image Table → Type 0
@@ -116,14 +116,14 @@ abbrev pub StopsAtRow : Limits → State → List Text → State → Type 0
 StopsAtRow limits before fields after = (after ≡ before) ⊎ ((reply : Reply) × IsReplied limits before fields reply after)
 
 -- after some turns of the loop over the records
-pub record HasDone {R : Type 0} (remaining : R → Option Text) (first now : Reader R) (before after : DeskView) (old new : Option Text) (tally : Tally) (turns : ℕ) : Type 0 where
+pub record HasDone {R K : Type 0} (holds : K → Result Image Table → Type 0) (remaining : R → Option Text) (first now : Reader R) (before after : DeskView K) (old new : Option Text) (tally : Tally) (turns : ℕ) : Type 0 where
   pub records : List (List Text)
   pub replies : List Reply
   pub plain : IsPlain now
   pub width : expected_len now ≡ Some 11
   pub gave : Gave remaining first now records
   pub answered : AreAnswered before.limits (state_of before.image) records replies (state_of after.image) old new
-  pub desk : GoesAlong before after
+  pub desk : GoesAlong holds before after
   pub counts : tally ≡ tally_of replies
   pub few : answer_count tally ≡ turns
   pub in_turn : length records ≡ turns

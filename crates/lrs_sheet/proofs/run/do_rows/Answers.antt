@@ -1,7 +1,7 @@
 use Rattle.std.proofs.Common.{arith, rules}
 use Rattle.std.proofs.lemmas.Result.{err_from_is_err_and}
 use Rattle.csv.specs.Records.{fields_of}
-use Rattle.lrs_sheet.proofs.Done.{all-done, broke, more-done, some-done, start-done, stop-read, stop-row}
+use Rattle.lrs_sheet.proofs.Done.{all-done, broke, more-done, some-done, start-done, stop-read, stop-row, leaves-after}
 use Rattle.lrs_sheet.proofs.run.do_rows.Goals as goal
 
 pub loop-turn-init : goal.loop-turn-init
@@ -46,3 +46,7 @@ returns-then-branch-clause-rows g c = some-done g.R.Read.remaining c.args.rows.n
 
 pub returns-clause-rows : goal.returns-clause-rows
 returns-clause-rows g c = all-done g.R.Read.remaining c.args.rows.now c.loop-turn.rows c.args.desk.now c.loop-turn.desk (g.W.Write.contents c.args.writer.now) (g.W.Write.contents c.loop-turn.writer) c.loop-turn.tally c.loop-turn._turn c.loop-turn.invariant (c.in_ok-next_row-2.ensures.ended c.if-branch.false) (omega arith)
+
+pub returns-in_err-do_row-clause-desk : goal.returns-in_err-do_row-clause-desk
+returns-in_err-do_row-clause-desk g c =
+    leaves-after _ (Unit {0}) c.args.desk.now c.loop-turn.desk c.do_row.new.desk c.in_err-do_row.field-0.0 c.from_residual-in_err-do_row.result (search rules) c.loop-turn.invariant.desk c.in_err-do_row.ensures.desk
