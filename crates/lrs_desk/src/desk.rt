@@ -72,7 +72,9 @@ pub enum OpenFault {
 fn open_fault(fault: KeepFault) -> OpenFault
     ensures memory { fault ≡ KeepFault.Memory → result ≡ OpenFault.Memory }
     ensures keep { result ≡ OpenFault.Keep → fault ≡ KeepFault.Store }
+    ensures store { fault ≡ KeepFault.Store → result ≡ OpenFault.Keep }
     ensures unsound { (t : Table) → result ≡ OpenFault.Unsound t → fault ≡ KeepFault.Unsound t }
+    ensures named { (t : Table) → fault ≡ KeepFault.Unsound t → result ≡ OpenFault.Unsound t }
 {
     match fault {
         KeepFault::Memory => OpenFault::Memory,
@@ -134,6 +136,7 @@ impl<K: Keeper> Desk<K> {
         ensures open { IfOk result (λ desk. desk.must_reopen ≡ false) }
         ensures unsound { IfErr result (λ e. (t : Table) → e.0 ≡ OpenFault.Unsound t → (c : Result ImageRows Table) → K.may_hold e.1 c → c ≡ Err t) }
         ensures cause { IfErr result (λ e. e.0 ≡ OpenFault.Keep → HasRisen (K.failures keeper) (K.failures e.1)) }
+        ensures quiet { IfErr result (λ e. (e.0 ≡ OpenFault.Keep → ⊥) → K.failures e.1 ≡ K.failures keeper) }
         ensures err { IfErr result (λ e. (c : Result ImageRows Table) → K.may_hold e.1 c → K.may_hold keeper c) }
     {
         let image = match keeper.load(alloc) {
@@ -319,6 +322,8 @@ pub fn run<K: Keeper>(
 ) -> Result<Vec<Answer>, Fault>
     ensures answers { IfOk result (λ given. given.items ≡ answers desk.old.limits (records_of records.now) (state_of desk.old.image)) }
     ensures image { OnOk result (state_of desk.new.image ≡ state_after desk.old.limits (records_of records.now) (state_of desk.old.image)) }
+    ensures limits { desk.new.limits ≡ desk.old.limits }
+    ensures reopen { OnOk result (desk.new.must_reopen ≡ desk.old.must_reopen) }
     ensures once { OnOk result (state_of desk.new.image ≡ state_after desk.old.limits (once desk.old.limits (records_of records.now) (state_of desk.old.image)) (state_of desk.old.image)) }
 {
     let mut given = Vec::new(alloc);

@@ -37,6 +37,7 @@ pub trait Keeper {
         ensures loaded { OnOk result (is_loaded self.new ≡ true) }
         ensures unsound { (t : Table) → result ≡ Err (KeepFault.Unsound t) → (c : Result Image Table) → may_hold self.new c → c ≡ Err t }
         ensures store { result ≡ Err KeepFault.Store → HasRisen (failures self.old) (failures self.new) }
+        ensures quiet { (result ≡ Err KeepFault.Store → ⊥) → failures self.new ≡ failures self.old }
         ensures content { (c : Result Image Table) → may_hold self.new c → may_hold self.old c };
 
     /// Makes a change, as a whole.
