@@ -1,6 +1,6 @@
 -- Records done one after the other.
 use Rattle.std.proofs.Common.{◌≡◌, ℕ, Ok, Err, List, [], ◌∷◌, ◌++◌, ◌+◌, ◌≤◌, Option, Some, Bool, length, refl, sym, ap, subst, ◌∙◌, append_assoc, length-append, arith, inl, inr}
-use Rattle.std.specs.Prelude.{count_by}
+use Rattle.std.specs.Prelude.{count_by, ◌⊎◌}
 use Rattle.std.proofs.Common.{cond}
 use Rattle.std.proofs.lemmas.List.Sums.{sum_by-append}
 use Rattle.std.proofs.lemmas.List.{append-nil, flat_map_more}
@@ -23,7 +23,7 @@ use Rattle.lrs_sheet.specs.declared.fault.SheetFault.{SheetFault}
 use Rattle.lrs_sheet.specs.declared.fault.SheetFault.TheVariants as fault
 use Rattle.lrs_sheet.specs.Replies.{IsReplied, Replied, answer_count, counted, is_again, is_done, is_refused, lines_of, reply_text, tally_of}
 use Rattle.lrs_sheet.specs.Sheets.{GoesAlong, HaveEleven, max_records, LeavesDesk}
-use Rattle.lrs_sheet.specs.Rows.{Begins, BreaksAfter, BreaksAtRow, DoesRow, DoesRows, DoesSome, EndsAfter, Gave, HasDone, IsPlain, IsReadFault, IsRowFault, NextDiffers, StopsAtRow}
+use Rattle.lrs_sheet.specs.Rows.{Begins, BreaksAfter, BreaksAtRow, DoesRow, DoesRows, DoesSome, EndsAfter, Gave, HasDone, IsPlain, IsReadFault, IsRowFault, NextDiffers, StopsAtRow, AnswersSome, IsWriteFault}
 
 -- one more record, answered
 pub Replied-more : (limits : Limits) (before middle after : State) (records : List (List (List ℕ))) (replies : List Reply) (fields : List (List ℕ)) (reply : Reply)
@@ -139,6 +139,18 @@ pub some-done : {K : Type 0} {holds : K → Result Image Table → Type 0} {R : 
 some-done rem rows now before after old new tally turns done =
     (done.records, done.replies, done.answered.eleven, done.answered.replied, begins rem rows now done.records done.gave)
 
+-- the turns so far are answered
+pub some-answered : {K : Type 0} {holds : K → Result Image Table → Type 0} {R : Type 0} (rem : R → Option (List ℕ)) (rows now : Reader R) (before after : DeskView K) (old new : Option (List ℕ)) (tally : Tally) (turns : ℕ)
+    → HasDone holds rem rows now before after old new tally turns → AnswersSome rem rows before.limits (state_of before.image) (state_of after.image) old new
+some-answered rem rows now before after old new tally turns done =
+    (done.records, done.replies, done.answered, begins rem rows now done.records done.gave)
+
+-- a record stopped the run, with no line and nothing done
+stop-answered : {K : Type 0} {holds : K → Result Image Table → Type 0} {R : Type 0} (rem : R → Option (List ℕ)) (rows now : Reader R) (before middle after : DeskView K) (old mid new : Option (List ℕ)) (tally : Tally) (turns : ℕ)
+    → HasDone holds rem rows now before middle old mid tally turns → (state_of after.image ≡ state_of middle.image) × (new ≡ mid)
+    → AnswersSome rem rows before.limits (state_of before.image) (state_of after.image) old new
+stop-answered rem rows now before middle after old mid new tally turns done (state, written) = rw (state, written) (some-answered rem rows now before middle old mid tally turns done)
+
 -- the next record has another length
 differs : {R : Type 0} (rem : R → Option (List ℕ)) (a b : Reader R) (records : List (List (List ℕ))) (wanted : ℕ) → Gave rem a b records → NextDiffers rem b [] wanted → NextDiffers rem a records wanted
 differs rem a b records wanted gave next = λ input before h.
@@ -148,8 +160,8 @@ differs rem a b records wanted gave next = λ input before h.
 -- a read failed
 pub stop-read : {K : Type 0} {holds : K → Result Image Table → Type 0} {R : Type 0} (rem : R → Option (List ℕ)) (rows now : Reader R) (before after : DeskView K) (old new : Option (List ℕ)) (tally : Tally) (turns : ℕ) (e : SheetFault)
     → HasDone holds rem rows now before after old new tally turns → IsReadFault rem now e → DoesRows rem rows before.limits (state_of before.image) (state_of after.image) old new (Err e)
-stop-read rem rows now before after old new tally turns fault.Read done why = some-done rem rows now before after old new tally turns done
-stop-read rem rows now before after old new tally turns fault.Memory done why = some-done rem rows now before after old new tally turns done
+stop-read rem rows now before after old new tally turns fault.Read done why = some-answered rem rows now before after old new tally turns done
+stop-read rem rows now before after old new tally turns fault.Memory done why = some-answered rem rows now before after old new tally turns done
 stop-read rem rows now before after old new tally turns fault.Write done why = absurd why
 stop-read rem rows now before after old new tally turns fault.BadHeader done why = absurd why
 stop-read rem rows now before after old new tally turns (fault.Desk m) done why = absurd why
@@ -178,14 +190,16 @@ stop-some rem rows now next before middle after old mid tally turns fields done 
 )
 
 pub stop-row : {K : Type 0} {holds : K → Result Image Table → Type 0} {R : Type 0} (rem : R → Option (List ℕ)) (rows now next : Reader R) (before middle after : DeskView K) (old mid new : Option (List ℕ)) (tally : Tally) (turns : ℕ) (fields : List (List ℕ)) (e : SheetFault)
-    → HasDone holds rem rows now before middle old mid tally turns → length fields ≡ 11 → Gave rem now next (fields ∷ []) → StopsAtRow middle.limits (state_of middle.image) fields (state_of after.image) → IsRowFault e
+    → HasDone holds rem rows now before middle old mid tally turns → length fields ≡ 11 → Gave rem now next (fields ∷ []) → StopsAtRow middle.limits (state_of middle.image) fields (state_of after.image) → IsRowFault e → IsWriteFault e ⊎ ((state_of after.image ≡ state_of middle.image) × (new ≡ mid))
     → DoesRows rem rows before.limits (state_of before.image) (state_of after.image) old new (Err e)
-stop-row rem rows now next before middle after old mid new tally turns fields fault.Write done eleven gave stops why = stop-some rem rows now next before middle after old mid tally turns fields done eleven gave stops
-stop-row rem rows now next before middle after old mid new tally turns fields fault.Memory done eleven gave stops why = stop-some rem rows now next before middle after old mid tally turns fields done eleven gave stops
-stop-row rem rows now next before middle after old mid new tally turns fields (fault.Desk m) done eleven gave stops why = stop-some rem rows now next before middle after old mid tally turns fields done eleven gave stops
-stop-row rem rows now next before middle after old mid new tally turns fields fault.Read done eleven gave stops why = absurd why
-stop-row rem rows now next before middle after old mid new tally turns fields fault.BadHeader done eleven gave stops why = absurd why
-stop-row rem rows now next before middle after old mid new tally turns fields fault.BadCsv done eleven gave stops why = absurd why
+stop-row rem rows now next before middle after old mid new tally turns fields fault.Write done eleven gave stops why silent = stop-some rem rows now next before middle after old mid tally turns fields done eleven gave stops
+stop-row rem rows now next before middle after old mid new tally turns fields fault.Memory done eleven gave stops why (inl is) = absurd is
+stop-row rem rows now next before middle after old mid new tally turns fields fault.Memory done eleven gave stops why (inr same) = stop-answered rem rows now before middle after old mid new tally turns done same
+stop-row rem rows now next before middle after old mid new tally turns fields (fault.Desk m) done eleven gave stops why (inl is) = absurd is
+stop-row rem rows now next before middle after old mid new tally turns fields (fault.Desk m) done eleven gave stops why (inr same) = stop-answered rem rows now before middle after old mid new tally turns done same
+stop-row rem rows now next before middle after old mid new tally turns fields fault.Read done eleven gave stops why silent = absurd why
+stop-row rem rows now next before middle after old mid new tally turns fields fault.BadHeader done eleven gave stops why silent = absurd why
+stop-row rem rows now next before middle after old mid new tally turns fields fault.BadCsv done eleven gave stops why silent = absurd why
 
 -- the commit of a record failed
 pub broke : {K : Type 0} {holds : K → Result Image Table → Type 0} {R : Type 0} (rem : R → Option (List ℕ)) (rows now next : Reader R) (before middle after : DeskView K) (old mid : Option (List ℕ)) (tally : Tally) (turns : ℕ) (fields : List (List ℕ))

@@ -73,6 +73,20 @@ abbrev pub DoesSome : {R : Type 0} → (R → Option Text) → Reader R → Limi
 DoesSome remaining reader limits before after =
     (records : List (List Text)) × (replies : List Reply) × HaveEleven records × Replied limits before records replies after × Begins remaining reader records
 
+-- some of the records that come next are done and answered
+abbrev pub AnswersSome : {R : Type 0} → (R → Option Text) → Reader R → Limits → State → State → Option Text → Option Text → Type 0
+AnswersSome remaining reader limits before after old new =
+    (records : List (List Text)) × (replies : List Reply) × AreAnswered limits before records replies after old new × Begins remaining reader records
+
+-- a fault of the writer
+abbrev pub IsWriteFault : SheetFault → Type 0
+IsWriteFault fault.Write = ⊤
+IsWriteFault (fault.Desk e) = ⊥
+IsWriteFault fault.Memory = ⊥
+IsWriteFault fault.Read = ⊥
+IsWriteFault fault.BadHeader = ⊥
+IsWriteFault fault.BadCsv = ⊥
+
 -- what doing the records under a header gives
 abbrev pub DoesRows : {R : Type 0} → (R → Option Text) → Reader R → Limits → State → State → Option Text → Option Text → Result Tally SheetFault → Type 0
 DoesRows remaining reader limits before after old new (Ok tally) =
@@ -82,10 +96,10 @@ DoesRows remaining reader limits before after old new (Err fault.BadCsv) =
     (records : List (List Text)) × (replies : List Reply) × AreAnswered limits before records replies after old new
     × NextDiffers remaining reader records 11
 DoesRows remaining reader limits before after old new (Err fault.BadHeader) = ⊥
-DoesRows remaining reader limits before after old new (Err fault.Read) = DoesSome remaining reader limits before after
+DoesRows remaining reader limits before after old new (Err fault.Read) = AnswersSome remaining reader limits before after old new
 DoesRows remaining reader limits before after old new (Err fault.Write) = DoesSome remaining reader limits before after
-DoesRows remaining reader limits before after old new (Err (fault.Desk e)) = DoesSome remaining reader limits before after
-DoesRows remaining reader limits before after old new (Err fault.Memory) = DoesSome remaining reader limits before after
+DoesRows remaining reader limits before after old new (Err (fault.Desk e)) = AnswersSome remaining reader limits before after old new
+DoesRows remaining reader limits before after old new (Err fault.Memory) = AnswersSome remaining reader limits before after old new
 
 -- the commit of a record failed: the desk's image stays, and what its keeper has stands for the state before it, or for the one after it
 abbrev pub BreaksAtRow : {K : Type 0} → (K → Result Image Table → Type 0) → DeskView K → List Text → DeskView K → Type 0

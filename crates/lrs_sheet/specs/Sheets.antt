@@ -79,15 +79,22 @@ HasDoneSome limits input before after =
     ⊎ ((header : List Text) × (records : List (List Text)) × (replies : List Reply) × IsEditHeader header × BeginsWith input (header ∷ records)
     × HaveEleven records × Replied limits before records replies after)
 
+-- Some records at the front of the sheet are done, and each has its line; nothing else is written.
+abbrev pub HasAnsweredSome : Limits → Text → State → State → Option Text → Option Text → Type 0
+HasAnsweredSome limits input before after old new =
+    ((after ≡ before) × (new ≡ old))
+    ⊎ ((header : List Text) × (records : List (List Text)) × (replies : List Reply) × IsEditHeader header × BeginsWith input (header ∷ records)
+    × AreAnswered limits before records replies after old new)
+
 -- What a run of an edit sheet gives.
 abbrev pub RunsEdits : Limits → Text → State → State → Option Text → Option Text → Result Tally SheetFault → Type 0
 RunsEdits limits input before after old new (Ok tally) = AnswersAll limits input before after old new tally
 RunsEdits limits input before after old new (Err fault.BadHeader) = HasBadHeader input before after old new
 RunsEdits limits input before after old new (Err fault.BadCsv) = HasBadRecord limits input before after old new
-RunsEdits limits input before after old new (Err fault.Read) = HasDoneSome limits input before after
+RunsEdits limits input before after old new (Err fault.Read) = HasAnsweredSome limits input before after old new
 RunsEdits limits input before after old new (Err fault.Write) = HasDoneSome limits input before after
-RunsEdits limits input before after old new (Err (fault.Desk e)) = HasDoneSome limits input before after
-RunsEdits limits input before after old new (Err fault.Memory) = HasDoneSome limits input before after
+RunsEdits limits input before after old new (Err (fault.Desk e)) = HasAnsweredSome limits input before after old new
+RunsEdits limits input before after old new (Err fault.Memory) = HasAnsweredSome limits input before after old new
 
 -- the desk goes along with its keeper
 pub record GoesAlong {K : Type 0} (holds : K → Result Image Table → Type 0) (old new : DeskView K) : Type 0 where
