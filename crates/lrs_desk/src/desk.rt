@@ -1,6 +1,6 @@
 //! The desk: it does commands, and keeps what they change.
 
-ghost use Rattle.std.specs.Prelude.{◌≡◌, ◌+◌, ◌≤◌, ◌↔◌, IsTrue, IfOk, IfErr, OnOk, OnErr, Ok, Err, Result, length, true, false, not, None, []};
+ghost use Rattle.std.specs.Prelude.{◌≡◌, ◌+◌, ◌≤◌, ◌↔◌, IsTrue, IfOk, IfErr, OnOk, OnErr, Ok, Err, Result, ℕ, take, length, true, false, not, None, []};
 ghost use Rattle.lrs_measure.specs.Lists.{each_two};
 ghost use Rattle.lrs_measure.specs.Texts.{same_name};
 ghost use Rattle.lrs_machine.specs.declared.table.Table.{Table};
@@ -314,7 +314,8 @@ fn commit_fault(fault: KeepFault) -> Fault
 }
 
 /// Does commands under keys, one after the other. The answers and the image are those of the ground
-/// machine over the list, unless a fault ends the run; a key that was accepted before acts no more.
+/// machine over the list; a key that was accepted before acts no more. A fault ends the run, and the image
+/// is then that of some first commands of the list.
 pub fn run<K: Keeper>(
     desk: &mut Desk<K>,
     records: &[(Key, Planned)],
@@ -322,6 +323,7 @@ pub fn run<K: Keeper>(
 ) -> Result<Vec<Answer>, Fault>
     ensures answers { IfOk result (λ given. given.items ≡ answers desk.old.limits (records_of records.now) (state_of desk.old.image)) }
     ensures image { OnOk result (state_of desk.new.image ≡ state_after desk.old.limits (records_of records.now) (state_of desk.old.image)) }
+    ensures front { (k : ℕ) × (state_of desk.new.image ≡ state_after desk.old.limits (records_of (take k records.now)) (state_of desk.old.image)) }
     ensures limits { desk.new.limits ≡ desk.old.limits }
     ensures reopen { OnOk result (desk.new.must_reopen ≡ desk.old.must_reopen) }
     ensures once { OnOk result (state_of desk.new.image ≡ state_after desk.old.limits (once desk.old.limits (records_of records.now) (state_of desk.old.image)) (state_of desk.old.image)) }

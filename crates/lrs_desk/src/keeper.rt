@@ -24,6 +24,9 @@ pub trait Keeper {
     // What an opening at this moment may find: a sound image, or the first unsound table.
     ghost may_hold: { Self → Result Image Table → Type 0 };
 
+    // Whether the device gives back what it was given: an opening then finds something.
+    ghost is_clean: { Self → Type 0 };
+
     /// Whether the last `load` answered Ok.
     ghost is_loaded: { Self → Bool };
 
@@ -38,6 +41,7 @@ pub trait Keeper {
         ensures unsound { (t : Table) → result ≡ Err (KeepFault.Unsound t) → (c : Result Image Table) → may_hold self.new c → c ≡ Err t }
         ensures store { result ≡ Err KeepFault.Store → HasRisen (failures self.old) (failures self.new) }
         ensures quiet { (result ≡ Err KeepFault.Store → ⊥) → failures self.new ≡ failures self.old }
+        ensures counts { failures self.old ≤ failures self.new }
         ensures content { (c : Result Image Table) → may_hold self.new c → may_hold self.old c };
 
     /// Makes a change, as a whole.
@@ -49,5 +53,12 @@ pub trait Keeper {
         ensures store { result ≡ Err KeepFault.Store → (c : Result Image Table) → may_hold self.new c → may_hold self.old c ⊎ IsChanged (may_hold self.old) change.now c }
         ensures cause { result ≡ Err KeepFault.Store → HasRisen (failures self.old) (failures self.new) }
         ensures only { (t : Table) → result ≡ Err (KeepFault.Unsound t) → ⊥ }
+        ensures counts { failures self.old ≤ failures self.new }
         ensures loaded { is_loaded self.new ≡ true };
+
+    // Where the device is clean something may be found, so a keeper cannot promise everything of nothing.
+    ghost finds: { (keeper : Self) → is_clean keeper → (c : Result Image Table) × may_hold keeper c };
+
+    // An image that may be found is sound.
+    ghost finds_sound: { (keeper : Self) (image : Image) → may_hold keeper (Ok image) → IsSound image };
 }
