@@ -22,7 +22,7 @@ pub returns-in_err-answer-clause-front : goal.returns-in_err-answer-clause-front
 returns-in_err-answer-clause-front g c =
     let err : Fault → Result Answer Fault = λ e. Err e in
     let same : c.act.new.self.image ≡ c.loop-key.desk.image =
-        by_fault c.in_err-answer.field-0.0 (λ h. (c.in_err-answer.ensures.memory (ap err h)).image) (λ h. (c.in_err-answer.ensures.keep (ap err h)).image) (λ h. (c.in_err-answer.ensures.stays (ap err h)).image) in
+    by_fault c.in_err-answer.field-0.0 (λ h. (c.in_err-answer.ensures.memory (ap err h)).image) (λ h. (c.in_err-answer.ensures.keep (ap err h)).image) (λ h. (c.in_err-answer.ensures.stays (ap err h)).image) in
     (c.loop-key.key-index, ap state_of same ∙ c.loop-key.invariant.done)
 
 pub returns-in_err-push-clause-front : goal.returns-in_err-push-clause-front

@@ -17,6 +17,5 @@ pub ground_of-requires : goal.ground_of-requires
 ground_of-requires g c =
     record { once = subst (λ (es : List RouteEntry). is_run_once (ground_of_routes es) ≡ true) (sym c.as_slice-2.ensures) (run_once c.in-Ok.image c.in-Ok.ensures.sound) }
 
-
 pub returns-in-Err-clause-unsound : goal.returns-in-Err-clause-unsound
 returns-in-Err-clause-unsound g c = λ t e d h. c.in-Err.ensures.unsound t (ap Err (c.open_fault.ensures.unsound t e)) d h
