@@ -23,7 +23,7 @@ use Rattle.lrs_sheet.specs.declared.fault.SheetFault.{SheetFault}
 use Rattle.lrs_sheet.specs.declared.fault.SheetFault.TheVariants as fault
 use Rattle.lrs_sheet.specs.Replies.{IsReplied, Replied, answer_count, counted, is_again, is_done, is_refused, lines_of, reply_text, tally_of}
 use Rattle.lrs_sheet.specs.Sheets.{GoesAlong, HaveEleven, max_records, LeavesDesk}
-use Rattle.lrs_sheet.specs.Rows.{Begins, BreaksAfter, BreaksAtRow, DoesRow, DoesRows, DoesSome, EndsAfter, Gave, HasDone, IsPlain, IsReadFault, IsRowFault, NextDiffers, StopsAtRow, AnswersSome, IsWriteFault}
+use Rattle.lrs_sheet.specs.Rows.{Begins, BreaksAfter, BreaksAtRow, DoesRow, DoesRows, DoesUpTo, EndsAfter, Gave, HasDone, IsPlain, IsReadFault, NextDiffers, Stops, StopsAtRow, AnswersSome}
 
 -- one more record, answered
 pub Replied-more : (limits : Limits) (before middle after : State) (records : List (List (List ℕ))) (replies : List Reply) (fields : List (List ℕ)) (reply : Reply)
@@ -133,23 +133,11 @@ begins rem a b records gave = λ input before h.
     let (rest, source, reached) = gave input before h in
     (b.state, rest, reached)
 
--- the turns so far are done
-pub some-done : {K : Type 0} {holds : K → Result Image Table → Type 0} {R : Type 0} (rem : R → Option (List ℕ)) (rows now : Reader R) (before after : DeskView K) (old new : Option (List ℕ)) (tally : Tally) (turns : ℕ)
-    → HasDone holds rem rows now before after old new tally turns → DoesSome rem rows before.limits (state_of before.image) (state_of after.image)
-some-done rem rows now before after old new tally turns done =
-    (done.records, done.replies, done.answered.eleven, done.answered.replied, begins rem rows now done.records done.gave)
-
 -- the turns so far are answered
 pub some-answered : {K : Type 0} {holds : K → Result Image Table → Type 0} {R : Type 0} (rem : R → Option (List ℕ)) (rows now : Reader R) (before after : DeskView K) (old new : Option (List ℕ)) (tally : Tally) (turns : ℕ)
     → HasDone holds rem rows now before after old new tally turns → AnswersSome rem rows before.limits (state_of before.image) (state_of after.image) old new
 some-answered rem rows now before after old new tally turns done =
     (done.records, done.replies, done.answered, begins rem rows now done.records done.gave)
-
--- a record stopped the run, with no line and nothing done
-stop-answered : {K : Type 0} {holds : K → Result Image Table → Type 0} {R : Type 0} (rem : R → Option (List ℕ)) (rows now : Reader R) (before middle after : DeskView K) (old mid new : Option (List ℕ)) (tally : Tally) (turns : ℕ)
-    → HasDone holds rem rows now before middle old mid tally turns → (state_of after.image ≡ state_of middle.image) × (new ≡ mid)
-    → AnswersSome rem rows before.limits (state_of before.image) (state_of after.image) old new
-stop-answered rem rows now before middle after old mid new tally turns done (state, written) = rw (state, written) (some-answered rem rows now before middle old mid tally turns done)
 
 -- the next record has another length
 differs : {R : Type 0} (rem : R → Option (List ℕ)) (a b : Reader R) (records : List (List (List ℕ))) (wanted : ℕ) → Gave rem a b records → NextDiffers rem b [] wanted → NextDiffers rem a records wanted
@@ -176,30 +164,43 @@ pub all-done : {K : Type 0} {holds : K → Result Image Table → Type 0} {R : T
 all-done rem rows now before after old new tally turns done ends few =
     (done.records, done.replies, done.answered, done.counts, λ input start h. rw (append-nil (start ++ done.records)) at (ends input (start ++ done.records) (done.gave input start h)), rw done.in_turn few)
 
--- a record stopped the run
-stop-some : {K : Type 0} {holds : K → Result Image Table → Type 0} {R : Type 0} (rem : R → Option (List ℕ)) (rows now next : Reader R) (before middle after : DeskView K) (old mid : Option (List ℕ)) (tally : Tally) (turns : ℕ) (fields : List (List ℕ))
-    → HasDone holds rem rows now before middle old mid tally turns → length fields ≡ 11 → Gave rem now next (fields ∷ []) → StopsAtRow middle.limits (state_of middle.image) fields (state_of after.image)
-    → DoesSome rem rows before.limits (state_of before.image) (state_of after.image)
-stop-some rem rows now next before middle after old mid tally turns fields done eleven gave (inl same) = rw same (some-done rem rows now before middle old mid tally turns done)
-stop-some rem rows now next before middle after old mid tally turns fields done eleven gave (inr (reply, replied)) = (
-  done.records ++ fields ∷ [],
+-- a record was not done
+stop-before : {K : Type 0} {holds : K → Result Image Table → Type 0} {R : Type 0} (rem : R → Option (List ℕ)) (rows now next : Reader R) (before middle after : DeskView K) (old mid new : Option (List ℕ)) (tally : Tally) (turns : ℕ) (fields : List (List ℕ))
+    → HasDone holds rem rows now before middle old mid tally turns → length fields ≡ 11 → Gave rem now next (fields ∷ []) → (state_of after.image ≡ state_of middle.image) × (new ≡ mid)
+    → Stops rem rows before.limits (state_of before.image) (state_of after.image) old new
+stop-before rem rows now next before middle after old mid new tally turns fields done eleven gave (state, written) =
+    rw (state, written) (
+      done.records,
+      fields,
+      done.replies,
+      eleven,
+      done.answered,
+      begins rem rows next (done.records ++ fields ∷ []) (gave-more rem rows now next done.records (fields ∷ []) done.gave gave),
+    )
+
+-- a record was done, and its line not written whole
+stop-after : {K : Type 0} {holds : K → Result Image Table → Type 0} {R : Type 0} (rem : R → Option (List ℕ)) (rows now next : Reader R) (before middle after : DeskView K) (old mid new : Option (List ℕ)) (tally : Tally) (turns : ℕ) (fields : List (List ℕ))
+    → HasDone holds rem rows now before middle old mid tally turns → length fields ≡ 11 → Gave rem now next (fields ∷ []) → (reply : Reply) × IsReplied middle.limits (state_of middle.image) fields reply (state_of after.image)
+    → DoesUpTo rem rows before.limits (state_of before.image) (state_of after.image)
+stop-after rem rows now next before middle after old mid new tally turns fields done eleven gave (reply, replied) = (
+  done.records,
+  fields,
   done.replies ++ reply ∷ [],
   eleven-more done.records fields done.answered.eleven eleven,
   Replied-more before.limits (state_of before.image) (state_of middle.image) (state_of after.image) done.records done.replies fields reply done.answered.replied (rw done.desk.limits at replied),
   begins rem rows next (done.records ++ fields ∷ []) (gave-more rem rows now next done.records (fields ∷ []) done.gave gave),
 )
 
+-- a record stopped the run
 pub stop-row : {K : Type 0} {holds : K → Result Image Table → Type 0} {R : Type 0} (rem : R → Option (List ℕ)) (rows now next : Reader R) (before middle after : DeskView K) (old mid new : Option (List ℕ)) (tally : Tally) (turns : ℕ) (fields : List (List ℕ)) (e : SheetFault)
-    → HasDone holds rem rows now before middle old mid tally turns → length fields ≡ 11 → Gave rem now next (fields ∷ []) → StopsAtRow middle.limits (state_of middle.image) fields (state_of after.image) → IsRowFault e → IsWriteFault e ⊎ ((state_of after.image ≡ state_of middle.image) × (new ≡ mid))
+    → HasDone holds rem rows now before middle old mid tally turns → length fields ≡ 11 → Gave rem now next (fields ∷ []) → StopsAtRow middle.limits (state_of middle.image) fields (state_of after.image) mid new e
     → DoesRows rem rows before.limits (state_of before.image) (state_of after.image) old new (Err e)
-stop-row rem rows now next before middle after old mid new tally turns fields fault.Write done eleven gave stops why silent = stop-some rem rows now next before middle after old mid tally turns fields done eleven gave stops
-stop-row rem rows now next before middle after old mid new tally turns fields fault.Memory done eleven gave stops why (inl is) = absurd is
-stop-row rem rows now next before middle after old mid new tally turns fields fault.Memory done eleven gave stops why (inr same) = stop-answered rem rows now before middle after old mid new tally turns done same
-stop-row rem rows now next before middle after old mid new tally turns fields (fault.Desk m) done eleven gave stops why (inl is) = absurd is
-stop-row rem rows now next before middle after old mid new tally turns fields (fault.Desk m) done eleven gave stops why (inr same) = stop-answered rem rows now before middle after old mid new tally turns done same
-stop-row rem rows now next before middle after old mid new tally turns fields fault.Read done eleven gave stops why silent = absurd why
-stop-row rem rows now next before middle after old mid new tally turns fields fault.BadHeader done eleven gave stops why silent = absurd why
-stop-row rem rows now next before middle after old mid new tally turns fields fault.BadCsv done eleven gave stops why silent = absurd why
+stop-row rem rows now next before middle after old mid new tally turns fields fault.Write done eleven gave stops = stop-after rem rows now next before middle after old mid new tally turns fields done eleven gave stops
+stop-row rem rows now next before middle after old mid new tally turns fields fault.Memory done eleven gave (state, written) = rw (state, written) (some-answered rem rows now before middle old mid tally turns done)
+stop-row rem rows now next before middle after old mid new tally turns fields (fault.Desk m) done eleven gave stops = stop-before rem rows now next before middle after old mid new tally turns fields done eleven gave stops
+stop-row rem rows now next before middle after old mid new tally turns fields fault.Read done eleven gave stops = absurd stops
+stop-row rem rows now next before middle after old mid new tally turns fields fault.BadHeader done eleven gave stops = absurd stops
+stop-row rem rows now next before middle after old mid new tally turns fields fault.BadCsv done eleven gave stops = absurd stops
 
 -- the commit of a record failed
 pub broke : {K : Type 0} {holds : K → Result Image Table → Type 0} {R : Type 0} (rem : R → Option (List ℕ)) (rows now next : Reader R) (before middle after : DeskView K) (old mid : Option (List ℕ)) (tally : Tally) (turns : ℕ) (fields : List (List ℕ))

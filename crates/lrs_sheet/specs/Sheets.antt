@@ -72,13 +72,6 @@ HasBadRecord limits input before after old new =
     (header : List Text) × (records : List (List Text)) × (fields : List Text) × (replies : List Reply) × IsEditHeader header
     × BeginsWith input ((header ∷ records) ++ fields ∷ []) × (length fields ≡ 11 → ⊥) × AreAnswered limits before records replies after old new
 
--- Some records at the front of the sheet are done.
-abbrev pub HasDoneSome : Limits → Text → State → State → Type 0
-HasDoneSome limits input before after =
-    (after ≡ before)
-    ⊎ ((header : List Text) × (records : List (List Text)) × (replies : List Reply) × IsEditHeader header × BeginsWith input (header ∷ records)
-    × HaveEleven records × Replied limits before records replies after)
-
 -- Some records at the front of the sheet are done, and each has its line; nothing else is written.
 abbrev pub HasAnsweredSome : Limits → Text → State → State → Option Text → Option Text → Type 0
 HasAnsweredSome limits input before after old new =
@@ -86,14 +79,26 @@ HasAnsweredSome limits input before after old new =
     ⊎ ((header : List Text) × (records : List (List Text)) × (replies : List Reply) × IsEditHeader header × BeginsWith input (header ∷ records)
     × AreAnswered limits before records replies after old new)
 
+-- Some records at the front of the sheet are done, and each has its line; a further one of the right length is not done.
+abbrev pub HasStopped : Limits → Text → State → State → Option Text → Option Text → Type 0
+HasStopped limits input before after old new =
+    (header : List Text) × (records : List (List Text)) × (fields : List Text) × (replies : List Reply) × IsEditHeader header
+    × BeginsWith input ((header ∷ records) ++ fields ∷ []) × (length fields ≡ 11) × AreAnswered limits before records replies after old new
+
+-- Some records at the front of the sheet are done, one at least; the line of the last was not written whole.
+abbrev pub HasDoneUpTo : Limits → Text → State → State → Type 0
+HasDoneUpTo limits input before after =
+    (header : List Text) × (records : List (List Text)) × (fields : List Text) × (replies : List Reply) × IsEditHeader header
+    × BeginsWith input (header ∷ (records ++ fields ∷ [])) × HaveEleven (records ++ fields ∷ []) × Replied limits before (records ++ fields ∷ []) replies after
+
 -- What a run of an edit sheet gives.
 abbrev pub RunsEdits : Limits → Text → State → State → Option Text → Option Text → Result Tally SheetFault → Type 0
 RunsEdits limits input before after old new (Ok tally) = AnswersAll limits input before after old new tally
 RunsEdits limits input before after old new (Err fault.BadHeader) = HasBadHeader input before after old new
 RunsEdits limits input before after old new (Err fault.BadCsv) = HasBadRecord limits input before after old new
 RunsEdits limits input before after old new (Err fault.Read) = HasAnsweredSome limits input before after old new
-RunsEdits limits input before after old new (Err fault.Write) = HasDoneSome limits input before after
-RunsEdits limits input before after old new (Err (fault.Desk e)) = HasAnsweredSome limits input before after old new
+RunsEdits limits input before after old new (Err fault.Write) = HasDoneUpTo limits input before after
+RunsEdits limits input before after old new (Err (fault.Desk e)) = HasStopped limits input before after old new
 RunsEdits limits input before after old new (Err fault.Memory) = HasAnsweredSome limits input before after old new
 
 -- the desk goes along with its keeper

@@ -11,7 +11,7 @@ ghost use Rattle.lrs_machine.specs.Machine.{step};
 ghost use Rattle.lrs_desk.specs.Desk.{HasBroken};
 ghost use Rattle.lrs_sheet.specs.Replies.{IsAnswered, IsReplied, answer_count, reply_text};
 ghost use Rattle.lrs_sheet.specs.Sheets.{RunsEdits, LeavesDesk, HasBrokenOff};
-ghost use Rattle.lrs_sheet.specs.Rows.{IsPlain, DoesRows, IsRowFault, IsWriteFault, DoesRow, StopsAtRow, BreaksAtRow, BreaksAfter};
+ghost use Rattle.lrs_sheet.specs.Rows.{IsPlain, DoesRows, IsRowFault, DoesRow, StopsAtRow, BreaksAtRow, BreaksAfter};
 
 use crate::fault::{ReadFault, SheetFault};
 use crate::header::is_edit_header;
@@ -105,11 +105,9 @@ fn do_row<W: Write, K: Keeper>(
     requires width { length (fields_of row.now) ≤ 11 }
     requires room { answer_count tally.old < 2 ^ 32 }
     ensures done { OnOk result (DoesRow desk.old.limits (state_of desk.old.image) (fields_of row.now) (state_of desk.new.image) (W.contents writer.old) (W.contents writer.new) tally.old tally.new) }
-    ensures unanswered { IfErr result (λ e. IsWriteFault e ⊎ ((state_of desk.new.image ≡ state_of desk.old.image) × (W.contents writer.new ≡ W.contents writer.old))) }
-    ensures stops { OnErr result (StopsAtRow desk.old.limits (state_of desk.old.image) (fields_of row.now) (state_of desk.new.image)) }
+    ensures stops { IfErr result (StopsAtRow desk.old.limits (state_of desk.old.image) (fields_of row.now) (state_of desk.new.image) (W.contents writer.old) (W.contents writer.new)) }
     ensures desk { LeavesDesk K.may_hold desk.old desk.new result }
     ensures broken { result ≡ Err (SheetFault.Desk Fault.Keep) → BreaksAtRow K.may_hold desk.old (fields_of row.now) desk.new }
-    ensures faults { IfErr result IsRowFault }
 {
     let reply = reply_to(alloc, row, desk)?;
     let answer = reply.answer;
