@@ -23,7 +23,7 @@ use Rattle.lrs_sheet.specs.declared.fault.SheetFault.{SheetFault}
 use Rattle.lrs_sheet.specs.declared.fault.SheetFault.TheVariants as fault
 use Rattle.lrs_sheet.specs.Replies.{IsReplied, Replied, answer_count, counted, is_again, is_done, is_refused, lines_of, reply_text, tally_of}
 use Rattle.lrs_sheet.specs.Sheets.{GoesAlong, HaveEleven, max_records, LeavesDesk}
-use Rattle.lrs_sheet.specs.Rows.{Begins, BreaksAfter, BreaksAtRow, DoesRow, DoesRows, DoesUpTo, EndsAfter, Gave, HasDone, IsPlain, IsReadFault, IsRowFault, NextDiffers, Stops, StopsAtRow, AnswersSome}
+use Rattle.lrs_sheet.specs.Rows.{Begins, BreaksAfter, BreaksAtRow, DoesRow, DoesRows, DoesUpTo, EndsAfter, Gave, HasDone, IsPlain, IsReadFault, NextDiffers, Stops, StopsAtRow, AnswersSome}
 
 -- one more record, answered
 pub Replied-more : (limits : Limits) (before middle after : State) (records : List (List (List ℕ))) (replies : List Reply) (fields : List (List ℕ)) (reply : Reply)
@@ -201,15 +201,6 @@ stop-row rem rows now next before middle after old mid new tally turns fields (f
 stop-row rem rows now next before middle after old mid new tally turns fields fault.Read done eleven gave stops = absurd stops
 stop-row rem rows now next before middle after old mid new tally turns fields fault.BadHeader done eleven gave stops = absurd stops
 stop-row rem rows now next before middle after old mid new tally turns fields fault.BadCsv done eleven gave stops = absurd stops
-
--- a fault before the line of a record
-pub stops-quietly : (limits : Limits) (before after : State) (fields : List (List ℕ)) (old new : Option (List ℕ)) (e : SheetFault) → IsRowFault e → after ≡ before → new ≡ old → StopsAtRow limits before fields after old new e
-stops-quietly limits before after fields old new (fault.Desk m) why state written = (state, written)
-stops-quietly limits before after fields old new fault.Memory why state written = (state, written)
-stops-quietly limits before after fields old new fault.Write why state written = absurd why
-stops-quietly limits before after fields old new fault.Read why state written = absurd why
-stops-quietly limits before after fields old new fault.BadHeader why state written = absurd why
-stops-quietly limits before after fields old new fault.BadCsv why state written = absurd why
 
 -- the commit of a record failed
 pub broke : {K : Type 0} {holds : K → Result Image Table → Type 0} {R : Type 0} (rem : R → Option (List ℕ)) (rows now next : Reader R) (before middle after : DeskView K) (old mid : Option (List ℕ)) (tally : Tally) (turns : ℕ) (fields : List (List ℕ))
