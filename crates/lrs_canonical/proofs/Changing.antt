@@ -1,97 +1,128 @@
--- Rows that go and rows that come.
-use Rattle.std.proofs.Common.{◌≡◌, ℕ, ◌≤◌, true, ◌⊎◌, inl, inr, List, [], ◌∷◌, ◌++◌, take, drop, refl, sym, ap, subst, ◌∙◌, arith}
-use Rattle.std.specs.Prelude.{slice_range}
-use Rattle.std.specs.List.{splice}
+-- What a change makes of rows.
+use Rattle.std.proofs.Common.{◌≡◌, Bool, true, false, cond, ◌⊎◌, inl, inr, List, [], ◌∷◌, refl, sym, ◌∙◌, arith}
+use Rattle.std.proofs.lemmas.Bool.{and_parts, cases_Bool}
+use Rattle.std.specs.Prelude.{◌||◌, ◌&&◌, not}
+use Rattle.std.specs.List.{list_any, list_all}
+use Rattle.lrs_measure.specs.Lists.{each_two}
+use Rattle.lrs_measure.specs.Ordered.{insert_by, insert_all}
 use Rattle.lrs_events.specs.declared.span.Span.{Span}
-use Rattle.lrs_events.specs.Spans.{are_rows, is_row}
-use Rattle.lrs_canonical.specs.Members.{leaves_free, is_free, IsMore}
-use Rattle.lrs_canonical.specs.Order.{In, IsStart, IsEnd, grown}
-use Rattle.lrs_canonical.specs.Changes.{IsChange}
-use Rattle.lrs_canonical.proofs.Members.{all_at, In-append_left, In-append_right, In-append_cases}
-use Rattle.lrs_canonical.proofs.Rows.{IsFull, IsAhead, AreRows, full_from, rows_from, pairs_rear, pairs_across}
-use Rattle.lrs_canonical.proofs.Places.{IsFree, free_from}
-use Rattle.lrs_canonical.proofs.Removing.{left_itself, in_three}
-use Rattle.lrs_canonical.proofs.Adding.{begins, ends}
-use Rattle.lrs_canonical.proofs.Places.{has_come}
-use Rattle.lrs_canonical.specs.Order.{IsPlace}
-use Rattle.lrs_canonical.proofs.Members.{In-take, In-drop}
+use Rattle.lrs_events.specs.Spans.{are_rows, is_row, span_before, are_apart}
+use Rattle.lrs_events.specs.Changes.{changed, same_row, has_row, without_rows}
+use Rattle.lrs_canonical.specs.Order.{In}
+use Rattle.lrs_canonical.specs.Changes.{IsChange, missing}
+use Rattle.lrs_canonical.proofs.Unique.{less_one}
+use Rattle.lrs_canonical.proofs.Rows.{BeginsFirst, begins_class, begins_asset, begins_start, begins_first, first_begins}
+use Rattle.lrs_canonical.proofs.Places.{begins_trans}
+use Rattle.lrs_canonical.proofs.Sorted.{IsStrict, each_two-filter, one_list, put_all}
+use Rattle.lrs_canonical.proofs.Differing.{one_row, has_found, has_in, in_missing, missing_in, differ}
 
-not_ahead : (r : Span) → IsFull r → IsAhead r r → ⊥
-not_ahead r f a = left_itself r f.some a.left
+begins_itself : (r : Span) → BeginsFirst r r → ⊥
+begins_itself r (begins_class h) = less_one r.class r.class h refl
+begins_itself r (begins_asset c h) = omega (arith, h)
+begins_itself r (begins_start c a h) = omega (arith, h)
 
--- rows that stand in the place of others
-pub changed : (front gone come rear : List Span) → AreRows (front ++ (gone ++ rear)) → ((r : Span) → In r come → In r (front ++ (gone ++ rear)) → ⊥) → IsChange (front ++ (gone ++ rear)) gone come (front ++ (come ++ rear))
-changed front gone come rear h fresh = record {
-  rows = λ r. (λ m. to r (In-append_cases r front (come ++ rear) m), λ m. from r m);
-  were = λ r m. In-append_right r front (gone ++ rear) (In-append_left r gone rear m);
-  fresh = fresh;
+pub spans_strict : IsStrict span_before
+spans_strict = record {
+  never_both = λ x y h k. begins_itself x (begins_trans x y x (begins_first x y h) (begins_first y x k));
+  through = λ x y z h k. first_begins x z (begins_trans x y z (begins_first x y h) (begins_first y z k));
 }
+
+pub rows_sorted : (rows : List Span) → are_rows rows ≡ true → each_two span_before rows ≡ true
+rows_sorted rows h = (and_parts (list_all is_row rows) (each_two span_before rows) (and_parts (list_all is_row rows && each_two span_before rows) (each_two are_apart rows) h).0).1
+
+-- where rows differ by what goes and what comes, the change makes the ones of the others
+pub changed_is : (old gone come new : List Span) → are_rows old ≡ true → are_rows new ≡ true → each_two span_before come ≡ true → IsChange old gone come new → changed span_before gone come old ≡ new
+changed_is old gone come new h k s c =
+    let put = put_all span_before spans_strict new come (without_rows gone old) (rows_sorted new k) s (each_two-filter span_before _ old (rows_sorted old h))
+    (λ r m. (c.rows r).1 (inr m)) (λ r m. let q = in_missing gone old r m in (c.rows r).1 (inl q)) (λ r m n. c.fresh r m (in_missing gone old r n).0) in
+    one_list span_before spans_strict (changed span_before gone come old) new put.in_order (rows_sorted new k) (λ r m. (c.rows r).1 (back r (put.from r m))) (λ r m. put.to r (forth r ((c.rows r).0 m)))
   where
-    two : (r : Span) → In r come ⊎ In r rear → (In r (front ++ (gone ++ rear)) × (In r gone → ⊥)) ⊎ In r come
-    two r (inl m) = inr m
-    two r (inr m) = let o = In-append_right r front (gone ++ rear) (In-append_right r gone rear m) in inl (o, λ n. not_ahead r (h.full r o) (pairs_across gone rear r r (pairs_rear front (gone ++ rear) h.pairs) n m))
+    back : (r : Span) → In r come ⊎ In r (without_rows gone old) → (In r old × (In r gone → ⊥)) ⊎ In r come
+    back r (inl m) = inr m
+    back r (inr m) = inl (in_missing gone old r m)
 
-    to : (r : Span) → In r front ⊎ In r (come ++ rear) → (In r (front ++ (gone ++ rear)) × (In r gone → ⊥)) ⊎ In r come
-    to r (inl m) = let o = In-append_left r front (gone ++ rear) m in inl (o, λ n. not_ahead r (h.full r o) (pairs_across front (gone ++ rear) r r h.pairs m (In-append_left r gone rear n)))
-    to r (inr m) = two r (In-append_cases r come rear m)
+    forth : (r : Span) → (In r old × (In r gone → ⊥)) ⊎ In r come → In r come ⊎ In r (without_rows gone old)
+    forth r (inl m) = inr (missing_in gone old r m.0 m.1)
+    forth r (inr m) = inl m
 
-    back : (r : Span) → (In r gone → ⊥) → In r gone ⊎ In r rear → In r (front ++ (come ++ rear))
-    back r n (inl m) = absurd (n m)
-    back r n (inr m) = In-append_right r front (come ++ rear) (In-append_right r come rear m)
+-- the difference of rows makes the ones of the others
+pub differ_makes : (old new gone come : List Span) → are_rows old ≡ true → are_rows new ≡ true → gone ≡ missing new old → come ≡ missing old new → changed span_before gone come old ≡ new
+differ_makes old new gone come h k g c =
+    (λ i. changed span_before (g i) (c i) old)
+    ∙ changed_is old (missing new old) (missing old new) new h k (each_two-filter span_before _ new (rows_sorted new k)) (differ old new)
 
-    front_or : (r : Span) → (In r gone → ⊥) → In r front ⊎ In r (gone ++ rear) → In r (front ++ (come ++ rear))
-    front_or r n (inl m) = In-append_left r front (come ++ rear) m
-    front_or r n (inr m) = back r n (In-append_cases r gone rear m)
+-- ---- the same as tests
 
-    from : (r : Span) → (In r (front ++ (gone ++ rear)) × (In r gone → ⊥)) ⊎ In r come → In r (front ++ (come ++ rear))
-    from r (inl m) = front_or r m.1 (In-append_cases r front (gone ++ rear) m.0)
-    from r (inr m) = In-append_right r front (come ++ rear) (In-append_left r come rear m)
-
-pub spliced : (rows come : List Span) (start end : ℕ) → start ≤ end → are_rows rows ≡ true → ((r : Span) → In r come → In r rows → ⊥) → IsChange rows (slice_range rows start end) come (splice rows start end come)
-spliced rows come start end o h fresh =
-    let w = in_three rows start end o in
-    subst (λ (z : List Span). IsChange z (slice_range rows start end) come (splice rows start end come)) (sym w)
-    (changed (take start rows) (slice_range rows start end) come (drop end rows) (subst AreRows w (rows_from rows h)) (λ r m n. fresh r m (subst (In r) (sym w) n)))
-
--- a row over what is free is none of the rows
-pub over_free : (rows : List Span) (span : Span) (from to : ℕ) → is_row span ≡ true → is_free rows span ≡ true → from ≤ span.from → span.to ≤ to → (r : Span) → In r (grown span from to ∷ []) → In r rows → ⊥
-over_free rows span from to h f low high r (inl e) m = by (free.off (ap (λ z. z.asset) e))
+pub any_insert : {X : Type 0} (p : X → Bool) (before : X → X → Bool) (x : X) (ys : List X) → list_any p (insert_by before x ys) ≡ (p x || list_any p ys)
+any_insert p before x [] = refl
+any_insert p before x (y ∷ ys) = by (before x y) (any_insert p before x ys)
   where
-    free : IsFree span r
-    free = free_from span r (all_at (leaves_free span) r rows f m)
+    turned : (a b c : Bool) → (a || (b || c)) ≡ (b || (a || c))
+    turned true true c = refl
+    turned true false c = refl
+    turned false b c = refl
 
-    by : (r.to ≤ span.from) ⊎ (span.to ≤ r.from) → ⊥
-    by (inl k) = let t : r.to ≡ to = ap (λ z. z.to) e in let s = (full_from span h).some in omega (arith, k, t, s, high)
-    by (inr k) = let t : r.from ≡ from = ap (λ z. z.from) e in let s = (full_from span h).some in omega (arith, k, t, s, low)
-over_free rows span from to h f low high r (inr e) m = absurd e
+    by : (b : Bool) → list_any p (insert_by before x ys) ≡ (p x || list_any p ys) → list_any p (cond b (x ∷ y ∷ ys) (y ∷ insert_by before x ys)) ≡ (p x || (p y || list_any p ys))
+    by true e = refl
+    by false e = (λ i. p y || e i) ∙ turned (p y) (p x) (list_any p ys)
 
-starts_low : (rows : List Span) (at : ℕ) (span : Span) (start from : ℕ) → are_rows rows ≡ true → IsStart rows at span start from → from ≤ span.from
-starts_low rows at span start from h s = begins (take start rows) s.gone span from (λ r m. (rows_from rows h).full r (In-take r at rows (subst (In r) (sym s.parts) m))) s.after
-
-ends_high : (rows : List Span) (at : ℕ) (span : Span) (end to : ℕ) → are_rows rows ≡ true → is_row span ≡ true → IsEnd rows at span end to → span.to ≤ to
-ends_high rows at span end to h f s = (ends (drop end rows) s.gone span to (full_from span f) (λ r m. (rows_from rows h).full r (In-drop r at rows (subst (In r) (sym s.parts) m))) s.before).0
-
--- the row stands in its place, and what changed
-pub record HasChanged (rows : List Span) (span : Span) (gone come new : List Span) : Type 0 where
-  pub kept : are_rows new ≡ true
-  pub more : IsMore rows span new
-  pub change : IsChange rows gone come new
-
-pub has_changed : (now rows r1 r2 r3 : List Span) (at : ℕ) (span : Span) (start from end to : ℕ) (gone come new : List Span) → rows ≡ now → r1 ≡ rows → r2 ≡ rows → r3 ≡ rows
-    → are_rows rows ≡ true → is_row span ≡ true → is_free now span ≡ true → IsPlace r1 at span → IsStart r2 at span start from → IsEnd r3 at span end to
-    → gone ≡ slice_range rows start end → come ≡ grown span from to ∷ [] → new ≡ splice rows start end come → HasChanged now span gone come new
-has_changed now rows r1 r2 r3 at span start from end to gone come new v e1 e2 e3 h f free p s e g k n =
-    subst (λ (z : List Span). HasChanged z span gone come new) v (by (subst (λ (z : List Span). is_free z span ≡ true) (sym v) free) (subst (λ (z : List Span). IsStart z at span start from) e2 s) (subst (λ (z : List Span). IsEnd z at span end to) e3 e))
+pub any_insert_all : {X : Type 0} (p : X → Bool) (before : X → X → Bool) (xs ys : List X) → list_any p (insert_all before xs ys) ≡ (list_any p ys || list_any p xs)
+any_insert_all p before [] ys = sym (or_nothing (list_any p ys))
   where
-    by : is_free rows span ≡ true → IsStart rows at span start from → IsEnd rows at span end to → HasChanged rows span gone come new
-    by free s e =
-        let c = has_come rows r1 rows rows at span start from end to e1 refl refl h f free p s e in
-        let same : new ≡ splice rows start end (grown span from to ∷ []) = n ∙ ap (splice rows start end) k in
-        let a = s.low in let b = e.high in
-        record {
-          kept = (λ i. are_rows (same i)) ∙ c.kept;
-          more = subst (IsMore rows span) (sym same) c.more;
-          change = subst (λ (z : List Span). IsChange rows gone come z) (sym n)
-              (subst (λ (z : List Span). IsChange rows z come (splice rows start end come)) (sym g)
-              (spliced rows come start end (omega (arith, a, b)) h (λ r m. over_free rows span from to f free (starts_low rows at span start from h s) (ends_high rows at span end to h f e) r (subst (In r) k m))));
-        }
+    or_nothing : (b : Bool) → (b || false) ≡ b
+    or_nothing true = refl
+    or_nothing false = refl
+any_insert_all p before (x ∷ xs) ys = any_insert_all p before xs (insert_by before x ys) ∙ (λ i. any_insert p before x ys i || list_any p xs) ∙ turned (p x) (list_any p ys) (list_any p xs)
+  where
+    turned : (a b c : Bool) → ((a || b) || c) ≡ (b || (a || c))
+    turned true true c = refl
+    turned true false c = refl
+    turned false b c = refl
+
+-- whatever the change: a row is there afterwards where it was and does not go, or where it comes
+pub changed_has : (before : Span → Span → Bool) (gone come rows : List Span) (r : Span) → has_row (changed before gone come rows) r ≡ ((has_row rows r && not (has_row gone r)) || has_row come r)
+changed_has before gone come rows r = any_insert_all (λ s. same_row s r) before come (without_rows gone rows) ∙ (λ i. without_has rows i || has_row come r)
+  where
+    with_head : (b a t : Bool) → ((b && t) || (a && t)) ≡ ((b || a) && t)
+    with_head true a true = refl
+    with_head true true false = refl
+    with_head true false false = refl
+    with_head false a t = refl
+
+    one : (s : Span) → (b : Bool) → b ≡ same_row s r → (b && not (has_row gone s)) ≡ (b && not (has_row gone r))
+    one s true e = λ i. not (has_row gone (one_row s r (sym e) i))
+    one s false e = refl
+
+    put : (b t u : Bool) → (b ≡ true → t ≡ u) → (b && t) ≡ (b && u)
+    put true t u h = h refl
+    put false t u h = refl
+
+    head : (s : Span) (ss : List Span) (g : Bool) → g ≡ has_row gone s → list_any (λ q. same_row q r) (cond (not g) (s ∷ without_rows gone ss) (without_rows gone ss)) ≡ ((same_row s r && not g) || has_row (without_rows gone ss) r)
+    head s ss true e = sym (λ i. nothing (same_row s r) i || has_row (without_rows gone ss) r)
+      where
+        nothing : (b : Bool) → (b && false) ≡ false
+        nothing true = refl
+        nothing false = refl
+    head s ss false e = λ i. sym (all (same_row s r)) i || has_row (without_rows gone ss) r
+      where
+        all : (b : Bool) → (b && true) ≡ b
+        all true = refl
+        all false = refl
+
+    without_has : (ss : List Span) → has_row (without_rows gone ss) r ≡ (has_row ss r && not (has_row gone r))
+    without_has [] = refl
+    without_has (s ∷ ss) =
+        head s ss (has_row gone s) refl
+        ∙ (λ i. one s (same_row s r) refl i || without_has ss i)
+        ∙ with_head (same_row s r) (has_row ss r) (not (has_row gone r))
+
+-- what goes was there, and what comes was not
+pub gone_were : (old gone come new : List Span) → IsChange old gone come new → (r : Span) → has_row gone r ≡ true → has_row old r ≡ true
+gone_were old gone come new c r h = has_in old r (c.were r (has_found gone r h))
+
+pub come_fresh : (old gone come new : List Span) → IsChange old gone come new → (r : Span) → has_row come r ≡ true → has_row old r ≡ false
+come_fresh old gone come new c r h = by (cases_Bool (has_row old r))
+  where
+    by : (has_row old r ≡ true) ⊎ (has_row old r ≡ false) → has_row old r ≡ false
+    by (inl e) = absurd (c.fresh r (has_found come r h) (has_found old r e))
+    by (inr e) = e

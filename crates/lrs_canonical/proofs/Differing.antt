@@ -89,7 +89,7 @@ module _ (rows : List Span) (row : Span) (at : ℕ) (h : are_rows rows ≡ true)
 
 -- ---- the difference
 
-in_missing : (others rows : List Span) (r : Span) → In r (missing others rows) → In r rows × (In r others → ⊥)
+pub in_missing : (others rows : List Span) (r : Span) → In r (missing others rows) → In r rows × (In r others → ⊥)
 in_missing others [] r m = absurd m
 in_missing others (x ∷ xs) r m = by (has_row others x) refl m (in_missing others xs r)
   where
@@ -98,7 +98,7 @@ in_missing others (x ∷ xs) r m = by (has_row others x) refl m (in_missing othe
     by false e (inl q) later = (inl q, λ n. both_ways (has_row others x) (sym e) (has_in others x (subst (λ z. In z others) q n)))
     by false e (inr n) later = let k = later n in (inr k.0, k.1)
 
-missing_in : (others rows : List Span) (r : Span) → In r rows → (In r others → ⊥) → In r (missing others rows)
+pub missing_in : (others rows : List Span) (r : Span) → In r rows → (In r others → ⊥) → In r (missing others rows)
 missing_in others [] r m n = absurd m
 missing_in others (x ∷ xs) r m n = by (has_row others x) refl m (λ k. missing_in others xs r k n)
   where
@@ -127,8 +127,5 @@ differ old new = record {
     from r (inl c) = kept r c.0 c.1 (cases_Bool (has_row new r))
     from r (inr c) = (in_missing old new r c).0
 
-pub differ_at : (old new o1 o2 n1 n2 gone come o n : List Span) → n1 ≡ n → o1 ≡ o → o2 ≡ o → n2 ≡ n → o ≡ old → n ≡ new → gone ≡ missing n1 o1 → come ≡ missing o2 n2 → IsChange old gone come new
-differ_at old new o1 o2 n1 n2 gone come o n a b c d e f g k =
-    let x : gone ≡ missing new old = g ∙ (λ i. missing (a i) (b i)) ∙ (λ i. missing (f i) (e i)) in
-    let y : come ≡ missing old new = k ∙ (λ i. missing (c i) (d i)) ∙ (λ i. missing (e i) (f i)) in
-    subst (λ (z : List Span). IsChange old z come new) (sym x) (subst (λ (z : List Span). IsChange old (missing new old) z new) (sym y) (differ old new))
+pub differ_at : (old new gone come : List Span) → gone ≡ missing new old → come ≡ missing old new → IsChange old gone come new
+differ_at old new gone come g k = subst (λ (z : List Span). IsChange old z come new) (sym g) (subst (λ (z : List Span). IsChange old (missing new old) z new) (sym k) (differ old new))

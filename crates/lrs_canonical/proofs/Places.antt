@@ -16,7 +16,7 @@ use Rattle.lrs_canonical.proofs.Members.{all_at, In-append_right, In-append_case
 use Rattle.lrs_canonical.proofs.Unique.{is_same}
 use Rattle.lrs_canonical.proofs.Rows.{left_trans, rows_are, IsFull, Pairs, AreRows, BeginsFirst, begins_class, begins_asset, begins_start, begins_first, first_begins, left_first, name_trans, NameCases, name_cases, before, same, behind, sides_same, not_across, pairs_front, pairs_rear, pairs_across, rows_from, full_from}
 use Rattle.lrs_canonical.specs.Clips.{is_left}
-use Rattle.lrs_canonical.proofs.Adding.{Comes, added, added_holds}
+use Rattle.lrs_canonical.proofs.Coming.{Comes, added, added_holds}
 
 module _ {X : Type 0} where
   pub In-get : (xs : List X) (k : ℕ) (d : X) → k < length xs → In (get_or xs k d) xs
@@ -51,7 +51,7 @@ module _ {X : Type 0} where
 
 -- ---- the order of starts
 
-begins_trans : (r s t : Span) → BeginsFirst r s → BeginsFirst s t → BeginsFirst r t
+pub begins_trans : (r s t : Span) → BeginsFirst r s → BeginsFirst s t → BeginsFirst r t
 begins_trans r s t (begins_class h) (begins_class k) = begins_class (name_trans r.class s.class t.class h k)
 begins_trans r s t (begins_class h) (begins_asset c k) = begins_class (subst (λ z. name_before r.class z ≡ true) c h)
 begins_trans r s t (begins_class h) (begins_start c a k) = begins_class (subst (λ z. name_before r.class z ≡ true) c h)

@@ -1,13 +1,11 @@
 -- Parts of rows.
-use Rattle.std.specs.Prelude.{◌≡◌, ℕ, ◌+◌, ◌-◌, Bool, ◌||◌, ◌&&◌, not, nat_lt, nat_le, nat_eq, min, max, List, [], ◌∷◌, ◌++◌, if◌then◌else◌}
-use Rattle.lrs_measure.specs.Texts.{Name, same_name, name_before}
+use Rattle.std.specs.Prelude.{ℕ, ◌-◌, Bool, ◌||◌, ◌&&◌, not, nat_lt, nat_le, nat_eq, min, max, List, [], ◌∷◌, ◌++◌, if◌then◌else◌}
+use Rattle.lrs_measure.specs.Texts.{same_name, name_before}
 use Rattle.lrs_element.specs.Limits.{longest_route}
-use Rattle.lrs_events.specs.declared.side.LinkSide.{LinkSide}
 use Rattle.lrs_events.specs.declared.span.Span.{Span}
 use Rattle.std.specs.List.{list_all}
 use Rattle.lrs_measure.specs.Lists.{each_two}
 use Rattle.lrs_events.specs.Spans.{is_row}
-use Rattle.lrs_events.specs.Members.{is_member}
 use Rattle.lrs_canonical.specs.Order.{grown}
 
 -- what of a row lies from low up to high
@@ -22,29 +20,9 @@ outside low high r = clip 0 low r ++ clip high longest_route r
 abbrev pub is_left : Span → Span → Bool
 is_left r s = name_before r.class s.class || (same_name r.class s.class && (nat_lt r.asset s.asset || (nat_eq r.asset s.asset && nat_le r.to s.from)))
 
-abbrev pub is_within : ℕ → ℕ → ℕ → Bool
-is_within low high j = nat_le low j && nat_lt j high
-
--- the asset of the class, from low up to high
-abbrev pub of_asset : Name → ℕ → ℕ → ℕ → Name → ℕ → ℕ → Bool
-of_asset class asset low high c a j = same_name class c && nat_eq asset a && is_within low high j
-
--- the rows without what a test tells
-abbrev pub IsLess : (Name → ℕ → ℕ → Bool) → List Span → List Span → Type 0
-IsLess taken rows new = (class : Name) (asset j : ℕ) (s : LinkSide) → is_member new class asset j s ≡ (is_member rows class asset j s && not (taken class asset j))
-
--- what a test tells of the rows
-abbrev pub IsThat : (Name → ℕ → ℕ → Bool) → List Span → List Span → Type 0
-IsThat taken rows part = (class : Name) (asset j : ℕ) (s : LinkSide) → is_member part class asset j s ≡ (is_member rows class asset j s && taken class asset j)
-
 -- what of a row lies from `at` on, counted from there
 abbrev pub rear : ℕ → Span → List Span
 rear at r = if nat_lt at r.to then grown r (r.from - at) (r.to - at) ∷ [] else []
-
--- the rows before a place and those behind it, which begin at 0
-pub record IsCut (at : ℕ) (rows front back : List Span) : Type 0 where
-  pub before : (class : Name) (asset j : ℕ) (s : LinkSide) → is_member front class asset j s ≡ (is_member rows class asset j s && nat_lt j at)
-  pub behind : (class : Name) (asset j : ℕ) (s : LinkSide) → is_member back class asset j s ≡ is_member rows class asset (j + at) s
 
 -- in order and apart, but perhaps not merged
 abbrev pub follows : Span → Span → Bool
