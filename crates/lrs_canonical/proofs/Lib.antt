@@ -14,3 +14,6 @@ pub mod Gathered
 pub mod Differing
 pub mod Sorted
 pub mod Changing
+pub mod Laid
+pub mod Picked
+pub mod RunLaws

@@ -3,3 +3,5 @@ pub mod Order
 pub mod Clips
 pub mod Changes
 pub mod Removals
+pub mod OnCourse
+pub mod RunLaws
