@@ -21,3 +21,6 @@ pub mod Replaced
 pub mod Cleared
 pub mod OfAsset
 pub mod Back
+pub mod Laid
+pub mod Picked
+pub mod RunLaws
