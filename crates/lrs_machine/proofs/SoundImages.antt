@@ -292,11 +292,10 @@ module _ (i : Image) (t : Tested i) where
   -- a part has its own first place
   first_place : (x : Part) → is_part i.links i.assets x ≡ true → (p : Place) × (has_pair x x.edit x.asset p ≡ true)
   first_place x h =
-      let some = ltb-true _ _ (and_parts _ _ (and_parts _ _ h).0).0 in
-      (
+      let some = ltb-true _ _ (and_parts _ _ (and_parts _ _ h).0).0 in (
         record { link = x.link; mm = x.lo; side = x.side },
         and_from _ _ (and_from _ _ (eq-eqb x.edit x.edit refl) (eq-eqb x.asset x.asset refl))
-        (and_from _ _ (and_from _ _ (and_from _ _ (eq-eqb x.link x.link refl) (le-leb x.lo x.lo (omega arith))) (lt-ltb x.lo x.hi some)) (is_same_side x.side x.side refl)),
+            (and_from _ _ (and_from _ _ (and_from _ _ (eq-eqb x.link x.link refl) (le-leb x.lo x.lo (omega arith))) (lt-ltb x.lo x.hi some)) (is_same_side x.side x.side refl)),
       )
 
   was_entered : (a : ℕ) (x : state.Asset) → find nat_cmp a (map asset_entry i.assets) ≡ Some x → (p : Place) × (enters i x.entry a p ≡ true)
@@ -305,11 +304,10 @@ module _ (i : Image) (t : Tested i) where
       let part = any_found (is_of r.0) i.entered (origin_of r.0 r.1).0 in
       let same : part.0.asset ≡ r.0.number = eqb-true _ _ part.2 in
       let edit : part.0.edit ≡ x.entry = entered_by_entry r.0 part.0 r.1 part.1 same ∙ r.4 in
-      let place = first_place part.0 (all_at (is_part i.links i.assets) part.0 i.entered t.entered.inside part.1) in
-      (
+      let place = first_place part.0 (all_at (is_part i.links i.assets) part.0 i.entered t.entered.inside part.1) in (
         place.0,
         any_of (λ q. has_pair q x.entry a place.0) part.0 i.entered part.1
-        (subst (λ m. has_pair part.0 m a place.0 ≡ true) edit (subst (λ b. has_pair part.0 part.0.edit b place.0 ≡ true) (same ∙ r.2) place.1)),
+            (subst (λ m. has_pair part.0 m a place.0 ≡ true) edit (subst (λ b. has_pair part.0 part.0.edit b place.0 ≡ true) (same ∙ r.2) place.1)),
       )
 
   named : IsNamed (state_of i)

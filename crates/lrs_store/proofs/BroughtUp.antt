@@ -118,14 +118,14 @@ abbrev last : ℕ → Option (List Origin) → Image → Result Image Table
 last version os image = content.◌>>=◌ (read table.Origin os (λ os. are_origins image.entered image.assets && has_origins version image.assets os)) (λ origins. Ok image)
 
 -- it does not change the image
+passed_on : (b : Bool) (os : List Origin) (image i : Image) (r : Result Image Table) → r ≡ Ok image → content.◌>>=◌ (cond b (Ok os) (Err table.Origin)) (λ origins. Ok image) ≡ Ok i → r ≡ Ok i
+passed_on true os image i r is h = is ∙ h
+passed_on false os image i r is h = absurd (cc)
+
 was_read : (r : Result Image Table) (version : ℕ) (os : Option (List Origin)) (i : Image) → content.◌>>=◌ r (last version os) ≡ Ok i → r ≡ Ok i
 was_read (Err t) version os i h = absurd (cc)
 was_read (Ok image) version None i h = absurd (cc)
-was_read (Ok image) version (Some os) i h = by (are_origins image.entered image.assets && has_origins version image.assets os) h
-  where
-    by : (b : Bool) → content.◌>>=◌ (cond b (Ok os) (Err table.Origin)) (λ origins. Ok image) ≡ Ok i → Ok image ≡ Ok i
-    by true h = h
-    by false h = absurd (cc)
+was_read (Ok image) version (Some os) i h = passed_on (are_origins image.entered image.assets && has_origins version image.assets os) os image i (Ok image) refl h
 
 is_read : (i : Image) (os : Option (List Origin)) → are_origins i.entered i.assets ≡ true → os ≡ Some (map origin i.assets) → last 2 os i ≡ Ok i
 is_read i os passes is =
