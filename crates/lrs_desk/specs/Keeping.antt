@@ -1,8 +1,7 @@
 -- What a keeper's calls leave.
 use Rattle.std.specs.Prelude.{◌≡◌, ◌⊎◌, ℕ, ◌<◌, ◌-◌, ◌^◌, Result, Ok, IfOk}
-use Rattle.std.proofs.Common.{refl, sym, subst}
+use Rattle.std.proofs.Common.{refl}
 use Rattle.lrs_machine.specs.declared.image.Image.{Image}
-use Rattle.lrs_machine.specs.Sound.{IsSound}
 use Rattle.lrs_desk.specs.declared.change.Change.{Change}
 use Rattle.lrs_machine.specs.declared.table.Table.{Table}
 use Rattle.lrs_desk.specs.Change.{apply}
@@ -23,9 +22,6 @@ IsChanged before change c = (b : Result Image Table) × before b × IfOk b (λ i
 abbrev pub HoldsOldOrNew : Change → (Result Image Table → Type 0) → Image → Type 0
 HoldsOldOrNew change may image = (c : Result Image Table) → may c → (c ≡ Ok image) ⊎ (c ≡ Ok (apply change image))
 
--- the image that a keeper in memory has is found, and is sound
-pub finds_kept : (image : Image) → IsSound image → (c : Result Image Table) × ((c ≡ Ok image) × IsSound image)
-finds_kept image sound = (Ok image, (refl, sound))
-
-pub kept_is_sound : (image found : Image) → (◌≡◌ {A = Result Image Table} (Ok found) (Ok image)) × IsSound image → IsSound found
-kept_is_sound image found (same, sound) = let P : Result Image Table → Type 0 = λ c. IfOk c IsSound in subst P (sym same) sound
+-- what a keeper in memory has is found
+pub finds_kept : (image : Image) → (c : Result Image Table) × (c ≡ Ok image)
+finds_kept image = (Ok image, refl)

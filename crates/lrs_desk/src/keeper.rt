@@ -42,6 +42,7 @@ pub trait Keeper {
         ensures store { result ≡ Err KeepFault.Store → HasRisen (failures self.old) (failures self.new) }
         ensures quiet { (result ≡ Err KeepFault.Store → ⊥) → failures self.new ≡ failures self.old }
         ensures counts { failures self.old ≤ failures self.new }
+        ensures found_sound { (image : Image) → may_hold self.new (Ok image) → IsSound image }
         ensures content { (c : Result Image Table) → may_hold self.new c → may_hold self.old c };
 
     /// Makes a change, as a whole.
@@ -54,11 +55,9 @@ pub trait Keeper {
         ensures cause { result ≡ Err KeepFault.Store → HasRisen (failures self.old) (failures self.new) }
         ensures only { (t : Table) → result ≡ Err (KeepFault.Unsound t) → ⊥ }
         ensures counts { failures self.old ≤ failures self.new }
+        ensures found_sound { (image : Image) → may_hold self.new (Ok image) → IsSound image }
         ensures loaded { is_loaded self.new ≡ true };
 
     // Where the device is clean something may be found, so a keeper cannot promise everything of nothing.
     ghost finds: { (keeper : Self) → is_clean keeper → (c : Result Image Table) × may_hold keeper c };
-
-    // An image that may be found is sound.
-    ghost finds_sound: { (keeper : Self) (image : Image) → may_hold keeper (Ok image) → IsSound image };
 }

@@ -48,17 +48,14 @@ impl Plain {
 }
 
 impl Keeper for Plain {
-    ghost use Rattle.std.specs.Prelude.{◌≡◌, Ok, true};
-    ghost use Rattle.lrs_machine.specs.Sound.{IsSound};
-    ghost use Rattle.lrs_desk.specs.Keeping.{finds_kept, kept_is_sound};
+    ghost use Rattle.std.specs.Prelude.{◌≡◌, Ok, true, ⊤};
+    ghost use Rattle.lrs_desk.specs.Keeping.{finds_kept};
 
-    ghost may_hold = { λ plain c. (c ≡ Ok plain) × IsSound plain };
+    ghost may_hold = { λ plain c. c ≡ Ok plain };
 
-    ghost is_clean = { IsSound };
+    ghost is_clean = { λ plain. ⊤ };
 
-    ghost finds = { finds_kept };
-
-    ghost finds_sound = { kept_is_sound };
+    ghost finds = { λ plain clean. finds_kept plain };
 
     ghost is_loaded = { λ plain. true };
 

@@ -27,17 +27,14 @@ impl Failing {
 }
 
 impl Keeper for Failing {
-    ghost use Rattle.std.specs.Prelude.{◌≡◌, Ok, true};
-    ghost use Rattle.lrs_machine.specs.Sound.{IsSound};
-    ghost use Rattle.lrs_desk.specs.Keeping.{finds_kept, kept_is_sound};
+    ghost use Rattle.std.specs.Prelude.{◌≡◌, Ok, true, ⊤};
+    ghost use Rattle.lrs_desk.specs.Keeping.{finds_kept};
 
-    ghost may_hold = { λ failing c. (c ≡ Ok failing.plain) × IsSound failing.plain };
+    ghost may_hold = { λ failing c. c ≡ Ok failing.plain };
 
-    ghost is_clean = { λ failing. IsSound failing.plain };
+    ghost is_clean = { λ failing. ⊤ };
 
-    ghost finds = { λ failing. finds_kept failing.plain };
-
-    ghost finds_sound = { λ failing. kept_is_sound failing.plain };
+    ghost finds = { λ failing clean. finds_kept failing.plain };
 
     ghost is_loaded = { λ failing. true };
 
