@@ -75,7 +75,7 @@ HasBadRecord limits input before after old new =
 -- Some records at the front of the sheet are done, and each has its line; nothing else is written.
 abbrev pub HasAnsweredSome : Limits → Text → State → State → Option Text → Option Text → Type 0
 HasAnsweredSome limits input before after old new =
-    ((after ≡ before) × (new ≡ old))
+    ((after ≡ before) × Keeps old new)
     ⊎ ((header : List Text) × (records : List (List Text)) × (replies : List Reply) × IsEditHeader header × BeginsWith input (header ∷ records)
     × AreAnswered limits before records replies after old new)
 
