@@ -13,6 +13,7 @@ pub mod Gathered
 pub mod Differing
 pub mod Fitting
 pub mod Seams
+pub mod Inserted
 pub mod Sorted
 pub mod Changing
 pub mod Mirrors
