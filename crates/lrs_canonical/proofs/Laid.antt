@@ -4,7 +4,8 @@ use Rattle.std.specs.Prelude.{◌||◌, ◌&&◌, not, nat_lt, nat_le}
 use Rattle.std.specs.List.{range_with_len, list_any, filter, filter_map}
 use Rattle.std.proofs.lemmas.Bool.{and_from, lt-ltb, le-ltb, le-leb, lt-leb, leb-true, cases_lt, cases_Bool}
 use Rattle.lrs_measure.specs.Runs.{Run, runs_of, same_option}
-use Rattle.lrs_measure.proofs.Runs.{IsChain, AreValued, begin_other, neighbours_differ, range_runs_are}
+use Rattle.lrs_measure.specs.Maximal.{IsChain, begin_other, neighbours_differ}
+use Rattle.lrs_measure.proofs.Runs.{AreValued, range_runs_are}
 use Rattle.lrs_events.specs.declared.side.Side.{Side}
 use Rattle.lrs_events.specs.declared.side.Side.TheVariants.{L, R, B}
 use Rattle.lrs_events.specs.declared.side.LinkSide.{LinkSide}

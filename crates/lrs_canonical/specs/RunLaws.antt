@@ -42,8 +42,7 @@ abbrev pub RowsAreRuns : Type 0
 RowsAreRuns = (len : ℕ) (rows : List Span) → are_rows rows ≡ true → end_within len rows ≡ true
     → (class : Name) (asset : ℕ) → map row_run (rows_of_class class asset rows) ≡ member_runs len rows class asset
 
--- The rows of each asset are the canonical rows of what they hold on the course of their route: on the ground alone, they
--- could not be others.
+-- The rows of each asset are the canonical rows of what they hold on the course of their route.
 abbrev pub RowsAreCanonical : Type 0
 RowsAreCanonical = (course : List Ground) (rows : List Span) → is_once course ≡ true → are_rows rows ≡ true → end_within (length course) rows ≡ true
     → (asset : ℕ) → map row_run (rows_of_asset asset rows) ≡ canonical_rows (holds_by_spans course rows asset) course

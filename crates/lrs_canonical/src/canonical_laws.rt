@@ -1,10 +1,17 @@
 //! Laws of rows and of what is held: the rows of a route are the maximal runs of it.
 
+ghost use Rattle.lrs_canonical.specs.OnCourse.{HoldsByPlaces};
 ghost use Rattle.lrs_canonical.specs.RunLaws.{RowsAreRuns, RowsAreCanonical, HeldRunsAreOne, HeldRowsAreOne};
 
 /// The rows of each asset are the maximal runs of neighbouring millimetres where they stand for the same side or sides.
 pub fn rows_are_runs()
     ensures { RowsAreRuns }
+{}
+
+/// Rows hold a place on a course exactly where it is beside an entry of the course, and they stand for the chainage of
+/// that entry and that side of it.
+pub fn rows_hold_places()
+    ensures { HoldsByPlaces }
 {}
 
 /// The rows of each asset are the canonical rows of what they hold on the course of their route: the maximal runs of

@@ -1,39 +1,14 @@
 -- A list of values has one list of maximal runs: those that cover it, each with the value of its places, neighbours with
 -- different ones.
-use Rattle.std.proofs.Common.{◌≡◌, ℕ, zero, suc, ◌+◌, ◌-◌, ◌<◌, ◌≤◌, Bool, true, Some, None, List, [], ◌∷◌, length, map, drop, refl, sym, ap, subst, ◌∙◌, arith}
-use Rattle.std.specs.Prelude.{◌&&◌, not, if◌then◌else◌, slice_get}
+use Rattle.std.proofs.Common.{◌≡◌, ℕ, zero, suc, ◌+◌, ◌-◌, ◌<◌, ◌≤◌, Bool, true, false, Some, None, List, [], ◌∷◌, length, map, drop, refl, sym, ap, subst, ◌∙◌, arith}
+use Rattle.std.specs.Prelude.{not, if◌then◌else◌, slice_get}
 use Rattle.std.specs.List.{range_with_len}
 use Rattle.std.specs.Option.{unwrap_or}
-use Rattle.std.proofs.lemmas.Bool.{not-true, and_parts}
+use Rattle.std.proofs.lemmas.Bool.{not-true, and_parts, and_from}
 use Rattle.std.proofs.lemmas.List.{length-drop}
 use Rattle.std.proofs.lemmas.List.FromFn.{length-map-range_with_len}
 use Rattle.lrs_measure.specs.Runs.{Run, longer, runs_from}
-
--- the runs begin at one place, each next one where the last ended, and the last ends at the other place
-abbrev pub IsChain : {A : Type 0} → ℕ → ℕ → List (Run A) → Type 0
-IsChain from to [] = from ≡ to
-IsChain from to (r ∷ rs) = (r.from ≡ from) × (r.from < r.to) × IsChain r.to to rs
-
--- each place of a list whose first place is j has the value of its run
-abbrev pub HaveValues : {A : Type 0} → ℕ → List A → List (Run A) → Type 0
-HaveValues j xs [] = Unit {0}
-HaveValues j xs (r ∷ rs) = ((k : ℕ) → r.from ≤ j + k → j + k < r.to → slice_get xs k ≡ Some r.value) × HaveValues j xs rs
-
--- the first of the runs, if there is one, has another value
-abbrev pub begin_other : {A : Type 0} → (A → A → Bool) → A → List (Run A) → Bool
-begin_other same x [] = true
-begin_other same x (r ∷ rs) = not (same x r.value)
-
--- neighbours have different values
-abbrev pub neighbours_differ : {A : Type 0} → (A → A → Bool) → List (Run A) → Bool
-neighbours_differ same [] = true
-neighbours_differ same (r ∷ rs) = begin_other same r.value rs && neighbours_differ same rs
-
--- the runs are maximal runs of a list whose first place is j
-pub record AreRuns (A : Type 0) (same : A → A → Bool) (j : ℕ) (xs : List A) (rs : List (Run A)) : Type 0 where
-  pub cover : IsChain j (j + length xs) rs
-  pub values : HaveValues j xs rs
-  pub maximal : neighbours_differ same rs ≡ true
+use Rattle.lrs_measure.specs.Maximal.{IsChain, HaveValues, begin_other, neighbours_differ, AreRuns, Decides, RunsAreOne}
 
 slice_get-drop : {A : Type 0} → (n : ℕ) (xs : List A) (k : ℕ) → slice_get (drop n xs) k ≡ slice_get xs (n + k)
 slice_get-drop zero xs k = ap (slice_get xs) (omega arith)
@@ -112,3 +87,67 @@ range_runs_are same itself f j n rs cover values maximal = runs_are same itself 
   values = values_listed f j n j rs cover values;
   maximal = maximal;
 })
+
+-- ---- the runs of a list are maximal
+
+-- what a run has behind the first place
+values_shifted : {A : Type 0} → (x : A) (xs : List A) (j from to : ℕ) (rs : List (Run A)) → j + 1 ≤ from → IsChain from to rs → HaveValues (j + 1) xs rs → HaveValues j (x ∷ xs) rs
+values_shifted x xs j from to [] low c h = tt
+values_shifted x xs j from to (r ∷ rs) low c h =
+    let begin = c.0 in
+    let some = c.1 in
+    (at begin, values_shifted x xs j r.to to rs (omega (arith, low, begin, some)) c.2 h.1)
+  where
+    at : r.from ≡ from → (k : ℕ) → r.from ≤ j + k → j + k < r.to → slice_get (x ∷ xs) k ≡ Some r.value
+    at begin zero l m = absurd (omega (arith, low, begin, l))
+    at begin (suc k) l m = h.0 k (omega (arith, l)) (omega (arith, m))
+
+first_value : {A : Type 0} → (x : A) (xs : List A) (j k : ℕ) → j + k < j + 1 → slice_get (x ∷ xs) k ≡ Some x
+first_value x xs j zero h = refl
+first_value x xs j (suc k) h = absurd (omega (arith, h))
+
+module _ {A : Type 0} (same : A → A → Bool) (decides : Decides A same) where
+  longer_runs : (x : A) (xs : List A) (j : ℕ) (rs : List (Run A)) → AreRuns A same (j + 1) xs rs → AreRuns A same j (x ∷ xs) (longer same j x rs)
+  longer_runs x xs j [] h = record {
+    cover = (refl, omega arith, (let c = h.cover in omega (arith, c)));
+    values = ((λ k low high. first_value x xs j k high), tt);
+    maximal = refl;
+  }
+  longer_runs x xs j (r ∷ rs) h = by (same x r.value) refl
+    where
+      whole : (j + 1) + length xs ≡ j + length (x ∷ xs)
+      whole = omega arith
+
+      grown : x ≡ r.value → (k : ℕ) → j + k < r.to → slice_get (x ∷ xs) k ≡ Some x
+      grown e zero m = refl
+      grown e (suc k) m = let begin = h.cover.0 in h.values.0 k (omega (arith, begin)) (omega (arith, m)) ∙ ap (λ y. Some y) (sym e)
+
+      by : (b : Bool) → same x r.value ≡ b → AreRuns A same j (x ∷ xs) (if b then record { from = j; to = r.to; value = x } ∷ rs else record { from = j; to = j + 1; value = x } ∷ r ∷ rs)
+      by true e =
+          let begin = h.cover.0 in
+          let some = h.cover.1 in
+          let one = decides.equal x r.value e in
+          let parts = and_parts (begin_other same r.value rs) (neighbours_differ same rs) h.maximal in
+          let P : ℕ → Type 0 = λ n. IsChain r.to n rs in
+          record {
+            cover = (refl, omega (arith, begin, some), subst P whole h.cover.2);
+            values = ((λ k low high. grown one k high), values_shifted x xs j r.to ((j + 1) + length xs) rs (omega (arith, begin, some)) h.cover.2 h.values.1);
+            maximal = and_from (begin_other same x rs) (neighbours_differ same rs) (ap (λ y. begin_other same y rs) one ∙ parts.0) parts.1;
+          }
+      by false e =
+          let P : ℕ → Type 0 = λ n. IsChain (j + 1) n (r ∷ rs) in
+          record {
+            cover = (refl, omega arith, subst P whole h.cover);
+            values = ((λ k low high. first_value x xs j k high), values_shifted x xs j (j + 1) ((j + 1) + length xs) (r ∷ rs) (omega arith) h.cover h.values);
+            maximal = and_from (not (same x r.value)) (neighbours_differ same (r ∷ rs)) (ap not e) h.maximal;
+          }
+
+  runs_hold : (xs : List A) (j : ℕ) → AreRuns A same j xs (runs_from same j xs)
+  runs_hold [] j = record { cover = omega arith; values = tt; maximal = refl }
+  runs_hold (x ∷ xs) j = longer_runs x xs j (runs_from same (j + 1) xs) (runs_hold xs (j + 1))
+
+pub runs_are_one : (A : Type 0) → RunsAreOne A
+runs_are_one A same decides xs rs = (
+  λ h. sym (runs_are same decides.itself rs 0 xs h),
+  λ e. (let P : List (Run A) → Type 0 = λ us. AreRuns A same 0 xs us in subst P (sym e) (runs_hold same decides xs 0)),
+)
