@@ -18,3 +18,6 @@ pub mod removing;
 pub mod siding;
 pub mod turning;
 pub mod undoing;
+
+#[cfg(test)]
+mod tests;
