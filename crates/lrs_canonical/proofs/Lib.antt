@@ -17,3 +17,4 @@ pub mod Changing
 pub mod Laid
 pub mod Picked
 pub mod RunLaws
+pub mod FewestHeld

@@ -79,7 +79,7 @@ module _ (class_of : ℕ → Name) (class : Name) (asset j : ℕ) (s : LinkSide)
           let it = between r.from r.to r.side j s in
           (λ i. same_name r.class class && (e i && it)) ∙ none (same_name r.class class) (same_name (class_of asset) class) it ∙ sym (λ i. same_name (class_of asset) class && (e i && it))
 
-  member_of_asset : (rows : List Span) → are_of_class class_of rows ≡ true → is_member rows class asset j s ≡ (same_name (class_of asset) class && is_held rows asset j s)
+  pub member_of_asset : (rows : List Span) → are_of_class class_of rows ≡ true → is_member rows class asset j s ≡ (same_name (class_of asset) class && is_held rows asset j s)
   member_of_asset [] h = none (same_name (class_of asset) class)
     where
       none : (a : Bool) → false ≡ (a && false)
