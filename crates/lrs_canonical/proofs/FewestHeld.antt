@@ -1,7 +1,7 @@
 -- Canonical rows are as few as what is held on a course can be written in.
 use Rattle.std.proofs.Common.{◌≡◌, ℕ, ◌+◌, ◌<◌, ◌≤◌, Bool, true, false, Option, Some, None, ◌⊎◌, inl, inr, List, [], ◌∷◌, map, length, refl, sym, ap, ◌∙◌, get_or, arith}
-use Rattle.std.specs.Prelude.{◌||◌, ◌&&◌, nat_lt, nat_le, nat_eq, if◌then◌else◌}
-use Rattle.std.specs.List.{range_with_len, list_any, list_all}
+use Rattle.std.specs.Prelude.{◌||◌, ◌&&◌, nat_le, nat_eq, if◌then◌else◌}
+use Rattle.std.specs.List.{range_with_len, list_all}
 use Rattle.std.specs.Cmp.Lexicographic.{bytes_decides}
 use Rattle.std.proofs.lemmas.Bool.{and_parts, and_from, eqb-true, eq-eqb, le-ltb, leb-true, cases_lt, cases_Bool}
 use Rattle.std.proofs.lemmas.List.{length-map}
@@ -10,7 +10,6 @@ use Rattle.lrs_measure.specs.Lists.{each_two}
 use Rattle.lrs_measure.specs.Texts.{Name, same_name}
 use Rattle.lrs_element.specs.declared.link.Ground.{Ground}
 use Rattle.lrs_events.specs.declared.side.Side.{Side}
-use Rattle.lrs_events.specs.declared.side.Side.TheVariants.{L, R, B}
 use Rattle.lrs_events.specs.declared.side.LinkSide.{LinkSide}
 use Rattle.lrs_events.specs.declared.side.LinkSide.TheVariants.{Left, Right}
 use Rattle.lrs_events.specs.declared.span.Span.{Span}
@@ -18,7 +17,7 @@ use Rattle.lrs_events.specs.Canonical.{side_of, side_held}
 use Rattle.lrs_events.specs.Members.{has_side, stands_for, SameMembers}
 use Rattle.lrs_events.specs.Spans.{holds_by_spans}
 use Rattle.lrs_canonical.specs.Order.{In}
-use Rattle.lrs_canonical.specs.Members.{are_off, begins_at, IsFewest}
+use Rattle.lrs_canonical.specs.Members.{are_off, begins_at}
 use Rattle.lrs_canonical.specs.OnCourse.{is_once, is_held}
 use Rattle.lrs_canonical.specs.RunLaws.{end_within, HoldSame, are_of_class, HeldRowsAreFewest}
 use Rattle.lrs_canonical.proofs.Members.{all_from}
