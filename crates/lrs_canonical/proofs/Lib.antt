@@ -3,7 +3,6 @@ pub mod Unique
 pub mod Rows
 pub mod Coming
 pub mod Places
-pub mod Done
 pub mod Fewest
 pub mod Pieces
 pub mod Stretches
@@ -14,6 +13,9 @@ pub mod Gathered
 pub mod Differing
 pub mod Sorted
 pub mod Changing
+pub mod Replaced
+pub mod Cleared
+pub mod OfAsset
 pub mod Laid
 pub mod Picked
 pub mod RunLaws

@@ -9,7 +9,10 @@ pub mod adding;
 pub mod canonical_laws;
 pub mod change;
 pub mod clips;
+pub mod cutting;
 pub mod laws;
 pub mod merging;
 pub mod order;
 pub mod removing;
+#[cfg(test)]
+mod tests;
