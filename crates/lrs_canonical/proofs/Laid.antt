@@ -18,7 +18,8 @@ use Rattle.lrs_canonical.specs.Order.{In}
 use Rattle.lrs_canonical.specs.RunLaws.{row_run, end_within}
 use Rattle.lrs_canonical.proofs.Members.{all_at}
 use Rattle.lrs_canonical.proofs.Unique.{is_same}
-use Rattle.lrs_canonical.proofs.Rows.{AreRows, Pairs, left_place, sides_same, rows_from}
+use Rattle.lrs_canonical.proofs.Rows.{AreRows, left_place, sides_same, rows_from}
+use Rattle.lrs_canonical.proofs.Replaced.{in_filter, found_rows}
 
 -- whether one of the rows is over the millimetre on the side
 abbrev pub is_over : List Span → ℕ → LinkSide → Bool
@@ -194,46 +195,20 @@ laid_runs f asset len rows h same =
 
 -- ---- the rows that pass a test
 
-module _ {X : Type 0} where
-  any_filtered : (p q : X → Bool) (xs : List X) → list_any q (filter p xs) ≡ list_any (λ x. p x && q x) xs
-  any_filtered p q [] = refl
-  any_filtered p q (x ∷ xs) = by (p x) (any_filtered p q xs)
-    where
-      by : (b : Bool) → list_any q (filter p xs) ≡ list_any (λ y. p y && q y) xs → list_any q (cond b (x ∷ filter p xs) (filter p xs)) ≡ ((b && q x) || list_any (λ y. p y && q y) xs)
-      by true rest = ap (λ t. q x || t) rest
-      by false rest = rest
-
-  filtered : (p : X → Bool) (x : X) (xs : List X) → In x (filter p xs) → In x xs × (p x ≡ true)
-  filtered p x [] m = absurd m
-  filtered p x (y ∷ ys) m = by (p y) refl m (filtered p x ys)
-    where
-      later : In x ys × (p x ≡ true) → In x (y ∷ ys) × (p x ≡ true)
-      later h = (inr h.0, h.1)
-
-      by : (b : Bool) → p y ≡ b → In x (cond b (y ∷ filter p ys) (filter p ys)) → (In x (filter p ys) → In x ys × (p x ≡ true)) → In x (y ∷ ys) × (p x ≡ true)
-      by true e (inl same) rest = (inl same, ap p same ∙ e)
-      by true e (inr n) rest = later (rest n)
-      by false e n rest = later (rest n)
-
 pub any_passed : (p q : Span → Bool) (rows : List Span) → list_any q (filter p rows) ≡ list_any (λ r. p r && q r) rows
-any_passed p q rows = any_filtered p q rows
-
-pairs_filtered : (p : Span → Bool) (rows : List Span) → Pairs rows → Pairs (filter p rows)
-pairs_filtered p [] h = tt
-pairs_filtered p (r ∷ rs) h = by (p r) (pairs_filtered p rs h.1)
+any_passed p q [] = refl
+any_passed p q (r ∷ rs) = by (p r) (any_passed p q rs)
   where
-    by : (b : Bool) → Pairs (filter p rs) → Pairs (cond b (r ∷ filter p rs) (filter p rs))
-    by true rest = ((λ s m. h.0 s (filtered p s rs m).0), rest)
+    by : (b : Bool) → list_any q (filter p rs) ≡ list_any (λ s. p s && q s) rs → list_any q (cond b (r ∷ filter p rs) (filter p rs)) ≡ ((b && q r) || list_any (λ s. p s && q s) rs)
+    by true rest = ap (λ t. q r || t) rest
     by false rest = rest
 
 -- those of one asset lie within the length of the route
 pub laid : (p : Span → Bool) (asset len : ℕ) (rows : List Span) → are_rows rows ≡ true → end_within len rows ≡ true → ((r : Span) → p r ≡ true → r.asset ≡ asset) → AreLaid asset 0 len (filter p rows)
-laid p asset len rows h k of_asset =
-    let a = rows_from rows h in
-    record {
-      kept = record { full = λ r m. a.full r (filtered p r rows m).0; pairs = pairs_filtered p rows a.pairs };
-      of_asset = λ r m. of_asset r (filtered p r rows m).1;
-      low = λ r m. omega arith;
-      high = λ r m. leb-true r.to len (all_at (λ s. nat_le s.to len) r rows k (filtered p r rows m).0);
-      within = omega arith;
-    }
+laid p asset len rows h k of_asset = record {
+  kept = rows_from (filter p rows) (found_rows p rows h);
+  of_asset = λ r m. of_asset r (in_filter p rows r m).1;
+  low = λ r m. omega arith;
+  high = λ r m. leb-true r.to len (all_at (λ s. nat_le s.to len) r rows k (in_filter p rows r m).0);
+  within = omega arith;
+}

@@ -25,3 +25,4 @@ pub mod Back
 pub mod Laid
 pub mod Picked
 pub mod RunLaws
+pub mod FewestHeld

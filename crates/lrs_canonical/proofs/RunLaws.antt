@@ -12,6 +12,7 @@ use Rattle.lrs_events.specs.declared.span.Span.{Span}
 use Rattle.lrs_events.specs.Canonical.{side_of, side_held, held_run, canonical_rows}
 use Rattle.lrs_events.specs.Members.{between, has_member, is_member, stands_for}
 use Rattle.lrs_events.specs.Spans.{same_side}
+use Rattle.lrs_canonical.specs.Members.{is_of}
 use Rattle.lrs_canonical.specs.OnCourse.{is_held}
 use Rattle.lrs_canonical.specs.RunLaws.{row_run, rows_of_class, rows_of_asset, member_side, RowsAreRuns, RowsAreCanonical, HeldRunsAreOne, are_of_class, HeldRowsAreOne}
 use Rattle.lrs_canonical.proofs.Laid.{is_over, laid, laid_runs, any_passed}
@@ -25,13 +26,13 @@ and_assoc false b c = refl
 -- what rows say of an asset of a class, its rows say
 member_over : (rows : List Span) (class : Name) (asset j : ℕ) (s : LinkSide) → is_member rows class asset j s ≡ is_over (rows_of_class class asset rows) j s
 member_over rows class asset j s =
-    sym (any_passed (λ r. same_name r.class class && nat_eq r.asset asset) (λ r. between r.from r.to r.side j s) rows
+    sym (any_passed (is_of class asset) (λ r. between r.from r.to r.side j s) rows
     ∙ (λ i. list_any (λ r. and_assoc (same_name r.class class) (nat_eq r.asset asset) (between r.from r.to r.side j s) i) rows))
 
 pub rows_are_runs : RowsAreRuns
 rows_are_runs len rows h k class asset =
     laid_runs (member_side rows class asset) asset len (rows_of_class class asset rows)
-    (laid (λ r. same_name r.class class && nat_eq r.asset asset) asset len rows h k (λ r e. eqb-true r.asset asset (and_parts (same_name r.class class) (nat_eq r.asset asset) e).1))
+    (laid (is_of class asset) asset len rows h k (λ r e. eqb-true r.asset asset (and_parts (same_name r.class class) (nat_eq r.asset asset) e).1))
     (λ j i. side_of (member_over rows class asset j Left i) (member_over rows class asset j Right i))
 
 -- what rows say of an asset, its rows say
@@ -79,7 +80,7 @@ module _ (class_of : ℕ → Name) (class : Name) (asset j : ℕ) (s : LinkSide)
           let it = between r.from r.to r.side j s in
           (λ i. same_name r.class class && (e i && it)) ∙ none (same_name r.class class) (same_name (class_of asset) class) it ∙ sym (λ i. same_name (class_of asset) class && (e i && it))
 
-  member_of_asset : (rows : List Span) → are_of_class class_of rows ≡ true → is_member rows class asset j s ≡ (same_name (class_of asset) class && is_held rows asset j s)
+  pub member_of_asset : (rows : List Span) → are_of_class class_of rows ≡ true → is_member rows class asset j s ≡ (same_name (class_of asset) class && is_held rows asset j s)
   member_of_asset [] h = none (same_name (class_of asset) class)
     where
       none : (a : Bool) → false ≡ (a && false)

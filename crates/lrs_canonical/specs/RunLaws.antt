@@ -1,6 +1,7 @@
 -- Canonical rows are the maximal runs of what they stand for and of what they hold.
-use Rattle.std.specs.Prelude.{◌≡◌, ℕ, Bool, true, ◌&&◌, nat_le, nat_eq, List, map, length, Option}
+use Rattle.std.specs.Prelude.{◌≡◌, ℕ, Bool, true, nat_le, nat_eq, List, map, length, Option}
 use Rattle.std.specs.List.{range_with_len, list_all, filter, filter_map}
+use Rattle.lrs_measure.specs.Lists.{each_two}
 use Rattle.lrs_measure.specs.Texts.{Name, same_name}
 use Rattle.lrs_measure.specs.Runs.{Run, runs_of, same_option}
 use Rattle.lrs_element.specs.declared.link.Ground.{Ground}
@@ -11,6 +12,7 @@ use Rattle.lrs_events.specs.Canonical.{side_of, held_run, canonical_rows}
 use Rattle.lrs_events.specs.Members.{is_member}
 use Rattle.lrs_events.specs.Places.{Place}
 use Rattle.lrs_events.specs.Spans.{are_rows, same_side, holds_by_spans}
+use Rattle.lrs_canonical.specs.Members.{is_of, are_off, IsFewest}
 use Rattle.lrs_canonical.specs.OnCourse.{is_once}
 
 -- a row without its class and asset
@@ -19,7 +21,7 @@ row_run r = record { from = r.from; to = r.to; value = r.side }
 
 -- the rows of an asset of a class
 abbrev pub rows_of_class : Name → ℕ → List Span → List Span
-rows_of_class class asset rows = filter (λ r. same_name r.class class && nat_eq r.asset asset) rows
+rows_of_class class asset rows = filter (is_of class asset) rows
 
 -- the rows of an asset
 abbrev pub rows_of_asset : ℕ → List Span → List Span
@@ -67,3 +69,10 @@ HeldRowsAreOne = (course : List Ground) (class_of : ℕ → Name) (xs ys : List 
     → are_rows xs ≡ true → end_within (length course) xs ≡ true → are_of_class class_of xs ≡ true
     → are_rows ys ≡ true → end_within (length course) ys ≡ true → are_of_class class_of ys ≡ true
     → HoldSame course xs ys → xs ≡ ys
+
+-- No rows that hold the same are fewer, where none ends behind the course and no asset has two of them over one millimetre:
+-- each row begins where one of those of its asset does.
+abbrev pub HeldRowsAreFewest : Type 0
+HeldRowsAreFewest = (course : List Ground) (xs ys : List Span) → is_once course ≡ true
+    → are_rows xs ≡ true → end_within (length course) xs ≡ true → each_two are_off ys ≡ true → end_within (length course) ys ≡ true
+    → HoldSame course xs ys → IsFewest xs ys

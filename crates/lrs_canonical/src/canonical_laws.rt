@@ -1,7 +1,7 @@
 //! Laws of rows and of what is held: the rows of a route are the maximal runs of it.
 
 ghost use Rattle.lrs_canonical.specs.OnCourse.{HoldsByPlaces};
-ghost use Rattle.lrs_canonical.specs.RunLaws.{RowsAreRuns, RowsAreCanonical, HeldRunsAreOne, HeldRowsAreOne};
+ghost use Rattle.lrs_canonical.specs.RunLaws.{RowsAreRuns, RowsAreCanonical, HeldRunsAreOne, HeldRowsAreOne, HeldRowsAreFewest};
 
 /// The rows of each asset are the maximal runs of neighbouring millimetres where they stand for the same side or sides.
 pub fn rows_are_runs()
@@ -28,4 +28,10 @@ pub fn held_runs_are_one()
 /// The rows of a route are a function of its course, of what each asset holds on it, and of the class of each asset.
 pub fn held_rows_are_one()
     ensures { HeldRowsAreOne }
+{}
+
+/// The rows of a route are as few as what is held on its course can be written in, where no asset has two rows over one
+/// millimetre.
+pub fn held_rows_are_fewest()
+    ensures { HeldRowsAreFewest }
 {}
