@@ -22,7 +22,7 @@ use Rattle.lrs_parts.proofs.Ordered.{AreOff, apart}
 
 -- ---- where a row has a place
 
-in_slice : (g : Ground) (xs : List Ground) (from to : ℕ) → In g (slice_range xs from to) → (j : ℕ) × (from ≤ j) × (j < to) × (j < length xs) × ((d : Ground) → get_or xs j d ≡ g)
+pub in_slice : (g : Ground) (xs : List Ground) (from to : ℕ) → In g (slice_range xs from to) → (j : ℕ) × (from ≤ j) × (j < to) × (j < length xs) × ((d : Ground) → get_or xs j d ≡ g)
 in_slice g xs from to m =
     let place = place_in g (slice_range xs from to) m in
     let k = place.0 in
@@ -41,7 +41,7 @@ record Spot (course : List Ground) (r : Span) (a : ℕ) (p : Place) : Type 0 whe
   pub on_link : (d : Ground) → (get_or course at d).link ≡ p.link
   pub on_mm : (d : Ground) → (get_or course at d).mm ≡ p.mm
 
-beside_ground : (s : Side) (g : Ground) (q : Place) → In q (places_at s g) → (q.link ≡ g.link) × (q.mm ≡ g.mm)
+pub beside_ground : (s : Side) (g : Ground) (q : Place) → In q (places_at s g) → (q.link ≡ g.link) × (q.mm ≡ g.mm)
 beside_ground L g q (inl e) = (ap (λ r. r.link) e, ap (λ r. r.mm) e)
 beside_ground L g q (inr m) = absurd m
 beside_ground R g q (inl e) = (ap (λ r. r.link) e, ap (λ r. r.mm) e)
@@ -70,7 +70,7 @@ spot course r a p h =
     }
 
 -- a place is at one chainage of a course at most
-not_twice : (course : List Ground) (p : Place) (i j : ℕ) (d : Ground) → each_two differs course ≡ true → i < j → j < length course
+pub not_twice : (course : List Ground) (p : Place) (i j : ℕ) (d : Ground) → each_two differs course ≡ true → i < j → j < length course
     → (get_or course i d).link ≡ p.link → (get_or course i d).mm ≡ p.mm → (get_or course j d).link ≡ p.link → (get_or course j d).mm ≡ p.mm → ⊥
 not_twice course p i j d once less within a b e f =
     let g = get_or course i d in

@@ -55,7 +55,7 @@ pub(super) fn row(rt: &impl Abort) -> Span
 }
 
 /// A part that edit 9 enters for the asset.
-const fn part(link: u32, lo: u32, hi: u32, side: LinkSide) -> Part {
+fn part(link: u32, lo: u32, hi: u32, side: LinkSide) -> Part {
     Part {
         edit: 9,
         asset: 5,
@@ -67,18 +67,20 @@ const fn part(link: u32, lo: u32, hi: u32, side: LinkSide) -> Part {
 }
 
 /// What edit 9 enters for it.
-pub(super) const PARTS: [Part; 4] = [
-    part(3, 2, 10, LinkSide::Left),
-    part(3, 2, 10, LinkSide::Right),
-    part(7, 8, 10, LinkSide::Left),
-    part(7, 8, 10, LinkSide::Right),
-];
+pub(super) fn entered() -> [Part; 4] {
+    [
+        part(3, 2, 10, LinkSide::Left),
+        part(3, 2, 10, LinkSide::Right),
+        part(7, 8, 10, LinkSide::Left),
+        part(7, 8, 10, LinkSide::Right),
+    ]
+}
 
 #[test]
 fn rows_are_cut_where_links_change(rt: HostRuntime) {
     let course = course(&rt);
     let made = parts(rt.alloc(), 9, &[row(&rt)], &course).expect(&rt, "memory");
-    assert_eq!(rt; made.as_slice(), PARTS.as_slice());
+    assert_eq!(rt; made.as_slice(), entered().as_slice());
 }
 
 #[test]
@@ -90,12 +92,12 @@ fn no_rows_have_no_parts(rt: HostRuntime) {
 
 #[test]
 fn parts_go_for_their_reason(rt: HostRuntime) {
-    let made = gone(rt.alloc(), &PARTS, true).expect(&rt, "memory");
+    let made = gone(rt.alloc(), &entered(), true).expect(&rt, "memory");
     assert_eq!(rt; made.len(), 4);
     assert_eq!(rt;
         made[1],
         Gone {
-            part: PARTS[1],
+            part: entered()[1],
             abandoned: true
         }
     );
