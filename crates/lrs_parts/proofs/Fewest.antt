@@ -1,15 +1,15 @@
 -- No other parts that have the same pairs, each on one piece of the course, are fewer.
-use Rattle.std.proofs.Common.{◌≡◌, ℕ, zero, suc, ◌+◌, ◌-◌, ◌<◌, ◌≤◌, Bool, true, false, cond, ◌⊎◌, inl, inr, List, [], ◌∷◌, ◌++◌, length, get_or, refl, sym, ap, subst, ◌∙◌, arith, length-append}
-use Rattle.std.specs.Prelude.{◌||◌, ◌&&◌, nat_eq, nat_le, nat_lt, sum_by, slice_range}
-use Rattle.std.specs.List.{list_any, list_all, count_by, flat_map, AllByRecursion}
-use Rattle.std.proofs.lemmas.Bool.{false≢true, both_ways, and_parts, and_from, cases_Bool, cases_lt, cases_order, eqb-true, eq-eqb, leb-true, ltb-true, le-leb, lt-ltb}
+use Rattle.std.proofs.Common.{◌≡◌, ℕ, zero, suc, ◌+◌, ◌-◌, ◌<◌, ◌≤◌, Bool, true, false, cond, ◌⊎◌, inl, inr, List, [], ◌∷◌, length, get_or, refl, sym, ap, subst, ◌∙◌, arith, length-append}
+use Rattle.std.specs.Prelude.{◌&&◌, nat_eq, nat_le, nat_lt, sum_by, slice_range}
+use Rattle.std.specs.List.{list_any, list_all, count_by}
+use Rattle.std.proofs.lemmas.Bool.{false≢true, and_parts, and_from, cases_Bool, cases_order, eqb-true, eq-eqb, leb-true, ltb-true, le-leb, lt-ltb}
 use Rattle.std.proofs.lemmas.List.{get_or_append_left, get_or-append_right}
 use Rattle.std.proofs.lemmas.List.Sums.{sum_by-cons}
 use Rattle.lrs_measure.specs.Lists.{each_two, same_bool}
 use Rattle.lrs_element.specs.declared.link.Piece.{Piece}
 use Rattle.lrs_element.specs.declared.link.Ground.{Ground}
 use Rattle.lrs_element.specs.Course.{expand, course_of, continues}
-use Rattle.lrs_element.specs.Pieces.{piece_len, ground_of, IsFilled}
+use Rattle.lrs_element.specs.Pieces.{piece_len, ground_of}
 use Rattle.lrs_element.proofs.Expanding.{length-expand, get_or-expand}
 use Rattle.lrs_events.specs.declared.part.Part.{Part}
 use Rattle.lrs_events.specs.declared.span.Span.{Span}
@@ -18,13 +18,13 @@ use Rattle.lrs_events.specs.declared.side.Side.TheVariants.{L, R, B}
 use Rattle.lrs_events.specs.declared.side.LinkSide.{LinkSide}
 use Rattle.lrs_events.specs.declared.side.LinkSide.TheVariants.{Left, Right}
 use Rattle.lrs_events.specs.Members.{has_side, stands_for}
-use Rattle.lrs_events.specs.Places.{Place, same_place, same_link_side, along_link, other_side, beside, places_at, differs}
+use Rattle.lrs_events.specs.Places.{Place, same_place, same_link_side, along_link, beside, places_at, differs}
 use Rattle.lrs_events.specs.Parts.{has_for, has_place, times_had, IsHadOnce}
-use Rattle.lrs_events.specs.Spans.{holds_by_span, holds_by_spans, are_rows}
-use Rattle.lrs_parts.specs.Ledger.{lies_in, AreInPieces, are_on, one_has, AreWhole}
+use Rattle.lrs_events.specs.Spans.{holds_by_span, holds_by_spans}
+use Rattle.lrs_parts.specs.Ledger.{lies_in, are_on, one_has, AreWhole}
 use Rattle.lrs_parts.proofs.Counts.{count_yes, count_no, count_cons, any_counted, sum_two}
 use Rattle.lrs_parts.proofs.Membership.{In, any_found, any_of, all_at, flat_map_found, place_in}
-use Rattle.lrs_parts.proofs.Once.{in_slice, beside_ground, not_twice}
+use Rattle.lrs_parts.proofs.Once.{in_slice, not_twice}
 use Rattle.lrs_parts.proofs.Keys.{two_counted, all_at_place}
 
 -- ---- counts, and counts the other way round

@@ -1,7 +1,7 @@
 -- What the parts of the pieces of a course, put in order, say of the rows.
-use Rattle.std.proofs.Common.{◌≡◌, ℕ, ◌+◌, ◌-◌, ◌<◌, ◌≤◌, min, Bool, true, false, cond, ◌⊎◌, inl, inr, List, [], ◌∷◌, ◌++◌, length, get_or, refl, sym, ap, subst, ◌∙◌, arith}
-use Rattle.std.specs.Prelude.{◌||◌, ◌&&◌, not, nat_eq, nat_le, nat_lt}
-use Rattle.std.specs.List.{list_any, list_all, count_by, flat_map, AllByRecursion, AllAdjacentBelow}
+use Rattle.std.proofs.Common.{◌≡◌, ℕ, ◌+◌, ◌-◌, ◌<◌, ◌≤◌, min, Bool, true, false, cond, ◌⊎◌, inl, inr, List, [], ◌∷◌, length, get_or, refl, sym, ap, subst, ◌∙◌, arith}
+use Rattle.std.specs.Prelude.{◌||◌, ◌&&◌, not, nat_eq, nat_lt}
+use Rattle.std.specs.List.{list_any, list_all, AllAdjacentBelow}
 use Rattle.std.specs.List.Sorted.{IsPermutation}
 use Rattle.std.proofs.lemmas.Bool.{and_parts, and_from, or_left, or_right, cases_lt, eq-eqb, eqb-true, le-leb, lt-ltb, le-ltb}
 use Rattle.std.proofs.lemmas.List.Folds.{list_any-append, list_all-append}
@@ -26,7 +26,7 @@ use Rattle.lrs_parts.proofs.Counts.{any_counted}
 use Rattle.lrs_parts.proofs.Counted.{number_same, all_counted}
 use Rattle.lrs_parts.proofs.Membership.{In, any_found, any_of, any_given, all_given}
 use Rattle.lrs_parts.proofs.Once.{are_had, rows_once}
-use Rattle.lrs_parts.proofs.Joined.{covers, Covers, covered, AreInOrder, one_run, upright_rows}
+use Rattle.lrs_parts.proofs.Joined.{covers, covered, AreInOrder, one_run, upright_rows}
 use Rattle.lrs_parts.proofs.Whole.{fewest_unjoined, in_pieces}
 use Rattle.lrs_parts.proofs.Keys.{strictly}
 use Rattle.lrs_parts.proofs.Fewest.{no_fewer}

@@ -1,8 +1,8 @@
 -- On a course that has no millimetre twice the rows of a route have each place once.
-use Rattle.std.proofs.Common.{◌≡◌, ℕ, zero, suc, ◌+◌, ◌-◌, ◌<◌, ◌≤◌, Bool, true, false, cond, ◌⊎◌, inl, inr, List, [], ◌∷◌, ◌++◌, take, drop, length, get_or, refl, sym, ap, subst, ◌∙◌, arith, length-take}
-use Rattle.std.specs.Prelude.{◌||◌, ◌&&◌, not, nat_lt, nat_eq, slice_range, sum_by}
-use Rattle.std.specs.List.{list_any, list_all, count_by, flat_map}
-use Rattle.std.proofs.lemmas.Bool.{false≢true, both_ways, not-true, and_parts, and_from, or_cases, cases_Bool, cases_order, eqb-true, eq-eqb, ltb-true}
+use Rattle.std.proofs.Common.{◌≡◌, ℕ, zero, suc, ◌+◌, ◌-◌, ◌<◌, ◌≤◌, Bool, true, false, ◌⊎◌, inl, inr, List, [], ◌∷◌, take, drop, length, get_or, refl, sym, ap, ◌∙◌, arith, length-take}
+use Rattle.std.specs.Prelude.{◌||◌, ◌&&◌, nat_lt, nat_eq, slice_range}
+use Rattle.std.specs.List.{list_any, list_all, count_by}
+use Rattle.std.proofs.lemmas.Bool.{false≢true, both_ways, not-true, and_parts, and_from, cases_Bool, cases_order, eqb-true, eq-eqb}
 use Rattle.std.proofs.lemmas.List.{get_or-take, get_or-drop, length-drop}
 use Rattle.lrs_measure.specs.Lists.{each_two}
 use Rattle.lrs_element.specs.declared.link.Ground.{Ground}
@@ -15,10 +15,10 @@ use Rattle.lrs_events.specs.declared.side.LinkSide.TheVariants.{Left, Right}
 use Rattle.lrs_events.specs.Places.{Place, same_place, same_link_side, along_link, beside, places_at, places_on, differs}
 use Rattle.lrs_events.specs.Spans.{holds_by_span, holds_by_spans, are_apart, are_rows, is_row, span_before}
 use Rattle.lrs_parts.specs.Ledger.{times_in_row, times_in_rows}
-use Rattle.lrs_parts.proofs.Counts.{count_cons, count_append, any_counted, any_summed, sum_same, count_yes, count_no}
+use Rattle.lrs_parts.proofs.Counts.{count_cons, count_append, any_counted, any_summed, sum_same, count_no}
 use Rattle.lrs_parts.proofs.Counted.{pick}
-use Rattle.lrs_parts.proofs.Membership.{In, any_found, all_at, flat_map_found, place_in, two_pass, at_most_one, none_passes}
-use Rattle.lrs_parts.proofs.Ordered.{AreOff, apart}
+use Rattle.lrs_parts.proofs.Membership.{In, any_found, all_at, flat_map_found, place_in, two_pass, at_most_one}
+use Rattle.lrs_parts.proofs.Ordered.{apart}
 
 -- ---- where a row has a place
 

@@ -1,5 +1,5 @@
 -- What the parts of rows say of the rows and of the course.
-use Rattle.std.specs.Prelude.{◌≡◌, ℕ, ◌+◌, ◌<◌, ◌≤◌, Bool, true, ◌&&◌, nat_eq, nat_le, nat_lt, if◌then◌else◌, List, length, slice_range, slice_index_or, sum_by}
+use Rattle.std.specs.Prelude.{◌≡◌, ℕ, ◌+◌, ◌<◌, ◌≤◌, Bool, true, ◌&&◌, nat_eq, nat_le, if◌then◌else◌, List, length, slice_range, slice_index_or, sum_by}
 use Rattle.std.specs.List.{list_any, list_all, count_by}
 use Rattle.lrs_element.specs.declared.link.Piece.{Piece}
 use Rattle.lrs_element.specs.declared.link.Ground.{Ground}
