@@ -1,13 +1,13 @@
 -- The parts of rows have each place as often as the rows have it.
-use Rattle.std.proofs.Common.{◌≡◌, ℕ, zero, suc, ◌+◌, ◌-◌, ◌<◌, ◌≤◌, min, Bool, true, false, cond, ◌⊎◌, inl, inr, List, [], ◌∷◌, ◌++◌, map, reverse, length, take, drop, refl, sym, ap, ◌∙◌, arith}
-use Rattle.std.specs.Prelude.{◌||◌, ◌&&◌, nat_eq, nat_le, nat_lt, slice_range, sum_by}
-use Rattle.std.specs.List.{list_any, list_all, count_by, flat_map, range_with_len, AllByRecursion}
-use Rattle.std.proofs.lemmas.Bool.{and_parts, and_from, cases_Bool, cases_lt, cases_order, eqb-true, eq-eqb, ne_eqb, leb-true, ltb-true, lt-ltb, le-ltb, le-leb, lt-leb}
-use Rattle.std.proofs.lemmas.List.Sums.{sum_by-cons, sum_by-append}
+use Rattle.std.proofs.Common.{◌≡◌, ℕ, zero, suc, ◌+◌, ◌-◌, ◌<◌, ◌≤◌, min, Bool, true, false, cond, ◌⊎◌, inl, inr, List, [], ◌∷◌, ◌++◌, reverse, length, take, drop, refl, sym, ap, ◌∙◌, arith}
+use Rattle.std.specs.Prelude.{◌&&◌, nat_eq, nat_le, nat_lt, slice_range, sum_by}
+use Rattle.std.specs.List.{list_all, count_by, range_with_len}
+use Rattle.std.proofs.lemmas.Bool.{and_parts, and_from, cases_Bool, cases_lt, cases_order, eqb-true, eq-eqb, ne_eqb, leb-true, lt-ltb, le-ltb, le-leb, lt-leb}
+use Rattle.std.proofs.lemmas.List.Sums.{sum_by-cons}
 use Rattle.lrs_element.specs.declared.link.Piece.{Piece}
 use Rattle.lrs_element.specs.declared.link.Ground.{Ground}
 use Rattle.lrs_element.specs.Course.{expand, course_of, millimetres}
-use Rattle.lrs_element.specs.Pieces.{piece_len, IsFilled}
+use Rattle.lrs_element.specs.Pieces.{piece_len}
 use Rattle.lrs_element.proofs.Expanding.{length-expand, part_forward, part_backward}
 use Rattle.lrs_element.proofs.Walking.{range, range-append, range_capped, range_none}
 use Rattle.lrs_events.specs.declared.part.Part.{Part}
@@ -17,7 +17,7 @@ use Rattle.lrs_events.specs.declared.side.LinkSide.{LinkSide}
 use Rattle.lrs_events.specs.declared.side.LinkSide.TheVariants.{Left, Right}
 use Rattle.lrs_events.specs.declared.span.Span.{Span}
 use Rattle.lrs_events.specs.Members.{has_side}
-use Rattle.lrs_events.specs.Places.{Place, same_place, same_link_side, along_link, beside, places_at, places_on}
+use Rattle.lrs_events.specs.Places.{Place, same_place, same_link_side, along_link, beside, places_on}
 use Rattle.lrs_events.specs.Parts.{has_for, times_had}
 use Rattle.lrs_parts.specs.declared.run.Run.{Run}
 use Rattle.lrs_parts.specs.Runs.{goes_on, with_run, with_row, runs_from}

@@ -1,5 +1,5 @@
 -- Neighbouring millimetres that an asset has on one side are in one run.
-use Rattle.std.proofs.Common.{◌≡◌, ℕ, zero, suc, ◌+◌, ◌<◌, ◌≤◌, Bool, true, false, cond, ◌⊎◌, inl, inr, List, [], ◌∷◌, refl, sym, ap, ◌∙◌, arith}
+use Rattle.std.proofs.Common.{◌≡◌, ℕ, ◌+◌, ◌<◌, ◌≤◌, Bool, true, false, cond, ◌⊎◌, inl, inr, List, [], ◌∷◌, refl, sym, ap, ◌∙◌, arith}
 use Rattle.std.specs.Prelude.{◌||◌, ◌&&◌, nat_eq, nat_le, nat_lt}
 use Rattle.std.specs.List.{list_any, list_all}
 use Rattle.std.proofs.lemmas.Bool.{false≢true, and_parts, and_from, or_cases, or_left, or_right, cases_Bool, eqb-true, eq-eqb, leb-true, ltb-true, le-leb, lt-ltb}
@@ -13,7 +13,7 @@ use Rattle.lrs_parts.specs.Runs.{goes_on, with_run, with_row, runs_from}
 use Rattle.lrs_parts.specs.Ledger.{are_on}
 use Rattle.lrs_parts.proofs.Counted.{upright, longer, run_of, is_upright, with_row_upright}
 use Rattle.lrs_parts.proofs.Membership.{In, any_found, all_at}
-use Rattle.lrs_parts.proofs.Ordered.{Before, before, starts_later, IsBetween, between, AreOff, apart, Stands, stands}
+use Rattle.lrs_parts.proofs.Ordered.{before, starts_later, between, apart, Stands, stands}
 
 module _ (a j : ℕ) where
   -- the run has the millimetre and the next one for the asset

@@ -1,5 +1,5 @@
 -- The order of a ledger, and parts in it.
-use Rattle.std.proofs.Common.{◌≡◌, ℕ, zero, suc, ◌+◌, ◌<◌, ◌≤◌, Bool, true, false, ◌⊎◌, inl, inr, List, [], ◌∷◌, length, get_or, Ordering, Less, Equal, Greater, refl, sym, ap, ◌∙◌, arith}
+use Rattle.std.proofs.Common.{◌≡◌, ℕ, zero, suc, ◌<◌, ◌≤◌, Bool, true, false, ◌⊎◌, inl, inr, List, [], ◌∷◌, length, get_or, Ordering, Less, Equal, Greater, refl, sym, ap, ◌∙◌, arith}
 use Rattle.std.specs.Prelude.{◌&&◌, nat_eq, nat_le, nat_lt}
 use Rattle.std.specs.List.{list_all, count_by, AllAdjacentBelow}
 use Rattle.std.specs.Ordering.{nat_cmp, is_lt, ordering_then, ordering_reverse}
@@ -12,7 +12,7 @@ use Rattle.lrs_events.specs.declared.part.Part.{Part}
 use Rattle.lrs_events.specs.declared.side.LinkSide.{LinkSide}
 use Rattle.lrs_events.specs.declared.side.LinkSide.TheVariants.{Left, Right}
 use Rattle.lrs_events.specs.Places.{Place, same_link_side}
-use Rattle.lrs_events.specs.Parts.{has_for, has_place, IsHadOnce, part_before, part_key, side_number}
+use Rattle.lrs_events.specs.Parts.{has_for, IsHadOnce, part_before, part_key, side_number}
 use Rattle.lrs_parts.proofs.Counts.{count_yes, count_no}
 
 then_then : (a b c : Ordering) → ordering_then (ordering_then a b) c ≡ ordering_then a (ordering_then b c)
@@ -47,7 +47,7 @@ counted_at p (x ∷ xs) (suc i) d within h = by (cases_Bool (p x)) (counted_at p
     by (inl g) rest = let e = count_yes p x xs g in omega (arith, e)
     by (inr g) rest = let e = count_no p x xs g in omega (arith, e, rest)
 
-two_counted : {X : Type 0} (p : X → Bool) (xs : List X) (i j : ℕ) (d : X) → i < j → j < length xs → p (get_or xs i d) ≡ true → p (get_or xs j d) ≡ true → 2 ≤ count_by p xs
+pub two_counted : {X : Type 0} (p : X → Bool) (xs : List X) (i j : ℕ) (d : X) → i < j → j < length xs → p (get_or xs i d) ≡ true → p (get_or xs j d) ≡ true → 2 ≤ count_by p xs
 two_counted p [] i j d less within h k = absurd (omega (arith, within))
 two_counted p (x ∷ xs) zero zero d less within h k = absurd (omega (arith, less))
 two_counted p (x ∷ xs) zero (suc j) d less within h k = let e = count_yes p x xs h in let f = counted_at p xs j d (omega (arith, within)) k in omega (arith, e, f)
@@ -68,7 +68,7 @@ each_placed test (x ∷ xs) h =
     and_from (list_all (test x) xs) (each_two test xs) (all_placed (test x) xs (λ j d lt. h zero (suc j) d (omega arith) (omega (arith, lt))))
     (each_placed test xs (λ i j d less lt. h (suc i) (suc j) d (omega (arith, less)) (omega (arith, lt))))
 
-all_at_place : (p : Part → Bool) (xs : List Part) (i : ℕ) (d : Part) → list_all p xs ≡ true → i < length xs → p (get_or xs i d) ≡ true
+pub all_at_place : (p : Part → Bool) (xs : List Part) (i : ℕ) (d : Part) → list_all p xs ≡ true → i < length xs → p (get_or xs i d) ≡ true
 all_at_place p [] i d h lt = absurd (omega (arith, lt))
 all_at_place p (x ∷ xs) zero d h lt = (and_parts (p x) (list_all p xs) h).0
 all_at_place p (x ∷ xs) (suc i) d h lt = all_at_place p xs i d (and_parts (p x) (list_all p xs) h).1 (omega (arith, lt))

@@ -9,3 +9,4 @@ pub mod Whole
 pub mod Once
 pub mod Keys
 pub mod Made
+pub mod Fewest

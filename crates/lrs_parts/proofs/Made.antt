@@ -1,7 +1,7 @@
 -- What the parts of the pieces of a course, put in order, say of the rows.
-use Rattle.std.proofs.Common.{◌≡◌, ℕ, ◌+◌, ◌-◌, ◌<◌, ◌≤◌, min, Bool, true, false, cond, ◌⊎◌, inl, inr, List, [], ◌∷◌, ◌++◌, length, get_or, refl, sym, ap, subst, ◌∙◌, arith}
-use Rattle.std.specs.Prelude.{◌||◌, ◌&&◌, not, nat_eq, nat_le, nat_lt}
-use Rattle.std.specs.List.{list_any, list_all, count_by, flat_map, AllByRecursion, AllAdjacentBelow}
+use Rattle.std.proofs.Common.{◌≡◌, ℕ, ◌+◌, ◌-◌, ◌<◌, ◌≤◌, min, Bool, true, false, cond, ◌⊎◌, inl, inr, List, [], ◌∷◌, length, get_or, refl, sym, ap, subst, ◌∙◌, arith}
+use Rattle.std.specs.Prelude.{◌||◌, ◌&&◌, not, nat_eq, nat_lt}
+use Rattle.std.specs.List.{list_any, list_all, AllAdjacentBelow}
 use Rattle.std.specs.List.Sorted.{IsPermutation}
 use Rattle.std.proofs.lemmas.Bool.{and_parts, and_from, or_left, or_right, cases_lt, eq-eqb, eqb-true, le-leb, lt-ltb, le-ltb}
 use Rattle.std.proofs.lemmas.List.Folds.{list_any-append, list_all-append}
@@ -21,14 +21,15 @@ use Rattle.lrs_events.specs.Spans.{are_rows, is_row, span_before, are_apart, hol
 use Rattle.lrs_parts.specs.declared.run.Run.{Run}
 use Rattle.lrs_parts.specs.Runs.{runs_from}
 use Rattle.lrs_parts.specs.Cutting.{part_between, parts_in, parts_from, side_parts, all_parts, AreCut}
-use Rattle.lrs_parts.specs.Ledger.{times_in_rows, lies_in, AreInPieces, are_on, one_has, AreWhole}
+use Rattle.lrs_parts.specs.Ledger.{times_in_rows, lies_in, AreInPieces, are_on, one_has, AreWhole, NoneIsShorter}
 use Rattle.lrs_parts.proofs.Counts.{any_counted}
 use Rattle.lrs_parts.proofs.Counted.{number_same, all_counted}
 use Rattle.lrs_parts.proofs.Membership.{In, any_found, any_of, any_given, all_given}
 use Rattle.lrs_parts.proofs.Once.{are_had, rows_once}
-use Rattle.lrs_parts.proofs.Joined.{covers, Covers, covered, AreInOrder, one_run, upright_rows}
+use Rattle.lrs_parts.proofs.Joined.{covers, covered, AreInOrder, one_run, upright_rows}
 use Rattle.lrs_parts.proofs.Whole.{fewest_unjoined, in_pieces}
 use Rattle.lrs_parts.proofs.Keys.{strictly}
+use Rattle.lrs_parts.proofs.Fewest.{no_fewer}
 
 -- ---- each part
 
@@ -184,3 +185,12 @@ module _ (n : ℕ) (rows : List Span) (course : List Ground) (made sorted : List
         ∙ ap (λ xs. one_has xs a (beside (get_or (course_of cut.pieces) j d) s) (beside (get_or (course_of cut.pieces) (j + 1) d) s)) cut.cut
         ∙ whole_all n rows cut.pieces cut.fewest ok a j s d within on h k;
   })
+
+  pub shown_are : (a : ℕ) (p : Place) → list_any (has_for a p) sorted ≡ holds_by_spans course rows a p
+  shown_are a p = any_counted (has_for a p) sorted ∙ ap (nat_lt 0) (times_are a p) ∙ sym (are_had course rows a p)
+
+  pub fewest_is : each_two differs course ≡ true → NoneIsShorter course rows sorted
+  fewest_is once others in' same =
+      let e : course_of in'.pieces ≡ course = in'.run_over in
+      no_fewer rows in'.pieces sorted others (ap (each_two differs) e ∙ once) (subst (λ c. AreWhole c rows sorted) (sym e) whole_is) filled_are (once_is once) in'.within
+      (λ a p. shown_are a p ∙ ap (λ c. holds_by_spans c rows a p) (sym e)) (λ a p. same a p ∙ ap (λ c. holds_by_spans c rows a p) (sym e))

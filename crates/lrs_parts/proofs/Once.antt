@@ -1,8 +1,8 @@
 -- On a course that has no millimetre twice the rows of a route have each place once.
-use Rattle.std.proofs.Common.{◌≡◌, ℕ, zero, suc, ◌+◌, ◌-◌, ◌<◌, ◌≤◌, Bool, true, false, cond, ◌⊎◌, inl, inr, List, [], ◌∷◌, ◌++◌, take, drop, length, get_or, refl, sym, ap, subst, ◌∙◌, arith, length-take}
-use Rattle.std.specs.Prelude.{◌||◌, ◌&&◌, not, nat_lt, nat_eq, slice_range, sum_by}
-use Rattle.std.specs.List.{list_any, list_all, count_by, flat_map}
-use Rattle.std.proofs.lemmas.Bool.{false≢true, both_ways, not-true, and_parts, and_from, or_cases, cases_Bool, cases_order, eqb-true, eq-eqb, ltb-true}
+use Rattle.std.proofs.Common.{◌≡◌, ℕ, zero, suc, ◌+◌, ◌-◌, ◌<◌, ◌≤◌, Bool, true, false, ◌⊎◌, inl, inr, List, [], ◌∷◌, take, drop, length, get_or, refl, sym, ap, ◌∙◌, arith, length-take}
+use Rattle.std.specs.Prelude.{◌||◌, ◌&&◌, nat_lt, nat_eq, slice_range}
+use Rattle.std.specs.List.{list_any, list_all, count_by}
+use Rattle.std.proofs.lemmas.Bool.{false≢true, both_ways, not-true, and_parts, and_from, cases_Bool, cases_order, eqb-true, eq-eqb}
 use Rattle.std.proofs.lemmas.List.{get_or-take, get_or-drop, length-drop}
 use Rattle.lrs_measure.specs.Lists.{each_two}
 use Rattle.lrs_element.specs.declared.link.Ground.{Ground}
@@ -15,14 +15,14 @@ use Rattle.lrs_events.specs.declared.side.LinkSide.TheVariants.{Left, Right}
 use Rattle.lrs_events.specs.Places.{Place, same_place, same_link_side, along_link, beside, places_at, places_on, differs}
 use Rattle.lrs_events.specs.Spans.{holds_by_span, holds_by_spans, are_apart, are_rows, is_row, span_before}
 use Rattle.lrs_parts.specs.Ledger.{times_in_row, times_in_rows}
-use Rattle.lrs_parts.proofs.Counts.{count_cons, count_append, any_counted, any_summed, sum_same, count_yes, count_no}
+use Rattle.lrs_parts.proofs.Counts.{count_cons, count_append, any_counted, any_summed, sum_same, count_no}
 use Rattle.lrs_parts.proofs.Counted.{pick}
-use Rattle.lrs_parts.proofs.Membership.{In, any_found, all_at, flat_map_found, place_in, two_pass, at_most_one, none_passes}
-use Rattle.lrs_parts.proofs.Ordered.{AreOff, apart}
+use Rattle.lrs_parts.proofs.Membership.{In, any_found, all_at, flat_map_found, place_in, two_pass, at_most_one}
+use Rattle.lrs_parts.proofs.Ordered.{apart}
 
 -- ---- where a row has a place
 
-in_slice : (g : Ground) (xs : List Ground) (from to : ℕ) → In g (slice_range xs from to) → (j : ℕ) × (from ≤ j) × (j < to) × (j < length xs) × ((d : Ground) → get_or xs j d ≡ g)
+pub in_slice : (g : Ground) (xs : List Ground) (from to : ℕ) → In g (slice_range xs from to) → (j : ℕ) × (from ≤ j) × (j < to) × (j < length xs) × ((d : Ground) → get_or xs j d ≡ g)
 in_slice g xs from to m =
     let place = place_in g (slice_range xs from to) m in
     let k = place.0 in
@@ -41,7 +41,7 @@ record Spot (course : List Ground) (r : Span) (a : ℕ) (p : Place) : Type 0 whe
   pub on_link : (d : Ground) → (get_or course at d).link ≡ p.link
   pub on_mm : (d : Ground) → (get_or course at d).mm ≡ p.mm
 
-beside_ground : (s : Side) (g : Ground) (q : Place) → In q (places_at s g) → (q.link ≡ g.link) × (q.mm ≡ g.mm)
+pub beside_ground : (s : Side) (g : Ground) (q : Place) → In q (places_at s g) → (q.link ≡ g.link) × (q.mm ≡ g.mm)
 beside_ground L g q (inl e) = (ap (λ r. r.link) e, ap (λ r. r.mm) e)
 beside_ground L g q (inr m) = absurd m
 beside_ground R g q (inl e) = (ap (λ r. r.link) e, ap (λ r. r.mm) e)
@@ -70,7 +70,7 @@ spot course r a p h =
     }
 
 -- a place is at one chainage of a course at most
-not_twice : (course : List Ground) (p : Place) (i j : ℕ) (d : Ground) → each_two differs course ≡ true → i < j → j < length course
+pub not_twice : (course : List Ground) (p : Place) (i j : ℕ) (d : Ground) → each_two differs course ≡ true → i < j → j < length course
     → (get_or course i d).link ≡ p.link → (get_or course i d).mm ≡ p.mm → (get_or course j d).link ≡ p.link → (get_or course j d).mm ≡ p.mm → ⊥
 not_twice course p i j d once less within a b e f =
     let g = get_or course i d in

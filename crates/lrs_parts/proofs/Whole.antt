@@ -1,8 +1,8 @@
 -- Neighbouring millimetres of a run are in one part, where the course goes straight on.
 use Rattle.std.proofs.Common.{◌≡◌, ℕ, zero, suc, ◌+◌, ◌-◌, ◌<◌, ◌≤◌, min, Bool, true, false, cond, ◌⊎◌, inl, inr, List, [], ◌∷◌, ◌++◌, length, get_or, refl, sym, ap, subst, ◌∙◌, arith, length-append}
-use Rattle.std.specs.Prelude.{◌||◌, ◌&&◌, nat_eq, nat_le, nat_lt}
-use Rattle.std.specs.List.{list_any, list_all, flat_map, AllByRecursion}
-use Rattle.std.proofs.lemmas.Bool.{false≢true, both_ways, and_parts, and_from, or_left, or_right, cases_Bool, cases_lt, eq-eqb, le-leb, lt-ltb, false_from_ne_true}
+use Rattle.std.specs.Prelude.{◌&&◌}
+use Rattle.std.specs.List.{list_any, AllByRecursion}
+use Rattle.std.proofs.lemmas.Bool.{both_ways, and_from, or_left, or_right, cases_lt, eq-eqb, le-leb, lt-ltb, false_from_ne_true}
 use Rattle.std.proofs.lemmas.List.{get_or_append_left, get_or-append_right}
 use Rattle.std.proofs.lemmas.List.Folds.{list_any-append}
 use Rattle.lrs_element.specs.declared.link.Piece.{Piece}
@@ -14,7 +14,7 @@ use Rattle.lrs_element.proofs.Expanding.{length-expand, get_or-expand}
 use Rattle.lrs_events.specs.declared.part.Part.{Part}
 use Rattle.lrs_events.specs.declared.side.LinkSide.{LinkSide}
 use Rattle.lrs_events.specs.declared.side.LinkSide.TheVariants.{Left, Right}
-use Rattle.lrs_events.specs.Places.{Place, beside, along_link, same_link_side}
+use Rattle.lrs_events.specs.Places.{beside, along_link, same_link_side}
 use Rattle.lrs_events.specs.Parts.{has_for}
 use Rattle.lrs_parts.specs.declared.run.Run.{Run}
 use Rattle.lrs_parts.specs.Cutting.{part_between, parts_in, parts_from}

@@ -1,5 +1,5 @@
 -- What the parts of rows say of the rows and of the course.
-use Rattle.std.specs.Prelude.{◌≡◌, ℕ, ◌+◌, ◌<◌, Bool, true, ◌&&◌, nat_eq, nat_le, nat_lt, if◌then◌else◌, List, length, slice_range, slice_index_or, sum_by}
+use Rattle.std.specs.Prelude.{◌≡◌, ℕ, ◌+◌, ◌<◌, ◌≤◌, Bool, true, ◌&&◌, nat_eq, nat_le, if◌then◌else◌, List, length, slice_range, slice_index_or, sum_by}
 use Rattle.std.specs.List.{list_any, list_all, count_by}
 use Rattle.lrs_element.specs.declared.link.Piece.{Piece}
 use Rattle.lrs_element.specs.declared.link.Ground.{Ground}
@@ -10,6 +10,7 @@ use Rattle.lrs_events.specs.declared.span.Span.{Span}
 use Rattle.lrs_events.specs.Members.{stands_for}
 use Rattle.lrs_events.specs.Places.{Place, same_place, beside, places_on}
 use Rattle.lrs_events.specs.Parts.{has_for}
+use Rattle.lrs_events.specs.Spans.{holds_by_spans}
 
 -- how often a row on a course has a place for an asset: more than once only where the course comes there again
 abbrev pub times_in_row : List Ground → ℕ → Place → Span → ℕ
@@ -43,3 +44,8 @@ pub record AreWhole (course : List Ground) (rows : List Span) (parts : List Part
   pub whole : (asset j : ℕ) (s : LinkSide) (d : Ground) → j + 1 < length course → continues (slice_index_or course j d) (slice_index_or course (j + 1) d) ≡ true
       → are_on rows asset j s ≡ true → are_on rows asset (j + 1) s ≡ true
       → one_has parts asset (beside (slice_index_or course j d) s) (beside (slice_index_or course (j + 1) d) s) ≡ true
+
+-- No other parts that lie in pieces of the course and have what the rows hold are fewer.
+abbrev pub NoneIsShorter : List Ground → List Span → List Part → Type 0
+NoneIsShorter course rows parts = (others : List Part) → AreInPieces course others
+    → ((asset : ℕ) (p : Place) → list_any (has_for asset p) others ≡ holds_by_spans course rows asset p) → length parts ≤ length others

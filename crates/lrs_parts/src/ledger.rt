@@ -4,11 +4,11 @@ ghost use Rattle.std.specs.Prelude.{◌≡◌, ℕ, ◌&&◌, nat_eq, nat_lt, tr
 ghost use Rattle.std.specs.List.{list_any, list_all, AllAdjacentBelow};
 ghost use Rattle.lrs_measure.specs.Lists.{each_two};
 ghost use Rattle.lrs_events.specs.declared.part.Gone.{Gone};
-ghost use Rattle.lrs_events.specs.Parts.{has_pair, times_had, IsHadOnce, part_before, side_number};
+ghost use Rattle.lrs_events.specs.Parts.{has_for, has_pair, times_had, IsHadOnce, part_before, side_number};
 ghost use Rattle.lrs_events.specs.Places.{Place, differs};
 ghost use Rattle.lrs_events.specs.Spans.{are_rows, holds_by_spans};
 ghost use Rattle.lrs_parts.specs.Cutting.{AreCut};
-ghost use Rattle.lrs_parts.specs.Ledger.{times_in_rows, AreInPieces, AreWhole};
+ghost use Rattle.lrs_parts.specs.Ledger.{times_in_rows, AreInPieces, AreWhole, NoneIsShorter};
 
 use crate::cutting::push_side;
 use lrs_element::{Course, Piece, starts_of};
@@ -69,12 +69,14 @@ pub fn parts(
     requires { IsTrue (are_rows rows.now) }
     ensures edit { IfOk result (λ parts. list_all (λ part. nat_eq part.edit edit) parts.items ≡ true) }
     ensures pairs { IfOk result (λ parts. (m asset : ℕ) (p : Place) → list_any (λ part. has_pair part m asset p) parts.items ≡ (nat_eq m edit && holds_by_spans course.now rows.now asset p)) }
+    ensures shows { IfOk result (λ parts. (asset : ℕ) (p : Place) → list_any (has_for asset p) parts.items ≡ holds_by_spans course.now rows.now asset p) }
     ensures times { IfOk result (λ parts. (asset : ℕ) (p : Place) → times_had asset p parts.items ≡ times_in_rows course.now rows.now asset p) }
     ensures once { IfOk result (λ parts. each_two differs course.now ≡ true → IsHadOnce parts.items) }
     ensures order { IfOk result (λ parts. each_two differs course.now ≡ true → each_two part_before parts.items ≡ true) }
     ensures filled { IfOk result (λ parts. list_all (λ part. nat_lt part.lo part.hi) parts.items ≡ true) }
     ensures within { IfOk result (λ parts. AreInPieces course.now parts.items) }
     ensures whole { IfOk result (λ parts. AreWhole course.now rows.now parts.items) }
+    ensures fewest { IfOk result (λ parts. each_two differs course.now ≡ true → NoneIsShorter course.now rows.now parts.items) }
 {
     let mut parts = parts_on(alloc, edit, rows, course)?;
     sort(&mut parts);

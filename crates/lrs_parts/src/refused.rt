@@ -4,7 +4,7 @@
 //! With ample memory nothing here is refused. `tests/refused_growths_test.py` runs these tests with one
 //! allocation refused, each in turn, and reads which calls they print.
 
-use super::tests::{PARTS, course, rows};
+use super::tests::{course, entered, row};
 use super::*;
 use std::process::Abort;
 
@@ -16,7 +16,7 @@ fn refused(rt: &impl Print, call: &str) {
 #[test]
 fn parts_are_made(rt: HostRuntime) {
     let course = course(&rt);
-    let rows = rows(&rt);
+    let rows = [row(&rt)];
     let made = match parts(rt.alloc(), 9, &rows, &course) {
         Ok(made) => made,
         Err(_) => {
@@ -24,17 +24,17 @@ fn parts_are_made(rt: HostRuntime) {
             parts(rt.alloc(), 9, &rows, &course).expect(&rt, "memory")
         }
     };
-    assert_eq!(rt; made.as_slice(), PARTS.as_slice());
+    assert_eq!(rt; made.as_slice(), entered().as_slice());
 }
 
 #[test]
 fn parts_go(rt: HostRuntime) {
-    let made = match gone(rt.alloc(), &PARTS, false) {
+    let made = match gone(rt.alloc(), &entered(), false) {
         Ok(made) => made,
         Err(_) => {
             refused(&rt, "gone");
-            gone(rt.alloc(), &PARTS, false).expect(&rt, "memory")
+            gone(rt.alloc(), &entered(), false).expect(&rt, "memory")
         }
     };
-    assert_eq!(rt; made.len(), 3);
+    assert_eq!(rt; made.len(), 4);
 }

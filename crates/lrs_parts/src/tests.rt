@@ -1,3 +1,6 @@
+ghost use Rattle.std.specs.Prelude.{◌≡◌, true};
+ghost use Rattle.lrs_events.specs.Spans.{is_row};
+
 use super::*;
 use lrs_element::{Course, CourseFault, Link, Piece};
 use lrs_events::{ClassName, Gone, LinkSide, Part, Side, Span};
@@ -38,59 +41,46 @@ pub(super) fn course(rt: &(impl Abort + AllocGlobal)) -> Course {
     }
 }
 
-/// Asset 5 on both sides of three millimetres, and then on the left up to the second piece.
-pub(super) fn rows(rt: &impl Abort) -> [Span; 2] {
-    let class = ClassName::new(b"RAIL").expect(rt, "a name");
-    let first = Span {
+/// Asset 5 on both sides of ten millimetres, two of which lie on the second piece.
+pub(super) fn row(rt: &impl Abort) -> Span
+    ensures { is_row result ≡ true }
+{
+    Span {
         asset: 5,
-        class,
+        class: ClassName::new(b"RAIL").expect(rt, "a name"),
         from: 2,
-        to: 5,
-        side: Side::B,
-    };
-    let second = Span {
-        asset: 5,
-        class,
-        from: 5,
         to: 12,
-        side: Side::L,
-    };
-    [first, second]
+        side: Side::B,
+    }
 }
 
-/// What edit 9 enters for them.
-pub(super) const PARTS: [Part; 3] = [
+/// A part that edit 9 enters for the asset.
+fn part(link: u32, lo: u32, hi: u32, side: LinkSide) -> Part {
     Part {
         edit: 9,
         asset: 5,
-        link: 3,
-        lo: 2,
-        hi: 10,
-        side: LinkSide::Left,
-    },
-    Part {
-        edit: 9,
-        asset: 5,
-        link: 3,
-        lo: 2,
-        hi: 5,
-        side: LinkSide::Right,
-    },
-    Part {
-        edit: 9,
-        asset: 5,
-        link: 7,
-        lo: 8,
-        hi: 10,
-        side: LinkSide::Right,
-    },
-];
+        link,
+        lo,
+        hi,
+        side,
+    }
+}
+
+/// What edit 9 enters for it.
+pub(super) fn entered() -> [Part; 4] {
+    [
+        part(3, 2, 10, LinkSide::Left),
+        part(3, 2, 10, LinkSide::Right),
+        part(7, 8, 10, LinkSide::Left),
+        part(7, 8, 10, LinkSide::Right),
+    ]
+}
 
 #[test]
 fn rows_are_cut_where_links_change(rt: HostRuntime) {
     let course = course(&rt);
-    let made = parts(rt.alloc(), 9, &rows(&rt), &course).expect(&rt, "memory");
-    assert_eq!(rt; made.as_slice(), PARTS.as_slice());
+    let made = parts(rt.alloc(), 9, &[row(&rt)], &course).expect(&rt, "memory");
+    assert_eq!(rt; made.as_slice(), entered().as_slice());
 }
 
 #[test]
@@ -102,12 +92,12 @@ fn no_rows_have_no_parts(rt: HostRuntime) {
 
 #[test]
 fn parts_go_for_their_reason(rt: HostRuntime) {
-    let made = gone(rt.alloc(), &PARTS, true).expect(&rt, "memory");
-    assert_eq!(rt; made.len(), 3);
+    let made = gone(rt.alloc(), &entered(), true).expect(&rt, "memory");
+    assert_eq!(rt; made.len(), 4);
     assert_eq!(rt;
         made[1],
         Gone {
-            part: PARTS[1],
+            part: entered()[1],
             abandoned: true
         }
     );

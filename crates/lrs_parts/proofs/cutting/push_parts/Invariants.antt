@@ -1,4 +1,3 @@
-use Rattle.std.proofs.Common.{◌≡◌}
 use Rattle.lrs_parts.proofs.Walked.{Walked}
 use Rattle.lrs_parts.proofs.cutting.push_parts.Given as goal
 

@@ -1,4 +1,4 @@
-use Rattle.lrs_parts.proofs.Made.{edit_is, filled_are, are_in_pieces, times_are, pairs_are, once_is, order_is, whole_is}
+use Rattle.lrs_parts.proofs.Made.{edit_is, filled_are, are_in_pieces, times_are, pairs_are, once_is, order_is, whole_is, shown_are, fewest_is}
 use Rattle.lrs_parts.proofs.ledger.parts.Goals as goal
 
 pub returns-clause-edit : goal.returns-clause-edit
@@ -24,3 +24,9 @@ returns-clause-within c = are_in_pieces _ _ _ _ _ (c.in_ok-parts.ensures) c.sort
 
 pub returns-clause-whole : goal.returns-clause-whole
 returns-clause-whole c = whole_is _ _ _ _ _ (c.in_ok-parts.ensures) c.sort.ensures.same c.requires
+
+pub returns-clause-shows : goal.returns-clause-shows
+returns-clause-shows c = shown_are _ _ _ _ _ (c.in_ok-parts.ensures) c.sort.ensures.same c.requires
+
+pub returns-clause-fewest : goal.returns-clause-fewest
+returns-clause-fewest c = fewest_is _ _ _ _ _ (c.in_ok-parts.ensures) c.sort.ensures.same c.requires

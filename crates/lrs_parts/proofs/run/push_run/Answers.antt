@@ -1,4 +1,4 @@
-use Rattle.std.proofs.Common.{sym, ap, ◌∙◌, length, refl}
+use Rattle.std.proofs.Common.{sym, ap, ◌∙◌, length}
 use Rattle.lrs_parts.proofs.Running.{last_longer, one_behind}
 use Rattle.lrs_parts.proofs.run.push_run.Goals as goal
 
