@@ -1,0 +1,6 @@
+pub mod Members
+pub mod Ranks
+pub mod Strict
+pub mod Inserted
+pub mod Fronts
+pub mod Lanes

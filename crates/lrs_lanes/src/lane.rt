@@ -6,7 +6,7 @@ ghost use Rattle.std.specs.List.Sorted.{IsNonDecreasingBy, IsPartitionPoint, IsP
 ghost use Rattle.lrs_measure.specs.Lists.{each_two};
 ghost use Rattle.lrs_events.specs.Changes.{changed};
 ghost use Rattle.lrs_events.specs.Spans.{span_before};
-ghost use Rattle.lrs_lanes.specs.Order.{place_before, differ_in_place};
+ghost use Rattle.lrs_lanes.specs.Order.{place_before, differ_in_place, stand_before};
 ghost use Rattle.lrs_lanes.specs.Lane.{greatest_from, last_from, is_met, IsLeast, least_with};
 
 use crate::order::RowOrder;
@@ -87,6 +87,22 @@ fn begun(rows: &[Span], high: u64) -> usize
     rows.partition_point(|row| row.from < high)
 }
 
+/// The rows among which all lie that have a millimetre from low up to high: from the first that ends behind
+/// low, or has one in front of it that does, up to the last that begins before high.
+fn reach<'a>(rows: &'a [Span], greatest: &[u64], low: u64, high: u64) -> &'a [Span]
+    requires order { each_two place_before rows.now ≡ true }
+    requires greatest { greatest.now ≡ greatest_from 0 rows.now }
+    ensures { filter (is_met low high) result.now ≡ filter (is_met low high) rows.now }
+{
+    let start = ended(greatest, low);
+    let end = begun(rows, high);
+    if start < end {
+        &rows[start..end]
+    } else {
+        &rows[..0]
+    }
+}
+
 /// Copies the rows that have a millimetre from low up to high to the end of others. Where it fails, some of
 /// them may have come.
 fn push_all_met(out: &mut Vec<Span>, rows: &[Span], low: u64, high: u64) -> Result<(), AllocError>
@@ -121,10 +137,10 @@ fn push_whole(out: &mut Vec<Span>, rows: &[Span], low: u64, high: u64) -> Result
 fn last_of(numbers: &[u64]) -> u64
     ensures { result ≡ last_from 0 numbers.now }
 {
-    match numbers.last() {
-        Some(number) => *number,
-        None => 0,
+    if numbers.is_empty() {
+        return 0;
     }
+    numbers[numbers.len() - 1]
 }
 
 // Puts a number at the end of a vector that has room for it.
@@ -138,6 +154,19 @@ fn push_in_room(numbers: &mut Vec<u64>, number: u64)
     }
 }
 
+/// Puts the greatest ends up to each of more rows behind those of the rows before them.
+fn push_ends(greatest: &mut Vec<u64>, rows: &[Span])
+    requires { vec_len greatest.old + length rows.now ≤ vec_capacity greatest.old }
+    ensures items { greatest.new.items ≡ greatest.old.items ++ greatest_from (last_from 0 greatest.old.items) rows.now }
+    ensures capacity { vec_capacity greatest.old ≤ vec_capacity greatest.new }
+{
+    let mut most = last_of(greatest);
+    for row in rows {
+        most = row.to.max(most);
+        push_in_room(greatest, most);
+    }
+}
+
 /// Puts the greatest ends up to each row behind those of the first rows, in a vector that has room for them.
 fn push_greatest(greatest: &mut Vec<u64>, rows: &[Span], start: usize)
     requires start { start ≤ length rows.now }
@@ -146,18 +175,14 @@ fn push_greatest(greatest: &mut Vec<u64>, rows: &[Span], start: usize)
     ensures items { greatest.new.items ≡ greatest_from 0 rows.now }
     ensures capacity { vec_capacity greatest.old ≤ vec_capacity greatest.new }
 {
-    let mut most = last_of(greatest);
-    for row in &rows[start..] {
-        most = row.to.max(most);
-        push_in_room(greatest, most);
-    }
+    push_ends(greatest, &rows[start..]);
 }
 
-/// How many of the rows stand before each of others.
+/// How many rows stand before each of others, all of them and those before them.
 fn front_before(rows: &[Span], others: &[Span]) -> usize
     requires { each_two place_before rows.now ≡ true }
     ensures within { result ≤ length rows.now }
-    ensures front { list_all (λ r. list_all (place_before r) others.now) (take result rows.now) ≡ true }
+    ensures front { stand_before result rows.now others.now ≡ true }
 {
     let mut front = rows.len();
     for other in others {
@@ -210,13 +235,7 @@ impl Lane {
     pub fn over(&self, low: u64, high: u64) -> Option<u64>
         ensures { IsLeast (is_met low high) self.now.rows result }
     {
-        let start = ended(&self.greatest, low);
-        let end = begun(&self.rows, high);
-        if start < end {
-            least_met(&self.rows[start..end], low, high)
-        } else {
-            None
-        }
+        least_met(reach(&self.rows, &self.greatest, low, high), low, high)
     }
 
     /// Copies the rows with a millimetre from low up to high, in their order, to the end of others.
@@ -227,13 +246,7 @@ impl Lane {
         ensures ok { OnOk result (out.new.items ≡ out.old.items ++ filter (is_met low high) self.now.rows) }
         ensures err { OnErr result (out.new.items ≡ out.old.items) }
     {
-        let start = ended(&self.greatest, low);
-        let end = begun(&self.rows, high);
-        if start < end {
-            push_whole(out, &self.rows[start..end], low, high)
-        } else {
-            Ok(())
-        }
+        push_whole(out, reach(&self.rows, &self.greatest, low, high), low, high)
     }
 
     /// Makes room for more rows.
