@@ -3,7 +3,6 @@ pub mod Unique
 pub mod Rows
 pub mod Coming
 pub mod Places
-pub mod Done
 pub mod Fewest
 pub mod Pieces
 pub mod Stretches
@@ -12,5 +11,13 @@ pub mod Pushing
 pub mod Exchanged
 pub mod Gathered
 pub mod Differing
+pub mod Fitting
+pub mod Seams
 pub mod Sorted
 pub mod Changing
+pub mod Mirrors
+pub mod Sided
+pub mod Replaced
+pub mod Cleared
+pub mod OfAsset
+pub mod Back

@@ -10,10 +10,10 @@ use Rattle.lrs_element.specs.Limits.{longest_route}
 use Rattle.lrs_events.specs.declared.side.LinkSide.{LinkSide}
 use Rattle.lrs_events.specs.declared.span.Span.{Span}
 use Rattle.lrs_events.specs.Spans.{are_rows}
-use Rattle.lrs_events.specs.Members.{has_side, has_member, is_member}
+use Rattle.lrs_events.specs.Members.{has_side, has_member}
 use Rattle.lrs_canonical.specs.Order.{In, IsLeft, by_class, by_asset, by_place, grown}
 use Rattle.lrs_canonical.specs.Clips.{clip, outside}
-use Rattle.lrs_canonical.specs.Removals.{is_within, IsLess, IsThat}
+use Rattle.lrs_canonical.specs.Removals.{is_within, IsThat}
 use Rattle.lrs_canonical.proofs.Members.{In-append_cases}
 use Rattle.lrs_canonical.proofs.Rows.{IsFull, IsAhead, Pairs, AreRows, pairs_append, rows_from, rows_are, left_place}
 use Rattle.std.proofs.lemmas.Bool.Decides.{nat_tests}
@@ -92,7 +92,7 @@ pub clip_pieces : (low high : ℕ) (r : Span) → ArePieces 0 r (clip low high r
 clip_pieces = clip_each
 
 -- where a part of a clip lies
-clip_bounds : (low high : ℕ) (r p : Span) → In p (clip low high r) → (low ≤ p.from) × (p.to ≤ high)
+pub clip_bounds : (low high : ℕ) (r p : Span) → In p (clip low high r) → (low ≤ p.from) × (p.to ≤ high)
 clip_bounds low high r p = by (nat_lt (max r.from low) (min r.to high))
   where
     by : (b : Bool) → In p (cond b (grown r (max r.from low) (min r.to high) ∷ []) []) → (low ≤ p.from) × (p.to ≤ high)
@@ -219,6 +219,3 @@ rests_rows low high rows l h = rows_are (flat_map (outside low high) rows) (piec
 
 pub clips_hold : (low high : ℕ) (rows : List Span) → IsThat (λ class asset j s. is_within low high j) rows (flat_map (clip low high) rows)
 clips_hold low high rows class asset j s = all_parts class asset j s (clip low high) (is_within low high j) rows (λ r m. clip_holds class asset j s low high r)
-
-pub rests_hold : (low high : ℕ) (rows : List Span) → low < high → are_rows rows ≡ true → IsLess (λ class asset j s. is_within low high j) rows (flat_map (outside low high) rows)
-rests_hold low high rows l h class asset j s = all_parts class asset j s (outside low high) (not (is_within low high j)) rows (λ r m. outside_holds class asset j s low high r l ((rows_from rows h).full r m).short)

@@ -1,24 +1,18 @@
 -- The rows of an asset on a stretch.
-use Rattle.std.proofs.Common.{◌≡◌, ℕ, ◌+◌, ◌-◌, ◌<◌, ◌≤◌, Bool, true, false, ◌⊎◌, inl, inr, List, [], ◌∷◌, ◌++◌, length, get_or, take, drop, refl, sym, ap, subst, ◌∙◌, arith}
-use Rattle.std.specs.Prelude.{◌||◌, ◌&&◌, not, nat_lt, nat_le, nat_eq, slice_range}
-use Rattle.std.specs.List.{list_any, flat_map, splice}
+use Rattle.std.proofs.Common.{◌≡◌, ℕ, ◌+◌, ◌-◌, ◌<◌, ◌≤◌, true, false, ◌⊎◌, inl, inr, List, ◌++◌, length, get_or, take, drop, refl, sym, ap, subst, ◌∙◌, arith}
+use Rattle.std.specs.Prelude.{not, slice_range}
 use Rattle.std.specs.List.Sorted.{IsPartitionPoint}
-use Rattle.std.specs.Cmp.Lexicographic.{bytes_decides}
-use Rattle.std.proofs.lemmas.Bool.{both_ways, and_parts, not-true, eqb-true, eq-eqb, ltb-true, leb-true, cases_Bool, cases_lt, cases_order}
+use Rattle.std.proofs.lemmas.Bool.{both_ways, not-true, cases_Bool, cases_lt, cases_order}
 use Rattle.std.proofs.lemmas.List.{take-append-drop, drop-take}
-use Rattle.std.proofs.lemmas.List.Folds.{list_any-append, drop_split}
-use Rattle.lrs_measure.specs.Texts.{Name, same_name}
-use Rattle.lrs_events.specs.declared.side.LinkSide.{LinkSide}
+use Rattle.std.proofs.lemmas.List.Folds.{drop_split}
 use Rattle.lrs_events.specs.declared.span.Span.{Span}
 use Rattle.lrs_events.specs.Spans.{are_rows}
-use Rattle.lrs_events.specs.Members.{has_member, is_member}
 use Rattle.lrs_canonical.specs.Order.{In, IsLeft, by_class, by_asset, by_place, IsStretch}
 use Rattle.lrs_canonical.specs.Clips.{is_left}
-use Rattle.lrs_canonical.proofs.Members.{In-take, In-drop, In-append_left, In-append_right}
-use Rattle.lrs_canonical.proofs.Unique.{over, less_one}
-use Rattle.lrs_canonical.proofs.Rows.{IsFull, AreRows, NameCases, name_cases, before, same, behind, left_place, left_trans, pairs_front, pairs_rear, pairs_across, exchanged, rows_from, rows_are}
+use Rattle.lrs_canonical.proofs.Members.{In-take, In-drop}
+use Rattle.lrs_canonical.proofs.Unique.{less_one}
+use Rattle.lrs_canonical.proofs.Rows.{IsFull, NameCases, name_cases, before, same, behind, left_trans, rows_from}
 use Rattle.lrs_canonical.proofs.Places.{left_from, left_is, all_first, all_last, In-get}
-use Rattle.lrs_canonical.proofs.Pieces.{piece_itself, found_in, ahead_pieces, pieces_rows, clip_pieces, outside_pieces, all_parts, clip_holds, outside_holds}
 
 -- ---- the rows of the stretch
 

@@ -1,8 +1,6 @@
 -- Which rows went and which came.
-use Rattle.std.specs.Prelude.{◌↔◌, ◌⊎◌, ◌&&◌, Bool, not, nat_eq, List}
-use Rattle.std.specs.List.{list_any, filter}
-use Rattle.lrs_measure.specs.Texts.{same_name}
-use Rattle.lrs_events.specs.Spans.{same_side}
+use Rattle.std.specs.Prelude.{◌↔◌, ◌⊎◌, not, List}
+use Rattle.std.specs.List.{filter}
 use Rattle.lrs_events.specs.declared.span.Span.{Span}
 use Rattle.lrs_events.specs.Changes.{has_row}
 use Rattle.lrs_canonical.specs.Order.{In}

@@ -1,13 +1,11 @@
 -- Parts of rows.
-use Rattle.std.specs.Prelude.{◌≡◌, ℕ, ◌+◌, ◌-◌, Bool, ◌||◌, ◌&&◌, not, nat_lt, nat_le, nat_eq, min, max, List, [], ◌∷◌, ◌++◌, if◌then◌else◌}
-use Rattle.lrs_measure.specs.Texts.{Name, same_name, name_before}
+use Rattle.std.specs.Prelude.{ℕ, ◌-◌, Bool, ◌||◌, ◌&&◌, not, nat_lt, nat_le, nat_eq, min, max, List, [], ◌∷◌, ◌++◌, if◌then◌else◌}
+use Rattle.lrs_measure.specs.Texts.{same_name, name_before}
 use Rattle.lrs_element.specs.Limits.{longest_route}
-use Rattle.lrs_events.specs.declared.side.LinkSide.{LinkSide}
 use Rattle.lrs_events.specs.declared.span.Span.{Span}
 use Rattle.std.specs.List.{list_all}
 use Rattle.lrs_measure.specs.Lists.{each_two}
 use Rattle.lrs_events.specs.Spans.{is_row}
-use Rattle.lrs_events.specs.Members.{is_member}
 use Rattle.lrs_canonical.specs.Order.{grown}
 
 -- what of a row lies from low up to high

@@ -1,10 +1,7 @@
 -- What rows of spans stand for, by class, asset, chainage and side.
-use Rattle.std.specs.Prelude.{◌≡◌, ℕ, ◌≤◌, length, min, max, Bool, true, false, ◌||◌, ◌&&◌, not, nat_lt, nat_le, nat_eq, List}
+use Rattle.std.specs.Prelude.{◌≡◌, ℕ, ◌≤◌, length, min, max, Bool, true, ◌||◌, ◌&&◌, not, nat_le, nat_eq, List, filter}
 use Rattle.std.specs.List.{list_any, list_all}
-use Rattle.lrs_events.specs.declared.side.Side.{Side}
-use Rattle.lrs_events.specs.declared.side.Side.TheVariants.{L, R, B}
 use Rattle.lrs_events.specs.declared.side.LinkSide.{LinkSide}
-use Rattle.lrs_events.specs.declared.side.LinkSide.TheVariants.{Left, Right}
 use Rattle.lrs_events.specs.declared.span.Span.{Span}
 use Rattle.lrs_measure.specs.Lists.{each_two}
 use Rattle.lrs_measure.specs.Texts.{Name, same_name}
@@ -14,6 +11,15 @@ use Rattle.lrs_events.specs.Members.{has_member, is_member, SameMembers}
 -- Rows in order, apart and merged are determined by what they stand for.
 abbrev pub RowsAreOne : Type 0
 RowsAreOne = (xs ys : List Span) → are_rows xs ≡ true → are_rows ys ≡ true → SameMembers xs ys → xs ≡ ys
+
+-- whether the row is of the asset of the class
+abbrev pub is_of : Name → ℕ → Span → Bool
+is_of class asset r = same_name r.class class && nat_eq r.asset asset
+
+-- The rows of an asset are determined by what they stand for of it.
+abbrev pub AssetRowsAreOne : Type 0
+AssetRowsAreOne = (xs ys : List Span) (class : Name) (asset : ℕ) → are_rows xs ≡ true → are_rows ys ≡ true
+    → ((j : ℕ) (s : LinkSide) → is_member xs class asset j s ≡ is_member ys class asset j s) → filter (is_of class asset) xs ≡ filter (is_of class asset) ys
 
 -- whether the row leaves the span its millimetres, and is of its class if it is of its asset
 abbrev pub leaves_free : Span → Span → Bool

@@ -1,11 +1,16 @@
 //! A span is added to canonical rows.
 
-ghost use Rattle.std.specs.Prelude.{◌≤◌, IsTrue, length};
-ghost use Rattle.lrs_events.specs.Spans.{are_rows};
+ghost use Rattle.std.specs.Prelude.{◌≡◌, ◌≤◌, IsTrue, IfOk, length};
+ghost use Rattle.lrs_events.specs.Changes.{changed_rows};
+ghost use Rattle.lrs_events.specs.Spans.{are_rows, is_row};
+ghost use Rattle.lrs_canonical.specs.Changes.{IsChange};
+ghost use Rattle.lrs_canonical.specs.Members.{is_free, IsMore};
 ghost use Rattle.lrs_canonical.specs.Order.{IsPlace, IsEnd};
 
-use crate::order::joins;
-use lrs_events::Span;
+use crate::merging::start_of;
+use crate::order::{joins, place_of};
+use lrs_events::{Span, SpanChange};
+use std::alloc::{AllocError, Global};
 
 /// From where on rows stay behind a span, and where a row ends that takes the first of the others along.
 fn end_of(rows: &[Span], at: usize, span: &Span) -> (usize, u64)
@@ -22,4 +27,28 @@ fn end_of(rows: &[Span], at: usize, span: &Span) -> (usize, u64)
         }
     }
     (at, span.to)
+}
+
+/// The change that adds a span to canonical rows. It takes the place of the rows that it goes on or that go on with it:
+/// no more than two go, and one comes.
+///
+/// # Errors
+/// When memory runs out.
+pub fn added(alloc: Global, rows: &[Span], span: Span) -> Result<SpanChange, AllocError>
+    requires rows { IsTrue (are_rows rows.now) }
+    requires row { IsTrue (is_row span) }
+    requires free { IsTrue (is_free rows.now span) }
+    ensures gone { IfOk result (λ change. length change.gone.items ≤ 2) }
+    ensures come { IfOk result (λ change. length change.come.items ≡ 1) }
+    ensures kept { IfOk result (λ change. IsTrue (are_rows (changed_rows change rows.now))) }
+    ensures change { IfOk result (λ change. IsChange rows.now change.gone.items change.come.items (changed_rows change rows.now)) }
+    ensures more { IfOk result (λ change. IsMore rows.now span (changed_rows change rows.now)) }
+{
+    let at = place_of(rows, &span);
+    let (start, from) = start_of(rows, at, &span);
+    let (end, to) = end_of(rows, at, &span);
+    Ok(SpanChange {
+        gone: Vec::from_slice(alloc, &rows[start..end])?,
+        come: Vec::from_slice(alloc, &[Span { from, to, ..span }])?,
+    })
 }

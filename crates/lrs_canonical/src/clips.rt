@@ -8,13 +8,18 @@ use lrs_events::Span;
 use std::alloc::{AllocError, Global};
 
 // The length of the longest route, in millimetres.
-const LONGEST_ROUTE: u64 = 10_000_000_000;
+pub(crate) const LONGEST_ROUTE: u64 = 10_000_000_000;
 
 /// Adds what of the row lies from low up to high.
 ///
 /// # Errors
 /// When memory runs out.
-fn push_clip(out: &mut Vec<Span>, row: &Span, low: u64, high: u64) -> Result<(), AllocError>
+pub(crate) fn push_clip(
+    out: &mut Vec<Span>,
+    row: &Span,
+    low: u64,
+    high: u64,
+) -> Result<(), AllocError>
     ensures { OnOk result (out.new.items ≡ out.old.items ++ clip low high row.now) }
 {
     let from = row.from.max(low);

@@ -8,7 +8,12 @@
 pub mod adding;
 pub mod change;
 pub mod clips;
+pub mod cutting;
+pub mod joining;
 pub mod laws;
 pub mod merging;
 pub mod order;
 pub mod removing;
+pub mod siding;
+pub mod turning;
+pub mod undoing;
