@@ -1,0 +1,5 @@
+use Rattle.lrs_spans.proofs.Tying.{HasChanged}
+use Rattle.lrs_spans.proofs.lanes.change_lanes.Given as goal
+
+abbrev pub invariant-loop-i : goal.invariant-loop-i
+invariant-loop-i l = HasChanged l.change l.i l.fn.lanes.items l.lanes.items
