@@ -1,27 +1,21 @@
 -- Which rows lanes have after a change.
-use Rattle.std.proofs.Common.{◌≡◌, ℕ, ◌+◌, ◌<◌, ◌≤◌, Bool, true, false, cond, ◌⊎◌, inl, inr, List, [], ◌∷◌, ◌++◌, length, get_or, set, refl, sym, ap, subst, ◌∙◌, arith}
+use Rattle.std.proofs.Common.{◌≡◌, ◌<◌, ◌≤◌, Bool, true, false, cond, ◌⊎◌, inl, inr, List, [], ◌∷◌, refl, sym, ap, subst, ◌∙◌, arith}
 use Rattle.std.specs.Prelude.{◌||◌, ◌&&◌, not, nat_lt, nat_eq}
-use Rattle.std.specs.List.{list_any, list_all, filter}
-use Rattle.std.specs.Cmp.Lexicographic.{bytes_decides}
-use Rattle.std.proofs.lemmas.Bool.{false≢true, both_ways, and_parts, and_from, or_cases, or_left, or_right, lt-ltb, ltb-true, eq-eqb, eqb-true, cases_lt, cases_eq, cases_Bool}
+use Rattle.std.specs.List.{filter}
+use Rattle.std.proofs.lemmas.Bool.{and_parts, and_from, or_cases, or_left, or_right, lt-ltb, ltb-true, eq-eqb, eqb-true, cases_lt, cases_eq, cases_Bool}
 use Rattle.lrs_measure.specs.Lists.{each_two}
-use Rattle.lrs_measure.specs.Ordered.{insert_all}
-use Rattle.lrs_measure.specs.Texts.{Name, same_name}
-use Rattle.lrs_events.specs.declared.side.LinkSide.{LinkSide}
 use Rattle.lrs_events.specs.declared.span.Span.{Span}
 use Rattle.lrs_events.specs.Changes.{same_row, has_row, without_rows, changed}
-use Rattle.lrs_events.specs.Members.{has_side}
 use Rattle.lrs_events.specs.Spans.{are_rows, is_row, span_before, are_apart}
 use Rattle.lrs_canonical.specs.Order.{In}
 use Rattle.lrs_canonical.proofs.Members.{all_at, two_at}
 use Rattle.lrs_canonical.proofs.Unique.{Kept, kept}
-use Rattle.lrs_canonical.proofs.Rows.{IsFull, IsApart, apart_from, full_from}
+use Rattle.lrs_canonical.proofs.Rows.{IsFull, apart_from, full_from}
 use Rattle.lrs_canonical.proofs.Differing.{one_row, has_found, has_in}
 use Rattle.lrs_canonical.proofs.Changing.{spans_strict}
 use Rattle.lrs_canonical.proofs.Sorted.{IsStrict, each_two-filter}
 use Rattle.lrs_lanes.specs.Order.{place_before}
-use Rattle.lrs_spans.specs.Tied.{is_on}
-use Rattle.lrs_spans.proofs.Putting.{In-filter, IsOneFirst, AreAsunder, asunder, asunder_by, asunder_fewer, put_in_order, any-insert_all}
+use Rattle.lrs_spans.proofs.Putting.{In-filter, IsOneFirst, asunder, asunder_by, asunder_fewer, put_in_order, any-insert_all}
 
 -- ---- which rows are there
 

@@ -1,5 +1,5 @@
 -- Canonical rows that come where there were none.
-use Rattle.std.proofs.Common.{◌≡◌, true, List, [], inl, inr, ◌⊎◌, refl, ap, subst, ◌∙◌, sym}
+use Rattle.std.proofs.Common.{◌≡◌, true, List, [], inl, inr, ◌⊎◌, refl}
 use Rattle.lrs_measure.specs.Ordered.{insert_all}
 use Rattle.lrs_events.specs.declared.span.Span.{Span}
 use Rattle.lrs_events.specs.Spans.{are_rows, span_before}

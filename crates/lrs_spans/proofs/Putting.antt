@@ -1,9 +1,8 @@
 -- Rows put into a list in order, one after the other.
-use Rattle.std.proofs.Common.{◌≡◌, ℕ, ◌+◌, ◌<◌, length, get_or, drop, Bool, true, false, cond, ◌⊎◌, inl, inr, List, [], ◌∷◌, refl, sym, ap, subst, ◌∙◌}
-use Rattle.std.specs.Prelude.{◌||◌, ◌&&◌, not}
+use Rattle.std.proofs.Common.{◌≡◌, Bool, true, false, cond, ◌⊎◌, inl, inr, List, [], ◌∷◌, refl, sym, ap, subst, ◌∙◌}
+use Rattle.std.specs.Prelude.{◌||◌}
 use Rattle.std.specs.List.{list_any, list_all, filter}
 use Rattle.std.proofs.lemmas.Bool.{false≢true, both_ways, and_parts, and_from}
-use Rattle.std.proofs.lemmas.List.{drop_more}
 use Rattle.lrs_measure.specs.Lists.{each_two}
 use Rattle.lrs_measure.specs.Ordered.{insert_by, insert_all}
 use Rattle.lrs_canonical.specs.Order.{In}
@@ -29,10 +28,6 @@ module _ {X : Type 0} where
       by true e (inr n) later = inr (later n)
       by false e (inl f) later = absurd (false≢true (sym e ∙ ap p (sym f) ∙ h))
       by false e (inr n) later = later n
-
-  pub filter_all : (p : X → Bool) (xs : List X) → ((x : X) → p x ≡ true) → filter p xs ≡ xs
-  filter_all p [] h = refl
-  filter_all p (y ∷ ys) h = ap (λ b. cond b (y ∷ filter p ys) (filter p ys)) (h y) ∙ ap (λ t. y ∷ t) (filter_all p ys h)
 
   module _ (before : X → X → Bool) where
     -- one of two comes first
@@ -176,22 +171,6 @@ module _ {X : Type 0} where
       by : (t : Bool) → AreAsunder c (filter p xs) ys → AreAsunder c (cond t (x ∷ filter p xs) (filter p xs)) ys
       by true rest = (λ y m. f x y (inl refl) (inr m) (a.0 y m), λ y m. f x y (inl refl) (inl (inr (In-filter p xs y m).0)) (a.1 y (In-filter p xs y m).0), rest)
       by false rest = rest
-
--- ---- one more comes in, where it passes a test
-
-module _ {X : Type 0} (on : X → Bool) where
-  pub next_on : (come : List X) (i : ℕ) (x : X) → i < length come → x ≡ get_or come i x → on x ≡ true → filter on (drop i come) ≡ x ∷ filter on (drop (i + 1) come)
-  next_on come i x h e t =
-      ap (filter on) (drop_more come i x h ∙ (λ j. sym e j ∷ drop (i + 1) come)) ∙ ap (λ b. cond b (x ∷ filter on (drop (i + 1) come)) (filter on (drop (i + 1) come))) t
-
-  pub next_off : (come : List X) (i : ℕ) (x : X) → i < length come → x ≡ get_or come i x → on x ≡ false → filter on (drop i come) ≡ filter on (drop (i + 1) come)
-  next_off come i x h e t =
-      ap (filter on) (drop_more come i x h ∙ (λ j. sym e j ∷ drop (i + 1) come)) ∙ ap (λ b. cond b (x ∷ filter on (drop (i + 1) come)) (filter on (drop (i + 1) come))) t
-
-  pub in_order_with : (before : X → X → Bool) (come : List X) (i : ℕ) (x : X) (ys zs : List X) → i < length come → x ≡ get_or come i x → on x ≡ true
-      → insert_all before (filter on (drop i come)) ys ≡ zs → each_two before zs ≡ true → each_two before (insert_by before x ys) ≡ true
-  in_order_with before come i x ys zs h e t r o =
-      order_of_first before (filter on (drop (i + 1) come)) (insert_by before x ys) (ap (λ w. each_two before (insert_all before w ys)) (sym (next_on come i x h e t)) ∙ ap (each_two before) r ∙ o)
 
 -- ---- tests of what is in a list
 

@@ -1,9 +1,9 @@
 -- Lanes stay tied to rows.
-use Rattle.std.proofs.Common.{◌≡◌, ℕ, zero, suc, ◌+◌, ◌<◌, ◌≤◌, Bool, true, false, cond, ◌⊎◌, inl, inr, List, [], ◌∷◌, ◌++◌, length, get_or, set, take, length-set, length-append, refl, sym, ap, subst, ◌∙◌, arith}
-use Rattle.std.specs.Prelude.{◌||◌, ◌&&◌, not, nat_lt}
-use Rattle.std.specs.List.{list_any, filter}
+use Rattle.std.proofs.Common.{◌≡◌, ℕ, zero, suc, ◌+◌, ◌<◌, ◌≤◌, Bool, true, false, ◌⊎◌, inl, inr, List, [], ◌∷◌, ◌++◌, length, get_or, set, take, length-set, length-append, refl, sym, ap, subst, ◌∙◌, arith}
+use Rattle.std.specs.Prelude.{◌||◌, ◌&&◌, not}
+use Rattle.std.specs.List.{list_any}
 use Rattle.std.specs.Cmp.Lexicographic.{bytes_decides}
-use Rattle.std.proofs.lemmas.Bool.{false≢true, both_ways, and_parts, and_from, or_cases, or_left, or_right, cases_lt, cases_eq, cases_Bool, lt-ltb}
+use Rattle.std.proofs.lemmas.Bool.{false≢true, both_ways, and_parts, or_cases, or_left, or_right, cases_lt, cases_eq, cases_Bool}
 use Rattle.std.proofs.lemmas.List.{get_or-set_same, get_or-set_other, take_more}
 use Rattle.std.proofs.lemmas.List.Folds.{list_any-append}
 use Rattle.lrs_measure.specs.Lists.{each_two}
@@ -12,14 +12,14 @@ use Rattle.lrs_events.specs.declared.side.LinkSide.{LinkSide}
 use Rattle.lrs_events.specs.declared.side.LinkSide.TheVariants.{Left, Right}
 use Rattle.lrs_events.specs.declared.span.Span.{Span}
 use Rattle.lrs_events.specs.declared.change.SpanChange.{SpanChange}
-use Rattle.lrs_events.specs.Changes.{same_row, has_row, changed, changed_rows}
+use Rattle.lrs_events.specs.Changes.{same_row, has_row, changed_rows}
 use Rattle.lrs_canonical.proofs.Differing.{one_row}
 use Rattle.lrs_events.specs.Members.{has_side}
 use Rattle.lrs_events.specs.Spans.{are_rows, span_before}
 use Rattle.lrs_spans.specs.declared.lanes.ClassLanes.{ClassLanes}
 use Rattle.lrs_lanes.specs.Order.{place_before}
 use Rattle.lrs_spans.specs.Tied.{is_on, has_lanes, IsClass, AreTied, AreKept}
-use Rattle.lrs_spans.specs.Opened.{SameClass, SameLanes, StayTied, IsChangedClass, CanChange, AreChanged, HasLaneRoom, HaveRoom}
+use Rattle.lrs_spans.specs.Opened.{SameClass, SameLanes, StayTied, IsChangedClass, CanChange, AreChanged, HaveRoom}
 use Rattle.lrs_spans.proofs.Holding.{has_row-changed, has_row-lane, lane_in_order}
 
 -- whether a class has lanes depends on the classes alone
@@ -58,48 +58,6 @@ kept_same rows new xs ys zs e k f s = record {
   canonical = ap are_rows e ∙ k.canonical;
   tied = stay_tied ys zs s new (f new (subst (λ (z : List Span). AreTied z xs) (sym e) k.tied));
 }
-
--- lanes are set to others of the same class with the same rows
-pub same_itself : (xs : List ClassLanes) → SameLanes xs xs
-same_itself xs = record { count = refl; each = λ k d l. record { class = refl; left = refl; right = refl } }
-
-pub same_set : (xs ys : List ClassLanes) (i : ℕ) (l m : ClassLanes) → SameLanes xs ys → i < length ys → l ≡ get_or ys i l → SameClass l m → SameLanes xs (set ys i m)
-same_set xs ys i l m s h e c = record {
-  count = length-set ys i m ∙ s.count;
-  each = λ k d n. by k d n (cases_eq k i);
-}
-  where
-    by : (k : ℕ) (d : ClassLanes) → k < length xs → (k ≡ i) ⊎ (k ≡ i → ⊥) → SameClass (get_or xs k d) (get_or (set ys i m) k d)
-    by k d n (inl q) =
-        let here : get_or (set ys i m) k d ≡ m = (λ j. get_or (set ys i m) (q j) d) ∙ get_or-set_same ys i m d h in
-        let was : l ≡ get_or ys k d = e ∙ other_default ys i l d h ∙ (λ j. get_or ys (sym q j) d) in
-        let a = s.each k d n in
-        record {
-          class = (λ j. (here j).class) ∙ c.class ∙ (λ j. (was j).class) ∙ a.class;
-          left = (λ j. (here j).left.rows) ∙ c.left ∙ (λ j. (was j).left.rows) ∙ a.left;
-          right = (λ j. (here j).right.rows) ∙ c.right ∙ (λ j. (was j).right.rows) ∙ a.right;
-        }
-      where
-        other_default : (ys : List ClassLanes) (i : ℕ) (a b : ClassLanes) → i < length ys → get_or ys i a ≡ get_or ys i b
-        other_default [] i a b h = absurd (omega (arith, h))
-        other_default (y ∷ ys) zero a b h = refl
-        other_default (y ∷ ys) (suc i) a b h = other_default ys i a b (omega (arith, h))
-    by k d n (inr q) =
-        let there = get_or-set_other ys i k m d q in
-        let a = s.each k d n in
-        record { class = (λ j. (there j).class) ∙ a.class; left = (λ j. (there j).left.rows) ∙ a.left; right = (λ j. (there j).right.rows) ∙ a.right }
-
--- where a fact holds of the first lanes, and of lanes that are put behind them, it holds of one more
-pub set_more : (P : ClassLanes → Type 0) (ys : List ClassLanes) (i : ℕ) (m : ClassLanes) → i < length ys → P m → ((k : ℕ) (d : ClassLanes) → k < i → P (get_or ys k d)) → (k : ℕ) (d : ClassLanes) → k < i + 1 → P (get_or (set ys i m) k d)
-set_more P ys i m h p f k d n = by (cases_eq k i)
-  where
-    by : (k ≡ i) ⊎ (k ≡ i → ⊥) → P (get_or (set ys i m) k d)
-    by (inl q) = subst P (sym ((λ j. get_or (set ys i m) (q j) d) ∙ get_or-set_same ys i m d h)) p
-    by (inr q) = subst P (sym (get_or-set_other ys i k m d q)) (f k d (less (cases_lt k i)))
-      where
-        less : (k < i) ⊎ (i ≤ k) → k < i
-        less (inl l) = l
-        less (inr l) = absurd (q (omega (arith, l, n)))
 
 -- ---- a class gets lanes
 
@@ -170,9 +128,6 @@ stay_added xs l fresh empty_left empty_right rows t = record {
 pub added_has : (xs : List ClassLanes) (l : ClassLanes) (c : Name) → l.class ≡ c → has_lanes (xs ++ l ∷ []) c ≡ true
 added_has xs l c e = list_any-append (λ (m : ClassLanes). same_name m.class c) xs (l ∷ []) ∙ or_right (has_lanes xs c) (has_lanes (l ∷ []) c) (or_left (same_name l.class c) false ((bytes_decides l.class c).1 e))
 
-pub added_keeps : (xs : List ClassLanes) (l : ClassLanes) (c : Name) → has_lanes xs c ≡ true → has_lanes (xs ++ l ∷ []) c ≡ true
-added_keeps xs l c h = list_any-append (λ (m : ClassLanes). same_name m.class c) xs (l ∷ []) ∙ or_left (has_lanes xs c) (has_lanes (l ∷ []) c) h
-
 -- the class of one more row has lanes
 pub one_more_known : (come : List Span) (i : ℕ) (row : Span) (xs ys : List ClassLanes) → i < length come → row ≡ get_or come i row → ((r : Span) → has_row (take i come) r ≡ true → has_lanes xs r.class ≡ true)
     → ((c : Name) → has_lanes xs c ≡ true → has_lanes ys c ≡ true) → has_lanes ys row.class ≡ true → (r : Span) → has_row (take (i + 1) come) r ≡ true → has_lanes ys r.class ≡ true
@@ -230,26 +185,3 @@ pub record HasChanged (change : SpanChange) (i : ℕ) (xs ys : List ClassLanes) 
   pub count : length ys ≡ length xs
   pub each : (k : ℕ) (d : ClassLanes) → k < i → IsChangedClass change (get_or xs k d) (get_or ys k d)
   pub rest : (k : ℕ) (d : ClassLanes) → i ≤ k → get_or ys k d ≡ get_or xs k d
-
-pub changed_more : (change : SpanChange) (i : ℕ) (xs ys : List ClassLanes) (l m : ClassLanes) → HasChanged change i xs ys → i < length ys → l ≡ get_or ys i l → IsChangedClass change l m → HasChanged change (i + 1) xs (set ys i m)
-changed_more change i xs ys l m c h e g = record {
-  count = length-set ys i m ∙ c.count;
-  each = λ k d n. by k d n (cases_eq k i);
-  rest = λ k d n. get_or-set_other ys i k m d (λ q. omega (arith, n, q)) ∙ c.rest k d (omega (arith, n));
-}
-  where
-    other_default : (ys : List ClassLanes) (i : ℕ) (a b : ClassLanes) → i < length ys → get_or ys i a ≡ get_or ys i b
-    other_default [] i a b h = absurd (omega (arith, h))
-    other_default (y ∷ ys) zero a b h = refl
-    other_default (y ∷ ys) (suc i) a b h = other_default ys i a b (omega (arith, h))
-
-    by : (k : ℕ) (d : ClassLanes) → k < i + 1 → (k ≡ i) ⊎ (k ≡ i → ⊥) → IsChangedClass change (get_or xs k d) (get_or (set ys i m) k d)
-    by k d n (inl q) =
-        let here : get_or (set ys i m) k d ≡ m = (λ j. get_or (set ys i m) (q j) d) ∙ get_or-set_same ys i m d h in
-        let was : l ≡ get_or xs k d = e ∙ other_default ys i l d h ∙ (λ j. get_or ys (sym q j) d) ∙ c.rest k d (omega (arith, q)) in
-        subst (λ (z : ClassLanes). IsChangedClass change z (get_or (set ys i m) k d)) was (subst (IsChangedClass change l) (sym here) g)
-    by k d n (inr q) = subst (IsChangedClass change (get_or xs k d)) (sym (get_or-set_other ys i k m d q)) (c.each k d (less (cases_lt k i)))
-      where
-        less : (k < i) ⊎ (i ≤ k) → k < i
-        less (inl l) = l
-        less (inr l) = absurd (q (omega (arith, l, n)))

@@ -1,9 +1,8 @@
 //! The lanes of a route: of each class and side the rows, by where they begin.
 
-ghost use Rattle.std.specs.Prelude.{◌≡◌, ◌<◌, ◌≤◌, [], ℕ, true, false, length, OnOk, slice_index_or};
+ghost use Rattle.std.specs.Prelude.{◌≡◌, ◌+◌, ◌<◌, ◌≤◌, [], ◌∷◌, ◌++◌, vec_len, vec_capacity, ℕ, true, false, length, OnOk, slice_index_or};
 ghost use Rattle.std.specs.List.{filter};
 ghost use Rattle.lrs_measure.specs.Lists.{each_two};
-ghost use Rattle.lrs_measure.specs.Ordered.{insert_all};
 ghost use Rattle.lrs_measure.specs.Texts.{Name};
 ghost use Rattle.lrs_events.specs.declared.span.Span.{Span as DeclaredSpan};
 ghost use Rattle.lrs_events.specs.Changes.{has_row, changed};
@@ -50,49 +49,75 @@ fn count_on(rows: &[Span], class: ClassName, side: LinkSide) -> usize
     rows.iter().filter(|row| is_on(row, class, side)).count()
 }
 
-/// Puts those of the rows that are of the class and on the side into their lane, which has room for them.
-fn put_in(lane: &mut Lane, class: ClassName, side: LinkSide, come: &[Span])
-    requires room { length (filter (is_on class side) come.now) ≤ lane.old.room }
-    requires after { each_two place_before (insert_all place_before (filter (is_on class side) come.now) lane.old.rows) ≡ true }
-    ensures { lane.new.rows ≡ insert_all place_before (filter (is_on class side) come.now) lane.old.rows }
+// Puts a row at the end of a vector that has room for it.
+fn push_in_room(rows: &mut Vec<Span>, row: Span)
+    requires { vec_len rows.old < vec_capacity rows.old }
+    ensures items { rows.new.items ≡ rows.old.items ++ row ∷ [] }
+    ensures len { vec_len rows.new ≡ vec_len rows.old + 1 }
+    ensures capacity { vec_capacity rows.old ≤ vec_capacity rows.new }
 {
-    for row in come {
+    if rows.push(row).is_err() {
+        unreachable!()
+    }
+}
+
+/// Copies those of the rows that are of the class and on the side, in place of what the vector had, which has
+/// room for all of them.
+fn pick(picked: &mut Vec<Span>, class: ClassName, side: LinkSide, rows: &[Span])
+    requires { length rows.now ≤ vec_capacity picked.old }
+    ensures picked { picked.new.items ≡ filter (is_on class side) rows.now }
+    ensures capacity { vec_capacity picked.old ≤ vec_capacity picked.new }
+{
+    picked.clear();
+    for row in rows {
         if is_on(row, class, side) {
-            lane.change(&[], &[*row]);
+            push_in_room(picked, *row);
         }
     }
 }
 
 /// Takes the rows that go out of the lane of a class and side, and puts those that come into it.
-fn change_lane(lane: &mut Lane, class: ClassName, side: LinkSide, change: &SpanChange)
+fn change_lane(
+    lane: &mut Lane,
+    class: ClassName,
+    side: LinkSide,
+    change: &SpanChange,
+    picked: &mut Vec<Span>,
+)
     requires room { length (filter (is_on class side) change.now.come.items) ≤ lane.old.room }
     requires gone { each_two span_before change.now.gone.items ≡ true }
     requires after { each_two place_before (changed place_before change.now.gone.items (filter (is_on class side) change.now.come.items) lane.old.rows) ≡ true }
-    ensures { lane.new.rows ≡ changed place_before change.now.gone.items (filter (is_on class side) change.now.come.items) lane.old.rows }
+    requires picked { length change.now.come.items ≤ vec_capacity picked.old }
+    ensures rows { lane.new.rows ≡ changed place_before change.now.gone.items (filter (is_on class side) change.now.come.items) lane.old.rows }
+    ensures capacity { vec_capacity picked.old ≤ vec_capacity picked.new }
 {
-    lane.change(&change.gone, &[]);
-    put_in(lane, class, side, &change.come);
+    pick(picked, class, side, &change.come);
+    lane.change(&change.gone, picked);
 }
 
 /// Changes the lanes of a class, which have room for the rows that come.
-fn change_class(lanes: &mut ClassLanes, change: &SpanChange)
+fn change_class(lanes: &mut ClassLanes, change: &SpanChange, picked: &mut Vec<Span>)
     requires gone { each_two span_before change.now.gone.items ≡ true }
     requires can { CanChange change.now lanes.old }
-    ensures { IsChangedClass change.now lanes.old lanes.new }
+    requires picked { length change.now.come.items ≤ vec_capacity picked.old }
+    ensures changed { IsChangedClass change.now lanes.old lanes.new }
+    ensures capacity { vec_capacity picked.old ≤ vec_capacity picked.new }
 {
     let class = lanes.class;
-    change_lane(&mut lanes.left, class, LinkSide::Left, change);
-    change_lane(&mut lanes.right, class, LinkSide::Right, change);
+    change_lane(&mut lanes.left, class, LinkSide::Left, change, picked);
+    change_lane(&mut lanes.right, class, LinkSide::Right, change, picked);
 }
 
-/// Changes lanes that have room for the rows that come. It takes no memory.
-pub(crate) fn change_lanes(lanes: &mut Vec<ClassLanes>, change: &SpanChange)
+/// Changes lanes that have room for the rows that come, by the help of a vector that has room for them too. It
+/// takes no memory.
+pub(crate) fn change_lanes(lanes: &mut Vec<ClassLanes>, change: &SpanChange, picked: &mut Vec<Span>)
     requires gone { each_two span_before change.now.gone.items ≡ true }
     requires can { (k : ℕ) (d : DeclaredLanes) → k < length lanes.old.items → CanChange change.now (slice_index_or lanes.old.items k d) }
+    requires picked { length change.now.come.items ≤ vec_capacity picked.old }
     ensures { AreChanged change.now lanes.old.items lanes.new.items }
 {
     for i in 0..lanes.len() {
-        change_class(&mut lanes[i], change);
+        change_class(&mut lanes[i], change, picked);
     }
 }
 

@@ -18,17 +18,19 @@ use std::marker::Model;
 pub struct OpenSpans {
     rows: Vec<Span>,
     lanes: Vec<ClassLanes>,
+    // What comes into one lane, while the lanes change.
+    picked: Vec<Span>,
 }
 
 impl Model for OpenSpans {
-    ghost use Rattle.std.specs.Prelude.{vec_capacity};
+    ghost use Rattle.std.specs.Prelude.{◌+◌, length, min, vec_capacity};
     ghost use Rattle.lrs_spans.specs.Opened.{Opened};
 
     ghost Value = { Opened };
 
     ghost use Rattle.lrs_spans.specs.Tied.{AreKept};
 
-    ghost view = { λ spans. record { rows = spans.rows.items; room = vec_capacity spans.rows; lanes = spans.lanes.items } };
+    ghost view = { λ spans. record { rows = spans.rows.items; room = min (vec_capacity spans.rows) (length spans.rows.items + vec_capacity spans.picked); lanes = spans.lanes.items } };
 
     ghost invariant = { λ spans. AreKept spans.rows.items spans.lanes.items };
 }
@@ -41,6 +43,7 @@ impl OpenSpans {
         OpenSpans {
             rows: Vec::new(alloc),
             lanes: Vec::new(alloc),
+            picked: Vec::new(alloc),
         }
     }
 
@@ -99,6 +102,7 @@ impl OpenSpans {
         ensures ok { OnOk result (HasRoom change.now self.new) }
     {
         self.rows.reserve(change.come.len())?;
+        self.picked.reserve(change.come.len())?;
         add_classes(&mut self.lanes, &change.come)?;
         make_lanes_room(&mut self.lanes, &change.come)
     }
@@ -110,7 +114,9 @@ impl OpenSpans {
         requires canonical { IsTrue (are_rows (changed_rows change.now self.old.rows)) }
         ensures { self.new.rows ≡ changed_rows change.now self.old.rows }
     {
-        change_lanes(&mut self.lanes, change);
+        change_lanes(&mut self.lanes, change, &mut self.picked);
+        // Its memory is not needed from here on.
+        self.picked = Vec::new(*self.rows.allocator());
         change_in_room(
             RowOrder::ByAsset,
             &mut self.rows,

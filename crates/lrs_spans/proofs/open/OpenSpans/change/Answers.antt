@@ -1,8 +1,6 @@
-use Rattle.std.proofs.Common.{◌≡◌, true, List, sym, ap, subst, ◌∙◌}
-use Rattle.lrs_events.specs.declared.span.Span.{Span}
+use Rattle.std.proofs.Common.{sym, ap, subst, ◌∙◌}
 use Rattle.lrs_events.specs.Changes.{changed, changed_rows}
 use Rattle.lrs_events.specs.Spans.{are_rows, span_before}
-use Rattle.lrs_spans.specs.declared.lanes.ClassLanes.{ClassLanes}
 use Rattle.lrs_spans.specs.Opened.{Opened, HaveRoom}
 use Rattle.lrs_spans.proofs.Tying.{can_change, kept_changed}
 use Rattle.lrs_spans.proofs.open.OpenSpans.change.Goals as goal

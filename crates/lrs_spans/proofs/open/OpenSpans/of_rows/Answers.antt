@@ -1,6 +1,6 @@
-use Rattle.std.proofs.Common.{◌≡◌, true, List, [], sym, ap, ◌∙◌}
+use Rattle.std.proofs.Common.{◌≡◌, true, List, [], ap, ◌∙◌}
 use Rattle.lrs_measure.specs.Ordered.{insert_all}
-use Rattle.lrs_events.specs.Changes.{changed_rows, without_rows}
+use Rattle.lrs_events.specs.Changes.{without_rows}
 use Rattle.lrs_events.specs.Spans.{are_rows, span_before}
 use Rattle.lrs_events.specs.declared.span.Span.{Span}
 use Rattle.lrs_spans.proofs.Loading.{all_come}
