@@ -1,0 +1,4 @@
+mod Putting
+mod Holding
+mod Tying
+mod Loading

@@ -1,0 +1,9 @@
+//! What assets hold on one route: the canonical rows of a set of (class, asset, millimetre, side), found by search
+//! (ISO 19148, linearly located events).
+#![tactic(auto)]
+
+mod lanes;
+mod open;
+
+pub use lanes::ClassLanes;
+pub use open::OpenSpans;
