@@ -17,6 +17,7 @@ use Rattle.lrs_machine.specs.Register.{get, insert, contains_key}
 use Rattle.lrs_machine.specs.State.{State, Asset, Reason, Retired, Abandoned, same_reason}
 use Rattle.lrs_machine.specs.Machine.{take_away, enter_places}
 use Rattle.lrs_machine.specs.Laws.{IsBalanced, IsExclusive}
+use Rattle.lrs_machine.proofs.Pairs.{is_same_side}
 use Rattle.lrs_machine.proofs.Registers.{got_after, known_after, known_new, known_if_some}
 
 -- The state is lawful, with n as the last edit that its ledgers may name.
@@ -77,12 +78,8 @@ among_passes test (q ∷ places) p h passes =
     ⊎_elim (λ here. or_left (test q) (list_any test places) (subst (λ x. test x ≡ true) (place_is p q here) passes))
     (λ later. or_right (test q) (list_any test places) (among_passes test places p later passes)) (or_cases (same_place p q) (is_among places p) h)
 
-side_same : (a : LinkSide) → same_link_side a a ≡ true
-side_same Left = refl
-side_same Right = refl
-
 place_same : (p : Place) → same_place p p ≡ true
-place_same p = three_of _ _ _ (eq-eqb p.link p.link refl) (eq-eqb p.mm p.mm refl) (side_same p.side)
+place_same p = three_of _ _ _ (eq-eqb p.link p.link refl) (eq-eqb p.mm p.mm refl) (is_same_side p.side p.side refl)
 
 -- A course that has an entry has a place beside it.
 pub place_beside : (side : Side) (course : List Ground) → is_nothing course ≡ false → (p : Place) × (is_among (places_on side course) p ≡ true)

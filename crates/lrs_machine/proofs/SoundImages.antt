@@ -75,6 +75,7 @@ parts_tested i parts h =
 
 -- what the laws need of the tables
 pub record Tested (i : Image) : Type 0 where
+  pub asset_order : each_two asset_before i.assets ≡ true
   pub assets : list_all (is_asset i.classes) i.assets ≡ true
   pub courses : list_all (is_course i.links) (courses_of i) ≡ true
   pub spans : list_all (are_spans_of i.assets) (spans_of i) ≡ true
@@ -84,6 +85,7 @@ pub record Tested (i : Image) : Type 0 where
   pub balanced : list_all (λ a. list_all (is_balanced_at (spans_of i) i.entered (parts_of i.gone) a.number) (places_of i.links)) i.assets ≡ true
   pub entered_named : list_all (is_named_by i.edits) i.entered ≡ true
   pub gone_named : list_all (is_named_by i.edits) (parts_of i.gone) ≡ true
+  pub few_edits : nat_le (length i.edits) most_edits ≡ true
   pub origins : are_origins i.entered i.assets ≡ true
 
 pub tested : (i : Image) → IsSound i → Tested i
@@ -103,6 +105,7 @@ tested i h =
     (passed (record { table = table.Edit; passes = are_edits i.entered i.gone i.edits }) (tests i) h (inr (inr (inr (inr (inr (inr (inr (inr (inr (inl refl))))))))))) in
     let named = and_three (each_two (λ d e. not (same_name d.key e.key)) i.edits) (list_all (is_named_by i.edits) i.entered) (list_all (is_named_by i.edits) (parts_of i.gone)) edits.0 in
     record {
+      asset_order = assets.0;
       assets = assets.1;
       courses = (and_three (each_two course_before (courses_of i)) (list_all (is_course i.links) (courses_of i)) (each_two (λ c d. not (meets c.entries d.entries)) (courses_of i)) courses.0).1;
       spans = spans.0;
@@ -112,6 +115,7 @@ tested i h =
       balanced = gone.2;
       entered_named = named.1;
       gone_named = named.2;
+      few_edits = edits.1;
       origins = passed (record { table = table.Origin; passes = are_origins i.entered i.assets }) (tests i) h (inr (inr (inr (inr (inr (inr (inr (inr (inr (inr (inl refl)))))))))));
     }
 
@@ -279,10 +283,10 @@ module _ (i : Image) (t : Tested i) where
   is_by r part = not (nat_eq part.asset r.number) || nat_eq part.edit r.entry
 
   -- an asset was entered, and by one edit
-  origin_of : (r : Asset) → In r i.assets → (list_any (is_of r) i.entered ≡ true) × (list_all (is_by r) i.entered ≡ true)
+  pub origin_of : (r : Asset) → In r i.assets → (list_any (is_of r) i.entered ≡ true) × (list_all (is_by r) i.entered ≡ true)
   origin_of r m = and_parts _ _ (all_at (is_origin i.entered) r i.assets t.origins m)
 
-  entered_by_entry : (r : Asset) (x : Part) → In r i.assets → In x i.entered → x.asset ≡ r.number → x.edit ≡ r.entry
+  pub entered_by_entry : (r : Asset) (x : Part) → In r i.assets → In x i.entered → x.asset ≡ r.number → x.edit ≡ r.entry
   entered_by_entry r x m n e = by (or_cases _ _ (all_at (is_by r) x i.entered (origin_of r m).1 n))
     where
       by : (not (nat_eq x.asset r.number) ≡ true) ⊎ (nat_eq x.edit r.entry ≡ true) → x.edit ≡ r.entry

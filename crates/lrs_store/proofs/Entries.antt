@@ -1,22 +1,21 @@
 -- No test of a table before `origin` reads which edit entered an asset.
-use Rattle.std.proofs.Common.{◌≡◌, ℕ, ◌+◌, Bool, cond, List, [], ◌∷◌, map, length, refl, sym, ap, ap₂, ◌∙◌}
+use Rattle.std.proofs.Common.{◌≡◌, ◌+◌, Bool, cond, List, [], ◌∷◌, map, length, refl, sym, ap, ap₂, ◌∙◌}
 use Rattle.std.specs.Prelude.{◌||◌, ◌&&◌, not, nat_eq, nat_lt, nat_le}
 use Rattle.std.specs.List.{list_any, list_all, count_by}
 use Rattle.std.proofs.lemmas.List.{length-map}
 use Rattle.std.proofs.lemmas.List.Folds.{list_all-map}
 use Rattle.std.proofs.lemmas.List.Sums.{sum_by-cons}
 use Rattle.lrs_measure.specs.Lists.{each_two}
-use Rattle.lrs_measure.specs.Texts.{Name, same_name}
+use Rattle.lrs_measure.specs.Texts.{same_name}
 use Rattle.lrs_element.specs.declared.link.Link.{Link}
 use Rattle.lrs_events.specs.declared.class.Class.{Class}
 use Rattle.lrs_events.specs.declared.class.Asset.{Asset}
 use Rattle.lrs_events.specs.declared.part.Part.{Part}
 use Rattle.lrs_events.specs.declared.part.Gone.{Gone}
-use Rattle.lrs_events.specs.Places.{Place}
 use Rattle.lrs_events.specs.Spans.{are_rows}
 use Rattle.lrs_report.specs.Segments.{is_exclusive}
 use Rattle.lrs_machine.specs.Bounds.{most_assets, most_pairs}
-use Rattle.lrs_machine.specs.Sound.{RouteSpans, asset_before, is_asset, are_assets, holds_in, places_of, holders_of, are_spans, share_nothing, pairs_of, are_parts, part_before, are_entered, gone_before, parts_of, is_balanced_at, are_gone}
+use Rattle.lrs_machine.specs.Sound.{RouteSpans, asset_before, is_asset, are_assets, holds_in, places_of, are_spans, share_nothing, pairs_of, are_parts, part_before, are_entered, gone_before, parts_of, is_balanced_at, are_gone}
 use Rattle.lrs_machine.proofs.Members.{list_any-map}
 use Rattle.lrs_machine.proofs.Pairs.{each_two-map}
 use Rattle.lrs_store.specs.Content.{with_entry}
