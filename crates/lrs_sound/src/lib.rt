@@ -1,0 +1,10 @@
+//! Soundness decided fast: each table of an image tested as the definitions test it, by sorts, neighbours and
+//! searches in place of every millimetre.
+#![tactic(auto)]
+
+pub mod balance;
+pub mod ends;
+pub mod exclusive;
+pub mod laws;
+pub mod sums;
+pub mod sweep;
