@@ -6,5 +6,6 @@ pub mod balance;
 pub mod ends;
 pub mod exclusive;
 pub mod laws;
+pub mod order;
 pub mod sums;
 pub mod sweep;
