@@ -1,6 +1,6 @@
 -- Where a binary search finds the class of an asset, and the place of an exclusive class.
 use Rattle.std.proofs.Common.{◌≡◌, ℕ, ◌+◌, ◌<◌, ◌≤◌, zero, suc, Bool, true, false, cond, List, [], ◌∷◌, length, get_or, refl, sym, ap, subst, ◌∙◌, arith, Result, Ok, Err, Option, Some, None, slice_get, Ordering, Less, Equal, Greater, ◌⊎◌, inl, inr}
-use Rattle.std.specs.Prelude.{◌&&◌, nat_eq, nat_lt}
+use Rattle.std.specs.Prelude.{◌&&◌, ◌||◌, nat_eq, nat_lt}
 use Rattle.std.specs.List.{AllByRecursion, list_any, list_all, count_by}
 use Rattle.std.specs.List.Sorted.{IsPartitionPoint, IsBinarySearchResult, IsSearchInRange}
 use Rattle.std.specs.Ordering.{nat_cmp, is_lt, is_eq, ordering_reverse}
@@ -116,45 +116,58 @@ same_test true y f g = sym (f refl)
 same_test false true f g = g refl
 same_test false false f g = refl
 
-abbrev is_named : Name → ℕ → Asset → Bool
-is_named class n a = nat_eq a.number n && same_name a.class class
+module _ {Row : Type 0} (number : Row → ℕ) (test : Row → Bool) where
+  abbrev is_it : ℕ → Row → Bool
+  is_it n a = nat_eq (number a) n && test a
 
-asset_found : (rows : List Asset) (n : ℕ) (r : Result ℕ ℕ) → each_two asset_before rows ≡ true → IsSearchInRange r (length rows) → IsBinarySearchResult (λ y. nat_cmp y.number n) rows r
-    → Found nat_cmp_total (λ (a : Asset). a.number) rows n r
-asset_found rows n r order within at =
-    found nat_cmp_total (λ (a : Asset). a.number) rows n r (ap (λ test. each_two test rows) (λ j a b. sym (numbers_agree a.number b.number) j) ∙ order) within at
+  abbrev rise : Row → Row → Bool
+  rise a b = nat_lt (number a) (number b)
 
-pub class_found : (rows : List Asset) (n at : ℕ) (d : Asset) → each_two asset_before rows ≡ true → IsSearchInRange (let r : Result ℕ ℕ = Ok at in r) (length rows) → IsBinarySearchResult (λ y. nat_cmp y.number n) rows (Ok at)
-    → (class : Name) → list_any (λ a. nat_eq a.number n && same_name a.class class) rows ≡ same_name (get_or rows at d).class class
-class_found rows n at d order within is class = same_test (list_any (is_named class n) rows) (same_name (get_or rows at d).class class) there back
+  row_at : (rows : List Row) (n : ℕ) (r : Result ℕ ℕ) → each_two rise rows ≡ true → IsSearchInRange r (length rows) → IsBinarySearchResult (λ y. nat_cmp (number y) n) rows r
+      → Found nat_cmp_total number rows n r
+  row_at rows n r order within at =
+      found nat_cmp_total number rows n r (ap (λ t. each_two t rows) (λ j a b. sym (numbers_agree (number a) (number b)) j) ∙ order) within at
+
+  pub row_found : (rows : List Row) (n at : ℕ) (d : Row) → each_two rise rows ≡ true → IsSearchInRange (let r : Result ℕ ℕ = Ok at in r) (length rows) → IsBinarySearchResult (λ y. nat_cmp (number y) n) rows (Ok at)
+      → list_any (is_it n) rows ≡ test (get_or rows at d)
+  row_found rows n at d order within is = same_test (list_any (is_it n) rows) (test (get_or rows at d)) there back
+    where
+      there : list_any (is_it n) rows ≡ true → test (get_or rows at d) ≡ true
+      there h =
+          let f = any_found (is_it n) rows h in
+          let a = f.0 in
+          let both = and_parts (nat_eq (number a) n) (test a) f.2 in
+          let place = place_in a rows f.1 in
+          let here : get_or rows place.0 d ≡ a = place.2 d in
+          let tie : nat_cmp (number (get_or rows place.0 d)) n ≡ Equal = number_ties (number (get_or rows place.0 d)) n (ap number here ∙ eqb-true (number a) n both.0) in
+          let one : place.0 ≡ at = row_at rows n (Ok at) order within is place.0 d place.1 tie in
+          subst (λ z. test z ≡ true) (sym here ∙ ap (λ k. get_or rows k d) one) both.1
+
+      back : test (get_or rows at d) ≡ true → list_any (is_it n) rows ≡ true
+      back h =
+          any_of (is_it n) (get_or rows at d) rows (member_at rows at d within)
+          (and_from (nat_eq (number (get_or rows at d)) n) (test (get_or rows at d)) (eq-eqb (number (get_or rows at d)) n (same_number (number (get_or rows at d)) n (is d))) h)
+
+  pub row_missing : (rows : List Row) (n i : ℕ) → each_two rise rows ≡ true → IsSearchInRange (let r : Result ℕ ℕ = Err i in r) (length rows) → IsBinarySearchResult (λ y. nat_cmp (number y) n) rows (Err i)
+      → list_any (is_it n) rows ≡ false
+  row_missing rows n i order within is = false_from_ne_true (list_any (is_it n) rows) (λ h.
+      let f = any_found (is_it n) rows h in
+      let a = f.0 in
+      let both = and_parts (nat_eq (number a) n) (test a) f.2 in
+      let place = place_in a rows f.1 in
+      let tie : nat_cmp (number (get_or rows place.0 a)) n ≡ Equal = number_ties (number (get_or rows place.0 a)) n (ap number (place.2 a) ∙ eqb-true (number a) n both.0) in
+      row_at rows n (Err i) order within is place.0 a place.1 tie)
+
+-- a row of the number, whatever else is asked of it
+pub row_known : {Row : Type 0} (number : Row → ℕ) (rows : List Row) (n : ℕ) → list_any (λ a. nat_eq (number a) n && true) rows ≡ list_any (λ a. nat_eq (number a) n) rows
+row_known number [] n = refl
+row_known number (a ∷ rest) n = (λ j. and_true (nat_eq (number a) n) j || row_known number rest n j)
   where
-    there : list_any (is_named class n) rows ≡ true → same_name (get_or rows at d).class class ≡ true
-    there h =
-        let f = any_found (is_named class n) rows h in
-        let a = f.0 in
-        let both = and_parts (nat_eq a.number n) (same_name a.class class) f.2 in
-        let place = place_in a rows f.1 in
-        let here : get_or rows place.0 d ≡ a = place.2 d in
-        let tie : nat_cmp (get_or rows place.0 d).number n ≡ Equal = number_ties (get_or rows place.0 d).number n (ap (λ z. z.number) here ∙ eqb-true a.number n both.0) in
-        let one : place.0 ≡ at = asset_found rows n (Ok at) order within is place.0 d place.1 tie in
-        subst (λ z. same_name z.class class ≡ true) (sym here ∙ ap (λ k. get_or rows k d) one) both.1
+    and_true : (b : Bool) → (b && true) ≡ b
+    and_true true = refl
+    and_true false = refl
 
-    back : same_name (get_or rows at d).class class ≡ true → list_any (is_named class n) rows ≡ true
-    back h =
-        any_of (is_named class n) (get_or rows at d) rows (member_at rows at d within)
-        (and_from (nat_eq (get_or rows at d).number n) (same_name (get_or rows at d).class class) (eq-eqb (get_or rows at d).number n (same_number (get_or rows at d).number n (is d))) h)
-
-pub class_missing : (rows : List Asset) (n i : ℕ) → each_two asset_before rows ≡ true → IsSearchInRange (let r : Result ℕ ℕ = Err i in r) (length rows) → IsBinarySearchResult (λ y. nat_cmp y.number n) rows (Err i)
-    → (class : Name) → list_any (λ a. nat_eq a.number n && same_name a.class class) rows ≡ false
-class_missing rows n i order within is class = false_from_ne_true (list_any (is_named class n) rows) (λ h.
-    let f = any_found (is_named class n) rows h in
-    let a = f.0 in
-    let both = and_parts (nat_eq a.number n) (same_name a.class class) f.2 in
-    let place = place_in a rows f.1 in
-    let tie : nat_cmp (get_or rows place.0 a).number n ≡ Equal = number_ties (get_or rows place.0 a).number n (ap (λ z. z.number) (place.2 a) ∙ eqb-true a.number n both.0) in
-    asset_found rows n (Err i) order within is place.0 a place.1 tie)
-
--- ---- the place of an exclusive class
+-- ---- a class by its name
 
 names_tie : (a b : Name) → name_cmp a b ≡ Equal → same_name b a ≡ true
 names_tie a b h = texts_ties b a ∙ ap is_eq (Rattle.std.proofs.lemmas.Cmp.tied_back nat_list_cmp_total a b h)
@@ -167,6 +180,22 @@ Search rows n r = IsBinarySearchResult (λ y. name_cmp y.name n) rows r
 
 name_found : (rows : List Class) (n : Name) (r : Result ℕ ℕ) → each_two class_before rows ≡ true → IsSearchInRange r (length rows) → Search rows n r → Found nat_list_cmp_total (λ (c : Class). c.name) rows n r
 name_found rows n r order within at = found nat_list_cmp_total (λ (c : Class). c.name) rows n r order within at
+
+pub class_at : (rows : List Class) (n : Name) (at : ℕ) → IsSearchInRange (let r : Result ℕ ℕ = Ok at in r) (length rows) → Search rows n (Ok at) → list_any (λ c. same_name c.name n) rows ≡ true
+class_at [] n at within is = absurd (omega (arith, within))
+class_at (d ∷ rest) n at within is =
+    any_of (λ c. same_name c.name n) (get_or (d ∷ rest) at d) (d ∷ rest) (member_at (d ∷ rest) at d within)
+    (texts_ties (get_or (d ∷ rest) at d).name n ∙ ap is_eq (is d))
+
+pub class_nowhere : (rows : List Class) (n : Name) (i : ℕ) → each_two class_before rows ≡ true → IsSearchInRange (let r : Result ℕ ℕ = Err i in r) (length rows) → Search rows n (Err i) → list_any (λ c. same_name c.name n) rows ≡ false
+class_nowhere rows n i order within is = false_from_ne_true (list_any (λ c. same_name c.name n) rows) (λ h.
+    let f = any_found (λ c. same_name c.name n) rows h in
+    let c = f.0 in
+    let place = place_in c rows f.1 in
+    let tie : name_cmp c.name n ≡ Equal = (Rattle.std.specs.Cmp.Equal-is (name_cmp c.name n)).0 (sym (texts_ties c.name n) ∙ f.2) in
+    name_found rows n (Err i) order within is place.0 c place.1 (ap (λ z. name_cmp z.name n) (place.2 c) ∙ tie))
+
+-- ---- the place of an exclusive class
 
 pub place_found : (rows : List Class) (n : Name) (at : ℕ) (d : Class) → each_two class_before rows ≡ true → IsSearchInRange (let r : Result ℕ ℕ = Ok at in r) (length rows) → Search rows n (Ok at)
     → (k : ℕ) → is_exclusive_at (slice_get rows k) n ≡ (is_exclusive (get_or rows at d).kind && nat_eq at k)

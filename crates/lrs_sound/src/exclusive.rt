@@ -12,18 +12,19 @@ ghost use Rattle.lrs_sound.specs.Balance.{AreHeld};
 ghost use Rattle.lrs_sound.specs.Exclusive.{is_of_exclusive, is_name, is_place, is_exclusive_at, AreKeyed};
 ghost use Rattle.std.specs.Prelude.{slice_get};
 
+use crate::known::asset_of;
 use crate::sweep::do_share_nothing;
 use lrs_events::{Asset, Class, ClassName, Kind, Part};
 use std::alloc::{AllocError, Global};
 
-/// The class of the asset of this number, by binary search.
+/// The class of the asset of this number.
 fn class_of(assets: &[Asset], asset: u64) -> Option<ClassName>
     requires order { each_two asset_before assets.now ≡ true }
     ensures { (class : Name) → list_any (λ a. nat_eq a.number asset && same_name a.class class) assets.now ≡ is_name result class }
 {
-    match assets.binary_search_by_key(&asset, |a| a.number) {
-        Ok(at) => Some(assets[at].class),
-        Err(_) => None,
+    match asset_of(assets, asset) {
+        Some(asset) => Some(asset.class),
+        None => None,
     }
 }
 

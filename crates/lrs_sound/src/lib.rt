@@ -5,6 +5,7 @@
 pub mod balance;
 pub mod ends;
 pub mod exclusive;
+mod known;
 pub mod laws;
 pub mod order;
 pub mod sums;
