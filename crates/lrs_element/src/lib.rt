@@ -14,6 +14,7 @@ pub use checks::have_repeat;
 pub use course::{Course, CourseFault, JoinFault};
 pub use link::{Ground, Link, Piece};
 pub use marks::{Mark, MarkFault, Marks};
+pub use pieces::{starts_of, starts_up_to};
 
 #[cfg(test)]
 mod refused;

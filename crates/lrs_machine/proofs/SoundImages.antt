@@ -17,11 +17,11 @@ use Rattle.lrs_events.specs.declared.class.Kind.TheVariants.{Exclusive}
 use Rattle.lrs_events.specs.declared.class.Asset.{Asset}
 use Rattle.lrs_events.specs.declared.part.Part.{Part}
 use Rattle.lrs_events.specs.declared.part.Gone.{Gone}
-use Rattle.lrs_events.specs.Places.{Place}
+use Rattle.lrs_events.specs.Places.{Place, differs}
 use Rattle.lrs_events.specs.Spans.{holds_by_spans, are_rows}
 use Rattle.lrs_element.specs.Course.{meets}
 use Rattle.lrs_position.specs.Routes.{is_route_course}
-use Rattle.lrs_events.specs.Parts.{has_place, has_pair}
+use Rattle.lrs_events.specs.Parts.{has_place, has_pair, part_before}
 use Rattle.lrs_report.specs.Segments.{is_exclusive}
 use Rattle.lrs_machine.specs.declared.image.Image.{Image}
 use Rattle.lrs_machine.specs.declared.image.Edit.{Edit}
@@ -31,7 +31,7 @@ use Rattle.lrs_machine.specs.Bounds.{most_assets, most_routes, most_edits, most_
 use Rattle.lrs_machine.specs.State.{Reason, same_reason}
 use Rattle.lrs_machine.specs.State as state
 use Rattle.lrs_machine.specs.Image.{state_of, holds_on, asset_entry, reason_of}
-use Rattle.lrs_machine.specs.Sound.{asset_before, are_assets, course_before, are_courses, differs, are_spans, part_before, are_entered, gone_before, are_gone, are_balanced, are_edits, Test, IsSound, first_unsound, first_failed, tests, courses_of, spans_of, parts_of, places_of, has_asset_place, holds_in, holders_of, is_asset, is_course, is_on_a_link, is_span, are_spans_of, keeps_exclusive, is_part, share_nothing, pairs_of, is_balanced_at, is_named_by, are_parts}
+use Rattle.lrs_machine.specs.Sound.{asset_before, are_assets, course_before, are_courses, are_spans, are_entered, gone_before, are_gone, are_balanced, are_edits, Test, IsSound, first_unsound, first_failed, tests, courses_of, spans_of, parts_of, places_of, has_asset_place, holds_in, holders_of, is_asset, is_course, is_on_a_link, is_span, are_spans_of, keeps_exclusive, is_part, share_nothing, pairs_of, is_balanced_at, is_named_by, are_parts}
 use Rattle.lrs_machine.specs.Laws.{IsBalanced, IsExclusive, IsNamed, SoundIsLawful}
 use Rattle.lrs_machine.proofs.Members.{In, any_found, all_at, In-map, map_found, list_any-map, one_at, find_found, find_known}
 use Rattle.lrs_machine.proofs.Pairs.{HasPlace, place_had, pair_had, one_row, each_two-map, part_on, part_asset, held, held_on, held_asset, Balance, balance, entered_by, has_entered, gone_by, has_gone, takes_away, same_reason_is}

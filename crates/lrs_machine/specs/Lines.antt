@@ -28,16 +28,6 @@ words = join_with_byte 32
 abbrev pub parts : List Text → Text
 parts = join_with_byte 58
 
-abbrev pub kind_text : Kind → Text
-kind_text Point = codes "point"
-kind_text Stretch = codes "stretch"
-kind_text Exclusive = codes "exclusive"
-
-abbrev pub side_text : Side → Text
-side_text L = codes "L"
-side_text R = codes "R"
-side_text B = codes "B"
-
 abbrev pub piece_text : Piece → Text
 piece_text p = parts (decimal p.link ∷ decimal p.a ∷ decimal p.b ∷ (if p.forward then codes "+" else codes "-") ∷ [])
 
