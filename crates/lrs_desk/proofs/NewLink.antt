@@ -221,6 +221,7 @@ module _ (l : Link) (i : Image) (fresh : list_any (has_number l.number) i.links 
         gone = and_weaker (rows && of) balanced (rows && are_parts new i.assets (parts_of i.gone)) (are_balanced new i.assets (spans_of i) i.entered (parts_of i.gone))
             (and_weaker rows of rows (are_parts new i.assets (parts_of i.gone)) (λ k. k) (still_parts (parts_of i.gone))) still_balanced p.gone;
         edits = edits_push i.entered i.gone i.edits e p.edits new_key room;
+        origins = p.origins;
       })
 
   pub makes : Makes (verb.Link l) i (link_parts l)

@@ -312,6 +312,7 @@ module _ (e : RouteEntry) (pieces : List Piece) (i : Image) (fresh : list_any (h
         entered = p.entered;
         gone = still_gone p.gone;
         edits = edits_push i.entered i.gone i.edits d p.edits new_key room;
+        origins = p.origins;
       })
 
 -- The verb makes the route, where its name is new, its ground is free and its marks are those of the course.

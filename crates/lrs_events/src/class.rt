@@ -164,11 +164,13 @@ pub struct Class {
     pub kind: Kind,
 }
 
-/// An asset of the inventory. Its lateral offset is in millimetres from the linear element.
+/// An asset of the inventory. Its lateral offset is in millimetres from the linear element; its entry is the
+/// number of the edit that entered it.
 #[derive(Clone, Copy, Debug, PartialEq, Eq)]
 pub struct Asset {
     pub number: u64,
     pub class: ClassName,
     pub value: Value,
     pub lateral: u32,
+    pub entry: u64,
 }

@@ -31,12 +31,14 @@ abbrev pub IsExclusive : State → Type 0
 IsExclusive s = (a b : ℕ) (x y : Asset) (p : Place) → get s.assets a ≡ Some x → get s.assets b ≡ Some y → x.class ≡ y.class → get s.classes x.class ≡ Some Exclusive
     → s.holds a p ≡ true → s.holds b p ≡ true → a ≡ b
 
--- The ledgers name edits that were done and assets that are known, and the assets are of known classes.
+-- The ledgers name edits that were done and assets that are known; the assets are of known classes, and each was entered, by the one edit that it names.
 pub record IsNamed (s : State) : Type 0 where
   pub asset_known : (m asset : ℕ) (p : Place) → s.entered m asset p ≡ true → contains_key s.assets asset ≡ true
   pub class_known : (a : ℕ) (x : Asset) → get s.assets a ≡ Some x → contains_key s.classes x.class ≡ true
   pub entered_done : (m asset : ℕ) (p : Place) → s.entered m asset p ≡ true → (1 ≤ m) × (m ≤ length s.done)
   pub gone_done : (m asset : ℕ) (why : Reason) (p : Place) → s.gone m why asset p ≡ true → (1 ≤ m) × (m ≤ length s.done)
+  pub by_entry : (m a : ℕ) (x : Asset) (p : Place) → get s.assets a ≡ Some x → s.entered m a p ≡ true → m ≡ x.entry
+  pub was_entered : (a : ℕ) (x : Asset) → get s.assets a ≡ Some x → (p : Place) × (s.entered x.entry a p ≡ true)
 
 pub record IsLawful (s : State) : Type 0 where
   pub balanced : IsBalanced s

@@ -173,6 +173,14 @@ is_named_by edits p = is_from_to 1 (length edits) p.edit
 abbrev pub are_edits : List Part → List Gone → List Edit → Bool
 are_edits entered gone edits = each_two (λ d e. not (same_name d.key e.key)) edits && list_all (is_named_by edits) entered && list_all (is_named_by edits) (parts_of gone) && nat_le (length edits) most_edits
 
+-- table `origin`: each asset was entered, and by the one edit that it names
+
+abbrev pub is_origin : List Part → Asset → Bool
+is_origin entered a = list_any (λ p. nat_eq p.asset a.number) entered && list_all (λ p. not (nat_eq p.asset a.number) || nat_eq p.edit a.entry) entered
+
+abbrev pub are_origins : List Part → List Asset → Bool
+are_origins entered assets = list_all (is_origin entered) assets
+
 -- the routes of an image as the tests read them
 
 abbrev pub courses_of : Image → List RouteCourse
@@ -205,6 +213,7 @@ tests i =
     ∷ record { table = table.Entered; passes = are_entered i.links i.assets i.entered }
     ∷ record { table = table.Gone; passes = are_gone i.links i.assets (spans_of i) i.entered i.gone }
     ∷ record { table = table.Edit; passes = are_edits i.entered i.gone i.edits }
+    ∷ record { table = table.Origin; passes = are_origins i.entered i.assets }
     ∷ []
 
 abbrev pub first_failed : List Test → Option Table

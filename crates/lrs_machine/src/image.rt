@@ -43,7 +43,8 @@ impl TryCopy for Edit {
 }
 
 /// All that is known, each list in the order of its key: links and assets by number, classes and routes by
-/// name, the ledgers by edit, asset, link, start and side, edits by number.
+/// name, `entered` by edit, asset, link, start and side, `gone` by edit, reason, asset, link, start and side,
+/// edits by number.
 #[derive(Drop)]
 pub struct Image {
     pub links: Rows<Link>,

@@ -3,7 +3,7 @@
 ghost use Rattle.lrs_machine.specs.Laws.{StepKeepsLaws, RunsAreLawful, LawfulAddsUp, SoundIsLawful, ActsOnce, OnlyDoneChanges, RouteEditsKeep, EmptyIsSound, LinesTellCommandsApart};
 
 /// Every step keeps a lawful state lawful: each ledger pair once, held what was entered and is not
-/// gone, no place held by two assets of one exclusive class.
+/// gone, no place held by two assets of one exclusive class, each asset entered by the one edit that it names.
 pub fn every_step_keeps_the_laws()
     ensures { StepKeepsLaws }
 {}
