@@ -7,10 +7,7 @@ use Rattle.lrs_element.specs.declared.marks.Mark.{Mark}
 use Rattle.lrs_position.specs.declared.expression.Expr.{Expr}
 use Rattle.lrs_position.specs.declared.expression.Expr.TheVariants.{Abs, Rel, Int}
 use Rattle.lrs_position.specs.Expressions.{Ends}
-use Rattle.lrs_events.specs.declared.class.Kind.{Kind}
-use Rattle.lrs_events.specs.declared.class.Kind.TheVariants.{Point, Stretch, Exclusive}
-use Rattle.lrs_events.specs.declared.side.Side.{Side}
-use Rattle.lrs_events.specs.declared.side.Side.TheVariants.{L, R, B}
+use Rattle.lrs_events.specs.Names.{kind_text, side_text}
 use Rattle.lrs_machine.specs.declared.command.Entry.{Entry}
 use Rattle.lrs_machine.specs.declared.command.Command.{Command}
 use Rattle.lrs_machine.specs.declared.command.Command.TheVariants as verb

@@ -12,7 +12,8 @@ use Rattle.lrs_machine.specs.Sound.{RouteSpans, has_asset_place, is_part, are_ba
 use Rattle.lrs_machine.proofs.Members.{In, any_found, all_at}
 use Rattle.lrs_machine.proofs.Pairs.{place_had, part_on, part_asset}
 use Rattle.lrs_sound.specs.Sweeping.{IsFilled}
-use Rattle.lrs_sound.specs.Pairs.{has_for, times_had, IsHadOnce, AreHadAlike}
+use Rattle.lrs_events.specs.Parts.{has_for, times_had, IsHadOnce}
+use Rattle.lrs_sound.specs.Pairs.{AreHadAlike}
 use Rattle.lrs_sound.specs.Balance.{AreHeld, IsLedger, ApartIsOnce, BalancedIsAlike}
 use Rattle.lrs_sound.proofs.Had.{once_from_apart, apart_from_once, count_append, some_counted, none_counted}
 

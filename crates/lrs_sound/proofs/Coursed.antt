@@ -12,7 +12,7 @@ use Rattle.lrs_element.specs.declared.link.Ground.{Ground}
 use Rattle.lrs_element.specs.Course.{expand, course_of, is_at, runs_over, meets, first_repeated}
 use Rattle.lrs_element.specs.Pieces.{piece_len, ground_of}
 use Rattle.lrs_element.proofs.Expanding.{length-expand, get_or-expand}
-use Rattle.lrs_machine.specs.Sound.{differs}
+use Rattle.lrs_events.specs.Places.{differs}
 use Rattle.lrs_machine.proofs.Members.{In, any_found, any_of, all_at, In-append_left, In-append_right, In-flat_map, flat_map_found}
 use Rattle.lrs_sound.specs.Coursing.{CoursesAreApart}
 use Rattle.lrs_sound.proofs.Balancing.{all_members}
@@ -26,7 +26,7 @@ module _ {X : Type 0} (test : X → X → Bool) where
       (all_members (test x) xs (λ y m. let at = place_in y xs m in subst (λ z. test x z ≡ true) (at.2 x) (h 0 (suc at.0) x (omega arith) (omega (arith, at.1)))))
       (from_places xs (λ i j d less inside. h (suc i) (suc j) d (omega (arith, less)) (omega (arith, inside))))
 
-  joined : (xs ys : List X) → each_two test xs ≡ true → each_two test ys ≡ true → ((x y : X) → In x xs → In y ys → test x y ≡ true) → each_two test (xs ++ ys) ≡ true
+  pub joined : (xs ys : List X) → each_two test xs ≡ true → each_two test ys ≡ true → ((x y : X) → In x xs → In y ys → test x y ≡ true) → each_two test (xs ++ ys) ≡ true
   joined [] ys h k across = k
   joined (x ∷ xs) ys h k across =
       let both = and_parts (list_all (test x) xs) (each_two test xs) h in
@@ -35,7 +35,7 @@ module _ {X : Type 0} (test : X → X → Bool) where
       (joined xs ys both.1 k (λ z y n m. across z y (inr n) m))
 
   -- and apart again
-  first_of : (xs ys : List X) → each_two test (xs ++ ys) ≡ true → each_two test xs ≡ true
+  pub first_of : (xs ys : List X) → each_two test (xs ++ ys) ≡ true → each_two test xs ≡ true
   first_of [] ys h = refl
   first_of (x ∷ xs) ys h =
       let both = and_parts (list_all (test x) (xs ++ ys)) (each_two test (xs ++ ys)) h in
@@ -45,7 +45,7 @@ module _ {X : Type 0} (test : X → X → Bool) where
   rest_of [] ys h = h
   rest_of (x ∷ xs) ys h = rest_of xs ys (and_parts (list_all (test x) (xs ++ ys)) (each_two test (xs ++ ys)) h).1
 
-  across_of : (xs ys : List X) → each_two test (xs ++ ys) ≡ true → (x y : X) → In x xs → In y ys → test x y ≡ true
+  pub across_of : (xs ys : List X) → each_two test (xs ++ ys) ≡ true → (x y : X) → In x xs → In y ys → test x y ≡ true
   across_of [] ys h x y m n = absurd m
   across_of (z ∷ zs) ys h x y (inl e) n =
       let both = and_parts (list_all (test z) (zs ++ ys)) (each_two test (zs ++ ys)) h in
@@ -124,51 +124,43 @@ no_repeat before (p ∷ ps) h =
 
 -- ---- all routes
 
-flat_map-append : {X Y : Type 0} (f : X → List Y) (xs ys : List X) → flat_map f (xs ++ ys) ≡ flat_map f xs ++ flat_map f ys
-flat_map-append f [] ys = refl
-flat_map-append f (x ∷ xs) ys = ap (λ l. f x ++ l) (flat_map-append f xs ys) ∙ sym (append_assoc (f x) (flat_map f xs) (flat_map f ys))
+abbrev own : List Ground → Bool
+own course = each_two differs course
 
-abbrev all_pieces : List (List Piece) → List Piece
-all_pieces routes = flat_map (λ pieces. pieces) routes
+abbrev apart : List Ground → List Ground → Bool
+apart c d = not (meets c d)
 
-courses : (routes : List (List Piece)) → course_of (all_pieces routes) ≡ flat_map course_of routes
-courses [] = refl
-courses (ps ∷ rest) = flat_map-append expand ps (all_pieces rest) ∙ ap (λ l. course_of ps ++ l) (courses rest)
+abbrev joined_courses : List (List Ground) → List Ground
+joined_courses courses = flat_map (λ course. course) courses
 
-abbrev apart : List Piece → List Piece → Bool
-apart ps qs = not (meets (course_of ps) (course_of qs))
-
-abbrev own : List Piece → Bool
-own ps = each_two differs (course_of ps)
-
-each_once : (routes : List (List Piece)) → each_two differs (flat_map course_of routes) ≡ true → (list_all own routes ≡ true) × (each_two apart routes ≡ true)
+each_once : (courses : List (List Ground)) → each_two differs (joined_courses courses) ≡ true → (list_all own courses ≡ true) × (each_two apart courses ≡ true)
 each_once [] h = (refl, refl)
-each_once (ps ∷ rest) h =
-    let more = each_once rest (rest_of differs (course_of ps) (flat_map course_of rest) h) in
-    let across = across_of differs (course_of ps) (flat_map course_of rest) h in (
-      and_from (own ps) (list_all own rest) (first_of differs (course_of ps) (flat_map course_of rest) h) more.0,
-      and_from (list_all (apart ps) rest) (each_two apart rest)
-          (all_members (apart ps) rest (λ qs m. ap not (apart_from_differ (course_of ps) (course_of qs) (λ x y i j. across x y i (In-flat_map course_of qs y rest m j))))) more.1,
+each_once (c ∷ rest) h =
+    let more = each_once rest (rest_of differs c (joined_courses rest) h) in
+    let across = across_of differs c (joined_courses rest) h in (
+      and_from (own c) (list_all own rest) (first_of differs c (joined_courses rest) h) more.0,
+      and_from (list_all (apart c) rest) (each_two apart rest)
+          (all_members (apart c) rest (λ d m. ap not (apart_from_differ c d (λ x y i j. across x y i (In-flat_map (λ course. course) d y rest m j))))) more.1,
     )
 
-all_once : (routes : List (List Piece)) → list_all own routes ≡ true → each_two apart routes ≡ true → each_two differs (flat_map course_of routes) ≡ true
+all_once : (courses : List (List Ground)) → list_all own courses ≡ true → each_two apart courses ≡ true → each_two differs (joined_courses courses) ≡ true
 all_once [] h k = refl
-all_once (ps ∷ rest) h k =
-    let a = and_parts (own ps) (list_all own rest) h in
-    let b = and_parts (list_all (apart ps) rest) (each_two apart rest) k in
-    joined differs (course_of ps) (flat_map course_of rest) a.0 (all_once rest a.1 b.1) (λ x y m n.
-    let q = flat_map_found course_of y rest n in
-    differ_from_apart (course_of ps) (course_of q.0) (not-true (meets (course_of ps) (course_of q.0)) (all_at (apart ps) q.0 rest b.0 q.1)) x y m q.2)
+all_once (c ∷ rest) h k =
+    let a = and_parts (own c) (list_all own rest) h in
+    let b = and_parts (list_all (apart c) rest) (each_two apart rest) k in
+    joined differs c (joined_courses rest) a.0 (all_once rest a.1 b.1) (λ x y m n.
+    let q = flat_map_found (λ course. course) y rest n in
+    differ_from_apart c q.0 (not-true (meets c q.0) (all_at (apart c) q.0 rest b.0 q.1)) x y m q.2)
 
 pub courses_are_apart : CoursesAreApart
-courses_are_apart routes = (there, back)
+courses_are_apart pieces courses run = (there, back)
   where
-    there : is_some (first_repeated [] (all_pieces routes)) ≡ false → (list_all own routes && each_two apart routes) ≡ true
+    there : is_some (first_repeated [] pieces) ≡ false → (list_all own courses && each_two apart courses) ≡ true
     there h =
-        let e = each_once routes (ap (each_two differs) (sym (courses routes)) ∙ once [] (all_pieces routes) refl h) in
-        and_from (list_all own routes) (each_two apart routes) e.0 e.1
+        let e = each_once courses (ap (each_two differs) (sym run) ∙ once [] pieces refl h) in
+        and_from (list_all own courses) (each_two apart courses) e.0 e.1
 
-    back : (list_all own routes && each_two apart routes) ≡ true → is_some (first_repeated [] (all_pieces routes)) ≡ false
+    back : (list_all own courses && each_two apart courses) ≡ true → is_some (first_repeated [] pieces) ≡ false
     back h =
-        let both = and_parts (list_all own routes) (each_two apart routes) h in
-        no_repeat [] (all_pieces routes) (ap (each_two differs) (courses routes) ∙ all_once routes both.0 both.1)
+        let both = and_parts (list_all own courses) (each_two apart courses) h in
+        no_repeat [] pieces (ap (each_two differs) run ∙ all_once courses both.0 both.1)

@@ -17,7 +17,8 @@ use Rattle.lrs_events.specs.declared.side.LinkSide.TheVariants.{Left, Right}
 use Rattle.lrs_events.specs.Places.{Place, same_link_side}
 use Rattle.lrs_sound.specs.declared.ends.End.{End}
 use Rattle.lrs_sound.specs.Sweeping.{is_right, IsFilled}
-use Rattle.lrs_sound.specs.Pairs.{has_for, times_had, AreHadAlike}
+use Rattle.lrs_events.specs.Parts.{has_for, times_had}
+use Rattle.lrs_sound.specs.Pairs.{AreHadAlike}
 use Rattle.lrs_sound.specs.Ends.{start_of, end_of, IsRising}
 use Rattle.lrs_sound.proofs.Along.{IsAscending, all_weaker}
 use Rattle.lrs_sound.proofs.Had.{count_cons, count_yes, count_no, count_append}

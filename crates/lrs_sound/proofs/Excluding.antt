@@ -17,7 +17,7 @@ use Rattle.lrs_machine.specs.Sound.{RouteSpans, holds_in, has_asset_place, is_pa
 use Rattle.lrs_machine.proofs.Members.{In, any_found, any_of, all_at, one_at}
 use Rattle.lrs_machine.proofs.Pairs.{place_had, part_on}
 use Rattle.lrs_sound.specs.Sweeping.{IsFilled}
-use Rattle.lrs_sound.specs.Pairs.{has_for, times_had, IsHadOnce}
+use Rattle.lrs_events.specs.Parts.{has_for, times_had, IsHadOnce}
 use Rattle.lrs_sound.specs.Balance.{AreHeld}
 use Rattle.lrs_sound.specs.Exclusive.{excludes, is_of_exclusive, AreKeyed, ExclusiveIsApart}
 use Rattle.lrs_sound.proofs.Had.{once_from_apart, apart_from_once, count_append, count_cons, count_yes, count_no, none_counted}

@@ -38,7 +38,7 @@ module _ {X : Type 0} where
   place_in x (y ∷ ys) (inl e) = (zero, omega arith, λ d. sym e)
   place_in x (y ∷ ys) (inr m) = let later = place_in x ys m in (suc later.0, omega (arith, later.1), later.2)
 
-  member_at : (xs : List X) (i : ℕ) (d : X) → i < length xs → In (get_or xs i d) xs
+  pub member_at : (xs : List X) (i : ℕ) (d : X) → i < length xs → In (get_or xs i d) xs
   member_at [] i d h = absurd (omega (arith, h))
   member_at (x ∷ xs) zero d h = inl refl
   member_at (x ∷ xs) (suc i) d h = inr (member_at xs i d (omega (arith, h)))
@@ -97,10 +97,10 @@ module _ {K Row : Type 0} {R : K → K → Ordering} (total : IsTotalOrder R) (k
 
 -- ---- the class of an asset
 
-same_number : (m n : ℕ) → nat_cmp m n ≡ Equal → m ≡ n
+pub same_number : (m n : ℕ) → nat_cmp m n ≡ Equal → m ≡ n
 same_number m n h = eqb-true m n (unsigned_ties m n ∙ ap is_eq h)
 
-number_ties : (m n : ℕ) → m ≡ n → nat_cmp m n ≡ Equal
+pub number_ties : (m n : ℕ) → m ≡ n → nat_cmp m n ≡ Equal
 number_ties m n e = subst (λ k. nat_cmp m k ≡ Equal) e (Rattle.std.proofs.lemmas.Cmp.tied_itself nat_cmp_total m)
 
 numbers_agree : (m n : ℕ) → nat_lt m n ≡ is_lt (nat_cmp m n)

@@ -14,7 +14,7 @@ module _ {X : Type 0} (test : X → X → Bool) (trans : (x y z : X) → test x 
       let both = and_parts (test y z) (list_all (test y) zs) k in
       and_from (test x z) (list_all (test x) zs) (trans x y z h both.0) (below x y zs h both.1)
 
-  rises : (xs : List X) → ((k : ℕ) (d : X) → k + 1 < length xs → test (get_or xs k d) (get_or xs (k + 1) d) ≡ true) → each_two test xs ≡ true
+  pub rises : (xs : List X) → ((k : ℕ) (d : X) → k + 1 < length xs → test (get_or xs k d) (get_or xs (k + 1) d) ≡ true) → each_two test xs ≡ true
   rises [] h = refl
   rises (x ∷ []) h = refl
   rises (x ∷ y ∷ ys) h =

@@ -8,7 +8,8 @@ use Rattle.lrs_events.specs.declared.part.Part.{Part}
 use Rattle.lrs_events.specs.Places.{Place}
 use Rattle.lrs_machine.specs.Sound.{RouteSpans, holds_in, has_asset_place, is_part, share_nothing, are_balanced}
 use Rattle.lrs_sound.specs.Sweeping.{IsFilled}
-use Rattle.lrs_sound.specs.Pairs.{IsHadOnce, AreHadAlike}
+use Rattle.lrs_events.specs.Parts.{IsHadOnce}
+use Rattle.lrs_sound.specs.Pairs.{AreHadAlike}
 
 -- the parts are what the rows of the routes hold, each pair once
 pub record AreHeld (links : List Link) (assets : List Asset) (routes : List RouteSpans) (held : List Part) : Type 0 where

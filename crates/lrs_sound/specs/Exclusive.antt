@@ -12,7 +12,7 @@ use Rattle.lrs_events.specs.Parts.{has_place}
 use Rattle.lrs_report.specs.Segments.{is_exclusive}
 use Rattle.lrs_machine.specs.Sound.{RouteSpans, share_nothing, asset_before, keeps_exclusive}
 use Rattle.lrs_sound.specs.Sweeping.{IsFilled}
-use Rattle.lrs_sound.specs.Pairs.{times_had}
+use Rattle.lrs_events.specs.Parts.{times_had}
 use Rattle.lrs_sound.specs.Balance.{AreHeld}
 
 -- whether a class is exclusive and the asset is of it

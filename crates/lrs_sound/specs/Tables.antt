@@ -1,8 +1,9 @@
 -- The routes of an image as the tests of each table read them.
 use Rattle.std.specs.Prelude.{Bool, List, map, length}
 use Rattle.lrs_measure.specs.Texts.{name_before}
+use Rattle.lrs_events.specs.declared.class.Asset.{Asset}
 use Rattle.lrs_machine.specs.declared.image.RouteEntry.{RouteEntry}
-use Rattle.lrs_machine.specs.Sound.{RouteCourse, RouteMarks, RouteReferents, RouteSpans}
+use Rattle.lrs_machine.specs.Sound.{RouteCourse, RouteMarks, RouteReferents, RouteSpans, are_spans_of}
 
 abbrev pub route_before : RouteEntry → RouteEntry → Bool
 route_before a b = name_before a.route.name b.route.name
@@ -18,3 +19,7 @@ route_referents routes = map (λ e. record { length = length e.route.course; ref
 
 abbrev pub route_spans : List RouteEntry → List RouteSpans
 route_spans routes = map (λ e. record { course = e.route.course; rows = e.spans }) routes
+
+-- the rows of the route fit it and are of known assets
+abbrev pub fits_route : List Asset → RouteEntry → Bool
+fits_route assets e = are_spans_of assets (record { course = e.route.course; rows = e.spans })

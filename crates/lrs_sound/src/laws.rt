@@ -2,7 +2,6 @@
 
 ghost use Rattle.lrs_sound.specs.Balance.{ApartIsOnce, BalancedIsAlike};
 ghost use Rattle.lrs_sound.specs.Exclusive.{ExclusiveIsApart};
-ghost use Rattle.lrs_sound.specs.Holding.{RowsAreHeld};
 ghost use Rattle.lrs_sound.specs.Coursing.{CoursesAreApart};
 
 /// Parts share nothing exactly where no pair is had twice.
@@ -21,12 +20,7 @@ pub fn exclusive_is_apart()
     ensures { ExclusiveIsApart }
 {}
 
-/// Parts made row by row are what the routes hold, each pair once.
-pub fn rows_are_held()
-    ensures { RowsAreHeld }
-{}
-
-/// One search for repeats over the pieces of all routes decides that each course has each millimetre once
+/// One search for repeats over the pieces of all courses decides that each course has each millimetre once
 /// and that no two courses meet.
 pub fn courses_are_apart()
     ensures { CoursesAreApart }

@@ -3,7 +3,8 @@
 ghost use Rattle.std.specs.Prelude.{◌≡◌};
 ghost use Rattle.lrs_measure.specs.Lists.{each_two};
 ghost use Rattle.lrs_machine.specs.Sound;
-ghost use Rattle.lrs_machine.specs.Sound.{are_links, are_classes, asset_before, part_key, gone_key, part_before, gone_before, side_number};
+ghost use Rattle.lrs_events.specs.Parts.{part_key, part_before, side_number};
+ghost use Rattle.lrs_machine.specs.Sound.{are_links, are_classes, asset_before, gone_key, gone_before};
 ghost use Rattle.lrs_sound.specs.Tables.{route_before};
 
 use lrs_element::Link;

@@ -2,7 +2,7 @@ use Rattle.std.proofs.Common.{◌≡◌, rules}
 use Rattle.std.specs.Cmp.Lexicographic.{nat_list_cmp_total}
 use Rattle.std.proofs.lemmas.List.Sorted.{answers_always}
 use Rattle.lrs_events.specs.declared.part.Part.{Part}
-use Rattle.lrs_machine.specs.Sound.{part_key, part_before}
+use Rattle.lrs_events.specs.Parts.{part_key, part_before}
 use Rattle.lrs_sound.proofs.Rising.{risen, lt_chain}
 use Rattle.lrs_sound.proofs.order.entered_rise.Goals as goal
 
