@@ -10,6 +10,7 @@ mod link;
 mod marks;
 mod pieces;
 
+pub use checks::have_repeat;
 pub use course::{Course, CourseFault, JoinFault};
 pub use link::{Ground, Link, Piece};
 pub use marks::{Mark, MarkFault, Marks};
