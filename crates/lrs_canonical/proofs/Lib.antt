@@ -26,3 +26,4 @@ pub mod Laid
 pub mod Picked
 pub mod RunLaws
 pub mod FewestHeld
+pub mod Slices
