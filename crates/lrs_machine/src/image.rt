@@ -5,9 +5,10 @@ ghost use Rattle.std.specs.Prelude.{◌≡◌, IfOk};
 use crate::key::Key;
 use crate::line::Line;
 use lrs_element::Link;
-use lrs_events::{Asset, Class, Gone, Part, Spans};
+use lrs_events::{Asset, Class, Gone, Part};
 use lrs_measure::{Rows, TryCopy};
 use lrs_position::Route;
+use lrs_spans::Spans;
 use std::alloc::{AllocError, Global};
 
 /// A route and what lies on it.

@@ -2,10 +2,11 @@ ghost use Rattle.std.specs.Prelude.{IsTrue};
 
 use super::*;
 use lrs_element::{Course, Link, Mark, Marks, Piece};
-use lrs_events::{Asset, Class, ClassName, Gone, Kind, LinkSide, Part, Spans, Value};
+use lrs_events::{Asset, Class, ClassName, Gone, Kind, LinkSide, Part, Value};
 use lrs_machine::{Command, Edit, Image, Key, RouteEntry, Table};
 use lrs_measure::Rows;
 use lrs_position::{RefName, Referent, Route, RouteName};
+use lrs_spans::Spans;
 use std::alloc::{AllocGlobal, Global};
 use std::process::Abort;
 
