@@ -1,13 +1,13 @@
 -- What the tests of the tables say where their parts are known.
-use Rattle.std.proofs.Common.{◌≡◌, ◌↔◌, ℕ, ◌+◌, ◌-◌, ◌<◌, ◌≤◌, Bool, true, false, cond, not, ◌⊎◌, inl, inr, List, [], ◌∷◌, ◌++◌, map, length, refl, sym, ap, subst, ◌∙◌, arith, Result, Ok, Err}
-use Rattle.std.specs.Prelude.{◌&&◌, ◌||◌, nat_eq, nat_le, nat_lt, IfOk, IsTrue}
+use Rattle.std.proofs.Common.{◌≡◌, ◌↔◌, ℕ, ◌+◌, ◌-◌, ◌≤◌, Bool, true, false, cond, ◌⊎◌, inl, inr, List, [], ◌∷◌, ◌++◌, map, length, refl, sym, ap, subst, ◌∙◌, arith, Result, Ok, Err}
+use Rattle.std.specs.Prelude.{◌&&◌, nat_eq, nat_le, IfOk, IsTrue}
 use Rattle.std.specs.List.{list_any, list_all, flat_map}
 use Rattle.std.specs.Cmp.{both_ways}
-use Rattle.std.proofs.lemmas.Bool.{false≢true, and_parts, and_from, or_parts, cases_Bool, eqb-true, le-leb, leb-true}
+use Rattle.std.proofs.lemmas.Bool.{false≢true, and_from, or_parts, cases_Bool, eqb-true, le-leb, leb-true}
 use Rattle.std.proofs.lemmas.List.Sums.{sum_by-cons}
 use Rattle.std.proofs.lemmas.List.Folds.{list_all-map}
-use Rattle.lrs_measure.specs.Lists.{each_two, is_from_to}
-use Rattle.lrs_measure.specs.Texts.{Name, same_name}
+use Rattle.lrs_measure.specs.Lists.{each_two}
+use Rattle.lrs_measure.specs.Texts.{Name}
 use Rattle.lrs_element.specs.declared.link.Link.{Link}
 use Rattle.lrs_position.specs.declared.route.Referent.{Referent}
 use Rattle.lrs_position.specs.Routes.{is_route_course, have_marks, are_referents}
@@ -18,7 +18,7 @@ use Rattle.lrs_machine.specs.declared.image.RouteEntry.{RouteEntry}
 use Rattle.lrs_machine.specs.declared.image.Edit.{Edit}
 use Rattle.lrs_machine.specs.Bounds.{most_pairs, most_edits}
 use Rattle.lrs_machine.specs.Sound.{is_part, share_nothing, pairs_of, are_parts, parts_of, are_edits, is_named_by, RouteReferents, are_all_referents, are_all_marks}
-use Rattle.lrs_machine.proofs.Members.{In, any_found, all_at}
+use Rattle.lrs_machine.proofs.Members.{any_found, all_at}
 use Rattle.lrs_machine.proofs.Pairs.{part_asset, each_two-map}
 use Rattle.lrs_machine.proofs.SoundImages.{and_three}
 use Rattle.lrs_sound.specs.Tables.{route_marks, route_referents}

@@ -13,7 +13,7 @@ use Rattle.lrs_measure.specs.Texts.{Name, name_cmp, same_name}
 use Rattle.lrs_events.specs.declared.class.Class.{Class}
 use Rattle.lrs_events.specs.declared.class.Asset.{Asset}
 use Rattle.lrs_report.specs.Segments.{is_exclusive}
-use Rattle.lrs_machine.specs.Sound.{asset_before, class_before}
+use Rattle.lrs_machine.specs.Sound.{class_before}
 use Rattle.lrs_machine.proofs.Members.{In, any_found, any_of}
 use Rattle.lrs_sound.specs.Exclusive.{excludes, is_exclusive_at}
 

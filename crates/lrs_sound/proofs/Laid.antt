@@ -1,16 +1,16 @@
 -- Courses, tested by their pieces.
-use Rattle.std.proofs.Common.{◌≡◌, ◌↔◌, ℕ, ◌+◌, ◌-◌, ◌<◌, ◌≤◌, Bool, true, false, cond, not, ◌⊎◌, inl, inr, List, [], ◌∷◌, ◌++◌, map, length, get_or, take, refl, sym, ap, subst, ◌∙◌, arith, append_assoc}
-use Rattle.std.specs.Prelude.{◌&&◌, ◌||◌, nat_eq, nat_le, nat_lt, is_some}
-use Rattle.std.specs.List.{AllByRecursion, list_any, list_all, flat_map}
+use Rattle.std.proofs.Common.{◌≡◌, ◌↔◌, ℕ, ◌+◌, ◌-◌, ◌<◌, ◌≤◌, Bool, true, false, cond, not, List, [], ◌∷◌, ◌++◌, map, length, get_or, refl, sym, ap, subst, ◌∙◌, arith, append_assoc}
+use Rattle.std.specs.Prelude.{◌&&◌, nat_eq, nat_le, nat_lt, is_some}
+use Rattle.std.specs.List.{AllByRecursion, list_all, flat_map}
 use Rattle.std.specs.Cmp.{both_ways}
-use Rattle.std.proofs.lemmas.Bool.{false≢true, and_parts, and_from, not-true, leb-true, le-leb, ltb-true, lt-ltb, ltb-false}
+use Rattle.std.proofs.lemmas.Bool.{false≢true, and_parts, and_from, not-true, leb-true, le-leb, ltb-true, lt-ltb}
 use Rattle.std.proofs.lemmas.List.{length-map}
-use Rattle.std.proofs.lemmas.List.Folds.{list_all-append, list_all-map}
+use Rattle.std.proofs.lemmas.List.Folds.{list_all-append}
 use Rattle.lrs_measure.specs.Lists.{each_two}
 use Rattle.lrs_element.specs.declared.link.Link.{Link}
 use Rattle.lrs_element.specs.declared.link.Piece.{Piece}
 use Rattle.lrs_element.specs.declared.link.Ground.{Ground}
-use Rattle.lrs_element.specs.Course.{expand, course_of, first_repeated, meets, IsFewest}
+use Rattle.lrs_element.specs.Course.{expand, course_of, first_repeated, meets}
 use Rattle.lrs_element.specs.Pieces.{piece_len, ground_of, IsFilled}
 use Rattle.lrs_element.proofs.Expanding.{length-expand, get_or-expand}
 use Rattle.lrs_position.specs.Routes.{is_route_course}
@@ -18,7 +18,7 @@ use Rattle.lrs_machine.specs.declared.image.RouteEntry.{RouteEntry}
 use Rattle.lrs_machine.specs.Bounds.{most_routes}
 use Rattle.lrs_events.specs.Places.{differs}
 use Rattle.lrs_machine.specs.Sound.{RouteCourse, is_on_a_link, is_course, course_before, are_courses}
-use Rattle.lrs_machine.proofs.Members.{In, any_found, any_of, all_at}
+use Rattle.lrs_machine.proofs.Members.{any_found, any_of, all_at}
 use Rattle.lrs_machine.proofs.Pairs.{each_two-map}
 use Rattle.lrs_sound.specs.Coursing.{ends_on_a_link, is_on_links}
 use Rattle.lrs_sound.specs.Tables.{route_before, route_courses}

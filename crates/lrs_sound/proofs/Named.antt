@@ -1,9 +1,9 @@
 -- The first unsound table, by the tests that passed before it.
-use Rattle.std.proofs.Common.{◌≡◌, Bool, true, false, cond, List, [], ◌∷◌, Option, Some, None, refl, sym, ap, ◌∙◌}
+use Rattle.std.proofs.Common.{◌≡◌, Bool, true, false, cond, List, [], ◌∷◌, Option, Some, None, sym, ap, ◌∙◌}
 use Rattle.lrs_machine.specs.declared.image.Image.{Image}
 use Rattle.lrs_machine.specs.declared.table.Table.{Table}
 use Rattle.lrs_machine.specs.declared.table.Table.TheVariants as table
-use Rattle.lrs_machine.specs.Sound.{Test, first_failed, first_unsound, are_links, are_classes, are_assets, are_courses, are_all_marks, are_all_referents, are_spans, are_entered, are_gone, are_edits, are_origins, courses_of, marks_of, referents_of, spans_of}
+use Rattle.lrs_machine.specs.Sound.{Test, first_failed, first_unsound, are_links, are_classes, are_assets, are_courses, are_all_referents, are_spans, are_entered, are_gone, are_edits, are_origins, courses_of, referents_of, spans_of}
 use Rattle.lrs_sound.proofs.Fitting.{marks_fit}
 
 -- the first table whose test fails

@@ -1,5 +1,5 @@
 -- Each asset was entered by the one edit that it names.
-use Rattle.std.proofs.Common.{◌≡◌, ℕ, ◌+◌, ◌<◌, ◌≤◌, Bool, true, false, not, List, [], ◌∷◌, map, length, get_or, refl, sym, ap, ◌∙◌, arith, Option, Some, None, Result, Ok, Err, IsPermutation, Ordering, Less, Equal, Greater, ◌⊎◌, inl, inr}
+use Rattle.std.proofs.Common.{◌≡◌, ℕ, ◌<◌, ◌≤◌, Bool, true, false, not, List, [], ◌∷◌, map, length, get_or, refl, sym, ap, ◌∙◌, arith, Some, None, Err, IsPermutation, Less, Equal, Greater, ◌⊎◌, inl, inr}
 use Rattle.std.specs.Prelude.{◌&&◌, ◌||◌, nat_eq}
 use Rattle.std.specs.List.{list_any, list_all}
 use Rattle.std.specs.Ordering.{nat_cmp}
@@ -7,7 +7,7 @@ use Rattle.std.specs.Option.{option_map_or}
 use Rattle.std.specs.Cmp.{both_ways, nat_cmp_total}
 use Rattle.std.specs.List.Sorted.{IsSorted, IsBinarySearchResult, IsPartitionPoint}
 use Rattle.std.proofs.lemmas.List.Sorted.{searchable_from_sorted}
-use Rattle.std.proofs.lemmas.Bool.{false≢true, and_parts, and_from, cases_lt, false_from_ne_true, eq-eqb, eqb-true}
+use Rattle.std.proofs.lemmas.Bool.{and_parts, and_from, cases_lt, false_from_ne_true, eq-eqb, eqb-true}
 use Rattle.lrs_events.specs.declared.class.Asset.{Asset}
 use Rattle.lrs_events.specs.declared.part.Part.{Part}
 use Rattle.lrs_machine.specs.Sound.{is_origin, are_origins}

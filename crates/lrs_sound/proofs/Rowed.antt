@@ -1,8 +1,8 @@
 -- Parts made route by route are what the routes hold, each pair once.
-use Rattle.std.proofs.Common.{◌≡◌, ℕ, ◌+◌, ◌-◌, ◌<◌, ◌≤◌, Bool, true, false, ◌⊎◌, inl, inr, List, [], ◌∷◌, ◌++◌, map, take, get_or, length, refl, sym, ap, subst, ◌∙◌, arith}
+use Rattle.std.proofs.Common.{◌≡◌, ℕ, ◌+◌, ◌-◌, ◌<◌, ◌≤◌, Bool, true, false, ◌⊎◌, inl, inr, List, [], ◌∷◌, ◌++◌, take, get_or, length, refl, sym, ap, subst, ◌∙◌, arith}
 use Rattle.std.specs.Prelude.{◌||◌, ◌&&◌, not, nat_lt, nat_le, nat_eq}
 use Rattle.std.specs.List.{AllByRecursion, list_any, list_all}
-use Rattle.std.proofs.lemmas.Bool.{false≢true, both_ways, not-true, and_parts, and_from, cases_Bool, eqb-true, eq-eqb, lt-ltb, le-leb, ltb-true, false_from_ne_true}
+use Rattle.std.proofs.lemmas.Bool.{both_ways, not-true, and_parts, and_from, cases_Bool, eqb-true, eq-eqb, lt-ltb, le-leb, ltb-true, false_from_ne_true}
 use Rattle.std.proofs.lemmas.List.{take_more, map-append}
 use Rattle.std.proofs.lemmas.List.Folds.{list_any-append, list_all-append}
 use Rattle.lrs_measure.specs.Lists.{each_two}
@@ -22,7 +22,7 @@ use Rattle.lrs_machine.specs.Bounds.{most_routes}
 use Rattle.lrs_machine.proofs.Members.{In, any_found, any_of, all_at, map_found}
 use Rattle.lrs_machine.proofs.Pairs.{held, held_asset, each_two-map, entered_by, has_entered}
 use Rattle.lrs_sound.specs.Sweeping.{IsFilled}
-use Rattle.lrs_events.specs.Parts.{has_for, times_had, IsHadOnce}
+use Rattle.lrs_events.specs.Parts.{has_for, times_had}
 use Rattle.lrs_sound.specs.Balance.{AreHeld}
 use Rattle.lrs_sound.specs.Holding.{AreRoutes, AreOfRoute, AreOfRoutes}
 use Rattle.lrs_sound.specs.Coursing.{is_on_links}

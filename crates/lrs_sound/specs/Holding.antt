@@ -1,5 +1,5 @@
 -- What the rows of routes hold, as parts made route by route.
-use Rattle.std.specs.Prelude.{◌≡◌, ℕ, true, not, List, ◌++◌}
+use Rattle.std.specs.Prelude.{◌≡◌, ℕ, true, not, List}
 use Rattle.std.specs.List.{list_all}
 use Rattle.lrs_measure.specs.Lists.{each_two}
 use Rattle.lrs_element.specs.declared.link.Ground.{Ground}

@@ -3,12 +3,18 @@
 //! With ample memory nothing here is refused. `tests/refused_growths_test.py` runs this test with one
 //! allocation refused, each in turn, and reads which calls it prints.
 
-use super::tests::sound_image;
+use super::tests::image_of;
 use super::*;
 
 #[test]
 fn an_image_is_tested(rt: HostRuntime) {
-    let image = sound_image(&rt);
+    let image = match image_of(rt.alloc()) {
+        Some(image) => image,
+        None => {
+            let _ = println!(rt; "refused: image_of");
+            image_of(rt.alloc()).expect(&rt, "an image")
+        }
+    };
     let found = match first_unsound(rt.alloc(), &image) {
         Ok(found) => found,
         Err(_) => {

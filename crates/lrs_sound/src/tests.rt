@@ -198,29 +198,28 @@ fn edit(alloc: Global, key: &[u8]) -> Option<Edit> {
     })
 }
 
-/// Two routes, and an asset that was entered on the long one and is gone from it.
-fn image_of(alloc: Global) -> Option<Image> {
-    let mut image = Image::empty(alloc);
-    for link in LINKS {
-        image.links.items.push(link).ok()?;
-    }
-    image
-        .classes
-        .items
-        .push(class(b"RAIL", Kind::Exclusive)?)
-        .ok()?;
-    image
-        .classes
-        .items
-        .push(class(b"SIGN", Kind::Stretch)?)
-        .ok()?;
-    image.assets.items.push(asset(1, b"SIGN", 1)?).ok()?;
+/// The links and classes, and one asset.
+fn register(image: &mut Image) -> Option<()> {
+    image.links.items.extend_from_slice(&LINKS).ok()?;
+    let classes = [
+        class(b"RAIL", Kind::Exclusive)?,
+        class(b"SIGN", Kind::Stretch)?,
+    ];
+    image.classes.items.extend_from_slice(&classes).ok()?;
+    image.assets.items.push(asset(1, b"SIGN", 1)?).ok()
+}
+
+fn lay(alloc: Global, image: &mut Image) -> Option<()> {
     image.routes.items.push(long_route(alloc)?).ok()?;
     image
         .routes
         .items
         .push(route_of_pieces(alloc, b"KM1")?)
-        .ok()?;
+        .ok()
+}
+
+/// What was entered on the long route, and is gone from it.
+fn enter(image: &mut Image) -> Option<()> {
     for link in 1..11 {
         image.entered.items.push(part(1, link)).ok()?;
         let gone = Gone {
@@ -229,17 +228,26 @@ fn image_of(alloc: Global) -> Option<Image> {
         };
         image.gone.items.push(gone).ok()?;
     }
+    Some(())
+}
+
+fn edits(alloc: Global, image: &mut Image) -> Option<()> {
     image.edits.items.push(edit(alloc, b"k1")?).ok()?;
-    image.edits.items.push(edit(alloc, b"k2")?).ok()?;
+    image.edits.items.push(edit(alloc, b"k2")?).ok()
+}
+
+/// Two routes, and an asset that was entered on the long one and is gone from it.
+pub(super) fn image_of(alloc: Global) -> Option<Image> {
+    let mut image = Image::empty(alloc);
+    register(&mut image)?;
+    lay(alloc, &mut image)?;
+    enter(&mut image)?;
+    edits(alloc, &mut image)?;
     Some(image)
 }
 
-/// The sound image, also where its first making was refused memory.
-pub fn sound_image(rt: &(impl Abort + AllocGlobal)) -> Image {
-    match image_of(rt.alloc()) {
-        Some(image) => image,
-        None => image_of(rt.alloc()).expect(rt, "an image"),
-    }
+fn sound_image(rt: &(impl Abort + AllocGlobal)) -> Image {
+    image_of(rt.alloc()).expect(rt, "an image")
 }
 
 fn named(rt: &(impl Abort + AllocGlobal), image: &Image) -> Option<Table> {
@@ -249,99 +257,112 @@ fn named(rt: &(impl Abort + AllocGlobal), image: &Image) -> Option<Table> {
 #[test]
 fn a_sound_image_passes(rt: HostRuntime) {
     assert_eq!(rt; named(&rt, &sound_image(&rt)), None);
+}
+
+#[test]
+fn an_empty_image_passes(rt: HostRuntime) {
     assert_eq!(rt; named(&rt, &Image::empty(rt.alloc())), None);
 }
 
 #[test]
-fn keys_are_in_order(rt: HostRuntime) {
+fn a_link_comes_twice(rt: HostRuntime) {
     let mut image = sound_image(&rt);
     image.links.items.push(LINKS[0]).expect(&rt, "memory");
     assert_eq!(rt; named(&rt, &image), Some(Table::Link));
+}
+
+#[test]
+fn a_class_comes_twice(rt: HostRuntime) {
     let mut image = sound_image(&rt);
-    image
-        .classes
-        .items
-        .push(class(b"SIGN", Kind::Point).expect(&rt, "a row"))
-        .expect(&rt, "memory");
+    let again = class(b"SIGN", Kind::Point).expect(&rt, "a class");
+    image.classes.items.push(again).expect(&rt, "memory");
     assert_eq!(rt; named(&rt, &image), Some(Table::Class));
-    let mut image = sound_image(&rt);
-    image
-        .edits
-        .items
-        .push(edit(rt.alloc(), b"k1").expect(&rt, "a row"))
-        .expect(&rt, "memory");
-    assert_eq!(rt; named(&rt, &image), Some(Table::Edit));
 }
 
 #[test]
-fn assets_are_of_known_classes_and_name_their_edits(rt: HostRuntime) {
+fn an_asset_is_of_no_class(rt: HostRuntime) {
     let mut image = sound_image(&rt);
-    image
-        .assets
-        .items
-        .push(asset(2, b"SIGNS", 1).expect(&rt, "a row"))
-        .expect(&rt, "memory");
+    let other = asset(2, b"SIGNS", 1).expect(&rt, "an asset");
+    image.assets.items.push(other).expect(&rt, "memory");
     assert_eq!(rt; named(&rt, &image), Some(Table::Asset));
-    image.assets.items.pop();
+}
+
+/// The sound image with this route in place of the second one.
+fn with_route(rt: &(impl Abort + AllocGlobal), route: Option<RouteEntry>) -> Image {
+    let mut image = sound_image(rt);
+    let route = route.expect(rt, "a route");
+    image.routes.items.pop();
+    image.routes.items.push(route).expect(rt, "memory");
     image
-        .assets
-        .items
-        .push(asset(2, b"RAIL", 1).expect(&rt, "a row"))
-        .expect(&rt, "memory");
-    assert_eq!(rt; named(&rt, &image), Some(Table::Origin));
-    image.assets.items.pop();
-    image.assets.items.pop();
-    image
-        .assets
-        .items
-        .push(asset(1, b"SIGN", 2).expect(&rt, "a row"))
-        .expect(&rt, "memory");
-    assert_eq!(rt; named(&rt, &image), Some(Table::Origin));
 }
 
 #[test]
-fn courses_share_no_millimetre(rt: HostRuntime) {
-    let mut image = sound_image(&rt);
-    image.routes.items.pop();
-    image
-        .routes
-        .items
-        .push(short_route(rt.alloc(), 10, LONGEST - 1, LONGEST).expect(&rt, "a row"))
-        .expect(&rt, "memory");
+fn a_course_shares_its_last_millimetre(rt: HostRuntime) {
+    let image = with_route(&rt, short_route(rt.alloc(), 10, LONGEST - 1, LONGEST));
     assert_eq!(rt; named(&rt, &image), Some(Table::Piece));
-    image.routes.items.pop();
-    image
-        .routes
-        .items
-        .push(short_route(rt.alloc(), 11, 0, 1).expect(&rt, "a row"))
-        .expect(&rt, "memory");
+}
+
+#[test]
+fn a_course_shares_no_millimetre(rt: HostRuntime) {
+    let image = with_route(&rt, short_route(rt.alloc(), 11, 0, 1));
     assert_eq!(rt; named(&rt, &image), None);
 }
 
 #[test]
-fn referents_have_names_of_their_own(rt: HostRuntime) {
-    let mut image = sound_image(&rt);
-    image.routes.items.pop();
-    image
-        .routes
-        .items
-        .push(route_of_pieces(rt.alloc(), b"KM0").expect(&rt, "a row"))
-        .expect(&rt, "memory");
+fn a_name_is_on_two_routes(rt: HostRuntime) {
+    let image = with_route(&rt, route_of_pieces(rt.alloc(), b"KM0"));
     assert_eq!(rt; named(&rt, &image), Some(Table::Ref));
 }
 
 #[test]
-fn ledgers_are_apart_and_balanced(rt: HostRuntime) {
+fn a_pair_is_entered_twice(rt: HostRuntime) {
     let mut image = sound_image(&rt);
     image.entered.items.push(part(2, 10)).expect(&rt, "memory");
     assert_eq!(rt; named(&rt, &image), Some(Table::Entered));
+}
+
+#[test]
+fn what_is_gone_is_forgotten(rt: HostRuntime) {
     let mut image = sound_image(&rt);
     image.gone.items.pop();
     assert_eq!(rt; named(&rt, &image), Some(Table::Gone));
+}
+
+#[test]
+fn what_is_gone_was_not_entered(rt: HostRuntime) {
     let mut image = sound_image(&rt);
     image.entered.items.pop();
     assert_eq!(rt; named(&rt, &image), Some(Table::Gone));
+}
+
+#[test]
+fn a_ledger_names_no_edit(rt: HostRuntime) {
     let mut image = sound_image(&rt);
     image.edits.items.pop();
     assert_eq!(rt; named(&rt, &image), Some(Table::Edit));
+}
+
+#[test]
+fn a_key_comes_twice(rt: HostRuntime) {
+    let mut image = sound_image(&rt);
+    let again = edit(rt.alloc(), b"k1").expect(&rt, "an edit");
+    image.edits.items.push(again).expect(&rt, "memory");
+    assert_eq!(rt; named(&rt, &image), Some(Table::Edit));
+}
+
+#[test]
+fn an_asset_was_never_entered(rt: HostRuntime) {
+    let mut image = sound_image(&rt);
+    let other = asset(2, b"SIGN", 1).expect(&rt, "an asset");
+    image.assets.items.push(other).expect(&rt, "memory");
+    assert_eq!(rt; named(&rt, &image), Some(Table::Origin));
+}
+
+#[test]
+fn an_asset_names_another_edit(rt: HostRuntime) {
+    let mut image = sound_image(&rt);
+    let other = asset(1, b"SIGN", 2).expect(&rt, "an asset");
+    image.assets.items.pop();
+    image.assets.items.push(other).expect(&rt, "memory");
+    assert_eq!(rt; named(&rt, &image), Some(Table::Origin));
 }
