@@ -13,6 +13,7 @@ pub mod Gathered
 pub mod Differing
 pub mod Fitting
 pub mod Seams
+pub mod Inserted
 pub mod Sorted
 pub mod Changing
 pub mod Mirrors
@@ -21,3 +22,4 @@ pub mod Replaced
 pub mod Cleared
 pub mod OfAsset
 pub mod Back
+pub mod Slices

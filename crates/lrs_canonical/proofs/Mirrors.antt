@@ -24,7 +24,8 @@ use Rattle.lrs_canonical.proofs.Unique.{over, its_sides}
 use Rattle.lrs_canonical.proofs.Rows.{IsFull, IsAhead, Pairs, AreRows, rows_from, rows_are, left_place, pairs_append, pairs_front, pairs_rear, pairs_across}
 use Rattle.lrs_canonical.proofs.Places.{left_from, left_is, all_first, all_last, In-get}
 use Rattle.lrs_canonical.proofs.Stretches.{in_three}
-use Rattle.lrs_canonical.proofs.Fitting.{one_test, Fits, two_ahead}
+use Rattle.lrs_canonical.proofs.Fitting.{one_test, Fits}
+use Rattle.lrs_canonical.proofs.Replaced.{pairs_two}
 
 up_to : (rows : List Span) (start end : ℕ) → start ≤ end → take start rows ++ slice_range rows start end ≡ take end rows
 up_to rows start end s = append_cancel_right (take start rows ++ slice_range rows start end) (take end rows) (drop end rows) (append_assoc (take start rows) (slice_range rows start end) (drop end rows) ∙ sym (in_three rows start end s) ∙ sym (take-append-drop end rows))
@@ -218,7 +219,7 @@ module _ (rows : List Span) (row : Span) (start end : ℕ) (h : are_rows rows �
 
   -- none of the asset is behind the end
   not_behind : (r : Span) → In r (drop end rows) → row.asset ≡ r.asset → ⊥
-  not_behind r m a = past (class (two_ahead rows row r (rows_from rows h).pairs here (In-drop r end rows m)))
+  not_behind r m a = past (class (pairs_two rows (rows_from rows h).pairs row r here (In-drop r end rows m)))
       (turn (all_last (λ r. not (is_left (grown row 0 longest_route) r) ≡ false) rows end p.1 r m) (cases_Bool (is_left (grown row 0 longest_route) r)))
     where
       turn : not (is_left (grown row 0 longest_route) r) ≡ false → (is_left (grown row 0 longest_route) r ≡ true) ⊎ (is_left (grown row 0 longest_route) r ≡ false) → IsLeft (grown row 0 longest_route) r

@@ -22,7 +22,8 @@ use Rattle.lrs_canonical.proofs.Members.{all_at, all_from, any_found, any_of, In
 use Rattle.lrs_canonical.proofs.Unique.{over, its_sides}
 use Rattle.lrs_canonical.proofs.Rows.{IsFull, IsAhead, Pairs, AreRows, BeginsFirst, begins_class, begins_asset, first_begins, rows_from, rows_are, full_from, left_place, pairs_append, pairs_front, pairs_across}
 use Rattle.lrs_canonical.proofs.Differing.{has_found, has_in}
-use Rattle.lrs_canonical.proofs.Fitting.{one_test, each_two-append, Fits, fits_elsewhere, two_ahead, In-changed, come-In, stay-In, is_change, changed_rows_are}
+use Rattle.lrs_canonical.proofs.Replaced.{pairs_two}
+use Rattle.lrs_canonical.proofs.Fitting.{one_test, each_two-append, Fits, fits_elsewhere, In-changed, come-In, stay-In, is_change, changed_rows_are}
 
 -- what is known of the two routes' rows
 pub record AreTwo (shift : ℕ) (first second : List Span) : Type 0 where
@@ -229,7 +230,7 @@ module _ (shift : ℕ) (first second : List Span) (t : AreTwo shift first second
           not_joined = λ j. none y n j;
         }))
         by r _ o (comes_with l q g j) = fits_elsewhere (grown (moved shift r) l.from (r.to + shift)) y (λ e. sym (t.one_class y r n o (sym e)))
-            (λ c a. inr (front c a (two_ahead first l y t.first_rows.pairs q n)))
+            (λ c a. inr (front c a (pairs_two first t.first_rows.pairs l y q n)))
           where
             front : r.class ≡ y.class → r.asset ≡ y.asset → (l ≡ y) ⊎ (IsAhead l y ⊎ IsAhead y l) → IsAhead y (grown (moved shift r) l.from (r.to + shift))
             front c a (inl e) = absurd (stays (subst (λ z. In z gone) e g))

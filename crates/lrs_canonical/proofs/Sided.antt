@@ -28,7 +28,10 @@ use Rattle.lrs_canonical.proofs.Rows.{IsAhead, Pairs, AreRows, rows_from, rows_a
 use Rattle.lrs_canonical.proofs.Places.{left_is}
 use Rattle.lrs_canonical.proofs.Differing.{has_found, has_in, in_missing, missing_in}
 use Rattle.lrs_canonical.proofs.Pieces.{clip_pieces, clip_bounds, found_in, all_parts, clip_holds}
-use Rattle.lrs_canonical.proofs.Fitting.{one_test, each_two-append, In-filter, filter-In, In-changed, come-In, stay-In, is_change, Fits, fits_elsewhere, two_ahead, filtered, changed_rows_are}
+use Rattle.lrs_canonical.proofs.Fitting.{one_test, each_two-append, In-changed, come-In, stay-In, is_change, Fits, fits_elsewhere, changed_rows_are}
+use Rattle.lrs_canonical.proofs.Replaced.{in_filter, filter_in, pairs_two, found_rows}
+use Rattle.lrs_canonical.proofs.Sorted.{each_two-filter}
+use Rattle.lrs_canonical.proofs.Changing.{rows_sorted}
 
 -- ---- parts in order
 
@@ -277,10 +280,10 @@ module _ (rows found rest left : List Span) (of : Name → ℕ → Bool) (low hi
   all = rows_from rows h
 
   is_found : (r : Span) → In r found → In r rows × (of r.class r.asset ≡ true)
-  is_found r m = In-filter (λ r. of r.class r.asset) r rows (subst (In r) e m)
+  is_found r m = in_filter (λ r. of r.class r.asset) rows r (subst (In r) e m)
 
   found_is : (r : Span) → In r rows → of r.class r.asset ≡ true → In r found
-  found_is r m k = subst (In r) (sym e) (filter-In (λ r. of r.class r.asset) r rows m k)
+  found_is r m k = subst (In r) (sym e) (filter_in (λ r. of r.class r.asset) rows r m k)
 
   found_holds : (class : Name) (asset j : ℕ) (s : LinkSide) → is_member found class asset j s ≡ (is_member rows class asset j s && of class asset)
   found_holds class asset j s = one_test (is_member found class asset j s) (is_member rows class asset j s && of class asset) to from
@@ -328,7 +331,7 @@ module _ (rows found rest left : List Span) (of : Name → ℕ → Bool) (low hi
   rest_of r m = let g = from_found r m in (λ i. of (sym g.2 i) (sym g.3 i)) ∙ (is_found g.0 g.1).1
 
   come_fits : (x y : Span) → In x come → In y rows → (In y gone → ⊥) → Fits x y
-  come_fits x y m n stays = fits_elsewhere x y (λ a. sym g.2 ∙ class (two_ahead rows g.0 y all.pairs (is_found g.0 g.1).0 n) (g.3 ∙ a)) near
+  come_fits x y m n stays = fits_elsewhere x y (λ a. sym g.2 ∙ class (pairs_two rows all.pairs g.0 y (is_found g.0 g.1).0 n) (g.3 ∙ a)) near
     where
       k : In x rest × (In x found → ⊥)
       k = in_missing found rest x m
@@ -349,11 +352,11 @@ module _ (rows found rest left : List Span) (of : Name → ℕ → Bool) (low hi
           two f (inr q) = q
 
           by : In y found → (has_row rest y ≡ true) ⊎ (has_row rest y ≡ false) → Fits x y
-          by f (inl t) = two f (two_ahead rest x y (rows_from rest rest_rows).pairs k.0 (has_found rest y t))
+          by f (inl t) = two f (pairs_two rest (rows_from rest rest_rows).pairs x y k.0 (has_found rest y t))
           by f (inr t) = absurd (stays (missing_in rest found y f (λ q. both_ways (has_row rest y) t (has_in rest y q))))
 
   pub new_rows : AreRows new
-  new_rows = changed_rows_are gone come rows all (filtered (λ r. not (has_row found r)) rest (rows_from rest rest_rows)) come_fits
+  new_rows = changed_rows_are gone come rows all (rows_from come (found_rows (λ r. not (has_row found r)) rest rest_rows)) come_fits
 
   pub new_change : IsChange rows gone come new
   new_change = is_change gone come rows (λ r m. (is_found r (in_missing rest found r m).0).0)
@@ -472,3 +475,7 @@ removed found rest parts rests d_parts d_rests d_rest low high up side removal u
 
     up_to : (j : ℕ) → is_within low up j ≡ is_within low high j
     up_to j = (λ i. is_within low (u i) j) ∙ within_up low high j
+
+-- what goes was in order
+pub goes_in_order : (found went others : List Span) → are_rows found ≡ true → went ≡ missing others found → each_two span_before went ≡ true
+goes_in_order found went others h g = (λ i. each_two span_before (g i)) ∙ each_two-filter span_before (λ r. not (has_row others r)) found (rows_sorted found h)

@@ -5,6 +5,7 @@ use Rattle.std.proofs.lemmas.Bool.{both_ways, and_parts, and_from}
 use Rattle.lrs_measure.specs.Lists.{each_two}
 use Rattle.lrs_measure.specs.Ordered.{insert_by, insert_all}
 use Rattle.lrs_canonical.specs.Order.{In}
+use Rattle.lrs_canonical.proofs.Inserted.{In-insert, insert-In}
 use Rattle.lrs_canonical.proofs.Members.{all_at, all_from, two_at}
 
 -- what stands in a strict order
@@ -60,33 +61,6 @@ module _ {X : Type 0} where
         there z w ws (inl e) n = absurd (n e)
         there z w ws (inr m) n = m
 
-    In-insert_cases : (x : X) (ys : List X) (z : X) → In z (insert_by before x ys) → (z ≡ x) ⊎ In z ys
-    In-insert_cases x [] z (inl e) = inl e
-    In-insert_cases x [] z (inr m) = inr m
-    In-insert_cases x (y ∷ ys) z m = by (before x y) m (In-insert_cases x ys z)
-      where
-        later : (z ≡ x) ⊎ In z ys → (z ≡ x) ⊎ In z (y ∷ ys)
-        later (inl e) = inl e
-        later (inr k) = inr (inr k)
-
-        by : (b : Bool) → In z (cond b (x ∷ y ∷ ys) (y ∷ insert_by before x ys)) → (In z (insert_by before x ys) → (z ≡ x) ⊎ In z ys) → (z ≡ x) ⊎ In z (y ∷ ys)
-        by true (inl e) f = inl e
-        by true (inr k) f = inr k
-        by false (inl e) f = inr (inl e)
-        by false (inr k) f = later (f k)
-
-    In-insert : (x : X) (ys : List X) (z : X) → (z ≡ x) ⊎ In z ys → In z (insert_by before x ys)
-    In-insert x [] z (inl e) = inl e
-    In-insert x [] z (inr m) = inr m
-    In-insert x (y ∷ ys) z m = by (before x y) m (In-insert x ys z)
-      where
-        by : (b : Bool) → (z ≡ x) ⊎ In z (y ∷ ys) → ((z ≡ x) ⊎ In z ys → In z (insert_by before x ys)) → In z (cond b (x ∷ y ∷ ys) (y ∷ insert_by before x ys))
-        by true (inl e) f = inl e
-        by true (inr k) f = inr k
-        by false (inl e) f = inr (f (inl e))
-        by false (inr (inl e)) f = inl e
-        by false (inr (inr k)) f = inr (f (inr k))
-
     insert_kept : (x : X) (ys : List X) → each_two before ys ≡ true → ((y : X) → In y ys → (before x y ≡ true) ⊎ (before y x ≡ true)) → each_two before (insert_by before x ys) ≡ true
     insert_kept x [] h f = refl
     insert_kept x (y ∷ ys) h f =
@@ -109,7 +83,7 @@ module _ {X : Type 0} where
         by true e k a rest = and_from (list_all (before x) (y ∷ ys)) (each_two before (y ∷ ys)) (all_from (before x) (y ∷ ys) (front (sym e) a)) h
         by false e k a rest =
             and_from (list_all (before y) (insert_by before x ys)) (each_two before (insert_by before x ys))
-            (all_from (before y) (insert_by before x ys) (λ z m. behind (other (sym e) k) a z (In-insert_cases x ys z m))) rest
+            (all_from (before y) (insert_by before x ys) (λ z m. behind (other (sym e) k) a z (In-insert before x z ys m))) rest
 
     -- members of a list in order, with others of it
     pub record ArePut (xs ys zs : List X) : Type 0 where
@@ -127,7 +101,7 @@ module _ {X : Type 0} where
     put_all all (x ∷ xs) ys h k l f g n =
         let a = and_parts (list_all (before x) xs) (each_two before xs) k in
         let rest = put_all all xs (insert_by before x ys) h a.1 (insert_kept x ys l (λ y m. apart y m (two_at before x y all h (f x (inl refl)) (g y m))))
-        (λ z m. f z (inr m)) (λ z m. there z (In-insert_cases x ys z m)) (λ z m q. fresh z a.0 m (In-insert_cases x ys z q)) in
+        (λ z m. f z (inr m)) (λ z m. there z (In-insert before x z ys m)) (λ z m q. fresh z a.0 m (In-insert before x z ys q)) in
         record {
           in_order = rest.in_order;
           from = λ z m. back z (rest.from z m);
@@ -148,13 +122,13 @@ module _ {X : Type 0} where
 
         back : (z : X) → In z xs ⊎ In z (insert_by before x ys) → In z (x ∷ xs) ⊎ In z ys
         back z (inl m) = inl (inr m)
-        back z (inr m) = two (In-insert_cases x ys z m)
+        back z (inr m) = two (In-insert before x z ys m)
           where
             two : (z ≡ x) ⊎ In z ys → In z (x ∷ xs) ⊎ In z ys
             two (inl e) = inl (inl e)
             two (inr q) = inr q
 
         forth : (z : X) → In z (x ∷ xs) ⊎ In z ys → In z xs ⊎ In z (insert_by before x ys)
-        forth z (inl (inl e)) = inr (In-insert x ys z (inl e))
+        forth z (inl (inl e)) = inr (insert-In before x z ys (inl e))
         forth z (inl (inr m)) = inl m
-        forth z (inr m) = inr (In-insert x ys z (inr m))
+        forth z (inr m) = inr (insert-In before x z ys (inr m))

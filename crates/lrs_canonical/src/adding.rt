@@ -2,7 +2,8 @@
 
 ghost use Rattle.std.specs.Prelude.{◌≡◌, ◌≤◌, IsTrue, IfOk, length};
 ghost use Rattle.lrs_events.specs.Changes.{changed_rows};
-ghost use Rattle.lrs_events.specs.Spans.{are_rows, is_row};
+ghost use Rattle.lrs_measure.specs.Lists.{each_two};
+ghost use Rattle.lrs_events.specs.Spans.{are_rows, is_row, span_before};
 ghost use Rattle.lrs_canonical.specs.Changes.{IsChange};
 ghost use Rattle.lrs_canonical.specs.Members.{is_free, IsMore};
 ghost use Rattle.lrs_canonical.specs.Order.{IsPlace, IsEnd};
@@ -42,6 +43,7 @@ pub fn added(alloc: Global, rows: &[Span], span: Span) -> Result<SpanChange, All
     ensures come { IfOk result (λ change. length change.come.items ≡ 1) }
     ensures kept { IfOk result (λ change. IsTrue (are_rows (changed_rows change rows.now))) }
     ensures change { IfOk result (λ change. IsChange rows.now change.gone.items change.come.items (changed_rows change rows.now)) }
+    ensures in_order { IfOk result (λ change. IsTrue (each_two span_before change.gone.items)) }
     ensures more { IfOk result (λ change. IsMore rows.now span (changed_rows change rows.now)) }
 {
     let at = place_of(rows, &span);

@@ -1,7 +1,8 @@
 //! Canonical rows are cut in two at a chainage.
 
 ghost use Rattle.std.specs.Prelude.{IsTrue, IfOk};
-ghost use Rattle.lrs_events.specs.Spans.{are_rows};
+ghost use Rattle.lrs_measure.specs.Lists.{each_two};
+ghost use Rattle.lrs_events.specs.Spans.{are_rows, span_before};
 ghost use Rattle.lrs_canonical.specs.Cuts.{Cuts};
 
 use crate::change::difference;
@@ -22,7 +23,8 @@ pub struct Cut {
 /// When memory runs out.
 pub fn cut_at(alloc: Global, found: &[Span], at: u64) -> Result<Cut, AllocError>
     requires { IsTrue (are_rows found.now) }
-    ensures { IfOk result (λ cut. Cuts found.now at cut) }
+    ensures cut { IfOk result (λ cut. Cuts found.now at cut) }
+    ensures in_order { IfOk result (λ cut. IsTrue (each_two span_before cut.change.gone.items)) }
 {
     let front = clips(alloc, found, 0, at)?;
     let change = difference(alloc, found, &front)?;

@@ -17,3 +17,6 @@ pub mod removing;
 pub mod siding;
 pub mod turning;
 pub mod undoing;
+
+#[cfg(test)]
+mod tests;

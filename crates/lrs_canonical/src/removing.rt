@@ -1,7 +1,8 @@
 //! What lies on a stretch is removed from canonical rows.
 
 ghost use Rattle.std.specs.Prelude.{◌<◌, IsTrue, IfOk};
-ghost use Rattle.lrs_events.specs.Spans.{are_rows};
+ghost use Rattle.lrs_measure.specs.Lists.{each_two};
+ghost use Rattle.lrs_events.specs.Spans.{are_rows, span_before};
 ghost use Rattle.lrs_canonical.specs.Removals.{Clears};
 
 use crate::change::difference;
@@ -24,7 +25,8 @@ pub struct Removal {
 pub fn cleared(alloc: Global, found: &[Span], low: u64, high: u64) -> Result<Removal, AllocError>
     requires rows { IsTrue (are_rows found.now) }
     requires filled { low < high }
-    ensures { IfOk result (λ removal. Clears found.now low high removal) }
+    ensures removal { IfOk result (λ removal. Clears found.now low high removal) }
+    ensures in_order { IfOk result (λ removal. IsTrue (each_two span_before removal.change.gone.items)) }
 {
     let left = clips(alloc, found, low, high)?;
     let rest = rests(alloc, found, low, high)?;

@@ -2,7 +2,8 @@
 
 ghost use Rattle.std.specs.Prelude.{◌≡◌, ◌≤◌, ◌++◌, IsTrue, IfOk, OnOk};
 ghost use Rattle.std.specs.List.{flat_map};
-ghost use Rattle.lrs_events.specs.Spans.{are_rows};
+ghost use Rattle.lrs_measure.specs.Lists.{each_two};
+ghost use Rattle.lrs_events.specs.Spans.{are_rows, span_before};
 ghost use Rattle.lrs_canonical.specs.Sides.{shared_side, side_less, clip_on, side_part, side_rest, ClearsSide};
 
 use crate::change::difference;
@@ -126,7 +127,8 @@ pub fn cleared_side(
     side: Side,
 ) -> Result<Removal, AllocError>
     requires { IsTrue (are_rows found.now) }
-    ensures { IfOk result (λ removal. ClearsSide found.now low high side removal) }
+    ensures removal { IfOk result (λ removal. ClearsSide found.now low high side removal) }
+    ensures in_order { IfOk result (λ removal. IsTrue (each_two span_before removal.change.gone.items)) }
 {
     // Where high is below low, nothing lies between them.
     let high = high.max(low);

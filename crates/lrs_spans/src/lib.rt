@@ -2,8 +2,14 @@
 //! (ISO 19148, linearly located events).
 #![tactic(auto)]
 
+mod calls;
+mod class_places;
 mod lanes;
 mod open;
+mod plans;
+mod searching;
+mod spans;
 
 pub use lanes::ClassLanes;
 pub use open::OpenSpans;
+pub use spans::Spans;

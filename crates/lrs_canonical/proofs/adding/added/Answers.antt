@@ -1,4 +1,5 @@
 use Rattle.lrs_canonical.proofs.Exchanged.{HasAdded, has_added}
+use Rattle.lrs_canonical.proofs.Slices.{slice_in_order}
 use Rattle.lrs_canonical.proofs.adding.added.Goals as goal
 
 done : (c : goal.In_ok-from_slice-2) → HasAdded c.args.rows.now c.args.span c.in_ok-from_slice.field-0.items c.in_ok-from_slice-2.field-0.items
@@ -18,3 +19,6 @@ returns-clause-change c = (done c).change
 
 pub returns-clause-more : goal.returns-clause-more
 returns-clause-more c = (done c).more
+
+pub returns-clause-in_order : goal.returns-clause-in_order
+returns-clause-in_order c = slice_in_order c.args.rows.now c.in_ok-from_slice.field-0.items c.start_of-start.result.0 c.end_of-end.result.0 c.requires.rows c.in_ok-from_slice.ensures.items
