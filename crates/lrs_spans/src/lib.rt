@@ -3,6 +3,7 @@
 #![tactic(auto)]
 
 mod calls;
+mod class_places;
 mod lanes;
 mod open;
 mod plans;

@@ -1,0 +1,75 @@
+//! Places of a class are taken away, on a side or on both.
+
+ghost use Rattle.std.specs.Prelude.{◌≡◌, ◌&&◌, IsTrue, IfOk, OnOk, OnErr, filter};
+ghost use Rattle.lrs_measure.specs.Texts.{same_name};
+ghost use Rattle.lrs_events.specs.Members.{has_side};
+ghost use Rattle.lrs_events.specs.Spans.{are_rows};
+ghost use Rattle.lrs_canonical.specs.Changes.{IsChange};
+ghost use Rattle.lrs_canonical.specs.Removals.{is_within, IsLess, IsThat, IsRemoval};
+ghost use Rattle.lrs_spans.specs.Plans.{IsPlan};
+
+use crate::spans::Spans;
+use lrs_canonical::removing::Removal;
+use lrs_canonical::siding::cleared_side;
+use lrs_events::{ClassName, Side, Span};
+use std::alloc::{AllocError, Global};
+
+impl Spans {
+    /// The rows of a class, in their order.
+    fn of_class(&self, alloc: Global, class: ClassName) -> Result<Vec<Span>, AllocError>
+        ensures canonical { IsTrue (are_rows self.now) }
+        ensures found { IfOk result (λ found. found.items ≡ filter (λ r. same_name r.class class) self.now) }
+    {
+        let mut found = Vec::new(alloc);
+        for row in self.rows() {
+            if row.class == class {
+                found.push(*row)?;
+            }
+        }
+        Ok(found)
+    }
+
+    /// What changes where what assets of a class hold from chainage low up to high, on a side or on both, is taken
+    /// away. What such an asset holds there on the other side stays.
+    ///
+    /// # Errors
+    /// When memory runs out.
+    pub fn plan_remove_class_places(
+        &self,
+        alloc: Global,
+        class: ClassName,
+        low: u64,
+        high: u64,
+        side: Side,
+    ) -> Result<Removal, AllocError>
+        ensures plan { IfOk result (λ removal. IsPlan self.now removal.change) }
+        ensures removal { IfOk result (λ removal. IsRemoval (λ c a j s. same_name c class && (is_within low high j && has_side side s)) self.now removal) }
+    {
+        let found = self.of_class(alloc, class)?;
+        let removal = cleared_side(alloc, &found, low, high, side)?;
+        Ok(removal)
+    }
+
+    /// Takes away what assets of a class hold from chainage low up to high, on a side or on both, and hands it back.
+    ///
+    /// # Errors
+    /// When memory runs out; nothing has changed then.
+    pub fn remove_class_places(
+        &mut self,
+        alloc: Global,
+        class: ClassName,
+        low: u64,
+        high: u64,
+        side: Side,
+    ) -> Result<Removal, AllocError>
+        ensures rest { OnOk result (IsLess (λ c a j s. same_name c class && (is_within low high j && has_side side s)) self.old self.new) }
+        ensures left { IfOk result (λ removal. IsThat (λ c a j s. same_name c class && (is_within low high j && has_side side s)) self.old removal.left.items) }
+        ensures left_rows { IfOk result (λ removal. IsTrue (are_rows removal.left.items)) }
+        ensures change { IfOk result (λ removal. IsChange self.old removal.change.gone.items removal.change.come.items self.new) }
+        ensures err { OnErr result (self.new ≡ self.old) }
+    {
+        let removal = self.plan_remove_class_places(alloc, class, low, high, side)?;
+        self.apply(&removal.change)?;
+        Ok(removal)
+    }
+}
