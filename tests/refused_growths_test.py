@@ -54,4 +54,4 @@ def test_a_desk_bears_a_refused_growth():
 
 
 def test_deciding_soundness_bears_a_refused_growth():
-    assert each_refused_call("lrs_sound", step=10) == {"image_of", "first_unsound"}
+    assert each_refused_call("lrs_sound", step=5) == {"image_of", "first_unsound"}
