@@ -1,7 +1,7 @@
 -- Where the rows of its asset leave a span free, class by class, all rows do.
 use Rattle.std.proofs.Common.{◌≡◌, ℕ, ◌+◌, ◌<◌, ◌≤◌, true, false, ◌⊎◌, inl, inr, List, [], ◌∷◌, length, get_or, take, refl, sym, ap, subst, ◌∙◌}
 use Rattle.std.specs.Prelude.{◌||◌, ◌&&◌, not, nat_eq, nat_le}
-use Rattle.std.specs.List.{list_all, filter}
+use Rattle.std.specs.List.{filter}
 use Rattle.std.specs.Cmp.Lexicographic.{bytes_decides}
 use Rattle.std.proofs.lemmas.Bool.{false≢true, both_ways, and_from, or_cases, or_left, false_from_ne_true, cases_Bool}
 use Rattle.std.proofs.lemmas.List.{take_all, take_more}
@@ -23,13 +23,13 @@ AreFree lanes rows span = (c : Name) → has_lanes lanes c ≡ true → is_free 
 pub free_none : (rows : List Span) (span : Span) → AreFree [] rows span
 free_none rows span c h = absurd (false≢true h)
 
-pub free_more : (lanes : List ClassLanes) (rows : List Span) (span : Span) (i : ℕ) (l : ClassLanes) (found : List Span) → i < length lanes → l ≡ get_or lanes i l → found ≡ filter (is_of l.class span.asset) rows → is_free found span ≡ true
+pub free_more : (lanes : List ClassLanes) (rows : List Span) (span : Span) (i : ℕ) (l : ClassLanes) (found : List Span) → i < length lanes → found ≡ filter (is_of (get_or lanes i l).class span.asset) rows → is_free found span ≡ true
     → AreFree (take i lanes) rows span → AreFree (take (i + 1) lanes) rows span
-free_more lanes rows span i l found h e f t k c m =
+free_more lanes rows span i l found h f t k c m =
     by (or_cases (has_lanes (take i lanes) c) (has_lanes (get_or lanes i l ∷ []) c) (sym (list_any-append (λ (z : ClassLanes). same_name z.class c) (take i lanes) (get_or lanes i l ∷ [])) ∙ ap (λ z. has_lanes z c) (sym (take_more lanes i l h)) ∙ m))
   where
     own : (same_name (get_or lanes i l).class c ≡ true) ⊎ (false ≡ true) → is_free (filter (is_of c span.asset) rows) span ≡ true
-    own (inl s) = subst (λ (n : Name). is_free (filter (is_of n span.asset) rows) span ≡ true) (ap (λ (z : ClassLanes). z.class) e ∙ (bytes_decides (get_or lanes i l).class c).0 s) (ap (λ z. is_free z span) (sym f) ∙ t)
+    own (inl s) = subst (λ (n : Name). is_free (filter (is_of n span.asset) rows) span ≡ true) ((bytes_decides (get_or lanes i l).class c).0 s) (ap (λ z. is_free z span) (sym f) ∙ t)
     own (inr s) = absurd (false≢true s)
 
     by : (has_lanes (take i lanes) c ≡ true) ⊎ (has_lanes (get_or lanes i l ∷ []) c ≡ true) → is_free (filter (is_of c span.asset) rows) span ≡ true
@@ -45,7 +45,7 @@ pub free_all : (lanes : List ClassLanes) (rows : List Span) (span : Span) (i : �
 free_all lanes rows span i kept h k = sym (all_from (leaves_free span) rows (λ r m. by r m (cases_Bool (nat_eq r.asset span.asset))))
   where
     known : (r : Span) → In r rows → has_lanes (take i lanes) r.class ≡ true
-    known r m = ap (λ z. has_lanes z r.class) (take_all lanes i h) ∙ kept.tied.all r (has_in rows r m)
+    known r m = ap (λ z. has_lanes z r.class) (take_all i lanes h) ∙ kept.tied.all r (has_in rows r m)
 
     by : (r : Span) → In r rows → (nat_eq r.asset span.asset ≡ true) ⊎ (nat_eq r.asset span.asset ≡ false) → leaves_free span r ≡ true
     by r m (inr n) = or_left (not (nat_eq r.asset span.asset)) (same_name r.class span.class && (nat_le r.to span.from || nat_le span.to r.from)) (ap not n)

@@ -1,28 +1,27 @@
 -- What searches find of the rows of a route.
 use Rattle.std.proofs.Common.{◌≡◌, ℕ, ◌+◌, ◌<◌, ◌≤◌, max, min, Bool, true, false, cond, ◌⊎◌, inl, inr, zero, suc, List, [], ◌∷◌, ◌++◌, length, get_or, take, drop, refl, sym, ap, subst, ◌∙◌, arith, Option, Some, None}
-use Rattle.std.specs.Prelude.{◌||◌, ◌&&◌, nat_lt, nat_le, nat_eq, slice_range}
-use Rattle.std.specs.List.{list_any, filter}
+use Rattle.std.specs.Prelude.{◌||◌, ◌&&◌, nat_lt, nat_eq, slice_range}
+use Rattle.std.specs.List.{filter}
 use Rattle.std.specs.Cmp.Lexicographic.{bytes_decides}
-use Rattle.std.proofs.lemmas.Bool.{false≢true, both_ways, and_parts, and_from, cases_lt, ltb-true, lt-ltb, le-leb, eq-eqb, eqb-true, false_from_ne_true, cases_Bool}
+use Rattle.std.proofs.lemmas.Bool.{false≢true, both_ways, and_parts, and_from, cases_lt, ltb-true, lt-ltb, eq-eqb, eqb-true, false_from_ne_true}
 use Rattle.std.proofs.lemmas.List.{append-nil, take_all, take_more}
 use Rattle.std.proofs.lemmas.List.Elements.{filter-append}
 use Rattle.std.proofs.lemmas.List.Folds.{list_any-append}
 use Rattle.lrs_measure.specs.Lists.{each_two}
 use Rattle.lrs_measure.specs.Texts.{Name, same_name}
 use Rattle.lrs_element.specs.Limits.{longest_route}
-use Rattle.lrs_events.specs.declared.side.Side.{Side}
 use Rattle.lrs_events.specs.declared.side.Side.TheVariants.{L, R, B}
 use Rattle.lrs_events.specs.declared.side.LinkSide.{LinkSide}
 use Rattle.lrs_events.specs.declared.side.LinkSide.TheVariants.{Left, Right}
 use Rattle.lrs_events.specs.declared.span.Span.{Span}
 use Rattle.lrs_events.specs.Changes.{has_row}
-use Rattle.lrs_events.specs.Members.{has_side, is_member, has_member, stands_for, between}
+use Rattle.lrs_events.specs.Members.{has_side, is_member, has_member}
 use Rattle.lrs_events.specs.Spans.{are_rows}
 use Rattle.lrs_canonical.specs.Members.{is_of}
 use Rattle.lrs_canonical.specs.Order.{In, IsLeft, IsStretch}
 use Rattle.lrs_canonical.proofs.Members.{any_found, any_of, In-take, In-drop}
-use Rattle.lrs_canonical.proofs.Unique.{IsOver, over, its_sides}
-use Rattle.lrs_canonical.proofs.Rows.{IsFull, rows_from, left_place}
+use Rattle.lrs_canonical.proofs.Unique.{over, its_sides}
+use Rattle.lrs_canonical.proofs.Rows.{rows_from, left_place}
 use Rattle.lrs_canonical.proofs.Stretches.{in_three}
 use Rattle.lrs_canonical.proofs.Differing.{has_found, has_in}
 use Rattle.lrs_lanes.specs.Order.{place_before}
@@ -30,8 +29,8 @@ use Rattle.lrs_lanes.specs.Lane.{is_met, IsLeast}
 use Rattle.lrs_lanes.proofs.Members.{In as LaneIn}
 use Rattle.lrs_lanes.proofs.Lanes.{LeastOf, nothing, something, least_from}
 use Rattle.lrs_spans.specs.declared.lanes.ClassLanes.{ClassLanes}
-use Rattle.lrs_spans.specs.Tied.{is_on, has_lanes, IsClass, AreKept}
-use Rattle.lrs_spans.specs.Search.{IsPlaceOf, one_side, HoldsOver, IsFirstOver, lesser_of}
+use Rattle.lrs_spans.specs.Tied.{is_on, has_lanes, AreKept}
+use Rattle.lrs_spans.specs.Search.{IsPlaceOf, one_side, HoldsOver, lesser_of}
 use Rattle.lrs_spans.specs.Search.{IsOver as IsLeastOver}
 
 -- ---- the rows of an asset

@@ -47,7 +47,12 @@ fn place_of(lanes: &[ClassLanes], class: ClassName) -> usize
 }
 
 /// The rows of the class with that side or both, by start and asset.
-pub(crate) fn lane_of<'a>(rows: &'a [Span], lanes: &'a [ClassLanes], class: ClassName, side: LinkSide) -> &'a [Span]
+pub(crate) fn lane_of<'a>(
+    rows: &'a [Span],
+    lanes: &'a [ClassLanes],
+    class: ClassName,
+    side: LinkSide,
+) -> &'a [Span]
     requires kept { AreKept rows.now lanes.now }
     ensures rows { (r : DeclaredSpan) → has_row result.now r ≡ (has_row rows.now r && is_on class side r) }
     ensures order { each_two place_before result.now ≡ true }
@@ -64,7 +69,14 @@ pub(crate) fn lane_of<'a>(rows: &'a [Span], lanes: &'a [ClassLanes], class: Clas
 }
 
 /// The least asset of the class with a millimetre of the stretch on the side.
-fn over_on(rows: &[Span], lanes: &[ClassLanes], from: u64, to: u64, class: ClassName, side: LinkSide) -> Option<u64>
+fn over_on(
+    rows: &[Span],
+    lanes: &[ClassLanes],
+    from: u64,
+    to: u64,
+    class: ClassName,
+    side: LinkSide,
+) -> Option<u64>
     requires kept { AreKept rows.now lanes.now }
     requires filled { from < to }
     ensures { IsOver rows.now class from to (one_side side) result }
@@ -92,7 +104,14 @@ fn lesser_of(a: Option<u64>, b: Option<u64>) -> Option<u64>
 }
 
 /// The least asset of the class with a millimetre from `from` up to `to` on a side that it shares with `side`.
-pub(crate) fn over(rows: &[Span], lanes: &[ClassLanes], from: u64, to: u64, class: ClassName, side: Side) -> Option<u64>
+pub(crate) fn over(
+    rows: &[Span],
+    lanes: &[ClassLanes],
+    from: u64,
+    to: u64,
+    class: ClassName,
+    side: Side,
+) -> Option<u64>
     requires kept { AreKept rows.now lanes.now }
     requires filled { from < to }
     ensures { IsOver rows.now class from to side result }
