@@ -6,7 +6,7 @@ ghost use Rattle.lrs_events.specs.declared.span.Span.{Span as DeclaredSpan};
 ghost use Rattle.lrs_events.specs.Changes.{has_row};
 ghost use Rattle.lrs_events.specs.Spans.{are_rows};
 ghost use Rattle.lrs_canonical.specs.Removals.{is_met};
-ghost use Rattle.lrs_canonical.specs.Members.{is_of};
+ghost use Rattle.lrs_canonical.specs.Members.{is_of, is_free};
 ghost use Rattle.lrs_lanes.specs.Order.{place_before};
 ghost use Rattle.lrs_spans.specs.Search.{IsOver};
 ghost use Rattle.lrs_spans.specs.Tied.{is_on};
@@ -32,6 +32,13 @@ impl Spans {
         ensures order { each_two place_before result.now ≡ true }
     {
         search::lane_of(self.kept.rows(), self.kept.lanes(), class, side)
+    }
+
+    /// Whether a span can be added: its asset has no other class, and nothing yet of its millimetres.
+    pub fn is_free(&self, span: &Span) -> bool
+        ensures { result ≡ is_free self.now span.now }
+    {
+        search::is_free(self.kept.rows(), self.kept.lanes(), span)
     }
 
     /// The rows of an asset of the class, by start.
