@@ -2,3 +2,5 @@ mod Putting
 mod Holding
 mod Tying
 mod Loading
+mod Searching
+mod SearchFree

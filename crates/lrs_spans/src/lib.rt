@@ -7,7 +7,8 @@ mod class_places;
 mod lanes;
 mod open;
 mod plans;
-mod searching;
+mod queries;
+mod search;
 mod spans;
 
 pub use lanes::ClassLanes;
