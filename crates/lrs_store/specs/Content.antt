@@ -21,7 +21,8 @@ use Rattle.lrs_machine.specs.declared.image.Image.{Image}
 use Rattle.lrs_machine.specs.declared.table.Table.{Table}
 use Rattle.lrs_machine.specs.declared.table.Table.TheVariants as table
 use Rattle.lrs_machine.specs.Image.{nothing}
-use Rattle.lrs_machine.specs.Sound.{RouteCourse, RouteMarks, RouteReferents, RouteSpans, link_before, are_links, class_before, are_classes, asset_before, are_assets, are_courses, are_all_marks, are_all_referents, are_spans, part_before, are_entered, gone_before, are_gone, are_edits, are_origins}
+use Rattle.lrs_events.specs.Parts.{part_before}
+use Rattle.lrs_machine.specs.Sound.{RouteCourse, RouteMarks, RouteReferents, RouteSpans, link_before, are_links, class_before, are_classes, asset_before, are_assets, are_courses, are_all_marks, are_all_referents, are_spans, are_entered, gone_before, are_gone, are_edits, are_origins}
 use Rattle.lrs_store.specs.Tables.{Tables, PieceRow, MarkRow, RefRow, SpanRow, EditRow}
 use Rattle.lrs_store.specs.Decoding.{if_true, only_if, whole, each_of, each_sorted, sorted, OfRoute, said_of, Numbered, number_before, counted, link_of, class_of, asset_of, piece_of, mark_of, referent_of, span_of, part_of, gone_of, edit_of, Origin, origin_of}
 use Rattle.lrs_store.specs.Decoding as option
