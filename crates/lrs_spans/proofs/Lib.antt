@@ -2,3 +2,4 @@ mod Putting
 mod Holding
 mod Tying
 mod Loading
+mod ClassPlaces
