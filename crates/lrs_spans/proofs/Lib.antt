@@ -3,3 +3,5 @@ mod Holding
 mod Tying
 mod Loading
 mod ClassPlaces
+mod Finding
+mod SearchFree

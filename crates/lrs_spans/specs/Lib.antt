@@ -1,3 +1,4 @@
 pub mod Tied
 pub mod Opened
 pub mod Plans
+pub mod Search

@@ -7,6 +7,7 @@ mod class_places;
 mod lanes;
 mod open;
 mod plans;
+mod search;
 mod searching;
 mod spans;
 
