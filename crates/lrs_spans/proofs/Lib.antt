@@ -2,5 +2,6 @@ mod Putting
 mod Holding
 mod Tying
 mod Loading
-mod Searching
+mod ClassPlaces
+mod Finding
 mod SearchFree
