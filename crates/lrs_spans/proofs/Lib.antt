@@ -2,5 +2,8 @@ mod Putting
 mod Holding
 mod Tying
 mod Loading
-mod Searching
+mod ClassPlaces
+mod Finding
 mod SearchFree
+mod Gathering
+mod Behind

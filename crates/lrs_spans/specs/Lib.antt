@@ -1,4 +1,5 @@
 pub mod Tied
+pub mod Meeting
 pub mod Opened
 pub mod Plans
 pub mod Search

@@ -1,31 +1,66 @@
 //! Places of a class are taken away, on a side or on both.
 
 ghost use Rattle.std.specs.Prelude.{◌≡◌, ◌&&◌, IsTrue, IfOk, OnOk, OnErr, filter};
+ghost use Rattle.std.specs.List.{list_any};
 ghost use Rattle.lrs_measure.specs.Texts.{same_name};
 ghost use Rattle.lrs_events.specs.Members.{has_side};
 ghost use Rattle.lrs_events.specs.Spans.{are_rows};
 ghost use Rattle.lrs_canonical.specs.Changes.{IsChange};
+ghost use Rattle.lrs_canonical.specs.Members.{is_of};
 ghost use Rattle.lrs_canonical.specs.Removals.{is_within, IsLess, IsThat, IsRemoval};
-ghost use Rattle.lrs_spans.specs.Plans.{IsPlan};
+ghost use Rattle.lrs_spans.specs.Plans.{IsPlan, is_met_asset};
 
+use crate::search::asset_rows;
 use crate::spans::Spans;
 use lrs_canonical::removing::Removal;
 use lrs_canonical::siding::cleared_side;
 use lrs_events::{ClassName, Side, Span};
 use std::alloc::{AllocError, Global};
 
-impl Spans {
-    /// The rows of a class, in their order.
-    fn of_class(&self, alloc: Global, class: ClassName) -> Result<Vec<Span>, AllocError>
-        ensures canonical { IsTrue (are_rows self.now) }
-        ensures found { IfOk result (λ found. found.items ≡ filter (λ r. same_name r.class class) self.now) }
-    {
-        let mut found = Vec::new(alloc);
-        for row in self.rows() {
-            if row.class == class {
-                found.push(*row)?;
-            }
+/// Whether the asset of the class has one of the rows.
+fn has_asset(rows: &[Span], class: ClassName, asset: u64) -> bool
+    requires { IsTrue (are_rows rows.now) }
+    ensures { result ≡ list_any (is_of class asset) rows.now }
+{
+    !asset_rows(rows, class, asset).is_empty()
+}
+
+/// The rows of those assets of a class that have one of some rows, which are canonical.
+///
+/// # Errors
+/// When memory runs out.
+fn of_assets_among(
+    alloc: Global,
+    rows: &[Span],
+    some: &[Span],
+    class: ClassName,
+) -> Result<Vec<Span>, AllocError>
+    requires { IsTrue (are_rows some.now) }
+    ensures { IfOk result (λ found. found.items ≡ filter (λ r. same_name r.class class && list_any (is_of class r.asset) some.now) rows.now) }
+{
+    let mut found = Vec::new(alloc);
+    for row in rows {
+        if row.class == class && has_asset(some, class, row.asset) {
+            found.push(*row)?;
         }
+    }
+    Ok(found)
+}
+
+impl Spans {
+    /// All rows of the assets of a class that have a millimetre from chainage low up to high, in their order.
+    fn of_assets_met(
+        &self,
+        alloc: Global,
+        class: ClassName,
+        low: u64,
+        high: u64,
+    ) -> Result<Vec<Span>, AllocError>
+        ensures canonical { IsTrue (are_rows self.now) }
+        ensures found { IfOk result (λ found. found.items ≡ filter (λ r. is_met_asset self.now class low high r.class r.asset) self.now) }
+    {
+        let met = self.met(alloc, low, high)?;
+        let found = of_assets_among(alloc, self.rows(), &met, class)?;
         Ok(found)
     }
 
@@ -45,7 +80,7 @@ impl Spans {
         ensures plan { IfOk result (λ removal. IsPlan self.now removal.change) }
         ensures removal { IfOk result (λ removal. IsRemoval (λ c a j s. same_name c class && (is_within low high j && has_side side s)) self.now removal) }
     {
-        let found = self.of_class(alloc, class)?;
+        let found = self.of_assets_met(alloc, class, low, high)?;
         let removal = cleared_side(alloc, &found, low, high, side)?;
         Ok(removal)
     }

@@ -5,6 +5,7 @@
 mod calls;
 mod class_places;
 mod lanes;
+mod meeting;
 mod open;
 mod plans;
 mod queries;

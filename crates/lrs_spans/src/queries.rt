@@ -1,4 +1,4 @@
-//! Rows found by place and by asset.
+//! What is found of spans by place and by asset.
 
 ghost use Rattle.std.specs.Prelude.{◌≡◌, ◌<◌, ◌&&◌, nat_lt, true, IsTrue, IfOk, filter};
 ghost use Rattle.lrs_measure.specs.Lists.{each_two};
@@ -11,7 +11,8 @@ ghost use Rattle.lrs_lanes.specs.Order.{place_before};
 ghost use Rattle.lrs_spans.specs.Search.{IsOver};
 ghost use Rattle.lrs_spans.specs.Tied.{is_on};
 
-use crate::search;
+use crate::meeting;
+use crate::search::{self, LONGEST_ROUTE};
 use crate::spans::Spans;
 use lrs_events::{ClassName, LinkSide, Side, Span};
 use std::alloc::{AllocError, Global};
@@ -50,30 +51,25 @@ impl Spans {
     }
 
     /// The rows with a millimetre from chainage low up to high, in their order.
-    pub(crate) fn met(&self, alloc: Global, low: u64, high: u64) -> Result<Vec<Span>, AllocError>
+    ///
+    /// # Errors
+    /// When memory runs out.
+    pub fn met(&self, alloc: Global, low: u64, high: u64) -> Result<Vec<Span>, AllocError>
         ensures canonical { IsTrue (are_rows self.now) }
         ensures found { IfOk result (λ found. found.items ≡ filter (is_met low high) self.now) }
     {
-        let mut found = Vec::new(alloc);
-        for row in self.rows() {
-            if row.from < high && low < row.to {
-                found.push(*row)?;
-            }
-        }
-        Ok(found)
+        meeting::met(alloc, self.kept.rows(), self.kept.lanes(), low, high)
     }
 
     /// The rows that end behind a chainage, in their order.
+    ///
+    /// # Errors
+    /// When memory runs out.
     pub(crate) fn behind(&self, alloc: Global, at: u64) -> Result<Vec<Span>, AllocError>
         ensures canonical { IsTrue (are_rows self.now) }
         ensures found { IfOk result (λ found. found.items ≡ filter (λ r. nat_lt at r.to) self.now) }
     {
-        let mut found = Vec::new(alloc);
-        for row in self.rows() {
-            if at < row.to {
-                found.push(*row)?;
-            }
-        }
+        let found = self.met(alloc, at, LONGEST_ROUTE)?;
         Ok(found)
     }
 }

@@ -16,7 +16,7 @@ use lrs_canonical::order::rows_on;
 use lrs_events::{ClassName, LinkSide, Side, Span};
 
 // The length of the longest route in millimetres.
-const LONGEST_ROUTE: u64 = 10_000_000_000;
+pub(crate) const LONGEST_ROUTE: u64 = 10_000_000_000;
 
 /// The rows of an asset of the class.
 pub(crate) fn asset_rows(rows: &[Span], class: ClassName, asset: u64) -> &[Span]

@@ -1,4 +1,4 @@
-use Rattle.std.proofs.Common.{◌≡◌, ◌∙◌, ◌&&◌, nat_eq, ap, filter}
+use Rattle.std.proofs.Common.{◌∙◌, ◌&&◌, nat_eq, ap}
 use Rattle.lrs_measure.specs.Texts.{same_name}
 use Rattle.lrs_events.specs.Spans.{are_rows}
 use Rattle.lrs_canonical.specs.Members.{is_of}

@@ -1,0 +1,273 @@
+-- Rows that are sorted and of which each is kept once, and the rows that lanes have.
+use Rattle.std.proofs.Common.{◌≡◌, ℕ, zero, suc, ◌+◌, ◌-◌, ◌<◌, ◌≤◌, Bool, true, false, cond, ◌⊎◌, inl, inr, List, [], ◌∷◌, ◌++◌, length, get_or, take, refl, sym, ap, subst, ◌∙◌, arith}
+use Rattle.std.specs.Prelude.{◌||◌, ◌&&◌, not, IfOk, Result, Ok, Err}
+use Rattle.std.specs.List.{list_any, filter, flat_map}
+use Rattle.std.specs.List.Sorted.{IsSortedBy, IsPermutation}
+use Rattle.std.specs.Cmp.{IsStrictWeakOrder}
+use Rattle.std.specs.Cmp.Lexicographic.{bytes_decides}
+use Rattle.std.proofs.lemmas.Bool.{false≢true, both_ways, and_parts, and_from, true_from_ne_false, false_from_ne_true, cases_Bool, cases_lt}
+use Rattle.std.proofs.lemmas.List.{take_all, get_or_default}
+use Rattle.std.proofs.lemmas.List.Folds.{list_any-append, list_any_more}
+use Rattle.std.proofs.lemmas.List.Sorted.{sorted_far, list_any-IsPermutation, IsStrictWeakOrder-by_number}
+use Rattle.lrs_measure.specs.Lists.{each_two}
+use Rattle.lrs_measure.specs.Texts.{Name, same_name}
+use Rattle.lrs_events.specs.declared.side.Side.{Side}
+use Rattle.lrs_events.specs.declared.side.Side.TheVariants.{L, R, B}
+use Rattle.lrs_events.specs.declared.side.LinkSide.TheVariants.{Left, Right}
+use Rattle.lrs_events.specs.declared.span.Span.{Span}
+use Rattle.lrs_events.specs.Changes.{same_row, has_row}
+use Rattle.lrs_events.specs.Members.{has_side}
+use Rattle.lrs_events.specs.Spans.{are_rows, span_before}
+use Rattle.lrs_canonical.specs.Order.{In}
+use Rattle.lrs_canonical.specs.Removals.{is_met}
+use Rattle.lrs_canonical.proofs.Members.{any_found, two_at, In-take, In-append_left, In-append_right, In-append_cases}
+use Rattle.lrs_canonical.proofs.Differing.{one_row, has_found, has_in}
+use Rattle.lrs_canonical.proofs.Fitting.{each_two-append}
+use Rattle.lrs_canonical.proofs.Replaced.{in_flat, in_filter, filter_in}
+use Rattle.lrs_canonical.proofs.Sorted.{each_two-filter, one_list}
+use Rattle.lrs_canonical.proofs.Changing.{spans_strict, rows_sorted}
+use Rattle.lrs_lanes.specs.declared.order.RowOrder.TheVariants.{ByAsset as ByRows}
+use Rattle.lrs_lanes.proofs.Ranks.{row_ranks}
+use Rattle.lrs_spans.specs.declared.lanes.ClassLanes.{ClassLanes}
+use Rattle.lrs_spans.specs.declared.meeting.Sorting.{Sorting}
+use Rattle.lrs_spans.specs.declared.meeting.Sorting.TheVariants.{ByRow, ByAsset}
+use Rattle.lrs_spans.specs.Tied.{is_on, has_lanes, IsClass, AreTied, AreKept}
+use Rattle.lrs_spans.specs.Meeting.{met_on, goes_before, AreRanked}
+
+pub sorting_ranks : (by : Sorting) → IsStrictWeakOrder (goes_before by)
+sorting_ranks ByRow = row_ranks ByRows
+sorting_ranks ByAsset = IsStrictWeakOrder-by_number (λ (r : Span). r.asset)
+
+-- ---- places of members
+
+module _ {X : Type 0} where
+  at-In : (xs : List X) (n k : ℕ) (d : X) → k < n → k < length xs → In (get_or xs k d) (take n xs)
+  at-In [] n k d h l = absurd (omega (arith, l))
+  at-In (x ∷ xs) zero k d h l = absurd (omega (arith, h))
+  at-In (x ∷ xs) (suc n) zero d h l = inl refl
+  at-In (x ∷ xs) (suc n) (suc k) d h l = inr (at-In xs n k d (omega (arith, h)) (omega (arith, l)))
+
+  In-at : (x : X) (xs : List X) (n : ℕ) → In x (take n xs) → (k : ℕ) × (k < n) × (k < length xs) × ((d : X) → x ≡ get_or xs k d)
+  In-at x xs zero m = absurd m
+  In-at x [] (suc n) m = absurd m
+  In-at x (y ∷ ys) (suc n) (inl e) = (0, omega arith, omega arith, λ d. e)
+  In-at x (y ∷ ys) (suc n) (inr m) =
+      let f = In-at x ys n m in
+      let a = f.1 in
+      let b = f.2 in
+      (suc f.0, omega (arith, a), omega (arith, b), f.3)
+
+  flat_found : {Y : Type 0} (f : X → List Y) (xs : List X) (y : Y) → In y (flat_map f xs) → (x : X) × In x xs × In y (f x)
+  flat_found f [] y m = absurd m
+  flat_found f (x ∷ xs) y m = by (In-append_cases y (f x) (flat_map f xs) m) (flat_found f xs y)
+    where
+      by : In y (f x) ⊎ In y (flat_map f xs) → (In y (flat_map f xs) → (z : X) × In z xs × In y (f z)) → (z : X) × In z (x ∷ xs) × In y (f z)
+      by (inl k) later = (x, inl refl, k)
+      by (inr k) later = let g = later k in (g.0, inr g.1, g.2)
+
+-- ---- each row once
+
+-- the first rows are gathered, each of them once, in order
+pub record AreGathered (before : Span → Span → Bool) (rows : List Span) (i : ℕ) (found : List Span) : Type 0 where
+  pub order : each_two before found ≡ true
+  pub same : (r : Span) → has_row found r ≡ has_row (take i rows) r
+
+or_false : (b : Bool) → (b || false) ≡ b
+or_false true = refl
+or_false false = refl
+
+module _ (before : Span → Span → Bool) (o : IsStrictWeakOrder before) (rows : List Span) (up : IsSortedBy before rows) (ranked : AreRanked before rows) where
+  inside : (k : ℕ) (d : Span) → k < length rows → has_row rows (get_or rows k d) ≡ true
+  inside k d l = has_in rows (get_or rows k d) (In-take (get_or rows k d) (k + 1) rows (at-In rows (k + 1) k d (omega arith) l))
+
+  fresh : (i k : ℕ) (d : Span) → k < i → i ≤ k + 1 → i < length rows → before (get_or rows k d) (get_or rows i d) ≡ true → has_row (take i rows) (get_or rows i d) ≡ false
+  fresh i k d a b l h = false_from_ne_true (has_row (take i rows) (get_or rows i d)) (λ t. by (In-at (get_or rows i d) rows i (has_found (take i rows) (get_or rows i d) t)))
+    where
+      by : ((j : ℕ) × (j < i) × (j < length rows) × ((e : Span) → get_or rows i d ≡ get_or rows j e)) → ⊥
+      by f =
+          let g = f.1 in
+          both_ways (before (get_or rows k d) (get_or rows i d))
+          (ap (λ z. before (get_or rows k d) z) (f.3 d) ∙ sorted_far before o rows up f.0 k d (omega (arith, g, b)) (omega (arith, a, l))) h
+
+  stale : (i k : ℕ) (d : Span) → k < i → i < length rows → before (get_or rows k d) (get_or rows i d) ≡ false → has_row (take i rows) (get_or rows i d) ≡ true
+  stale i k d a l h =
+      let within : k < length rows = omega (arith, a, l) in
+      let e : get_or rows k d ≡ get_or rows i d = ranked (get_or rows k d) (get_or rows i d) (inside k d within) (inside i d l) h (sorted_far before o rows up k i d (omega (arith, a)) l) in
+      has_in (take i rows) (get_or rows i d) (subst (λ z. In z (take i rows)) e (at-In rows i k d a within))
+
+  pub newer : (i k : ℕ) (d : Span) → k < i → i ≤ k + 1 → i < length rows → before (get_or rows k d) (get_or rows i d) ≡ not (has_row (take i rows) (get_or rows i d))
+  newer i k d a b l = by (cases_Bool (before (get_or rows k d) (get_or rows i d)))
+    where
+      by : (before (get_or rows k d) (get_or rows i d) ≡ true) ⊎ (before (get_or rows k d) (get_or rows i d) ≡ false) → before (get_or rows k d) (get_or rows i d) ≡ not (has_row (take i rows) (get_or rows i d))
+      by (inl h) = h ∙ ap not (sym (fresh i k d a b l h))
+      by (inr h) = h ∙ ap not (sym (stale i k d a l h))
+
+  -- the row at i and the one in front of it, as they are read
+  pub newer_at : (i : ℕ) (p x d : Span) → (i ≡ 0 → ⊥) → i < length rows → p ≡ get_or rows (i - 1) p → x ≡ get_or rows i x → before p x ≡ not (has_row (take i rows) (get_or rows i d))
+  newer_at i p x d n l u v = by (cases_lt 0 i)
+    where
+      by : (0 < i) ⊎ (i ≤ 0) → before p x ≡ not (has_row (take i rows) (get_or rows i d))
+      by (inl a) =
+          (λ j. before ((u ∙ get_or_default rows (i - 1) p d (omega (arith, l))) j) ((v ∙ get_or_default rows i x d l) j))
+          ∙ newer i (i - 1) d (omega (arith, a)) (omega (arith, a)) l
+      by (inr b) = absurd (n (omega (arith, b)))
+
+  last_first : (i : ℕ) (d y : Span) → i < length rows → has_row (take i rows) (get_or rows i d) ≡ false → In y (take i rows) → before y (get_or rows i d) ≡ true
+  last_first i d y l new m = true_from_ne_false (before y x) (λ h. both_ways (has_row (take i rows) x) new (has_in (take i rows) x (subst (λ z. In z (take i rows)) (one h) m)))
+    where
+      x : Span
+      x = get_or rows i d
+
+      level : before x y ≡ false
+      level =
+          let f = In-at y rows i m in
+          let g = f.1 in
+          ap (λ z. before x z) (f.3 d) ∙ sorted_far before o rows up f.0 i d (omega (arith, g)) l
+
+      one : before y x ≡ false → y ≡ x
+      one h = ranked y x (has_in rows y (In-take y i rows m)) (inside i d l) h level
+
+  pub gathered_more : (i : ℕ) (d : Span) (found : List Span) → i < length rows → not (has_row (take i rows) (get_or rows i d)) ≡ true → AreGathered before rows i found → AreGathered before rows (i + 1) (found ++ get_or rows i d ∷ [])
+  gathered_more i d found l new g = record {
+    order = each_two-append before found (get_or rows i d ∷ []) g.order refl (λ y z m n. by y z m n);
+    same = λ r.
+        list_any-append (λ s. same_row s r) found (get_or rows i d ∷ [])
+        ∙ (λ j. g.same r j || or_false (same_row (get_or rows i d) r) j)
+        ∙ sym (list_any_more (λ s. same_row s r) rows i d l);
+  }
+    where
+      is_new : (b : Bool) → not b ≡ true → b ≡ false
+      is_new true h = absurd (false≢true h)
+      is_new false h = refl
+
+      by : (y z : Span) → In y found → In z (get_or rows i d ∷ []) → before y z ≡ true
+      by y z m (inl e) = ap (before y) e ∙ last_first i d y l (is_new (has_row (take i rows) (get_or rows i d)) new) (has_found (take i rows) y (sym (g.same y) ∙ has_in found y m))
+      by y z m (inr n) = absurd n
+
+  pub gathered_same : (i : ℕ) (found : List Span) → i < length rows → ((d : Span) → not (has_row (take i rows) (get_or rows i d)) ≡ false) → AreGathered before rows i found → AreGathered before rows (i + 1) found
+  gathered_same i found l old g = record {
+    order = g.order;
+    same = λ r. g.same r ∙ sym (list_any_more (λ s. same_row s r) rows i r l ∙ by r r (cases_Bool (same_row (get_or rows i r) r)));
+  }
+    where
+      is_old : (b : Bool) → not b ≡ false → b ≡ true
+      is_old true h = refl
+      is_old false h = absurd (false≢true (sym h))
+
+      or_true : (b : Bool) → b ≡ true → (b || true) ≡ b
+      or_true true h = refl
+      or_true false h = sym h
+
+      by : (d r : Span) → (same_row (get_or rows i d) r ≡ true) ⊎ (same_row (get_or rows i d) r ≡ false) → (has_row (take i rows) r || same_row (get_or rows i d) r) ≡ has_row (take i rows) r
+      by d r (inl e) = (λ j. has_row (take i rows) r || e j) ∙ or_true (has_row (take i rows) r) (ap (has_row (take i rows)) (sym (one_row (get_or rows i d) r e)) ∙ is_old (has_row (take i rows) (get_or rows i d)) (old d))
+      by d r (inr e) = (λ j. has_row (take i rows) r || e j) ∙ or_false (has_row (take i rows) r)
+
+pub gathered_none : (before : Span → Span → Bool) (rows : List Span) → AreGathered before rows 0 []
+gathered_none before rows = record { order = refl; same = λ r. refl }
+
+pub gathered_all : (before : Span → Span → Bool) (rows found : List Span) (i : ℕ) → length rows ≤ i → AreGathered before rows i found → (r : Span) → has_row found r ≡ has_row rows r
+gathered_all before rows found i h g r = g.same r ∙ ap (λ z. has_row z r) (take_all i rows h)
+
+pub has_sorted : (xs ys zs : List Span) → IsPermutation xs zs → ys ≡ zs → (r : Span) → has_row ys r ≡ has_row xs r
+has_sorted xs ys zs p e r = ap (λ z. has_row z r) e ∙ sym (list_any-IsPermutation (λ s. same_row s r) xs zs p)
+
+pub ranked_sorted : (before : Span → Span → Bool) (xs ys zs : List Span) → IsPermutation xs zs → ys ≡ zs → AreRanked before xs → AreRanked before ys
+ranked_sorted before xs ys zs p e ranked r s m n = ranked r s (sym (has_sorted xs ys zs p e r) ∙ m) (sym (has_sorted xs ys zs p e s) ∙ n)
+
+-- ---- the rows of lanes
+
+one_side : (s : Side) → (has_side s Left ≡ true) ⊎ (has_side s Right ≡ true)
+one_side L = inl refl
+one_side R = inr refl
+one_side B = inl refl
+
+-- the rows that are met in the lanes of some classes
+abbrev pub met_some : (Name → Bool) → ℕ → ℕ → ClassLanes → List Span
+met_some of low high l = cond (of l.class) (met_on low high l) []
+
+module _ (rows : List Span) (lanes : List ClassLanes) (t : AreTied rows lanes) (of : Name → Bool) (low high : ℕ) where
+  class_at : (l : ClassLanes) → In l lanes → IsClass rows l
+  class_at l m =
+      let f = In-at l lanes (length lanes) (subst (In l) (sym (take_all (length lanes) lanes (omega arith))) m) in
+      subst (IsClass rows) (sym (f.3 l)) (t.each f.0 l f.2)
+
+  pub record IsMet (x : Span) : Type 0 where
+    pub row : In x rows
+    pub met : is_met low high x ≡ true
+    pub of_class : of x.class ≡ true
+
+  pub lanes_met : (x : Span) → In x (flat_map (met_some of low high) lanes) → IsMet x
+  lanes_met x m = let f = flat_found (met_some of low high) lanes x m in by f.0 (class_at f.0 f.1) (of f.0.class) refl f.2
+    where
+      named : (l : ClassLanes) → same_name x.class l.class ≡ true → true ≡ of l.class → of x.class ≡ true
+      named l e h = ap of ((bytes_decides x.class l.class).0 e) ∙ sym h
+
+      two : (l : ClassLanes) → IsClass rows l → true ≡ of l.class → In x (filter (is_met low high) l.left.rows) ⊎ In x (filter (is_met low high) l.right.rows) → IsMet x
+      two l c h (inl n) =
+          let f = in_filter (is_met low high) l.left.rows x n in
+          let a = and_parts (has_row rows x) (is_on l.class Left x) (sym (c.left x) ∙ has_in l.left.rows x f.0) in
+          let b = and_parts (same_name x.class l.class) (has_side x.side Left) a.1 in
+          record { row = has_found rows x a.0; met = f.1; of_class = named l b.0 h }
+      two l c h (inr n) =
+          let f = in_filter (is_met low high) l.right.rows x n in
+          let a = and_parts (has_row rows x) (is_on l.class Right x) (sym (c.right x) ∙ has_in l.right.rows x f.0) in
+          let b = and_parts (same_name x.class l.class) (has_side x.side Right) a.1 in
+          record { row = has_found rows x a.0; met = f.1; of_class = named l b.0 h }
+
+      by : (l : ClassLanes) → IsClass rows l → (b : Bool) → b ≡ of l.class → In x (cond b (met_on low high l) []) → IsMet x
+      by l c true h n = two l c h (In-append_cases x (filter (is_met low high) l.left.rows) (filter (is_met low high) l.right.rows) n)
+      by l c false h n = absurd n
+
+  pub met_lanes : (x : Span) → IsMet x → In x (flat_map (met_some of low high) lanes)
+  met_lanes x h =
+      let f = any_found (λ (l : ClassLanes). same_name l.class x.class) lanes (t.all x (has_in rows x h.row)) in
+      let e = (bytes_decides f.0.class x.class).0 f.2 in
+      in_flat (met_some of low high) lanes f.0 x f.1
+      (subst (λ b. In x (cond b (met_on low high f.0) [])) (sym (ap of e ∙ h.of_class)) (by f.0 (class_at f.0 f.1) ((bytes_decides x.class f.0.class).1 (sym e)) (one_side x.side)))
+    where
+      by : (l : ClassLanes) → IsClass rows l → same_name x.class l.class ≡ true → (has_side x.side Left ≡ true) ⊎ (has_side x.side Right ≡ true) → In x (met_on low high l)
+      by l c e (inl s) =
+          In-append_left x (filter (is_met low high) l.left.rows) (filter (is_met low high) l.right.rows) (filter_in (is_met low high) l.left.rows x
+          (has_found l.left.rows x (c.left x ∙ and_from (has_row rows x) (is_on l.class Left x) (has_in rows x h.row) (and_from (same_name x.class l.class) (has_side x.side Left) e s))) h.met)
+      by l c e (inr s) =
+          In-append_right x (filter (is_met low high) l.left.rows) (filter (is_met low high) l.right.rows) (filter_in (is_met low high) l.right.rows x
+          (has_found l.right.rows x (c.right x ∙ and_from (has_row rows x) (is_on l.class Right x) (has_in rows x h.row) (and_from (same_name x.class l.class) (has_side x.side Right) e s))) h.met)
+
+-- of canonical rows, those that are not one come one before the other
+pub rows_ranked : (rows some : List Span) → are_rows rows ≡ true → ((r : Span) → In r some → In r rows) → AreRanked span_before some
+rows_ranked rows some h f r s m n a b = by (two_at span_before r s rows (rows_sorted rows h) (f r (has_found some r m)) (f s (has_found some s n)))
+  where
+    by : (r ≡ s) ⊎ ((span_before r s ≡ true) ⊎ (span_before s r ≡ true)) → r ≡ s
+    by (inl e) = e
+    by (inr (inl k)) = absurd (both_ways (span_before r s) a k)
+    by (inr (inr k)) = absurd (both_ways (span_before s r) b k)
+
+-- rows in order that are those of canonical rows that pass a test
+pub found_are : (test : Span → Bool) (rows found : List Span) → are_rows rows ≡ true → each_two span_before found ≡ true → ((x : Span) → In x found → In x rows × (test x ≡ true)) → ((x : Span) → In x rows → test x ≡ true → In x found) → found ≡ filter test rows
+found_are test rows found h s f g =
+    one_list span_before spans_strict found (filter test rows) s (each_two-filter span_before test rows (rows_sorted rows h))
+    (λ x m. let p = f x m in filter_in test rows x p.0 p.1) (λ x m. let p = in_filter test rows x m in g x p.0 p.1)
+
+module _ (rows : List Span) (lanes : List ClassLanes) (k : AreKept rows lanes) (low high : ℕ) (collected : List Span) (e : collected ≡ flat_map (met_on low high) lanes) where
+  abbrev every : Name → Bool
+  every c = true
+
+  collected_met : (x : Span) → In x collected → In x rows × (is_met low high x ≡ true)
+  collected_met x m = let i = lanes_met rows lanes k.tied every low high x (subst (In x) e m) in (i.row, i.met)
+
+  met_collected : (x : Span) → In x rows → is_met low high x ≡ true → In x collected
+  met_collected x m h = subst (In x) (sym e) (met_lanes rows lanes k.tied every low high x (record { row = m; met = h; of_class = refl }))
+
+  pub met_ranked : AreRanked span_before collected
+  met_ranked = rows_ranked rows collected k.canonical (λ r m. (collected_met r m).0)
+
+  pub met_rows : (found : List Span) → each_two span_before found ≡ true → ((r : Span) → has_row found r ≡ has_row collected r) → found ≡ filter (is_met low high) rows
+  met_rows found s h =
+      found_are (is_met low high) rows found k.canonical s (λ x m. collected_met x (has_found collected x (sym (h x) ∙ has_in found x m)))
+      (λ x m p. has_found found x (h x ∙ has_in collected x (met_collected x m p)))
+
+-- ---- what a call that may fail gives
+
+pub if_both : {T E : Type 0} (r : Result T E) (P Q W : T → Type 0) → ((x : T) → P x → Q x → W x) → IfOk r P → IfOk r Q → IfOk r W
+if_both (Ok x) P Q W f p q = f x p q
+if_both (Err e) P Q W f p q = tt

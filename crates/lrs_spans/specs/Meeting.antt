@@ -1,0 +1,22 @@
+-- Rows that have a millimetre of a stretch, as lanes have them, and the orders in which they are handed over.
+use Rattle.std.specs.Prelude.{◌≡◌, ℕ, Bool, true, false, nat_lt, List, ◌++◌, filter}
+use Rattle.lrs_events.specs.declared.span.Span.{Span}
+use Rattle.lrs_events.specs.Changes.{has_row}
+use Rattle.lrs_events.specs.Spans.{span_before}
+use Rattle.lrs_canonical.specs.Removals.{is_met}
+use Rattle.lrs_spans.specs.declared.lanes.ClassLanes.{ClassLanes}
+use Rattle.lrs_spans.specs.declared.meeting.Sorting.{Sorting}
+use Rattle.lrs_spans.specs.declared.meeting.Sorting.TheVariants.{ByRow, ByAsset}
+
+-- the rows of a class with a millimetre from low up to high: those of the left, then those of the right
+abbrev pub met_on : ℕ → ℕ → ClassLanes → List Span
+met_on low high l = filter (is_met low high) l.left.rows ++ filter (is_met low high) l.right.rows
+
+-- whether the first comes before the second
+abbrev pub goes_before : Sorting → Span → Span → Bool
+goes_before ByRow r s = span_before r s
+goes_before ByAsset r s = nat_lt r.asset s.asset
+
+-- of two rows that are not one, one comes before the other
+abbrev pub AreRanked : (Span → Span → Bool) → List Span → Type 0
+AreRanked before rows = (r s : Span) → has_row rows r ≡ true → has_row rows s ≡ true → before r s ≡ false → before s r ≡ false → r ≡ s

@@ -1,0 +1,150 @@
+//! Rows that have a millimetre of a stretch, found by the lanes.
+
+ghost use Rattle.std.specs.Prelude.{◌≡◌, ◌<◌, ◌++◌, true, length, take, not, slice_index_or, IfOk, OnOk};
+ghost use Rattle.std.specs.Ordering.{is_lt};
+ghost use Rattle.std.specs.List.{filter, flat_map};
+ghost use Rattle.std.specs.List.Sorted.{IsPermutation, IsSortedBy};
+ghost use Rattle.lrs_measure.specs.Lists.{each_two};
+ghost use Rattle.lrs_events.specs.declared.span.Span.{Span as DeclaredSpan};
+ghost use Rattle.lrs_events.specs.Changes.{has_row};
+ghost use Rattle.lrs_canonical.specs.Removals.{is_met};
+ghost use Rattle.lrs_spans.specs.Tied.{AreKept};
+ghost use Rattle.lrs_spans.specs.Meeting.{met_on, goes_before, AreRanked};
+
+use crate::lanes::ClassLanes;
+use lrs_canonical::order::comes_before;
+use lrs_events::Span;
+use std::alloc::{AllocError, Global};
+use std::cmp::Ordering;
+
+/// By what rows are sorted.
+#[derive(Clone, Copy)]
+pub(crate) enum Sorting {
+    /// By class, then asset, then start.
+    ByRow,
+    /// By asset.
+    ByAsset,
+}
+
+/// Whether the first comes before the second.
+fn goes_before(by: Sorting, r: &Span, s: &Span) -> bool
+    ensures { result ≡ goes_before by r.now s.now }
+{
+    match by {
+        Sorting::ByRow => comes_before(r, s),
+        Sorting::ByAsset => r.asset < s.asset,
+    }
+}
+
+/// How the two lie in the order, as a sort asks it.
+fn compare(by: Sorting, r: &Span, s: &Span) -> Ordering
+    ensures { is_lt result ≡ goes_before by r.now s.now }
+{
+    if goes_before(by, r, s) {
+        Ordering::Less
+    } else if goes_before(by, s, r) {
+        Ordering::Greater
+    } else {
+        Ordering::Equal
+    }
+}
+
+/// Sorts rows. It takes no memory.
+fn sort(by: Sorting, rows: &mut Vec<Span>)
+    ensures same { IsPermutation rows.old.items rows.new.items }
+    ensures sorted { IsSortedBy (goes_before by) rows.new.items }
+{
+    rows.sort_unstable_by(|r, s| compare(by, r, s));
+}
+
+/// Whether a row is none of those in front of it, where rows are sorted.
+fn is_new(by: Sorting, rows: &[Span], i: usize) -> bool
+    requires within { i < length rows.now }
+    requires sorted { IsSortedBy (goes_before by) rows.now }
+    requires ranked { AreRanked (goes_before by) rows.now }
+    ensures { (d : DeclaredSpan) → result ≡ not (has_row (take i rows.now) (slice_index_or rows.now i d)) }
+{
+    if i == 0 {
+        true
+    } else {
+        goes_before(by, &rows[i - 1], &rows[i])
+    }
+}
+
+/// Sorted rows, each of them once.
+///
+/// # Errors
+/// When memory runs out.
+fn strict(alloc: Global, by: Sorting, rows: &[Span]) -> Result<Vec<Span>, AllocError>
+    requires sorted { IsSortedBy (goes_before by) rows.now }
+    requires ranked { AreRanked (goes_before by) rows.now }
+    ensures order { IfOk result (λ found. each_two (goes_before by) found.items ≡ true) }
+    ensures same { IfOk result (λ found. (r : DeclaredSpan) → has_row found.items r ≡ has_row rows.now r) }
+{
+    let mut found = Vec::new(alloc);
+    for i in 0..rows.len() {
+        if is_new(by, rows, i) {
+            found.push(rows[i])?;
+        }
+    }
+    Ok(found)
+}
+
+/// Rows in order, each of them once.
+///
+/// # Errors
+/// When memory runs out.
+fn in_order(alloc: Global, by: Sorting, mut rows: Vec<Span>) -> Result<Vec<Span>, AllocError>
+    requires { AreRanked (goes_before by) rows.items }
+    ensures order { IfOk result (λ found. each_two (goes_before by) found.items ≡ true) }
+    ensures same { IfOk result (λ found. (r : DeclaredSpan) → has_row found.items r ≡ has_row rows.items r) }
+{
+    sort(by, &mut rows);
+    strict(alloc, by, &rows)
+}
+
+/// Copies the rows of a class with a millimetre from low up to high to the end of others, those with both sides
+/// twice.
+fn push_class(of: &ClassLanes, low: u64, high: u64, found: &mut Vec<Span>) -> Result<(), AllocError>
+    ensures { OnOk result (found.new.items ≡ found.old.items ++ met_on low high of.now) }
+{
+    of.left.push_met(low, high, found)?;
+    of.right.push_met(low, high, found)
+}
+
+/// The rows with a millimetre from low up to high, class by class, those with both sides twice.
+///
+/// # Errors
+/// When memory runs out.
+fn collect(
+    alloc: Global,
+    lanes: &[ClassLanes],
+    low: u64,
+    high: u64,
+) -> Result<Vec<Span>, AllocError>
+    ensures { IfOk result (λ found. found.items ≡ flat_map (met_on low high) lanes.now) }
+{
+    let mut found = Vec::new(alloc);
+    for of in lanes {
+        push_class(of, low, high, &mut found)?;
+    }
+    Ok(found)
+}
+
+/// The rows with a millimetre from chainage low up to high, in their order.
+///
+/// # Errors
+/// When memory runs out.
+pub(crate) fn met(
+    alloc: Global,
+    rows: &[Span],
+    lanes: &[ClassLanes],
+    low: u64,
+    high: u64,
+) -> Result<Vec<Span>, AllocError>
+    requires kept { AreKept rows.now lanes.now }
+    ensures { IfOk result (λ found. found.items ≡ filter (is_met low high) rows.now) }
+{
+    let found = collect(alloc, lanes, low, high)?;
+    in_order(alloc, Sorting::ByRow, found)
+}
