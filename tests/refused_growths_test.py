@@ -45,5 +45,13 @@ def test_courses_and_marks_bear_a_refused_growth():
     assert each_refused_call("lrs_element") == courses | marks
 
 
+def test_parts_of_a_ledger_bear_a_refused_growth():
+    assert each_refused_call("lrs_parts") == {"parts", "gone"}
+
+
 def test_a_desk_bears_a_refused_growth():
     assert each_refused_call("lrs_desk", step=4) >= {"Desk::open", "run", "link", "class", "route"}
+
+
+def test_deciding_soundness_bears_a_refused_growth():
+    assert each_refused_call("lrs_sound", step=5) == {"image_of", "first_unsound"}

@@ -60,6 +60,12 @@ def test_each_crate_has_a_root_with_tactics_and_a_line_on_what_it_is():
         assert "#![tactic(auto)]" in text, name
 
 
+def test_no_crate_has_more_than_fifteen_wrong_bodies():
+    for name in crates_listed():
+        edits = sorted((CRATES / name / "must-fail").glob("*.edit"))
+        assert len(edits) <= 15, (name, len(edits))
+
+
 def test_no_file_is_too_long():
     for path in [*CRATES.rglob("*.rt"), *CRATES.rglob("*.antt")]:
         if "out" not in path.relative_to(CRATES).parts:

@@ -22,4 +22,8 @@ pub mod Replaced
 pub mod Cleared
 pub mod OfAsset
 pub mod Back
+pub mod Laid
+pub mod Picked
+pub mod RunLaws
+pub mod FewestHeld
 pub mod Slices

@@ -8,3 +8,5 @@ pub mod Turns
 pub mod Sides
 pub mod Cuts
 pub mod Undoing
+pub mod OnCourse
+pub mod RunLaws

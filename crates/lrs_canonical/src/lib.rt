@@ -6,6 +6,7 @@
 #![tactic(auto)]
 
 pub mod adding;
+pub mod canonical_laws;
 pub mod change;
 pub mod clips;
 pub mod cutting;

@@ -2,8 +2,11 @@ ghost use Rattle.std.specs.Prelude.{◌≡◌};
 
 use crate::adding::added;
 use crate::cutting::cut_at;
+use crate::joining::joined;
 use crate::merging::merged;
 use crate::removing::cleared;
+use crate::siding::cleared_side;
+use crate::turning::turned;
 use lrs_events::{ClassName, Side, Span};
 use std::test::Fail;
 
@@ -93,5 +96,56 @@ fn rows_of_two_assets_stay_two(rt: HostRuntime) -> Result<(), Fail> {
     let rows = [row(class, 6, 2, 10), row(class, 7, 10, 12)];
     let kept = merged(rt.alloc(), &rows)?;
     assert_eq!(rt; kept.as_slice(), rows.as_slice());
+    Ok(())
+}
+
+#[test]
+fn a_second_route_comes_behind_the_first(rt: HostRuntime) -> Result<(), Fail> {
+    let Some(class) = ClassName::new(b"SIGN") else {
+        assert!(rt; false, "the class has a name");
+        return Ok(());
+    };
+    let first = [row(class, 7, 2, 10)];
+    let second = [row(class, 8, 0, 5)];
+    let come = [row(class, 8, 10, 15)];
+    let change = joined(rt.alloc(), &first, &second, 10)?;
+    assert!(rt; change.gone.is_empty());
+    assert_eq!(rt; change.come.as_slice(), come.as_slice());
+    Ok(())
+}
+
+#[test]
+fn a_row_is_turned(rt: HostRuntime) -> Result<(), Fail> {
+    let Some(class) = ClassName::new(b"SIGN") else {
+        assert!(rt; false, "the class has a name");
+        return Ok(());
+    };
+    let rows = [row(class, 7, 2, 10)];
+    let other = [row(class, 7, 10, 18)];
+    let turned = turned(rt.alloc(), &rows, 20)?;
+    assert_eq!(rt; turned.as_slice(), other.as_slice());
+    Ok(())
+}
+
+#[test]
+fn the_left_of_both_sides_goes(rt: HostRuntime) -> Result<(), Fail> {
+    let Some(class) = ClassName::new(b"SIGN") else {
+        assert!(rt; false, "the class has a name");
+        return Ok(());
+    };
+    let rows = [row(class, 7, 2, 10)];
+    let left = [Span {
+        side: Side::L,
+        ..row(class, 7, 3, 5)
+    }];
+    let right = Span {
+        side: Side::R,
+        ..row(class, 7, 3, 5)
+    };
+    let rest = [row(class, 7, 2, 3), right, row(class, 7, 5, 10)];
+    let removal = cleared_side(rt.alloc(), &rows, 3, 5, Side::L)?;
+    assert_eq!(rt; removal.left.as_slice(), left.as_slice());
+    assert_eq!(rt; removal.change.gone.as_slice(), rows.as_slice());
+    assert_eq!(rt; removal.change.come.as_slice(), rest.as_slice());
     Ok(())
 }

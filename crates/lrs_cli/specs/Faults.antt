@@ -22,6 +22,7 @@ table_text table.Span = codes "span"
 table_text table.Entered = codes "entered"
 table_text table.Gone = codes "gone"
 table_text table.Edit = codes "edit"
+table_text table.Origin = codes "origin"
 
 -- a fault's name, with the first unsound table of `Unsound`
 abbrev pub fault_text : ProgramFault → List ℕ

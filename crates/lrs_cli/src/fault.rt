@@ -40,6 +40,7 @@ fn table_name(table: Table) -> &'static str
         Table::Entered => "entered",
         Table::Gone => "gone",
         Table::Edit => "edit",
+        Table::Origin => "origin",
     }
 }
 

@@ -34,6 +34,7 @@ fn faults_have_names(rt: HostRuntime) -> Result<(), Fail> {
     let named = [
         (ProgramFault::Open, "Open"),
         (ProgramFault::Unsound(Table::Ref), "Unsound:ref"),
+        (ProgramFault::Unsound(Table::Origin), "Unsound:origin"),
         (ProgramFault::BadHeader, "BadHeader"),
     ];
     for (fault, name) in named {

@@ -12,3 +12,4 @@ pub mod NewClass
 pub mod NewCourse
 pub mod NewRoute
 pub mod RunOver
+pub mod Running

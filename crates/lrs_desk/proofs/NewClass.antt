@@ -124,6 +124,7 @@ module _ (c : Class) (i : Image) (fresh : list_any (has_name c.name) i.classes â
         entered = p.entered;
         gone = p.gone;
         edits = edits_push i.entered i.gone i.edits e p.edits new_key room;
+        origins = p.origins;
       })
 
   pub makes : Makes (verb.Class c) i (class_parts c)

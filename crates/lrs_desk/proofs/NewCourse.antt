@@ -23,7 +23,8 @@ use Rattle.lrs_element.specs.Course.{expand, course_of, is_at, runs_over, meets,
 use Rattle.lrs_element.specs.Pieces.{piece_len, ground_of}
 use Rattle.lrs_element.proofs.Expanding.{length-expand, get_or-expand}
 use Rattle.lrs_machine.specs.Image.{link_entry}
-use Rattle.lrs_machine.specs.Sound.{is_on_a_link, differs}
+use Rattle.lrs_events.specs.Places.{differs}
+use Rattle.lrs_machine.specs.Sound.{is_on_a_link}
 use Rattle.lrs_machine.proofs.Members.{In, any_found, any_of, flat_map_found}
 use Rattle.lrs_desk.proofs.Deciding.{none_passes}
 use Rattle.lrs_desk.proofs.Inserts.{is_false, all_from}

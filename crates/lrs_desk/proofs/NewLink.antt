@@ -17,9 +17,9 @@ use Rattle.lrs_position.specs.Routes.{is_route_course}
 use Rattle.lrs_events.specs.declared.class.Class.{Class}
 use Rattle.lrs_events.specs.declared.part.Part.{Part}
 use Rattle.lrs_events.specs.declared.side.LinkSide.TheVariants.{Left, Right}
-use Rattle.lrs_events.specs.Places.{Place, places_of_link}
+use Rattle.lrs_events.specs.Places.{Place, places_of_link, differs}
 use Rattle.lrs_events.specs.Spans.{holds_by_spans}
-use Rattle.lrs_events.specs.Parts.{has_place}
+use Rattle.lrs_events.specs.Parts.{has_place, part_before}
 use Rattle.lrs_report.specs.Segments.{is_exclusive}
 use Rattle.lrs_machine.specs.declared.answer.Cause.TheVariants as cause
 use Rattle.lrs_machine.specs.declared.command.Command.TheVariants as verb
@@ -33,7 +33,7 @@ use Rattle.lrs_machine.specs.Image.{state_of, link_entry}
 use Rattle.lrs_desk.specs.Change.{with_parts, with_edit, no_parts}
 use Rattle.lrs_machine.specs.Machine.{attempt, refuse_if, ◌>>◌}
 use Rattle.lrs_desk.specs.Plan.{is_new, Makes}
-use Rattle.lrs_machine.specs.Sound.{link_before, is_on_a_link, differs, is_course, RouteCourse, course_before, are_courses, courses_of, spans_of, holds_in, holders_of, places_of, keeps_exclusive, are_spans_of, is_part, share_nothing, pairs_of, are_parts, parts_of, has_asset_place, is_balanced_at, are_balanced, part_before, gone_before, IsSound}
+use Rattle.lrs_machine.specs.Sound.{link_before, is_on_a_link, is_course, RouteCourse, course_before, are_courses, courses_of, spans_of, holds_in, holders_of, places_of, keeps_exclusive, are_spans_of, is_part, share_nothing, pairs_of, are_parts, parts_of, has_asset_place, is_balanced_at, are_balanced, gone_before, IsSound}
 use Rattle.lrs_desk.proofs.Filed.{is_some-find_row, put-insert_by, numbers_agree}
 use Rattle.lrs_desk.proofs.Inserts.{is_false, and_weaker, all_weaker, all_from, none_counted, any-insert_by, is_comparable, each_two-insert_by, all_made-insert_by}
 use Rattle.lrs_machine.proofs.Members.{In, any_found, any_of, all_at, flat_map_found, list_any-map}
@@ -221,6 +221,7 @@ module _ (l : Link) (i : Image) (fresh : list_any (has_number l.number) i.links 
         gone = and_weaker (rows && of) balanced (rows && are_parts new i.assets (parts_of i.gone)) (are_balanced new i.assets (spans_of i) i.entered (parts_of i.gone))
             (and_weaker rows of rows (are_parts new i.assets (parts_of i.gone)) (λ k. k) (still_parts (parts_of i.gone))) still_balanced p.gone;
         edits = edits_push i.entered i.gone i.edits e p.edits new_key room;
+        origins = p.origins;
       })
 
   pub makes : Makes (verb.Link l) i (link_parts l)

@@ -18,7 +18,7 @@ use Rattle.lrs_element.specs.Course.{expand, course_of, meets, lacks_link, is_ba
 use Rattle.lrs_position.specs.Routes.{is_route_course, have_marks, are_referents}
 use Rattle.lrs_position.specs.declared.route.Referent.{Referent}
 use Rattle.lrs_events.specs.declared.class.Class.{Class}
-use Rattle.lrs_events.specs.Places.{Place}
+use Rattle.lrs_events.specs.Places.{Place, differs}
 use Rattle.lrs_events.specs.Spans.{holds_by_spans}
 use Rattle.lrs_report.specs.Segments.{is_exclusive}
 use Rattle.lrs_machine.specs.declared.answer.Cause.{Cause}
@@ -37,7 +37,7 @@ use Rattle.lrs_machine.specs.Machine.{attempt, refuse_if, refuse_at, ◌>>◌, �
 use Rattle.lrs_machine.specs.Machine as machine
 use Rattle.lrs_desk.specs.Plan.{is_new, Makes}
 use Rattle.lrs_desk.specs.NewRoute.{free_course, IsEntryOf, route_parts}
-use Rattle.lrs_machine.specs.Sound.{RouteCourse, course_before, is_course, is_on_a_link, differs, are_courses, courses_of, RouteMarks, RouteReferents, are_all_referents, referents_of, RouteSpans, spans_of, are_spans, are_spans_of, holds_in, places_of, keeps_exclusive, are_parts, parts_of, has_asset_place, are_gone, are_balanced, gone_before, IsSound}
+use Rattle.lrs_machine.specs.Sound.{RouteCourse, course_before, is_course, is_on_a_link, are_courses, courses_of, RouteMarks, RouteReferents, are_all_referents, referents_of, RouteSpans, spans_of, are_spans, are_spans_of, holds_in, places_of, keeps_exclusive, are_parts, parts_of, has_asset_place, are_gone, are_balanced, gone_before, IsSound}
 use Rattle.lrs_machine.proofs.Members.{In, list_any-map}
 use Rattle.lrs_machine.proofs.SoundImages.{and_three}
 use Rattle.lrs_desk.proofs.Filed.{is_some-find_row, put-insert_by, names_exact, names_tie}
@@ -312,6 +312,7 @@ module _ (e : RouteEntry) (pieces : List Piece) (i : Image) (fresh : list_any (h
         entered = p.entered;
         gone = still_gone p.gone;
         edits = edits_push i.entered i.gone i.edits d p.edits new_key room;
+        origins = p.origins;
       })
 
 -- The verb makes the route, where its name is new, its ground is free and its marks are those of the course.

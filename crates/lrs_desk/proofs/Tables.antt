@@ -15,7 +15,7 @@ use Rattle.lrs_machine.specs.declared.image.RouteEntry.{RouteEntry}
 use Rattle.lrs_element.specs.Course.{meets}
 use Rattle.lrs_desk.specs.Change.{route_before}
 use Rattle.lrs_desk.specs.Plan.{is_new}
-use Rattle.lrs_machine.specs.Sound.{link_before, class_before, asset_before, course_before, is_asset, is_course, are_links, are_classes, are_assets, are_courses, courses_of, are_all_marks, marks_of, are_all_referents, referents_of, are_spans, spans_of, are_entered, are_gone, are_edits, is_named_by, parts_of, Test, IsSound, first_unsound, first_failed, tests}
+use Rattle.lrs_machine.specs.Sound.{link_before, class_before, asset_before, course_before, is_asset, is_course, are_links, are_classes, are_assets, are_courses, courses_of, are_all_marks, marks_of, are_all_referents, referents_of, are_spans, spans_of, are_entered, are_gone, are_edits, are_origins, is_named_by, parts_of, Test, IsSound, first_unsound, first_failed, tests}
 use Rattle.lrs_machine.proofs.SoundImages.{passed}
 use Rattle.lrs_machine.proofs.Pairs.{each_two-map}
 use Rattle.lrs_desk.proofs.Inserts.{all_weaker, and_weaker, each_two-push}
@@ -31,6 +31,7 @@ pub record Passes (i : Image) : Type 0 where
   pub entered : are_entered i.links i.assets i.entered ≡ true
   pub gone : are_gone i.links i.assets (spans_of i) i.entered i.gone ≡ true
   pub edits : are_edits i.entered i.gone i.edits ≡ true
+  pub origins : are_origins i.entered i.assets ≡ true
 
 pub passes : (i : Image) → IsSound i → Passes i
 unfolding first_unsound
@@ -45,6 +46,7 @@ passes i h = record {
   entered = passed (record { table = table.Entered; passes = are_entered i.links i.assets i.entered }) (tests i) h (inr (inr (inr (inr (inr (inr (inr (inl refl))))))));
   gone = passed (record { table = table.Gone; passes = are_gone i.links i.assets (spans_of i) i.entered i.gone }) (tests i) h (inr (inr (inr (inr (inr (inr (inr (inr (inl refl)))))))));
   edits = passed (record { table = table.Edit; passes = are_edits i.entered i.gone i.edits }) (tests i) h (inr (inr (inr (inr (inr (inr (inr (inr (inr (inl refl))))))))));
+  origins = passed (record { table = table.Origin; passes = are_origins i.entered i.assets }) (tests i) h (inr (inr (inr (inr (inr (inr (inr (inr (inr (inr (inl refl)))))))))));
 }
 
 abbrev all_pass : List Test → Type 0
@@ -57,7 +59,7 @@ none_fails (t ∷ ts) h = ap (λ b. cond b (first_failed ts) (Some t.table)) h.0
 
 pub sound : (i : Image) → Passes i → IsSound i
 unfolding first_unsound
-sound i p = none_fails (tests i) (p.links, (p.classes, (p.assets, (p.courses, (p.marks, (p.referents, (p.spans, (p.entered, (p.gone, (p.edits, tt))))))))))
+sound i p = none_fails (tests i) (p.links, (p.classes, (p.assets, (p.courses, (p.marks, (p.referents, (p.spans, (p.entered, (p.gone, (p.edits, (p.origins, tt)))))))))))
 
 -- a sound image has no more edits than there may be
 pub few_edits : (i : Image) → IsSound i → length i.edits ≤ most_edits

@@ -9,20 +9,19 @@ use Rattle.lrs_index.specs.Occupied.{Stretches}
 use Rattle.lrs_desk.specs.Index.{IsIndex}
 use Rattle.lrs_desk.specs.RunOver.{IsOccupiedBy}
 use Rattle.lrs_machine.specs.Sound.{IsSound}
+use Rattle.lrs_desk.specs.Keeping.{HoldsOnly}
 
-pub record DeskView : Type 0 where
+pub record DeskView (K : Type 0) : Type 0 where
   pub image : Image
   pub limits : Limits
   -- whether a commit has failed
   pub must_reopen : Bool
-  -- what the keeper has, and how often its device has failed
-  pub content : Result Image Table
-  pub failures : ℕ
+  pub keeper : K
 
--- The image is sound, its keys and the ground of its routes are indexed, and the keeper has it unless a commit has failed.
-pub record IsWorking (image : Image) (places : FinMap name_cmp ℕ) (occupied : Stretches) (must_reopen : Bool) (content : Result Image Table) (is_loaded : Bool) : Type 0 where
+-- The image is sound, its keys and the ground of its routes are indexed, and an opening finds it and nothing else, unless a commit has failed.
+pub record IsWorking (image : Image) (places : FinMap name_cmp ℕ) (occupied : Stretches) (must_reopen : Bool) (may : Result Image Table → Type 0) (is_loaded : Bool) : Type 0 where
   pub sound : IsSound image
   pub keys : IsIndex places image.edits
   pub routes : IsOccupiedBy occupied image.routes
-  pub kept : must_reopen ≡ false → content ≡ Ok image
+  pub kept : must_reopen ≡ false → HoldsOnly may image
   pub loaded : is_loaded ≡ true

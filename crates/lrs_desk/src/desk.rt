@@ -1,9 +1,10 @@
 //! The desk: it does commands, and keeps what they change.
 
-ghost use Rattle.std.specs.Prelude.{◌≡◌, ◌+◌, ◌≤◌, ◌↔◌, IsTrue, IfOk, IfErr, OnOk, OnErr, Ok, Err, length, true, false, not, None, []};
+ghost use Rattle.std.specs.Prelude.{◌≡◌, ◌+◌, ◌≤◌, ◌↔◌, IsTrue, IfOk, IfErr, OnOk, OnErr, Ok, Err, Result, ℕ, take, length, true, false, not, None, []};
 ghost use Rattle.lrs_measure.specs.Lists.{each_two};
 ghost use Rattle.lrs_measure.specs.Texts.{same_name};
 ghost use Rattle.lrs_machine.specs.declared.table.Table.{Table};
+ghost use Rattle.lrs_machine.specs.declared.image.Image.{Image as ImageRows};
 ghost use Rattle.lrs_desk.specs.Change.{apply};
 ghost use Rattle.lrs_machine.specs.Image.{state_of};
 ghost use Rattle.lrs_machine.specs.Machine.{step, answers, state_after};
@@ -16,7 +17,7 @@ ghost use Rattle.lrs_element.specs.Pieces.{IsFilled};
 ghost use Rattle.std.specs.List.{AllByRecursion};
 ghost use Rattle.std.specs.FinMap as map;
 ghost use Rattle.lrs_machine.specs.Sound.{IsSound};
-ghost use Rattle.lrs_desk.specs.Keeping.{HasRisen, IsOldOrNew};
+ghost use Rattle.lrs_desk.specs.Keeping.{HasRisen, HoldsOnly, HoldsOldOrNew};
 ghost use Rattle.lrs_desk.specs.Desk.{IsUnchanged, HasBroken, records_of};
 
 use crate::change::{Change, Parts};
@@ -71,7 +72,9 @@ pub enum OpenFault {
 fn open_fault(fault: KeepFault) -> OpenFault
     ensures memory { fault ≡ KeepFault.Memory → result ≡ OpenFault.Memory }
     ensures keep { result ≡ OpenFault.Keep → fault ≡ KeepFault.Store }
+    ensures store { fault ≡ KeepFault.Store → result ≡ OpenFault.Keep }
     ensures unsound { (t : Table) → result ≡ OpenFault.Unsound t → fault ≡ KeepFault.Unsound t }
+    ensures named { (t : Table) → fault ≡ KeepFault.Unsound t → result ≡ OpenFault.Unsound t }
 {
     match fault {
         KeepFault::Memory => OpenFault::Memory,
@@ -107,17 +110,16 @@ pub struct Desk<K: Keeper> {
 impl<K: Keeper> Model for Desk<K> {
     ghost use Rattle.lrs_desk.specs.DeskView.{DeskView, IsWorking};
 
-    ghost Value = { DeskView };
+    ghost Value = { DeskView K };
 
     ghost view = { λ d. record {
       image = d.image;
       limits = d.limits;
       must_reopen = d.must_reopen;
-      content = K.content d.keeper;
-      failures = K.failures d.keeper;
+      keeper = d.keeper;
     } };
 
-    ghost invariant = { λ d. IsWorking d.image d.keys d.occupied d.must_reopen (K.content d.keeper) (K.is_loaded d.keeper) };
+    ghost invariant = { λ d. IsWorking d.image d.keys d.occupied d.must_reopen (K.may_hold d.keeper) (K.is_loaded d.keeper) };
 }
 
 impl<K: Keeper> Desk<K> {
@@ -128,13 +130,14 @@ impl<K: Keeper> Desk<K> {
     ///
     /// `Unsound` with the first unsound table of what is kept, `Keep` if the keeper's device failed.
     pub fn open(mut keeper: K, limits: Limits, alloc: Global) -> Result<Desk<K>, (OpenFault, K)>
-        ensures image { IfOk result (λ desk. K.content keeper ≡ Ok desk.image) }
-        ensures content { IfOk result (λ desk. desk.content ≡ K.content keeper) }
+        ensures image { IfOk result (λ desk. HoldsOnly (K.may_hold desk.keeper) desk.image) }
+        ensures content { IfOk result (λ desk. (c : Result ImageRows Table) → K.may_hold desk.keeper c → K.may_hold keeper c) }
         ensures limits { IfOk result (λ desk. desk.limits ≡ limits) }
         ensures open { IfOk result (λ desk. desk.must_reopen ≡ false) }
-        ensures unsound { IfErr result (λ e. (t : Table) → e.0 ≡ OpenFault.Unsound t → K.content keeper ≡ Err t) }
+        ensures unsound { IfErr result (λ e. (t : Table) → e.0 ≡ OpenFault.Unsound t → (c : Result ImageRows Table) → K.may_hold e.1 c → c ≡ Err t) }
         ensures cause { IfErr result (λ e. e.0 ≡ OpenFault.Keep → HasRisen (K.failures keeper) (K.failures e.1)) }
-        ensures err { IfErr result (λ e. K.content e.1 ≡ K.content keeper) }
+        ensures quiet { IfErr result (λ e. (e.0 ≡ OpenFault.Keep → ⊥) → K.failures e.1 ≡ K.failures keeper) }
+        ensures err { IfErr result (λ e. (c : Result ImageRows Table) → K.may_hold e.1 c → K.may_hold keeper c) }
     {
         let image = match keeper.load(alloc) {
             Ok(image) => image,
@@ -167,8 +170,7 @@ impl<K: Keeper> Desk<K> {
 
     /// Gives the keeper back.
     pub fn into_keeper(self) -> K
-        ensures content { K.content result ≡ self.content }
-        ensures failures { K.failures result ≡ self.failures }
+        ensures keeper { result ≡ self.keeper }
     {
         let Desk { keeper, .. } = self;
         keeper
@@ -179,17 +181,17 @@ impl<K: Keeper> Desk<K> {
         // The answer and the next state are the ground machine's.
         ensures answer { IfOk result (λ answer. answer ≡ (step self.old.limits key command.now (state_of self.old.image)).answer) }
         ensures image { OnOk result (state_of self.new.image ≡ (step self.old.limits key command.now (state_of self.old.image)).state) }
-        ensures content { OnOk result (self.new.content ≡ Ok self.new.image) }
+        ensures content { OnOk result (HoldsOnly (K.may_hold self.new.keeper) self.new.image) }
 
         // Want of memory changes nothing.
-        ensures memory { result ≡ Err Fault.Memory → IsUnchanged self.old self.new }
+        ensures memory { result ≡ Err Fault.Memory → IsUnchanged K.may_hold self.old self.new }
 
         // After a failed commit, which only a failure of the device makes, what is kept is the old content or the next state's.
-        ensures keep { result ≡ Err Fault.Keep → HasBroken key command.now self.old self.new }
+        ensures keep { result ≡ Err Fault.Keep → HasBroken K.may_hold K.failures key command.now self.old self.new }
 
         // From then on the desk asks to be opened again, and at no other time.
         ensures reopen { (result ≡ Err Fault.MustReopen) ↔ IsTrue self.old.must_reopen }
-        ensures stays { result ≡ Err Fault.MustReopen → IsUnchanged self.old self.new }
+        ensures stays { result ≡ Err Fault.MustReopen → IsUnchanged K.may_hold self.old self.new }
         ensures limits { self.new.limits ≡ self.old.limits }
         ensures open { OnOk result (self.new.must_reopen ≡ false) }
     {
@@ -239,7 +241,7 @@ fn make<K: Keeper>(
     parts: Parts,
 ) -> Result<Answer, Fault>
     requires loaded { K.is_loaded keeper.old ≡ true }
-    requires kept { K.content keeper.old ≡ Ok image.old }
+    requires kept { HoldsOnly (K.may_hold keeper.old) image.old }
     requires sound { IsSound image.old }
     requires next_sound { IsSound (apply (record { edit = edit; parts = parts }) image.old) }
     requires keys { IsIndex keys.old image.old.edits }
@@ -248,10 +250,10 @@ fn make<K: Keeper>(
     requires dropped { parts.dropped ≡ [] }
     ensures answer { IfOk result (λ answer. answer ≡ Answer.Done (length image.old.edits + 1)) }
     ensures ok { OnOk result (image.new ≡ apply (record { edit = edit; parts = parts }) image.old) }
-    ensures ok_kept { OnOk result (K.content keeper.new ≡ Ok (apply (record { edit = edit; parts = parts }) image.old)) }
+    ensures ok_kept { OnOk result (HoldsOnly (K.may_hold keeper.new) (apply (record { edit = edit; parts = parts }) image.old)) }
     ensures err { OnErr result (image.new ≡ image.old) }
-    ensures memory { result ≡ Err Fault.Memory → K.content keeper.new ≡ K.content keeper.old }
-    ensures store { result ≡ Err Fault.Keep → IsOldOrNew (record { edit = edit; parts = parts }) (K.content keeper.new) image.old }
+    ensures memory { result ≡ Err Fault.Memory → (c : Result ImageRows Table) → K.may_hold keeper.new c → K.may_hold keeper.old c }
+    ensures store { result ≡ Err Fault.Keep → HoldsOldOrNew (record { edit = edit; parts = parts }) (K.may_hold keeper.new) image.old }
     ensures cause { result ≡ Err Fault.Keep → HasRisen (K.failures keeper.old) (K.failures keeper.new) }
     ensures only { result ≡ Err Fault.MustReopen → ⊥ }
     ensures loaded { K.is_loaded keeper.new ≡ true }
@@ -312,7 +314,8 @@ fn commit_fault(fault: KeepFault) -> Fault
 }
 
 /// Does commands under keys, one after the other. The answers and the image are those of the ground
-/// machine over the list, unless a fault ends the run; a key that was accepted before acts no more.
+/// machine over the list; a key that was accepted before acts no more. A fault ends the run, and the image
+/// is then that of some first commands of the list.
 pub fn run<K: Keeper>(
     desk: &mut Desk<K>,
     records: &[(Key, Planned)],
@@ -320,6 +323,9 @@ pub fn run<K: Keeper>(
 ) -> Result<Vec<Answer>, Fault>
     ensures answers { IfOk result (λ given. given.items ≡ answers desk.old.limits (records_of records.now) (state_of desk.old.image)) }
     ensures image { OnOk result (state_of desk.new.image ≡ state_after desk.old.limits (records_of records.now) (state_of desk.old.image)) }
+    ensures front { (k : ℕ) × (state_of desk.new.image ≡ state_after desk.old.limits (records_of (take k records.now)) (state_of desk.old.image)) }
+    ensures limits { desk.new.limits ≡ desk.old.limits }
+    ensures reopen { OnOk result (desk.new.must_reopen ≡ desk.old.must_reopen) }
     ensures once { OnOk result (state_of desk.new.image ≡ state_after desk.old.limits (once desk.old.limits (records_of records.now) (state_of desk.old.image)) (state_of desk.old.image)) }
 {
     let mut given = Vec::new(alloc);

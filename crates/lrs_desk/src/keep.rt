@@ -1,9 +1,10 @@
 //! A change of an image, here and in what is kept.
 
-ghost use Rattle.std.specs.Prelude.{◌≡◌, OnOk, OnErr, Ok, Err, true};
+ghost use Rattle.std.specs.Prelude.{◌≡◌, OnOk, OnErr, Ok, Err, true, Result};
+ghost use Rattle.lrs_machine.specs.declared.image.Image.{Image as ImageRows};
 ghost use Rattle.lrs_desk.specs.Change.{apply};
 ghost use Rattle.lrs_machine.specs.Sound.{IsSound};
-ghost use Rattle.lrs_desk.specs.Keeping.{HasRisen, IsOldOrNew};
+ghost use Rattle.lrs_desk.specs.Keeping.{HasRisen, HoldsOnly, HoldsOldOrNew};
 ghost use Rattle.lrs_desk.specs.Opened.{image_of};
 ghost use Rattle.lrs_machine.specs.declared.table.Table.{Table};
 
@@ -27,14 +28,14 @@ impl From<AllocError> for KeepFault {
 /// fails after the commit.
 pub fn keep<K: Keeper>(image: &mut Image, keeper: &mut K, change: Change) -> Result<(), KeepFault>
     requires loaded { K.is_loaded keeper.old ≡ true }
-    requires kept { K.content keeper.old ≡ Ok image.old }
+    requires kept { HoldsOnly (K.may_hold keeper.old) image.old }
     requires sound { IsSound image.old }
     requires next_sound { IsSound (apply change image.old) }
     ensures ok { OnOk result (image.new ≡ apply change image.old) }
-    ensures ok_kept { OnOk result (K.content keeper.new ≡ Ok (apply change image.old)) }
+    ensures ok_kept { OnOk result (HoldsOnly (K.may_hold keeper.new) (apply change image.old)) }
     ensures err { OnErr result (image.new ≡ image.old) }
-    ensures memory { result ≡ Err KeepFault.Memory → K.content keeper.new ≡ K.content keeper.old }
-    ensures store { result ≡ Err KeepFault.Store → IsOldOrNew change (K.content keeper.new) image.old }
+    ensures memory { result ≡ Err KeepFault.Memory → (c : Result ImageRows Table) → K.may_hold keeper.new c → K.may_hold keeper.old c }
+    ensures store { result ≡ Err KeepFault.Store → HoldsOldOrNew change (K.may_hold keeper.new) image.old }
     ensures cause { result ≡ Err KeepFault.Store → HasRisen (K.failures keeper.old) (K.failures keeper.new) }
     ensures only { (t : Table) → result ≡ Err (KeepFault.Unsound t) → ⊥ }
     ensures loaded { K.is_loaded keeper.new ≡ true }
@@ -48,14 +49,14 @@ pub fn keep<K: Keeper>(image: &mut Image, keeper: &mut K, change: Change) -> Res
 // Makes a change of the lists after the commit.
 fn commit<K: Keeper>(lists: &mut OpenImage, keeper: &mut K, change: Change) -> Result<(), KeepFault>
     requires loaded { K.is_loaded keeper.old ≡ true }
-    requires kept { K.content keeper.old ≡ Ok (image_of lists.old) }
+    requires kept { HoldsOnly (K.may_hold keeper.old) (image_of lists.old) }
     requires sound { IsSound (image_of lists.old) }
     requires next_sound { IsSound (apply change (image_of lists.old)) }
     ensures ok { OnOk result (image_of lists.new ≡ apply change (image_of lists.old)) }
-    ensures ok_kept { OnOk result (K.content keeper.new ≡ Ok (apply change (image_of lists.old))) }
+    ensures ok_kept { OnOk result (HoldsOnly (K.may_hold keeper.new) (apply change (image_of lists.old))) }
     ensures err { OnErr result (image_of lists.new ≡ image_of lists.old) }
-    ensures memory { result ≡ Err KeepFault.Memory → K.content keeper.new ≡ K.content keeper.old }
-    ensures store { result ≡ Err KeepFault.Store → IsOldOrNew change (K.content keeper.new) (image_of lists.old) }
+    ensures memory { result ≡ Err KeepFault.Memory → (c : Result ImageRows Table) → K.may_hold keeper.new c → K.may_hold keeper.old c }
+    ensures store { result ≡ Err KeepFault.Store → HoldsOldOrNew change (K.may_hold keeper.new) (image_of lists.old) }
     ensures cause { result ≡ Err KeepFault.Store → HasRisen (K.failures keeper.old) (K.failures keeper.new) }
     ensures only { (t : Table) → result ≡ Err (KeepFault.Unsound t) → ⊥ }
     ensures loaded { K.is_loaded keeper.new ≡ true }

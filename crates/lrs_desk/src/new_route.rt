@@ -15,11 +15,11 @@ ghost use Rattle.lrs_desk.specs.RunOver.{IsOccupiedBy};
 use crate::change::{Parts, no_parts};
 use crate::routes::place_of;
 use lrs_element::{Course, CourseFault, Mark, MarkFault, Marks, Piece};
-use lrs_events::Spans;
 use lrs_index::OccupiedGround;
 use lrs_machine::{Cause, Image, MarkList, PieceList, RouteEntry};
 use lrs_measure::Rows;
 use lrs_position::{Route, RouteName};
+use lrs_spans::Spans;
 use std::alloc::{AllocError, Global};
 
 /// What a new route would change, or the first check of its verb that fails.

@@ -48,9 +48,14 @@ impl Plain {
 }
 
 impl Keeper for Plain {
-    ghost use Rattle.std.specs.Prelude.{Ok, true};
+    ghost use Rattle.std.specs.Prelude.{◌≡◌, Ok, true, ⊤};
+    ghost use Rattle.lrs_desk.specs.Keeping.{finds_kept};
 
-    ghost content = { λ plain. Ok plain };
+    ghost may_hold = { λ plain c. c ≡ Ok plain };
+
+    ghost is_clean = { λ plain. ⊤ };
+
+    ghost finds = { λ plain clean. finds_kept plain };
 
     ghost is_loaded = { λ plain. true };
 

@@ -14,7 +14,7 @@ use Rattle.lrs_element.specs.Pieces.{ground_of, piece_len, IsFilled, Continues}
 use Rattle.lrs_element.proofs.Expanding.{length-expand, get_or-expand}
 
 -- a new run begins at h after g: one piece more
-abbrev breaks : Ground → Ground → ℕ
+abbrev pub breaks : Ground → Ground → ℕ
 breaks g h = if continues g h then 0 else 1
 
 piece_count-cons : (g h : Ground) (rest : List Ground) → piece_count (g ∷ h ∷ rest) ≡ piece_count (h ∷ rest) + breaks g h
@@ -23,7 +23,7 @@ piece_count-cons g h rest =
     [ true ↦ omega arith | false ↦ refl ]
 
 -- the count of two courses, one after the other
-piece_count-append : (xs ys : List Ground) (n : ℕ) (d : Ground) → length xs ≡ n + 1 → 0 < length ys
+pub piece_count-append : (xs ys : List Ground) (n : ℕ) (d : Ground) → length xs ≡ n + 1 → 0 < length ys
     → piece_count (xs ++ ys) + 1 ≡ piece_count xs + breaks (get_or xs n d) (get_or ys 0 d) + piece_count ys
 piece_count-append [] ys n d l h = absurd (omega arith)
 piece_count-append (x ∷ xs) [] n d l h = absurd (omega arith)
@@ -59,7 +59,7 @@ step_continues false a b k h = eq-eqb _ _ (omega arith)
 ground_continues : (p : Piece) (k : ℕ) → suc k < piece_len p → continues (ground_of p k) (ground_of p (suc k)) ≡ true
 ground_continues p k h = and_from _ _ (and_from _ _ (eq-eqb p.link p.link refl) (same_bool-refl p.forward)) (step_continues p.forward p.a p.b k h)
 
-piece_count-expand : (p : Piece) → IsFilled p → piece_count (expand p) ≡ 1
+pub piece_count-expand : (p : Piece) → IsFilled p → piece_count (expand p) ≡ 1
 piece_count-expand p f = piece_count_run (expand p) (let z : p.a < p.b = f in omega (arith, length-expand p))
     (λ k d lt.
     let i : suc k < piece_len p = omega (arith, length-expand p) in

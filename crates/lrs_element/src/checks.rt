@@ -94,7 +94,10 @@ fn sorted_by_start(alloc: Global, pieces: &[Piece]) -> Result<Vec<Piece>, AllocE
 /// Whether two of the pieces share a millimetre.
 ///
 /// A sort by link and start brings two that do side by side.
-fn have_repeat(alloc: Global, pieces: &[Piece]) -> Result<bool, AllocError>
+///
+/// # Errors
+/// When memory runs out.
+pub fn have_repeat(alloc: Global, pieces: &[Piece]) -> Result<bool, AllocError>
     requires { AllByRecursion IsFilled pieces.now }
     ensures { IfOk result (λ repeat. repeat ≡ is_some (first_repeated [] pieces.now)) }
 {

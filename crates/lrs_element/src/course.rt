@@ -225,6 +225,7 @@ impl Course {
     pub fn pieces(&self) -> &[Piece]
         ensures course { course_of result.now ≡ self.now }
         ensures fewest { IsFewest result.now }
+        ensures limits { is_too_long self.now ≡ false }
     {
         self.pieces.as_slice()
     }

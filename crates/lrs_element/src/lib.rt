@@ -10,9 +10,11 @@ mod link;
 mod marks;
 mod pieces;
 
+pub use checks::have_repeat;
 pub use course::{Course, CourseFault, JoinFault};
 pub use link::{Ground, Link, Piece};
 pub use marks::{Mark, MarkFault, Marks};
+pub use pieces::{starts_of, starts_up_to};
 
 #[cfg(test)]
 mod refused;

@@ -36,7 +36,7 @@ impl Piece {
     ghost use Rattle.lrs_element.specs.Pieces.{piece_len, ground_of, pieces_meet, Continues, IsFilled};
 
     /// How many millimetres the piece has.
-    pub(crate) fn len(self) -> u64
+    pub fn len(self) -> u64
         requires { IsFilled self }
         ensures len { result ≡ piece_len self }
         ensures small { result < 2 ^ 32 }

@@ -115,8 +115,11 @@ pub(crate) fn turned_pieces(alloc: Global, pieces: &[Piece]) -> Result<Vec<Piece
     Ok(out)
 }
 
-/// Where each piece starts, and how long they are together.
-pub(crate) fn starts_of(alloc: Global, pieces: &[Piece]) -> Result<(Vec<u64>, u64), AllocError>
+/// Where each piece starts, and how long they are together, in millimetres.
+///
+/// # Errors
+/// When memory runs out.
+pub fn starts_of(alloc: Global, pieces: &[Piece]) -> Result<(Vec<u64>, u64), AllocError>
     requires filled { AllByRecursion IsFilled pieces.now }
     requires few { length pieces.now ≤ most_pieces }
     ensures starts { IfOk result (λ made. AreStarts made.0.items pieces.now) }
@@ -132,7 +135,7 @@ pub(crate) fn starts_of(alloc: Global, pieces: &[Piece]) -> Result<(Vec<u64>, u6
 }
 
 /// How many of the starts are not behind entry `j`.
-pub(crate) fn starts_up_to(starts: &[u64], j: u64) -> usize
+pub fn starts_up_to(starts: &[u64], j: u64) -> usize
     requires { IsNonDecreasing starts.now }
     ensures bound { result ≤ length starts.now }
     ensures up_to { (k : ℕ) → k < result → slice_index starts.now k ≤ j }

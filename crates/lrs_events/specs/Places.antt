@@ -1,8 +1,8 @@
 -- Places: a millimetre of a link and a side of it, seen along the link (ISO 19148: linear element, lateral offset).
-use Rattle.std.specs.Prelude.{ℕ, Bool, true, false, ◌&&◌, nat_eq, List, [], ◌∷◌}
+use Rattle.std.specs.Prelude.{ℕ, Bool, true, false, ◌&&◌, not, nat_eq, List, [], ◌∷◌}
 use Rattle.std.specs.List.{range_with_len, list_any, flat_map}
 use Rattle.lrs_element.specs.declared.link.Ground.{Ground}
-use Rattle.lrs_element.specs.Course.{runs_over}
+use Rattle.lrs_element.specs.Course.{is_at, runs_over}
 use Rattle.lrs_events.specs.declared.side.Side.{Side}
 use Rattle.lrs_events.specs.declared.side.Side.TheVariants.{L, R, B}
 use Rattle.lrs_events.specs.declared.side.LinkSide.{LinkSide}
@@ -56,3 +56,7 @@ lies_on course p = runs_over course (p.link, p.mm)
 -- both places of each millimetre of a link, by its number and length
 abbrev pub places_of_link : ℕ → ℕ → List Place
 places_of_link number length = flat_map (λ k. record { link = number; mm = k; side = Left } ∷ record { link = number; mm = k; side = Right } ∷ []) (range_with_len 0 length)
+
+-- two entries of a course are not at one millimetre
+abbrev pub differs : Ground → Ground → Bool
+differs g h = not (is_at (g.link, g.mm) h)

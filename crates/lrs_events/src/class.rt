@@ -6,6 +6,7 @@ ghost use Rattle.lrs_events.specs.Names;
 
 use lrs_measure::Text;
 use lrs_measure::alphabet::{are_capitals, are_word_bytes, has_length, is_lone_dash};
+use std::fmt;
 use std::marker::Model;
 
 fn is_class_name(bytes: &[u8]) -> bool
@@ -63,6 +64,19 @@ impl ClassName {
     }
 }
 
+impl fmt::Display for ClassName {
+    ghost use Rattle.std.specs.Prelude.{Some};
+
+    ghost output = { λ name. Some name };
+
+    fn fmt<W: fmt::Write>(&self, f: &mut fmt::Formatter<W>) -> fmt::Result {
+        match str::from_utf8(self.bytes()) {
+            Ok(text) => f.write_str(text),
+            Err(_) => Err(fmt::Error),
+        }
+    }
+}
+
 /// What an asset tells of the places that it holds: 1 to 12 bytes of `A-Za-z0-9._-`, not `-` alone.
 #[derive(Clone, Copy, Debug, PartialEq, Eq, PartialOrd, Ord)]
 pub struct Value {
@@ -106,6 +120,19 @@ impl Value {
     }
 }
 
+impl fmt::Display for Value {
+    ghost use Rattle.std.specs.Prelude.{Some};
+
+    ghost output = { λ value. Some value };
+
+    fn fmt<W: fmt::Write>(&self, f: &mut fmt::Formatter<W>) -> fmt::Result {
+        match str::from_utf8(self.bytes()) {
+            Ok(text) => f.write_str(text),
+            Err(_) => Err(fmt::Error),
+        }
+    }
+}
+
 /// Where the assets of a class lie: at points, over stretches, or over stretches of which no two of the
 /// class lie on one place.
 #[derive(Clone, Copy, Debug, PartialEq, Eq)]
@@ -115,6 +142,21 @@ pub enum Kind {
     Exclusive,
 }
 
+impl fmt::Display for Kind {
+    ghost use Rattle.std.specs.Prelude.{Some};
+    ghost use Rattle.lrs_events.specs.Names.{kind_text};
+
+    ghost output = { λ kind. Some (kind_text kind) };
+
+    fn fmt<W: fmt::Write>(&self, f: &mut fmt::Formatter<W>) -> fmt::Result {
+        match self {
+            Kind::Point => f.write_str("point"),
+            Kind::Stretch => f.write_str("stretch"),
+            Kind::Exclusive => f.write_str("exclusive"),
+        }
+    }
+}
+
 /// A class of assets.
 #[derive(Clone, Copy, Debug, PartialEq, Eq)]
 pub struct Class {
@@ -122,11 +164,13 @@ pub struct Class {
     pub kind: Kind,
 }
 
-/// An asset of the inventory. Its lateral offset is in millimetres from the linear element.
+/// An asset of the inventory. Its lateral offset is in millimetres from the linear element; its entry is the
+/// number of the edit that entered it.
 #[derive(Clone, Copy, Debug, PartialEq, Eq)]
 pub struct Asset {
     pub number: u64,
     pub class: ClassName,
     pub value: Value,
     pub lateral: u32,
+    pub entry: u64,
 }

@@ -13,5 +13,5 @@ mod span;
 pub use change::SpanChange;
 pub use class::{Asset, Class, ClassName, Kind, Value};
 pub use part::{Gone, Part};
-pub use side::{LinkSide, Side};
-pub use span::{Span, Spans};
+pub use side::{LinkSide, Side, read_side};
+pub use span::Span;

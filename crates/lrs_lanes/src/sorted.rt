@@ -1,7 +1,7 @@
 //! Rows in order, changed in vectors that have room.
 
-ghost use Rattle.std.specs.Prelude.{◌≡◌, ◌+◌, ◌<◌, ◌≤◌, ◌∷◌, ◌++◌, true, false, not, length, vec_len, vec_capacity, take};
-ghost use Rattle.std.specs.List.{insert, filter, list_all};
+ghost use Rattle.std.specs.Prelude.{◌≡◌, ◌+◌, ◌<◌, ◌≤◌, ◌++◌, true, false, not, length, vec_len, vec_capacity};
+ghost use Rattle.std.specs.List.{insert, filter};
 ghost use Rattle.std.specs.List.Sorted.{IsPartitionPoint, IsPermutation, IsSortedBy};
 ghost use Rattle.lrs_measure.specs.Lists.{each_two};
 ghost use Rattle.lrs_measure.specs.Ordered.{place_by, insert_by, insert_all};

@@ -33,7 +33,7 @@ use Rattle.lrs_machine.specs.Machine.{next, check_room, accept, outcome_of, step
 use Rattle.lrs_machine.specs.Laws.{IsBalanced, IsLawful, StepKeepsLaws, RunsAreLawful}
 use Rattle.lrs_machine.proofs.Checks.{behind, bind, bind_known, unless, unless_at, given}
 use Rattle.lrs_machine.proofs.Registers.{got_after, known_after, known_if_some, fails_where_none}
-use Rattle.lrs_machine.proofs.Ledgers.{Fits, fits_away, IsClear, fits_entering, among_passes}
+use Rattle.lrs_machine.proofs.Ledgers.{Fits, fits_away, IsClear, fits_entering, among_passes, place_beside}
 
 -- The next state is lawful with edit n as the last that its ledgers name, and keeps the list of edits.
 record Follows (n : ℕ) (s t : State) : Type 0 where
@@ -63,6 +63,8 @@ beside_assets n s links routes referents h = record {
   class_known = h.class_known;
   entered_done = h.entered_done;
   gone_done = h.gone_done;
+  by_entry = h.by_entry;
+  was_entered = h.was_entered;
 }
 
 -- A new class: no asset is of it yet.
@@ -75,22 +77,25 @@ new_class n s name kind unknown h = record {
   class_known = λ a x got. known_after nat_list_cmp_total exact_bytes s.classes name x.class kind (h.class_known a x got);
   entered_done = h.entered_done;
   gone_done = h.gone_done;
+  by_entry = h.by_entry;
+  was_entered = h.was_entered;
 }
 
 same_class : (a b : Name) → a ≡ b → same_name a b ≡ true
 same_class a b is = subst (λ c. same_name a c ≡ true) is (nat_list_eq_equiv.refl a)
 
--- what an entry's checks leave: the asset is new, and its class known
+-- what an entry's checks leave: the asset is new, its class known, and some place is asked for
 record Asked (s : State) (e : Entry) (test : Kind → Bool) (w : Wanted) : Type 0 where
   pub new : contains_key s.assets e.asset ≡ false
   pub kind : get s.classes e.class ≡ Some w.kind
   pub passes : test w.kind ≡ false
+  pub some : (p : Place) × (is_among w.places p ≡ true)
 
 asked : (test : Kind → Bool) (e : Entry) (s : State) → IfOk (wanted_of test e s) (Asked s e test)
 asked test e s =
     unless _ (contains_key s.assets e.asset) _ _ (λ new. bind _ (ok_or (get s.classes e.class) cause.NoClass) _ (λ kind is. bind _ (route_named s e.route) _ (λ a _.
-    unless _ (is_wrong_kind kind e.location.to || test kind) _ _ (λ right. bind _ (extent_of s a e.location) _ (λ extent _. unless _ (is_empty_extent extent) _ _ (λ _.
-    record { new = new; kind = given _ _ kind is; passes = (or_parts (is_wrong_kind kind e.location.to) (test kind) right).1 }))))))
+    unless _ (is_wrong_kind kind e.location.to || test kind) _ _ (λ right. bind _ (extent_of s a e.location) _ (λ extent _. unless _ (is_nothing (part_of a.course extent)) _ _ (λ some.
+    record { new = new; kind = given _ _ kind is; passes = (or_parts (is_wrong_kind kind e.location.to) (test kind) right).1; some = place_beside e.side _ some }))))))
 
 module _ (n : ℕ) (s : State) (low : 1 ≤ n) (h : Fits n s) where
   abbrev Goes : State → Type 0
@@ -98,12 +103,12 @@ module _ (n : ℕ) (s : State) (low : 1 ≤ n) (h : Fits n s) where
 
   -- an asset is entered where no other of its class stands in the way
   entered : (e : Entry) (places : List Place) (t : State) → Fits n t → t.done ≡ s.done → contains_key t.assets e.asset ≡ false → contains_key t.classes e.class ≡ true
-      → IsClear n e.asset (record { class = e.class; value = e.value; lateral = e.offset }) places t → Goes (enter_asset n e places t)
-  entered e places t fits same new class clear = record { fits = fits_entering n e.asset _ places t fits new clear low class; done = same }
+      → IsClear n e.asset (record { class = e.class; value = e.value; lateral = e.offset; entry = n }) places t → (p : Place) × (is_among places p ≡ true) → Goes (enter_asset n e places t)
+  entered e places t fits same new class clear some = record { fits = fits_entering n e.asset _ places t fits new clear low class refl some; done = same }
 
   -- where nothing of the class was found to hold the places, nothing stands in the way
   clear_if_none : (e : Entry) (w : Wanted) → get s.classes e.class ≡ Some w.kind → (if is_exclusive w.kind then first_holder s e.class w.places else None) ≡ None
-      → IsClear n e.asset (record { class = e.class; value = e.value; lateral = e.offset }) w.places s
+      → IsClear n e.asset (record { class = e.class; value = e.value; lateral = e.offset; entry = n }) w.places s
   clear_if_none e w kind none b y p got same exclusive held among = both_ways (same_name y.class e.class && list_any (s.holds b) w.places) fails passes
     where
       is : w.kind ≡ Exclusive
@@ -123,14 +128,14 @@ module _ (n : ℕ) (s : State) (low : 1 ≤ n) (h : Fits n s) where
   do_enter_fits : (e : Entry) → IfOk (do_enter n e s) Goes
   do_enter_fits e = bind_known _ (Asked s e (λ kind. false)) (wanted_of (λ kind. false) e s) _ (asked (λ kind. false) e s) (λ w is.
       unless_at _ (if is_exclusive w.kind then first_holder s e.class w.places else None) _ _ (λ none.
-      entered e w.places s h refl is.new (known_if_some _ _ is.kind) (clear_if_none e w is.kind none)))
+      entered e w.places s h refl is.new (known_if_some _ _ is.kind) (clear_if_none e w is.kind none) is.some))
 
   do_supersede_fits : (e : Entry) → IfOk (do_supersede n e s) Goes
   do_supersede_fits e = let other : Kind → Bool = λ kind. not (is_exclusive kind) in bind_known _ (Asked s e other) (wanted_of other e s) _ (asked other e s) (λ w is.
       let taken : ℕ → Place → Bool = λ a p. is_of_class s e.class a && is_among w.places p in
       entered e w.places (take_away n Retired taken s) (fits_away n Retired taken s low h) refl is.new (known_if_some _ _ is.kind) (λ b y p got same exclusive held among.
       both_ways (taken b p) (not-true (taken b p) (and_parts (s.holds b p) (not (taken b p)) held).1)
-      (and_from _ _ (ap (λ o. option_map_or (λ (a : Asset). same_name a.class e.class) o false) got ∙ same_class y.class e.class same) among)))
+      (and_from _ _ (ap (λ o. option_map_or (λ (a : Asset). same_name a.class e.class) o false) got ∙ same_class y.class e.class same) among)) is.some)
 
   -- a change of links, routes or referents
   only_beside : (links : Register nat_cmp ℕ) (routes : Register name_cmp Alignment) (referents : Name → Option Millimetre)
@@ -184,6 +189,8 @@ fits_next s h = record {
   class_known = h.named.class_known;
   entered_done = λ m a p e. let is = h.named.entered_done m a p e in (is.0, le_trans is.1 (omega arith));
   gone_done = λ m a why p g. let is = h.named.gone_done m a why p g in (is.0, le_trans is.1 (omega arith));
+  by_entry = h.named.by_entry;
+  was_entered = h.named.was_entered;
 }
 
 -- and is lawful again when that edit is kept
@@ -196,6 +203,8 @@ accept_lawful key command s t h = record {
     class_known = h.fits.class_known;
     entered_done = λ m a p e. within m (h.fits.entered_done m a p e);
     gone_done = λ m a why p g. within m (h.fits.gone_done m a why p g);
+    by_entry = h.fits.by_entry;
+    was_entered = h.fits.was_entered;
   };
 }
   where
@@ -236,6 +245,8 @@ nothing_lawful = record {
     class_known = λ a x got. absurd (false≢true (known_if_some None x got));
     entered_done = λ m a p e. absurd (false≢true e);
     gone_done = λ m a why p g. absurd (false≢true g);
+    by_entry = λ m a x p got e. absurd (false≢true e);
+    was_entered = λ a x got. absurd (false≢true (known_if_some None x got));
   };
 }
 

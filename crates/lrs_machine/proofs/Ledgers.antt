@@ -8,11 +8,16 @@ use Rattle.std.proofs.lemmas.Map.Lookups.{exact_unsigned}
 use Rattle.lrs_events.specs.declared.class.Kind.TheVariants.{Exclusive}
 use Rattle.lrs_events.specs.declared.side.LinkSide.{LinkSide}
 use Rattle.lrs_events.specs.declared.side.LinkSide.TheVariants.{Left, Right}
-use Rattle.lrs_events.specs.Places.{Place, same_link_side, same_place, is_among}
+use Rattle.lrs_events.specs.declared.side.Side.{Side}
+use Rattle.lrs_events.specs.declared.side.Side.TheVariants.{L, R, B}
+use Rattle.lrs_events.specs.Places.{Place, same_link_side, same_place, is_among, beside, places_on}
+use Rattle.lrs_element.specs.declared.link.Ground.{Ground}
+use Rattle.lrs_measure.specs.Lists.{is_nothing}
 use Rattle.lrs_machine.specs.Register.{get, insert, contains_key}
 use Rattle.lrs_machine.specs.State.{State, Asset, Reason, Retired, Abandoned, same_reason}
 use Rattle.lrs_machine.specs.Machine.{take_away, enter_places}
 use Rattle.lrs_machine.specs.Laws.{IsBalanced, IsExclusive}
+use Rattle.lrs_machine.proofs.Pairs.{is_same_side}
 use Rattle.lrs_machine.proofs.Registers.{got_after, known_after, known_new, known_if_some}
 
 -- The state is lawful, with n as the last edit that its ledgers may name.
@@ -23,6 +28,8 @@ pub record Fits (n : ℕ) (s : State) : Type 0 where
   pub class_known : (a : ℕ) (x : Asset) → get s.assets a ≡ Some x → contains_key s.classes x.class ≡ true
   pub entered_done : (m asset : ℕ) (p : Place) → s.entered m asset p ≡ true → (1 ≤ m) × (m ≤ n)
   pub gone_done : (m asset : ℕ) (why : Reason) (p : Place) → s.gone m why asset p ≡ true → (1 ≤ m) × (m ≤ n)
+  pub by_entry : (m a : ℕ) (x : Asset) (p : Place) → get s.assets a ≡ Some x → s.entered m a p ≡ true → m ≡ x.entry
+  pub was_entered : (a : ℕ) (x : Asset) → get s.assets a ≡ Some x → (p : Place) × (s.entered x.entry a p ≡ true)
 
 -- two reasons that pass the test are one
 reason_is : (a b : Reason) → same_reason a b ≡ true → a ≡ b
@@ -71,6 +78,16 @@ among_passes test (q ∷ places) p h passes =
     ⊎_elim (λ here. or_left (test q) (list_any test places) (subst (λ x. test x ≡ true) (place_is p q here) passes))
     (λ later. or_right (test q) (list_any test places) (among_passes test places p later passes)) (or_cases (same_place p q) (is_among places p) h)
 
+place_same : (p : Place) → same_place p p ≡ true
+place_same p = three_of _ _ _ (eq-eqb p.link p.link refl) (eq-eqb p.mm p.mm refl) (is_same_side p.side p.side refl)
+
+-- A course that has an entry has a place beside it.
+pub place_beside : (side : Side) (course : List Ground) → is_nothing course ≡ false → (p : Place) × (is_among (places_on side course) p ≡ true)
+place_beside side [] h = absurd (false≢true (sym h))
+place_beside L (g ∷ course) h = (beside g Left, or_left _ _ (place_same (beside g Left)))
+place_beside R (g ∷ course) h = (beside g Right, or_left _ _ (place_same (beside g Right)))
+place_beside B (g ∷ course) h = (beside g Left, or_left _ _ (place_same (beside g Left)))
+
 -- What is held is taken away: all stays in order, and the edit is named.
 module _ (n : ℕ) (reason : Reason) (taken : ℕ → Place → Bool) (s : State) where
   abbrev goes : ℕ → Reason → ℕ → Place → Bool
@@ -115,6 +132,8 @@ module _ (n : ℕ) (reason : Reason) (taken : ℕ → Place → Bool) (s : State
     entered_done = h.entered_done;
     gone_done = λ m a why p g. ⊎_elim (h.gone_done m a why p) (λ new. let e : m ≡ n = (parts m why a p new).0 in (omega arith, omega arith))
         (or_cases (s.gone m why a p) (goes m why a p) g);
+    by_entry = h.by_entry;
+    was_entered = h.was_entered;
   }
 
 -- A new asset comes to hold places: all stays in order if no asset of its class holds them, where the class is exclusive.
@@ -202,8 +221,21 @@ module _ (n asset : ℕ) (x : Asset) (places : List Place) (s : State) where
           by (inr ga) (inl j) = sym (meets_none b a y z p j.0 j.1 ga (sym same) (subst (λ c. get s.classes c ≡ Some Exclusive) same kind) hb ha)
           by (inr ga) (inr gb) = old ga gb (or_cases (s.holds a p) (comes a p) ha) (or_cases (s.holds b p) (comes b p) hb)
 
-      pub fits_entering : 1 ≤ n → contains_key s.classes x.class ≡ true → Fits n entering
-      fits_entering low class = record {
+      by_entry : (m a : ℕ) (y : Asset) (p : Place) → x.entry ≡ n → ((a ≡ asset) × (y ≡ x)) ⊎ (get s.assets a ≡ Some y) → (s.entered m a p ≡ true) ⊎ (writes m a p ≡ true) → m ≡ y.entry
+      by_entry m a y p own (inl new) (inl old) = absurd (never_entered m a p new.0 old)
+      by_entry m a y p own (inl new) (inr e) = (asset_of m a p e).0 ∙ sym own ∙ ap (λ (z : Asset). z.entry) (sym new.1)
+      by_entry m a y p own (inr got) (inl old) = h.by_entry m a y p got old
+      by_entry m a y p own (inr got) (inr e) = absurd (never_known a y (asset_of m a p e).1 got)
+
+      was_entered : (a : ℕ) (y : Asset) → x.entry ≡ n → (p : Place) × (is_among places p ≡ true) → ((a ≡ asset) × (y ≡ x)) ⊎ (get s.assets a ≡ Some y)
+          → (p : Place) × ((s.entered y.entry a p || writes y.entry a p) ≡ true)
+      was_entered a y own some (inl new) =
+          let is : y.entry ≡ n = ap (λ (z : Asset). z.entry) new.1 ∙ own in
+          (some.0, or_right (s.entered y.entry a some.0) (writes y.entry a some.0) (three_of _ _ _ (eq-eqb y.entry n is) (eq-eqb a asset new.0) some.1))
+      was_entered a y own some (inr got) = let e = h.was_entered a y got in (e.0, or_left (s.entered y.entry a e.0) (writes y.entry a e.0) e.1)
+
+      pub fits_entering : 1 ≤ n → contains_key s.classes x.class ≡ true → x.entry ≡ n → (p : Place) × (is_among places p ≡ true) → Fits n entering
+      fits_entering low class own some = record {
         balanced = balanced_entering;
         exclusive = exclusive_entering;
         asset_known = λ m a p e. ⊎_elim (λ old. known_after nat_cmp_total exact_unsigned s.assets asset a x (h.asset_known m a p old))
@@ -213,4 +245,6 @@ module _ (n asset : ℕ) (x : Asset) (places : List Place) (s : State) where
         entered_done = λ m a p e. ⊎_elim (λ old. h.entered_done m a p old) (λ new. let is : m ≡ n = (asset_of m a p new).0 in (omega arith, omega arith))
             (or_cases (s.entered m a p) (writes m a p) e);
         gone_done = h.gone_done;
+        by_entry = λ m a y p got e. by_entry m a y p own (found a y got) (or_cases (s.entered m a p) (writes m a p) e);
+        was_entered = λ a y got. was_entered a y own some (found a y got);
       }

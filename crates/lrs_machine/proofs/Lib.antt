@@ -15,3 +15,4 @@ pub mod ListTexts
 pub mod LinesApart
 pub mod Ascii
 pub mod Words
+pub mod Between

@@ -29,7 +29,7 @@ same_side_is Left Right h = absurd (false≢true h)
 same_side_is Right Left h = absurd (false≢true h)
 same_side_is Right Right h = refl
 
-is_same_side : (s t : LinkSide) → s ≡ t → same_link_side s t ≡ true
+pub is_same_side : (s t : LinkSide) → s ≡ t → same_link_side s t ≡ true
 is_same_side Left t e = ap (same_link_side Left) (sym e)
 is_same_side Right t e = ap (same_link_side Right) (sym e)
 

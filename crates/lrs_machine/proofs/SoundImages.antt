@@ -1,11 +1,11 @@
 -- A sound image stands for a lawful state.
 use Rattle.std.proofs.Common.{◌≡◌, ℕ, ◌≤◌, Bool, true, false, cond, ◌⊎◌, inl, inr, List, [], ◌∷◌, map, length, Some, None, refl, sym, ap, subst, ◌∙◌, arith}
-use Rattle.std.specs.Prelude.{◌&&◌, not, is_some, nat_eq, nat_le}
+use Rattle.std.specs.Prelude.{◌&&◌, ◌||◌, not, is_some, nat_eq, nat_le}
 use Rattle.std.specs.List.{list_any, list_all}
 use Rattle.std.specs.Ordering.{nat_cmp}
 use Rattle.std.specs.Cmp.Lexicographic.{bytes_decides, nat_list_cmp_total}
 use Rattle.std.specs.FinMap.{find}
-use Rattle.std.proofs.lemmas.Bool.{false≢true, both_ways, not-true, and_parts, and_from, or_cases, leb-true}
+use Rattle.std.proofs.lemmas.Bool.{false≢true, both_ways, not-true, and_parts, and_from, or_cases, leb-true, le-leb, ltb-true, lt-ltb, eqb-true, eq-eqb}
 use Rattle.std.proofs.lemmas.Cmp.{nat_cmp_total}
 use Rattle.std.proofs.lemmas.List.{length-map}
 use Rattle.std.proofs.lemmas.Map.Lookups.{exact_unsigned, exact_bytes}
@@ -17,11 +17,11 @@ use Rattle.lrs_events.specs.declared.class.Kind.TheVariants.{Exclusive}
 use Rattle.lrs_events.specs.declared.class.Asset.{Asset}
 use Rattle.lrs_events.specs.declared.part.Part.{Part}
 use Rattle.lrs_events.specs.declared.part.Gone.{Gone}
-use Rattle.lrs_events.specs.Places.{Place}
+use Rattle.lrs_events.specs.Places.{Place, differs}
 use Rattle.lrs_events.specs.Spans.{holds_by_spans, are_rows}
 use Rattle.lrs_element.specs.Course.{meets}
 use Rattle.lrs_position.specs.Routes.{is_route_course}
-use Rattle.lrs_events.specs.Parts.{has_place, has_pair}
+use Rattle.lrs_events.specs.Parts.{has_place, has_pair, part_before}
 use Rattle.lrs_report.specs.Segments.{is_exclusive}
 use Rattle.lrs_machine.specs.declared.image.Image.{Image}
 use Rattle.lrs_machine.specs.declared.image.Edit.{Edit}
@@ -31,10 +31,10 @@ use Rattle.lrs_machine.specs.Bounds.{most_assets, most_routes, most_edits, most_
 use Rattle.lrs_machine.specs.State.{Reason, same_reason}
 use Rattle.lrs_machine.specs.State as state
 use Rattle.lrs_machine.specs.Image.{state_of, holds_on, asset_entry, reason_of}
-use Rattle.lrs_machine.specs.Sound.{asset_before, are_assets, course_before, are_courses, differs, are_spans, part_before, are_entered, gone_before, are_gone, are_balanced, are_edits, Test, IsSound, first_unsound, first_failed, tests, courses_of, spans_of, parts_of, places_of, has_asset_place, holds_in, holders_of, is_asset, is_course, is_on_a_link, is_span, are_spans_of, keeps_exclusive, is_part, share_nothing, pairs_of, is_balanced_at, is_named_by, are_parts}
+use Rattle.lrs_machine.specs.Sound.{asset_before, are_assets, course_before, are_courses, are_spans, are_entered, gone_before, are_gone, are_balanced, are_edits, Test, IsSound, first_unsound, first_failed, tests, courses_of, spans_of, parts_of, places_of, has_asset_place, holds_in, holders_of, is_asset, is_course, is_on_a_link, is_span, are_spans_of, keeps_exclusive, is_part, share_nothing, pairs_of, is_balanced_at, is_named_by, are_parts, is_origin, are_origins}
 use Rattle.lrs_machine.specs.Laws.{IsBalanced, IsExclusive, IsNamed, SoundIsLawful}
-use Rattle.lrs_machine.proofs.Members.{In, any_found, all_at, In-map, map_found, list_any-map, one_at, find_found, find_known}
-use Rattle.lrs_machine.proofs.Pairs.{HasPlace, place_had, pair_had, one_row, each_two-map, part_on, part_asset, held, held_on, held_asset, Balance, balance, entered_by, has_entered, gone_by, has_gone, takes_away, same_reason_is}
+use Rattle.lrs_machine.proofs.Members.{In, any_found, any_of, all_at, In-map, map_found, list_any-map, one_at, find_found, find_known}
+use Rattle.lrs_machine.proofs.Pairs.{HasPlace, place_had, pair_had, one_row, each_two-map, part_on, part_asset, held, held_on, held_asset, Balance, balance, entered_by, has_entered, gone_by, has_gone, takes_away, same_reason_is, is_same_side}
 
 -- ---- the tests that a sound image passes
 
@@ -75,6 +75,7 @@ parts_tested i parts h =
 
 -- what the laws need of the tables
 pub record Tested (i : Image) : Type 0 where
+  pub asset_order : each_two asset_before i.assets ≡ true
   pub assets : list_all (is_asset i.classes) i.assets ≡ true
   pub courses : list_all (is_course i.links) (courses_of i) ≡ true
   pub spans : list_all (are_spans_of i.assets) (spans_of i) ≡ true
@@ -84,6 +85,8 @@ pub record Tested (i : Image) : Type 0 where
   pub balanced : list_all (λ a. list_all (is_balanced_at (spans_of i) i.entered (parts_of i.gone) a.number) (places_of i.links)) i.assets ≡ true
   pub entered_named : list_all (is_named_by i.edits) i.entered ≡ true
   pub gone_named : list_all (is_named_by i.edits) (parts_of i.gone) ≡ true
+  pub few_edits : nat_le (length i.edits) most_edits ≡ true
+  pub origins : are_origins i.entered i.assets ≡ true
 
 pub tested : (i : Image) → IsSound i → Tested i
 unfolding first_unsound
@@ -102,6 +105,7 @@ tested i h =
     (passed (record { table = table.Edit; passes = are_edits i.entered i.gone i.edits }) (tests i) h (inr (inr (inr (inr (inr (inr (inr (inr (inr (inl refl))))))))))) in
     let named = and_three (each_two (λ d e. not (same_name d.key e.key)) i.edits) (list_all (is_named_by i.edits) i.entered) (list_all (is_named_by i.edits) (parts_of i.gone)) edits.0 in
     record {
+      asset_order = assets.0;
       assets = assets.1;
       courses = (and_three (each_two course_before (courses_of i)) (list_all (is_course i.links) (courses_of i)) (each_two (λ c d. not (meets c.entries d.entries)) (courses_of i)) courses.0).1;
       spans = spans.0;
@@ -111,6 +115,8 @@ tested i h =
       balanced = gone.2;
       entered_named = named.1;
       gone_named = named.2;
+      few_edits = edits.1;
+      origins = passed (record { table = table.Origin; passes = are_origins i.entered i.assets }) (tests i) h (inr (inr (inr (inr (inr (inr (inr (inr (inr (inr (inl refl)))))))))));
     }
 
 -- ---- the state that it stands for
@@ -231,10 +237,10 @@ module _ (i : Image) (t : Tested i) where
       ap (λ k. holds_in (spans_of i) k p) e ∙ list_any-map (λ s. holds_by_spans s.course s.rows a p) (λ e. record { course = e.route.course; rows = e.spans }) i.routes ∙ h
 
   -- the row of a known asset, and of a known class
-  asset_row : (a : ℕ) (x : state.Asset) → find nat_cmp a (map asset_entry i.assets) ≡ Some x → (r : Asset) × In r i.assets × (r.number ≡ a) × (r.class ≡ x.class)
+  asset_row : (a : ℕ) (x : state.Asset) → find nat_cmp a (map asset_entry i.assets) ≡ Some x → (r : Asset) × In r i.assets × (r.number ≡ a) × (r.class ≡ x.class) × (r.entry ≡ x.entry)
   asset_row a x h =
       let found = map_found asset_entry (a, x) i.assets (find_found exact_unsigned a x (map asset_entry i.assets) h) in
-      (found.0, found.1, sym (ap (λ e. e.0) found.2), sym (ap (λ e. e.1.class) found.2))
+      (found.0, found.1, sym (ap (λ e. e.0) found.2), sym (ap (λ e. e.1.class) found.2), sym (ap (λ e. e.1.entry) found.2))
 
   class_row : (name : Name) (k : Kind) → find name_cmp name (map (λ c. (c.name, c.kind)) i.classes) ≡ Some k → (c : Class) × In c i.classes × (c.name ≡ name) × (c.kind ≡ k)
   class_row name k h =
@@ -269,6 +275,45 @@ module _ (i : Image) (t : Tested i) where
       let high = leb-true _ _ both.1 in
       (omega arith, omega arith)
 
+  -- whether a part is of the asset, and by the edit that entered it
+  abbrev is_of : Asset → Part → Bool
+  is_of r part = nat_eq part.asset r.number
+
+  abbrev is_by : Asset → Part → Bool
+  is_by r part = not (nat_eq part.asset r.number) || nat_eq part.edit r.entry
+
+  -- an asset was entered, and by one edit
+  pub origin_of : (r : Asset) → In r i.assets → (list_any (is_of r) i.entered ≡ true) × (list_all (is_by r) i.entered ≡ true)
+  origin_of r m = and_parts _ _ (all_at (is_origin i.entered) r i.assets t.origins m)
+
+  pub entered_by_entry : (r : Asset) (x : Part) → In r i.assets → In x i.entered → x.asset ≡ r.number → x.edit ≡ r.entry
+  entered_by_entry r x m n e = by (or_cases _ _ (all_at (is_by r) x i.entered (origin_of r m).1 n))
+    where
+      by : (not (nat_eq x.asset r.number) ≡ true) ⊎ (nat_eq x.edit r.entry ≡ true) → x.edit ≡ r.entry
+      by (inl other) = absurd (both_ways (nat_eq x.asset r.number) (not-true _ other) (eq-eqb _ _ e))
+      by (inr same) = eqb-true _ _ same
+
+  -- a part has its own first place
+  first_place : (x : Part) → is_part i.links i.assets x ≡ true → (p : Place) × (has_pair x x.edit x.asset p ≡ true)
+  first_place x h =
+      let some = ltb-true _ _ (and_parts _ _ (and_parts _ _ h).0).0 in (
+        record { link = x.link; mm = x.lo; side = x.side },
+        and_from _ _ (and_from _ _ (eq-eqb x.edit x.edit refl) (eq-eqb x.asset x.asset refl))
+            (and_from _ _ (and_from _ _ (and_from _ _ (eq-eqb x.link x.link refl) (le-leb x.lo x.lo (omega arith))) (lt-ltb x.lo x.hi some)) (is_same_side x.side x.side refl)),
+      )
+
+  was_entered : (a : ℕ) (x : state.Asset) → find nat_cmp a (map asset_entry i.assets) ≡ Some x → (p : Place) × (enters i x.entry a p ≡ true)
+  was_entered a x h =
+      let r = asset_row a x h in
+      let part = any_found (is_of r.0) i.entered (origin_of r.0 r.1).0 in
+      let same : part.0.asset ≡ r.0.number = eqb-true _ _ part.2 in
+      let edit : part.0.edit ≡ x.entry = entered_by_entry r.0 part.0 r.1 part.1 same ∙ r.4 in
+      let place = first_place part.0 (all_at (is_part i.links i.assets) part.0 i.entered t.entered.inside part.1) in (
+        place.0,
+        any_of (λ q. has_pair q x.entry a place.0) part.0 i.entered part.1
+            (subst (λ m. has_pair part.0 m a place.0 ≡ true) edit (subst (λ b. has_pair part.0 part.0.edit b place.0 ≡ true) (same ∙ r.2) place.1)),
+      )
+
   named : IsNamed (state_of i)
   unfolding state_of
   named = record {
@@ -290,6 +335,11 @@ module _ (i : Image) (t : Tested i) where
         let c = any_found (λ c. same_name c.name r.0.class) i.classes test.1 in
         subst (λ k. is_some (find name_cmp k (map (λ c. (c.name, c.kind)) i.classes)) ≡ true) ((bytes_decides _ _).0 c.2 ∙ r.3)
         (find_known nat_list_cmp_total c.0.name c.0.kind (map (λ c. (c.name, c.kind)) i.classes) (In-map (λ (c : Class). (c.name, c.kind)) c.0 i.classes c.1));
+    by_entry = λ m a x p got h.
+        let r = asset_row a x got in
+        let part = entered_row m a p h in
+        sym part.2 ∙ entered_by_entry r.0 part.0 r.1 part.1 (part.3.of_asset ∙ sym r.2) ∙ r.4;
+    was_entered = was_entered;
   }
 
 pub sound_is_lawful : SoundIsLawful

@@ -38,7 +38,7 @@ abbrev pub link_entry : Link → ℕ × ℕ
 link_entry l = (l.number, l.length)
 
 abbrev pub asset_entry : Asset → ℕ × state.Asset
-asset_entry a = (a.number, record { class = a.class; value = a.value; lateral = a.lateral })
+asset_entry a = (a.number, record { class = a.class; value = a.value; lateral = a.lateral; entry = a.entry })
 
 abbrev pub route_entry : RouteEntry → Name × Alignment
 route_entry e = (e.route.name, record { course = e.route.course; marks = e.route.marks })

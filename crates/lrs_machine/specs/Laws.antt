@@ -1,6 +1,8 @@
 -- What holds of every state of the ground machine, and of its runs.
 use Rattle.std.specs.Prelude.{◌≡◌, ℕ, ◌+◌, ◌≤◌, Bool, true, false, ◌⊎◌, List, [], ◌∷◌, length, if◌then◌else◌, Some, is_some}
+use Rattle.lrs_measure.specs.Lists.{is_nothing}
 use Rattle.lrs_measure.specs.Texts.{Name}
+use Rattle.lrs_element.specs.declared.link.Ground.{Ground}
 use Rattle.lrs_events.specs.declared.class.Kind.TheVariants.{Exclusive}
 use Rattle.lrs_events.specs.Places.{Place}
 use Rattle.lrs_machine.specs.declared.command.Command.{Command}
@@ -10,7 +12,7 @@ use Rattle.lrs_machine.specs.declared.answer.Limits.{Limits}
 use Rattle.lrs_machine.specs.declared.image.Image.{Image}
 use Rattle.lrs_machine.specs.Register.{get, contains_key}
 use Rattle.lrs_machine.specs.State.{State, Asset, Reason, Retired, Abandoned, nothing_known}
-use Rattle.lrs_machine.specs.Machine.{Record, step, step_record, state_after, place_of_key}
+use Rattle.lrs_machine.specs.Machine.{Extent, is_empty_extent, part_of, Record, step, step_record, state_after, place_of_key}
 use Rattle.lrs_machine.specs.Image.{state_of, nothing}
 use Rattle.lrs_machine.specs.Readings.{total_present, total_entered, total_gone}
 use Rattle.lrs_machine.specs.Sound.{IsSound}
@@ -31,12 +33,14 @@ abbrev pub IsExclusive : State → Type 0
 IsExclusive s = (a b : ℕ) (x y : Asset) (p : Place) → get s.assets a ≡ Some x → get s.assets b ≡ Some y → x.class ≡ y.class → get s.classes x.class ≡ Some Exclusive
     → s.holds a p ≡ true → s.holds b p ≡ true → a ≡ b
 
--- The ledgers name edits that were done and assets that are known, and the assets are of known classes.
+-- The ledgers name edits that were done and assets that are known; the assets are of known classes, and each was entered, by the one edit that it names.
 pub record IsNamed (s : State) : Type 0 where
   pub asset_known : (m asset : ℕ) (p : Place) → s.entered m asset p ≡ true → contains_key s.assets asset ≡ true
   pub class_known : (a : ℕ) (x : Asset) → get s.assets a ≡ Some x → contains_key s.classes x.class ≡ true
   pub entered_done : (m asset : ℕ) (p : Place) → s.entered m asset p ≡ true → (1 ≤ m) × (m ≤ length s.done)
   pub gone_done : (m asset : ℕ) (why : Reason) (p : Place) → s.gone m why asset p ≡ true → (1 ≤ m) × (m ≤ length s.done)
+  pub by_entry : (m a : ℕ) (x : Asset) (p : Place) → get s.assets a ≡ Some x → s.entered m a p ≡ true → m ≡ x.entry
+  pub was_entered : (a : ℕ) (x : Asset) → get s.assets a ≡ Some x → (p : Place) × (s.entered x.entry a p ≡ true)
 
 pub record IsLawful (s : State) : Type 0 where
   pub balanced : IsBalanced s
@@ -90,6 +94,10 @@ RouteEditsKeep = (limits : Limits) (key : Name) (command : Command) (s : State) 
 -- Only a command that is done changes the state: any other answer leaves it.
 abbrev pub OnlyDoneChanges : Type 0
 OnlyDoneChanges = (limits : Limits) (key : Name) (command : Command) (s : State) → ((step limits key command s).answer ≡ Done (length s.done + 1)) ⊎ ((step limits key command s).state ≡ s)
+
+-- Between chainages of a course there is no entry exactly where they are not in order: so an entry is `Empty` where its snapped ends meet or are exchanged.
+abbrev pub NothingBetween : Type 0
+NothingBetween = (course : List Ground) (e : Extent) → e.to ≤ length course → is_nothing (part_of course e) ≡ is_empty_extent e
 
 -- A sound image stands for a lawful state.
 abbrev pub SoundIsLawful : Type 0

@@ -7,10 +7,7 @@ use Rattle.lrs_element.specs.declared.marks.Mark.{Mark}
 use Rattle.lrs_position.specs.declared.expression.Expr.{Expr}
 use Rattle.lrs_position.specs.declared.expression.Expr.TheVariants.{Abs, Rel, Int}
 use Rattle.lrs_position.specs.Expressions.{Ends}
-use Rattle.lrs_events.specs.declared.class.Kind.{Kind}
-use Rattle.lrs_events.specs.declared.class.Kind.TheVariants.{Point, Stretch, Exclusive}
-use Rattle.lrs_events.specs.declared.side.Side.{Side}
-use Rattle.lrs_events.specs.declared.side.Side.TheVariants.{L, R, B}
+use Rattle.lrs_events.specs.Names.{kind_text, side_text}
 use Rattle.lrs_machine.specs.declared.command.Entry.{Entry}
 use Rattle.lrs_machine.specs.declared.command.Command.{Command}
 use Rattle.lrs_machine.specs.declared.command.Command.TheVariants as verb
@@ -27,16 +24,6 @@ words = join_with_byte 32
 
 abbrev pub parts : List Text → Text
 parts = join_with_byte 58
-
-abbrev pub kind_text : Kind → Text
-kind_text Point = codes "point"
-kind_text Stretch = codes "stretch"
-kind_text Exclusive = codes "exclusive"
-
-abbrev pub side_text : Side → Text
-side_text L = codes "L"
-side_text R = codes "R"
-side_text B = codes "B"
 
 abbrev pub piece_text : Piece → Text
 piece_text p = parts (decimal p.link ∷ decimal p.a ∷ decimal p.b ∷ (if p.forward then codes "+" else codes "-") ∷ [])

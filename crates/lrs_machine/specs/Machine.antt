@@ -215,12 +215,13 @@ wanted_of is_not_taken e s = do
   a ← route_named s e.route
   refuse_if (is_wrong_kind kind e.location.to || is_not_taken kind) cause.WrongKind
   extent ← extent_of s a e.location
-  refuse_if (is_empty_extent extent) cause.Empty
-  Ok (record { kind = kind; places = places_on e.side (part_of a.course extent) })
+  let part = part_of a.course extent
+  refuse_if (is_nothing part) cause.Empty
+  Ok (record { kind = kind; places = places_on e.side part })
 
--- The asset is known from now on, and holds the places.
+-- The asset is known from now on as entered by edit n, and holds the places.
 abbrev pub enter_asset : ℕ → Entry → List Place → State → State
-enter_asset n e places s = enter_places n e.asset places (record s { assets = insert s.assets e.asset (record { class = e.class; value = e.value; lateral = e.offset }) })
+enter_asset n e places s = enter_places n e.asset places (record s { assets = insert s.assets e.asset (record { class = e.class; value = e.value; lateral = e.offset; entry = n }) })
 
 abbrev pub do_enter : ℕ → Entry → State → Result State Cause
 do_enter n e s = do

@@ -16,6 +16,7 @@ use Rattle.lrs_report.specs.Totals.{total_of}
 use Rattle.lrs_report.specs.Segments.{Values, segments_of}
 use Rattle.lrs_machine.specs.Register.{get, entries}
 use Rattle.lrs_machine.specs.State.{State, Reason}
+use Rattle.lrs_machine.specs.State as state
 use Rattle.lrs_machine.specs.Machine.{entry_of_referent}
 
 -- all places of the known links
@@ -52,22 +53,30 @@ rows_of s route asset = option_map_or (λ a. canonical_rows (s.holds asset) a.co
 abbrev pub places_of : State → ℕ → List Place
 places_of s asset = filter (s.holds asset) (all_places s)
 
+-- what is known of an asset, under its number
+abbrev pub asset_of : ℕ × state.Asset → Asset
+asset_of a = record { number = a.0; class = a.1.class; value = a.1.value; lateral = a.1.lateral; entry = a.1.entry }
+
 -- an asset and the side on which it holds a millimetre, seen along the route
-abbrev pub hit_of : State → Ground → ℕ → Option (ℕ × Side)
-hit_of s g asset = option_map (λ side. (asset, side)) (side_held (s.holds asset) g)
+pub record Hit : Type 0 where
+  pub asset : Asset
+  pub side : Side
+
+abbrev pub hit_of : State → Ground → Asset → Option Hit
+hit_of s g asset = option_map (λ side. record { asset = asset; side = side }) (side_held (s.holds asset.number) g)
 
 -- who holds an entry of a course, by asset number
-abbrev pub hits_on : State → Ground → List (ℕ × Side)
-hits_on s g = filter_map (λ a. hit_of s g a.0) (entries s.assets)
+abbrev pub hits_on : State → Ground → List Hit
+hits_on s g = filter_map (λ a. hit_of s g (asset_of a)) (entries s.assets)
 
 -- who holds the millimetre that a point at a position stands in, if it is on the route
-abbrev pub hits_at : State → Name → Expr → Option (List (ℕ × Side))
+abbrev pub hits_at : State → Name → Expr → Option (List Hit)
 hits_at s route e =
     option_and_then (λ a. option_and_then (λ x. option_map (hits_on s) (slice_get a.course (cell (length a.course) x))) (located a (entry_of_referent s a) e)) (get s.routes route)
 
 -- the assets as segments read them
 abbrev pub asset_list : State → List Asset
-asset_list s = map (λ a. record { number = a.0; class = a.1.class; value = a.1.value; lateral = a.1.lateral }) (entries s.assets)
+asset_list s = map asset_of (entries s.assets)
 
 -- the segments of a route on one side of it, for these classes
 abbrev pub segments_on : State → List Ground → List Name → LinkSide → List (Run Values)

@@ -8,7 +8,7 @@ use Rattle.lrs_measure.specs.Texts.{Name, same_name, name_before}
 use Rattle.lrs_element.specs.declared.link.Link.{Link}
 use Rattle.lrs_element.specs.declared.link.Ground.{Ground}
 use Rattle.lrs_element.specs.declared.marks.Mark.{Mark}
-use Rattle.lrs_element.specs.Course.{is_at, meets}
+use Rattle.lrs_element.specs.Course.{meets}
 use Rattle.lrs_position.specs.declared.route.Referent.{Referent}
 use Rattle.lrs_position.specs.Routes.{is_route_course, have_marks, are_referents}
 use Rattle.lrs_events.specs.declared.class.Class.{Class}
@@ -16,12 +16,10 @@ use Rattle.lrs_events.specs.declared.class.Asset.{Asset}
 use Rattle.lrs_events.specs.declared.span.Span.{Span}
 use Rattle.lrs_events.specs.declared.part.Part.{Part}
 use Rattle.lrs_events.specs.declared.part.Gone.{Gone}
-use Rattle.lrs_events.specs.declared.side.LinkSide.{LinkSide}
-use Rattle.lrs_events.specs.declared.side.LinkSide.TheVariants.{Left, Right}
 use Rattle.lrs_events.specs.Places.{Place, same_link_side}
 use Rattle.lrs_events.specs.Spans.{are_rows, holds_by_spans}
-use Rattle.lrs_events.specs.Parts.{has_place}
-use Rattle.lrs_events.specs.Places.{places_of_link}
+use Rattle.lrs_events.specs.Parts.{has_place, side_number, part_before}
+use Rattle.lrs_events.specs.Places.{places_of_link, differs}
 use Rattle.lrs_report.specs.Segments.{is_exclusive}
 use Rattle.lrs_machine.specs.declared.image.Edit.{Edit}
 use Rattle.lrs_machine.specs.declared.image.Image.{Image}
@@ -68,9 +66,6 @@ course_before a b = name_before a.route b.route
 
 abbrev pub is_on_a_link : List Link → Ground → Bool
 is_on_a_link links g = list_any (λ l. nat_eq l.number g.link && nat_lt g.mm l.length) links
-
-abbrev pub differs : Ground → Ground → Bool
-differs g h = not (is_at (g.link, g.mm) h)
 
 abbrev pub is_course : List Link → RouteCourse → Bool
 is_course links c = is_route_course c.entries && list_all (is_on_a_link links) c.entries && each_two differs c.entries
@@ -128,17 +123,6 @@ are_spans links classes assets routes = list_all (are_spans_of assets) routes &&
 
 -- tables `entered` and `gone`: in their order, inside known links, of known assets, each pair once, and not too many of an asset
 
-abbrev pub side_number : LinkSide → ℕ
-side_number Left = 0
-side_number Right = 1
-
--- in the order of edit, asset, link, start and side
-abbrev pub part_key : Part → List ℕ
-part_key p = p.edit ∷ p.asset ∷ p.link ∷ p.lo ∷ side_number p.side ∷ []
-
-abbrev pub part_before : Part → Part → Bool
-part_before x y = is_lt (slice_cmp nat_cmp (part_key x) (part_key y))
-
 -- in the order of edit, reason, asset, link, start and side
 abbrev pub gone_key : Gone → List ℕ
 gone_key g = g.part.edit ∷ (if g.abandoned then 1 else 0) ∷ g.part.asset ∷ g.part.link ∷ g.part.lo ∷ side_number g.part.side ∷ []
@@ -189,6 +173,14 @@ is_named_by edits p = is_from_to 1 (length edits) p.edit
 abbrev pub are_edits : List Part → List Gone → List Edit → Bool
 are_edits entered gone edits = each_two (λ d e. not (same_name d.key e.key)) edits && list_all (is_named_by edits) entered && list_all (is_named_by edits) (parts_of gone) && nat_le (length edits) most_edits
 
+-- table `origin`: each asset was entered, and by the one edit that it names
+
+abbrev pub is_origin : List Part → Asset → Bool
+is_origin entered a = list_any (λ p. nat_eq p.asset a.number) entered && list_all (λ p. not (nat_eq p.asset a.number) || nat_eq p.edit a.entry) entered
+
+abbrev pub are_origins : List Part → List Asset → Bool
+are_origins entered assets = list_all (is_origin entered) assets
+
 -- the routes of an image as the tests read them
 
 abbrev pub courses_of : Image → List RouteCourse
@@ -221,6 +213,7 @@ tests i =
     ∷ record { table = table.Entered; passes = are_entered i.links i.assets i.entered }
     ∷ record { table = table.Gone; passes = are_gone i.links i.assets (spans_of i) i.entered i.gone }
     ∷ record { table = table.Edit; passes = are_edits i.entered i.gone i.edits }
+    ∷ record { table = table.Origin; passes = are_origins i.entered i.assets }
     ∷ []
 
 abbrev pub first_failed : List Test → Option Table

@@ -13,6 +13,8 @@ pub record Asset : Type 0 where
   pub class : Name
   pub value : Name
   pub lateral : ℕ
+  -- the number of the edit that entered it
+  pub entry : ℕ
 
 -- why an asset no longer holds a place: it was taken away there, or its ground left the route
 pub data Reason : Type 0 where

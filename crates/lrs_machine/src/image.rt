@@ -5,9 +5,10 @@ ghost use Rattle.std.specs.Prelude.{◌≡◌, IfOk};
 use crate::key::Key;
 use crate::line::Line;
 use lrs_element::Link;
-use lrs_events::{Asset, Class, Gone, Part, Spans};
+use lrs_events::{Asset, Class, Gone, Part};
 use lrs_measure::{Rows, TryCopy};
 use lrs_position::Route;
+use lrs_spans::Spans;
 use std::alloc::{AllocError, Global};
 
 /// A route and what lies on it.
@@ -43,7 +44,8 @@ impl TryCopy for Edit {
 }
 
 /// All that is known, each list in the order of its key: links and assets by number, classes and routes by
-/// name, the ledgers by edit, asset, link, start and side, edits by number.
+/// name, `entered` by edit, asset, link, start and side, `gone` by edit, reason, asset, link, start and side,
+/// edits by number.
 #[derive(Drop)]
 pub struct Image {
     pub links: Rows<Link>,

@@ -1,9 +1,9 @@
 //! Laws of the ground machine, over all states and lists of commands.
 
-ghost use Rattle.lrs_machine.specs.Laws.{StepKeepsLaws, RunsAreLawful, LawfulAddsUp, SoundIsLawful, ActsOnce, OnlyDoneChanges, RouteEditsKeep, EmptyIsSound, LinesTellCommandsApart};
+ghost use Rattle.lrs_machine.specs.Laws.{StepKeepsLaws, RunsAreLawful, LawfulAddsUp, SoundIsLawful, ActsOnce, OnlyDoneChanges, NothingBetween, RouteEditsKeep, EmptyIsSound, LinesTellCommandsApart};
 
 /// Every step keeps a lawful state lawful: each ledger pair once, held what was entered and is not
-/// gone, no place held by two assets of one exclusive class.
+/// gone, no place held by two assets of one exclusive class, each asset entered by the one edit that it names.
 pub fn every_step_keeps_the_laws()
     ensures { StepKeepsLaws }
 {}
@@ -32,6 +32,11 @@ pub fn route_edits_keep()
 /// Only an accepted command changes the state.
 pub fn only_done_changes()
     ensures { OnlyDoneChanges }
+{}
+
+/// Between two chainages of a course there is no entry exactly where they are not in order.
+pub fn nothing_between_unordered_ends()
+    ensures { NothingBetween }
 {}
 
 /// A sound image stands for a lawful state: balanced, exclusive, and its ledgers named.

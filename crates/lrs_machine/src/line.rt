@@ -1,7 +1,8 @@
 //! Canonical lines of commands, as they are kept.
 
 ghost use Rattle.std.specs.Prelude.{◌≡◌, IfOk, string_bytes, [], ◌∷◌, ◌++◌};
-ghost use Rattle.lrs_machine.specs.Lines.{line_of, fields, side_text, location_fields, entry_fields};
+ghost use Rattle.lrs_events.specs.Names.{side_text};
+ghost use Rattle.lrs_machine.specs.Lines.{line_of, fields, location_fields, entry_fields};
 ghost use Rattle.std.specs.Fmt.{decimal};
 ghost use Rattle.lrs_machine.specs.declared.command.Command.TheVariants as verb;
 

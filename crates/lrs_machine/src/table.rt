@@ -14,4 +14,5 @@ pub enum Table {
     Entered,
     Gone,
     Edit,
+    Origin,
 }

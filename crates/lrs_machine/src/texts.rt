@@ -3,6 +3,7 @@
 ghost use Rattle.std.specs.Prelude.{◌≡◌, ◌++◌, codes, unsigned_abs, IfOk, OnOk, string_bytes};
 ghost use Rattle.std.specs.Fmt.{decimal};
 ghost use Rattle.std.specs.Str.{IsAscii};
+ghost use Rattle.lrs_events.specs.Names;
 ghost use Rattle.lrs_machine.specs.Lines;
 ghost use Rattle.lrs_machine.specs.Texts.{after_words};
 
@@ -14,7 +15,7 @@ use lrs_position::{EnteredPosition, EventLocation, Expr, RefName, RouteName};
 use std::alloc::{AllocError, Global};
 
 pub fn kind_text(kind: Kind) -> &'static str
-    ensures { result.now ≡ Lines.kind_text kind }
+    ensures { result.now ≡ Names.kind_text kind }
 {
     match kind {
         Kind::Point => "point",
@@ -24,7 +25,7 @@ pub fn kind_text(kind: Kind) -> &'static str
 }
 
 pub fn side_text(side: Side) -> &'static str
-    ensures { result.now ≡ Lines.side_text side }
+    ensures { result.now ≡ Names.side_text side }
 {
     match side {
         Side::L => "L",

@@ -8,3 +8,4 @@ pub mod Texts
 pub mod Lists
 pub mod Numerals
 pub mod Ordered
+pub mod Maximal

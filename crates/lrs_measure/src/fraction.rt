@@ -2,7 +2,7 @@
 
 ghost use Rattle.std.specs.Prelude.{◌≡◌, ℤ, pos, ◌+ℤ◌, ◌*ℤ◌, ◌≤◌, ◌<◌, ◌↔◌, IsTrue, IsSome, IfSome, unsigned_abs};
 ghost use Rattle.std.specs.Int.{IsGcd};
-ghost use Rattle.lrs_measure.specs.Fraction.{Fraction, IsLowest, IsQuotient, IsInRange, IsFloor, IsNearest, signed_as};
+ghost use Rattle.lrs_measure.specs.Fraction.{Fraction, IsEqual, IsLowest, IsQuotient, IsInRange, IsFloor, IsNearest, signed_as};
 
 use std::fmt;
 use std::marker::Model;
@@ -68,6 +68,25 @@ impl Frac {
             num: with_sign_of(n, size / divisor),
             den: d / divisor,
         })
+    }
+
+    /// The fraction of a whole number.
+    pub fn of_whole(n: i64) -> Frac
+        ensures { result ≡ record { num = n; den = 1 } }
+    {
+        Frac {
+            num: n as i128,
+            den: 1,
+        }
+    }
+
+    /// Whether two fractions have one value. Since both are in lowest terms, `==` says the same.
+    pub fn has_value_of(self, other: Frac) -> bool
+        ensures value { IsTrue result ↔ IsEqual self other }
+        ensures same { IsTrue result ↔ (self ≡ other) }
+    {
+        let _ = (self.den, other.den);
+        self == other
     }
 
     pub fn num(self) -> i128

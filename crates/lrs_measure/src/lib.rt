@@ -6,6 +6,7 @@
 
 pub mod alphabet;
 mod fraction;
+pub mod laws;
 mod metres;
 mod reading;
 mod rows;

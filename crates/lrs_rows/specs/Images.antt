@@ -61,8 +61,9 @@ link_row number length fits = record { number = number; length = length; limits 
 abbrev pub class_row : Name → Kind → Class
 class_row name kind = record { name = name; kind = kind }
 
+-- an asset that edit 8 entered
 abbrev pub asset_row : ℕ → Name → ℕ → Asset
-asset_row number class lateral = record { number = number; class = class; value = codes "80"; lateral = lateral }
+asset_row number class lateral = record { number = number; class = class; value = codes "80"; lateral = lateral; entry = 8 }
 
 abbrev pub route_row : (name : Name) (course : List Ground) (marks : List Mark) (refs : List Referent) → IsTrue (is_route course marks refs) → List Span → RouteEntry
 route_row name course marks refs fits spans = record { route = record { name = name; course = course; marks = marks; refs = refs; fits = fits }; spans = spans }
@@ -129,6 +130,16 @@ pub machine_classes : (after with_speed).classes.rows ≡ (rail, Stretch) ∷ (s
 unfolding digits step attempt
 machine_classes = refl
 
+-- Its asset, with the edit that entered it.
+pub image_assets : (state_of speed_image).assets.rows ≡ (10, record { class = speed; value = codes "80"; lateral = 0; entry = 8 }) ∷ []
+unfolding digits state_of
+image_assets = refl
+
+-- The asset of the state.
+pub machine_assets : (after with_speed).assets.rows ≡ (10, record { class = speed; value = codes "80"; lateral = 0; entry = 8 }) ∷ []
+unfolding digits step attempt
+machine_assets = refl
+
 -- whether two states hold, entered and lost the same, over the places, assets and edits of the first
 abbrev pub is_same_at : State → State → ℕ → Place → ℕ → Bool
 is_same_at s t asset p n =
@@ -148,7 +159,7 @@ same_as_the_state = refl
 -- The image after the speed limit was superseded on one side.
 abbrev pub superseded_image : Image
 superseded_image = record speed_image {
-  assets = asset_row 10 speed 0 ∷ record (asset_row 12 speed 0) { value = codes "50" } ∷ [];
+  assets = asset_row 10 speed 0 ∷ record (asset_row 12 speed 0) { value = codes "50"; entry = 9 } ∷ [];
   routes = first_route (span 10 5 10 R ∷ span 10 10 16 B ∷ span 12 5 10 L ∷ []) ∷ [];
   entered = entered_rows ++ record (part 1 5 10 Left) { edit = 9; asset = 12 } ∷ [];
   gone = gone_part false (record (part 1 5 10 Left) { edit = 9 }) ∷ [];
@@ -255,6 +266,7 @@ UnsoundTables =
     × (first_unsound (with_entered (part 1 5 11 Left ∷ part 1 5 10 Right ∷ part 2 0 6 Left ∷ part 2 0 6 Right ∷ [])) ≡ Some table.Entered)
     × (first_unsound (with_entered []) ≡ Some table.Gone)
     × (first_unsound (with_edits sheet) ≡ Some table.Edit)
+    × (first_unsound (with_assets (record (asset_row 10 speed 0) { entry = 7 } ∷ [])) ≡ Some table.Origin)
 
 -- The faults of an image, each by its table.
 abbrev pub faults : List Image → List (Option Table)
@@ -349,11 +361,21 @@ pub unsound_edits : faults (
 unfolding digits first_unsound
 unsound_edits = refl
 
+-- origin: an edit that entered another asset or none; an asset that was never entered, nor held; entered by two edits.
+pub unsound_origins : faults (
+    with_assets (record (asset_row 10 speed 0) { entry = 9 } ∷ []) ∷ with_assets (record (asset_row 10 speed 0) { entry = 0 } ∷ [])
+    ∷ with_assets (asset_row 10 speed 0 ∷ asset_row 11 speed 0 ∷ []) ∷ with_assets (asset_row 10 speed 0 ∷ record (asset_row 11 speed 0) { entry = 0 } ∷ [])
+    ∷ with_entered (record (part 1 5 10 Left) { edit = 7 } ∷ part 1 5 10 Right ∷ part 2 0 6 Left ∷ part 2 0 6 Right ∷ [])
+    ∷ record superseded_image { assets = asset_row 10 speed 0 ∷ record (asset_row 12 speed 0) { value = codes "50" } ∷ [] } ∷ [])
+    ≡ replicate 6 (Some table.Origin)
+unfolding digits first_unsound
+unsound_origins = refl
+
 -- Of several unsound tables the first in their order is named.
 pub first_unsound_table : faults (
     record (with_links (link_row 2 6 refl ∷ link_row 1 10 refl ∷ [])) { assets = []; edits = [] }
     ∷ record (with_assets []) { entered = []; edits = [] } ∷ record (with_spans (span 10 5 17 B ∷ [])) { entered = []; edits = [] }
-    ∷ record (with_entered []) { edits = [] } ∷ [])
-    ≡ Some table.Link ∷ Some table.Span ∷ Some table.Span ∷ Some table.Gone ∷ []
+    ∷ record (with_entered []) { edits = [] } ∷ record (with_assets (record (asset_row 10 speed 0) { entry = 7 } ∷ [])) { edits = [] } ∷ [])
+    ≡ Some table.Link ∷ Some table.Span ∷ Some table.Span ∷ Some table.Gone ∷ Some table.Edit ∷ []
 unfolding digits first_unsound
 first_unsound_table = refl

@@ -1,6 +1,6 @@
 -- The laws at work: after each example the totals add up, no place is out of balance, and no two speed limits lie on one place.
-use Rattle.std.specs.Prelude.{◌≡◌, ℕ, ◌+◌, Bool, true, false, ◌&&◌, nat_eq, nat_le, List, [], ◌∷◌, ◌++◌, length, map, codes, replicate, if◌then◌else◌, refl}
-use Rattle.std.specs.List.{list_all, count_by}
+use Rattle.std.specs.Prelude.{◌≡◌, ℕ, ◌+◌, Bool, true, false, ◌&&◌, ◌||◌, not, nat_eq, nat_le, List, [], ◌∷◌, ◌++◌, length, map, codes, replicate, if◌then◌else◌, refl}
+use Rattle.std.specs.List.{list_any, list_all, count_by}
 use Rattle.std.specs.Fmt.{digits}
 use Rattle.lrs_measure.specs.Texts.{Name}
 use Rattle.lrs_events.specs.Places.{Place}
@@ -62,6 +62,16 @@ totals_add_up = refl
 pub places_balanced : list_all (λ records. is_balanced (after records)) worked ≡ true
 unfolding digits step attempt
 places_balanced = refl
+
+-- the asset was entered by the edit that it names, and by no other
+abbrev pub has_its_entry : State → ℕ → ℕ → Bool
+has_its_entry s asset entry =
+    list_any (s.entered entry asset) (all_places s) && list_all (λ n. nat_eq n entry || not (list_any (s.entered n asset) (all_places s))) (edits_of s)
+
+-- After each example each asset was entered by the one edit that it names.
+pub assets_have_entries : list_all (λ records. list_all (λ a. has_its_entry (after records) a.0 a.1.entry) (after records).assets.rows) worked ≡ true
+unfolding digits step attempt
+assets_have_entries = refl
 
 -- After each example no two speed limits lie on one place.
 pub one_limit_on_a_place : list_all (λ records. is_held_once (after records) speed) worked ≡ true

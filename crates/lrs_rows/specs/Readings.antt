@@ -17,7 +17,7 @@ use Rattle.lrs_machine.specs.declared.command.Command.TheVariants as verb
 use Rattle.lrs_machine.specs.Register.{get}
 use Rattle.lrs_machine.specs.Machine.{Record, attempt, step}
 use Rattle.lrs_machine.specs.Readings.{rows_of, places_of, hits_at, segments_on}
-use Rattle.lrs_rows.specs.Sheet.{a1, nowhere, km2, speed, rail, sign, abs, past, share, between, at, class, forth, plain, enter, supersede, realign, retire, adding, after, totals_of, totals, row, route_of, place, first_pieces, first_classes, sheet, with_speed, with_sign, lower_limit}
+use Rattle.lrs_rows.specs.Sheet.{a1, nowhere, km2, speed, rail, sign, abs, past, share, between, at, class, forth, plain, enter, supersede, realign, retire, adding, after, holders, totals_of, totals, row, route_of, place, first_pieces, first_classes, sheet, with_speed, with_sign, lower_limit}
 
 -- totals
 
@@ -77,26 +77,26 @@ pub no_rows : map (λ name. rows_of (after with_sign) name 10) (a1 ∷ nowhere �
 unfolding digits step attempt
 no_rows = refl
 
--- An asset keeps its class, its value and its lateral offset, wherever it lies.
+-- An asset keeps its class, its value, its lateral offset and the edit that entered it, wherever it lies.
 pub what_is_known : map (get (after (adding sheet (verb.Enter (record { asset = 30; class = rail; route = a1; side = L; location = between (abs 0) (abs 12); value = codes "STEEL"; offset = 300 }) ∷ verb.Close a1 ∷ []))).assets) (30 ∷ 31 ∷ [])
-    ≡ Some (record { class = rail; value = codes "STEEL"; lateral = 300 }) ∷ None ∷ []
+    ≡ Some (record { class = rail; value = codes "STEEL"; lateral = 300; entry = 8 }) ∷ None ∷ []
 unfolding digits step attempt
 what_is_known = refl
 
 -- who lies at a position
 
 -- At the end of the route stands the sign, on its left; the speed limit is on both sides, and the second barrier on the right.
-pub at_the_end : hits_at (after three_classes) a1 (abs 18) ≡ Some ((10, B) ∷ (20, L) ∷ (31, R) ∷ [])
+pub at_the_end : holders three_classes (abs 18) ≡ Some ((10, 8, B) ∷ (20, 10, L) ∷ (31, 13, R) ∷ [])
 unfolding digits step attempt
 at_the_end = refl
 
 -- At the seam it is the millimetre behind it that counts.
-pub at_the_seam : hits_at (after three_classes) a1 (abs 12) ≡ Some ((10, B) ∷ (31, R) ∷ [])
+pub at_the_seam : holders three_classes (abs 12) ≡ Some ((10, 8, B) ∷ (31, 13, R) ∷ [])
 unfolding digits step attempt
 at_the_seam = refl
 
 -- A stretch lies at its start and not at its end: one speed limit ends where the other begins.
-pub where_they_touch : map (hits_at (after three_classes) a1) (share 5 16 ∷ share 9 32 ∷ []) ≡ Some ((10, B) ∷ (30, L) ∷ (31, R) ∷ []) ∷ Some ((11, B) ∷ (30, L) ∷ []) ∷ []
+pub where_they_touch : map (holders three_classes) (share 5 16 ∷ share 9 32 ∷ []) ≡ Some ((10, 8, B) ∷ (30, 12, L) ∷ (31, 13, R) ∷ []) ∷ Some ((11, 9, B) ∷ (30, 12, L) ∷ []) ∷ []
 unfolding digits step attempt
 where_they_touch = refl
 

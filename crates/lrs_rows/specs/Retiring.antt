@@ -9,8 +9,8 @@ use Rattle.lrs_machine.specs.declared.answer.Cause.TheVariants as cause
 use Rattle.lrs_machine.specs.declared.command.Command.{Command}
 use Rattle.lrs_machine.specs.State.{Retired, Abandoned}
 use Rattle.lrs_machine.specs.Machine.{Record, attempt, step}
-use Rattle.lrs_machine.specs.Readings.{rows_of, places_of, hits_at}
-use Rattle.lrs_rows.specs.Sheet.{a1, speed, rail, abs, between, at, class, enter, supersede, retire, adding, after, replies, totals_of, totals, row, place, places_along, speed_limit, with_speed, with_sign}
+use Rattle.lrs_machine.specs.Readings.{rows_of, places_of}
+use Rattle.lrs_rows.specs.Sheet.{a1, speed, rail, abs, between, at, class, enter, supersede, retire, adding, after, holders, replies, totals_of, totals, row, place, places_along, speed_limit, with_speed, with_sign}
 
 -- A speed limit that is retired does not lie where nothing of it was asked for, and its number is not used again.
 abbrev pub retire_all : Command
@@ -65,12 +65,12 @@ unfolding digits step attempt
 retired_point = refl
 
 -- Then nothing is there.
-pub nothing_at_the_end : hits_at (after (adding with_sign (retire 20 (at (abs 18)) ∷ []))) a1 (abs 18) ≡ Some []
+pub nothing_at_the_end : holders (adding with_sign (retire 20 (at (abs 18)) ∷ [])) (abs 18) ≡ Some []
 unfolding digits step attempt
 nothing_at_the_end = refl
 
 -- A retired asset leaves the others where it lay.
-pub others_stay : hits_at (after (adding with_speed (enter 30 rail L (between (abs 0) (abs 18)) (codes "STEEL") ∷ retire_all ∷ []))) a1 (abs 9) ≡ Some ((30, L) ∷ [])
+pub others_stay : holders (adding with_speed (enter 30 rail L (between (abs 0) (abs 18)) (codes "STEEL") ∷ retire_all ∷ [])) (abs 9) ≡ Some ((30, 9, L) ∷ [])
 unfolding digits step attempt
 others_stay = refl
 
@@ -160,7 +160,7 @@ other_classes = adding with_speed (
     ∷ class (codes "LANE") Exclusive ∷ enter 40 (codes "LANE") B (between (abs 0) (abs 18)) (codes "2")
     ∷ supersede_left ∷ [])
 
--- Four assets lie there: both speed limits, the barrier and the lane.
-pub other_classes_stay : hits_at (after other_classes) a1 (abs 6) ≡ Some ((10, R) ∷ (12, L) ∷ (30, L) ∷ (40, B) ∷ [])
+-- Four assets lie there: both speed limits, the barrier and the lane; each was entered by its own edit, also the one that supersedes.
+pub other_classes_stay : holders other_classes (abs 6) ≡ Some ((10, 8, R) ∷ (12, 12, L) ∷ (30, 9, L) ∷ (40, 11, B) ∷ [])
 unfolding digits step attempt
 other_classes_stay = refl

@@ -10,8 +10,8 @@ use Rattle.lrs_machine.specs.declared.answer.Cause.TheVariants as cause
 use Rattle.lrs_machine.specs.declared.command.Command.{Command}
 use Rattle.lrs_machine.specs.declared.command.Command.TheVariants as verb
 use Rattle.lrs_machine.specs.Machine.{Record, attempt, step}
-use Rattle.lrs_machine.specs.Readings.{rows_of, places_of, hits_at}
-use Rattle.lrs_rows.specs.Sheet.{a1, a2, b1, nowhere, km2, km5, speed, rail, sign, abs, past, short_of, between, forth, back, mark, plain, enter, split, join, realign, realign_away, adding, after, replies, totals_of, totals, row, route_of, over, referent_at, place, both_sides_along, first_pieces, first_marks, sheet, with_speed, with_sign, second_kilometre, with_referent}
+use Rattle.lrs_machine.specs.Readings.{rows_of, places_of}
+use Rattle.lrs_rows.specs.Sheet.{a1, a2, b1, nowhere, km2, km5, speed, rail, sign, abs, past, short_of, between, forth, back, mark, plain, enter, split, join, realign, realign_away, adding, after, holders, replies, totals_of, totals, row, route_of, over, referent_at, place, both_sides_along, first_pieces, first_marks, sheet, with_speed, with_sign, second_kilometre, with_referent}
 
 -- A piece that is run backwards begins with its last millimetre.
 pub backward_piece : course_of (forth 1 3 5 ∷ back 2 0 3 ∷ [])
@@ -81,8 +81,8 @@ abbrev pub Recalibrated : Type 0
 Recalibrated =
     (replies with_speed (verb.Recalibrate a1 (plain 16) ∷ []) ≡ Done 9 ∷ [])
     × (rows_of (after recalibrated_route) a1 10 ≡ row 5 16 B ∷ [])
-    × (hits_at (after recalibrated_route) a1 (abs 5) ≡ Some ((10, B) ∷ []))
-    × (hits_at (after recalibrated_route) a1 (abs 4) ≡ Some [])
+    × (holders recalibrated_route (abs 5) ≡ Some ((10, 8, B) ∷ []))
+    × (holders recalibrated_route (abs 4) ≡ Some [])
     × (totals_of speed (after recalibrated_route) ≡ totals 22 0 0 22)
 
 -- The mark at the seam is gone, so the route can no longer be split there.
@@ -183,7 +183,7 @@ ClosedRoute =
     × (totals_of sign (after closed) ≡ totals 1 0 1 0)
     × (route_of (after closed) a1 ≡ None)
     × (places_of (after closed) 20 ≡ [])
-    × (hits_at (after closed) a1 (abs 0) ≡ None)
+    × (holders closed (abs 0) ≡ None)
 
 -- A closed route takes its referents with it, and leaves its ground and its name free; the links stay.
 pub closed_and_made_anew : replies (adding with_referent (verb.Close a1 ∷ [])) (verb.Close a1 ∷ verb.Unref km2 ∷ verb.Route a1 first_pieces first_marks ∷ second_kilometre ∷ []) ≡ Refused cause.NoRoute ∷ Refused cause.NoRef ∷ Done 10 ∷ Done 11 ∷ []
@@ -213,7 +213,7 @@ abbrev pub turned_sign : List Record
 turned_sign = adding with_sign (verb.Turn a1 ∷ [])
 
 -- At the start of the route it is found on the right.
-pub turned_sign_hit : hits_at (after turned_sign) a1 (abs 0) ≡ Some ((20, R) ∷ [])
+pub turned_sign_hit : holders turned_sign (abs 0) ≡ Some ((20, 8, R) ∷ [])
 unfolding digits step attempt
 turned_sign_hit = refl
 

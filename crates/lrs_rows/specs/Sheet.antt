@@ -1,7 +1,7 @@
 -- The first sheet of the examples, in which a millimetre stands for half a metre, and the words of the examples: commands, answers and readings.
 use Rattle.std.specs.Prelude.{ℕ, pos, neg_ℤ, ◌+◌, true, false, IsTrue, List, [], ◌∷◌, ◌++◌, length, map, codes, Option, Some, None, refl}
 use Rattle.std.specs.List.{range_with_len, flat_map}
-use Rattle.std.specs.Option.{option_and_then}
+use Rattle.std.specs.Option.{option_map, option_and_then}
 use Rattle.lrs_measure.specs.Texts.{Name}
 use Rattle.lrs_measure.specs.Runs.{Run}
 use Rattle.lrs_element.specs.declared.link.Piece.{Piece}
@@ -27,7 +27,7 @@ use Rattle.lrs_machine.specs.declared.command.Command.TheVariants as verb
 use Rattle.lrs_machine.specs.Register.{get}
 use Rattle.lrs_machine.specs.State.{State, Retired, Abandoned, nothing_known}
 use Rattle.lrs_machine.specs.Machine.{Record, answers, state_after, entry_of_referent}
-use Rattle.lrs_machine.specs.Readings.{total_present, total_entered, total_gone}
+use Rattle.lrs_machine.specs.Readings.{total_present, total_entered, total_gone, hits_at}
 
 -- names: three routes and two referents
 
@@ -199,6 +199,10 @@ over pieces marks = Some (alignment pieces marks)
 -- the millimetre of a route that a referent stands in
 abbrev pub referent_at : State → Name → Name → Option ℕ
 referent_at s route referent = option_and_then (λ a. entry_of_referent s a referent) (route_of s route)
+
+-- who lies at a position of A1: an asset, the edit that entered it, and its side
+abbrev pub holders : List Record → Expr → Option (List (ℕ × ℕ × Side))
+holders records position = option_map (map (λ h. (h.asset.number, h.asset.entry, h.side))) (hits_at (after records) a1 position)
 
 -- a millimetre of a link, and a side of it
 abbrev pub place : ℕ → ℕ → LinkSide → Place

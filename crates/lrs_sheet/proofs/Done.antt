@@ -1,6 +1,6 @@
 -- Records done one after the other.
-use Rattle.std.proofs.Common.{◌≡◌, ℕ, Ok, Err, List, [], ◌∷◌, ◌++◌, ◌+◌, ◌≤◌, Option, Some, Bool, length, refl, sym, ap, ◌∙◌, append_assoc, length-append, arith, inl, inr}
-use Rattle.std.specs.Prelude.{count_by}
+use Rattle.std.proofs.Common.{◌≡◌, ℕ, Ok, Err, List, [], ◌∷◌, ◌++◌, ◌+◌, ◌≤◌, Option, Some, Bool, length, refl, sym, ap, subst, ◌∙◌, append_assoc, length-append, arith, inl, inr}
+use Rattle.std.specs.Prelude.{count_by, ◌⊎◌}
 use Rattle.std.proofs.Common.{cond}
 use Rattle.std.proofs.lemmas.List.Sums.{sum_by-append}
 use Rattle.std.proofs.lemmas.List.{append-nil, flat_map_more}
@@ -8,18 +8,22 @@ use Rattle.csv.proofs.WriteFacts.{appends-more, appends-none}
 use Rattle.csv.specs.Reading.{expected_len}
 use Rattle.csv.specs.declared.reader.Reader.{Reader}
 use Rattle.lrs_machine.specs.Image.{state_of}
+use Rattle.std.specs.Prelude.{Result}
+use Rattle.lrs_machine.specs.declared.image.Image.{Image}
+use Rattle.lrs_machine.specs.declared.table.Table.{Table}
 use Rattle.lrs_machine.specs.State.{State}
 use Rattle.lrs_machine.specs.declared.answer.Limits.{Limits}
 use Rattle.lrs_machine.specs.declared.answer.Answer.{Answer}
 use Rattle.lrs_machine.specs.declared.answer.Answer.TheVariants.{Done, Again, Refused}
 use Rattle.lrs_desk.specs.DeskView.{DeskView}
+use Rattle.lrs_desk.specs.declared.desk.Fault.TheVariants as stop
 use Rattle.lrs_sheet.specs.declared.reply.Reply.{Reply}
 use Rattle.lrs_sheet.specs.declared.reply.Tally.{Tally}
 use Rattle.lrs_sheet.specs.declared.fault.SheetFault.{SheetFault}
 use Rattle.lrs_sheet.specs.declared.fault.SheetFault.TheVariants as fault
 use Rattle.lrs_sheet.specs.Replies.{IsReplied, Replied, answer_count, counted, is_again, is_done, is_refused, lines_of, reply_text, tally_of}
-use Rattle.lrs_sheet.specs.Sheets.{GoesAlong, HaveEleven, max_records}
-use Rattle.lrs_sheet.specs.Rows.{Begins, BreaksAfter, BreaksAtRow, DoesRow, DoesRows, DoesSome, EndsAfter, Gave, HasDone, IsPlain, IsReadFault, IsRowFault, NextDiffers, StopsAtRow}
+use Rattle.lrs_sheet.specs.Sheets.{GoesAlong, HaveEleven, max_records, LeavesDesk}
+use Rattle.lrs_sheet.specs.Rows.{Begins, BreaksAfter, BreaksAtRow, DoesRow, DoesRows, DoesUpTo, EndsAfter, Gave, HasDone, IsPlain, IsReadFault, NextDiffers, Stops, StopsAtRow, AnswersSome}
 
 -- one more record, answered
 pub Replied-more : (limits : Limits) (before middle after : State) (records : List (List (List ℕ))) (replies : List Reply) (fields : List (List ℕ)) (reply : Reply)
@@ -73,16 +77,16 @@ count-more-answer tally (Again n) = omega arith
 count-more-answer tally (Refused cause) = omega arith
 
 -- a desk that stays goes along
-pub stays : (desk : DeskView) → GoesAlong desk desk
+pub stays : {K : Type 0} {holds : K → Result Image Table → Type 0} (desk : DeskView K) → GoesAlong holds desk desk
 stays desk = record { limits = refl; kept = λ kept. kept; reopen = refl }
 
 -- one that goes along, and goes along
-along : (a b c : DeskView) → GoesAlong a b → GoesAlong b c → GoesAlong a c
+along : {K : Type 0} {holds : K → Result Image Table → Type 0} (a b c : DeskView K) → GoesAlong holds a b → GoesAlong holds b c → GoesAlong holds a c
 along a b c first next = record { limits = next.limits ∙ first.limits; kept = λ kept. next.kept (first.kept kept); reopen = next.reopen ∙ first.reopen }
 
 -- before the first turn
-pub start-done : {R : Type 0} (rem : R → Option (List ℕ)) (rows : Reader R) (desk : DeskView) (contents : Option (List ℕ)) (tally : Tally)
-    → IsPlain rows → expected_len rows ≡ Some 11 → tally ≡ tally_of [] → HasDone rem rows rows desk desk contents contents tally 0
+pub start-done : {K : Type 0} {holds : K → Result Image Table → Type 0} {R : Type 0} (rem : R → Option (List ℕ)) (rows : Reader R) (desk : DeskView K) (contents : Option (List ℕ)) (tally : Tally)
+    → IsPlain rows → expected_len rows ≡ Some 11 → tally ≡ tally_of [] → HasDone holds rem rows rows desk desk contents contents tally 0
 unfolding Replied
 start-done rem rows desk contents tally plain width none = record {
   records = [];
@@ -102,10 +106,10 @@ pub gave-more : {R : Type 0} (rem : R → Option (List ℕ)) (a b c : Reader R) 
 gave-more rem a b c records more first second = λ input before h. rw (← append_assoc before records more) (second input (before ++ records) (first input before h))
 
 -- one more turn
-pub more-done : {R : Type 0} (rem : R → Option (List ℕ)) (rows now next : Reader R) (before middle after : DeskView) (old mid new : Option (List ℕ)) (tally counts : Tally) (turns : ℕ) (fields : List (List ℕ))
-    → HasDone rem rows now before middle old mid tally turns → IsPlain next → expected_len next ≡ Some (length fields) → length fields ≡ 11 → Gave rem now next (fields ∷ [])
-    → DoesRow middle.limits (state_of middle.image) fields (state_of after.image) mid new tally counts → GoesAlong middle after
-    → HasDone rem rows next before after old new counts (turns + 1)
+pub more-done : {K : Type 0} {holds : K → Result Image Table → Type 0} {R : Type 0} (rem : R → Option (List ℕ)) (rows now next : Reader R) (before middle after : DeskView K) (old mid new : Option (List ℕ)) (tally counts : Tally) (turns : ℕ) (fields : List (List ℕ))
+    → HasDone holds rem rows now before middle old mid tally turns → IsPlain next → expected_len next ≡ Some (length fields) → length fields ≡ 11 → Gave rem now next (fields ∷ [])
+    → DoesRow middle.limits (state_of middle.image) fields (state_of after.image) mid new tally counts → GoesAlong holds middle after
+    → HasDone holds rem rows next before after old new counts (turns + 1)
 more-done rem rows now next before middle after old mid new tally counts turns fields done plain width eleven gave (reply, replied, written, counted') desk = record {
   records = done.records ++ fields ∷ [];
   replies = done.replies ++ reply ∷ [];
@@ -129,11 +133,11 @@ begins rem a b records gave = λ input before h.
     let (rest, source, reached) = gave input before h in
     (b.state, rest, reached)
 
--- the turns so far are done
-pub some-done : {R : Type 0} (rem : R → Option (List ℕ)) (rows now : Reader R) (before after : DeskView) (old new : Option (List ℕ)) (tally : Tally) (turns : ℕ)
-    → HasDone rem rows now before after old new tally turns → DoesSome rem rows before.limits (state_of before.image) (state_of after.image)
-some-done rem rows now before after old new tally turns done =
-    (done.records, done.replies, done.answered.eleven, done.answered.replied, begins rem rows now done.records done.gave)
+-- the turns so far are answered
+pub some-answered : {K : Type 0} {holds : K → Result Image Table → Type 0} {R : Type 0} (rem : R → Option (List ℕ)) (rows now : Reader R) (before after : DeskView K) (old new : Option (List ℕ)) (tally : Tally) (turns : ℕ)
+    → HasDone holds rem rows now before after old new tally turns → AnswersSome rem rows before.limits (state_of before.image) (state_of after.image) old new
+some-answered rem rows now before after old new tally turns done =
+    (done.records, done.replies, done.answered, begins rem rows now done.records done.gave)
 
 -- the next record has another length
 differs : {R : Type 0} (rem : R → Option (List ℕ)) (a b : Reader R) (records : List (List (List ℕ))) (wanted : ℕ) → Gave rem a b records → NextDiffers rem b [] wanted → NextDiffers rem a records wanted
@@ -142,10 +146,10 @@ differs rem a b records wanted gave next = λ input before h.
     (fields, rw (append-nil (before ++ records)) at begins, bad)
 
 -- a read failed
-pub stop-read : {R : Type 0} (rem : R → Option (List ℕ)) (rows now : Reader R) (before after : DeskView) (old new : Option (List ℕ)) (tally : Tally) (turns : ℕ) (e : SheetFault)
-    → HasDone rem rows now before after old new tally turns → IsReadFault rem now e → DoesRows rem rows before.limits (state_of before.image) (state_of after.image) old new (Err e)
-stop-read rem rows now before after old new tally turns fault.Read done why = some-done rem rows now before after old new tally turns done
-stop-read rem rows now before after old new tally turns fault.Memory done why = some-done rem rows now before after old new tally turns done
+pub stop-read : {K : Type 0} {holds : K → Result Image Table → Type 0} {R : Type 0} (rem : R → Option (List ℕ)) (rows now : Reader R) (before after : DeskView K) (old new : Option (List ℕ)) (tally : Tally) (turns : ℕ) (e : SheetFault)
+    → HasDone holds rem rows now before after old new tally turns → IsReadFault rem now e → DoesRows rem rows before.limits (state_of before.image) (state_of after.image) old new (Err e)
+stop-read rem rows now before after old new tally turns fault.Read done why = some-answered rem rows now before after old new tally turns done
+stop-read rem rows now before after old new tally turns fault.Memory done why = some-answered rem rows now before after old new tally turns done
 stop-read rem rows now before after old new tally turns fault.Write done why = absurd why
 stop-read rem rows now before after old new tally turns fault.BadHeader done why = absurd why
 stop-read rem rows now before after old new tally turns (fault.Desk m) done why = absurd why
@@ -154,40 +158,55 @@ stop-read rem rows now before after old new tally turns fault.BadCsv done (wante
     (done.records, done.replies, done.answered, differs rem rows now done.records 11 done.gave (rw is at next))
 
 -- the records are at their end
-pub all-done : {R : Type 0} (rem : R → Option (List ℕ)) (rows now : Reader R) (before after : DeskView) (old new : Option (List ℕ)) (tally : Tally) (turns : ℕ)
-    → HasDone rem rows now before after old new tally turns → EndsAfter rem now [] → turns ≤ max_records
+pub all-done : {K : Type 0} {holds : K → Result Image Table → Type 0} {R : Type 0} (rem : R → Option (List ℕ)) (rows now : Reader R) (before after : DeskView K) (old new : Option (List ℕ)) (tally : Tally) (turns : ℕ)
+    → HasDone holds rem rows now before after old new tally turns → EndsAfter rem now [] → turns ≤ max_records
     → DoesRows rem rows before.limits (state_of before.image) (state_of after.image) old new (Ok tally)
 all-done rem rows now before after old new tally turns done ends few =
     (done.records, done.replies, done.answered, done.counts, λ input start h. rw (append-nil (start ++ done.records)) at (ends input (start ++ done.records) (done.gave input start h)), rw done.in_turn few)
 
--- a record stopped the run
-stop-some : {R : Type 0} (rem : R → Option (List ℕ)) (rows now next : Reader R) (before middle after : DeskView) (old mid : Option (List ℕ)) (tally : Tally) (turns : ℕ) (fields : List (List ℕ))
-    → HasDone rem rows now before middle old mid tally turns → length fields ≡ 11 → Gave rem now next (fields ∷ []) → StopsAtRow middle.limits (state_of middle.image) fields (state_of after.image)
-    → DoesSome rem rows before.limits (state_of before.image) (state_of after.image)
-stop-some rem rows now next before middle after old mid tally turns fields done eleven gave (inl same) = rw same (some-done rem rows now before middle old mid tally turns done)
-stop-some rem rows now next before middle after old mid tally turns fields done eleven gave (inr (reply, replied)) = (
-  done.records ++ fields ∷ [],
+-- a record was not done
+stop-before : {K : Type 0} {holds : K → Result Image Table → Type 0} {R : Type 0} (rem : R → Option (List ℕ)) (rows now next : Reader R) (before middle after : DeskView K) (old mid new : Option (List ℕ)) (tally : Tally) (turns : ℕ) (fields : List (List ℕ))
+    → HasDone holds rem rows now before middle old mid tally turns → length fields ≡ 11 → Gave rem now next (fields ∷ []) → (state_of after.image ≡ state_of middle.image) × (new ≡ mid)
+    → Stops rem rows before.limits (state_of before.image) (state_of after.image) old new
+stop-before rem rows now next before middle after old mid new tally turns fields done eleven gave (state, written) =
+    rw (state, written) (
+      done.records,
+      fields,
+      done.replies,
+      eleven,
+      done.answered,
+      begins rem rows next (done.records ++ fields ∷ []) (gave-more rem rows now next done.records (fields ∷ []) done.gave gave),
+    )
+
+-- a record was done, and its line not written whole
+stop-after : {K : Type 0} {holds : K → Result Image Table → Type 0} {R : Type 0} (rem : R → Option (List ℕ)) (rows now next : Reader R) (before middle after : DeskView K) (old mid new : Option (List ℕ)) (tally : Tally) (turns : ℕ) (fields : List (List ℕ))
+    → HasDone holds rem rows now before middle old mid tally turns → length fields ≡ 11 → Gave rem now next (fields ∷ []) → (reply : Reply) × IsReplied middle.limits (state_of middle.image) fields reply (state_of after.image)
+    → DoesUpTo rem rows before.limits (state_of before.image) (state_of after.image)
+stop-after rem rows now next before middle after old mid new tally turns fields done eleven gave (reply, replied) = (
+  done.records,
+  fields,
   done.replies ++ reply ∷ [],
   eleven-more done.records fields done.answered.eleven eleven,
   Replied-more before.limits (state_of before.image) (state_of middle.image) (state_of after.image) done.records done.replies fields reply done.answered.replied (rw done.desk.limits at replied),
   begins rem rows next (done.records ++ fields ∷ []) (gave-more rem rows now next done.records (fields ∷ []) done.gave gave),
 )
 
-pub stop-row : {R : Type 0} (rem : R → Option (List ℕ)) (rows now next : Reader R) (before middle after : DeskView) (old mid new : Option (List ℕ)) (tally : Tally) (turns : ℕ) (fields : List (List ℕ)) (e : SheetFault)
-    → HasDone rem rows now before middle old mid tally turns → length fields ≡ 11 → Gave rem now next (fields ∷ []) → StopsAtRow middle.limits (state_of middle.image) fields (state_of after.image) → IsRowFault e
+-- a record stopped the run
+pub stop-row : {K : Type 0} {holds : K → Result Image Table → Type 0} {R : Type 0} (rem : R → Option (List ℕ)) (rows now next : Reader R) (before middle after : DeskView K) (old mid new : Option (List ℕ)) (tally : Tally) (turns : ℕ) (fields : List (List ℕ)) (e : SheetFault)
+    → HasDone holds rem rows now before middle old mid tally turns → length fields ≡ 11 → Gave rem now next (fields ∷ []) → StopsAtRow middle.limits (state_of middle.image) fields (state_of after.image) mid new e
     → DoesRows rem rows before.limits (state_of before.image) (state_of after.image) old new (Err e)
-stop-row rem rows now next before middle after old mid new tally turns fields fault.Write done eleven gave stops why = stop-some rem rows now next before middle after old mid tally turns fields done eleven gave stops
-stop-row rem rows now next before middle after old mid new tally turns fields fault.Memory done eleven gave stops why = stop-some rem rows now next before middle after old mid tally turns fields done eleven gave stops
-stop-row rem rows now next before middle after old mid new tally turns fields (fault.Desk m) done eleven gave stops why = stop-some rem rows now next before middle after old mid tally turns fields done eleven gave stops
-stop-row rem rows now next before middle after old mid new tally turns fields fault.Read done eleven gave stops why = absurd why
-stop-row rem rows now next before middle after old mid new tally turns fields fault.BadHeader done eleven gave stops why = absurd why
-stop-row rem rows now next before middle after old mid new tally turns fields fault.BadCsv done eleven gave stops why = absurd why
+stop-row rem rows now next before middle after old mid new tally turns fields fault.Write done eleven gave stops = stop-after rem rows now next before middle after old mid new tally turns fields done eleven gave stops
+stop-row rem rows now next before middle after old mid new tally turns fields fault.Memory done eleven gave (state, written) = rw (state, written) (some-answered rem rows now before middle old mid tally turns done)
+stop-row rem rows now next before middle after old mid new tally turns fields (fault.Desk m) done eleven gave stops = stop-before rem rows now next before middle after old mid new tally turns fields done eleven gave stops
+stop-row rem rows now next before middle after old mid new tally turns fields fault.Read done eleven gave stops = absurd stops
+stop-row rem rows now next before middle after old mid new tally turns fields fault.BadHeader done eleven gave stops = absurd stops
+stop-row rem rows now next before middle after old mid new tally turns fields fault.BadCsv done eleven gave stops = absurd stops
 
 -- the commit of a record failed
-pub broke : {R : Type 0} (rem : R → Option (List ℕ)) (rows now next : Reader R) (before middle after : DeskView) (old mid : Option (List ℕ)) (tally : Tally) (turns : ℕ) (fields : List (List ℕ))
-    → HasDone rem rows now before middle old mid tally turns → Gave rem now next (fields ∷ []) → BreaksAtRow middle fields after
-    → BreaksAfter rem rows before.limits (state_of before.image) (state_of after.image) after.content
-broke rem rows now next before middle after old mid tally turns fields done gave (same, kept) =
+pub broke : {K : Type 0} {holds : K → Result Image Table → Type 0} {R : Type 0} (rem : R → Option (List ℕ)) (rows now next : Reader R) (before middle after : DeskView K) (old mid : Option (List ℕ)) (tally : Tally) (turns : ℕ) (fields : List (List ℕ))
+    → HasDone holds rem rows now before middle old mid tally turns → Gave rem now next (fields ∷ []) → BreaksAtRow holds middle fields after
+    → (c : Result Image Table) → holds after.keeper c → BreaksAfter rem rows before.limits (state_of before.image) (state_of after.image) c
+broke rem rows now next before middle after old mid tally turns fields done gave (same, kept) c found =
     rw same (
       done.records,
       fields,
@@ -195,5 +214,20 @@ broke rem rows now next before middle after old mid tally turns fields done gave
       done.answered.eleven,
       done.answered.replied,
       begins rem rows next (done.records ++ fields ∷ []) (gave-more rem rows now next done.records (fields ∷ []) done.gave gave),
-      rw done.desk.limits at kept,
+      rw done.desk.limits at (kept c found),
     )
+
+-- a record left the desk after others
+module _ {K : Type 0} {holds : K → Result Image Table → Type 0} (X Y : Type 0) (a b c : DeskView K) where
+  by-fault : (e : SheetFault) → GoesAlong holds a b → LeavesDesk {X = Y} holds b c (Err e) → LeavesDesk {X = X} holds a c (Err e)
+  by-fault (fault.Desk stop.Keep) first next = record { limits = next.limits ∙ first.limits; reopen = next.reopen }
+  by-fault (fault.Desk stop.Memory) first next = along a b c first next
+  by-fault (fault.Desk stop.MustReopen) first next = (along a b c first next.0, sym first.reopen ∙ next.1)
+  by-fault fault.BadHeader first next = along a b c first next
+  by-fault fault.BadCsv first next = along a b c first next
+  by-fault fault.Read first next = along a b c first next
+  by-fault fault.Write first next = along a b c first next
+  by-fault fault.Memory first next = along a b c first next
+
+  pub leaves-after : (e : SheetFault) (r : Result X SheetFault) → r ≡ Err e → GoesAlong holds a b → LeavesDesk {X = Y} holds b c (Err e) → LeavesDesk holds a c r
+  leaves-after e r is first next = subst (λ q. LeavesDesk holds a c q) (sym is) (by-fault e first next)

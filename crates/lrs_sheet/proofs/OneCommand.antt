@@ -8,7 +8,8 @@ use Rattle.lrs_element.specs.declared.link.Piece.{Piece}
 use Rattle.lrs_element.specs.declared.marks.Mark.{Mark}
 use Rattle.lrs_events.specs.declared.class.Class.{Class}
 use Rattle.lrs_measure.specs.Texts.{same_name}
-use Rattle.lrs_machine.specs.Lines.{fields, kind_text}
+use Rattle.lrs_events.specs.Names.{kind_text}
+use Rattle.lrs_machine.specs.Lines.{fields}
 use Rattle.lrs_machine.specs.declared.answer.Field.{Field}
 use Rattle.lrs_machine.specs.declared.answer.Field.TheVariants as field
 use Rattle.lrs_machine.specs.declared.command.Command.{Command}

@@ -11,8 +11,8 @@ use Rattle.lrs_sheet.specs.declared.reply.Tally.{Tally}
 use Rattle.lrs_sheet.specs.declared.fault.SheetFault.{SheetFault}
 use Rattle.lrs_sheet.specs.declared.fault.SheetFault.TheVariants as fault
 use Rattle.lrs_sheet.specs.Replies.{tally_of}
-use Rattle.lrs_sheet.specs.Sheets.{HasBrokenOff, HasDoneSome, IsEditHeader, RunsEdits}
-use Rattle.lrs_sheet.specs.Rows.{BreaksAfter, DoesRows, DoesSome, EndsAfter, Gave, HasRead}
+use Rattle.lrs_sheet.specs.Sheets.{HasBrokenOff, HasAnsweredSome, HasDoneUpTo, HasStopped, IsEditHeader, RunsEdits}
+use Rattle.lrs_sheet.specs.Rows.{AnswersSome, BreaksAfter, DoesRows, DoesUpTo, EndsAfter, Gave, HasRead, Stops}
 
 keeps-same : (contents : Option (List ℕ)) → Keeps contents contents
 keeps-same None = tt
@@ -34,10 +34,20 @@ bad-header rem rows next (Some input) limits state contents fields start gave ot
     let (rest, source, reached) = gave input [] start in
     (fields, (next.state, rest, reached), other, refl, keeps-same contents)
 
-some-under : {R : Type 0} (rem : R → Option (List ℕ)) (next : Reader R) (input : List ℕ) (limits : Limits) (before after : State) (fields : List (List ℕ))
-    → HasRead rem next input (fields ∷ []) → IsEditHeader fields → DoesSome rem next limits before after → HasDoneSome limits input before after
-some-under rem next input limits before after fields read header (records, replies, eleven, replied, begins) =
-    inr (fields, records, replies, header, begins input (fields ∷ []) read, eleven, replied)
+up-to-under : {R : Type 0} (rem : R → Option (List ℕ)) (next : Reader R) (input : List ℕ) (limits : Limits) (before after : State) (fields : List (List ℕ))
+    → HasRead rem next input (fields ∷ []) → IsEditHeader fields → DoesUpTo rem next limits before after → HasDoneUpTo limits input before after
+up-to-under rem next input limits before after fields read header (records, last, replies, eleven, replied, begins) =
+    (fields, records, last, replies, header, begins input (fields ∷ []) read, eleven, replied)
+
+stopped-under : {R : Type 0} (rem : R → Option (List ℕ)) (next : Reader R) (input : List ℕ) (limits : Limits) (before after : State) (old new : Option (List ℕ)) (fields : List (List ℕ))
+    → HasRead rem next input (fields ∷ []) → IsEditHeader fields → Stops rem next limits before after old new → HasStopped limits input before after old new
+stopped-under rem next input limits before after old new fields read header (records, last, replies, eleven, answered, begins) =
+    (fields, records, last, replies, header, begins input (fields ∷ []) read, eleven, answered)
+
+answered-under : {R : Type 0} (rem : R → Option (List ℕ)) (next : Reader R) (input : List ℕ) (limits : Limits) (before after : State) (old new : Option (List ℕ)) (fields : List (List ℕ))
+    → HasRead rem next input (fields ∷ []) → IsEditHeader fields → AnswersSome rem next limits before after old new → HasAnsweredSome limits input before after old new
+answered-under rem next input limits before after old new fields read header (records, replies, answered, begins) =
+    inr (fields, records, replies, header, begins input (fields ∷ []) read, answered)
 
 under : {R : Type 0} (rem : R → Option (List ℕ)) (next : Reader R) (input : List ℕ) (limits : Limits) (before after : State) (old new : Option (List ℕ)) (fields : List (List ℕ)) (result : Result Tally SheetFault)
     → HasRead rem next input (fields ∷ []) → IsEditHeader fields → DoesRows rem next limits before after old new result → RunsEdits limits input before after old new result
@@ -47,10 +57,10 @@ under rem next input limits before after old new fields (Err fault.BadCsv) read 
     let (bad, begins, differs) = next-differs input (fields ∷ []) read in
     (fields, records, bad, replies, header, begins, differs, answered)
 under rem next input limits before after old new fields (Err fault.BadHeader) read header does = absurd does
-under rem next input limits before after old new fields (Err fault.Read) read header does = some-under rem next input limits before after fields read header does
-under rem next input limits before after old new fields (Err fault.Write) read header does = some-under rem next input limits before after fields read header does
-under rem next input limits before after old new fields (Err (fault.Desk m)) read header does = some-under rem next input limits before after fields read header does
-under rem next input limits before after old new fields (Err fault.Memory) read header does = some-under rem next input limits before after fields read header does
+under rem next input limits before after old new fields (Err fault.Read) read header does = answered-under rem next input limits before after old new fields read header does
+under rem next input limits before after old new fields (Err fault.Write) read header does = up-to-under rem next input limits before after fields read header does
+under rem next input limits before after old new fields (Err (fault.Desk m)) read header does = stopped-under rem next input limits before after old new fields read header does
+under rem next input limits before after old new fields (Err fault.Memory) read header does = answered-under rem next input limits before after old new fields read header does
 
 -- the records under the header
 pub under-header : {R : Type 0} (rem : R → Option (List ℕ)) (rows next : Reader R) (known : Option (List ℕ)) (limits : Limits) (before after : State) (old new : Option (List ℕ)) (fields : List (List ℕ)) (result : Result Tally SheetFault)

@@ -10,7 +10,8 @@ use Rattle.lrs_events.specs.Names.{is_class_name}
 use Rattle.lrs_events.specs.declared.class.Kind.{Kind}
 use Rattle.lrs_machine.specs.Entered.{are_entered_pieces, are_entered_marks}
 use Rattle.lrs_machine.specs.Keys.{is_key}
-use Rattle.lrs_machine.specs.Lines.{Text, kind_text}
+use Rattle.lrs_events.specs.Names.{kind_text}
+use Rattle.lrs_machine.specs.Lines.{Text}
 use Rattle.lrs_machine.specs.declared.answer.Field.{Field}
 use Rattle.lrs_machine.specs.declared.answer.Field.TheVariants as field
 use Rattle.lrs_machine.specs.declared.command.Command.{Command}

@@ -68,10 +68,22 @@ IsReadFault remaining reader fault.Write = ⊥
 IsReadFault remaining reader fault.BadHeader = ⊥
 IsReadFault remaining reader (fault.Desk e) = ⊥
 
--- some of the records that come next are done
-abbrev pub DoesSome : {R : Type 0} → (R → Option Text) → Reader R → Limits → State → State → Type 0
-DoesSome remaining reader limits before after =
-    (records : List (List Text)) × (replies : List Reply) × HaveEleven records × Replied limits before records replies after × Begins remaining reader records
+-- some of the records that come next are done and answered
+abbrev pub AnswersSome : {R : Type 0} → (R → Option Text) → Reader R → Limits → State → State → Option Text → Option Text → Type 0
+AnswersSome remaining reader limits before after old new =
+    (records : List (List Text)) × (replies : List Reply) × AreAnswered limits before records replies after old new × Begins remaining reader records
+
+-- ... and the next one, of the right length, is not
+abbrev pub Stops : {R : Type 0} → (R → Option Text) → Reader R → Limits → State → State → Option Text → Option Text → Type 0
+Stops remaining reader limits before after old new =
+    (records : List (List Text)) × (fields : List Text) × (replies : List Reply) × (length fields ≡ 11) × AreAnswered limits before records replies after old new
+    × Begins remaining reader (records ++ fields ∷ [])
+
+-- the records that come next are done up to this one
+abbrev pub DoesUpTo : {R : Type 0} → (R → Option Text) → Reader R → Limits → State → State → Type 0
+DoesUpTo remaining reader limits before after =
+    (records : List (List Text)) × (fields : List Text) × (replies : List Reply) × HaveEleven (records ++ fields ∷ []) × Replied limits before (records ++ fields ∷ []) replies after
+    × Begins remaining reader (records ++ fields ∷ [])
 
 -- what doing the records under a header gives
 abbrev pub DoesRows : {R : Type 0} → (R → Option Text) → Reader R → Limits → State → State → Option Text → Option Text → Result Tally SheetFault → Type 0
@@ -82,14 +94,14 @@ DoesRows remaining reader limits before after old new (Err fault.BadCsv) =
     (records : List (List Text)) × (replies : List Reply) × AreAnswered limits before records replies after old new
     × NextDiffers remaining reader records 11
 DoesRows remaining reader limits before after old new (Err fault.BadHeader) = ⊥
-DoesRows remaining reader limits before after old new (Err fault.Read) = DoesSome remaining reader limits before after
-DoesRows remaining reader limits before after old new (Err fault.Write) = DoesSome remaining reader limits before after
-DoesRows remaining reader limits before after old new (Err (fault.Desk e)) = DoesSome remaining reader limits before after
-DoesRows remaining reader limits before after old new (Err fault.Memory) = DoesSome remaining reader limits before after
+DoesRows remaining reader limits before after old new (Err fault.Read) = AnswersSome remaining reader limits before after old new
+DoesRows remaining reader limits before after old new (Err fault.Write) = DoesUpTo remaining reader limits before after
+DoesRows remaining reader limits before after old new (Err (fault.Desk e)) = Stops remaining reader limits before after old new
+DoesRows remaining reader limits before after old new (Err fault.Memory) = AnswersSome remaining reader limits before after old new
 
 -- the commit of a record failed: the desk's image stays, and what its keeper has stands for the state before it, or for the one after it
-abbrev pub BreaksAtRow : DeskView → List Text → DeskView → Type 0
-BreaksAtRow old fields new = (new.image ≡ old.image) × HasOldOrNext old.limits (state_of old.image) fields new.content
+abbrev pub BreaksAtRow : {K : Type 0} → (K → Result Image Table → Type 0) → DeskView K → List Text → DeskView K → Type 0
+BreaksAtRow holds old fields new = (new.image ≡ old.image) × ((c : Result Image Table) → holds new.keeper c → HasOldOrNext old.limits (state_of old.image) fields c)
 
 -- the same after some of the records that come next are done
 abbrev pub BreaksAfter : {R : Type 0} → (R → Option Text) → Reader R → Limits → State → State → Result Image Table → Type 0
@@ -97,9 +109,9 @@ BreaksAfter remaining reader limits before after content =
     (records : List (List Text)) × (fields : List Text) × (replies : List Reply) × HaveEleven records × Replied limits before records replies after
     × Begins remaining reader (records ++ fields ∷ []) × HasOldOrNext limits after fields content
 
--- a fault of a record that was read
+-- a fault at a record that was read, before its line is written
 abbrev pub IsRowFault : SheetFault → Type 0
-IsRowFault fault.Write = ⊤
+IsRowFault fault.Write = ⊥
 IsRowFault (fault.Desk e) = ⊤
 IsRowFault fault.Memory = ⊤
 IsRowFault fault.Read = ⊥
@@ -111,19 +123,24 @@ abbrev pub DoesRow : Limits → State → List Text → State → Option Text �
 DoesRow limits before fields after old new tally counts =
     (reply : Reply) × IsReplied limits before fields reply after × Appends old new (reply_text reply ++ 10 ∷ []) × (counts ≡ counted tally reply.answer)
 
--- a record is not done, or done with no line for it
-abbrev pub StopsAtRow : Limits → State → List Text → State → Type 0
-StopsAtRow limits before fields after = (after ≡ before) ⊎ ((reply : Reply) × IsReplied limits before fields reply after)
+-- A record is done and its line not written whole, or it is not done and nothing is written.
+abbrev pub StopsAtRow : Limits → State → List Text → State → Option Text → Option Text → SheetFault → Type 0
+StopsAtRow limits before fields after old new fault.Write = (reply : Reply) × IsReplied limits before fields reply after
+StopsAtRow limits before fields after old new (fault.Desk e) = (after ≡ before) × (new ≡ old)
+StopsAtRow limits before fields after old new fault.Memory = (after ≡ before) × (new ≡ old)
+StopsAtRow limits before fields after old new fault.Read = ⊥
+StopsAtRow limits before fields after old new fault.BadHeader = ⊥
+StopsAtRow limits before fields after old new fault.BadCsv = ⊥
 
 -- after some turns of the loop over the records
-pub record HasDone {R : Type 0} (remaining : R → Option Text) (first now : Reader R) (before after : DeskView) (old new : Option Text) (tally : Tally) (turns : ℕ) : Type 0 where
+pub record HasDone {R K : Type 0} (holds : K → Result Image Table → Type 0) (remaining : R → Option Text) (first now : Reader R) (before after : DeskView K) (old new : Option Text) (tally : Tally) (turns : ℕ) : Type 0 where
   pub records : List (List Text)
   pub replies : List Reply
   pub plain : IsPlain now
   pub width : expected_len now ≡ Some 11
   pub gave : Gave remaining first now records
   pub answered : AreAnswered before.limits (state_of before.image) records replies (state_of after.image) old new
-  pub desk : GoesAlong before after
+  pub desk : GoesAlong holds before after
   pub counts : tally ≡ tally_of replies
   pub few : answer_count tally ≡ turns
   pub in_turn : length records ≡ turns

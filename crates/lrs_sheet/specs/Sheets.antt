@@ -12,6 +12,7 @@ use Rattle.lrs_machine.specs.declared.answer.Limits.{Limits}
 use Rattle.lrs_machine.specs.declared.image.Image.{Image}
 use Rattle.lrs_machine.specs.declared.table.Table.{Table}
 use Rattle.lrs_desk.specs.DeskView.{DeskView}
+use Rattle.lrs_desk.specs.Keeping.{HoldsOnly}
 use Rattle.lrs_desk.specs.declared.desk.Fault.TheVariants as stop
 use Rattle.lrs_sheet.specs.declared.reply.Reply.{Reply}
 use Rattle.lrs_sheet.specs.declared.reply.Tally.{Tally}
@@ -71,45 +72,57 @@ HasBadRecord limits input before after old new =
     (header : List Text) × (records : List (List Text)) × (fields : List Text) × (replies : List Reply) × IsEditHeader header
     × BeginsWith input ((header ∷ records) ++ fields ∷ []) × (length fields ≡ 11 → ⊥) × AreAnswered limits before records replies after old new
 
--- Some records at the front of the sheet are done.
-abbrev pub HasDoneSome : Limits → Text → State → State → Type 0
-HasDoneSome limits input before after =
-    (after ≡ before)
+-- Some records at the front of the sheet are done, and each has its line; nothing else is written.
+abbrev pub HasAnsweredSome : Limits → Text → State → State → Option Text → Option Text → Type 0
+HasAnsweredSome limits input before after old new =
+    ((after ≡ before) × Keeps old new)
     ⊎ ((header : List Text) × (records : List (List Text)) × (replies : List Reply) × IsEditHeader header × BeginsWith input (header ∷ records)
-    × HaveEleven records × Replied limits before records replies after)
+    × AreAnswered limits before records replies after old new)
+
+-- Some records at the front of the sheet are done, and each has its line; a further one of the right length is not done.
+abbrev pub HasStopped : Limits → Text → State → State → Option Text → Option Text → Type 0
+HasStopped limits input before after old new =
+    (header : List Text) × (records : List (List Text)) × (fields : List Text) × (replies : List Reply) × IsEditHeader header
+    × BeginsWith input ((header ∷ records) ++ fields ∷ []) × (length fields ≡ 11) × AreAnswered limits before records replies after old new
+
+-- Some records at the front of the sheet are done, one at least; the line of the last was not written whole.
+abbrev pub HasDoneUpTo : Limits → Text → State → State → Type 0
+HasDoneUpTo limits input before after =
+    (header : List Text) × (records : List (List Text)) × (fields : List Text) × (replies : List Reply) × IsEditHeader header
+    × BeginsWith input (header ∷ (records ++ fields ∷ [])) × HaveEleven (records ++ fields ∷ []) × Replied limits before (records ++ fields ∷ []) replies after
 
 -- What a run of an edit sheet gives.
 abbrev pub RunsEdits : Limits → Text → State → State → Option Text → Option Text → Result Tally SheetFault → Type 0
 RunsEdits limits input before after old new (Ok tally) = AnswersAll limits input before after old new tally
 RunsEdits limits input before after old new (Err fault.BadHeader) = HasBadHeader input before after old new
 RunsEdits limits input before after old new (Err fault.BadCsv) = HasBadRecord limits input before after old new
-RunsEdits limits input before after old new (Err fault.Read) = HasDoneSome limits input before after
-RunsEdits limits input before after old new (Err fault.Write) = HasDoneSome limits input before after
-RunsEdits limits input before after old new (Err (fault.Desk e)) = HasDoneSome limits input before after
-RunsEdits limits input before after old new (Err fault.Memory) = HasDoneSome limits input before after
+RunsEdits limits input before after old new (Err fault.Read) = HasAnsweredSome limits input before after old new
+RunsEdits limits input before after old new (Err fault.Write) = HasDoneUpTo limits input before after
+RunsEdits limits input before after old new (Err (fault.Desk e)) = HasStopped limits input before after old new
+RunsEdits limits input before after old new (Err fault.Memory) = HasAnsweredSome limits input before after old new
 
 -- the desk goes along with its keeper
-pub record GoesAlong (old new : DeskView) : Type 0 where
+pub record GoesAlong {K : Type 0} (holds : K → Result Image Table → Type 0) (old new : DeskView K) : Type 0 where
   pub limits : new.limits ≡ old.limits
-  pub kept : old.content ≡ Ok old.image → new.content ≡ Ok new.image
+  pub kept : HoldsOnly (holds old.keeper) old.image → HoldsOnly (holds new.keeper) new.image
   pub reopen : new.must_reopen ≡ old.must_reopen
 
 -- a commit of the desk has failed
-pub record MustReopen (old new : DeskView) : Type 0 where
+pub record MustReopen {K : Type 0} (old new : DeskView K) : Type 0 where
   pub limits : new.limits ≡ old.limits
   pub reopen : new.must_reopen ≡ true
 
 -- What a run leaves of a desk.
-abbrev pub LeavesDesk : {X : Type 0} → DeskView → DeskView → Result X SheetFault → Type 0
-LeavesDesk old new (Ok x) = GoesAlong old new
-LeavesDesk old new (Err (fault.Desk stop.Keep)) = MustReopen old new
-LeavesDesk old new (Err (fault.Desk stop.Memory)) = GoesAlong old new
-LeavesDesk old new (Err (fault.Desk stop.MustReopen)) = GoesAlong old new × (old.must_reopen ≡ true)
-LeavesDesk old new (Err fault.BadHeader) = GoesAlong old new
-LeavesDesk old new (Err fault.BadCsv) = GoesAlong old new
-LeavesDesk old new (Err fault.Read) = GoesAlong old new
-LeavesDesk old new (Err fault.Write) = GoesAlong old new
-LeavesDesk old new (Err fault.Memory) = GoesAlong old new
+abbrev pub LeavesDesk : {X K : Type 0} → (K → Result Image Table → Type 0) → DeskView K → DeskView K → Result X SheetFault → Type 0
+LeavesDesk holds old new (Ok x) = GoesAlong holds old new
+LeavesDesk holds old new (Err (fault.Desk stop.Keep)) = MustReopen old new
+LeavesDesk holds old new (Err (fault.Desk stop.Memory)) = GoesAlong holds old new
+LeavesDesk holds old new (Err (fault.Desk stop.MustReopen)) = GoesAlong holds old new × (old.must_reopen ≡ true)
+LeavesDesk holds old new (Err fault.BadHeader) = GoesAlong holds old new
+LeavesDesk holds old new (Err fault.BadCsv) = GoesAlong holds old new
+LeavesDesk holds old new (Err fault.Read) = GoesAlong holds old new
+LeavesDesk holds old new (Err fault.Write) = GoesAlong holds old new
+LeavesDesk holds old new (Err fault.Memory) = GoesAlong holds old new
 
 -- what a keeper has stands for the state
 abbrev pub StandsFor : Result Image Table → State → Type 0

@@ -1,10 +1,12 @@
 //! Edit sheets, from their bytes to the bytes of their replies.
 
-ghost use Rattle.std.specs.Prelude.{◌≡◌, ◌≤◌, ◌<◌, ◌^◌, ◌∷◌, ◌++◌, [], Some, Err, length, IfOk, OnOk, IfErr, OnErr, IfSome};
+ghost use Rattle.std.specs.Prelude.{◌≡◌, ◌≤◌, ◌<◌, ◌^◌, ◌∷◌, ◌++◌, [], Some, Err, length, IfOk, OnOk, IfErr, OnErr, IfSome, Result, ◌⊎◌};
 ghost use Rattle.std.specs.Io.KnownBytes.{Appends};
 ghost use Rattle.csv.specs.Records.{fields_of};
 ghost use Rattle.csv.specs.Reading.{expected_len};
 ghost use Rattle.lrs_machine.specs.Image.{state_of};
+ghost use Rattle.lrs_machine.specs.declared.image.Image.{Image as ImageRows};
+ghost use Rattle.lrs_machine.specs.declared.table.Table.{Table};
 ghost use Rattle.lrs_machine.specs.Machine.{step};
 ghost use Rattle.lrs_desk.specs.Desk.{HasBroken};
 ghost use Rattle.lrs_sheet.specs.Replies.{IsAnswered, IsReplied, answer_count, reply_text};
@@ -31,8 +33,8 @@ fn act<K: Keeper>(desk: &mut Desk<K>, key: Key, command: &Planned) -> Result<Ans
     ensures answer { IfOk result (λ answer. answer ≡ (step desk.old.limits key command.now (state_of desk.old.image)).answer) }
     ensures state { OnOk result (state_of desk.new.image ≡ (step desk.old.limits key command.now (state_of desk.old.image)).state) }
     ensures image { OnErr result (desk.new.image ≡ desk.old.image) }
-    ensures desk { LeavesDesk desk.old desk.new result }
-    ensures broken { result ≡ Err (SheetFault.Desk Fault.Keep) → HasBroken key command.now desk.old desk.new }
+    ensures desk { LeavesDesk K.may_hold desk.old desk.new result }
+    ensures broken { result ≡ Err (SheetFault.Desk Fault.Keep) → HasBroken K.may_hold K.failures key command.now desk.old desk.new }
     ensures faults { IfErr result IsRowFault }
 {
     match desk.act(key, command) {
@@ -50,8 +52,8 @@ fn answer_to<K: Keeper>(
     requires { length (fields_of row.now) ≤ 11 }
     ensures answered { IfOk result (λ answer. IsAnswered desk.old.limits (state_of desk.old.image) (fields_of row.now) answer (state_of desk.new.image)) }
     ensures image { OnErr result (desk.new.image ≡ desk.old.image) }
-    ensures desk { LeavesDesk desk.old desk.new result }
-    ensures broken { result ≡ Err (SheetFault.Desk Fault.Keep) → BreaksAtRow desk.old (fields_of row.now) desk.new }
+    ensures desk { LeavesDesk K.may_hold desk.old desk.new result }
+    ensures broken { result ≡ Err (SheetFault.Desk Fault.Keep) → BreaksAtRow K.may_hold desk.old (fields_of row.now) desk.new }
     ensures faults { IfErr result IsRowFault }
 {
     match command_of(alloc, row) {
@@ -69,8 +71,8 @@ fn reply_to<K: Keeper>(
     requires { length (fields_of row.now) ≤ 11 }
     ensures replied { IfOk result (λ reply. IsReplied desk.old.limits (state_of desk.old.image) (fields_of row.now) reply (state_of desk.new.image)) }
     ensures image { OnErr result (desk.new.image ≡ desk.old.image) }
-    ensures desk { LeavesDesk desk.old desk.new result }
-    ensures broken { result ≡ Err (SheetFault.Desk Fault.Keep) → BreaksAtRow desk.old (fields_of row.now) desk.new }
+    ensures desk { LeavesDesk K.may_hold desk.old desk.new result }
+    ensures broken { result ≡ Err (SheetFault.Desk Fault.Keep) → BreaksAtRow K.may_hold desk.old (fields_of row.now) desk.new }
     ensures faults { IfErr result IsRowFault }
 {
     match answer_to(alloc, row, desk) {
@@ -103,10 +105,9 @@ fn do_row<W: Write, K: Keeper>(
     requires width { length (fields_of row.now) ≤ 11 }
     requires room { answer_count tally.old < 2 ^ 32 }
     ensures done { OnOk result (DoesRow desk.old.limits (state_of desk.old.image) (fields_of row.now) (state_of desk.new.image) (W.contents writer.old) (W.contents writer.new) tally.old tally.new) }
-    ensures stops { OnErr result (StopsAtRow desk.old.limits (state_of desk.old.image) (fields_of row.now) (state_of desk.new.image)) }
-    ensures desk { LeavesDesk desk.old desk.new result }
-    ensures broken { result ≡ Err (SheetFault.Desk Fault.Keep) → BreaksAtRow desk.old (fields_of row.now) desk.new }
-    ensures faults { IfErr result IsRowFault }
+    ensures stops { IfErr result (StopsAtRow desk.old.limits (state_of desk.old.image) (fields_of row.now) (state_of desk.new.image) (W.contents writer.old) (W.contents writer.new)) }
+    ensures desk { LeavesDesk K.may_hold desk.old desk.new result }
+    ensures broken { result ≡ Err (SheetFault.Desk Fault.Keep) → BreaksAtRow K.may_hold desk.old (fields_of row.now) desk.new }
 {
     let reply = reply_to(alloc, row, desk)?;
     let answer = reply.answer;
@@ -126,8 +127,8 @@ fn do_rows<R: Read, W: Write, K: Keeper>(
     requires plain { IsPlain rows.old }
     requires width { expected_len rows.old ≡ Some 11 }
     ensures rows { DoesRows R.remaining rows.old desk.old.limits (state_of desk.old.image) (state_of desk.new.image) (W.contents writer.old) (W.contents writer.new) result }
-    ensures desk { LeavesDesk desk.old desk.new result }
-    ensures broken { result ≡ Err (SheetFault.Desk Fault.Keep) → BreaksAfter R.remaining rows.old desk.old.limits (state_of desk.old.image) (state_of desk.new.image) desk.new.content }
+    ensures desk { LeavesDesk K.may_hold desk.old desk.new result }
+    ensures broken { result ≡ Err (SheetFault.Desk Fault.Keep) → (c : Result ImageRows Table) → K.may_hold desk.new.keeper c → BreaksAfter R.remaining rows.old desk.old.limits (state_of desk.old.image) (state_of desk.new.image) c }
 {
     let mut tally = Tally::default();
     for _turn in 0..MAX_RECORDS {
@@ -161,10 +162,10 @@ pub fn run_edits<R: Read + Drop, W: Write, K: Keeper>(
     ensures runs { IfSome (R.remaining reader) (λ input. RunsEdits desk.old.limits input (state_of desk.old.image) (state_of desk.new.image) (W.contents writer.old) (W.contents writer.new) result) }
 
     // The keeper goes along, unless a commit failed.
-    ensures desk { LeavesDesk desk.old desk.new result }
+    ensures desk { LeavesDesk K.may_hold desk.old desk.new result }
 
     // After a failed commit the keeper has the state of the records that were done, or that of one more.
-    ensures broken { result ≡ Err (SheetFault.Desk Fault.Keep) → IfSome (R.remaining reader) (λ input. HasBrokenOff desk.old.limits input (state_of desk.old.image) (state_of desk.new.image) desk.new.content) }
+    ensures broken { result ≡ Err (SheetFault.Desk Fault.Keep) → (c : Result ImageRows Table) → K.may_hold desk.new.keeper c → IfSome (R.remaining reader) (λ input. HasBrokenOff desk.old.limits input (state_of desk.old.image) (state_of desk.new.image) c) }
 {
     let mut rows = open(alloc, reader);
     let mut row = ByteRecord::new(alloc);

@@ -2,6 +2,8 @@ mod Putting
 mod Holding
 mod Tying
 mod Loading
-mod Gathering
-mod Searching
+mod ClassPlaces
+mod Finding
 mod SearchFree
+mod Behind
+mod Gathering

@@ -3,12 +3,13 @@
 #![tactic(auto)]
 
 mod calls;
+mod class_places;
 mod lanes;
 mod meeting;
 mod open;
 mod plans;
+mod queries;
 mod search;
-mod searching;
 mod spans;
 
 pub use lanes::ClassLanes;

@@ -71,8 +71,8 @@ impl Spans {
         ensures plan { IfOk result (λ removal. IsPlan self.now removal.change) }
         ensures removal { IfOk result (λ removal. IsRemoval (λ c a j s. same_name c class && nat_eq a asset && is_within low high j) self.now removal) }
     {
-        let found = self.of_asset(alloc, class, asset)?;
-        let removal = cleared(alloc, &found, low, high)?;
+        let found = self.asset_rows(class, asset);
+        let removal = cleared(alloc, found, low, high)?;
         Ok(removal)
     }
 

@@ -19,7 +19,7 @@ use lrs_lanes::Lane;
 use std::alloc::{AllocError, Global};
 
 // The length of the longest route in millimetres.
-const LONGEST_ROUTE: u64 = 10_000_000_000;
+pub(crate) const LONGEST_ROUTE: u64 = 10_000_000_000;
 
 /// The rows of an asset of the class.
 pub(crate) fn asset_rows(rows: &[Span], class: ClassName, asset: u64) -> &[Span]

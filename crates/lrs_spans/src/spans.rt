@@ -14,7 +14,7 @@ use std::marker::Model;
 /// classes, none twice over one millimetre, and no two rows that could be one.
 #[derive(Drop)]
 pub struct Spans {
-    kept: OpenSpans,
+    pub(crate) kept: OpenSpans,
 }
 
 impl Model for Spans {

@@ -1,9 +1,9 @@
 -- An image that a store holds is sound: what the tests of the tables read is what the tests of the image read.
 use Rattle.std.proofs.Common.{◌≡◌, Bool, true, false, cond, List, [], ◌∷◌, map, Option, Some, None, Ok, Err, refl, sym, ap, subst, ◌∙◌}
-use Rattle.std.specs.Prelude.{Result, IsTrue, IfSome, IfOk}
-use Rattle.std.specs.List.{list_any, list_all, filter}
+use Rattle.std.specs.Prelude.{◌&&◌, Result, IsTrue, IfSome, IfOk}
+use Rattle.std.specs.List.{list_any}
+use Rattle.std.proofs.lemmas.Bool.{and_parts}
 use Rattle.lrs_measure.specs.Texts.{same_name}
-use Rattle.lrs_element.specs.declared.marks.Mark.{Mark}
 use Rattle.lrs_position.specs.declared.route.Route.{Route}
 use Rattle.lrs_position.specs.Routes.{is_route}
 use Rattle.lrs_events.specs.declared.class.Asset.{Asset}
@@ -12,12 +12,14 @@ use Rattle.lrs_machine.specs.declared.image.Image.{Image}
 use Rattle.lrs_machine.specs.declared.table.Table.{Table}
 use Rattle.lrs_machine.specs.declared.table.Table.TheVariants as table
 use Rattle.lrs_machine.specs.Image.{nothing}
-use Rattle.lrs_machine.specs.Sound.{RouteCourse, Test, first_failed, first_unsound, tests, IsSound, are_links, are_classes, are_assets, are_courses, are_all_marks, are_all_referents, are_spans, are_entered, are_gone, are_edits}
+use Rattle.lrs_events.specs.Parts.{part_before}
+use Rattle.lrs_machine.specs.Sound.{RouteCourse, Test, first_failed, first_unsound, tests, IsSound, link_before, are_links, class_before, are_classes, asset_before, are_assets, are_courses, are_all_marks, are_all_referents, are_spans, are_entered, gone_before, are_gone, are_edits, are_origins}
 use Rattle.lrs_store.specs.Tables.{Tables, MarkRow, RefRow, SpanRow}
-use Rattle.lrs_store.specs.Decoding.{if_true, only_if, each_of, each_numbered, link_of, class_of, asset_of, mark_of, referent_of, span_of, part_of, gone_of, edit_of}
+use Rattle.lrs_store.specs.Decoding.{if_true, each_of, each_sorted, sorted, said_of, number_before, counted, link_of, class_of, asset_of, mark_of, referent_of, span_of, part_of, gone_of, origin_of}
 use Rattle.lrs_store.specs.Decoding as option
-use Rattle.lrs_store.specs.Content.{read, Measured, is_first_version, grouped, course_of_group, is_one_of, marks_of, referents_of, spans_of, measured_of, route_of, routes_of, entry_of, entries_of, image_of, content_of, has_no_rows}
+use Rattle.lrs_store.specs.Content.{read, Measured, courses_of, each_of_known, is_one_of, marks_of, measured_with, measured_of, referent_before, referents_of, route_with, routes_of, spans_of, entry_with, entries_of, edits_of, inventory_of, version_of, origin_before, has_origins, image_of, content_of, has_no_rows}
 use Rattle.lrs_store.specs.Content as content
+use Rattle.lrs_store.proofs.Entries.{assets-same, spans-same, entered-same, gone-same}
 
 -- what is read was decoded and passes its test
 record WasRead {A : Type 0} (o : Option A) (test : A → Bool) (x : A) : Type 0 where
@@ -33,6 +35,11 @@ behind_read P t (Some x) test f h =
       | true ↦ λ passes. h x (record { decoded = refl; passes = passes })
       | false ↦ λ _. tt
     ] refl
+
+-- a step takes what is known of what the step before it gave
+behind_known : {A B : Type 0} (P : B → Type 0) (Q : A → Type 0) (r : Result A Table) (f : A → Result B Table) → IfOk r Q → ((x : A) → Q x → IfOk (f x) P) → IfOk (content.◌>>=◌ r f) P
+behind_known P Q (Ok x) f is h = h x is
+behind_known P Q (Err t) f is h = tt
 
 -- a step takes what was there before it
 behind_some : {A B : Type 0} (P : B → Type 0) (o : Option A) (f : A → Option B) → ((x : A) → IfSome (f x) P) → IfSome (option.◌>>=◌ o f) P
@@ -66,16 +73,12 @@ map-map : {X Y Z : Type 0} (f : Y → Z) (g : X → Y) (xs : List X) → map f (
 map-map f g [] = refl
 map-map f g (x ∷ xs) = ap (λ t. f (g x) ∷ t) (map-map f g xs)
 
--- the marks of one course
-abbrev marks_in : RouteCourse → List MarkRow → Option (List Mark)
-marks_in c known = each_numbered 0 (λ r. r.n) mark_of (filter (λ r. same_name r.route c.route) known)
-
--- they are read course by course
+-- the marks are read course by course
 measured-courses : (rows : List MarkRow) (courses : List RouteCourse) → IfSome (measured_of rows courses) (λ ms. map (λ m. m.course) ms ≡ map (λ c. c) courses)
 measured-courses rows courses =
-    behind_some _ (only_if (list_all (λ r. is_one_of courses r.route) rows) rows) _ (λ known.
-    map-each_of (λ c. option.◌>>=◌ (marks_in c known) (λ marks. Some (record { course = c; marks = marks }))) (λ (m : Measured). m.course) (λ (c : RouteCourse). c)
-    (λ c. behind_some _ (marks_in c known) _ (λ marks. refl)) courses)
+    behind_some _ (each_of_known mark_of (is_one_of courses) rows) _ (λ said.
+    map-each_of (measured_with said) (λ (m : Measured). m.course) (λ (c : RouteCourse). c)
+    (λ c. behind_some _ (counted 0 (sorted number_before (said_of c.route said))) _ (λ marks. refl)) courses)
 
 -- what a route has of its course and marks
 abbrev measured : Route → Measured
@@ -84,16 +87,14 @@ measured r = record { course = record { route = r.name; entries = r.course }; ma
 -- the referents are read route by route
 routes-measured : (rows : List RefRow) (ms : List Measured) → IfSome (routes_of rows ms) (λ rs. map measured rs ≡ map (λ m. m) ms)
 routes-measured rows ms =
-    behind_some _ (only_if (list_all (λ r. list_any (λ m. same_name m.course.route r.route) ms) rows) rows) _ (λ known.
-    map-each_of (route_of known) measured (λ (m : Measured). m)
-    (λ m. behind_some _ (each_of referent_of (filter (λ r. same_name r.route m.course.route) known)) _ (λ refs. behind_true _ (is_route m.course.entries m.marks refs) _ (λ fits. refl))) ms)
+    behind_some _ (each_of_known referent_of (λ route. list_any (λ m. same_name m.course.route route) ms) rows) _ (λ said.
+    map-each_of (route_with said) measured (λ (m : Measured). m)
+    (λ m. behind_true _ (is_route m.course.entries m.marks (sorted referent_before (said_of m.course.route said))) _ (λ fits. refl)) ms)
 
 -- the spans are read route by route
 entries-routes : (assets : List Asset) (rows : List SpanRow) (rs : List Route) → IfSome (entries_of assets rows rs) (λ es. map (λ e. e.route) es ≡ map (λ r. r) rs)
 entries-routes assets rows rs =
-    behind_some _ (only_if (list_all (λ r. list_any (λ route. same_name route.name r.route) rs) rows) rows) _ (λ known.
-    map-each_of (entry_of assets known) (λ (e : RouteEntry). e.route) (λ (r : Route). r)
-    (λ r. behind_some _ (each_of (span_of assets) (filter (λ row. same_name row.route r.name) known)) _ (λ spans. refl)) rs)
+    behind_some _ (each_of_known (span_of assets) (λ name. list_any (λ route. same_name route.name name) rs) rows) _ (λ said. map-map (λ (e : RouteEntry). e.route) (entry_with said) rs)
 
 first_failed-passed : (t : Test) (ts : List Test) → t.passes ≡ true → first_failed (t ∷ ts) ≡ first_failed ts
 first_failed-passed t ts h = ap (λ b. cond b (first_failed ts) (Some t.table)) h
@@ -111,19 +112,19 @@ all_passed : (i : Image) → AllPassed (tests i) → IsSound i
 unfolding first_unsound
 all_passed i h = none_failed (tests i) h
 
-image_is_sound : (t : Tables) → IfOk (image_of t) IsSound
-image_is_sound t =
-    behind_read _ table.Version (Some t.version) is_first_version _ (λ version _.
-    behind_read _ table.Link (each_of link_of t.link) are_links _ (λ links link.
-    behind_read _ table.Class (each_of class_of t.class) are_classes _ (λ classes class.
-    behind_read _ table.Asset (each_of asset_of t.asset) (are_assets classes) _ (λ assets asset.
-    behind_read _ table.Piece (each_of course_of_group (grouped t.piece)) (are_courses links) _ (λ courses piece.
+-- Where each asset was entered, by one edit, the image of the rows is sound.
+inventory_is_sound : (t : Tables) → IfOk (inventory_of t) (λ i. are_origins i.entered i.assets ≡ true → IsSound i)
+inventory_is_sound t =
+    behind_read _ table.Link (each_sorted link_before link_of t.link) are_links _ (λ links link.
+    behind_read _ table.Class (each_sorted class_before class_of t.class) are_classes _ (λ classes class.
+    behind_read _ table.Asset (each_sorted asset_before asset_of t.asset) (are_assets classes) _ (λ assets asset.
+    behind_read _ table.Piece (courses_of t.piece) (are_courses links) _ (λ courses piece.
     behind_read _ table.Mark (measured_of t.mark courses) (λ ms. are_all_marks (map marks_of ms)) _ (λ ms mark.
     behind_read _ table.Ref (routes_of t.ref ms) (λ rs. are_all_referents (map referents_of rs)) _ (λ rs ref.
     behind_read _ table.Span (entries_of assets t.span rs) (λ es. are_spans links classes assets (map spans_of es)) _ (λ es span.
-    behind_read _ table.Entered (each_of part_of t.entered) (are_entered links assets) _ (λ entered enter.
-    behind_read _ table.Gone (each_of gone_of t.gone) (are_gone links assets (map spans_of es) entered) _ (λ gone go.
-    behind_read _ table.Edit (each_numbered 1 (λ r. r.number) edit_of t.edit) (are_edits entered gone) _ (λ edits edit.
+    behind_read _ table.Entered (each_sorted part_before part_of t.entered) (are_entered links assets) _ (λ entered enter.
+    behind_read _ table.Gone (each_sorted gone_before gone_of t.gone) (are_gone links assets (map spans_of es) entered) _ (λ gone go.
+    behind_read _ table.Edit (edits_of t.edit) (are_edits entered gone) _ (λ edits edit. λ origins.
     let of_courses : map (λ m. m.course) ms ≡ courses = is_some_as _ _ ms (measured-courses t.mark courses) mark.decoded ∙ map_id courses in
     let of_ms : map measured rs ≡ ms = is_some_as _ _ rs (routes-measured t.ref ms) ref.decoded ∙ map_id ms in
     let of_rs : map (λ e. e.route) es ≡ rs = is_some_as _ _ es (entries-routes assets t.span rs) span.decoded ∙ map_id rs in
@@ -133,7 +134,7 @@ image_is_sound t =
       (
         class.passes,
         (
-          asset.passes,
+          assets-same entered classes assets ∙ asset.passes,
           (
             ap (are_courses links) (sym (map-map (λ (m : Measured). m.course) (λ (e : RouteEntry). measured e.route) es) ∙ ap (map (λ (m : Measured). m.course)) through ∙ of_courses) ∙ piece.passes,
             (
@@ -141,12 +142,12 @@ image_is_sound t =
               (
                 ap are_all_referents (sym (map-map referents_of (λ (e : RouteEntry). e.route) es) ∙ ap (map referents_of) of_rs) ∙ ref.passes,
                 (
-                  span.passes,
+                  spans-same entered links classes assets (map spans_of es) ∙ span.passes,
                   (
-                    enter.passes,
+                    entered-same entered links assets entered ∙ enter.passes,
                     (
-                      go.passes,
-                      (edit.passes, tt),
+                      gone-same entered links assets (map spans_of es) entered gone ∙ go.passes,
+                      (edit.passes, (origins, tt)),
                     ),
                   ),
                 ),
@@ -155,7 +156,14 @@ image_is_sound t =
           ),
         ),
       ),
-    ))))))))))))
+    )))))))))))
+
+image_is_sound : (t : Tables) → IfOk (image_of t) IsSound
+image_is_sound t =
+    behind_read _ table.Version (version_of t.version) (λ v. true) _ (λ version _.
+    behind_known _ _ (inventory_of t) _ (inventory_is_sound t) (λ image sound.
+    behind_read _ table.Origin (each_sorted origin_before origin_of t.origin) (λ os. are_origins image.entered image.assets && has_origins version image.assets os) _ (λ os origin.
+    sound (and_parts (are_origins image.entered image.assets) (has_origins version image.assets os) origin.passes).0)))
 
 nothing_is_sound : IsSound nothing
 unfolding first_unsound

@@ -1,4 +1,4 @@
--- The tables of a store as their rows stand there, each list in the order of its table's key.
+-- The tables of a store as their rows stand there, in any order.
 use Rattle.std.specs.Prelude.{ℕ, ℤ, List, []}
 use Rattle.lrs_measure.specs.Texts.{Name}
 
@@ -61,6 +61,11 @@ pub record EditRow : Type 0 where
   pub token : Name
   pub line : List ℕ
 
+-- the edit that entered an asset, in stores of version 2
+pub record OriginRow : Type 0 where
+  pub asset : ℤ
+  pub edit : ℤ
+
 pub record Tables : Type 0 where
   pub version : List ℤ
   pub link : List LinkRow
@@ -73,7 +78,8 @@ pub record Tables : Type 0 where
   pub entered : List EnteredRow
   pub gone : List GoneRow
   pub edit : List EditRow
+  pub origin : List OriginRow
 
 -- a store without any row
 abbrev pub no_rows : Tables
-no_rows = record { version = []; link = []; class = []; asset = []; piece = []; mark = []; ref = []; span = []; entered = []; gone = []; edit = [] }
+no_rows = record { version = []; link = []; class = []; asset = []; piece = []; mark = []; ref = []; span = []; entered = []; gone = []; edit = []; origin = [] }

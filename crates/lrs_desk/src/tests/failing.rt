@@ -27,9 +27,14 @@ impl Failing {
 }
 
 impl Keeper for Failing {
-    ghost use Rattle.std.specs.Prelude.{Ok, true};
+    ghost use Rattle.std.specs.Prelude.{◌≡◌, Ok, true, ⊤};
+    ghost use Rattle.lrs_desk.specs.Keeping.{finds_kept};
 
-    ghost content = { λ failing. Ok failing.plain };
+    ghost may_hold = { λ failing c. c ≡ Ok failing.plain };
+
+    ghost is_clean = { λ failing. ⊤ };
+
+    ghost finds = { λ failing clean. finds_kept failing.plain };
 
     ghost is_loaded = { λ failing. true };
 

@@ -1,7 +1,8 @@
 use Rattle.std.proofs.Common.{◌≡◌, ◌∷◌, [], ◌∙◌, string_bytes}
 use Rattle.std.specs.Fmt.{decimal}
 use Rattle.std.proofs.lemmas.Result.{IfOk-weaker}
-use Rattle.lrs_machine.specs.Lines.{fields, entry_fields, side_text, method_text, expression_text, end_text}
+use Rattle.lrs_events.specs.Names.{side_text}
+use Rattle.lrs_machine.specs.Lines.{fields, entry_fields, method_text, expression_text, end_text}
 use Rattle.lrs_machine.proofs.Words.{fields-joined}
 use Rattle.lrs_machine.proofs.line.entry_text.Goals as goal
 

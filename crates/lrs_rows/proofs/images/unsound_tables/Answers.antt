@@ -5,4 +5,4 @@ use Rattle.lrs_rows.proofs.images.unsound_tables.Goals as goal
 
 pub returns : goal.returns
 unfolding digits first_unsound
-returns c = (refl, refl, refl, refl, refl, refl, refl, refl, refl)
+returns c = (refl, refl, refl, refl, refl, refl, refl, refl, refl, refl)

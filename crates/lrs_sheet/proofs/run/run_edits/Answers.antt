@@ -18,6 +18,6 @@ returns-clause-runs g c = under-header g.R.Read.remaining c.open-rows.result c.n
     c.open-rows.ensures.start (c.in_ok-next_row.ensures.found c.if-not-branch.false) (search rules) c.do_rows.ensures.rows
 
 pub returns-clause-broken : goal.returns-clause-broken
-returns-clause-broken g c is = broke-under g.R.Read.remaining c.open-rows.result c.next_row.new.rows (g.R.Read.remaining c.args.reader) c.args.desk.now.limits (state_of c.args.desk.now.image) (state_of c.do_rows.new.desk.image)
-    c.do_rows.new.desk.content (fields_of c.next_row.new.row)
-    c.open-rows.ensures.start (c.in_ok-next_row.ensures.found c.if-not-branch.false) (search rules) (c.do_rows.ensures.broken is)
+returns-clause-broken g c is = λ kept found. broke-under g.R.Read.remaining c.open-rows.result c.next_row.new.rows (g.R.Read.remaining c.args.reader) c.args.desk.now.limits (state_of c.args.desk.now.image) (state_of c.do_rows.new.desk.image)
+    kept (fields_of c.next_row.new.row)
+    c.open-rows.ensures.start (c.in_ok-next_row.ensures.found c.if-not-branch.false) (search rules) (c.do_rows.ensures.broken is kept found)

@@ -1,6 +1,6 @@
 use Rattle.std.proofs.Common.{refl}
 use Rattle.lrs_events.specs.declared.side.Side.TheVariants.{B}
-use Rattle.lrs_spans.proofs.Searching.{asset_slice}
+use Rattle.lrs_spans.proofs.Finding.{asset_slice}
 use Rattle.lrs_spans.proofs.search.asset_rows.Goals as goal
 
 pub returns : goal.returns

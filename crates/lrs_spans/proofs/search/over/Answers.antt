@@ -2,7 +2,7 @@ use Rattle.std.proofs.Common.{ℕ, sym, subst, Option}
 use Rattle.lrs_events.specs.declared.side.Side.{Side}
 use Rattle.lrs_events.specs.declared.side.Side.TheVariants.{B}
 use Rattle.lrs_spans.specs.Search.{IsOver}
-use Rattle.lrs_spans.proofs.Searching.{over_both}
+use Rattle.lrs_spans.proofs.Finding.{over_both}
 use Rattle.lrs_spans.proofs.search.over.Goals as goal
 
 pub returns-in-B : goal.returns-in-B

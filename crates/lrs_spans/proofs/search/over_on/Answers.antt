@@ -4,7 +4,7 @@ use Rattle.lrs_events.specs.declared.side.LinkSide.TheVariants.{Left, Right}
 use Rattle.lrs_lanes.specs.Lane.{is_met, IsLeast}
 use Rattle.lrs_spans.specs.declared.lanes.ClassLanes.{ClassLanes}
 use Rattle.lrs_spans.specs.Search.{one_side, IsOver}
-use Rattle.lrs_spans.proofs.Searching.{left_is, right_is, empty_is, least_over, least_nothing}
+use Rattle.lrs_spans.proofs.Finding.{left_is, right_is, empty_is, least_over, least_nothing}
 use Rattle.lrs_spans.proofs.search.over_on.Goals as goal
 
 pub returns-in-Left : goal.returns-in-Left

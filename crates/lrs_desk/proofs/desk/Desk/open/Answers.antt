@@ -1,4 +1,4 @@
-use Rattle.std.proofs.Common.{◌≡◌, List, true, not, sym, subst}
+use Rattle.std.proofs.Common.{◌≡◌, List, true, not, sym, subst, ap, Err}
 use Rattle.lrs_measure.specs.Lists.{each_two}
 use Rattle.lrs_measure.specs.Texts.{same_name}
 use Rattle.lrs_machine.specs.declared.image.Edit.{Edit}
@@ -16,3 +16,6 @@ index_of-requires g c =
 pub ground_of-requires : goal.ground_of-requires
 ground_of-requires g c =
     record { once = subst (λ (es : List RouteEntry). is_run_once (ground_of_routes es) ≡ true) (sym c.as_slice-2.ensures) (run_once c.in-Ok.image c.in-Ok.ensures.sound) }
+
+pub returns-in-Err-clause-unsound : goal.returns-in-Err-clause-unsound
+returns-in-Err-clause-unsound g c = λ t e d h. c.in-Err.ensures.unsound t (ap Err (c.open_fault.ensures.unsound t e)) d h

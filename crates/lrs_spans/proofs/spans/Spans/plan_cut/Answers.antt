@@ -1,4 +1,4 @@
-use Rattle.std.proofs.Common.{◌≡◌, ◌∙◌, nat_lt, ap, filter}
+use Rattle.std.proofs.Common.{◌∙◌, nat_lt, ap}
 use Rattle.lrs_events.specs.Spans.{are_rows}
 use Rattle.lrs_canonical.specs.Cuts.{IsCutOff}
 use Rattle.lrs_canonical.proofs.Replaced.{found_rows}

@@ -1,4 +1,4 @@
-use Rattle.std.proofs.Common.{◌≡◌, ◌∙◌, ◌&&◌, nat_eq, ap, filter}
+use Rattle.std.proofs.Common.{◌∙◌, ◌&&◌, nat_eq, ap}
 use Rattle.lrs_measure.specs.Texts.{same_name}
 use Rattle.lrs_events.specs.Spans.{are_rows}
 use Rattle.lrs_canonical.specs.Members.{is_of}
@@ -9,12 +9,12 @@ use Rattle.lrs_spans.proofs.spans.Spans.plan_remove_asset_within.Goals as goal
 
 pub cleared-requires-clause-rows : goal.cleared-requires-clause-rows
 cleared-requires-clause-rows c =
-    ap are_rows (c.deref.ensures.value ∙ c.in_ok-found.ensures.found) ∙ found_rows (is_of c.args.class c.args.asset) c.args.self.now c.in_ok-found.ensures.canonical
+    ap are_rows c.asset_rows-found.ensures.rows ∙ found_rows (is_of c.args.class c.args.asset) c.args.self.now c.asset_rows-found.ensures.canonical
 
 pub returns-clause-removal : goal.returns-clause-removal
-returns-clause-removal c = c.in_ok-removal.ensures.removal c.args.self.now (is_of c.args.class c.args.asset) (λ class asset. same_name class c.args.class && nat_eq asset c.args.asset) c.in_ok-found.ensures.canonical (c.deref.ensures.value ∙ c.in_ok-found.ensures.found) (finds_asset c.args.class c.args.asset c.args.low c.args.high c.args.self.now)
+returns-clause-removal c = c.in_ok-removal.ensures.removal c.args.self.now (is_of c.args.class c.args.asset) (λ class asset. same_name class c.args.class && nat_eq asset c.args.asset) c.asset_rows-found.ensures.canonical c.asset_rows-found.ensures.rows (finds_asset c.args.class c.args.asset c.args.low c.args.high c.args.self.now)
 
 pub returns-clause-plan : goal.returns-clause-plan
 returns-clause-plan c =
-    let removed : IsRemoval (λ class asset j s. same_name class c.args.class && nat_eq asset c.args.asset && is_within c.args.low c.args.high j) c.args.self.now c.in_ok-removal.removal = c.in_ok-removal.ensures.removal c.args.self.now (is_of c.args.class c.args.asset) (λ class asset. same_name class c.args.class && nat_eq asset c.args.asset) c.in_ok-found.ensures.canonical (c.deref.ensures.value ∙ c.in_ok-found.ensures.found) (finds_asset c.args.class c.args.asset c.args.low c.args.high c.args.self.now) in
+    let removed : IsRemoval (λ class asset j s. same_name class c.args.class && nat_eq asset c.args.asset && is_within c.args.low c.args.high j) c.args.self.now c.in_ok-removal.removal = c.in_ok-removal.ensures.removal c.args.self.now (is_of c.args.class c.args.asset) (λ class asset. same_name class c.args.class && nat_eq asset c.args.asset) c.asset_rows-found.ensures.canonical c.asset_rows-found.ensures.rows (finds_asset c.args.class c.args.asset c.args.low c.args.high c.args.self.now) in
     record { kept = removed.kept; change = removed.change; in_order = c.in_ok-removal.ensures.in_order }

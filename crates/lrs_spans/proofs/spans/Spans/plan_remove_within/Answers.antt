@@ -1,4 +1,4 @@
-use Rattle.std.proofs.Common.{◌≡◌, ◌∙◌, ap, true, filter}
+use Rattle.std.proofs.Common.{◌∙◌, ap, true}
 use Rattle.lrs_events.specs.Spans.{are_rows}
 use Rattle.lrs_canonical.specs.Removals.{is_met, is_within, IsRemoval}
 use Rattle.lrs_canonical.proofs.Cleared.{finds_met}

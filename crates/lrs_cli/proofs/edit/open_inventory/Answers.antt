@@ -1,0 +1,13 @@
+use Rattle.std.proofs.Common.{◌≡◌, ◌∙◌, Ok, Result, rules, refl, subst, sym}
+use Rattle.std.specs.Prelude.{IfOk}
+use Rattle.lrs_machine.specs.declared.image.Image.{Image}
+use Rattle.lrs_machine.specs.declared.table.Table.{Table}
+use Rattle.lrs_machine.specs.Image.{nothing}
+use Rattle.lrs_cli.proofs.edit.open_inventory.Goals as goal
+
+pub returns-in-Ok-clause-fresh : goal.returns-in-Ok-clause-fresh
+returns-in-Ok-clause-fresh c =
+    let kept : Result Image Table = Ok c.in-Ok.desk.keeper in
+    let same : Ok c.empty.result ≡ Ok c.in-Ok.desk.image = sym (c.in-Ok.ensures.content kept refl) ∙ c.in-Ok.ensures.image kept refl in
+    let P : Result Image Table → Type 0 = λ r. IfOk r (λ i. i ≡ nothing) in
+    (search rules, subst P same c.empty.ensures, search rules)

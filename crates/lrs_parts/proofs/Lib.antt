@@ -1,0 +1,12 @@
+pub mod Counts
+pub mod Counted
+pub mod Running
+pub mod Walked
+pub mod Membership
+pub mod Ordered
+pub mod Joined
+pub mod Whole
+pub mod Once
+pub mod Keys
+pub mod Made
+pub mod Fewest

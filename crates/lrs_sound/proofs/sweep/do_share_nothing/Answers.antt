@@ -1,0 +1,6 @@
+use Rattle.lrs_sound.proofs.Sweeping.{sweep_answer}
+use Rattle.lrs_sound.proofs.sweep.do_share_nothing.Goals as goal
+
+pub returns : goal.returns
+returns c = sweep_answer c.args.parts.now c.in_ok-sorted.sorted.items c.neighbours_share_nothing.result c.requires.filled c.in_ok-sorted.ensures.permutation c.in_ok-sorted.ensures.sorted
+    (rw c.deref.ensures.value at c.neighbours_share_nothing.ensures.all) (rw c.deref.ensures.value at c.neighbours_share_nothing.ensures.some)

@@ -1,0 +1,25 @@
+-- The routes of an image as the tests of each table read them.
+use Rattle.std.specs.Prelude.{Bool, List, map, length}
+use Rattle.lrs_measure.specs.Texts.{name_before}
+use Rattle.lrs_events.specs.declared.class.Asset.{Asset}
+use Rattle.lrs_machine.specs.declared.image.RouteEntry.{RouteEntry}
+use Rattle.lrs_machine.specs.Sound.{RouteCourse, RouteMarks, RouteReferents, RouteSpans, are_spans_of}
+
+abbrev pub route_before : RouteEntry → RouteEntry → Bool
+route_before a b = name_before a.route.name b.route.name
+
+abbrev pub route_courses : List RouteEntry → List RouteCourse
+route_courses routes = map (λ e. record { route = e.route.name; entries = e.route.course }) routes
+
+abbrev pub route_marks : List RouteEntry → List RouteMarks
+route_marks routes = map (λ e. record { course = e.route.course; marks = e.route.marks }) routes
+
+abbrev pub route_referents : List RouteEntry → List RouteReferents
+route_referents routes = map (λ e. record { length = length e.route.course; refs = e.route.refs }) routes
+
+abbrev pub route_spans : List RouteEntry → List RouteSpans
+route_spans routes = map (λ e. record { course = e.route.course; rows = e.spans }) routes
+
+-- the rows of the route fit it and are of known assets
+abbrev pub fits_route : List Asset → RouteEntry → Bool
+fits_route assets e = are_spans_of assets (record { course = e.route.course; rows = e.spans })

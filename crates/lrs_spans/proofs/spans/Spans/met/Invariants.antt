@@ -1,6 +1,0 @@
-use Rattle.std.proofs.Common.{◌≡◌, filter, take}
-use Rattle.lrs_canonical.specs.Removals.{is_met}
-use Rattle.lrs_spans.proofs.spans.Spans.met.Given as goal
-
-abbrev pub invariant-loop-row : goal.invariant-loop-row
-invariant-loop-row l = l.found.items ≡ filter (is_met l.low l.high) (take l.row-index l.row-items)
