@@ -35,7 +35,8 @@ use Rattle.lrs_spans.specs.declared.lanes.ClassLanes.{ClassLanes}
 use Rattle.lrs_spans.specs.declared.meeting.Sorting.{Sorting}
 use Rattle.lrs_spans.specs.declared.meeting.Sorting.TheVariants.{ByRow, ByAsset}
 use Rattle.lrs_spans.specs.Tied.{is_on, has_lanes, IsClass, AreTied, AreKept}
-use Rattle.lrs_spans.specs.Meeting.{met_in, met_of, rows_of, is_met_asset, goes_before, AreRanked}
+use Rattle.lrs_spans.proofs.Holding.{has_row-filter}
+use Rattle.lrs_spans.specs.Meeting.{met_in, met_of, is_with, is_met_asset, goes_before, AreRanked}
 
 pub sorting_ranks : (by : Sorting) → IsStrictWeakOrder (goes_before by)
 sorting_ranks ByRow = row_ranks ByRows
@@ -348,6 +349,34 @@ module _ (rows : List Span) (lanes : List ClassLanes) (k : AreKept rows lanes) (
 
 -- ---- all rows of the assets that are met
 
+module _ (met : List Span) (i : ℕ) (within : i < length met) where
+  -- a row of the asset of the one in front of it adds nothing
+  pub with_repeated : (d e : Span) → (i ≡ 0 → ⊥) → (get_or met (i - 1) d).asset ≡ (get_or met i e).asset → (class : Name) (r : Span) → is_with class (take (i + 1) met) r ≡ is_with class (take i met) r
+  with_repeated d e n same class r = list_any_more (λ z. is_of class z.asset r) met i e within ∙ by (cases_Bool (is_of class (get_or met i e).asset r)) (cases_lt 0 i)
+    where
+      true_too : (b : Bool) → b ≡ true → (b || true) ≡ b
+      true_too true h = refl
+      true_too false h = sym h
+
+      by : (is_of class (get_or met i e).asset r ≡ true) ⊎ (is_of class (get_or met i e).asset r ≡ false) → (0 < i) ⊎ (i ≤ 0) → (is_with class (take i met) r || is_of class (get_or met i e).asset r) ≡ is_with class (take i met) r
+      by (inr f) b = (λ j. is_with class (take i met) r || f j) ∙ or_false (is_with class (take i met) r)
+      by (inl t) (inr b) = absurd (n (omega (arith, b)))
+      by (inl t) (inl a) =
+          (λ j. is_with class (take i met) r || t j)
+          ∙ true_too (is_with class (take i met) r) (any_of (λ z. is_of class z.asset r) (get_or met (i - 1) d) (take i met) (at-In met i (i - 1) d (omega (arith, a)) (omega (arith, within))) (ap (λ z. is_of class z r) same ∙ t))
+
+  pub with_more : (rows : List Span) (class : Name) (d : Span) (found : List Span) → ((r : Span) → has_row found r ≡ (has_row rows r && is_with class (take i met) r))
+      → (r : Span) → has_row (found ++ filter (is_of class (get_or met i d).asset) rows) r ≡ (has_row rows r && is_with class (take (i + 1) met) r)
+  with_more rows class d found g r =
+      list_any-append (λ s. same_row s r) found (filter (is_of class (get_or met i d).asset) rows)
+      ∙ (λ j. g r j || has_row-filter (is_of class (get_or met i d).asset) rows r j)
+      ∙ law (has_row rows r) (is_with class (take i met) r) (is_of class (get_or met i d).asset r)
+      ∙ sym (λ j. has_row rows r && list_any_more (λ z. is_of class z.asset r) met i d within j)
+    where
+      law : (a b c : Bool) → ((a && b) || (a && c)) ≡ (a && (b || c))
+      law true b c = refl
+      law false b c = refl
+
 module _ (rows : List Span) (lanes : List ClassLanes) (k : AreKept rows lanes) (class : Name) (low high : ℕ) (met : List Span) (e : met ≡ flat_map (met_of class low high) lanes) where
   abbrev named : Name → Bool
   named c = same_name c class
@@ -358,14 +387,14 @@ module _ (rows : List Span) (lanes : List ClassLanes) (k : AreKept rows lanes) (
   is_in_met : (x : Span) → IsMet rows lanes k.tied named low high x → In x met
   is_in_met x i = subst (In x) (sym e) (met_lanes rows lanes k.tied named low high x i)
 
-  module _ (all : List Span) (c : all ≡ flat_map (rows_of rows class) met) where
+  module _ (sorted all : List Span) (same : (r : Span) → has_row sorted r ≡ has_row met r) (c : (r : Span) → has_row all r ≡ (has_row rows r && is_with class sorted r)) where
     all_in : (x : Span) → In x all → In x rows × (is_met_asset rows class low high x.class x.asset ≡ true)
     all_in x m =
-        let f = flat_found (rows_of rows class) met x (subst (In x) c m) in
-        let g = in_filter (is_of class f.0.asset) rows x f.2 in
-        let h = and_parts (same_name x.class class) (nat_eq x.asset f.0.asset) g.1 in
-        let i = met_is f.0 f.1 in (
-          g.0,
+        let p = and_parts (has_row rows x) (is_with class sorted x) (sym (c x) ∙ has_in all x m) in
+        let f = any_found (λ q. is_of class q.asset x) sorted p.1 in
+        let h = and_parts (same_name x.class class) (nat_eq x.asset f.0.asset) f.2 in
+        let i = met_is f.0 (has_found met f.0 (sym (same f.0) ∙ has_in sorted f.0 f.1)) in (
+          has_found rows x p.0,
           and_from (same_name x.class class) (list_any (λ q. is_of class x.asset q && is_met low high q) rows) h.0
               (any_of (λ q. is_of class x.asset q && is_met low high q) f.0 rows i.row
               (and_from (is_of class x.asset f.0) (is_met low high f.0) (and_from (same_name f.0.class class) (nat_eq f.0.asset x.asset) i.of_class (eq-eqb f.0.asset x.asset (sym (eqb-true x.asset f.0.asset h.1)))) i.met)),
@@ -377,8 +406,9 @@ module _ (rows : List Span) (lanes : List ClassLanes) (k : AreKept rows lanes) (
         let f = any_found (λ q. is_of class x.asset q && is_met low high q) rows a.1 in
         let b = and_parts (is_of class x.asset f.0) (is_met low high f.0) f.2 in
         let g = and_parts (same_name f.0.class class) (nat_eq f.0.asset x.asset) b.0 in
-        subst (In x) (sym c) (in_flat (rows_of rows class) met f.0 x (is_in_met f.0 (record { row = f.1; met = b.1; of_class = g.0 }))
-        (filter_in (is_of class f.0.asset) rows x m (and_from (same_name x.class class) (nat_eq x.asset f.0.asset) a.0 (eq-eqb x.asset f.0.asset (sym (eqb-true f.0.asset x.asset g.1))))))
+        let there = has_found sorted f.0 (same f.0 ∙ has_in met f.0 (is_in_met f.0 (record { row = f.1; met = b.1; of_class = g.0 }))) in
+        has_found all x (c x ∙ and_from (has_row rows x) (is_with class sorted x) (has_in rows x m)
+        (any_of (λ q. is_of class q.asset x) f.0 sorted there (and_from (same_name x.class class) (nat_eq x.asset f.0.asset) a.0 (eq-eqb x.asset f.0.asset (sym (eqb-true f.0.asset x.asset g.1))))))
 
     pub assets_ranked : AreRanked span_before all
     assets_ranked = rows_ranked rows all k.canonical (λ r m. (all_in r m).0)

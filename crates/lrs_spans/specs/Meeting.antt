@@ -19,9 +19,9 @@ met_in low high l = filter (is_met low high) l.left.rows ++ filter (is_met low h
 abbrev pub met_of : Name → ℕ → ℕ → ClassLanes → List Span
 met_of class low high l = cond (same_name l.class class) (met_in low high l) []
 
--- the rows of the class that are of a row's asset
-abbrev pub rows_of : List Span → Name → Span → List Span
-rows_of rows class q = filter (is_of class q.asset) rows
+-- whether the row is of the class and of the asset of one of these
+abbrev pub is_with : Name → List Span → Span → Bool
+is_with class met r = list_any (λ q. is_of class q.asset r) met
 
 -- whether the asset of the class has a row with a millimetre from low up to high
 abbrev pub is_met_asset : List Span → Name → ℕ → ℕ → Name → ℕ → Bool

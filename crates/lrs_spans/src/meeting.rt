@@ -1,17 +1,18 @@
 //! Rows that have a millimetre of a stretch, found by the lanes.
 
-ghost use Rattle.std.specs.Prelude.{◌≡◌, ◌<◌, ◌++◌, ◌&&◌, true, nat_le, nat_lt, length, take, not, slice_index_or, IsTrue, IfOk, OnOk};
+ghost use Rattle.std.specs.Prelude.{◌≡◌, ◌+◌, ◌<◌, ◌++◌, ◌&&◌, true, nat_le, nat_lt, length, take, not, slice_index_or, IsTrue, IfOk, OnOk};
 ghost use Rattle.std.specs.Ordering.{is_lt};
 ghost use Rattle.std.specs.List.{filter, flat_map};
 ghost use Rattle.std.specs.List.Sorted.{IsPermutation, IsSortedBy};
 ghost use Rattle.lrs_measure.specs.Lists.{each_two};
+ghost use Rattle.lrs_measure.specs.Texts.{Name};
 ghost use Rattle.lrs_events.specs.declared.span.Span.{Span as DeclaredSpan};
 ghost use Rattle.lrs_events.specs.Changes.{has_row};
 ghost use Rattle.lrs_events.specs.Spans.{are_rows};
 ghost use Rattle.lrs_canonical.specs.Members.{is_of};
 ghost use Rattle.lrs_canonical.specs.Removals.{is_met};
 ghost use Rattle.lrs_spans.specs.Tied.{AreKept};
-ghost use Rattle.lrs_spans.specs.Meeting.{met_in, met_of, rows_of, is_met_asset, goes_before, AreRanked};
+ghost use Rattle.lrs_spans.specs.Meeting.{met_in, met_of, is_with, is_met_asset, goes_before, AreRanked};
 
 use crate::lanes::ClassLanes;
 use crate::search::asset_rows;
@@ -192,7 +193,15 @@ fn collect_of(
     Ok(found)
 }
 
-/// For each of some rows, all rows of its asset.
+/// Whether a row is of the asset of the one in front of it.
+fn repeats(met: &[Span], i: usize) -> bool
+    requires { i < length met.now }
+    ensures { result ≡ true → (class : Name) (r : DeclaredSpan) → is_with class (take (i + 1) met.now) r ≡ is_with class (take i met.now) r }
+{
+    i != 0 && met[i - 1].asset == met[i].asset
+}
+
+/// All rows that are of the asset of one of some rows; where those are sorted by asset, each of them once.
 ///
 /// # Errors
 /// When memory runs out.
@@ -203,11 +212,13 @@ fn collect_assets(
     met: &[Span],
 ) -> Result<Vec<Span>, AllocError>
     requires { IsTrue (are_rows rows.now) }
-    ensures { IfOk result (λ found. found.items ≡ flat_map (rows_of rows.now class) met.now) }
+    ensures { IfOk result (λ found. (r : DeclaredSpan) → has_row found.items r ≡ (has_row rows.now r && is_with class met.now r)) }
 {
     let mut found = Vec::new(alloc);
-    for row in met {
-        found.extend_from_slice(asset_rows(rows, class, row.asset))?;
+    for i in 0..met.len() {
+        if !repeats(met, i) {
+            found.extend_from_slice(asset_rows(rows, class, met[i].asset))?;
+        }
     }
     Ok(found)
 }
@@ -228,7 +239,8 @@ pub(crate) fn of_assets_met(
     requires kept { AreKept rows.now lanes.now }
     ensures { IfOk result (λ found. found.items ≡ filter (λ r. is_met_asset rows.now class low high r.class r.asset) rows.now) }
 {
-    let met = collect_of(alloc, lanes, class, low, high)?;
+    let mut met = collect_of(alloc, lanes, class, low, high)?;
+    sort(Sorting::ByAsset, &mut met);
     let all = collect_assets(alloc, rows, class, &met)?;
     in_order(alloc, Sorting::ByRow, all)
 }
