@@ -1,4 +1,4 @@
-use Rattle.std.proofs.Common.{◌≡◌, true, filter, ap, ◌&&◌, ◌∙◌}
+use Rattle.std.proofs.Common.{◌≡◌, true, filter}
 use Rattle.lrs_measure.specs.Lists.{each_two}
 use Rattle.lrs_events.specs.declared.span.Span.{Span}
 use Rattle.lrs_events.specs.Changes.{has_row}

@@ -6,7 +6,7 @@ use Rattle.lrs_events.specs.declared.side.LinkSide.TheVariants.{Left, Right}
 use Rattle.lrs_lanes.specs.Lane.{is_met}
 use Rattle.lrs_spans.specs.declared.lanes.ClassLanes.{ClassLanes}
 use Rattle.lrs_spans.specs.Search.{IsMetOn}
-use Rattle.lrs_spans.proofs.Searching.{left_is, right_is, met_on}
+use Rattle.lrs_spans.proofs.Finding.{left_is, right_is, met_on}
 use Rattle.lrs_spans.proofs.search.met_on.Goals as goal
 
 pub returns-in-Left : goal.returns-in-Left
