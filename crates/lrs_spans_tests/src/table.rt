@@ -10,8 +10,6 @@ pub const LENGTH: u64 = 24;
 /// The assets are numbered from 0.
 pub const ASSETS: u64 = 4;
 
-const CELLS: usize = 192;
-
 /// Whether an asset holds a millimetre on a side.
 #[derive(Clone, Copy, PartialEq, Eq)]
 pub struct Table {
