@@ -23,7 +23,7 @@ use Rattle.lrs_canonical.specs.Removals.{is_met}
 use Rattle.lrs_canonical.specs.Members.{is_of}
 use Rattle.lrs_canonical.proofs.Members.{any_found, any_of, all_at, two_at, In-take, In-append_left, In-append_right, In-append_cases}
 use Rattle.lrs_canonical.proofs.Rows.{IsFull, full_from, apart_from}
-use Rattle.lrs_canonical.proofs.Unique.{Kept, kept}
+use Rattle.lrs_canonical.proofs.Unique.{kept}
 use Rattle.lrs_canonical.proofs.Differing.{one_row, has_found, has_in}
 use Rattle.lrs_canonical.proofs.Fitting.{each_two-append}
 use Rattle.lrs_canonical.proofs.Replaced.{in_flat, in_filter, filter_in}
@@ -34,7 +34,7 @@ use Rattle.lrs_lanes.proofs.Ranks.{row_ranks}
 use Rattle.lrs_spans.specs.declared.lanes.ClassLanes.{ClassLanes}
 use Rattle.lrs_spans.specs.declared.meeting.Sorting.{Sorting}
 use Rattle.lrs_spans.specs.declared.meeting.Sorting.TheVariants.{ByRow, ByAsset}
-use Rattle.lrs_spans.specs.Tied.{is_on, has_lanes, IsClass, AreTied, AreKept}
+use Rattle.lrs_spans.specs.Tied.{is_on, IsClass, AreTied, AreKept}
 use Rattle.lrs_spans.specs.Meeting.{met_in, met_of, rows_of, is_met_asset, goes_before, AreRanked}
 
 pub sorting_ranks : (by : Sorting) → IsStrictWeakOrder (goes_before by)
