@@ -55,3 +55,8 @@ def test_a_desk_bears_a_refused_growth():
 
 def test_deciding_soundness_bears_a_refused_growth():
     assert each_refused_call("lrs_sound", step=5) == {"image_of", "first_unsound"}
+
+
+def test_spans_bear_a_refused_growth():
+    calls = ("add", "remove_within", "cut", "concat", "turned", "of_rows", "copy")
+    assert each_refused_call("lrs_spans_tests") == {f"Spans::{call}" for call in calls}

@@ -21,8 +21,8 @@ sorted-take (suc n) [] h = refl
 sorted-take (suc n) (y ∷ ys) h =
     let a = and_parts (list_all (span_before y) ys) (each_two span_before ys) h in
     and_from (list_all (span_before y) (take n ys)) (each_two span_before (take n ys))
-      (all_from (span_before y) (take n ys) (λ x m. all_at (span_before y) x ys a.0 (In-take n ys x m)))
-      (sorted-take n ys a.1)
+    (all_from (span_before y) (take n ys) (λ x m. all_at (span_before y) x ys a.0 (In-take n ys x m)))
+    (sorted-take n ys a.1)
 
 sorted-drop : (n : ℕ) (xs : List Span) → each_two span_before xs ≡ true → each_two span_before (drop n xs) ≡ true
 sorted-drop zero xs h = h

@@ -16,8 +16,7 @@ pub mod merging;
 pub mod order;
 pub mod removing;
 pub mod siding;
-pub mod turning;
-pub mod undoing;
-
 #[cfg(test)]
 mod tests;
+pub mod turning;
+pub mod undoing;

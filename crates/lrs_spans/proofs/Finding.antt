@@ -30,9 +30,7 @@ use Rattle.lrs_lanes.proofs.Members.{In as LaneIn}
 use Rattle.lrs_lanes.proofs.Lanes.{LeastOf, nothing, something, least_from}
 use Rattle.lrs_spans.specs.declared.lanes.ClassLanes.{ClassLanes}
 use Rattle.lrs_spans.specs.Tied.{is_on, has_lanes, AreKept}
-use Rattle.lrs_canonical.proofs.Sorted.{each_two-filter}
-use Rattle.lrs_spans.proofs.Holding.{has_row-filter}
-use Rattle.lrs_spans.specs.Search.{IsMetOn, IsPlaceOf, one_side, HoldsOver, lesser_of}
+use Rattle.lrs_spans.specs.Search.{IsPlaceOf, one_side, HoldsOver, lesser_of}
 use Rattle.lrs_spans.specs.Search.{IsOver as IsLeastOver}
 
 -- ---- the rows of an asset
@@ -252,9 +250,3 @@ module _ (rows : List Span) (class : Name) (from to : ℕ) where
       by a (inr m) = let g = k.least a m in omega (arith, g)
 
 -- ---- the rows of a lane that are met
-
-pub met_on : (rows lane found : List Span) (class : Name) (side : LinkSide) (low high : ℕ) → IsLaneOf rows class side lane → found ≡ filter (is_met low high) lane → IsMetOn rows class side low high found
-met_on rows lane found class side low high t e = record {
-  has = λ r. (λ j. has_row (e j) r) ∙ has_row-filter (is_met low high) lane r ∙ (λ j. t.has r j && is_met low high r);
-  in_order = ap (each_two place_before) e ∙ each_two-filter place_before (is_met low high) lane t.in_order;
-}

@@ -1,5 +1,5 @@
 -- What is found of the rows of a route.
-use Rattle.std.specs.Prelude.{◌≡◌, ℕ, ◌<◌, ◌≤◌, ◌&&◌, true, false, min, List, length, slice_index_or, Option, Some, None}
+use Rattle.std.specs.Prelude.{◌≡◌, ℕ, ◌<◌, ◌≤◌, true, false, min, List, length, slice_index_or, Option, Some, None}
 use Rattle.lrs_measure.specs.Texts.{Name}
 use Rattle.lrs_events.specs.declared.side.Side.{Side}
 use Rattle.lrs_events.specs.declared.side.Side.TheVariants.{L, R}
@@ -7,12 +7,8 @@ use Rattle.lrs_events.specs.declared.side.LinkSide.{LinkSide}
 use Rattle.lrs_events.specs.declared.side.LinkSide.TheVariants.{Left, Right}
 use Rattle.lrs_events.specs.declared.span.Span.{Span}
 use Rattle.lrs_events.specs.Members.{has_side, is_member}
-use Rattle.lrs_measure.specs.Lists.{each_two}
-use Rattle.lrs_events.specs.Changes.{has_row}
-use Rattle.lrs_lanes.specs.Lane.{is_met}
-use Rattle.lrs_lanes.specs.Order.{place_before}
 use Rattle.lrs_spans.specs.declared.lanes.ClassLanes.{ClassLanes}
-use Rattle.lrs_spans.specs.Tied.{is_on, has_lanes}
+use Rattle.lrs_spans.specs.Tied.{has_lanes}
 
 -- the lanes of the class are there, or it has none
 pub record IsPlaceOf (lanes : List ClassLanes) (class : Name) (at : ℕ) : Type 0 where
@@ -49,8 +45,3 @@ abbrev pub lesser_of : Option ℕ → Option ℕ → Option ℕ
 lesser_of (Some a) (Some b) = Some (min a b)
 lesser_of (Some a) None = Some a
 lesser_of None b = b
-
--- the rows of the class with that side or both that have a millimetre from low up to high, in the order of places
-pub record IsMetOn (rows : List Span) (class : Name) (side : LinkSide) (low high : ℕ) (found : List Span) : Type 0 where
-  pub has : (r : Span) → has_row found r ≡ ((has_row rows r && is_on class side r) && is_met low high r)
-  pub in_order : each_two place_before found ≡ true

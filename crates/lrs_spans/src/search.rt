@@ -10,7 +10,7 @@ ghost use Rattle.lrs_canonical.specs.Members.{is_of, leaves_free, is_free};
 ghost use Rattle.lrs_lanes.specs.Lane.{is_met};
 ghost use Rattle.lrs_lanes.specs.Order.{place_before};
 ghost use Rattle.lrs_spans.specs.Tied.{AreKept, is_on};
-ghost use Rattle.lrs_spans.specs.Search.{IsPlaceOf, one_side, IsOver, lesser_of, IsMetOn};
+ghost use Rattle.lrs_spans.specs.Search.{IsPlaceOf, one_side, IsOver, lesser_of};
 
 use crate::lanes::ClassLanes;
 use lrs_canonical::order::rows_on;
@@ -156,43 +156,4 @@ pub(crate) fn is_free(rows: &[Span], lanes: &[ClassLanes], span: &Span) -> bool
         }
     }
     true
-}
-
-/// The rows of a lane with a millimetre from low up to high, in their order.
-///
-/// # Errors
-/// When memory runs out.
-fn lane_met(alloc: Global, lane: &Lane, low: u64, high: u64) -> Result<Vec<Span>, AllocError>
-    ensures { IfOk result (λ found. found.items ≡ filter (is_met low high) lane.now.rows) }
-{
-    let mut found = Vec::new(alloc);
-    lane.push_met(low, high, &mut found)?;
-    Ok(found)
-}
-
-/// The rows of the class with that side or both that have a millimetre from low up to high, by start and asset.
-///
-/// # Errors
-/// When memory runs out.
-pub(crate) fn met_on(
-    alloc: Global,
-    rows: &[Span],
-    lanes: &[ClassLanes],
-    low: u64,
-    high: u64,
-    class: ClassName,
-    side: LinkSide,
-) -> Result<Vec<Span>, AllocError>
-    requires kept { AreKept rows.now lanes.now }
-    ensures { IfOk result (λ found. IsMetOn rows.now class side low high found.items) }
-{
-    let at = place_of(lanes, class);
-    if at < lanes.len() {
-        match side {
-            LinkSide::Left => lane_met(alloc, &lanes[at].left, low, high),
-            LinkSide::Right => lane_met(alloc, &lanes[at].right, low, high),
-        }
-    } else {
-        Ok(Vec::new(alloc))
-    }
 }
