@@ -1,8 +1,8 @@
 -- To take away the places of a class it is enough to look at the assets of the class that are met there.
-use Rattle.std.proofs.Common.{◌≡◌, ℕ, Bool, true, false, cond, List, [], ◌∷◌, length, filter, refl, sym, ap, ◌∙◌, arith}
-use Rattle.std.specs.Prelude.{◌||◌, ◌&&◌, not, nat_lt, nat_le, nat_eq}
+use Rattle.std.proofs.Common.{◌≡◌, ℕ, Bool, true, false, List, refl, sym, ap, ◌∙◌, arith}
+use Rattle.std.specs.Prelude.{◌&&◌, not, nat_lt, nat_le, nat_eq}
 use Rattle.std.specs.List.{list_any}
-use Rattle.std.proofs.lemmas.Bool.{both_ways, and_parts, and_from, leb-true, ltb-true, lt-ltb, eq-eqb, ne_eqb}
+use Rattle.std.proofs.lemmas.Bool.{both_ways, and_parts, and_from, leb-true, ltb-true, lt-ltb, eq-eqb}
 use Rattle.lrs_measure.specs.Texts.{Name, same_name}
 use Rattle.lrs_events.specs.declared.side.Side.{Side}
 use Rattle.lrs_events.specs.declared.side.LinkSide.{LinkSide}
@@ -12,37 +12,9 @@ use Rattle.lrs_canonical.specs.declared.removing.Removal.{Removal}
 use Rattle.lrs_canonical.specs.Members.{is_of}
 use Rattle.lrs_canonical.specs.Removals.{is_within, is_met, IsRemoval}
 use Rattle.lrs_canonical.specs.Sides.{of_side_within}
-use Rattle.lrs_spans.specs.Plans.{is_met_asset}
+use Rattle.lrs_spans.specs.Meeting.{is_met_asset}
 use Rattle.lrs_canonical.proofs.Members.{any_found, any_of}
 use Rattle.lrs_canonical.proofs.Unique.{over}
-
--- some are left where some pass
-pub any_left : {X : Type 0} (p : X → Bool) (xs : List X) → list_any p xs ≡ not (nat_eq (length (filter p xs)) 0)
-any_left p [] = refl
-any_left p (x ∷ xs) = by (p x) (any_left p xs)
-  where
-    by : (b : Bool) → list_any p xs ≡ not (nat_eq (length (filter p xs)) 0) → (b || list_any p xs) ≡ not (nat_eq (length (cond b (x ∷ filter p xs) (filter p xs))) 0)
-    by true h = sym (ap not (ne_eqb (length (x ∷ filter p xs)) 0 (λ e. omega (arith, e))))
-    by false h = h
-
-any_both : {X : Type 0} (p q : X → Bool) (xs : List X) → list_any p (filter q xs) ≡ list_any (λ x. p x && q x) xs
-any_both p q [] = refl
-any_both p q (x ∷ xs) = by (q x) (any_both p q xs) ∙ ap (λ b. b || list_any (λ z. p z && q z) xs) (flip (q x) (p x))
-  where
-    flip : (b a : Bool) → (b && a) ≡ (a && b)
-    flip true true = refl
-    flip true false = refl
-    flip false true = refl
-    flip false false = refl
-
-    by : (b : Bool) → list_any p (filter q xs) ≡ list_any (λ z. p z && q z) xs → list_any p (cond b (x ∷ filter q xs) (filter q xs)) ≡ ((b && p x) || list_any (λ z. p z && q z) xs)
-    by true h = ap (λ b. p x || b) h
-    by false h = h
-
--- the assets of the class that have one of the rows that are met
-pub met_assets : (rows met found : List Span) (class : Name) (low high : ℕ) → met ≡ filter (is_met low high) rows → found ≡ filter (λ r. same_name r.class class && list_any (is_of class r.asset) met) rows
-    → found ≡ filter (λ r. is_met_asset rows class low high r.class r.asset) rows
-met_assets rows met found class low high e h = h ∙ (λ j. filter (λ r. same_name r.class class && (ap (list_any (is_of class r.asset)) e ∙ any_both (is_of class r.asset) (is_met low high) rows) j) rows)
 
 -- where two tests agree on what is there, so they do on what is not taken
 not_taken : (m t u : Bool) → (m && t) ≡ (m && u) → (m && not t) ≡ (m && not u)

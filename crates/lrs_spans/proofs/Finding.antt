@@ -248,3 +248,5 @@ module _ (rows : List Span) (class : Name) (from to : ℕ) where
       by : (a : ℕ) → HoldsOver rows class from to L a ⊎ HoldsOver rows class from to R a → min b c ≤ a
       by a (inl m) = let g = h.least a m in omega (arith, g)
       by a (inr m) = let g = k.least a m in omega (arith, g)
+
+-- ---- the rows of a lane that are met

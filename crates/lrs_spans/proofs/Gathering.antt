@@ -1,11 +1,11 @@
 -- Rows that are sorted and of which each is kept once, and the rows that lanes have.
 use Rattle.std.proofs.Common.{◌≡◌, ℕ, zero, suc, ◌+◌, ◌-◌, ◌<◌, ◌≤◌, Bool, true, false, cond, ◌⊎◌, inl, inr, List, [], ◌∷◌, ◌++◌, length, get_or, take, refl, sym, ap, subst, ◌∙◌, arith}
-use Rattle.std.specs.Prelude.{◌||◌, ◌&&◌, not, IfOk, Result, Ok, Err}
+use Rattle.std.specs.Prelude.{◌||◌, ◌&&◌, not, nat_lt, nat_le, nat_eq, min, IfOk, Result, Ok, Err}
 use Rattle.std.specs.List.{list_any, filter, flat_map}
 use Rattle.std.specs.List.Sorted.{IsSortedBy, IsPermutation}
 use Rattle.std.specs.Cmp.{IsStrictWeakOrder}
 use Rattle.std.specs.Cmp.Lexicographic.{bytes_decides}
-use Rattle.std.proofs.lemmas.Bool.{false≢true, both_ways, and_parts, and_from, true_from_ne_false, false_from_ne_true, cases_Bool, cases_lt}
+use Rattle.std.proofs.lemmas.Bool.{false≢true, both_ways, and_parts, and_from, true_from_ne_false, false_from_ne_true, cases_Bool, cases_lt, lt-ltb, le-ltb, ltb-true, ltb-false, le-leb, leb-true, lt-leb, eq-eqb, eqb-true}
 use Rattle.std.proofs.lemmas.List.{take_all, get_or_default}
 use Rattle.std.proofs.lemmas.List.Folds.{list_any-append, list_any_more}
 use Rattle.std.proofs.lemmas.List.Sorted.{sorted_far, list_any-IsPermutation, IsStrictWeakOrder-by_number}
@@ -17,10 +17,13 @@ use Rattle.lrs_events.specs.declared.side.LinkSide.TheVariants.{Left, Right}
 use Rattle.lrs_events.specs.declared.span.Span.{Span}
 use Rattle.lrs_events.specs.Changes.{same_row, has_row}
 use Rattle.lrs_events.specs.Members.{has_side}
-use Rattle.lrs_events.specs.Spans.{are_rows, span_before}
+use Rattle.lrs_events.specs.Spans.{are_rows, is_row, span_before, are_apart}
 use Rattle.lrs_canonical.specs.Order.{In}
 use Rattle.lrs_canonical.specs.Removals.{is_met}
-use Rattle.lrs_canonical.proofs.Members.{any_found, two_at, In-take, In-append_left, In-append_right, In-append_cases}
+use Rattle.lrs_canonical.specs.Members.{is_of}
+use Rattle.lrs_canonical.proofs.Members.{any_found, any_of, all_at, two_at, In-take, In-append_left, In-append_right, In-append_cases}
+use Rattle.lrs_canonical.proofs.Rows.{IsFull, full_from, apart_from}
+use Rattle.lrs_canonical.proofs.Unique.{kept}
 use Rattle.lrs_canonical.proofs.Differing.{one_row, has_found, has_in}
 use Rattle.lrs_canonical.proofs.Fitting.{each_two-append}
 use Rattle.lrs_canonical.proofs.Replaced.{in_flat, in_filter, filter_in}
@@ -31,8 +34,8 @@ use Rattle.lrs_lanes.proofs.Ranks.{row_ranks}
 use Rattle.lrs_spans.specs.declared.lanes.ClassLanes.{ClassLanes}
 use Rattle.lrs_spans.specs.declared.meeting.Sorting.{Sorting}
 use Rattle.lrs_spans.specs.declared.meeting.Sorting.TheVariants.{ByRow, ByAsset}
-use Rattle.lrs_spans.specs.Tied.{is_on, has_lanes, IsClass, AreTied, AreKept}
-use Rattle.lrs_spans.specs.Meeting.{met_on, goes_before, AreRanked}
+use Rattle.lrs_spans.specs.Tied.{is_on, IsClass, AreTied, AreKept}
+use Rattle.lrs_spans.specs.Meeting.{met_in, met_of, rows_of, is_met_asset, goes_before, AreRanked}
 
 pub sorting_ranks : (by : Sorting) → IsStrictWeakOrder (goes_before by)
 sorting_ranks ByRow = row_ranks ByRows
@@ -183,7 +186,7 @@ one_side B = inl refl
 
 -- the rows that are met in the lanes of some classes
 abbrev pub met_some : (Name → Bool) → ℕ → ℕ → ClassLanes → List Span
-met_some of low high l = cond (of l.class) (met_on low high l) []
+met_some of low high l = cond (of l.class) (met_in low high l) []
 
 module _ (rows : List Span) (lanes : List ClassLanes) (t : AreTied rows lanes) (of : Name → Bool) (low high : ℕ) where
   class_at : (l : ClassLanes) → In l lanes → IsClass rows l
@@ -214,7 +217,7 @@ module _ (rows : List Span) (lanes : List ClassLanes) (t : AreTied rows lanes) (
           let b = and_parts (same_name x.class l.class) (has_side x.side Right) a.1 in
           record { row = has_found rows x a.0; met = f.1; of_class = named l b.0 h }
 
-      by : (l : ClassLanes) → IsClass rows l → (b : Bool) → b ≡ of l.class → In x (cond b (met_on low high l) []) → IsMet x
+      by : (l : ClassLanes) → IsClass rows l → (b : Bool) → b ≡ of l.class → In x (cond b (met_in low high l) []) → IsMet x
       by l c true h n = two l c h (In-append_cases x (filter (is_met low high) l.left.rows) (filter (is_met low high) l.right.rows) n)
       by l c false h n = absurd n
 
@@ -223,9 +226,9 @@ module _ (rows : List Span) (lanes : List ClassLanes) (t : AreTied rows lanes) (
       let f = any_found (λ (l : ClassLanes). same_name l.class x.class) lanes (t.all x (has_in rows x h.row)) in
       let e = (bytes_decides f.0.class x.class).0 f.2 in
       in_flat (met_some of low high) lanes f.0 x f.1
-      (subst (λ b. In x (cond b (met_on low high f.0) [])) (sym (ap of e ∙ h.of_class)) (by f.0 (class_at f.0 f.1) ((bytes_decides x.class f.0.class).1 (sym e)) (one_side x.side)))
+      (subst (λ b. In x (cond b (met_in low high f.0) [])) (sym (ap of e ∙ h.of_class)) (by f.0 (class_at f.0 f.1) ((bytes_decides x.class f.0.class).1 (sym e)) (one_side x.side)))
     where
-      by : (l : ClassLanes) → IsClass rows l → same_name x.class l.class ≡ true → (has_side x.side Left ≡ true) ⊎ (has_side x.side Right ≡ true) → In x (met_on low high l)
+      by : (l : ClassLanes) → IsClass rows l → same_name x.class l.class ≡ true → (has_side x.side Left ≡ true) ⊎ (has_side x.side Right ≡ true) → In x (met_in low high l)
       by l c e (inl s) =
           In-append_left x (filter (is_met low high) l.left.rows) (filter (is_met low high) l.right.rows) (filter_in (is_met low high) l.left.rows x
           (has_found l.left.rows x (c.left x ∙ and_from (has_row rows x) (is_on l.class Left x) (has_in rows x h.row) (and_from (same_name x.class l.class) (has_side x.side Left) e s))) h.met)
@@ -248,7 +251,7 @@ found_are test rows found h s f g =
     one_list span_before spans_strict found (filter test rows) s (each_two-filter span_before test rows (rows_sorted rows h))
     (λ x m. let p = f x m in filter_in test rows x p.0 p.1) (λ x m. let p = in_filter test rows x m in g x p.0 p.1)
 
-module _ (rows : List Span) (lanes : List ClassLanes) (k : AreKept rows lanes) (low high : ℕ) (collected : List Span) (e : collected ≡ flat_map (met_on low high) lanes) where
+module _ (rows : List Span) (lanes : List ClassLanes) (k : AreKept rows lanes) (low high : ℕ) (collected : List Span) (e : collected ≡ flat_map (met_in low high) lanes) where
   abbrev every : Name → Bool
   every c = true
 
@@ -265,6 +268,125 @@ module _ (rows : List Span) (lanes : List ClassLanes) (k : AreKept rows lanes) (
   met_rows found s h =
       found_are (is_met low high) rows found k.canonical s (λ x m. collected_met x (has_found collected x (sym (h x) ∙ has_in found x m)))
       (λ x m p. has_found found x (h x ∙ has_in collected x (met_collected x m p)))
+
+-- a test of a row tells the same as another where it does of each that is there
+pub test_has : (p q : Span → Bool) (rows found : List Span) → ((x : Span) → In x found → In x rows × (p x ≡ true)) → ((x : Span) → In x rows → p x ≡ true → In x found) → ((x : Span) → In x rows → p x ≡ q x)
+    → (r : Span) → has_row found r ≡ (has_row rows r && q r)
+test_has p q rows found f g e r = by (cases_Bool (has_row found r)) (cases_Bool (has_row rows r)) (cases_Bool (q r))
+  where
+    by : (has_row found r ≡ true) ⊎ (has_row found r ≡ false) → (has_row rows r ≡ true) ⊎ (has_row rows r ≡ false) → (q r ≡ true) ⊎ (q r ≡ false) → has_row found r ≡ (has_row rows r && q r)
+    by (inl a) b c =
+        let m = f r (has_found found r a) in
+        a ∙ sym (and_from (has_row rows r) (q r) (has_in rows r m.0) (sym (e r m.0) ∙ m.1))
+    by (inr a) (inr b) c = a ∙ sym (λ j. b j && q r)
+    by (inr a) (inl b) (inr c) = a ∙ sym (λ j. b j && c j)
+    by (inr a) (inl b) (inl c) =
+        let m = has_found rows r b in
+        absurd (both_ways (has_row found r) a (has_in found r (g r m (e r m ∙ c))))
+
+-- the rows over a millimetre
+module _ (rows : List Span) (h : are_rows rows ≡ true) (j high : ℕ) (e : high ≡ min (j + 1) 18_446_744_073_709_551_615) where
+  over_full : (r : Span) → In r rows → IsFull r
+  over_full r m = full_from r (all_at is_row r rows (kept rows h).each m)
+
+  pub over_is : (x : Span) → In x rows → is_met j high x ≡ (nat_le x.from j && nat_lt j x.to)
+  over_is x m = by (cases_Bool (nat_lt j x.to)) (cases_lt j x.from)
+    where
+      none : (a : Bool) → (a && false) ≡ false
+      none true = refl
+      none false = refl
+
+      is_high : nat_lt j x.to ≡ true → high ≡ j + 1
+      is_high l = let a = ltb-true j x.to l in let b = (over_full x m).short in omega (arith, a, b, e)
+
+      by : (nat_lt j x.to ≡ true) ⊎ (nat_lt j x.to ≡ false) → (j < x.from) ⊎ (x.from ≤ j) → is_met j high x ≡ (nat_le x.from j && nat_lt j x.to)
+      by (inr f) c = (λ w. nat_lt x.from high && f w) ∙ none (nat_lt x.from high) ∙ sym ((λ w. nat_le x.from j && f w) ∙ none (nat_le x.from j))
+      by (inl t) (inr l) =
+          let q = is_high t in
+          (λ w. lt-ltb x.from high (omega (arith, l, q)) w && nat_lt j x.to) ∙ sym (λ w. le-leb x.from j l w && nat_lt j x.to)
+      by (inl t) (inl g) =
+          let q = is_high t in
+          (λ w. le-ltb x.from high (omega (arith, g, q)) w && nat_lt j x.to) ∙ sym (λ w. lt-leb x.from j g w && nat_lt j x.to)
+
+  one_over : (x y : Span) → In x rows → In y rows → is_met j high x ≡ true → is_met j high y ≡ true → x.asset ≡ y.asset → x ≡ y
+  one_over x y m n a b same = by (two_at are_apart x y rows (kept rows h).apart m n)
+    where
+      p : (nat_le x.from j ≡ true) × (nat_lt j x.to ≡ true)
+      p = and_parts (nat_le x.from j) (nat_lt j x.to) (sym (over_is x m) ∙ a)
+
+      q : (nat_le y.from j ≡ true) × (nat_lt j y.to ≡ true)
+      q = and_parts (nat_le y.from j) (nat_lt j y.to) (sym (over_is y n) ∙ b)
+
+      off : (x.to ≤ y.from) ⊎ (y.to ≤ x.from) → ⊥
+      off (inl l) = let u = ltb-true j x.to p.1 in let v = leb-true y.from j q.0 in omega (arith, l, u, v)
+      off (inr l) = let u = ltb-true j y.to q.1 in let v = leb-true x.from j p.0 in omega (arith, l, u, v)
+
+      turned : (y.to ≤ x.from) ⊎ (x.to ≤ y.from) → ⊥
+      turned (inl l) = off (inr l)
+      turned (inr l) = off (inl l)
+
+      by : (x ≡ y) ⊎ ((are_apart x y ≡ true) ⊎ (are_apart y x ≡ true)) → x ≡ y
+      by (inl k) = k
+      by (inr (inl k)) = absurd (off ((apart_from x y (over_full x m).some (over_full y n).some k).off same))
+      by (inr (inr k)) = absurd (turned ((apart_from y x (over_full y n).some (over_full x m).some k).off (sym same)))
+
+  pub over_ranked : (some : List Span) → ((x : Span) → In x some → In x rows × (is_met j high x ≡ true)) → AreRanked (goes_before ByAsset) some
+  over_ranked some f r s m n a b =
+      let p = f r (has_found some r m) in
+      let q = f s (has_found some s n) in
+      let u = ltb-false r.asset s.asset a in
+      let v = ltb-false s.asset r.asset b in
+      one_over r s p.0 q.0 p.1 q.1 (omega (arith, u, v))
+
+module _ (rows : List Span) (lanes : List ClassLanes) (k : AreKept rows lanes) (j high : ℕ) (e : high ≡ min (j + 1) 18_446_744_073_709_551_615) (collected : List Span) (c : collected ≡ flat_map (met_in j high) lanes) where
+  pub at_ranked : AreRanked (goes_before ByAsset) collected
+  at_ranked = over_ranked rows k.canonical j high e collected (collected_met rows lanes k j high collected c)
+
+  pub at_rows : (found : List Span) → ((r : Span) → has_row found r ≡ has_row collected r) → (r : Span) → has_row found r ≡ (has_row rows r && (nat_le r.from j && nat_lt j r.to))
+  at_rows found h r =
+      h r ∙ test_has (is_met j high) (λ x. nat_le x.from j && nat_lt j x.to) rows collected (collected_met rows lanes k j high collected c) (met_collected rows lanes k j high collected c) (over_is rows k.canonical j high e) r
+
+-- ---- all rows of the assets that are met
+
+module _ (rows : List Span) (lanes : List ClassLanes) (k : AreKept rows lanes) (class : Name) (low high : ℕ) (met : List Span) (e : met ≡ flat_map (met_of class low high) lanes) where
+  abbrev named : Name → Bool
+  named c = same_name c class
+
+  met_is : (x : Span) → In x met → IsMet rows lanes k.tied named low high x
+  met_is x m = lanes_met rows lanes k.tied named low high x (subst (In x) e m)
+
+  is_in_met : (x : Span) → IsMet rows lanes k.tied named low high x → In x met
+  is_in_met x i = subst (In x) (sym e) (met_lanes rows lanes k.tied named low high x i)
+
+  module _ (all : List Span) (c : all ≡ flat_map (rows_of rows class) met) where
+    all_in : (x : Span) → In x all → In x rows × (is_met_asset rows class low high x.class x.asset ≡ true)
+    all_in x m =
+        let f = flat_found (rows_of rows class) met x (subst (In x) c m) in
+        let g = in_filter (is_of class f.0.asset) rows x f.2 in
+        let h = and_parts (same_name x.class class) (nat_eq x.asset f.0.asset) g.1 in
+        let i = met_is f.0 f.1 in (
+          g.0,
+          and_from (same_name x.class class) (list_any (λ q. is_of class x.asset q && is_met low high q) rows) h.0
+              (any_of (λ q. is_of class x.asset q && is_met low high q) f.0 rows i.row
+              (and_from (is_of class x.asset f.0) (is_met low high f.0) (and_from (same_name f.0.class class) (nat_eq f.0.asset x.asset) i.of_class (eq-eqb f.0.asset x.asset (sym (eqb-true x.asset f.0.asset h.1)))) i.met)),
+        )
+
+    in_all : (x : Span) → In x rows → is_met_asset rows class low high x.class x.asset ≡ true → In x all
+    in_all x m h =
+        let a = and_parts (same_name x.class class) (list_any (λ q. is_of class x.asset q && is_met low high q) rows) h in
+        let f = any_found (λ q. is_of class x.asset q && is_met low high q) rows a.1 in
+        let b = and_parts (is_of class x.asset f.0) (is_met low high f.0) f.2 in
+        let g = and_parts (same_name f.0.class class) (nat_eq f.0.asset x.asset) b.0 in
+        subst (In x) (sym c) (in_flat (rows_of rows class) met f.0 x (is_in_met f.0 (record { row = f.1; met = b.1; of_class = g.0 }))
+        (filter_in (is_of class f.0.asset) rows x m (and_from (same_name x.class class) (nat_eq x.asset f.0.asset) a.0 (eq-eqb x.asset f.0.asset (sym (eqb-true f.0.asset x.asset g.1))))))
+
+    pub assets_ranked : AreRanked span_before all
+    assets_ranked = rows_ranked rows all k.canonical (λ r m. (all_in r m).0)
+
+    pub assets_rows : (found : List Span) → each_two span_before found ≡ true → ((r : Span) → has_row found r ≡ has_row all r) → found ≡ filter (λ r. is_met_asset rows class low high r.class r.asset) rows
+    assets_rows found s h =
+        found_are (λ r. is_met_asset rows class low high r.class r.asset) rows found k.canonical s (λ x m. all_in x (has_found all x (sym (h x) ∙ has_in found x m)))
+        (λ x m p. has_found found x (h x ∙ has_in all x (in_all x m p)))
 
 -- ---- what a call that may fail gives
 

@@ -5,5 +5,5 @@ mod Loading
 mod ClassPlaces
 mod Finding
 mod SearchFree
-mod Gathering
 mod Behind
+mod Gathering

@@ -1,16 +1,31 @@
 -- Rows that have a millimetre of a stretch, as lanes have them, and the orders in which they are handed over.
-use Rattle.std.specs.Prelude.{◌≡◌, ℕ, Bool, true, false, nat_lt, List, ◌++◌, filter}
+use Rattle.std.specs.Prelude.{◌≡◌, ℕ, Bool, true, false, cond, ◌&&◌, nat_lt, List, [], ◌++◌, filter}
+use Rattle.std.specs.List.{list_any}
+use Rattle.lrs_measure.specs.Texts.{Name, same_name}
 use Rattle.lrs_events.specs.declared.span.Span.{Span}
 use Rattle.lrs_events.specs.Changes.{has_row}
 use Rattle.lrs_events.specs.Spans.{span_before}
+use Rattle.lrs_canonical.specs.Members.{is_of}
 use Rattle.lrs_canonical.specs.Removals.{is_met}
 use Rattle.lrs_spans.specs.declared.lanes.ClassLanes.{ClassLanes}
 use Rattle.lrs_spans.specs.declared.meeting.Sorting.{Sorting}
 use Rattle.lrs_spans.specs.declared.meeting.Sorting.TheVariants.{ByRow, ByAsset}
 
 -- the rows of a class with a millimetre from low up to high: those of the left, then those of the right
-abbrev pub met_on : ℕ → ℕ → ClassLanes → List Span
-met_on low high l = filter (is_met low high) l.left.rows ++ filter (is_met low high) l.right.rows
+abbrev pub met_in : ℕ → ℕ → ClassLanes → List Span
+met_in low high l = filter (is_met low high) l.left.rows ++ filter (is_met low high) l.right.rows
+
+-- ... and of a class, those of the lanes that are the class's
+abbrev pub met_of : Name → ℕ → ℕ → ClassLanes → List Span
+met_of class low high l = cond (same_name l.class class) (met_in low high l) []
+
+-- the rows of the class that are of a row's asset
+abbrev pub rows_of : List Span → Name → Span → List Span
+rows_of rows class q = filter (is_of class q.asset) rows
+
+-- whether the asset of the class has a row with a millimetre from low up to high
+abbrev pub is_met_asset : List Span → Name → ℕ → ℕ → Name → ℕ → Bool
+is_met_asset rows class low high c a = same_name c class && list_any (λ q. is_of class a q && is_met low high q) rows
 
 -- whether the first comes before the second
 abbrev pub goes_before : Sorting → Span → Span → Bool

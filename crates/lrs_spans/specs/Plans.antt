@@ -1,22 +1,14 @@
 -- Plans: what a change would make of the rows of a route.
-use Rattle.std.specs.Prelude.{◌≡◌, ℕ, Bool, true, ◌&&◌, List}
-use Rattle.std.specs.List.{list_any}
+use Rattle.std.specs.Prelude.{◌≡◌, true, List}
 use Rattle.lrs_measure.specs.Lists.{each_two}
-use Rattle.lrs_measure.specs.Texts.{Name, same_name}
 use Rattle.lrs_events.specs.declared.span.Span.{Span}
 use Rattle.lrs_events.specs.declared.change.SpanChange.{SpanChange}
 use Rattle.lrs_events.specs.Changes.{changed_rows}
 use Rattle.lrs_events.specs.Spans.{are_rows, span_before}
 use Rattle.lrs_canonical.specs.Changes.{IsChange}
-use Rattle.lrs_canonical.specs.Members.{is_of}
-use Rattle.lrs_canonical.specs.Removals.{is_met}
 
 -- The change makes canonical rows of these; what goes is among them, and what comes is not.
 pub record IsPlan (rows : List Span) (plan : SpanChange) : Type 0 where
   pub kept : are_rows (changed_rows plan rows) ≡ true
   pub change : IsChange rows plan.gone.items plan.come.items (changed_rows plan rows)
   pub in_order : each_two span_before plan.gone.items ≡ true
-
--- whether an asset of the class has a millimetre from low up to high
-abbrev pub is_met_asset : List Span → Name → ℕ → ℕ → Name → ℕ → Bool
-is_met_asset rows class low high c a = same_name c class && list_any (λ q. is_of class a q && is_met low high q) rows

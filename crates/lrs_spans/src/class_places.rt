@@ -1,51 +1,20 @@
 //! Places of a class are taken away, on a side or on both.
 
 ghost use Rattle.std.specs.Prelude.{◌≡◌, ◌&&◌, IsTrue, IfOk, OnOk, OnErr, filter};
-ghost use Rattle.std.specs.List.{list_any};
 ghost use Rattle.lrs_measure.specs.Texts.{same_name};
 ghost use Rattle.lrs_events.specs.Members.{has_side};
 ghost use Rattle.lrs_events.specs.Spans.{are_rows};
 ghost use Rattle.lrs_canonical.specs.Changes.{IsChange};
-ghost use Rattle.lrs_canonical.specs.Members.{is_of};
 ghost use Rattle.lrs_canonical.specs.Removals.{is_within, IsLess, IsThat, IsRemoval};
-ghost use Rattle.lrs_spans.specs.Plans.{IsPlan, is_met_asset};
+ghost use Rattle.lrs_spans.specs.Meeting.{is_met_asset};
+ghost use Rattle.lrs_spans.specs.Plans.{IsPlan};
 
-use crate::search::asset_rows;
+use crate::meeting;
 use crate::spans::Spans;
 use lrs_canonical::removing::Removal;
 use lrs_canonical::siding::cleared_side;
 use lrs_events::{ClassName, Side, Span};
 use std::alloc::{AllocError, Global};
-
-/// Whether the asset of the class has one of the rows.
-fn has_asset(rows: &[Span], class: ClassName, asset: u64) -> bool
-    requires { IsTrue (are_rows rows.now) }
-    ensures { result ≡ list_any (is_of class asset) rows.now }
-{
-    !asset_rows(rows, class, asset).is_empty()
-}
-
-/// The rows of those assets of a class that have one of some rows, which are canonical.
-///
-/// # Errors
-/// When memory runs out.
-fn of_assets_among(
-    alloc: Global,
-    rows: &[Span],
-    some: &[Span],
-    class: ClassName,
-) -> Result<Vec<Span>, AllocError>
-    requires { IsTrue (are_rows some.now) }
-    ensures { IfOk result (λ found. found.items ≡ filter (λ r. same_name r.class class && list_any (is_of class r.asset) some.now) rows.now) }
-{
-    let mut found = Vec::new(alloc);
-    for row in rows {
-        if row.class == class && has_asset(some, class, row.asset) {
-            found.push(*row)?;
-        }
-    }
-    Ok(found)
-}
 
 impl Spans {
     /// All rows of the assets of a class that have a millimetre from chainage low up to high, in their order.
@@ -59,9 +28,7 @@ impl Spans {
         ensures canonical { IsTrue (are_rows self.now) }
         ensures found { IfOk result (λ found. found.items ≡ filter (λ r. is_met_asset self.now class low high r.class r.asset) self.now) }
     {
-        let met = self.met(alloc, low, high)?;
-        let found = of_assets_among(alloc, self.rows(), &met, class)?;
-        Ok(found)
+        meeting::of_assets_met(alloc, self.kept.rows(), self.kept.lanes(), class, low, high)
     }
 
     /// What changes where what assets of a class hold from chainage low up to high, on a side or on both, is taken

@@ -1,19 +1,22 @@
 //! Rows that have a millimetre of a stretch, found by the lanes.
 
-ghost use Rattle.std.specs.Prelude.{◌≡◌, ◌<◌, ◌++◌, true, length, take, not, slice_index_or, IfOk, OnOk};
+ghost use Rattle.std.specs.Prelude.{◌≡◌, ◌<◌, ◌++◌, ◌&&◌, true, nat_le, nat_lt, length, take, not, slice_index_or, IsTrue, IfOk, OnOk};
 ghost use Rattle.std.specs.Ordering.{is_lt};
 ghost use Rattle.std.specs.List.{filter, flat_map};
 ghost use Rattle.std.specs.List.Sorted.{IsPermutation, IsSortedBy};
 ghost use Rattle.lrs_measure.specs.Lists.{each_two};
 ghost use Rattle.lrs_events.specs.declared.span.Span.{Span as DeclaredSpan};
 ghost use Rattle.lrs_events.specs.Changes.{has_row};
+ghost use Rattle.lrs_events.specs.Spans.{are_rows};
+ghost use Rattle.lrs_canonical.specs.Members.{is_of};
 ghost use Rattle.lrs_canonical.specs.Removals.{is_met};
 ghost use Rattle.lrs_spans.specs.Tied.{AreKept};
-ghost use Rattle.lrs_spans.specs.Meeting.{met_on, goes_before, AreRanked};
+ghost use Rattle.lrs_spans.specs.Meeting.{met_in, met_of, rows_of, is_met_asset, goes_before, AreRanked};
 
 use crate::lanes::ClassLanes;
+use crate::search::asset_rows;
 use lrs_canonical::order::comes_before;
-use lrs_events::Span;
+use lrs_events::{ClassName, Span};
 use std::alloc::{AllocError, Global};
 use std::cmp::Ordering;
 
@@ -106,7 +109,7 @@ fn in_order(alloc: Global, by: Sorting, mut rows: Vec<Span>) -> Result<Vec<Span>
 /// Copies the rows of a class with a millimetre from low up to high to the end of others, those with both sides
 /// twice.
 fn push_class(of: &ClassLanes, low: u64, high: u64, found: &mut Vec<Span>) -> Result<(), AllocError>
-    ensures { OnOk result (found.new.items ≡ found.old.items ++ met_on low high of.now) }
+    ensures { OnOk result (found.new.items ≡ found.old.items ++ met_in low high of.now) }
 {
     of.left.push_met(low, high, found)?;
     of.right.push_met(low, high, found)
@@ -122,7 +125,7 @@ fn collect(
     low: u64,
     high: u64,
 ) -> Result<Vec<Span>, AllocError>
-    ensures { IfOk result (λ found. found.items ≡ flat_map (met_on low high) lanes.now) }
+    ensures { IfOk result (λ found. found.items ≡ flat_map (met_in low high) lanes.now) }
 {
     let mut found = Vec::new(alloc);
     for of in lanes {
@@ -147,4 +150,85 @@ pub(crate) fn met(
 {
     let found = collect(alloc, lanes, low, high)?;
     in_order(alloc, Sorting::ByRow, found)
+}
+
+/// The rows over the millimetre that begins at a chainage, by asset.
+///
+/// # Errors
+/// When memory runs out.
+pub(crate) fn at(
+    alloc: Global,
+    rows: &[Span],
+    lanes: &[ClassLanes],
+    j: u64,
+) -> Result<Vec<Span>, AllocError>
+    requires kept { AreKept rows.now lanes.now }
+    ensures found { IfOk result (λ found. (r : DeclaredSpan) → has_row found.items r ≡ (has_row rows.now r && (nat_le r.from j && nat_lt j r.to))) }
+    ensures order { IfOk result (λ found. each_two (λ r s. nat_lt r.asset s.asset) found.items ≡ true) }
+{
+    let found = collect(alloc, lanes, j, j.saturating_add(1))?;
+    in_order(alloc, Sorting::ByAsset, found)
+}
+
+/// The rows of a class with a millimetre from low up to high, those with both sides twice.
+///
+/// # Errors
+/// When memory runs out.
+fn collect_of(
+    alloc: Global,
+    lanes: &[ClassLanes],
+    class: ClassName,
+    low: u64,
+    high: u64,
+) -> Result<Vec<Span>, AllocError>
+    ensures { IfOk result (λ found. found.items ≡ flat_map (met_of class low high) lanes.now) }
+{
+    let mut found = Vec::new(alloc);
+    for of in lanes {
+        if of.class == class {
+            push_class(of, low, high, &mut found)?;
+        }
+    }
+    Ok(found)
+}
+
+/// For each of some rows, all rows of its asset.
+///
+/// # Errors
+/// When memory runs out.
+fn collect_assets(
+    alloc: Global,
+    rows: &[Span],
+    class: ClassName,
+    met: &[Span],
+) -> Result<Vec<Span>, AllocError>
+    requires { IsTrue (are_rows rows.now) }
+    ensures { IfOk result (λ found. found.items ≡ flat_map (rows_of rows.now class) met.now) }
+{
+    let mut found = Vec::new(alloc);
+    for row in met {
+        found.extend_from_slice(asset_rows(rows, class, row.asset))?;
+    }
+    Ok(found)
+}
+
+/// All rows of those assets of a class that have a row with a millimetre from chainage low up to high, in their
+/// order.
+///
+/// # Errors
+/// When memory runs out.
+pub(crate) fn of_assets_met(
+    alloc: Global,
+    rows: &[Span],
+    lanes: &[ClassLanes],
+    class: ClassName,
+    low: u64,
+    high: u64,
+) -> Result<Vec<Span>, AllocError>
+    requires kept { AreKept rows.now lanes.now }
+    ensures { IfOk result (λ found. found.items ≡ filter (λ r. is_met_asset rows.now class low high r.class r.asset) rows.now) }
+{
+    let met = collect_of(alloc, lanes, class, low, high)?;
+    let all = collect_assets(alloc, rows, class, &met)?;
+    in_order(alloc, Sorting::ByRow, all)
 }

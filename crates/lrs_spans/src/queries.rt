@@ -1,6 +1,6 @@
 //! What is found of spans by place and by asset.
 
-ghost use Rattle.std.specs.Prelude.{◌≡◌, ◌<◌, ◌&&◌, nat_lt, true, IsTrue, IfOk, filter};
+ghost use Rattle.std.specs.Prelude.{◌≡◌, ◌<◌, ◌&&◌, nat_le, nat_lt, true, IsTrue, IfOk, filter};
 ghost use Rattle.lrs_measure.specs.Lists.{each_two};
 ghost use Rattle.lrs_events.specs.declared.span.Span.{Span as DeclaredSpan};
 ghost use Rattle.lrs_events.specs.Changes.{has_row};
@@ -59,6 +59,17 @@ impl Spans {
         ensures found { IfOk result (λ found. found.items ≡ filter (is_met low high) self.now) }
     {
         meeting::met(alloc, self.kept.rows(), self.kept.lanes(), low, high)
+    }
+
+    /// The rows over the millimetre that begins at a chainage, by asset number.
+    ///
+    /// # Errors
+    /// When memory runs out.
+    pub fn at(&self, alloc: Global, j: u64) -> Result<Vec<Span>, AllocError>
+        ensures rows { IfOk result (λ found. (r : DeclaredSpan) → has_row found.items r ≡ (has_row self.now r && (nat_le r.from j && nat_lt j r.to))) }
+        ensures order { IfOk result (λ found. each_two (λ r s. nat_lt r.asset s.asset) found.items ≡ true) }
+    {
+        meeting::at(alloc, self.kept.rows(), self.kept.lanes(), j)
     }
 
     /// The rows that end behind a chainage, in their order.

@@ -1,12 +1,13 @@
 //! What lies on a route, found by search.
 
-ghost use Rattle.std.specs.Prelude.{◌≡◌, ◌<◌, ◌≤◌, ◌&&◌, IsTrue, true, length};
+ghost use Rattle.std.specs.Prelude.{◌≡◌, ◌<◌, ◌≤◌, ◌&&◌, IsTrue, IfOk, true, length};
 ghost use Rattle.std.specs.List.{filter};
 ghost use Rattle.lrs_measure.specs.Lists.{each_two};
 ghost use Rattle.lrs_events.specs.declared.span.Span.{Span as DeclaredSpan};
 ghost use Rattle.lrs_events.specs.Changes.{has_row};
 ghost use Rattle.lrs_events.specs.Spans.{are_rows};
 ghost use Rattle.lrs_canonical.specs.Members.{is_of, leaves_free, is_free};
+ghost use Rattle.lrs_lanes.specs.Lane.{is_met};
 ghost use Rattle.lrs_lanes.specs.Order.{place_before};
 ghost use Rattle.lrs_spans.specs.Tied.{AreKept, is_on};
 ghost use Rattle.lrs_spans.specs.Search.{IsPlaceOf, one_side, IsOver, lesser_of};
@@ -14,6 +15,8 @@ ghost use Rattle.lrs_spans.specs.Search.{IsPlaceOf, one_side, IsOver, lesser_of}
 use crate::lanes::ClassLanes;
 use lrs_canonical::order::rows_on;
 use lrs_events::{ClassName, LinkSide, Side, Span};
+use lrs_lanes::Lane;
+use std::alloc::{AllocError, Global};
 
 // The length of the longest route in millimetres.
 pub(crate) const LONGEST_ROUTE: u64 = 10_000_000_000;

@@ -84,10 +84,10 @@ impl Spans {
     }
 
     /// The spans of rows and lanes that were open. It takes no memory.
-    pub fn close(open: OpenSpans) -> Spans
-        ensures { result ≡ open.rows }
+    pub fn close(opened: OpenSpans) -> Spans
+        ensures { result ≡ opened.rows }
     {
-        Spans { kept: open }
+        Spans { kept: opened }
     }
 
     /// Makes a change that was planned.

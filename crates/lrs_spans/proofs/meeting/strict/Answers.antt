@@ -1,4 +1,4 @@
-use Rattle.std.proofs.Common.{◌+◌, List, [], ◌∷◌, ◌++◌, Vec, sym, ap, subst, ◌∙◌}
+use Rattle.std.proofs.Common.{◌+◌, List, [], ◌∷◌, ◌++◌, sym, ap, subst, ◌∙◌}
 use Rattle.lrs_events.specs.declared.span.Span.{Span}
 use Rattle.lrs_spans.specs.Meeting.{goes_before}
 use Rattle.lrs_spans.proofs.Gathering.{AreGathered, sorting_ranks, gathered_more, gathered_same}

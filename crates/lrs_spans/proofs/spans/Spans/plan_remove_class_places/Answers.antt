@@ -2,7 +2,7 @@ use Rattle.std.proofs.Common.{◌∙◌, ap}
 use Rattle.lrs_events.specs.declared.span.Span.{Span}
 use Rattle.lrs_events.specs.Spans.{are_rows}
 use Rattle.lrs_canonical.proofs.Replaced.{found_rows}
-use Rattle.lrs_spans.specs.Plans.{is_met_asset}
+use Rattle.lrs_spans.specs.Meeting.{is_met_asset}
 use Rattle.lrs_spans.proofs.ClassPlaces.{met_removal}
 use Rattle.lrs_spans.proofs.spans.Spans.plan_remove_class_places.Goals as goal
 
