@@ -47,3 +47,8 @@ def test_courses_and_marks_bear_a_refused_growth():
 
 def test_a_desk_bears_a_refused_growth():
     assert each_refused_call("lrs_desk", step=4) >= {"Desk::open", "run", "link", "class", "route"}
+
+
+def test_spans_bear_a_refused_growth():
+    calls = ("add", "remove_within", "cut", "concat", "turned", "of_rows", "copy")
+    assert each_refused_call("lrs_spans_tests") == {f"Spans::{call}" for call in calls}

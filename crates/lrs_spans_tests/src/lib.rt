@@ -1,0 +1,13 @@
+//! Tests of lrs_spans: random calls beside a plain table of what assets hold, and each growth of a list refused.
+#![tactic(auto)]
+
+#[cfg(test)]
+mod checked;
+#[cfg(test)]
+mod draws;
+#[cfg(test)]
+mod refused;
+#[cfg(test)]
+mod table;
+#[cfg(test)]
+mod tests;
