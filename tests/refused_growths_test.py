@@ -58,5 +58,6 @@ def test_deciding_soundness_bears_a_refused_growth():
 
 
 def test_spans_bear_a_refused_growth():
-    calls = ("add", "remove_within", "cut", "concat", "turned", "of_rows", "copy")
+    changes = ("add", "remove_within", "remove_asset_within", "remove_class_places", "cut", "concat", "turned")
+    calls = (*changes, "of_rows", "copy", "at", "met")
     assert each_refused_call("lrs_spans_tests") == {f"Spans::{call}" for call in calls}

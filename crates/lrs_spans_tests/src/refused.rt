@@ -163,3 +163,55 @@ fn spans_are_made_of_rows(rt: HostRuntime) {
     };
     are_the_rows(&rt, &made);
 }
+
+#[test]
+fn a_stretch_of_an_asset_is_cleared(rt: HostRuntime) {
+    let mut spans = route(&rt);
+    let class = class(&rt, b"SIGN");
+    if let Err(_) = spans.remove_asset_within(rt.alloc(), class, 3, 1, 8) {
+        refused(&rt, "Spans::remove_asset_within");
+        are_the_rows(&rt, &spans);
+        let again = spans.remove_asset_within(rt.alloc(), class, 3, 1, 8);
+        assert!(rt; again.is_ok());
+    }
+    assert_eq!(rt; spans.rows().len(), 3);
+}
+
+#[test]
+fn a_side_of_a_class_is_cleared(rt: HostRuntime) {
+    let mut spans = route(&rt);
+    let class = class(&rt, b"SIGN");
+    if let Err(_) = spans.remove_class_places(rt.alloc(), class, 1, 8, Side::L) {
+        refused(&rt, "Spans::remove_class_places");
+        are_the_rows(&rt, &spans);
+        let again = spans.remove_class_places(rt.alloc(), class, 1, 8, Side::L);
+        assert!(rt; again.is_ok());
+    }
+    assert_eq!(rt; spans.rows().len(), 6);
+}
+
+#[test]
+fn rows_over_a_millimetre_are_found(rt: HostRuntime) {
+    let spans = route(&rt);
+    let found = match spans.at(rt.alloc(), 3) {
+        Ok(found) => found,
+        Err(_) => {
+            refused(&rt, "Spans::at");
+            spans.at(rt.alloc(), 3).expect(&rt, "memory")
+        }
+    };
+    assert_eq!(rt; found.len(), 2);
+}
+
+#[test]
+fn rows_of_a_stretch_are_found(rt: HostRuntime) {
+    let spans = route(&rt);
+    let found = match spans.met(rt.alloc(), 3, 7) {
+        Ok(found) => found,
+        Err(_) => {
+            refused(&rt, "Spans::met");
+            spans.met(rt.alloc(), 3, 7).expect(&rt, "memory")
+        }
+    };
+    assert_eq!(rt; found.len(), 3);
+}
