@@ -6,6 +6,8 @@ mod checked;
 #[cfg(test)]
 mod draws;
 #[cfg(test)]
+mod queries;
+#[cfg(test)]
 mod refused;
 #[cfg(test)]
 mod table;

@@ -179,6 +179,101 @@ impl Table {
         at == 0 || self.has(asset, at - 1, 0) != left || self.has(asset, at - 1, 1) != right
     }
 
+    /// What of the assets of the asset's class lies from chainage low up to high on a side or on both, if `taken`,
+    /// or else the rest.
+    pub fn class_part(&self, taken: bool, places: &Span) -> Table {
+        let mut part = Table::empty();
+        for asset in 0..ASSETS {
+            for at in 0..LENGTH {
+                let meets = asset % 2 == places.asset % 2 && places.from <= at && at < places.to;
+                for side in 0..2 {
+                    let within = meets && is_on(places.side, side);
+                    part.set(
+                        asset,
+                        at,
+                        side,
+                        within == taken && self.has(asset, at, side),
+                    );
+                }
+            }
+        }
+        part
+    }
+
+    /// Whether the asset holds the millimetre on any side.
+    pub fn is_held(&self, asset: u64, at: u64) -> bool
+        requires { at < 24 }
+    {
+        asset < ASSETS && (self.has(asset, at, 0) || self.has(asset, at, 1))
+    }
+
+    /// How many assets hold the millimetre.
+    pub fn holders(&self, at: u64) -> usize
+        requires { at < 24 }
+    {
+        let mut count = 0usize;
+        for asset in 0..ASSETS {
+            if self.is_held(asset, at) {
+                count = count.saturating_add(1);
+            }
+        }
+        count
+    }
+
+    /// The least asset of the class of the stretch's asset that holds some of it.
+    pub fn least_over(&self, stretch: &Span) -> Option<u64> {
+        for asset in 0..ASSETS {
+            let other = Span { asset, ..*stretch };
+            if asset % 2 == stretch.asset % 2 && self.holds_some(&other) {
+                return Some(asset);
+            }
+        }
+        None
+    }
+
+    /// Whether the row's asset holds some of its places.
+    fn holds_some(&self, row: &Span) -> bool {
+        for at in 0..LENGTH {
+            for side in 0..2 {
+                if row.asset < ASSETS
+                    && row.from <= at
+                    && at < row.to
+                    && is_on(row.side, side)
+                    && self.has(row.asset, at, side)
+                {
+                    return true;
+                }
+            }
+        }
+        false
+    }
+
+    /// How many rows it takes for the asset.
+    pub fn rows_of(&self, asset: u64) -> usize {
+        let mut count = 0usize;
+        for at in 0..LENGTH {
+            if asset < ASSETS && self.begins(asset, at) {
+                count = count.saturating_add(1);
+            }
+        }
+        count
+    }
+
+    /// How many rows of the assets of the asset's class have the side.
+    pub fn rows_on(&self, asset: u64, side: u64) -> usize
+        requires { side < 2 }
+    {
+        let mut count = 0usize;
+        for other in 0..ASSETS {
+            for at in 0..LENGTH {
+                if other % 2 == asset % 2 && self.begins(other, at) && self.has(other, at, side) {
+                    count = count.saturating_add(1);
+                }
+            }
+        }
+        count
+    }
+
     /// How many rows it takes to say this.
     pub fn fewest_rows(&self) -> usize {
         let mut count = 0usize;

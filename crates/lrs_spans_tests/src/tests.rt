@@ -3,9 +3,9 @@
 
 ghost use Rattle.std.specs.Prelude.{◌≤◌};
 
-use crate::checked;
 use crate::draws::Draws;
 use crate::table::{ASSETS, Classes, LENGTH, Table};
+use crate::{checked, queries};
 use lrs_canonical::order::comes_before;
 use lrs_events::{ClassName, Side, Span};
 use lrs_spans::Spans;
@@ -141,6 +141,21 @@ impl Trial {
         Ok(())
     }
 
+    fn remove_class_places(
+        &mut self,
+        rt: &(impl Abort + AllocGlobal),
+        places: &Span,
+    ) -> Result<(), AllocError> {
+        let class = self.classes.of(places.asset);
+        let removal = self
+            .spans
+            .remove_class_places(rt.alloc(), class, places.from, places.to, places.side)?;
+        let left = self.table.class_part(true, places);
+        agree(rt, &removal.left, &left, &self.classes);
+        self.table = self.table.class_part(false, places);
+        Ok(())
+    }
+
     /// Cuts the route, and answers what is behind the cut.
     fn cut(&mut self, rt: &(impl Abort + AllocGlobal), at: u64) -> Result<Spans, AllocError>
         requires { at ≤ 24 }
@@ -204,7 +219,7 @@ impl Trial {
     ) -> Result<(), AllocError> {
         let span = drawn_span(draws, &self.classes);
         let at = draws.below(25);
-        match draws.below(18) {
+        match draws.below(20) {
             0 => self.remove_within(rt, span.from, span.to),
             1 => self.apply_removal(rt, span.from, span.to),
             2 => self.remove_asset_within(rt, &span),
@@ -214,9 +229,25 @@ impl Trial {
             6 => self.take_other(rt, true),
             7 => self.take_other(rt, false),
             8 => self.add(rt, &span, true),
+            9 | 10 => self.remove_class_places(rt, &span),
             _ => self.add(rt, &span, false),
         }
     }
+}
+
+/// What is asked of the spans, in a drawn place, is what the table says.
+fn answers_agree(
+    rt: &(impl Abort + AllocGlobal),
+    draws: &mut Draws,
+    trial: &Trial,
+) -> Result<(), AllocError> {
+    let span = drawn_span(draws, &trial.classes);
+    let at = draws.below(24);
+    queries::over_agrees(rt, &trial.spans, &trial.table, &trial.classes, &span);
+    queries::is_free_agrees(rt, &trial.spans, &trial.table, &span);
+    queries::lane_agrees(rt, &trial.spans, &trial.table, &trial.classes, span.asset);
+    queries::asset_rows_agree(rt, &trial.spans, &trial.table, &trial.classes, span.asset);
+    queries::at_agrees(rt, &trial.spans, &trial.table, at)
 }
 
 /// One sequence of calls on an empty route.
@@ -233,6 +264,7 @@ fn sequence(
     for _ in 0..CALLS {
         trial.call(rt, draws)?;
         trial.agree(rt);
+        answers_agree(rt, draws, &trial)?;
     }
     Ok(())
 }
