@@ -26,15 +26,17 @@ def refused_calls(printed):
     return set(re.findall(r"^ +refused: (\S+)$", printed, re.M))
 
 
-def each_refused_call(crate, step=1):
-    """The calls that were refused, with each step-th allocation refused until none is left to refuse."""
+def each_refused_call(crate, step=1, least=1):
+    """The calls that were refused, with each step-th allocation refused until none is left to refuse.
+
+    Before the least allocation there are some that no test tells of, since they only make what a call is tried on."""
     refused = set()
     with concurrent.futures.ThreadPoolExecutor(2) as pool:
         for first in range(1, MOST_ALLOCATIONS, 2 * step):
             runs = pool.map(lambda n: run_refusing(crate, n), (first, first + step))
             calls = [refused_calls(printed) for printed in runs]
             refused.update(*calls)
-            if not all(calls):
+            if first >= least and not all(calls):
                 return refused
     raise AssertionError(f"{crate}: a test makes {MOST_ALLOCATIONS} allocations or more")
 
@@ -46,7 +48,7 @@ def test_courses_and_marks_bear_a_refused_growth():
 
 
 def test_parts_of_a_ledger_bear_a_refused_growth():
-    assert each_refused_call("lrs_parts") == {"parts", "gone"}
+    assert each_refused_call("lrs_parts", least=5) == {"parts", "gone"}
 
 
 def test_a_desk_bears_a_refused_growth():
@@ -54,10 +56,10 @@ def test_a_desk_bears_a_refused_growth():
 
 
 def test_deciding_soundness_bears_a_refused_growth():
-    assert each_refused_call("lrs_sound", step=5) == {"image_of", "first_unsound"}
+    assert each_refused_call("lrs_sound", step=5, least=41) == {"image_of", "first_unsound"}
 
 
 def test_spans_bear_a_refused_growth():
     changes = ("add", "remove_within", "remove_asset_within", "remove_class_places", "cut", "concat", "turned")
     calls = (*changes, "of_rows", "copy", "at", "met")
-    assert each_refused_call("lrs_spans_tests") == {f"Spans::{call}" for call in calls}
+    assert each_refused_call("lrs_spans_tests", least=27) == {f"Spans::{call}" for call in calls}
