@@ -42,7 +42,6 @@ pub trait Keeper {
         ensures store { result ≡ Err KeepFault.Store → HasRisen (failures self.old) (failures self.new) }
         ensures quiet { (result ≡ Err KeepFault.Store → ⊥) → failures self.new ≡ failures self.old }
         ensures counts { failures self.old ≤ failures self.new }
-        ensures found_sound { (image : Image) → may_hold self.new (Ok image) → IsSound image }
         ensures content { (c : Result Image Table) → may_hold self.new c → may_hold self.old c };
 
     /// Makes a change, as a whole.
@@ -55,7 +54,6 @@ pub trait Keeper {
         ensures cause { result ≡ Err KeepFault.Store → HasRisen (failures self.old) (failures self.new) }
         ensures only { (t : Table) → result ≡ Err (KeepFault.Unsound t) → ⊥ }
         ensures counts { failures self.old ≤ failures self.new }
-        ensures found_sound { (image : Image) → may_hold self.new (Ok image) → IsSound image }
         ensures loaded { is_loaded self.new ≡ true };
 
     // Where the device is clean something may be found, so a keeper cannot promise everything of nothing.
