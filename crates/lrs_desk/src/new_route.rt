@@ -68,7 +68,7 @@ fn free_course(
     requires routes { IsOccupiedBy occupied.now image.now.routes }
     ensures { IfOk result (λ course. course ≡ specs.free_course (state_of image.now) pieces.now) }
 {
-    match Course::new(alloc, pieces, image.links.as_slice()) {
+    match Course::new(alloc, pieces, &image.links.as_slice()) {
         Ok(course) => match occupied.first_shared(pieces) {
             Some(i) => Ok(Err(Cause::Taken(i as u64))),
             None => Ok(Ok(course)),
