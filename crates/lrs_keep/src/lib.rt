@@ -2,9 +2,17 @@
 #![tactic(auto)]
 
 mod change;
+mod keep;
 mod keeper;
+mod kept;
 mod lists;
+mod open_route;
+mod plain;
+mod routes;
 
 pub use change::{Change, Difference, ReferentChange, RouteChange};
+pub use keep::make_change;
 pub use keeper::{CommitFault, Keeper, LoadFault};
-pub use lists::{append_in_room, chunks_of, copies_of, make_room, push_in_room, rows_of};
+pub use kept::KeptImage;
+pub use open_route::OpenRoute;
+pub use plain::Plain;
