@@ -18,14 +18,14 @@ use Rattle.lrs_machine.proofs.Registers.{some_if_known}
 use Rattle.lrs_machine.proofs.Totals.{count-one}
 
 module _ {X : Type 0} where
-  one_more : (p : X → Bool) (x : X) (xs : List X) → count_by p (x ∷ xs) ≡ cond (p x) 1 0 + count_by p xs
+  pub one_more : (p : X → Bool) (x : X) (xs : List X) → count_by p (x ∷ xs) ≡ cond (p x) 1 0 + count_by p xs
   one_more p x xs = sum_by-cons (λ y. cond (p y) 1 0) x xs
 
-  count-none : (xs : List X) → count_by (λ x. false) xs ≡ 0
+  pub count-none : (xs : List X) → count_by (λ x. false) xs ≡ 0
   count-none [] = refl
   count-none (x ∷ xs) = one_more (λ x. false) x xs ∙ ap (λ n. 0 + n) (count-none xs)
 
-  count-append : (p : X → Bool) (xs ys : List X) → count_by p (xs ++ ys) ≡ count_by p xs + count_by p ys
+  pub count-append : (p : X → Bool) (xs ys : List X) → count_by p (xs ++ ys) ≡ count_by p xs + count_by p ys
   count-append p [] ys = omega arith
   count-append p (x ∷ xs) ys =
       let a = one_more p x (xs ++ ys) in let b = one_more p x xs in let c = count-append p xs ys in omega (arith, a, b, c)
@@ -37,28 +37,34 @@ one_side true Left c = omega arith
 one_side true Right c = omega arith
 one_side false s c = omega arith
 
-abbrev both_sides : ℕ → ℕ → List Place
+abbrev pub both_sides : ℕ → ℕ → List Place
 both_sides n k = record { link = n; mm = k; side = Left } ∷ record { link = n; mm = k; side = Right } ∷ []
 
--- one of the two places of a millimetre is the place where the millimetre is its own
-by_millimetre : (p : Place) (n : ℕ) (ks : List ℕ) → count_by (same_place p) (flat_map (both_sides n) ks) ≡ count_by (λ k. nat_eq p.link n && nat_eq p.mm k) ks
-by_millimetre p n [] = refl
-by_millimetre p n (k ∷ ks) =
+-- Where a test is of a millimetre and of one side, it counts millimetres.
+pub by_millimetre : (test : Place → Bool) (over : ℕ → Bool) (s : LinkSide) (n : ℕ) → ((k : ℕ) (side : LinkSide) → test (record { link = n; mm = k; side = side }) ≡ (over k && same_link_side s side))
+    → (ks : List ℕ) → count_by test (flat_map (both_sides n) ks) ≡ count_by over ks
+by_millimetre test over s n is [] = refl
+by_millimetre test over s n is (k ∷ ks) =
     let left : Place = record { link = n; mm = k; side = Left } in
     let right : Place = record { link = n; mm = k; side = Right } in
     let rest = flat_map (both_sides n) ks in
-    one_more (same_place p) left (right ∷ rest)
-    ∙ ap (λ m. cond (nat_eq p.link n && nat_eq p.mm k && same_link_side p.side Left) 1 0 + m) (one_more (same_place p) right rest)
-    ∙ one_side (nat_eq p.link n && nat_eq p.mm k) p.side (count_by (same_place p) rest)
-    ∙ ap (λ m. cond (nat_eq p.link n && nat_eq p.mm k) 1 0 + m) (by_millimetre p n ks)
-    ∙ sym (one_more (λ k. nat_eq p.link n && nat_eq p.mm k) k ks)
+    one_more test left (right ∷ rest)
+    ∙ ap (λ m. cond (test left) 1 0 + m) (one_more test right rest)
+    ∙ (λ i. cond (is k Left i) 1 0 + (cond (is k Right i) 1 0 + count_by test rest))
+    ∙ one_side (over k) s (count_by test rest)
+    ∙ ap (λ m. cond (over k) 1 0 + m) (by_millimetre test over s n is ks)
+    ∙ sym (one_more over k ks)
+
+-- the millimetres of the place, on a link
+is_at_millimetre : (p : Place) (n len : ℕ) → count_by (same_place p) (places_of_link n len) ≡ count_by (λ k. nat_eq p.link n && nat_eq p.mm k) (range_with_len 0 len)
+is_at_millimetre p n len = by_millimetre (same_place p) (λ k. nat_eq p.link n && nat_eq p.mm k) p.side n (λ k side. refl) (range_with_len 0 len)
 
 other_link : (p : Place) (n len : ℕ) → nat_eq p.link n ≡ false → count_by (same_place p) (places_of_link n len) ≡ 0
-other_link p n len h = by_millimetre p n (range_with_len 0 len) ∙ ap (λ b. count_by (λ k. b && nat_eq p.mm k) (range_with_len 0 len)) h ∙ count-none (range_with_len 0 len)
+other_link p n len h = is_at_millimetre p n len ∙ ap (λ b. count_by (λ k. b && nat_eq p.mm k) (range_with_len 0 len)) h ∙ count-none (range_with_len 0 len)
 
 own_link : (p : Place) (n len : ℕ) → nat_eq p.link n ≡ true → p.mm < len → count_by (same_place p) (places_of_link n len) ≡ 1
 own_link p n len h within =
-    by_millimetre p n (range_with_len 0 len) ∙ ap (λ b. count_by (λ k. b && nat_eq p.mm k) (range_with_len 0 len)) h
+    is_at_millimetre p n len ∙ ap (λ b. count_by (λ k. b && nat_eq p.mm k) (range_with_len 0 len)) h
     ∙ count-one (λ k. nat_eq p.mm k) 0 len p.mm (omega arith) (omega (arith, within)) (eq-eqb p.mm p.mm refl) (λ k e. sym (eqb-true p.mm k e))
 
 abbrev places_in : List (ℕ × ℕ) → List Place

@@ -40,23 +40,18 @@ use Rattle.lrs_machine.specs.Machine.{◌>>=◌, ◌>>◌, refuse_if, refuse_at,
 use Rattle.lrs_machine.specs.Machine.{extent_of, is_empty_extent, Wanted, wanted_of, first_holder, enter_asset, do_join_of, attempt, length_of_link}
 use Rattle.lrs_machine.specs.Laws.{IsGrounded, is_known, are_numbered}
 use Rattle.lrs_machine.proofs.Checks.{behind, bind, bind_known, unless, unless_at, given}
-use Rattle.lrs_machine.proofs.Members.{In, any_found, all_at, In-take, In-drop, flat_map_found, find_found}
+use Rattle.lrs_machine.proofs.Members.{In, any_found, all_at, all_of, In-take, In-drop, flat_map_found, find_found}
 use Rattle.lrs_machine.proofs.Pairs.{beside_ground}
 use Rattle.lrs_machine.proofs.Registers.{find-put, same_key}
 
 -- ---- tests of all
 
 module _ {X : Type 0} (p : X → Bool) where
-  -- each member passes, so all do
-  pub all_of : (xs : List X) → ((x : X) → In x xs → p x ≡ true) → list_all p xs ≡ true
-  all_of [] h = refl
-  all_of (x ∷ xs) h = and_from (p x) (list_all p xs) (h x (inl refl)) (all_of xs (λ y m. h y (inr m)))
-
   all-take : (n : ℕ) (xs : List X) → list_all p xs ≡ true → list_all p (take n xs) ≡ true
-  all-take n xs h = all_of (take n xs) (λ x m. all_at p x xs h (In-take x n xs m))
+  all-take n xs h = all_of p (take n xs) (λ x m. all_at p x xs h (In-take x n xs m))
 
   all-drop : (n : ℕ) (xs : List X) → list_all p xs ≡ true → list_all p (drop n xs) ≡ true
-  all-drop n xs h = all_of (drop n xs) (λ x m. all_at p x xs h (In-drop x n xs m))
+  all-drop n xs h = all_of p (drop n xs) (λ x m. all_at p x xs h (In-drop x n xs m))
 
   all-both : (xs ys : List X) → list_all p xs ≡ true → list_all p ys ≡ true → list_all p (xs ++ ys) ≡ true
   all-both xs ys h k = list_all-append p xs ys ∙ and_from (list_all p xs) (list_all p ys) h k

@@ -2,11 +2,10 @@
 use Rattle.std.proofs.Common.{◌≡◌, ℕ, ◌≤◌, Bool, true, false, cond, ◌⊎◌, inl, inr, List, [], ◌∷◌, map, length, Some, None, refl, sym, ap, subst, ◌∙◌, arith}
 use Rattle.std.specs.Prelude.{◌&&◌, ◌||◌, not, is_some, nat_eq, nat_le, nat_lt, unwrap_or}
 use Rattle.std.specs.List.{list_any, list_all}
-use Rattle.std.specs.Ordering.{nat_cmp, eq_by_cmp}
-use Rattle.std.specs.Cmp.{Equal-is, tied_itself, unsigned_tied}
+use Rattle.std.specs.Ordering.{nat_cmp}
 use Rattle.std.specs.Cmp.Lexicographic.{bytes_decides, nat_list_cmp_total}
 use Rattle.std.specs.FinMap.{find}
-use Rattle.std.proofs.lemmas.Bool.{false≢true, both_ways, not-true, and_parts, and_from, or_cases, leb-true, le-leb, ltb-true, lt-ltb, eqb-true, eq-eqb, ne_eqb}
+use Rattle.std.proofs.lemmas.Bool.{false≢true, both_ways, not-true, and_parts, and_from, or_cases, leb-true, le-leb, ltb-true, lt-ltb, eqb-true, eq-eqb}
 use Rattle.std.proofs.lemmas.Cmp.{nat_cmp_total}
 use Rattle.std.proofs.lemmas.List.{length-map}
 use Rattle.std.proofs.lemmas.Map.Lookups.{exact_unsigned, exact_bytes}
@@ -36,8 +35,7 @@ use Rattle.lrs_machine.specs.State as state
 use Rattle.lrs_machine.specs.Image.{state_of, holds_on, link_entry, asset_entry, route_entry, reason_of}
 use Rattle.lrs_machine.specs.Sound.{link_before, are_links, asset_before, are_assets, course_before, are_courses, are_spans, are_entered, gone_before, are_gone, are_balanced, are_edits, Test, IsSound, first_unsound, first_failed, tests, courses_of, spans_of, parts_of, places_of, has_asset_place, holds_in, holders_of, is_asset, is_course, is_on_a_link, is_span, are_spans_of, keeps_exclusive, is_part, share_nothing, pairs_of, is_balanced_at, is_named_by, are_parts, is_origin, are_origins}
 use Rattle.lrs_machine.specs.Laws.{IsBalanced, IsExclusive, IsNamed, IsGrounded, SoundIsLawful}
-use Rattle.lrs_machine.proofs.Members.{In, any_found, any_of, all_at, In-map, map_found, list_any-map, one_at, find_found, find_known}
-use Rattle.lrs_machine.proofs.Grounded.{all_of}
+use Rattle.lrs_machine.proofs.Members.{In, any_found, any_of, all_at, all_of, find_numbered, In-map, map_found, list_any-map, one_at, find_found, find_known}
 use Rattle.lrs_machine.proofs.Pairs.{HasPlace, place_had, pair_had, one_row, each_two-map, part_on, part_asset, held, held_on, held_asset, Balance, balance, entered_by, has_entered, gone_by, has_gone, takes_away, same_reason_is, is_same_side}
 
 -- ---- the tests that a sound image passes
@@ -124,18 +122,6 @@ tested i h =
       few_edits = edits.1;
       origins = passed (record { table = table.Origin; passes = are_origins i.entered i.assets }) (tests i) h (inr (inr (inr (inr (inr (inr (inr (inr (inr (inr (inl refl)))))))))));
     }
-
--- a link is found by its number where the links are in the order of their numbers
-find_in_order : (l : Link) (links : List Link) → each_two link_before links ≡ true → In l links → find nat_cmp l.number (map link_entry links) ≡ Some l.length
-find_in_order l [] h m = absurd m
-find_in_order l (k ∷ ks) h (inl e) =
-    ap (λ b. cond b (Some k.length) (find nat_cmp l.number (map link_entry ks))) (ap (λ (z : Link). eq_by_cmp nat_cmp l.number z.number) (sym e) ∙ (Equal-is _).1 (tied_itself nat_cmp_total l.number))
-    ∙ ap (λ (z : Link). Some z.length) (sym e)
-find_in_order l (k ∷ ks) h (inr m) =
-    let both = and_parts (list_all (link_before k) ks) (each_two link_before ks) h in
-    let less = ltb-true k.number l.number (all_at (link_before k) l ks both.0 m) in
-    let other = ne_eqb l.number k.number (λ e. omega (arith, less, e)) in
-    ap (λ b. cond b (Some k.length) (find nat_cmp l.number (map link_entry ks))) (unsigned_tied l.number k.number ∙ other) ∙ find_in_order l ks both.1 m
 
 -- ---- the state that it stands for
 
@@ -362,7 +348,7 @@ module _ (i : Image) (t : Tested i) where
 
   -- a link's row is found by its number
   link_found : (l : Link) → In l i.links → find nat_cmp l.number (map link_entry i.links) ≡ Some l.length
-  link_found l m = find_in_order l i.links t.link_order m
+  link_found l m = find_numbered (λ (l : Link). l.number) (λ (l : Link). l.length) l i.links t.link_order m
 
   -- ground of a link's row is known
   known_ground : (link mm : ℕ) → list_any (λ l. nat_eq l.number link && nat_lt mm l.length) i.links ≡ true → nat_lt mm (unwrap_or (find nat_cmp link (map link_entry i.links)) 0) ≡ true
