@@ -15,16 +15,17 @@ use Rattle.lrs_machine.specs.declared.answer.Answer.TheVariants.{Done, Refused}
 use Rattle.lrs_machine.specs.declared.command.Command.{Command}
 use Rattle.lrs_machine.specs.declared.image.Edit.{Edit}
 use Rattle.lrs_machine.specs.declared.image.Image.{Image}
-use Rattle.lrs_desk.specs.declared.change.Parts.{Parts}
+use Rattle.lrs_verbs.specs.declared.plan.Plan.{Plan}
 use Rattle.lrs_machine.specs.Bounds.{most_routes, most_assets, most_edits}
 use Rattle.lrs_machine.specs.State.{State}
 use Rattle.lrs_machine.specs.State as state
 use Rattle.lrs_machine.specs.Image.{state_of, asset_entry, route_entry}
-use Rattle.lrs_desk.specs.Change.{with_parts}
-use Rattle.lrs_desk.specs.Index.{place_among}
+use Rattle.lrs_keep.specs.Change.{with_difference}
+use Rattle.lrs_verbs.specs.Keys.{place_among}
 use Rattle.lrs_machine.specs.Lines.{line_of}
+use Rattle.lrs_machine.specs.Sound.{IsSound}
 use Rattle.lrs_machine.specs.Machine.{Outcome, step, attempt, step_by_key, outcome_of, next, answer_known, line_at, check_room, refuse_if, ◌>>◌, needs_asset, needs_route}
-use Rattle.lrs_desk.specs.Plan.{Makes}
+use Rattle.lrs_verbs.specs.Plans.{Makes}
 use Rattle.lrs_desk.specs.Decide.{IsDoneBy, HasRoom, LacksRoom, edit_of, done_image}
 
 -- an edit as the ground machine keeps it
@@ -104,6 +105,11 @@ limits_few_routes limits =
     let both = and_parts (nat_le limits.routes most_routes && nat_le limits.assets most_assets) (nat_le limits.edits most_edits) limits.bounds in
     leb-true limits.routes most_routes (and_parts (nat_le limits.routes most_routes) (nat_le limits.assets most_assets) both.0).0
 
+limits_few_assets : (limits : Limits) → limits.assets ≤ most_assets
+limits_few_assets limits =
+    let both = and_parts (nat_le limits.routes most_routes && nat_le limits.assets most_assets) (nat_le limits.edits most_edits) limits.bounds in
+    leb-true limits.assets most_assets (and_parts (nat_le limits.routes most_routes) (nat_le limits.assets most_assets) both.0).1
+
 module _ (limits : Limits) (key : Name) (command : Command) (i : Image) (none : place_among i.edits key ≡ None) where
   pub step-limited : (what : What) → LacksRoom what limits command i → step limits key command (state_of i) ≡ record { answer = Refused (cause.TooMany what); state = state_of i }
   step-limited what h =
@@ -121,24 +127,26 @@ module _ (limits : Limits) (key : Name) (command : Command) (i : Image) (none : 
       → step limits key command (state_of i) ≡ record { answer = Refused c; state = state_of i }
   step-refused c room refused = step-new limits key command i none ∙ ap (outcome_of key command (state_of i)) (next-attempt room ∙ refused)
 
-  done_is : (p : Parts) → outcome_of key command (state_of i) (Ok (state_of (with_parts p i))) ≡ record { answer = Done (length i.edits + 1); state = state_of (done_image key command p i) }
+  done_is : (p : Plan) → outcome_of key command (state_of i) (Ok (state_of (with_difference p.difference i))) ≡ record { answer = Done (length i.edits + 1); state = state_of (done_image key command p i) }
   unfolding state_of
   done_is p = λ j. record {
     answer = Done (length-map i.edits kept_edit j + 1);
-    state = record (state_of (with_parts p i)) { done = sym (map-append kept_edit i.edits (edit_of key command ∷ [])) j };
+    state = record (state_of (with_difference p.difference i)) { done = sym (map-append kept_edit i.edits (edit_of key command ∷ [])) j };
   }
 
-  pub is_done : (p : Parts) → HasRoom limits command i → Makes command i p → IsDoneBy limits key command i p
-  is_done p room makes = record {
-    dropped = makes.dropped;
+  pub is_done : (p : Plan) → IsSound i → HasRoom limits command i → Makes command i p → IsDoneBy limits key command i p
+  is_done p sound room makes = record {
+    makes = makes;
     outcome = step-new limits key command i none ∙ ap (outcome_of key command (state_of i)) (next-attempt room ∙ makes.state) ∙ done_is p;
-    sound = makes.sound (edit_of key command) (none_passes (λ (e : Edit). same_name e.key key) i.edits none) (few room.edits (limits_few limits)) (few_routes (needs_route command) room.routes (limits_few_routes limits));
+    sound = made_is_sound command i (with_difference p.difference i) (edit_of key command) sound (record { state = makes.state; edits = refl; orderly = λ h. makes.orderly h })
+        (record { assets = few_rows (needs_asset command) (length i.assets) limits.assets most_assets room.assets (limits_few_assets limits); routes = few_rows (needs_route command) (length i.routes) limits.routes most_routes room.routes (limits_few_routes limits) })
+        (none_passes (λ (e : Edit). same_name e.key key) i.edits none) (few room.edits (limits_few limits));
     new_key = none;
   }
     where
       few : nat_le limits.edits (length i.edits) ≡ false → limits.edits ≤ most_edits → length i.edits + 1 ≤ most_edits
       few h k = grind (arith, nat_tests)
 
-      few_routes : (b : Bool) → (b && nat_le limits.routes (length i.routes)) ≡ false → limits.routes ≤ most_routes → b ≡ true → length i.routes + 1 ≤ most_routes
-      few_routes true h k e = grind (arith, nat_tests)
-      few_routes false h k e = absurd (cc e)
+      few_rows : (b : Bool) (n limit most : ℕ) → (b && nat_le limit n) ≡ false → limit ≤ most → b ≡ true → n + 1 ≤ most
+      few_rows true n limit most h k e = grind (arith, nat_tests)
+      few_rows false n limit most h k e = absurd (cc e)
