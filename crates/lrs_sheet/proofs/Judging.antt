@@ -10,12 +10,15 @@ use Rattle.lrs_measure.specs.Lists.{is_nothing}
 use Rattle.lrs_machine.specs.Keys.{is_key}
 use Rattle.lrs_machine.specs.Lines.{Text}
 use Rattle.lrs_machine.specs.declared.command.Command.{Command}
+use Rattle.lrs_machine.specs.declared.command.Command.TheVariants as verb
+use Rattle.lrs_desk.specs.Plan.{is_planned}
 use Rattle.lrs_sheet.proofs.Deciding.{argument_in, fits, fits-says, says-fits}
 use Rattle.lrs_sheet.proofs.Misfits.{misfit-malformed}
 use Rattle.lrs_sheet.specs.Fields.{FirstMisfit}
 use Rattle.lrs_sheet.specs.Records.{FirstMalformedAmong, IsWellFormedAmong, SayAll, SaysAmong, text_at, texts_of}
 use Rattle.lrs_sheet.specs.Shapes.{Argument, Shape}
-use Rattle.lrs_sheet.specs.Verbs.{arguments_of, shapes_of, verb_of}
+use Rattle.lrs_sheet.specs.Laws.{DoneVerbsArePlanned}
+use Rattle.lrs_sheet.specs.Verbs.{arguments_of, done_verbs, shapes_of, verb_of}
 
 -- the place of the first of some fields that is not empty
 abbrev pub first_full : ℕ → List Text → Option ℕ
@@ -151,5 +154,29 @@ says-from names fields key command is same known verb fit said = record {
   same_key = same;
   is_verb = among names (text_at fields 1) known;
   same_verb = verb;
-  arguments = rw said at fitting-say fields 2 (shapes_of (verb_of command)) fit;
+  arguments = rw said at (fitting-say fields 2 (shapes_of (verb_of command)) fit);
 }
+
+-- The verbs that the program does are those that a desk does.
+planned-done : (command : Command) → is_planned command ≡ is_among done_verbs (verb_of command)
+planned-done (verb.Link l) = refl
+planned-done (verb.Class c) = refl
+planned-done (verb.Route name pieces marks) = refl
+planned-done (verb.Ref name route at) = refl
+planned-done (verb.Unref name) = refl
+planned-done (verb.Enter e) = refl
+planned-done (verb.Retire asset route location) = refl
+planned-done (verb.Split route at name) = refl
+planned-done (verb.Join first second) = refl
+planned-done (verb.Renumber route name) = refl
+planned-done (verb.Recalibrate route marks) = refl
+planned-done (verb.Realign route first end pieces marks) = refl
+planned-done (verb.Close route) = refl
+planned-done (verb.Supersede e) = refl
+planned-done (verb.Turn route) = refl
+
+pub done_verbs_are_planned : DoneVerbsArePlanned
+done_verbs_are_planned command = (
+  (λ planned. among done_verbs (verb_of command) (sym (planned-done command) ∙ planned)),
+  (λ done. planned-done command ∙ among-is done_verbs (verb_of command) done),
+)

@@ -1,5 +1,5 @@
 -- Laws of sheets: a record says one command, lines are made from the table of verbs, and the bytes of a sheet and the state before it determine the bytes of the reply and the state after it.
-use Rattle.std.specs.Prelude.{◌≡◌, ◌++◌, List, Some, Ok, IsTrue}
+use Rattle.std.specs.Prelude.{◌≡◌, ◌↔◌, ◌++◌, List, Some, Ok, IsTrue, Contains}
 use Rattle.std.specs.List.{AllByRecursion}
 use Rattle.lrs_machine.specs.Keys.{is_key}
 use Rattle.lrs_machine.specs.Lines.{Text, line_of}
@@ -7,11 +7,12 @@ use Rattle.lrs_machine.specs.WellFormed.{IsWellFormed}
 use Rattle.lrs_machine.specs.declared.command.Command.{Command}
 use Rattle.lrs_machine.specs.State.{State}
 use Rattle.lrs_machine.specs.declared.answer.Limits.{Limits}
+use Rattle.lrs_desk.specs.Plan.{is_planned}
 use Rattle.lrs_sheet.specs.declared.reply.Tally.{Tally}
 use Rattle.lrs_sheet.specs.CanonicalRecords.{IsKept, line_by_table, record_of}
 use Rattle.lrs_sheet.specs.Records.{SaysAmong}
 use Rattle.lrs_sheet.specs.Sheets.{RunsEdits}
-use Rattle.lrs_sheet.specs.Verbs.{all_verbs, arguments_of}
+use Rattle.lrs_sheet.specs.Verbs.{all_verbs, arguments_of, done_verbs, verb_of}
 
 -- what a run without a fault leaves, from what a writer had to what it has
 pub record Outcome : Type 0 where
@@ -43,3 +44,7 @@ LinesAreTheTables = (command : Command) → line_of command ≡ line_by_table co
 -- The record that a well formed command is printed as says that command, under its key.
 abbrev pub PrintedRecordsSay : Type 0
 PrintedRecordsSay = (key : Text) (command : Command) → IsTrue (is_key key) → IsWellFormed command → AllByRecursion IsKept (arguments_of command) → SaysAmong all_verbs (record_of key command) key command
+
+-- The verbs that the program does are those that a desk does.
+abbrev pub DoneVerbsArePlanned : Type 0
+DoneVerbsArePlanned = (command : Command) → IsTrue (is_planned command) ↔ Contains done_verbs (verb_of command)
