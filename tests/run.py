@@ -18,20 +18,30 @@ def load(path):
     return module
 
 
+def tests():
+    """Each test with its name. A file that cannot be loaded, or a program that cannot be built, ends the run."""
+    modules = [(path.stem, load(path)) for path in sorted(HERE.glob("*_test.py"))]
+    return [(f"{stem}.{name}", test) for stem, module in modules for name, test in sorted(vars(module).items()) if name.startswith("test_")]
+
+
+def passes(name, call):
+    try:
+        call()
+        return True
+    except Exception:
+        print(f"{name} failed")
+        traceback.print_exc(file=sys.stdout)
+        return False
+
+
 def main():
-    passed = failed = 0
     sys.path.insert(0, str(HERE))
-    for path in sorted(HERE.glob("*_test.py")):
-        module = load(path)
-        for name in sorted(n for n in vars(module) if n.startswith("test_")):
-            try:
-                vars(module)[name]()
-                passed += 1
-            except Exception:
-                failed += 1
-                print(f"{path.stem}.{name} failed")
-                traceback.print_exc(file=sys.stdout)
-    print(f"{passed} passed, {failed} failed")
+    found = []
+    results = [passes("loading the tests", lambda: found.extend(tests()))]
+    if all(results):
+        results = [passes(name, test) for name, test in found]
+    failed = results.count(False)
+    print(f"{len(results) - failed} passed, {failed} failed")
     return 1 if failed else 0
 
 
