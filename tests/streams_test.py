@@ -3,6 +3,7 @@
 import pathlib
 import re
 import resource
+import socket
 import subprocess
 import tempfile
 
@@ -63,6 +64,7 @@ def test_the_status_tells_where_the_standard_error_is_full():
 def test_a_closed_standard_output():
     faults(with_closed(">&-", "edit", ":memory:", "stdin", given=FIRST), "Write")
     faults(with_closed(">&-", "--help"), "Write")
+    ends(with_closed(">&-", "edit", ":memory:", "stdin", given=HEADER), b"", 0)
 
 
 def test_a_sheet_is_not_written_to_where_the_standard_output_is_closed():
@@ -80,6 +82,19 @@ def test_a_closed_standard_error():
 
 def test_a_closed_standard_input():
     faults(with_closed("<&-", "edit", ":memory:", "stdin"), "Read")
+
+
+def test_a_sheet_that_breaks_off_unread():
+    """The records that were read whole have their lines."""
+    for taken, answered in [(0, 0), (len(HEADER), 0), (len(FIRST) - 10, 6), (len(FIRST), 7)]:
+        near, far = socket.socketpair()
+        # a socket that is closed with something unread in it fails the reads of the other, once that has what was sent
+        far.send(b"unread")
+        near.send(FIRST[:taken])
+        near.close()
+        with far:
+            ended = run("edit", ":memory:", "stdin", given=None, stdin=far)
+        faults(ended, "Read", b"".join(FIRST_REPLIES.splitlines(keepends=True)[:answered]))
 
 
 def test_replies_into_a_pipe_that_is_closed():
