@@ -35,8 +35,8 @@ def test_the_commands_of_the_readme_are_there():
 
 def test_the_example_of_the_readme():
     """A new user who types it sees what the readme shows."""
-    shown = re.fullmatch(r"\$ cat first\.csv\n(.*)\$ \./roadlrs edit :memory: first\.csv\n(.*)", blocks_of_the_readme()[1], re.S)
-    sheet, replies = shown.groups()
+    typed = r"\$ cat first\.csv\n(.*)\$ \./roadlrs edit :memory: first\.csv\n(.*)"
+    sheet, replies = re.fullmatch(typed, blocks_of_the_readme()[1], re.S).groups()
     with tempfile.TemporaryDirectory() as folder:
         (pathlib.Path(folder) / "first.csv").write_text(sheet)
         ends(run("edit", ":memory:", "first.csv", cwd=folder), replies.encode(), 1)

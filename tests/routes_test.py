@@ -82,7 +82,8 @@ def test_several_hundred_routes():
     for n in range(900):
         link, start = 1 + n // 3 % 7, n // 21 * 100 + n % 3 * 10
         if n % 3 == 2:
-            rows.append((route(f"k{n}", f"R{n}", f"{link}:{start}:{start + 10}:+ {link}:{start - 1}:{start}:-", 11), f"k{n},refused,Taken:1"))
+            pieces = f"{link}:{start}:{start + 10}:+ {link}:{start - 1}:{start}:-"
+            rows.append((route(f"k{n}", f"R{n}", pieces, 11), f"k{n},refused,Taken:1"))
         else:
             edits += 1
             rows.append((route(f"k{n}", f"R{n}", f"{link}:{start}:{start + 10}:-", 10), f"k{n},done,{edits}"))

@@ -20,8 +20,11 @@ def load(path):
 
 def tests():
     """Each test with its name. A file that cannot be loaded, or a program that cannot be built, ends the run."""
-    modules = [(path.stem, load(path)) for path in sorted(HERE.glob("*_test.py"))]
-    return [(f"{stem}.{name}", test) for stem, module in modules for name, test in sorted(vars(module).items()) if name.startswith("test_")]
+    found = []
+    for path in sorted(HERE.glob("*_test.py")):
+        module = vars(load(path))
+        found += [(f"{path.stem}.{name}", module[name]) for name in sorted(module) if name.startswith("test_")]
+    return found
 
 
 def passes(name, call):

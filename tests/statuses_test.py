@@ -24,14 +24,15 @@ def test_any_number_of_malformed_records_is_one_status():
 
 def test_a_refusal_among_many_that_are_done():
     sheet, replies = long_sheet(1_000)
-    for row, line in [("x,link,0,5", "x,refused,Malformed:a"), ("x,link,5,5", "x,refused,LinkKnown"), ("k9,link,9,6", "k9,refused,KeyUsed:9")]:
+    for row, cause in [("x,link,0,5", "Malformed:a"), ("x,link,5,5", "LinkKnown"), ("k9,link,9,6", "KeyUsed:9")]:
+        line = f"{row.split(',')[0]},refused,{cause}"
         ends(run_sheet(sheet + record(row)), replies + lines(line), 1)
 
 
 def test_a_fault_after_refusals_is_a_fault():
     for count in [1, 256, 1_000]:
-        refused = record("r,link,0,6") * count
-        faults(run_sheet(FIRST + refused + b"of one field\n"), "BadCsv", FIRST_REPLIES + lines("r,refused,Malformed:a") * count)
+        refused, answered = record("r,link,0,6") * count, lines("r,refused,Malformed:a") * count
+        faults(run_sheet(FIRST + refused + b"of one field\n"), "BadCsv", FIRST_REPLIES + answered)
 
 
 def test_a_sheet_that_is_sent_again():

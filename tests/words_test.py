@@ -14,7 +14,8 @@ def is_misused(ended):
 
 
 def test_words_that_are_no_text():
-    for words in [[b"\xff"], ["edit", ":memory:", b"\xff"], ["edit", b"\xff", "stdin"], ["edit", ":memory:", "stdin", b"\xff"]]:
+    understood = ["edit", ":memory:", "stdin"]
+    for words in [[b"\xff"], [*understood, b"\xff"], ["edit", b"\xff", "stdin"], ["edit", ":memory:", b"\xff"]]:
         ends(run(*words, given=FIRST), b"", 2, b"error: a word is not UTF-8\n")
 
 
@@ -30,7 +31,8 @@ def test_a_sheet_whose_path_is_no_text():
 
 
 def test_paths_of_all_kinds():
-    names = ["a sheet", " ", "a\nsheet", "\n", "a\tb", "a,b", "it's", '"sheet"', "$HOME", "*", "\\", "\u00e9\u9053", "stdin ", ":memory:", "edit"]
+    names = ["a sheet", " ", "a\nsheet", "\n", "a\tb", "a,b", "it's", '"sheet"', "$HOME", "*", "\\"]
+    names += ["\u00e9\u9053", "stdin ", ":memory:", "edit"]
     with tempfile.TemporaryDirectory() as folder:
         for name in names:
             (pathlib.Path(folder) / name).write_bytes(FIRST)
@@ -66,14 +68,15 @@ def test_sheets_that_are_no_plain_files():
 
 
 def test_words_that_are_not_understood():
-    for words in [["--version"], ["-V"], ["-"], ["--"], ["edit", "-x", ":memory:", "stdin"], ["edit", ":memory:", "stdin", ""], ["survey", ":memory:", "stdin"]]:
+    understood = ["edit", ":memory:", "stdin"]
+    for words in [["--version"], ["-V"], ["-"], ["--"], ["edit", "-x", *understood[1:]], [*understood, ""]]:
         is_misused(run(*words, given=FIRST))
     is_misused(run("edit", ":memory:", *["stdin"] * 10_000, given=FIRST))
     is_misused(run("e" * 100_000, given=FIRST))
 
 
 def test_help_comes_before_misuse():
-    for words in [["edit", "--help", "more", "and", "more"], ["edit", ":memory:", "--help"], ["edit", ":memory:", "none", "-h"]]:
+    for words in [["edit", "--help", "more"], ["edit", ":memory:", "--help"], ["edit", ":memory:", "none", "-h"]]:
         ended = run(*words, given=FIRST)
         assert (ended.stderr, ended.status) == (b"", 0) and ended.stdout, (words, ended)
 
