@@ -293,28 +293,6 @@ def test_long_fields():
     )
 
 
-def test_words_that_are_not_understood():
-    for words in [
-        [],
-        ["edit"],
-        ["edit", ":memory:"],
-        ["edit", ":memory:", "stdin", "more"],
-        ["edits", ":memory:", "stdin"],
-        ["EDIT", ":memory:", "stdin"],
-        ["edit", "--fast", ":memory:", "stdin"],
-        ["edit", "nowhere/db", "stdin", "more"],
-        [""],
-    ]:
-        ended = run(*words, given=FIRST)
-        assert (ended.stdout, ended.status) == (b"", 2) and ended.stderr, (words, ended)
-
-
-def test_help():
-    for words in [["--help"], ["-h"], ["help"], ["edit", "--help"], ["help", "edit"]]:
-        ended = run(*words)
-        assert (ended.stderr, ended.status) == (b"", 0) and ended.stdout, (words, ended)
-
-
 def test_an_inventory_that_cannot_be_opened():
     with tempfile.TemporaryDirectory() as folder:
         faults(run("edit", f"{folder}/none/db", "stdin", given=FIRST), "Open")

@@ -69,14 +69,30 @@ def test_sheets_that_are_no_plain_files():
 
 def test_words_that_are_not_understood():
     understood = ["edit", ":memory:", "stdin"]
-    for words in [["--version"], ["-V"], ["-"], ["--"], ["edit", "-x", *understood[1:]], [*understood, ""]]:
+    for words in [
+        [],
+        [""],
+        ["-"],
+        ["--"],
+        ["--version"],
+        ["edits", *understood[1:]],
+        ["EDIT", *understood[1:]],
+        ["edit"],
+        ["edit", ":memory:"],
+        ["edit", "--fast", *understood[1:]],
+        [*understood, "more"],
+        [*understood, ""],
+        [*understood, *["more"] * 10_000],
+        ["edit", "nowhere/db", "stdin", "more"],
+        ["e" * 100_000],
+    ]:
         is_misused(run(*words, given=FIRST))
-    is_misused(run("edit", ":memory:", *["stdin"] * 10_000, given=FIRST))
-    is_misused(run("e" * 100_000, given=FIRST))
 
 
-def test_help_comes_before_misuse():
-    for words in [["edit", "--help", "more"], ["edit", ":memory:", "--help"], ["edit", ":memory:", "none", "-h"]]:
+def test_help():
+    asked = [["--help"], ["-h"], ["help"], ["edit", "--help"], ["help", "edit"]]
+    beside_misuse = [["edit", "--help", "more"], ["edit", ":memory:", "--help"], ["edit", ":memory:", "none", "-h"]]
+    for words in asked + beside_misuse:
         ended = run(*words, given=FIRST)
         assert (ended.stderr, ended.status) == (b"", 0) and ended.stdout, (words, ended)
 
