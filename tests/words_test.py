@@ -51,7 +51,7 @@ def test_paths_that_begin_with_a_dash():
 def test_paths_that_lead_nowhere():
     for path in ["", "/", "/dev/null/sheet", "s" * 256, "s/" * 3000, "stdin\n"]:
         faults(run("edit", ":memory:", path, given=FIRST), "Read")
-    for path in ["", " ", "/", ":memory", ":MEMORY:", ":memory: ", "s" * 256]:
+    for path in ["", "/", "/dev/null/db", "s" * 256]:
         faults(run("edit", path, "stdin", given=FIRST), "Open")
 
 
@@ -61,7 +61,7 @@ def test_sheets_that_are_no_plain_files():
     with tempfile.TemporaryDirectory() as folder:
         pipe = pathlib.Path(folder) / "pipe"
         os.mkfifo(pipe)
-        writer = threading.Thread(target=pipe.write_bytes, args=[FIRST])
+        writer = threading.Thread(target=pipe.write_bytes, args=[FIRST], daemon=True)
         writer.start()
         ends(run("edit", ":memory:", str(pipe)), FIRST_REPLIES, 0)
         writer.join()
