@@ -35,9 +35,9 @@ pub fn link(number: u32, length: u32) -> Option<Link> {
 fn course_by_pieces(alloc: Global, links: &[Link], pieces: &[Piece]) -> Option<Course>
     requires { IsTrue (are_in_order links.now) }
 {
-    let mut course = Course::new(alloc, &[], links).ok()?;
+    let mut course = Course::new(alloc, &[], &links).ok()?;
     for piece in pieces {
-        let next = Course::new(alloc, &[*piece], links).ok()?;
+        let next = Course::new(alloc, &[*piece], &links).ok()?;
         course.concat(&next).ok()?;
     }
     Some(course)
@@ -48,7 +48,7 @@ pub fn course(alloc: Global, links: &[Link], pieces: &[Piece]) -> Option<Course>
     if !are_links(links) {
         return None;
     }
-    match Course::new(alloc, pieces, links) {
+    match Course::new(alloc, pieces, &links) {
         Ok(course) => Some(course),
         Err(CourseFault::Twice(_)) => course_by_pieces(alloc, links, pieces),
         Err(_) => None,
