@@ -28,8 +28,8 @@ fn open(alloc: Global, limits: Limits) -> Result<Desk<Plain>, Fail> {
     }
 }
 
-fn edit_count(desk: &Desk<Plain>) -> usize {
-    desk.image().edits.as_slice().len()
+fn edit_count(desk: &Desk<Plain>) -> u64 {
+    desk.inventory().edits()
 }
 
 fn line_count(written: &[u8]) -> usize {
