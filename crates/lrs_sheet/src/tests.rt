@@ -32,8 +32,8 @@ fn edit_count(desk: &Desk<Plain>) -> u64 {
     desk.inventory().edits()
 }
 
-fn line_count(written: &[u8]) -> usize {
-    written.iter().filter(|byte| **byte == b'\n').count()
+fn line_count(written: &[u8]) -> u64 {
+    written.iter().filter(|byte| **byte == b'\n').count() as u64
 }
 
 fn tally(done: u64, again: u64, refused: u64) -> Result<Tally, SheetFault> {
