@@ -368,7 +368,7 @@ fn a_sheet_cut_after_each_byte(rt: HostRuntime) -> Result<(), Fail> {
         } else if line.len() <= 1 || comma_count(line) == 10 {
             assert_eq!(rt;
                 result,
-                tally(line_count(written.as_slice()) as u64, 0, 0),
+                tally(line_count(written.as_slice()), 0, 0),
                 "{len}"
             );
         } else {
