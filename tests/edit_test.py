@@ -1,25 +1,9 @@
 """`roadlrs edit :memory: SHEET`: bytes in, bytes out, status. The expected bytes are those of the formats' text."""
 
-import os
 import pathlib
-import pty
-import subprocess
 import tempfile
-import threading
 
-from program import HEADER, PROGRAM, ends, faults, lines, record, replies, run, run_sheet, sheet_of
-
-# the first sheet: three links, three classes, and a route over two of the links
-FIRST = sheet_of(
-    "s1,link,1,5000",
-    "s2,link,2,3000",
-    "s3,link,3,2000",
-    "s4,class,SPEED,exclusive",
-    "s5,class,RAIL,stretch",
-    "s6,class,SIGN,point",
-    "s7,route,A1,1:0:5000:+ 2:0:3000:-,0:0 5000:6000 8000:9000",
-)
-FIRST_REPLIES = lines(*(f"s{n},done,{n}" for n in range(1, 8)))
+from program import FIRST, FIRST_REPLIES, HEADER, ends, faults, lines, record, replies, run, run_sheet, sheet_of
 
 MARK = b"\xef\xbb\xbf"
 
@@ -309,28 +293,6 @@ def test_long_fields():
     )
 
 
-def test_words_that_are_not_understood():
-    for words in [
-        [],
-        ["edit"],
-        ["edit", ":memory:"],
-        ["edit", ":memory:", "stdin", "more"],
-        ["edits", ":memory:", "stdin"],
-        ["EDIT", ":memory:", "stdin"],
-        ["edit", "--fast", ":memory:", "stdin"],
-        ["edit", "nowhere/db", "stdin", "more"],
-        [""],
-    ]:
-        ended = run(*words, given=FIRST)
-        assert (ended.stdout, ended.status) == (b"", 2) and ended.stderr, (words, ended)
-
-
-def test_help():
-    for words in [["--help"], ["-h"], ["help"], ["edit", "--help"], ["help", "edit"]]:
-        ended = run(*words)
-        assert (ended.stderr, ended.status) == (b"", 0) and ended.stdout, (words, ended)
-
-
 def test_an_inventory_that_cannot_be_opened():
     with tempfile.TemporaryDirectory() as folder:
         faults(run("edit", f"{folder}/none/db", "stdin", given=FIRST), "Open")
@@ -349,66 +311,3 @@ def test_sheets_in_files():
         ends(run("edit", ":memory:", "stdin", cwd=folder), b"", 0)
         faults(run("edit", ":memory:", f"{folder}/none", given=FIRST), "Read")
         faults(run("edit", ":memory:", folder, given=FIRST), "Read")
-
-
-def test_replies_that_cannot_be_written():
-    with open("/dev/full", "wb") as full:
-        done = subprocess.run([PROGRAM, "edit", ":memory:", "stdin"], input=FIRST, stdout=full, stderr=subprocess.PIPE, timeout=600)
-    assert (done.stderr, done.returncode) == (b"roadlrs: fault Write\n", 3), done
-    read, write = os.pipe()
-    os.close(read)
-    done = subprocess.run([PROGRAM, "edit", ":memory:", "stdin"], input=FIRST, stdout=write, stderr=subprocess.PIPE, timeout=600)
-    os.close(write)
-    assert (done.stderr, done.returncode) == (b"roadlrs: fault Write\n", 3), done
-
-
-def long_sheet(count):
-    sheet = HEADER + b"".join(b"k%d,link,%d,5,,,,,,,\n" % (n, n) for n in range(1, count + 1))
-    return sheet, b"".join(b"k%d,done,%d\n" % (n, n) for n in range(1, count + 1))
-
-
-def shown_on(terminal):
-    """Reads all that is written to a terminal, on a thread of its own."""
-    seen = []
-
-    def read():
-        while True:
-            try:
-                piece = os.read(terminal, 65536)
-            except OSError:
-                return
-            if not piece:
-                return
-            seen.append(piece)
-
-    reader = threading.Thread(target=read)
-    reader.start()
-    return reader, seen
-
-
-def run_on_terminal(sheet):
-    """A run whose standard error is a terminal, and what that shows."""
-    outer, inner = pty.openpty()
-    reader, seen = shown_on(outer)
-    done = subprocess.run([PROGRAM, "edit", ":memory:", "stdin"], input=sheet, stdout=subprocess.PIPE, stderr=inner, timeout=600)
-    os.close(inner)
-    reader.join()
-    os.close(outer)
-    return done, b"".join(seen)
-
-
-def test_a_long_sheet():
-    sheet, expected = long_sheet(60_000)
-    ends(run_sheet(sheet), expected, 0)
-
-
-def test_progress_is_shown_on_a_terminal_alone():
-    sheet, expected = long_sheet(60_000)
-    done, shown = run_on_terminal(sheet)
-    assert (done.stdout, done.returncode) == (expected, 0), done.returncode
-    assert b" records" in shown and shown.endswith(b"\r\x1b[K"), shown[-200:]
-
-
-def test_a_short_sheet_shows_no_progress():
-    done, shown = run_on_terminal(FIRST)
-    assert (done.stdout, done.returncode, shown) == (FIRST_REPLIES, 0, b""), shown

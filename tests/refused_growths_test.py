@@ -15,7 +15,7 @@ def run_refusing(crate, allocation):
     """What the crate's tests print where this allocation of each of them fails; rt try needs no proof for that."""
     command = ["rt", "try", "--test", "--fail-alloc", str(allocation)]
     where = {"cwd": CRATES / crate, "stdin": subprocess.DEVNULL, "stdout": subprocess.PIPE, "stderr": subprocess.STDOUT}
-    return subprocess.run(command, text=True, timeout=300, **where).stdout
+    return subprocess.run(command, text=True, timeout=1800, **where).stdout
 
 
 def refused_calls(printed):

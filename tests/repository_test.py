@@ -1,5 +1,6 @@
 """What a newcomer may rely on in this repository: its files say where things are, and its gate can fail."""
 
+import os
 import pathlib
 import re
 import shutil
@@ -7,7 +8,8 @@ import subprocess
 import sys
 import tempfile
 
-TOP = pathlib.Path(__file__).resolve().parent.parent
+from program import TOP, ends, run
+
 CRATES = TOP / "crates"
 
 
@@ -18,6 +20,26 @@ def crates_listed():
 
 def test_handles_are_those_allowed():
     assert (TOP / "HANDLES").read_text() == "Handles allowed: Net.\n"
+
+
+def blocks_of_the_readme():
+    return re.findall(r"```\n(.*?)```", (TOP / "README.md").read_text(), re.S)
+
+
+def test_the_commands_of_the_readme_are_there():
+    commands = [line.split()[0] for line in blocks_of_the_readme()[0].splitlines()]
+    assert commands == ["./roadlrs", "./test"], commands
+    for command in commands:
+        assert os.access(TOP / command, os.X_OK), command
+
+
+def test_the_example_of_the_readme():
+    """A new user who types it sees what the readme shows."""
+    typed = r"\$ cat first\.csv\n(.*)\$ \./roadlrs edit :memory: first\.csv\n(.*)"
+    sheet, replies = re.fullmatch(typed, blocks_of_the_readme()[1], re.S).groups()
+    with tempfile.TemporaryDirectory() as folder:
+        (pathlib.Path(folder) / "first.csv").write_text(sheet)
+        ends(run("edit", ":memory:", "first.csv", cwd=folder), replies.encode(), 1)
 
 
 def test_each_crate_is_listed_after_those_it_stands_on():
@@ -81,7 +103,7 @@ def run_test_script(folder_of_commands):
         (copy / "tests" / "run.py").write_text('print("2 passed, 0 failed")\n')
         python = pathlib.Path(sys.executable).parent
         env = {"PATH": f"{folder_of_commands}:{python}:/usr/bin:/bin", "HOME": folder}
-        return subprocess.run(["bash", str(copy / "test")], env=env, capture_output=True, text=True, timeout=60)
+        return subprocess.run(["bash", str(copy / "test")], env=env, capture_output=True, text=True, timeout=600)
 
 
 def with_rt(body):
@@ -117,3 +139,28 @@ def test_the_gate_fails_where_the_prover_is_not_there():
     done = with_rt(None)
     assert done.stdout.splitlines()[-1] == "2 passed, 1 failed", done.stdout
     assert done.returncode != 0
+
+
+def run_black_box_tests(**files):
+    """Runs a copy of tests/run.py beside these files of tests."""
+    with tempfile.TemporaryDirectory() as folder:
+        shutil.copy(TOP / "tests" / "run.py", folder)
+        for name, text in files.items():
+            (pathlib.Path(folder) / f"{name}_test.py").write_text(text)
+        return subprocess.run([sys.executable, f"{folder}/run.py"], capture_output=True, text=True, timeout=600)
+
+
+def test_the_black_box_tests_are_counted():
+    done = run_black_box_tests(a="def test_a(): pass\ndef other(): assert False\n", b="def test_b(): assert 1 + 1 == 2\n")
+    assert (done.stdout, done.returncode) == ("2 passed, 0 failed\n", 0), done
+
+
+def test_a_black_box_test_that_fails_fails_the_run():
+    done = run_black_box_tests(a="def test_a(): pass\n", b="def test_b(): assert False\ndef test_c(): pass\n")
+    assert done.stdout.splitlines()[-1] == "2 passed, 1 failed" and done.returncode == 1, done
+
+
+def test_black_box_tests_that_cannot_be_loaded_fail_the_run():
+    for text in ["no Python\n", "import no_such_module\n"]:
+        done = run_black_box_tests(a="def test_a(): pass\n", b=text)
+        assert done.stdout.splitlines()[-1] == "0 passed, 1 failed" and done.returncode == 1, done

@@ -18,20 +18,33 @@ def load(path):
     return module
 
 
-def main():
-    passed = failed = 0
-    sys.path.insert(0, str(HERE))
+def tests():
+    """Each test with its name. A file that cannot be loaded, or a program that cannot be built, ends the run."""
+    found = []
     for path in sorted(HERE.glob("*_test.py")):
-        module = load(path)
-        for name in sorted(n for n in vars(module) if n.startswith("test_")):
-            try:
-                vars(module)[name]()
-                passed += 1
-            except Exception:
-                failed += 1
-                print(f"{path.stem}.{name} failed")
-                traceback.print_exc(file=sys.stdout)
-    print(f"{passed} passed, {failed} failed")
+        module = vars(load(path))
+        found += [(f"{path.stem}.{name}", module[name]) for name in sorted(module) if name.startswith("test_")]
+    return found
+
+
+def passes(name, call):
+    try:
+        call()
+        return True
+    except Exception:
+        print(f"{name} failed")
+        traceback.print_exc(file=sys.stdout)
+        return False
+
+
+def main():
+    sys.path.insert(0, str(HERE))
+    found = []
+    results = [passes("loading the tests", lambda: found.extend(tests()))]
+    if all(results):
+        results = [passes(name, test) for name, test in found]
+    failed = results.count(False)
+    print(f"{len(results) - failed} passed, {failed} failed")
     return 1 if failed else 0
 
 

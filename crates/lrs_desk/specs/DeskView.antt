@@ -1,5 +1,5 @@
 -- What is seen of a desk.
-use Rattle.std.specs.Prelude.{◌≡◌, ℕ, Bool, true, false, Result, Ok}
+use Rattle.std.specs.Prelude.{◌≡◌, ℕ, Bool, true, false, Result}
 use Rattle.std.specs.FinMap.{FinMap}
 use Rattle.lrs_measure.specs.Texts.{name_cmp}
 use Rattle.lrs_machine.specs.declared.answer.Limits.{Limits}

@@ -7,9 +7,8 @@ ghost use Rattle.lrs_events.specs.Names;
 use lrs_measure::Text;
 use lrs_measure::alphabet::{are_capitals, are_word_bytes, has_length, is_lone_dash};
 use lrs_ordered::{Keyed, Ordered};
-use std::cmp;
-use std::fmt;
 use std::marker::Model;
+use std::{cmp, fmt};
 
 fn is_class_name(bytes: &[u8]) -> bool
     ensures { result ≡ Names.is_class_name bytes.now }

@@ -1,5 +1,12 @@
 pub mod Wording
 pub mod Misfits
+pub mod Said
+pub mod OneArgument
+pub mod TableLines
+pub mod PrintedTexts
+pub mod Printed
+pub mod Deciding
+pub mod Judging
 pub mod HeaderFields
 pub mod ReadRows
 pub mod Done

@@ -1,10 +1,10 @@
 //! Tests of lrs_spans: random calls beside a plain table of what assets hold, and each growth of a list refused.
 #![tactic(auto)]
 
+pub mod draws;
+
 #[cfg(test)]
 mod checked;
-#[cfg(test)]
-mod draws;
 #[cfg(test)]
 mod queries;
 #[cfg(test)]

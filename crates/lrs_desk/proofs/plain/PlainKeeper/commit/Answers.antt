@@ -1,6 +1,5 @@
-use Rattle.std.proofs.Common.{◌≡◌, Ok, refl, sym, ap, subst, ◌∙◌}
+use Rattle.std.proofs.Common.{Ok, sym, ap, subst, ◌∙◌}
 use Rattle.lrs_machine.specs.Sound.{IsSound}
-use Rattle.lrs_machine.specs.declared.image.Image.{Image}
 use Rattle.lrs_desk.specs.Change.{apply}
 use Rattle.lrs_desk.proofs.plain.PlainKeeper.commit.Goals as goal
 
