@@ -3,7 +3,7 @@ use Rattle.std.specs.Prelude.{◌≡◌, ◌⊎◌, ℕ, ◌<◌, ◌-◌, ◌^�
 use Rattle.std.proofs.Common.{refl}
 use Rattle.lrs_machine.specs.declared.image.Image.{Image}
 use Rattle.lrs_machine.specs.declared.table.Table.{Table}
-use Rattle.lrs_machine.specs.Sound.{first_unsound}
+use Rattle.lrs_machine.specs.Sound.{first_unsound, IsSound}
 use Rattle.lrs_keep.specs.declared.change.Change.{Change}
 use Rattle.lrs_keep.specs.Change.{apply}
 
@@ -22,6 +22,10 @@ HasRisen old new = (old < new) ⊎ (new ≡ 2 ^ 64 - 1)
 -- what may be found: nothing but the image
 abbrev pub HoldsOnly : (Result Image Table → Type 0) → Image → Type 0
 HoldsOnly may image = (c : Result Image Table) → may c → c ≡ Ok image
+
+-- what may be found, where it is an image, is sound
+abbrev pub HoldsSound : (Result Image Table → Type 0) → Type 0
+HoldsSound may = (c : Result Image Table) → may c → IfOk c (λ image. IsSound image)
 
 -- what a change makes of something that could be found before it
 abbrev pub IsChanged : (Result Image Table → Type 0) → Change → Result Image Table → Type 0

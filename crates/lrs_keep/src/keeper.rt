@@ -53,7 +53,7 @@ pub trait Keeper {
     ghost use Rattle.lrs_machine.specs.declared.table.Table.{Table};
     ghost use Rattle.lrs_machine.specs.Sound.{IsSound};
     ghost use Rattle.lrs_keep.specs.Change.{CanMake};
-    ghost use Rattle.lrs_keep.specs.Keeping.{HasRisen, IsChanged};
+    ghost use Rattle.lrs_keep.specs.Keeping.{HasRisen, IsChanged, HoldsSound};
 
     // What an opening at this moment may find: a sound image, or the first unsound table.
     ghost may_hold: { Self → Result Image Table → Type 0 };
@@ -76,17 +76,20 @@ pub trait Keeper {
         ensures store { result ≡ Err LoadFault.Store → HasRisen (failures self.old) (failures self.new) }
         ensures quiet { (result ≡ Err LoadFault.Store → ⊥) → failures self.new ≡ failures self.old }
         ensures counts { failures self.old ≤ failures self.new }
+        ensures found { HoldsSound (may_hold self.new) }
         ensures content { (c : Result Image Table) → may_hold self.new c → may_hold self.old c };
 
     /// Makes a change, as a whole.
     fn commit(&mut self, change: &Change) -> Result<(), CommitFault>
         requires loaded { is_loaded self.old ≡ true }
+        requires sound { HoldsSound (may_hold self.old) }
         requires can { (c : Result Image Table) → may_hold self.old c → IfOk c (CanMake change.now) }
         ensures ok { OnOk result ((c : Result Image Table) → may_hold self.new c → IsChanged (may_hold self.old) change.now c) }
         ensures memory { result ≡ Err CommitFault.Memory → (c : Result Image Table) → may_hold self.new c → may_hold self.old c }
         ensures store { result ≡ Err CommitFault.Store → (c : Result Image Table) → may_hold self.new c → may_hold self.old c ⊎ IsChanged (may_hold self.old) change.now c }
         ensures cause { result ≡ Err CommitFault.Store → HasRisen (failures self.old) (failures self.new) }
         ensures counts { failures self.old ≤ failures self.new }
+        ensures found { HoldsSound (may_hold self.new) }
         ensures loaded { is_loaded self.new ≡ true };
 
     // Where the device is clean something may be found, so a keeper cannot promise everything of nothing.

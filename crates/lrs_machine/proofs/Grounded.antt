@@ -40,7 +40,7 @@ use Rattle.lrs_machine.specs.Machine.{◌>>=◌, ◌>>◌, refuse_if, refuse_at,
 use Rattle.lrs_machine.specs.Machine.{extent_of, is_empty_extent, Wanted, wanted_of, first_holder, enter_asset, do_join_of, attempt, length_of_link}
 use Rattle.lrs_machine.specs.Laws.{IsGrounded, is_known, are_numbered}
 use Rattle.lrs_machine.proofs.Checks.{behind, bind, bind_known, unless, unless_at, given}
-use Rattle.lrs_machine.proofs.Members.{In, any_found, all_at, all_of, In-take, In-drop, flat_map_found, find_found}
+use Rattle.lrs_machine.proofs.Members.{any_found, all_at, all_of, In-take, In-drop, flat_map_found, find_found}
 use Rattle.lrs_machine.proofs.Pairs.{beside_ground}
 use Rattle.lrs_machine.proofs.Registers.{find-put, same_key}
 

@@ -1,19 +1,17 @@
 -- How many places parts have.
-use Rattle.std.proofs.Common.{◌≡◌, ℕ, zero, suc, ◌+◌, ◌-◌, ◌<◌, ◌≤◌, min, max, Bool, true, false, cond, ◌⊎◌, inl, inr, List, [], ◌∷◌, ◌++◌, refl, sym, ap, ◌∙◌, arith}
-use Rattle.std.specs.Prelude.{◌||◌, ◌&&◌, not, nat_eq, nat_le, nat_lt, if◌then◌else◌}
-use Rattle.std.specs.List.{list_any, list_all, flat_map, count_by, range_with_len}
-use Rattle.std.proofs.lemmas.Bool.{false≢true, both_ways, not-true, and_parts, and_from, or_cases, cases_Bool, cases_lt, eqb-true, eq-eqb, eqb-false, ne_eqb, leb-true, ltb-true, le-leb, lt-leb, lt-ltb, le-ltb}
+use Rattle.std.proofs.Common.{◌≡◌, ℕ, zero, suc, ◌+◌, ◌-◌, ◌<◌, ◌≤◌, min, max, Bool, true, false, cond, ◌⊎◌, inl, inr, List, [], ◌∷◌, refl, sym, ap, ◌∙◌, arith}
+use Rattle.std.specs.Prelude.{◌||◌, ◌&&◌, nat_eq, nat_le, nat_lt, if◌then◌else◌}
+use Rattle.std.specs.List.{list_any, list_all, count_by, range_with_len}
+use Rattle.std.proofs.lemmas.Bool.{false≢true, and_parts, or_cases, cases_Bool, cases_lt, eqb-true, eqb-false, ne_eqb, leb-true, ltb-true, le-leb, lt-leb, lt-ltb, le-ltb}
 use Rattle.std.proofs.lemmas.List.Sums.{sum_by-cons}
 use Rattle.lrs_measure.specs.Lists.{each_two}
 use Rattle.lrs_element.specs.declared.link.Link.{Link}
 use Rattle.lrs_events.specs.declared.part.Part.{Part}
-use Rattle.lrs_events.specs.declared.side.LinkSide.{LinkSide}
-use Rattle.lrs_events.specs.declared.side.LinkSide.TheVariants.{Left, Right}
-use Rattle.lrs_events.specs.Places.{Place, same_link_side, places_of_link}
+use Rattle.lrs_events.specs.Places.{Place, places_of_link}
 use Rattle.lrs_events.specs.Parts.{has_place}
 use Rattle.lrs_machine.specs.Sound.{link_before, share_nothing, pairs_of, places_of, has_asset_place}
 use Rattle.lrs_machine.proofs.Members.{In, any_found, all_at}
-use Rattle.lrs_machine.proofs.Pairs.{place_had}
+use Rattle.lrs_machine.proofs.Pairs.{place_had, apart}
 use Rattle.lrs_machine.proofs.Counting.{one_more, count-none, count-append, by_millimetre}
 
 -- ---- counts
@@ -44,14 +42,12 @@ module _ {X : Type 0} where
       let d = either_step (p x) (q x) (count_by p xs) (count_by q xs) (count_by (λ y. p y || q y) xs) (apart x) (count-either p q xs apart) in
       omega (arith, a, b, c, d)
 
-
   count-both : (p q : X → Bool) (xs : List X) → count_by (λ x. p x || q x) xs ≤ count_by p xs + count_by q xs
   count-both p q [] = omega arith
   count-both p q (x ∷ xs) =
       let a = one_more (λ y. p y || q y) x xs in let b = one_more p x xs in let c = one_more q x xs in
       let d = both_step (p x) (q x) (count_by p xs) (count_by q xs) (count_by (λ y. p y || q y) xs) (count-both p q xs) in
       omega (arith, a, b, c, d)
-
 
   count-more : (p q : X → Bool) (xs : List X) → ((x : X) → p x ≡ true → q x ≡ true) → count_by p xs ≤ count_by q xs
   count-more p q [] w = omega arith
@@ -165,29 +161,7 @@ one_of links a x order on = by (nat_eq x.asset a)
 apart_places : (a : ℕ) (x : Part) (xs : List Part) (p : Place) → list_all (share_nothing x) xs ≡ true → of_asset a x p ≡ true → has_asset_place xs a p ≡ true → ⊥
 apart_places a x xs p h k m =
     let found = any_found (λ y. of_asset a y p) xs m in
-    let y = found.0 in
-    let hx = place_had x a p k in
-    let hy = place_had y a p found.2 in
-    let test = all_at (share_nothing x) y xs h found.1 in
-    let alike : (nat_eq x.asset y.asset && nat_eq x.link y.link && same_link_side x.side y.side) ≡ true =
-    and_from (nat_eq x.asset y.asset && nat_eq x.link y.link) (same_link_side x.side y.side)
-    (and_from (nat_eq x.asset y.asset) (nat_eq x.link y.link) (eq-eqb x.asset y.asset (hx.of_asset ∙ sym hy.of_asset)) (eq-eqb x.link y.link (hx.on_link ∙ sym hy.on_link)))
-    (same x.side y.side (hx.on_side ∙ sym hy.on_side)) in
-    by y hx.low hx.high hy.low hy.high alike (or_cases (not (nat_eq x.asset y.asset && nat_eq x.link y.link && same_link_side x.side y.side) || nat_le x.hi y.lo) (nat_le y.hi x.lo) test)
-  where
-    same : (s t : LinkSide) → s ≡ t → same_link_side s t ≡ true
-    same Left t e = ap (same_link_side Left) (sym e)
-    same Right t e = ap (same_link_side Right) (sym e)
-
-    first : (y : Part) → x.lo ≤ p.mm → p.mm < x.hi → y.lo ≤ p.mm → p.mm < y.hi → (nat_eq x.asset y.asset && nat_eq x.link y.link && same_link_side x.side y.side) ≡ true
-        → (not (nat_eq x.asset y.asset && nat_eq x.link y.link && same_link_side x.side y.side) ≡ true) ⊎ (nat_le x.hi y.lo ≡ true) → ⊥
-    first y a b c d alike (inl o) = both_ways (nat_eq x.asset y.asset && nat_eq x.link y.link && same_link_side x.side y.side) (not-true (nat_eq x.asset y.asset && nat_eq x.link y.link && same_link_side x.side y.side) o) alike
-    first y a b c d alike (inr o) = let e = leb-true x.hi y.lo o in omega (arith, a, b, c, d, e)
-
-    by : (y : Part) → x.lo ≤ p.mm → p.mm < x.hi → y.lo ≤ p.mm → p.mm < y.hi → (nat_eq x.asset y.asset && nat_eq x.link y.link && same_link_side x.side y.side) ≡ true
-        → ((not (nat_eq x.asset y.asset && nat_eq x.link y.link && same_link_side x.side y.side) || nat_le x.hi y.lo) ≡ true) ⊎ (nat_le y.hi x.lo ≡ true) → ⊥
-    by y a b c d alike (inl o) = first y a b c d alike (or_cases (not (nat_eq x.asset y.asset && nat_eq x.link y.link && same_link_side x.side y.side)) (nat_le x.hi y.lo) o)
-    by y a b c d alike (inr o) = let e = leb-true y.hi x.lo o in omega (arith, a, b, c, d, e)
+    apart x found.0 a p (all_at (share_nothing x) found.0 xs h found.1) (place_had x a p k) (place_had found.0 a p found.2)
 
 pub pairs_counted : (links : List Link) (a : ℕ) (xs : List Part) → each_two link_before links ≡ true → list_all (is_on_its_link links) xs ≡ true → each_two share_nothing xs ≡ true
     → count_by (has_asset_place xs a) (places_of links) ≡ pairs_of a xs

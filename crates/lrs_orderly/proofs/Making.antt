@@ -2,14 +2,11 @@
 use Rattle.std.proofs.Common.{◌≡◌, ◌+◌, ◌≤◌, true, List, [], ◌∷◌, ◌++◌, length, sym, ap, subst, ◌∙◌, Ok, arith, length-append}
 use Rattle.std.specs.Prelude.{not}
 use Rattle.std.proofs.lemmas.List.{length-map}
-use Rattle.std.specs.List.{list_all}
-use Rattle.lrs_measure.specs.Lists.{each_two}
 use Rattle.lrs_measure.specs.Texts.{same_name}
 use Rattle.lrs_machine.specs.declared.command.Command.{Command}
 use Rattle.lrs_machine.specs.declared.image.Image.{Image}
 use Rattle.lrs_machine.specs.declared.image.Edit.{Edit}
 use Rattle.lrs_machine.specs.Bounds.{most_edits}
-use Rattle.lrs_machine.specs.State as state
 use Rattle.lrs_machine.specs.Image.{state_of}
 use Rattle.lrs_machine.specs.Machine.{attempt}
 use Rattle.lrs_machine.specs.Laws.{IsLawful}
@@ -18,7 +15,7 @@ use Rattle.lrs_machine.proofs.SoundImages.{sound_is_lawful}
 use Rattle.lrs_orderly.specs.Orderly.{IsOrderly, SoundIsOrderlyLawful}
 use Rattle.lrs_orderly.specs.Made.{is_new, with_edit, Makes, MadeIsSound}
 use Rattle.lrs_orderly.proofs.Found.{each_two-push}
-use Rattle.lrs_orderly.proofs.Sounding.{orderly_lawful_is_sound}
+use Rattle.lrs_orderly.proofs.Sounding.{kept, orderly_lawful_is_sound}
 use Rattle.lrs_orderly.proofs.Ordering.{sound_is_orderly}
 
 pub sound_is_orderly_lawful : SoundIsOrderlyLawful
@@ -44,9 +41,6 @@ with_edit_orderly i e o new room = record {
   keys = each_two-push (λ d f. not (same_name d.key f.key)) i.edits e o.keys new;
   few_edits = omega (arith, length-append i.edits (e ∷ []), room);
 }
-
-abbrev kept : Edit → state.Edit
-kept e = record { key = e.key; line = e.line }
 
 -- The state that an image stands for is lawful, with the edit.
 lawful : (command : Command) (i j : Image) (e : Edit) → IsLawful (state_of i) → Makes command i j → IsLawful (state_of (with_edit e j))

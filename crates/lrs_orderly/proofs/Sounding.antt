@@ -1,17 +1,15 @@
 -- An orderly image of a lawful state is sound.
-use Rattle.std.proofs.Common.{◌≡◌, ℕ, ◌+◌, ◌<◌, ◌≤◌, max, Bool, true, false, cond, ◌⊎◌, inl, inr, List, [], ◌∷◌, map, length, Some, None, refl, sym, ap, subst, ◌∙◌, arith}
+use Rattle.std.proofs.Common.{◌≡◌, ℕ, ◌<◌, ◌≤◌, max, Bool, true, false, ◌⊎◌, inl, inr, List, map, length, Some, None, refl, sym, ap, ◌∙◌, arith}
 use Rattle.std.specs.Prelude.{◌||◌, ◌&&◌, ◌-◌, not, is_some, unwrap_or, Option, nat_eq, nat_le, nat_lt}
 use Rattle.std.specs.List.{list_any, list_all}
-use Rattle.std.specs.Ordering.{nat_cmp, eq_by_cmp}
-use Rattle.std.specs.Cmp.{unsigned_tied}
+use Rattle.std.specs.Ordering.{nat_cmp}
 use Rattle.std.specs.Cmp.Lexicographic.{bytes_decides, nat_list_cmp_total}
 use Rattle.std.specs.FinMap.{find}
-use Rattle.std.proofs.lemmas.Bool.{false≢true, both_ways, not-false, and_parts, and_from, or_left, or_right, or_parts, cases_Bool, eqb-true, eq-eqb, eqb-false, ne_eqb, leb-true, leb-false, ltb-true, le-leb, lt-ltb}
-use Rattle.std.proofs.lemmas.Cmp.{nat_cmp_total}
+use Rattle.std.proofs.lemmas.Bool.{false≢true, not-false, and_parts, and_from, or_left, or_right, or_parts, cases_Bool, eqb-true, eq-eqb, leb-true, leb-false, ltb-true, le-leb, lt-ltb}
 use Rattle.std.proofs.lemmas.List.{length-map}
 use Rattle.std.proofs.lemmas.Map.Lookups.{exact_unsigned}
 use Rattle.lrs_measure.specs.Lists.{each_two, same_bool}
-use Rattle.lrs_measure.specs.Texts.{Name, name_cmp, same_name}
+use Rattle.lrs_measure.specs.Texts.{name_cmp, same_name}
 use Rattle.lrs_element.specs.declared.link.Link.{Link}
 use Rattle.lrs_events.specs.declared.class.Class.{Class}
 use Rattle.lrs_events.specs.declared.class.Kind.{Kind}
@@ -20,7 +18,6 @@ use Rattle.lrs_events.specs.declared.class.Asset.{Asset}
 use Rattle.lrs_events.specs.declared.part.Part.{Part}
 use Rattle.lrs_events.specs.declared.part.Gone.{Gone}
 use Rattle.lrs_events.specs.declared.side.LinkSide.{LinkSide}
-use Rattle.lrs_events.specs.declared.side.LinkSide.TheVariants.{Left, Right}
 use Rattle.lrs_events.specs.Places.{Place, same_link_side}
 use Rattle.lrs_events.specs.Spans.{holds_by_spans}
 use Rattle.lrs_events.specs.Parts.{has_pair, has_place, part_before}
@@ -32,25 +29,16 @@ use Rattle.lrs_machine.specs.State as state
 use Rattle.lrs_machine.specs.Image.{state_of, holds_on, link_entry, asset_entry, reason_of}
 use Rattle.lrs_machine.specs.Bounds.{most_edits, most_pairs}
 use Rattle.lrs_machine.specs.Laws.{IsLawful}
-use Rattle.lrs_machine.specs.Sound.{asset_before, class_before, are_assets, are_spans, are_spans_of, spans_of, are_entered, gone_before, are_gone, are_balanced, are_edits, parts_of, places_of, has_asset_place, holds_in, holders_of, is_asset, keeps_exclusive, is_part, share_nothing, pairs_of, is_balanced_at, is_named_by, are_parts, is_origin, are_origins}
+use Rattle.lrs_machine.specs.Sound.{asset_before, are_spans_of, spans_of, gone_before, are_balanced, parts_of, places_of, has_asset_place, holds_in, holders_of, is_asset, keeps_exclusive, is_part, share_nothing, pairs_of, is_balanced_at, is_named_by, are_parts, is_origin}
 use Rattle.lrs_machine.proofs.Members.{In, any_found, any_of, all_at, all_of, In-map, list_any-map, map_found, find_found, find_member, find_numbered}
-use Rattle.lrs_machine.proofs.Pairs.{pair_had, entered_by, has_entered, gone_by, has_gone, takes_away, is_same_reason, each_two-map}
+use Rattle.lrs_machine.proofs.Pairs.{pair_had, entered_by, has_entered, gone_by, has_gone, takes_away, is_same_reason, is_same_side, same_side_is, each_two-map}
+use Rattle.lrs_machine.proofs.Registers.{some_if_known}
 use Rattle.lrs_orderly.proofs.Tables.{Passes, sound}
 use Rattle.lrs_orderly.specs.Orderly.{IsOrderly, OrderlyLawfulIsSound, is_filled, share_nothing_in_an_edit, share_nothing_for_a_reason}
 use Rattle.lrs_orderly.proofs.Found.{each_two_from, at_most_one}
 use Rattle.lrs_orderly.proofs.Counted.{is_on_its_link, fewer}
 
 -- ---- a place of a part
-
-same_refl : (s : LinkSide) → same_link_side s s ≡ true
-same_refl Left = refl
-same_refl Right = refl
-
-sides_same : (s t : LinkSide) → same_link_side s t ≡ true → s ≡ t
-sides_same Left Left h = refl
-sides_same Left Right h = absurd (false≢true h)
-sides_same Right Left h = absurd (false≢true h)
-sides_same Right Right h = refl
 
 abbrev place_at : Part → ℕ → Place
 place_at x mm = record { link = x.link; mm = mm; side = x.side }
@@ -62,7 +50,7 @@ has_its_pair x m a link side mm e f g h low high =
     let place =
     and_from ((nat_eq x.link link && nat_le x.lo mm) && nat_lt mm x.hi) (same_link_side x.side side)
     (and_from (nat_eq x.link link && nat_le x.lo mm) (nat_lt mm x.hi) (and_from (nat_eq x.link link) (nat_le x.lo mm) (eq-eqb x.link link g) (le-leb x.lo mm low)) (lt-ltb mm x.hi high))
-    (ap (same_link_side x.side) (sym h) ∙ same_refl x.side) in
+    (is_same_side x.side side h) in
     and_from (nat_eq x.edit m && nat_eq x.asset a) (has_place x (record { link = link; mm = mm; side = side }))
     (and_from (nat_eq x.edit m) (nat_eq x.asset a) (eq-eqb x.edit m e) (eq-eqb x.asset a f)) place
 
@@ -89,7 +77,7 @@ overlapping x y fx fy h =
     record {
       asset = eqb-true x.asset y.asset first.0;
       link = eqb-true x.link y.link first.1;
-      side = sides_same x.side y.side same.1;
+      side = same_side_is x.side y.side same.1;
       mm = max x.lo y.lo;
       after = omega arith;
       before = omega arith;
@@ -104,17 +92,10 @@ other_way false b h e = absurd (false≢true e)
 -- ---- rows found by keys
 
 known_number : (assets : List Asset) (a : ℕ) → is_some (find nat_cmp a (map asset_entry assets)) ≡ true → list_any (λ r. nat_eq r.number a) assets ≡ true
-known_number [] a h = absurd (false≢true h)
-known_number (r ∷ rs) a h = by (cases_Bool (nat_eq r.number a)) (known_number rs a)
-  where
-    rest : eq_by_cmp nat_cmp a r.number ≡ false → is_some (find nat_cmp a (map asset_entry rs)) ≡ true
-    rest e = ap (λ b. is_some (cond b (Some (asset_entry r).1) (find nat_cmp a (map asset_entry rs)))) (sym e) ∙ h
-
-    by : (nat_eq r.number a ≡ true) ⊎ (nat_eq r.number a ≡ false) → (is_some (find nat_cmp a (map asset_entry rs)) ≡ true → list_any (λ q. nat_eq q.number a) rs ≡ true)
-        → list_any (λ q. nat_eq q.number a) (r ∷ rs) ≡ true
-    by (inl e) later = or_left (nat_eq r.number a) (list_any (λ q. nat_eq q.number a) rs) e
-    by (inr e) later = or_right (nat_eq r.number a) (list_any (λ q. nat_eq q.number a) rs)
-        (later (rest (unsigned_tied a r.number ∙ ne_eqb a r.number (λ k. eqb-false r.number a e (sym k)))))
+known_number assets a h =
+    let x = some_if_known (find nat_cmp a (map asset_entry assets)) h in
+    let r = map_found asset_entry (a, x.0) assets (find_found exact_unsigned a x.0 (map asset_entry assets) x.1) in
+    any_of (λ r. nat_eq r.number a) r.0 assets r.1 (eq-eqb r.0.number a (sym (ap (λ (e : ℕ × state.Asset). e.0) r.2)))
 
 -- a millimetre of a known link is of a link's row
 link_row : (links : List Link) (n mm : ℕ) → nat_lt mm (unwrap_or (find nat_cmp n (map link_entry links)) 0) ≡ true → (l : Link) × In l links × (l.number ≡ n) × (mm < l.length)
@@ -150,6 +131,10 @@ balance_from false true false a b c d = absurd (neither (c refl))
     neither (inr k) = false≢true k
 balance_from false false true a b c d = absurd (false≢true (a refl))
 balance_from false false false a b c d = refl
+
+-- an edit as the state has it
+abbrev pub kept : Edit → state.Edit
+kept e = record { key = e.key; line = e.line }
 
 abbrev holds : Image → ℕ → Place → Bool
 holds i a p = list_any (λ e. holds_on e a p) i.routes
@@ -196,11 +181,11 @@ module _ (i : Image) (o : IsOrderly i) (l : IsLawful (state_of i)) where
 
   entered_done : (m a : ℕ) (p : Place) → enters i m a p ≡ true → (1 ≤ m) × (m ≤ length i.edits)
   unfolding state_of
-  entered_done m a p h = let d = l.named.entered_done m a p h in (d.0, omega (arith, d.1, length-map i.edits (λ (e : Edit). let f : state.Edit = record { key = e.key; line = e.line } in f)))
+  entered_done m a p h = let d = l.named.entered_done m a p h in (d.0, omega (arith, d.1, length-map i.edits kept))
 
   gone_done : (m a : ℕ) (why : Reason) (p : Place) → takes i m why a p ≡ true → (1 ≤ m) × (m ≤ length i.edits)
   unfolding state_of
-  gone_done m a why p h = let d = l.named.gone_done m a why p h in (d.0, omega (arith, d.1, length-map i.edits (λ (e : Edit). let f : state.Edit = record { key = e.key; line = e.line } in f)))
+  gone_done m a why p h = let d = l.named.gone_done m a why p h in (d.0, omega (arith, d.1, length-map i.edits kept))
 
   place_known : (m a : ℕ) (p : Place) → enters i m a p ≡ true → nat_lt p.mm (unwrap_or (find nat_cmp p.link (map link_entry i.links)) 0) ≡ true
   unfolding state_of
