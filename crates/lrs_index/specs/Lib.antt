@@ -1,2 +1,2 @@
-pub mod Occupied
+pub mod Ground
 pub mod Stretches
