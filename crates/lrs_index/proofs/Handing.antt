@@ -186,9 +186,9 @@ handed_next old mid new ps i p d route lt is g over others = record {
       ∙ ap (λ (o : Option Name). if runs_over (expand p) m then option_and o route else o) (g.over m)
       ∙ and_twice (runs_over (course_of (take i ps)) m) (runs_over (expand p) m) (route_over old m) route
       ∙ ap (λ (b : Bool). if b then option_and (route_over old m) route else route_over old m)
-          (ap (λ (b : Bool). runs_over (course_of (take i ps)) m || b) one
-          ∙ sym (runs_over-append (take i ps) (p ∷ []) m)
-          ∙ ap (λ (xs : List Piece). runs_over (course_of xs) m) (sym (take_more ps i d lt ∙ ap (λ (x : Piece). take i ps ++ x ∷ []) (sym is))));
+      (ap (λ (b : Bool). runs_over (course_of (take i ps)) m || b) one
+      ∙ sym (runs_over-append (take i ps) (p ∷ []) m)
+      ∙ ap (λ (xs : List Piece). runs_over (course_of xs) m) (sym (take_more ps i d lt ∙ ap (λ (x : Piece). take i ps ++ x ∷ []) (sym is))));
   others = λ qs w. others qs (g.others qs w);
 }
 

@@ -10,3 +10,4 @@ pub mod Gathering
 pub mod Losing
 pub mod Once
 pub mod Handing
+pub mod Routes

@@ -90,6 +90,15 @@ times_once (x ∷ xs) h =
 pub front : (xs ys : List Ground) → is_run_once (xs ++ ys) ≡ true → is_run_once xs ≡ true
 front xs ys h = times_once xs (λ m. let c = times-append m xs ys in let le = once_times m (xs ++ ys) h in omega (arith, c, le))
 
+-- two courses that run over one millimetre
+pub common : (xs ys : List Ground) (m : Millimetre) → runs_over xs m ≡ true → runs_over ys m ≡ true → meets xs ys ≡ true
+common xs ys m t r =
+    let a = Any-from_list_any (is_at m) xs t in
+    let u = and_parts (nat_eq a.1.link m.0) (nat_eq a.1.mm m.1) a.4 in
+    list_any_at (λ g. runs_over ys (g.link, g.mm)) xs a.0 a.1 a.2
+    (ap (λ (g : Ground). runs_over ys (g.link, g.mm)) a.3
+    ∙ ap (λ (q : Millimetre). runs_over ys q) (λ i. (eqb-true a.1.link m.0 u.0 i, eqb-true a.1.mm m.1 u.1 i)) ∙ r)
+
 -- two courses of which the second one runs over nothing of the first
 pub once_both : (xs ys : List Ground) → is_run_once xs ≡ true → is_run_once ys ≡ true → meets xs ys ≡ false → is_run_once (xs ++ ys) ≡ true
 once_both xs ys h k apart = times_once (xs ++ ys) (λ m.
@@ -98,18 +107,10 @@ once_both xs ys h k apart = times_once (xs ++ ys) (λ m.
     let b = once_times m ys k in
     ⊎_elim
     (λ (t : runs_over xs m ≡ true).
-    let n = not_over m ys (false_from_ne_true _ (λ r. absurd (both_ways _ apart (shared m t r)))) in
+    let n = not_over m ys (false_from_ne_true _ (λ r. absurd (both_ways _ apart (common xs ys m t r)))) in
     omega (arith, c, a, n))
     (λ (f : runs_over xs m ≡ false). let n = not_over m xs f in omega (arith, c, b, n))
     (cases_Bool (runs_over xs m)))
-  where
-    shared : (m : Millimetre) → runs_over xs m ≡ true → runs_over ys m ≡ true → meets xs ys ≡ true
-    shared m t r =
-        let a = Any-from_list_any (is_at m) xs t in
-        let u = and_parts (nat_eq a.1.link m.0) (nat_eq a.1.mm m.1) a.4 in
-        list_any_at (λ g. runs_over ys (g.link, g.mm)) xs a.0 a.1 a.2
-        (ap (λ (g : Ground). runs_over ys (g.link, g.mm)) a.3
-        ∙ ap (λ (q : Millimetre). runs_over ys q) (λ i. (eqb-true a.1.link m.0 u.0 i, eqb-true a.1.mm m.1 u.1 i)) ∙ r)
 
 -- ---- what stretches hold, and what is put in behind it
 

@@ -1,20 +1,20 @@
 -- When a piece shares a millimetre.
-use Rattle.std.proofs.Common.{ℕ, ◌≡◌, ◌+◌, ◌-◌, ◌<◌, ◌≤◌, Bool, true, false, if◌then◌else◌, max, Some, refl, sym, ap, ◌∙◌, arith}
+use Rattle.std.proofs.Common.{ℕ, ◌≡◌, ◌+◌, ◌-◌, ◌<◌, ◌≤◌, Bool, true, false, if◌then◌else◌, max, Some, None, List, refl, sym, ap, ◌∙◌, arith}
 use Rattle.std.specs.Prelude.{nat_lt, nat_eq, ◌&&◌, is_some}
 use Rattle.std.specs.List.{list_any}
 use Rattle.std.specs.FinMap.{get}
-use Rattle.std.proofs.lemmas.Bool.{and_parts, and_from, lt-ltb, ltb-true, eq-eqb, eqb-true, false_from_ne_true}
+use Rattle.std.proofs.lemmas.Bool.{and_parts, and_from, lt-ltb, ltb-true, eq-eqb, eqb-true, false_from_ne_true, both_ways}
 use Rattle.std.proofs.lemmas.List.Folds.{Any-from_list_any, list_any_at}
 use Rattle.lrs_measure.specs.Texts.{Name}
 use Rattle.lrs_element.specs.declared.link.Piece.{Piece}
 use Rattle.lrs_element.specs.declared.link.Ground.{Ground}
-use Rattle.lrs_element.specs.Course.{Millimetre, expand, runs_over}
+use Rattle.lrs_element.specs.Course.{Millimetre, expand, runs_over, is_at, meets}
 use Rattle.lrs_element.specs.Pieces.{ground_of, piece_len}
 use Rattle.lrs_element.proofs.Expanding.{length-expand, get_or-expand}
 use Rattle.lrs_index.specs.declared.ground.Stretch.{Stretch}
 use Rattle.lrs_index.specs.Ground.{Stretches, route_over, is_shared}
 use Rattle.lrs_index.specs.Stretches.{AreApart, IsFirst, IsLast}
-use Rattle.lrs_index.proofs.Over.{IsOver, over_gives, over_stretch, which_answer, no_later}
+use Rattle.lrs_index.proofs.Over.{IsOver, over_gives, over_stretch, which_answer, no_answer, no_later}
 
 pub same_test : (x y : Bool) → (x ≡ true → y ≡ true) → (y ≡ true → x ≡ true) → x ≡ y
 same_test true y f g = sym (f refl)
@@ -91,3 +91,22 @@ shares_last kept p a s apart last filled = same_test _ _
     let o = (taken_by kept p.link w.0 w.3).1 in
     let n = no_later kept p.link p.b a o.from s o.stretch apart last o.is (omega (arith, o.begins, w.2)) in
     lt-ltb _ _ (omega (arith, o.ends, w.1, n)))
+
+-- ---- courses that share no ground
+
+pub free_at : (kept : Stretches) (xs : List Ground) (m : Millimetre) → is_shared kept xs ≡ false → runs_over xs m ≡ true → route_over kept m ≡ None
+free_at kept xs m free t = no_answer (route_over kept m) (λ r h. both_ways _ free
+    (let a = Any-from_list_any (is_at m) xs t in
+    let u = and_parts (nat_eq a.1.link m.0) (nat_eq a.1.mm m.1) a.4 in
+    list_any_at (λ g. is_taken kept (g.link, g.mm)) xs a.0 a.1 a.2
+    (ap (λ (g : Ground). is_taken kept (g.link, g.mm)) a.3
+    ∙ ap (is_taken kept) (λ i. (eqb-true a.1.link m.0 u.0 i, eqb-true a.1.mm m.1 u.1 i)) ∙ ap is_some h)))
+
+-- ground that routes run over shares nothing with free ground
+pub taken_apart : (kept : Stretches) (xs ys : List Ground) → ((m : Millimetre) → runs_over xs m ≡ true → is_taken kept m ≡ true) → is_shared kept ys ≡ false → meets xs ys ≡ false
+taken_apart kept xs ys taken free = false_from_ne_true _ (λ t.
+    let a = Any-from_list_any (λ g. runs_over ys (g.link, g.mm)) xs t in
+    let m : Millimetre = (a.1.link, a.1.mm) in
+    let here : is_at m a.1 ≡ true = and_from (nat_eq a.1.link a.1.link) (nat_eq a.1.mm a.1.mm) (eq-eqb a.1.link a.1.link refl) (eq-eqb a.1.mm a.1.mm refl) in
+    let over = list_any_at (is_at m) xs a.0 a.1 a.2 (ap (is_at m) a.3 ∙ here) in
+    absurd (cc (sym (ap is_some (free_at kept ys m free a.4)) ∙ taken m over)))

@@ -4,3 +4,6 @@
 mod ground;
 
 pub use ground::GroundIndex;
+
+#[cfg(test)]
+mod tests;

@@ -19,7 +19,7 @@ put_in c =
 pub unreachable-requires : goal.unreachable-requires
 unreachable-requires c =
     let none : map.get c.args.self.now (c.args.link, c.args.begin) ≡ None =
-        ap (λ (s : Stretches). map.get s (c.args.link, c.args.begin)) (sym c.self.view_is) ∙ get_found total c.self.inside.stretches.entries (c.args.link, c.args.begin) ∙ c.in-Err.ensures.absent in
+    ap (λ (s : Stretches). map.get s (c.args.link, c.args.begin)) (sym c.self.view_is) ∙ get_found total c.self.inside.stretches.entries (c.args.link, c.args.begin) ∙ c.in-Err.ensures.absent in
     let h = subst IsSome none c.requires.there in
     cc h
 
