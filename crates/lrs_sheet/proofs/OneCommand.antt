@@ -1,16 +1,11 @@
 -- A record says one key and one command, or has one first malformed field.
-use Rattle.std.proofs.Common.{true, ◌≡◌, ℕ, zero, suc, ◌+◌, List, [], ◌∷◌, Option, Some, None, refl, sym, ap, ◌∙◌, inl, inr, arith}
-use Rattle.std.specs.Prelude.{codes, map, slice_get, slice_index_or}
+use Rattle.std.proofs.Common.{◌≡◌, ℕ, zero, suc, ◌+◌, List, [], ◌∷◌, Option, Some, None, refl, sym, ap, ◌∙◌, inl, inr, arith}
+use Rattle.std.specs.Prelude.{codes, slice_get, slice_index_or}
 use Rattle.std.specs.Fmt.{decimal}
 use Rattle.std.proofs.lemmas.Bool.{cases_lt}
 use Rattle.lrs_measure.specs.Texts.{same_name}
-use Rattle.lrs_element.specs.declared.link.Link.{Link}
 use Rattle.lrs_element.specs.declared.link.Piece.{Piece}
-use Rattle.lrs_element.specs.declared.marks.Mark.{Mark}
-use Rattle.lrs_position.specs.Expressions.{Ends}
 use Rattle.lrs_position.specs.declared.expression.Expr.{Expr}
-use Rattle.lrs_events.specs.declared.class.Kind.{Kind}
-use Rattle.lrs_events.specs.declared.side.Side.{Side}
 use Rattle.lrs_machine.specs.Lines.{Text, fields}
 use Rattle.lrs_machine.specs.declared.answer.Field.{Field}
 use Rattle.lrs_machine.specs.declared.answer.Field.TheVariants as field
@@ -23,8 +18,8 @@ use Rattle.lrs_sheet.proofs.Misfits.{fits-along}
 use Rattle.lrs_sheet.proofs.OneArgument.{one-list}
 use Rattle.lrs_sheet.specs.Laws.{RecordsSayOneCommand}
 use Rattle.lrs_sheet.specs.Records.{FirstMalformedAmong, IsWellFormedAmong, SayAll, SaysAmong, place_of, text_at, texts_of}
-use Rattle.lrs_sheet.specs.Shapes.{Argument, Nothing, Number, Word, KindOf, SideOf, MethodOf, At, PiecesOf, MarksOf, Fits, Shape}
-use Rattle.lrs_sheet.specs.Verbs.{arguments_of, entry_arguments, location_arguments, method_of, or_nothing, shapes_of, verb_of}
+use Rattle.lrs_sheet.specs.Shapes.{Argument, At, PiecesOf, Fits, Shape}
+use Rattle.lrs_sheet.specs.Verbs.{arguments_of, entry_arguments, or_nothing, shapes_of, verb_of}
 
 -- the field at a place
 abbrev field_of : ℕ → Field
