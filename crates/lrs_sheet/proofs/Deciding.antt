@@ -62,7 +62,7 @@ numeral-is : (text : Text) → IsNumeral 10 text → is_numeral text ≡ true
 numeral-is [] h = absurd (omega (arith, h.0))
 numeral-is (c ∷ cs) h = digits-are (c ∷ cs) h.1
 
-at-most : (m n : ℕ) → m ≤ n → nat_le m n ≡ true
+pub at-most : (m n : ℕ) → m ≤ n → nat_le m n ≡ true
 at-most m n h = grind (arith, nat_tests)
 
 abbrev pub is_number : ℕ → ℕ → Text → Bool

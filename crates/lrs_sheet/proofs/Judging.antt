@@ -105,7 +105,7 @@ fitting-say fields place (shape ∷ shapes) h = elim (fits (texts_of fields) sha
     ] refl h
 
 -- a name that passes is among the names
-among : (names : List Text) (name : Text) → is_among names name ≡ true → Contains names name
+pub among : (names : List Text) (name : Text) → is_among names name ≡ true → Contains names name
 among [] name h = absurd (false≢true h)
 among (other ∷ names) name h = elim (bytes_eq name other)
     as (λ t. bytes_eq name other ≡ t → (t || is_among names name) ≡ true → Contains (other ∷ names) name) [

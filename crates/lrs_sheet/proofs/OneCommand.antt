@@ -16,7 +16,6 @@ use Rattle.lrs_machine.proofs.Joined.{differ}
 use Rattle.lrs_machine.proofs.LinesApart.{lines_tell_commands_apart}
 use Rattle.lrs_sheet.proofs.Misfits.{fits-along}
 use Rattle.lrs_sheet.proofs.OneArgument.{one-list}
-use Rattle.lrs_sheet.specs.Laws.{RecordsSayOneCommand}
 use Rattle.lrs_sheet.specs.Records.{FirstMalformedAmong, IsWellFormedAmong, SayAll, SaysAmong, place_of, text_at, texts_of}
 use Rattle.lrs_sheet.specs.Shapes.{Argument, At, PiecesOf, Fits, Shape}
 use Rattle.lrs_sheet.specs.Verbs.{arguments_of, entry_arguments, or_nothing, shapes_of, verb_of}
@@ -43,7 +42,7 @@ one-field : (f g : Field) → place_of f ≡ place_of g → f ≡ g
 one-field f g e = sym (back f) ∙ ap field_of e ∙ back g
 
 -- one place is the first malformed one
-one-place : (names fields : List Text) (p q : ℕ) → FirstMalformedAmong names fields p → FirstMalformedAmong names fields q → p ≡ q
+pub one-place : (names fields : List Text) (p q : ℕ) → FirstMalformedAmong names fields p → FirstMalformedAmong names fields q → p ≡ q
 one-place names fields p q h g = elim (cases_lt p q) [
   | inl below ↦ absurd (h.malformed (g.earlier p below))
   | inr above ↦ elim (cases_lt q p) [
@@ -173,7 +172,7 @@ commands-alike (verb.Supersede d) b v e = absurd (differ (same_name (codes "supe
 commands-alike (verb.Turn route) b v e = absurd (differ (same_name (codes "turn")) (codes "turn") (verb_of b) v refl refl)
 
 -- the fields say one command
-pub one-command : RecordsSayOneCommand
+pub one-command : (names row : List Text) (key other : Text) (a b : Command) → SaysAmong names row key a → SaysAmong names row other b → (key ≡ other) × (a ≡ b)
 one-command names row key other a b h g =
     let verbs : verb_of a ≡ verb_of b = sym h.same_verb ∙ g.same_verb in
     (h.same_key ∙ sym g.same_key, commands-alike a b verbs (one-list row 2 (shapes_of (verb_of b)) (arguments_of a) (arguments_of b) (rw verbs at h.arguments) g.arguments))
