@@ -1,6 +1,6 @@
 -- Whether a text is of a shape, and what it then says, as tests that can be computed.
-use Rattle.std.proofs.Common.{◌≡◌, ℕ, zero, suc, ◌+◌, ◌<◌, ◌≤◌, Bool, true, false, List, [], ◌∷◌, length, take, drop, refl, sym, ap, ◌∙◌, arith, inl, inr}
-use Rattle.std.specs.Prelude.{◌%◌, ◌==◌, ◌&&◌, ◌||◌, nat_le, nat_eq, not, codes, map, pos, IsTrue, if◌then◌else◌}
+use Rattle.std.proofs.Common.{◌≡◌, ℕ, zero, suc, ◌<◌, ◌≤◌, Bool, true, false, List, [], ◌∷◌, length, drop, refl, sym, ap, ◌∙◌, arith, inl, inr}
+use Rattle.std.specs.Prelude.{◌%◌, ◌&&◌, ◌||◌, nat_le, nat_eq, codes, map, pos, if◌then◌else◌}
 use Rattle.std.specs.Char.{digit_value}
 use Rattle.std.specs.Int.{IsGcd}
 use Rattle.std.specs.List.{list_all}
@@ -12,9 +12,8 @@ use Rattle.std.proofs.lemmas.Bool.{false≢true, and_parts, and_from, eqb-true, 
 use Rattle.std.proofs.lemmas.Bool.Decides.{nat_tests}
 use Rattle.std.proofs.lemmas.Nat.Gcd.{IsGcd-from_zero, IsGcd-from_mod}
 use Rattle.std.proofs.lemmas.Slice.Eq.{bytes_eq-Decides}
-use Rattle.lrs_measure.specs.Fraction.{IsLowest, IsQuotient}
 use Rattle.lrs_measure.specs.Lists.{is_from_to, is_nothing}
-use Rattle.lrs_measure.specs.Numerals.{IsSigned, IsFractionText, has_sign, numerator_text, denominator_text, signed_value}
+use Rattle.lrs_measure.specs.Numerals.{has_sign, numerator_text, denominator_text, signed_value}
 use Rattle.lrs_measure.proofs.Lowest.{reduced, IsQuotient-reduced, IsLowest-reduced}
 use Rattle.lrs_element.specs.Limits.{longest_link, longest_route, greatest_measure}
 use Rattle.lrs_element.specs.declared.link.Piece.{Piece}
@@ -34,7 +33,7 @@ use Rattle.lrs_sheet.proofs.OneArgument.{kind_from, kind-back, side_from, side-b
 use Rattle.lrs_sheet.proofs.PrintedTexts.{below, from-to}
 use Rattle.lrs_sheet.proofs.Said.{number-said, class-said, route-said, referent-said, value-said, kind-said, side-said, method-said, position-said, pieces-said, marks-said, nothing-or-said}
 use Rattle.lrs_sheet.proofs.Wording.{one-mark, one-piece}
-use Rattle.lrs_sheet.specs.Shapes.{Argument, Nothing, Number, Word, KindOf, SideOf, MethodOf, At, PiecesOf, MarksOf, Shape, Whole, ClassName, RouteName, ReferentName, AssetValue, ClassKind, RouteSide, MethodName, PositionBy, Pieces, Marks, OrNothing, Says, StatesBy}
+use Rattle.lrs_sheet.specs.Shapes.{Argument, Nothing, Number, Word, KindOf, SideOf, MethodOf, At, PiecesOf, MarksOf, Shape, Whole, ClassName, RouteName, ReferentName, AssetValue, ClassKind, RouteSide, MethodName, PositionBy, Pieces, Marks, OrNothing, Says}
 use Rattle.lrs_sheet.specs.Words.{AreSaid, IsMarkText, IsPieceText, SaysNumber, part, parts_of, sign_text, words_of}
 
 -- numbers
@@ -63,7 +62,7 @@ numeral-is : (text : Text) → IsNumeral 10 text → is_numeral text ≡ true
 numeral-is [] h = absurd (omega (arith, h.0))
 numeral-is (c ∷ cs) h = digits-are (c ∷ cs) h.1
 
-at-most : (m n : ℕ) → m ≤ n → nat_le m n ≡ true
+pub at-most : (m n : ℕ) → m ≤ n → nat_le m n ≡ true
 at-most m n h = grind (arith, nat_tests)
 
 abbrev pub is_number : ℕ → ℕ → Text → Bool
@@ -198,12 +197,12 @@ divisor_in (suc steps) a b = if nat_eq b 0 then a else divisor_in steps b (a % b
 divisor-is : (steps a b : ℕ) → b < steps → IsGcd a b (divisor_in steps a b)
 divisor-is zero a b h = absurd (omega (arith, h))
 divisor-is (suc steps) a b h = elim (nat_eq b 0) as (λ t. nat_eq b 0 ≡ t → IsGcd a b (if t then a else divisor_in steps b (a % b))) [
-    | true ↦ λ e. IsGcd-from_zero a b (eqb-true b 0 e)
-    | false ↦ λ e.
+  | true ↦ λ e. IsGcd-from_zero a b (eqb-true b 0 e)
+  | false ↦ λ e.
       let some : 0 < b = grind (arith, nat_tests) in
       let less = mod-lt a some in
       IsGcd-from_mod a b (divisor_in steps b (a % b)) (divisor-is steps b (a % b) (omega (arith, h, less)))
-  ] refl
+] refl
 
 abbrev pub states : Method → Text → Bool
 states method.Abs text = is_number 0 greatest_measure text

@@ -1,12 +1,11 @@
 -- The first malformed field of a record, and what its fields say, as they are computed.
-use Rattle.std.proofs.Common.{◌≡◌, ℕ, zero, suc, ◌+◌, ◌<◌, ◌≤◌, ◌-◌, Bool, true, false, List, [], ◌∷◌, Option, Some, None, drop, refl, sym, ap, ◌∙◌, arith, inl, inr}
+use Rattle.std.proofs.Common.{◌≡◌, ℕ, zero, suc, ◌+◌, ◌<◌, ◌-◌, Bool, true, false, List, [], ◌∷◌, Option, Some, None, drop, refl, sym, ap, ◌∙◌, arith, inl, inr}
 use Rattle.std.specs.Prelude.{Contains, ◌||◌, if◌then◌else◌}
 use Rattle.std.specs.List.{list_any}
 use Rattle.std.specs.Str.{bytes_eq}
 use Rattle.std.proofs.lemmas.Bool.{false≢true}
 use Rattle.std.proofs.lemmas.Slice.Eq.{bytes_eq-Decides}
 use Rattle.csv.specs.Records.{field_at}
-use Rattle.lrs_measure.specs.Lists.{is_nothing}
 use Rattle.lrs_machine.specs.Keys.{is_key}
 use Rattle.lrs_machine.specs.Lines.{Text}
 use Rattle.lrs_machine.specs.declared.command.Command.{Command}
@@ -82,17 +81,17 @@ misfit-from fields place [] m h =
     let (j, at, empty, full) = some-full place (drop place fields) m h in (
       omega (arith, at),
       (λ i low high.
-        let e : place + (i - place) ≡ i = omega (arith, low) in
-        sym (ap (text_at fields) e) ∙ sym (text_at-drop fields place (i - place)) ∙ empty (i - place) (omega (arith, at, low, high))),
+          let e : place + (i - place) ≡ i = omega (arith, low) in
+          sym (ap (text_at fields) e) ∙ sym (text_at-drop fields place (i - place)) ∙ empty (i - place) (omega (arith, at, low, high))),
       (λ none. full (text_at-drop fields place j ∙ ap (text_at fields) (sym at) ∙ none)),
     )
 misfit-from fields place (shape ∷ shapes) m h = elim (fits (texts_of fields) shape (text_at fields place))
     as (λ t. fits (texts_of fields) shape (text_at fields place) ≡ t → (if t then misfit_in fields (place + 1) shapes else Some place) ≡ Some m → FirstMisfit fields place (shape ∷ shapes) m) [
-    | true ↦ λ e later. inr ((argument_in (texts_of fields) shape (text_at fields place), fits-says (texts_of fields) shape (text_at fields place) e), misfit-from fields (place + 1) shapes m later)
-    | false ↦ λ e now.
-      let same : m ≡ place = cc in
-      inl (same, λ said. false≢true (sym e ∙ says-fits (texts_of fields) shape (text_at fields place) said.0 said.1))
-  ] refl h
+      | true ↦ λ e later. inr ((argument_in (texts_of fields) shape (text_at fields place), fits-says (texts_of fields) shape (text_at fields place) e), misfit-from fields (place + 1) shapes m later)
+      | false ↦ λ e now.
+          let same : m ≡ place = cc in
+          inl (same, λ said. false≢true (sym e ∙ says-fits (texts_of fields) shape (text_at fields place) said.0 said.1))
+    ] refl h
 
 -- where there is none, the fields say what stands in them
 pub fitting-say : (fields : List Text) (place : ℕ) (shapes : List Shape) → misfit_in fields place shapes ≡ None → SayAll fields place shapes (arguments_in fields place shapes)
@@ -101,18 +100,18 @@ fitting-say fields place [] h = λ i low.
     sym (ap (text_at fields) e) ∙ sym (text_at-drop fields place (i - place)) ∙ none-full place (drop place fields) h (i - place)
 fitting-say fields place (shape ∷ shapes) h = elim (fits (texts_of fields) shape (text_at fields place))
     as (λ t. fits (texts_of fields) shape (text_at fields place) ≡ t → (if t then misfit_in fields (place + 1) shapes else Some place) ≡ None → SayAll fields place (shape ∷ shapes) (arguments_in fields place (shape ∷ shapes))) [
-    | true ↦ λ e later. (fits-says (texts_of fields) shape (text_at fields place) e, fitting-say fields (place + 1) shapes later)
-    | false ↦ λ e now. absurd (cc now)
-  ] refl h
+      | true ↦ λ e later. (fits-says (texts_of fields) shape (text_at fields place) e, fitting-say fields (place + 1) shapes later)
+      | false ↦ λ e now. absurd (cc now)
+    ] refl h
 
 -- a name that passes is among the names
-among : (names : List Text) (name : Text) → is_among names name ≡ true → Contains names name
+pub among : (names : List Text) (name : Text) → is_among names name ≡ true → Contains names name
 among [] name h = absurd (false≢true h)
 among (other ∷ names) name h = elim (bytes_eq name other)
     as (λ t. bytes_eq name other ≡ t → (t || is_among names name) ≡ true → Contains (other ∷ names) name) [
-    | true ↦ λ e known. (0, omega arith, sym ((bytes_eq-Decides name other).0 e))
-    | false ↦ λ e later. let (k, below, is) = among names name later in (suc k, omega (arith, below), is)
-  ] refl h
+      | true ↦ λ e known. (0, omega arith, sym ((bytes_eq-Decides name other).0 e))
+      | false ↦ λ e later. let (k, below, is) = among names name later in (suc k, omega (arith, below), is)
+    ] refl h
 
 -- and one that is there passes
 among-is : (names : List Text) (name : Text) → Contains names name → is_among names name ≡ true
@@ -128,23 +127,24 @@ among-is (other ∷ names) name (suc k, below, is) = or-later (bytes_eq name oth
 pub malformed-from : (names fields : List Text) (m : ℕ) → malformed_in names fields ≡ Some m → FirstMalformedAmong names fields m
 malformed-from names fields m h = elim (is_key (text_at fields 0))
     as (λ t. is_key (text_at fields 0) ≡ t → (if t then (if is_among names (text_at fields 1) then misfit_in fields 2 (shapes_of (text_at fields 1)) else Some 1) else Some 0) ≡ Some m → FirstMalformedAmong names fields m) [
-    | true ↦ λ key later. behind-key key later
-    | false ↦ λ e now.
-      let same : m ≡ 0 = cc in
-      rw same (record { malformed = λ key. false≢true (sym e ∙ key); earlier = λ i below. absurd (omega (arith, below)) })
-  ] refl h
+      | true ↦ λ key later. behind-key key later
+      | false ↦ λ e now.
+          let same : m ≡ 0 = cc in
+          rw same (record { malformed = λ key. false≢true (sym e ∙ key); earlier = λ i below. absurd (omega (arith, below)) })
+    ] refl h
   where
     first : is_key (text_at fields 0) ≡ true → (i : ℕ) → i < 1 → IsWellFormedAmong names fields i
     first key zero below = key
     first key (suc i) below = absurd (omega (arith, below))
+
     behind-key : is_key (text_at fields 0) ≡ true → (if is_among names (text_at fields 1) then misfit_in fields 2 (shapes_of (text_at fields 1)) else Some 1) ≡ Some m → FirstMalformedAmong names fields m
     behind-key key h = elim (is_among names (text_at fields 1))
         as (λ t. is_among names (text_at fields 1) ≡ t → (if t then misfit_in fields 2 (shapes_of (text_at fields 1)) else Some 1) ≡ Some m → FirstMalformedAmong names fields m) [
-        | true ↦ λ known later. misfit-malformed names fields m key (among names (text_at fields 1) known) (misfit-from fields 2 (shapes_of (text_at fields 1)) m later)
-        | false ↦ λ e now.
-          let same : m ≡ 1 = cc in
-          rw same (record { malformed = λ known. false≢true (sym e ∙ among-is names (text_at fields 1) known); earlier = first key })
-      ] refl h
+          | true ↦ λ known later. misfit-malformed names fields m key (among names (text_at fields 1) known) (misfit-from fields 2 (shapes_of (text_at fields 1)) m later)
+          | false ↦ λ e now.
+              let same : m ≡ 1 = cc in
+              rw same (record { malformed = λ known. false≢true (sym e ∙ among-is names (text_at fields 1) known); earlier = first key })
+        ] refl h
 
 -- Where no field is malformed, the record says the command of its verb and of its arguments.
 pub says-from : (names fields : List Text) (key : Text) (command : Command) → is_key (text_at fields 0) ≡ true → key ≡ text_at fields 0 → is_among names (text_at fields 1) ≡ true → text_at fields 1 ≡ verb_of command

@@ -14,4 +14,5 @@ pub mod Whole
 pub mod KeyBytes
 pub mod Breaking
 pub mod OneCommand
+pub mod Complete
 pub mod Determined

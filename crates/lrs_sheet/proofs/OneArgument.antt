@@ -1,9 +1,8 @@
 -- A text of a shape says one argument.
-use Rattle.std.proofs.Common.{◌≡◌, ◌⊎◌, ℕ, ◌+◌, ◌<◌, List, [], ◌∷◌, refl, sym, ap, ◌∙◌, inl, inr, arith, length}
+use Rattle.std.proofs.Common.{◌≡◌, ℕ, ◌+◌, List, [], ◌∷◌, refl, sym, ap, ◌∙◌, inl, inr, arith}
 use Rattle.std.specs.Prelude.{codes, if◌then◌else◌}
 use Rattle.std.specs.Str.Parse.{IsNumeral, digits_value}
 use Rattle.std.proofs.lemmas.Bool.{false≢true}
-use Rattle.lrs_measure.specs.Fraction.{Fraction}
 use Rattle.lrs_measure.specs.Numerals.{numerator_text, denominator_text}
 use Rattle.lrs_measure.specs.Texts.{same_name}
 use Rattle.lrs_element.specs.declared.link.Piece.{Piece}

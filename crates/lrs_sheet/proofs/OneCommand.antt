@@ -1,16 +1,11 @@
 -- A record says one key and one command, or has one first malformed field.
-use Rattle.std.proofs.Common.{true, ◌≡◌, ℕ, zero, suc, ◌+◌, List, [], ◌∷◌, Option, Some, None, refl, sym, ap, ◌∙◌, inl, inr, arith}
-use Rattle.std.specs.Prelude.{codes, map, slice_get, slice_index_or}
+use Rattle.std.proofs.Common.{◌≡◌, ℕ, zero, suc, ◌+◌, List, [], ◌∷◌, Option, Some, None, refl, sym, ap, ◌∙◌, inl, inr, arith}
+use Rattle.std.specs.Prelude.{codes, slice_get, slice_index_or}
 use Rattle.std.specs.Fmt.{decimal}
 use Rattle.std.proofs.lemmas.Bool.{cases_lt}
 use Rattle.lrs_measure.specs.Texts.{same_name}
-use Rattle.lrs_element.specs.declared.link.Link.{Link}
 use Rattle.lrs_element.specs.declared.link.Piece.{Piece}
-use Rattle.lrs_element.specs.declared.marks.Mark.{Mark}
-use Rattle.lrs_position.specs.Expressions.{Ends}
 use Rattle.lrs_position.specs.declared.expression.Expr.{Expr}
-use Rattle.lrs_events.specs.declared.class.Kind.{Kind}
-use Rattle.lrs_events.specs.declared.side.Side.{Side}
 use Rattle.lrs_machine.specs.Lines.{Text, fields}
 use Rattle.lrs_machine.specs.declared.answer.Field.{Field}
 use Rattle.lrs_machine.specs.declared.answer.Field.TheVariants as field
@@ -21,10 +16,9 @@ use Rattle.lrs_machine.proofs.Joined.{differ}
 use Rattle.lrs_machine.proofs.LinesApart.{lines_tell_commands_apart}
 use Rattle.lrs_sheet.proofs.Misfits.{fits-along}
 use Rattle.lrs_sheet.proofs.OneArgument.{one-list}
-use Rattle.lrs_sheet.specs.Laws.{RecordsSayOneCommand}
 use Rattle.lrs_sheet.specs.Records.{FirstMalformedAmong, IsWellFormedAmong, SayAll, SaysAmong, place_of, text_at, texts_of}
-use Rattle.lrs_sheet.specs.Shapes.{Argument, Nothing, Number, Word, KindOf, SideOf, MethodOf, At, PiecesOf, MarksOf, Fits, Shape}
-use Rattle.lrs_sheet.specs.Verbs.{arguments_of, entry_arguments, location_arguments, method_of, or_nothing, shapes_of, verb_of}
+use Rattle.lrs_sheet.specs.Shapes.{Argument, At, PiecesOf, Fits, Shape}
+use Rattle.lrs_sheet.specs.Verbs.{arguments_of, entry_arguments, or_nothing, shapes_of, verb_of}
 
 -- the field at a place
 abbrev field_of : ℕ → Field
@@ -48,7 +42,7 @@ one-field : (f g : Field) → place_of f ≡ place_of g → f ≡ g
 one-field f g e = sym (back f) ∙ ap field_of e ∙ back g
 
 -- one place is the first malformed one
-one-place : (names fields : List Text) (p q : ℕ) → FirstMalformedAmong names fields p → FirstMalformedAmong names fields q → p ≡ q
+pub one-place : (names fields : List Text) (p q : ℕ) → FirstMalformedAmong names fields p → FirstMalformedAmong names fields q → p ≡ q
 one-place names fields p q h g = elim (cases_lt p q) [
   | inl below ↦ absurd (h.malformed (g.earlier p below))
   | inr above ↦ elim (cases_lt q p) [
@@ -178,7 +172,7 @@ commands-alike (verb.Supersede d) b v e = absurd (differ (same_name (codes "supe
 commands-alike (verb.Turn route) b v e = absurd (differ (same_name (codes "turn")) (codes "turn") (verb_of b) v refl refl)
 
 -- the fields say one command
-pub one-command : RecordsSayOneCommand
+pub one-command : (names row : List Text) (key other : Text) (a b : Command) → SaysAmong names row key a → SaysAmong names row other b → (key ≡ other) × (a ≡ b)
 one-command names row key other a b h g =
     let verbs : verb_of a ≡ verb_of b = sym h.same_verb ∙ g.same_verb in
     (h.same_key ∙ sym g.same_key, commands-alike a b verbs (one-list row 2 (shapes_of (verb_of b)) (arguments_of a) (arguments_of b) (rw verbs at h.arguments) g.arguments))

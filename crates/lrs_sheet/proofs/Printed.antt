@@ -1,5 +1,5 @@
 -- The record that a command is printed as says that command.
-use Rattle.std.proofs.Common.{◌≡◌, ℕ, suc, ◌+◌, ◌<◌, ◌≤◌, lit<, List, [], ◌∷◌, Option, Some, None, refl, sym, ap, ◌∙◌, ◌-◌, arith}
+use Rattle.std.proofs.Common.{◌≡◌, ℕ, suc, ◌+◌, ◌≤◌, lit<, List, [], ◌∷◌, Option, Some, None, refl, sym, ap, ◌∙◌, ◌-◌, arith}
 use Rattle.std.specs.Prelude.{map, ⊤, true, IsTrue, Contains}
 use Rattle.std.specs.Fmt.{decimal}
 use Rattle.std.specs.List.{AllByRecursion}
@@ -20,9 +20,8 @@ use Rattle.lrs_machine.specs.declared.answer.Field.TheVariants as field
 use Rattle.lrs_machine.specs.declared.command.Entry.{Entry}
 use Rattle.lrs_machine.specs.declared.command.Command.{Command}
 use Rattle.lrs_machine.specs.declared.command.Command.TheVariants as verb
-use Rattle.lrs_sheet.proofs.Misfits.{text_at-past}
 use Rattle.lrs_sheet.proofs.PrintedTexts.{below, decimal-says, from-to, marks-say, pieces-say, position-stated}
-use Rattle.lrs_sheet.specs.CanonicalRecords.{IsKept, argument_text, record_of}
+use Rattle.lrs_sheet.specs.CanonicalRecords.{IsInLowestTerms, argument_text, record_of}
 use Rattle.lrs_sheet.specs.Laws.{PrintedRecordsSay}
 use Rattle.lrs_sheet.specs.Records.{SayAll, text_at, texts_of}
 use Rattle.lrs_sheet.specs.Shapes.{Argument, At, OrNothing, Pieces, PiecesOf, PositionBy, Says, Shape, StatesBy}
@@ -62,7 +61,7 @@ one-text (Int p) (Int q) h = refl
 one-text _ _ h = absurd (false≢true h)
 
 -- an end, where the method's field has the text of the start's method
-end-printed : (texts : Field → Text) (field : Field) (start : Expr) (end : Option Expr) → texts field ≡ method_text (method_of start) → IsTrue (are_alike start end) → IsEnd end → IsKept (or_nothing At end)
+end-printed : (texts : Field → Text) (field : Field) (start : Expr) (end : Option Expr) → texts field ≡ method_text (method_of start) → IsTrue (are_alike start end) → IsEnd end → IsInLowestTerms (or_nothing At end)
     → Says texts (OrNothing (PositionBy field)) (argument_text (or_nothing At end)) (or_nothing At end)
 end-printed texts field start None by alike is kept = refl
 end-printed texts field start (Some e) by alike is kept = (method_of e, by ∙ one-text start e alike, position-stated e is kept)
@@ -81,14 +80,14 @@ offset-says : (n : ℕ) → IsTrue (is_lateral_offset n) → SaysNumber 0 100_00
 offset-says n h = decimal-says 0 100_000 n (omega arith) (below 100_000 n h) (omega arith)
 
 -- the arguments of an entry, where field E has the text of its method
-entry-printed : (texts : Field → Text) (e : Entry) → texts field.E ≡ method_text (method_of e.location.from) → IsEntry e → AllByRecursion IsKept (entry_arguments e) → ArePrinted texts entry_shapes (entry_arguments e)
+entry-printed : (texts : Field → Text) (e : Entry) → texts field.E ≡ method_text (method_of e.location.from) → IsEntry e → AllByRecursion IsInLowestTerms (entry_arguments e) → ArePrinted texts entry_shapes (entry_arguments e)
 entry-printed texts e by h kept =
     let start : StatesBy (texts field.E) (expression_text e.location.from) e.location.from = (method_of e.location.from, by, position-stated e.location.from h.location.first kept.1.1.1.1.1.0) in
     let end = end-printed texts field.E e.location.from e.location.to by h.location.alike h.location.end kept.1.1.1.1.1.1.0 in
     (asset-says e.asset h.asset, ((h.class, refl), ((h.route, refl), (refl, (refl, (start, (end, ((h.value, refl), (offset-says e.offset h.offset, tt)))))))))
 
 -- the arguments of a command, in its record
-arguments-printed : (key : Text) (command : Command) → IsWellFormed command → AllByRecursion IsKept (arguments_of command)
+arguments-printed : (key : Text) (command : Command) → IsWellFormed command → AllByRecursion IsInLowestTerms (arguments_of command)
     → ArePrinted (texts_of (record_of key command)) (shapes_of (verb_of command)) (arguments_of command)
 unfolding field_at
 arguments-printed key (verb.Link l) h kept =

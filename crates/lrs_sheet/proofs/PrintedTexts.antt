@@ -1,6 +1,6 @@
 -- What the printed texts of numbers, lists and positions say.
 use Rattle.std.proofs.Common.{◌≡◌, ℕ, ◌+◌, ◌<◌, ◌≤◌, ◌^◌, Bool, true, false, List, [], ◌∷◌, ◌++◌, length, take, drop, refl, sym, ap, ◌∙◌, arith, append_assoc}
-use Rattle.std.specs.Prelude.{◌==◌, ◌&&◌, ◌||◌, nat_le, nat_eq, not, codes, map, ℤ, pos, negsuc, ◌*ℤ◌, suc, unsigned_abs, if◌then◌else◌}
+use Rattle.std.specs.Prelude.{◌==◌, ◌&&◌, nat_le, nat_eq, not, codes, map, ℤ, pos, negsuc, ◌*ℤ◌, suc, unsigned_abs, if◌then◌else◌}
 use Rattle.std.specs.List.{list_all, join_with_byte, position_or_len}
 use Rattle.std.specs.Char.{is_ascii_digit}
 use Rattle.std.specs.Fmt.{decimal}
@@ -13,7 +13,7 @@ use Rattle.std.proofs.lemmas.List.Splits.{slice_split-cons_no, slice_split-cons_
 use Rattle.lrs_measure.specs.Alphabets.{is_capital, has_length}
 use Rattle.lrs_measure.specs.Fraction.{Fraction, IsLowest}
 use Rattle.lrs_measure.specs.Lists.{is_from_to}
-use Rattle.lrs_measure.specs.Numerals.{IsSigned, IsFractionText, numerator_text, denominator_text, signed_value}
+use Rattle.lrs_measure.specs.Numerals.{IsSigned, numerator_text, denominator_text, signed_value}
 use Rattle.lrs_element.specs.Limits.{is_link_number, longest_link, longest_route, greatest_measure, most_pieces, most_marks}
 use Rattle.lrs_element.specs.declared.link.Piece.{Piece}
 use Rattle.lrs_element.specs.declared.marks.Mark.{Mark}
@@ -25,9 +25,9 @@ use Rattle.lrs_position.specs.declared.expression.Expr.TheVariants.{Abs, Rel, In
 use Rattle.lrs_machine.specs.Entered.{is_chainage, is_entered_piece, is_entered_mark, are_entered_pieces, are_entered_marks}
 use Rattle.lrs_machine.specs.Lines.{Text, expression_text, mark_text, marks_text, piece_text, pieces_text, signed_text}
 use Rattle.lrs_machine.specs.WellFormed.{IsPosition}
-use Rattle.lrs_machine.proofs.Decimals.{IsSmall, decimal_passes, lacks-decimal}
-use Rattle.lrs_machine.proofs.Joined.{AllLack, Lacks, is_other, lacks-joined, lacks_from}
-use Rattle.lrs_sheet.specs.CanonicalRecords.{IsKept}
+use Rattle.lrs_machine.proofs.Decimals.{decimal_passes, lacks-decimal}
+use Rattle.lrs_machine.proofs.Joined.{AllLack, Lacks, is_other, lacks-joined}
+use Rattle.lrs_sheet.specs.CanonicalRecords.{IsInLowestTerms}
 use Rattle.lrs_sheet.specs.Shapes.{At}
 use Rattle.lrs_sheet.specs.Verbs.{method_of}
 use Rattle.lrs_sheet.specs.Words.{AreSaid, IsMarkText, IsPieceText, SaysNumber, parts_of, words_of}
@@ -73,7 +73,6 @@ split-more c (b ∷ x) y h own =
 pub split-joined : (c : ℕ) (x : Text) (xs : List Text) → is_other c c ≡ false → AllLack c (x ∷ xs) → parts_of c (join_with_byte c (x ∷ xs)) ≡ x ∷ xs
 split-joined c x [] own h = split-one c x h.0
 split-joined c x (y ∷ xs) own h = split-more c x (join_with_byte c (y ∷ xs)) h.0 own ∙ ap (λ (texts : List Text). x ∷ texts) (split-joined c y xs own h.1)
-
 
 -- the numbers of an entered piece
 record IsPieceIn (p : Piece) : Type 0 where
@@ -290,7 +289,7 @@ proportion-stated p h lowest =
     }
 
 -- a position is stated by its text, by its method
-pub position-stated : (e : Expr) → IsPosition e → IsKept (At e) → States (method_of e) (expression_text e) e
+pub position-stated : (e : Expr) → IsPosition e → IsInLowestTerms (At e) → States (method_of e) (expression_text e) e
 position-stated (Abs m) h kept = measure-stated m h.entered
 position-stated (Rel name t) h kept = distance-stated name t h.entered h.referent
 position-stated (Int p) h kept = proportion-stated p h.entered kept

@@ -35,6 +35,6 @@ abbrev pub record_of : Text → Command → List Text
 record_of key command = key ∷ command_fields command
 
 -- a proportion is in lowest terms, as fractions are kept
-abbrev pub IsKept : Argument → Type 0
-IsKept (At (expression.Int p)) = IsLowest p
-IsKept _ = ⊤
+abbrev pub IsInLowestTerms : Argument → Type 0
+IsInLowestTerms (At (expression.Int p)) = IsLowest p
+IsInLowestTerms _ = ⊤

@@ -1,5 +1,5 @@
 -- The table of verbs: what the fields of each one say, and the arguments of a command of it.
-use Rattle.std.specs.Prelude.{ℕ, List, [], ◌∷◌, ◌++◌, Option, Some, None, codes, map, Contains, if◌then◌else◌}
+use Rattle.std.specs.Prelude.{List, [], ◌∷◌, ◌++◌, Option, Some, None, codes, map, Contains, if◌then◌else◌}
 use Rattle.std.specs.Str.{bytes_eq}
 use Rattle.lrs_element.specs.Limits.{longest_link, longest_route}
 use Rattle.lrs_position.specs.Expressions.{Ends}

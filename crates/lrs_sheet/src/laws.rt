@@ -1,15 +1,15 @@
 //! Laws of sheets and of the table of verbs.
 
-ghost use Rattle.lrs_sheet.specs.Laws.{SheetDeterminesReply, RecordsSayOneCommand, LinesAreTheTables, PrintedRecordsSay, DoneVerbsArePlanned};
+ghost use Rattle.lrs_sheet.specs.Laws.{SheetDeterminesReply, RecordsAreJudged, LinesAreTheTables, PrintedRecordsSay, DoneVerbsArePlanned};
 
 /// The bytes of a sheet and the state before it determine the bytes of its reply and the state after it.
 pub fn a_sheet_determines_its_reply()
     ensures { SheetDeterminesReply }
 {}
 
-/// A record says at most one key and one command.
-pub fn a_record_says_one_command()
-    ensures { RecordsSayOneCommand }
+/// A record says one command under one key, or it has one first malformed field, and not both.
+pub fn each_record_is_judged()
+    ensures { RecordsAreJudged }
 {}
 
 /// The canonical line of each command is made from the table of verbs.
