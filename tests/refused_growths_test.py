@@ -26,13 +26,13 @@ def refused_calls(printed):
     return set(re.findall(r"^ +refused: (\S+)$", printed, re.M))
 
 
-def each_refused_call(crate, step=1, least=1):
-    """The calls that were refused, with each step-th allocation refused until none is left to refuse.
+def each_refused_call(crate, step=1, start=1, least=1):
+    """The calls that were refused, with each step-th allocation from the start on refused until none is left to refuse.
 
     Before the least allocation there are some that no test tells of, since they only make what a call is tried on."""
     refused = set()
     with concurrent.futures.ThreadPoolExecutor(2) as pool:
-        for first in range(1, MOST_ALLOCATIONS, 2 * step):
+        for first in range(start, MOST_ALLOCATIONS, 2 * step):
             runs = pool.map(lambda n: run_refusing(crate, n), (first, first + step))
             calls = [refused_calls(printed) for printed in runs]
             refused.update(*calls)
@@ -56,7 +56,8 @@ def test_a_desk_bears_a_refused_growth():
 
 
 def test_deciding_soundness_bears_a_refused_growth():
-    assert each_refused_call("lrs_sound", step=5, least=41) == {"image_of", "first_unsound"}
+    # The image takes some 20 allocations; then each one of the call is refused.
+    assert each_refused_call("lrs_sound_tests", start=19) == {"image_of", "first_unsound"}
 
 
 def test_spans_bear_a_refused_growth():

@@ -226,7 +226,10 @@ impl Sample {
         for place in 0..self.all() {
             image.assets.items.push(self.asset(place)?).ok()?;
         }
-        image.assets.items.sort_unstable_by_key(|asset| asset.number);
+        image
+            .assets
+            .items
+            .sort_unstable_by_key(|asset| asset.number);
         Some(())
     }
 

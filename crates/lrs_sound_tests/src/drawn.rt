@@ -93,8 +93,8 @@ struct Cut {
 fn cuts(rt: &(impl Abort + AllocGlobal), draws: &mut Draws, links: &[Link]) -> Vec<Cut> {
     let mut cuts = Vec::new(rt.alloc());
     for link in links {
-        let mut a = 0;
-        while a < link.length {
+        let mut a = 0u32;
+        for _ in 0..link.length {
             let b = link.length.min(a.saturating_add(1 + draws.below(5) as u32));
             let piece = Piece {
                 link: link.number,
@@ -103,7 +103,9 @@ fn cuts(rt: &(impl Abort + AllocGlobal), draws: &mut Draws, links: &[Link]) -> V
                 forward: draws.below(2) == 0,
             };
             let route = draws.below(ROUTES + 1);
-            cuts.push(Cut { route, piece }).expect(rt, "memory");
+            if a < b {
+                cuts.push(Cut { route, piece }).expect(rt, "memory");
+            }
             a = b;
         }
     }
@@ -310,28 +312,26 @@ fn enter_asset(
     }
 }
 
-/// Puts the last row in its place, where the others are in their order.
-fn settle<T, F: Fn(&T, &T) -> bool>(rows: &mut Vec<T>, count: usize, before: F)
+/// Puts the row of this place among those before it, which are in their order.
+fn settle<T, F: Fn(&T, &T) -> bool>(rows: &mut Vec<T>, place: usize, before: F)
     requires { F.IsAlwaysCallable before }
 {
-    let mut at = count;
-    while 0 < at && at < rows.len() {
-        if !before(&rows[at], &rows[at - 1]) {
-            return;
+    for step in 0..place {
+        let at = place - step;
+        if at < rows.len() && before(&rows[at], &rows[at - 1]) {
+            rows.swap(at, at - 1);
         }
-        rows.swap(at, at - 1);
-        at -= 1;
     }
 }
 
 fn sort_ledgers(image: &mut Image) {
-    for count in 0..image.entered.len() {
-        settle(&mut image.entered.items, count, |x, y| {
+    for place in 0..image.entered.len() {
+        settle(&mut image.entered.items, place, |x, y| {
             plain::is_entered_before(x, y)
         });
     }
-    for count in 0..image.gone.len() {
-        settle(&mut image.gone.items, count, |x, y| {
+    for place in 0..image.gone.len() {
+        settle(&mut image.gone.items, place, |x, y| {
             plain::is_gone_before(x, y)
         });
     }

@@ -4,7 +4,7 @@
 //! many places as an asset may have. Asset 3 lies on the left of the route of pieces, which is the right of its link.
 
 use crate::laying::{LONGEST_LINK, LONGEST_ROUTE};
-use crate::making::{asset, back, class, edits, entry, forth, long_links, rows, unsound};
+use crate::making::{asset, back, class, edits, entry, forth, is_sound, long_links, names, rows};
 use lrs_element::Piece;
 use lrs_events::{Asset, ClassName, Gone, Kind, LinkSide, Part, Side, Span};
 use lrs_machine::{Image, RouteEntry, Table};
@@ -111,12 +111,12 @@ fn image_along(rt: &(impl Abort + AllocGlobal), routes: [RouteEntry; 2]) -> Imag
     image.links = Rows::from_vec(long_links(rt));
     image.classes = rows(
         rt,
-        &[
+        [
             class(rt, b"RAIL", Kind::Exclusive),
             class(rt, b"SIGN", Kind::Stretch),
         ],
     );
-    image.assets = rows(rt, &[sign, first, second]);
+    image.assets = rows(rt, [sign, first, second]);
     image.routes = Rows::from_vec(Vec::from_array(rt.alloc(), routes).expect(rt, "memory"));
     image.entered = entered(rt);
     image.gone = gone(rt);
@@ -134,19 +134,28 @@ fn all_pieces(rt: &impl Abort) -> Span {
     rail(rt, 3, 0, u64::from(PIECES), Side::L)
 }
 
+/// A row of asset 3 in the last millimetre of the long route.
+fn last_millimetre(rt: &impl Abort) -> Span {
+    rail(rt, 3, LONGEST_ROUTE - 1, LONGEST_ROUTE, Side::R)
+}
+
 /// The image with these rows on its routes.
-fn image_with(rt: &(impl Abort + AllocGlobal), first: &[Span], second: &[Span]) -> Image {
-    let long = long_route(rt, first);
-    image_along(rt, [long, route_of_pieces(rt, b"KM1", second)])
+fn image_with<const N: usize>(
+    rt: &(impl Abort + AllocGlobal),
+    first: [Span; N],
+    second: Span,
+) -> Image {
+    let long = long_route(rt, &first);
+    image_along(rt, [long, route_of_pieces(rt, b"KM1", &[second])])
 }
 
 fn long_image(rt: &(impl Abort + AllocGlobal)) -> Image {
-    image_with(rt, &[whole_route(rt)], &[all_pieces(rt)])
+    image_with(rt, [whole_route(rt)], all_pieces(rt))
 }
 
 #[test]
 fn the_image_is_sound(rt: HostRuntime) {
-    assert_eq!(rt; unsound(&rt, &long_image(&rt)), None);
+    is_sound(&rt, long_image(&rt));
 }
 
 #[test]
@@ -154,15 +163,15 @@ fn keys_of_rows(rt: HostRuntime) {
     let mut links = long_image(&rt);
     let first = long_links(&rt).first().copied().expect(&rt, "a link");
     links.links.items.push(first).expect(&rt, "memory");
-    assert_eq!(rt; unsound(&rt, &links), Some(Table::Link));
+    names(&rt, Table::Link, links);
     let mut classes = long_image(&rt);
     let again = class(&rt, b"SIGN", Kind::Point);
     classes.classes.items.push(again).expect(&rt, "memory");
-    assert_eq!(rt; unsound(&rt, &classes), Some(Table::Class));
+    names(&rt, Table::Class, classes);
     let mut assets = long_image(&rt);
     let signs = asset(&rt, 4, b"SIGNS");
     assets.assets.items.push(signs).expect(&rt, "memory");
-    assert_eq!(rt; unsound(&rt, &assets), Some(Table::Asset));
+    names(&rt, Table::Asset, assets);
 }
 
 /// The image with another route in the place of that of pieces.
@@ -175,64 +184,78 @@ fn with_second_route(rt: &(impl Abort + AllocGlobal), piece: Piece) -> Image {
 fn courses(rt: HostRuntime) {
     // the last millimetre of the long route
     let image = with_second_route(&rt, forth(10, LONGEST_LINK - 1, LONGEST_LINK));
-    assert_eq!(rt; unsound(&rt, &image), Some(Table::Piece));
+    names(&rt, Table::Piece, image);
     // no millimetre of it, and nothing lies there
     let image = with_second_route(&rt, forth(11, LONGEST_LINK - 1, LONGEST_LINK));
-    assert_eq!(rt; unsound(&rt, &image), Some(Table::Gone));
+    names(&rt, Table::Gone, image);
 }
 
 #[test]
 fn names_of_referents(rt: HostRuntime) {
     let long = long_route(&rt, &[whole_route(&rt)]);
     let second = route_of_pieces(&rt, b"KM0", &[all_pieces(&rt)]);
-    assert_eq!(rt;
-        unsound(&rt, &image_along(&rt, [long, second])),
-        Some(Table::Ref)
-    );
+    names(&rt, Table::Ref, image_along(&rt, [long, second]));
 }
 
 #[test]
 fn spans(rt: HostRuntime) {
-    let whole = whole_route(&rt);
-    let pieces = all_pieces(&rt);
     let sign = ClassName::new(b"SIGN").expect(&rt, "a class name");
-    let last = rail(&rt, 3, LONGEST_ROUTE - 1, LONGEST_ROUTE, Side::R);
-        // past the end of the course
-    names(&rt, Table::Span, image_with(&rt, &[whole], &[rail(&rt, 3, 0, 1_001, Side::L)]));
-
-        // of an asset that is not there
-    names(&rt, Table::Span, image_with(&rt, &[whole], &[rail(&rt, 4, 0, 1_000, Side::L)]));
-
-        // of another class than its asset
-    names(&rt, Table::Span, image_with(
+    // past the end of the course
+    names(
+        &rt,
+        Table::Span,
+        image_with(&rt, [whole_route(&rt)], rail(&rt, 3, 0, 1_001, Side::L)),
+    );
+    // of an asset that is not there
+    names(
+        &rt,
+        Table::Span,
+        image_with(&rt, [whole_route(&rt)], rail(&rt, 4, 0, 1_000, Side::L)),
+    );
+    // of another class than its asset
+    names(
+        &rt,
+        Table::Span,
+        image_with(
             &rt,
-            &[
-                whole,
+            [
+                whole_route(&rt),
                 Span {
                     asset: 1,
                     class: sign,
-                    ..last
+                    ..last_millimetre(&rt)
                 },
             ],
-            &[Span {
+            Span {
                 class: sign,
-                ..pieces
-            }],
-        ));
-
-        // two holders in the last millimetre
-    names(&rt, Table::Span, image_with(&rt, &[whole, last], &[pieces]));
-
+                ..all_pieces(&rt)
+            },
+        ),
+    );
+    // two holders in the last millimetre
+    names(
+        &rt,
+        Table::Span,
+        image_with(
+            &rt,
+            [whole_route(&rt), last_millimetre(&rt)],
+            all_pieces(&rt),
+        ),
+    );
     // two holders of a class that is not exclusive
-    let mut image = image_with(&rt, &[whole, last], &[pieces]);
+    let mut image = image_with(
+        &rt,
+        [whole_route(&rt), last_millimetre(&rt)],
+        all_pieces(&rt),
+    );
     image.classes = rows(
         &rt,
-        &[
+        [
             class(&rt, b"RAIL", Kind::Stretch),
             class(&rt, b"SIGN", Kind::Stretch),
         ],
     );
-    assert_eq!(rt; unsound(&rt, &image), Some(Table::Gone));
+    names(&rt, Table::Gone, image);
 }
 
 /// The image with one more part entered.
@@ -249,41 +272,30 @@ fn entered_parts(rt: HostRuntime) {
         ..part(4, 2, 11, LinkSide::Left)
     };
     // one place more than an asset may have
-    assert_eq!(rt;
-        unsound(&rt, &with_entered(&rt, one_more)),
-        Some(Table::Entered)
-    );
+    names(&rt, Table::Entered, with_entered(&rt, one_more));
     // as many as that of another asset, which does not hold it
     let other = Part {
         asset: 3,
         ..one_more
     };
-    assert_eq!(rt; unsound(&rt, &with_entered(&rt, other)), Some(Table::Gone));
+    names(&rt, Table::Gone, with_entered(&rt, other));
     // the last millimetre twice
     let twice = Part {
         lo: LONGEST_LINK - 1,
         ..part(4, 1, 10, LinkSide::Left)
     };
-    assert_eq!(rt;
-        unsound(&rt, &with_entered(&rt, twice)),
-        Some(Table::Entered)
-    );
+    names(&rt, Table::Entered, with_entered(&rt, twice));
     // a millimetre past the end of a link
     let beyond = Part {
         lo: LONGEST_LINK,
         hi: LONGEST_LINK + 1,
         ..part(4, 1, 10, LinkSide::Left)
     };
-    assert_eq!(rt;
-        unsound(&rt, &with_entered(&rt, beyond)),
-        Some(Table::Entered)
-    );
+    names(&rt, Table::Entered, with_entered(&rt, beyond));
 }
 
 #[test]
 fn unbalanced_ledgers(rt: HostRuntime) {
-    let whole = whole_route(&rt);
-    let pieces = all_pieces(&rt);
     let mut forgotten = long_image(&rt);
     forgotten.gone.items.pop();
     let mut shorter = long_image(&rt);
@@ -292,35 +304,51 @@ fn unbalanced_ledgers(rt: HostRuntime) {
     }
     let mut never = long_image(&rt);
     never.entered.items.pop();
-        // held, but for one millimetre
-    names(&rt, Table::Gone, image_with(
+    // held, but for one millimetre
+    names(
+        &rt,
+        Table::Gone,
+        image_with(
             &rt,
-            &[rail(&rt, 2, 0, LONGEST_ROUTE - 1, Side::B)],
-            &[pieces],
-        ));
-    names(&rt, Table::Gone, image_with(&rt, &[rail(&rt, 2, 1, LONGEST_ROUTE, Side::B)], &[pieces]));
-    names(&rt, Table::Gone, image_with(&rt, &[whole], &[rail(&rt, 3, 0, 999, Side::L)]));
-
-        // held on the other side
-    names(&rt, Table::Gone, image_with(&rt, &[whole], &[rail(&rt, 3, 0, 1_000, Side::R)]));
-
-        // neither held nor gone
+            [rail(&rt, 2, 0, LONGEST_ROUTE - 1, Side::B)],
+            all_pieces(&rt),
+        ),
+    );
+    names(
+        &rt,
+        Table::Gone,
+        image_with(
+            &rt,
+            [rail(&rt, 2, 1, LONGEST_ROUTE, Side::B)],
+            all_pieces(&rt),
+        ),
+    );
+    names(
+        &rt,
+        Table::Gone,
+        image_with(&rt, [whole_route(&rt)], rail(&rt, 3, 0, 999, Side::L)),
+    );
+    // held on the other side
+    names(
+        &rt,
+        Table::Gone,
+        image_with(&rt, [whole_route(&rt)], rail(&rt, 3, 0, 1_000, Side::R)),
+    );
+    // neither held nor gone
     names(&rt, Table::Gone, forgotten);
     names(&rt, Table::Gone, shorter);
-
-        // never entered
+    // never entered
     names(&rt, Table::Gone, never);
-
 }
 
 #[test]
 fn edits_and_origins(rt: HostRuntime) {
     let mut fewer = long_image(&rt);
     fewer.edits.items.pop();
-    assert_eq!(rt; unsound(&rt, &fewer), Some(Table::Edit));
+    names(&rt, Table::Edit, fewer);
     let mut image = long_image(&rt);
     if let Some(last) = image.assets.items.last_mut() {
         last.entry = 2;
     }
-    assert_eq!(rt; unsound(&rt, &image), Some(Table::Origin));
+    names(&rt, Table::Origin, image);
 }

@@ -15,14 +15,19 @@ pub fn unsound(rt: &(impl Abort + AllocGlobal), image: &Image) -> Option<Table> 
     first_unsound(rt.alloc(), image).expect(rt, "memory")
 }
 
+/// The image is sound.
+pub fn is_sound(rt: &(impl Abort + AllocGlobal), image: Image) {
+    assert_eq!(rt; unsound(rt, &image), None);
+}
+
 /// The first unsound table of the image is this one.
 pub fn names(rt: &(impl Abort + AllocGlobal), table: Table, image: Image) {
     assert_eq!(rt; unsound(rt, &image), Some(table));
 }
 
 /// A list of these rows.
-pub fn rows<T: Copy>(rt: &(impl Abort + AllocGlobal), rows: &[T]) -> Rows<T> {
-    Rows::from_vec(Vec::from_slice(rt.alloc(), rows).expect(rt, "memory"))
+pub fn rows<T, const N: usize>(rt: &(impl Abort + AllocGlobal), rows: [T; N]) -> Rows<T> {
+    Rows::from_vec(Vec::from_array(rt.alloc(), rows).expect(rt, "memory"))
 }
 
 /// The link of this number and length.

@@ -1,52 +1,105 @@
 //! Where one of its growths is refused, the call says so, and the same call with memory does its work.
 //!
 //! With ample memory nothing here is refused. `tests/refused_growths_test.py` runs this test with one
-//! allocation refused, each in turn, and reads whether the call was refused.
+//! allocation refused, each in turn, and reads which calls it prints.
 
 use crate::laying;
-use crate::making::{asset, back, class, edits, link, part};
-use lrs_events::{Gone, Kind, LinkSide, Side, Span};
-use lrs_machine::Image;
+use lrs_element::{Link, Piece};
+use lrs_events::{Asset, Class, ClassName, Gone, Kind, LinkSide, Part, Side, Span, Value};
+use lrs_machine::{Command, Edit, Image, Key, RouteEntry};
 use lrs_position::{RefName, Referent};
 use lrs_sound::first_unsound;
-use std::alloc::AllocGlobal;
+use std::alloc::{AllocGlobal, Global};
 use std::process::Abort;
 
-/// A small image with a row in each table. Its own making is not tried: `first_unsound` is.
-fn image(rt: &(impl Abort + AllocGlobal)) -> Image {
-    let mut image = Image::empty(rt.alloc());
-    image.links.items.push(link(rt, 1, 9)).expect(rt, "memory");
-    let sign = class(rt, b"SIGN", Kind::Exclusive);
-    image.classes.items.push(sign).expect(rt, "memory");
-    let lamp = asset(rt, 10, b"SIGN");
-    image.assets.items.push(lamp).expect(rt, "memory");
+/// A class of signs.
+fn signs() -> Option<Class> {
+    Some(Class {
+        name: ClassName::new(b"SIGN")?,
+        kind: Kind::Exclusive,
+    })
+}
+
+/// A part of link 1 of which edit 1 tells.
+fn told(lo: u32, hi: u32) -> Part {
+    Part {
+        edit: 1,
+        asset: 10,
+        link: 1,
+        lo,
+        hi,
+        side: LinkSide::Right,
+    }
+}
+
+/// The only route, back over all of link 1, with a row and a referent.
+fn route(alloc: Global, links: &[Link]) -> Option<RouteEntry> {
     let referent = Referent {
-        name: RefName::new(b"KM1").expect(rt, "a referent name"),
+        name: RefName::new(b"KM1")?,
         at: 0,
     };
     let row = Span {
         asset: 10,
-        class: sign.name,
+        class: signs()?.name,
         from: 2,
         to: 6,
         side: Side::L,
     };
-    let alloc = rt.alloc();
-    let course = laying::course(alloc, image.links.as_slice(), &[back(1, 0, 9)]);
-    let course = course.expect(rt, "a course");
-    let route = laying::route(alloc, b"A1", course, Some(referent)).expect(rt, "a route");
-    let entry = laying::entry(alloc, route, &[row]).expect(rt, "a row");
-    image.routes.items.push(entry).expect(rt, "memory");
-    let entered = part(1, 1, 7, LinkSide::Right);
-    image.entered.items.push(entered).expect(rt, "memory");
-    let part = part(1, 1, 3, LinkSide::Right);
-    let gone = Gone {
-        part,
+    let piece = Piece {
+        link: 1,
+        a: 0,
+        b: 9,
+        forward: false,
+    };
+    let course = laying::course(alloc, links, &[piece])?;
+    let route = laying::route(alloc, b"A1", course, Some(referent))?;
+    laying::entry(alloc, route, &[row])
+}
+
+fn lamp() -> Option<Asset> {
+    Some(Asset {
+        number: 10,
+        class: signs()?.name,
+        value: Value::new(b"x")?,
+        lateral: 0,
+        entry: 1,
+    })
+}
+
+fn edit(alloc: Global) -> Option<Edit> {
+    Some(Edit {
+        key: Key::new(b"k")?,
+        line: Command::Class(signs()?).line(alloc).ok()?,
+    })
+}
+
+/// A small image with a row in each table: millimetres 3 to 6 are held, and 1 and 2 are gone.
+fn image_of(alloc: Global) -> Option<Image> {
+    let road = laying::link(1, 9)?;
+    let lost = Gone {
+        part: told(1, 3),
         abandoned: true,
     };
-    image.gone.items.push(gone).expect(rt, "memory");
-    image.edits = edits(rt, 8);
-    image
+    let mut image = Image::empty(alloc);
+    image.links.items.push(road).ok()?;
+    image.classes.items.push(signs()?).ok()?;
+    image.assets.items.push(lamp()?).ok()?;
+    image.routes.items.push(route(alloc, &[road])?).ok()?;
+    image.entered.items.push(told(1, 7)).ok()?;
+    image.gone.items.push(lost).ok()?;
+    image.edits.items.push(edit(alloc)?).ok()?;
+    Some(image)
+}
+
+/// The image, made once more where a growth of it was refused.
+fn image(rt: &(impl Abort + Print + AllocGlobal)) -> Image {
+    match image_of(rt.alloc()) {
+        Some(image) => image,
+        None => {
+            let _ = println!(rt; "refused: image_of");
+            image_of(rt.alloc()).expect(rt, "an image")
+        }
+    }
 }
 
 #[test]
