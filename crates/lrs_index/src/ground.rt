@@ -76,6 +76,7 @@ impl GroundIndex {
         ensures last { IfSome result (λ found. IsLast self.now link edge found.0 found.1) }
         ensures apart { AreApart self.now }
     {
+        // The stretches are apart.
         let _ = &self.stretches;
         self.last_at(link, edge.checked_sub(1)?)
     }
@@ -84,6 +85,7 @@ impl GroundIndex {
     pub fn route_over(&self, link: u32, mm: u32) -> Option<RouteName>
         ensures { result ≡ ground.route_over self.now (link, mm) }
     {
+        // The stretches are apart.
         let _ = &self.stretches;
         let (_, stretch) = self.last_at(link, mm)?;
         if mm < stretch.end {

@@ -1,4 +1,4 @@
-use Rattle.std.proofs.Common.{ap, subst, sym, ◌∷◌, []}
+use Rattle.std.proofs.Common.{subst, sym, ◌∷◌, []}
 use Rattle.lrs_index.specs.Ground.{Stretches, HasGained}
 use Rattle.lrs_index.specs.Stretches.{AreApart}
 use Rattle.lrs_index.proofs.Gaining.{apart_more, gained_one}

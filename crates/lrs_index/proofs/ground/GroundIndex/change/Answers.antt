@@ -2,7 +2,6 @@ use Rattle.std.proofs.Common.{Option, ap, subst, refl, sym, ◌∙◌}
 use Rattle.std.specs.Option.{IsSome}
 use Rattle.std.specs.FinMap as map
 use Rattle.lrs_measure.specs.Texts.{Name}
-use Rattle.lrs_element.specs.Course.{Millimetre}
 use Rattle.lrs_index.specs.Ground.{Stretches}
 use Rattle.lrs_index.specs.Stretches.{AreApart, handed}
 use Rattle.lrs_index.proofs.Putting.{put_here, put_there, out_here, out_there, apart_other}

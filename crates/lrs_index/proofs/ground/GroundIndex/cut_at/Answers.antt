@@ -1,4 +1,4 @@
-use Rattle.std.proofs.Common.{refl, ◌∙◌}
+use Rattle.std.proofs.Common.{refl}
 use Rattle.lrs_index.proofs.Cutting.{cut_none, cut_next, cut_all}
 use Rattle.lrs_index.proofs.ground.GroundIndex.cut_at.Goals as goal
 

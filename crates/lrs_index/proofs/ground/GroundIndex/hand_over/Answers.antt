@@ -1,4 +1,4 @@
-use Rattle.std.proofs.Common.{Bool, None, Option, if◌then◌else◌, ap, ◌∙◌}
+use Rattle.std.proofs.Common.{Option, if◌then◌else◌, ap, ◌∙◌}
 use Rattle.lrs_measure.specs.Texts.{Name}
 use Rattle.lrs_element.specs.Course.{course_of, runs_over}
 use Rattle.lrs_index.specs.Ground.{route_over}
