@@ -7,7 +7,7 @@ use Rattle.std.proofs.lemmas.List.{take_more, take_all}
 use Rattle.lrs_measure.specs.Texts.{Name}
 use Rattle.lrs_element.specs.declared.link.Piece.{Piece}
 use Rattle.lrs_element.specs.Course.{Millimetre}
-use Rattle.lrs_index.specs.declared.ground.Stretch.{Stretch}
+use Rattle.lrs_index.specs.declared.ground_index.Stretch.{Stretch}
 use Rattle.lrs_index.specs.Ground.{Stretches, route_over, IsWhole, AreWhole, StaysWhole}
 use Rattle.lrs_index.specs.Stretches.{AreApart, IsCut, IsPart, AreParts}
 use Rattle.lrs_index.proofs.Over.{IsOver, over_gives, over_from, over_stretch, same_answer, no_answer, one_stretch}

@@ -8,7 +8,7 @@ use Rattle.lrs_element.specs.declared.link.Piece.{Piece}
 use Rattle.lrs_element.specs.declared.link.Ground.{Ground}
 use Rattle.lrs_element.specs.Course.{Millimetre, expand, runs_over}
 use Rattle.lrs_element.specs.Pieces.{IsFilled}
-use Rattle.lrs_index.specs.declared.ground.Stretch.{Stretch}
+use Rattle.lrs_index.specs.declared.ground_index.Stretch.{Stretch}
 use Rattle.lrs_index.specs.Ground.{Stretches, route_over, is_shared, HasGained}
 use Rattle.lrs_index.specs.Stretches.{AreApart}
 use Rattle.lrs_index.proofs.Over.{over_gives, over_from, over_stretch, same_answer}

@@ -13,7 +13,7 @@ use Rattle.lrs_element.specs.declared.link.Piece.{Piece}
 use Rattle.lrs_element.specs.declared.link.Ground.{Ground}
 use Rattle.lrs_element.specs.Course.{Millimetre, expand, course_of, runs_over, is_at, meets}
 use Rattle.lrs_element.specs.Pieces.{IsFilled}
-use Rattle.lrs_index.specs.declared.ground.Stretch.{Stretch}
+use Rattle.lrs_index.specs.declared.ground_index.Stretch.{Stretch}
 use Rattle.lrs_index.specs.Ground.{Stretches, route_over, is_shared, is_run_once, IsStretch, begins_at, HasGained, IsWhole, AreWhole}
 use Rattle.lrs_index.proofs.Sharing.{which_millimetre, some_millimetre, runs_over_from, is_taken}
 use Rattle.lrs_index.proofs.Pieces.{passing, course_at, any_course, begins_where, once_only}

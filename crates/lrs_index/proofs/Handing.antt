@@ -9,7 +9,7 @@ use Rattle.lrs_measure.specs.Texts.{Name}
 use Rattle.lrs_element.specs.declared.link.Piece.{Piece}
 use Rattle.lrs_element.specs.declared.link.Ground.{Ground}
 use Rattle.lrs_element.specs.Course.{Millimetre, expand, course_of, runs_over}
-use Rattle.lrs_index.specs.declared.ground.Stretch.{Stretch}
+use Rattle.lrs_index.specs.declared.ground_index.Stretch.{Stretch}
 use Rattle.lrs_index.specs.Ground.{Stretches, route_over, IsWhole, StaysWhole}
 use Rattle.lrs_index.specs.Stretches.{AreApart, IsLast, AreParts, handed}
 use Rattle.lrs_index.proofs.Over.{over_gives, over_stretch, same_answer, no_answer}

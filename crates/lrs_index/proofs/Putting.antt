@@ -5,7 +5,7 @@ use Rattle.std.specs.FinMap.{empty, insert, remove, get, get-empty, get-insert, 
 use Rattle.std.proofs.lemmas.Bool.{cases_Bool, both_ways}
 use Rattle.lrs_measure.specs.Texts.{Name}
 use Rattle.lrs_element.specs.Course.{Millimetre}
-use Rattle.lrs_index.specs.declared.ground.Stretch.{Stretch}
+use Rattle.lrs_index.specs.declared.ground_index.Stretch.{Stretch}
 use Rattle.lrs_index.specs.Ground.{Stretches, millimetre_cmp}
 use Rattle.lrs_index.specs.Stretches.{AreApart}
 use Rattle.lrs_index.proofs.Order.{total, exact, tie, ties, no_tie}

@@ -135,12 +135,12 @@ module _ {X : Type 0} (name : X → Name) (course : X → List Ground) (m : Mill
 
 -- ---- the index beside the routes
 
-module _ {X : Type 0} (name : X → Name) (course : X → List Ground) (before : X → X → Bool) (old new : Stretches) (rs : List X) (ground : IsGroundOf name course old rs) where
+module _ {X : Type 0} (name : X → Name) (course : X → List Ground) (before : X → X → Bool) (old new : Stretches) (rs : List X) (held : IsGroundOf name course old rs) where
   abbrev over_old : Millimetre → Option Name
   over_old m = routes_over name course rs m
 
   pub taken_of : (m : Millimetre) → is_taken old m ≡ runs_over (flat_map course rs) m
-  taken_of m = ap (λ (o : Option Name). is_some o) (ground.at m) ∙ over_some name course m rs
+  taken_of m = ap (λ (o : Option Name). is_some o) (held.at m) ∙ over_some name course m rs
 
   -- A new route has come, on free ground.
   pub gained_ground : (r : X) (ps : List Piece) → course r ≡ course_of ps → is_shared old (course_of ps) ≡ false → HasGained old new (name r) ps → IsGroundOf name course new (insert_by before r rs)
@@ -148,9 +148,9 @@ module _ {X : Type 0} (name : X → Name) (course : X → List Ground) (before :
     at = λ m.
         let same = ap (λ (xs : List Ground). runs_over xs m) is in
         g.over m
-        ∙ ap (λ (o : Option Name). if runs_over (course_of ps) m then Some (name r) else o) (ground.at m)
+        ∙ ap (λ (o : Option Name). if runs_over (course_of ps) m then Some (name r) else o) (held.at m)
         ∙ ap (λ (b : Bool). if b then Some (name r) else over_old m) (sym same)
-        ∙ sym (over_inserted name course m before r rs (λ t. sym (ground.at m) ∙ free_at old (course_of ps) m free (sym same ∙ t)));
+        ∙ sym (over_inserted name course m before r rs (λ t. sym (held.at m) ∙ free_at old (course_of ps) m free (sym same ∙ t)));
   }
 
   -- Routes have gone, and their ground was freed.
@@ -158,7 +158,7 @@ module _ {X : Type 0} (name : X → Name) (course : X → List Ground) (before :
   freed_ground test ps apart over going = record {
     at = λ m.
         over m
-        ∙ ap (λ (o : Option Name). if runs_over (course_of ps) m then None else o) (ground.at m)
+        ∙ ap (λ (o : Option Name). if runs_over (course_of ps) m then None else o) (held.at m)
         ∙ kept (runs_over (course_of ps) m) (over_old m) (going m)
         ∙ sym (over_kept name course m test rs apart);
   }
@@ -174,7 +174,7 @@ module _ {X : Type 0} (name : X → Name) (course : X → List Ground) (before :
   handed_ground test ws ps other apart written over none stays goes = record {
     at = λ m.
         over m
-        ∙ ap (λ (o : Option Name). if runs_over (course_of ps) m then option_map (λ r. other) o else o) (ground.at m)
+        ∙ ap (λ (o : Option Name). if runs_over (course_of ps) m then option_map (λ r. other) o else o) (held.at m)
         ∙ same (runs_over (course_of ps) m) (over_old m) (routes_over name course ws m) (none m) (stays m) (goes m)
         ∙ sym (over_changed name course m before test ws rs apart written (fails m));
   }
