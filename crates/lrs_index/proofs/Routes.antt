@@ -1,5 +1,5 @@
 -- The name of the route that runs over a millimetre, as routes come and go.
-use Rattle.std.proofs.Common.{ℕ, zero, suc, ◌≡◌, ◌<◌, Bool, true, false, cond, if◌then◌else◌, List, [], ◌∷◌, length, get_or, Option, Some, None, refl, sym, ap, ◌∙◌, arith, ⊎_elim}
+use Rattle.std.proofs.Common.{ℕ, zero, suc, ◌≡◌, ◌<◌, Bool, true, false, cond, if◌then◌else◌, List, [], ◌∷◌, length, get_or, Option, Some, None, refl, sym, ap, ◌∙◌, arith, ⊎_elim, ◌++◌, subst}
 use Rattle.std.specs.Prelude.{not, filter, option_map, is_some, ◌||◌}
 use Rattle.std.specs.Option.{option_or}
 use Rattle.std.specs.List.{list_all, find, flat_map}
@@ -199,3 +199,11 @@ module _ {X : Type 0} (name : X → Name) (course : X → List Ground) (before :
               (λ (t : test x ≡ true). absurd (cc (sym (stays m x e t).0 ∙ h)))
               (λ (f : test x ≡ false). ap (λ (b : Bool). if b then Some x else None) f)
               (cases_Bool (test x))
+
+pushed : {X : Type 0} (r : X) (rs : List X) → insert_by (λ x y. false) r rs ≡ rs ++ r ∷ []
+pushed r [] = refl
+pushed r (y ∷ ys) = ap (λ (xs : List _). y ∷ xs) (pushed r ys)
+
+-- A new route has come behind the others, on free ground.
+pub gained_behind : {X : Type 0} (name : X → Name) (course : X → List Ground) (old new : Stretches) (rs : List X) → IsGroundOf name course old rs → (r : X) (ps : List Piece) → course r ≡ course_of ps → is_shared old (course_of ps) ≡ false → HasGained old new (name r) ps → IsGroundOf name course new (rs ++ r ∷ [])
+gained_behind name course old new rs held r ps is free g = subst (IsGroundOf name course new) (pushed r rs) (gained_ground name course (λ x y. false) old new rs held r ps is free g)
