@@ -146,19 +146,3 @@ fn ground_is_freed_and_handed_over(rt: HostRuntime) {
     assert!(rt; index.route_over(3, 13).is_none());
     assert!(rt; index.route_over(3, 14) == Some(a));
 }
-
-#[test]
-fn each_refused_growth_is_answered(rt: HostRuntime) {
-    let a = route(&rt, "A1");
-    let mut index = GroundIndex::new(rt.alloc());
-    let added = adds_all(&mut index, a, &FIRST);
-    let between = [back(3, 4, 12), ahead(7, 5, 6)];
-    let cut = index.cut_at(&between).is_ok();
-    assert!(rt; index.route_over(3, 4).is_some() == added);
-    assert!(rt; index.route_over(7, 5).is_some() == added);
-    if cut {
-        index.free(&between);
-        assert!(rt; index.route_over(3, 4).is_none());
-        assert!(rt; index.route_over(3, 3).is_some() == added);
-    }
-}
