@@ -1,5 +1,5 @@
 -- Stretches that are cut at an edge, and what stays whole.
-use Rattle.std.proofs.Common.{ℕ, ◌≡◌, ◌≢◌, ◌+◌, ◌<◌, ◌≤◌, List, [], ◌∷◌, ◌++◌, take, length, get_or, Option, Some, None, refl, sym, ap, subst, ◌∙◌, arith, ⊎_elim}
+use Rattle.std.proofs.Common.{ℕ, ◌≡◌, ◌≢◌, ◌+◌, ◌<◌, ◌≤◌, List, [], ◌∷◌, ◌++◌, take, length, get_or, Some, None, refl, sym, ap, subst, ◌∙◌, arith, ⊎_elim}
 use Rattle.std.specs.List.{AllByRecursion}
 use Rattle.std.specs.FinMap.{insert, get}
 use Rattle.std.proofs.lemmas.Bool.{cases_lt}
@@ -7,10 +7,10 @@ use Rattle.std.proofs.lemmas.List.{take_more, take_all}
 use Rattle.lrs_measure.specs.Texts.{Name}
 use Rattle.lrs_element.specs.declared.link.Piece.{Piece}
 use Rattle.lrs_element.specs.Course.{Millimetre}
-use Rattle.lrs_index.specs.declared.ground.Stretch.{Stretch}
+use Rattle.lrs_index.specs.declared.ground_index.Stretch.{Stretch}
 use Rattle.lrs_index.specs.Ground.{Stretches, route_over, IsWhole, AreWhole, StaysWhole}
-use Rattle.lrs_index.specs.Stretches.{AreApart, IsFirst, IsLast, IsCut, IsPart, AreParts}
-use Rattle.lrs_index.proofs.Over.{IsOver, over_gives, over_from, over_stretch, same_answer, no_answer, one_stretch, no_later}
+use Rattle.lrs_index.specs.Stretches.{AreApart, IsCut, IsPart, AreParts}
+use Rattle.lrs_index.proofs.Over.{IsOver, over_gives, over_from, over_stretch, same_answer, no_answer, one_stretch}
 use Rattle.lrs_index.proofs.Putting.{put_here, put_there, put_which, put_back, same_place, apart_within}
 
 -- for each element
@@ -23,9 +23,6 @@ both P [] ys h k = k
 both P (x ∷ xs) ys h k = (h.0, both P xs ys h.1 k)
 
 -- ---- parts of stretches
-
-pub parts_same : (old new : Stretches) → ((l a : ℕ) (s : Stretch) → get new (l, a) ≡ Some s → get old (l, a) ≡ Some s) → AreParts old new
-parts_same old new f l a s h = record { from = a; before = s; was = f l a s h; begins = omega arith; ends = omega arith }
 
 pub parts_both : (a b c : Stretches) → AreParts a b → AreParts b c → AreParts a c
 parts_both a b c f g l x s h =
@@ -62,14 +59,6 @@ whole_cut kept p front rear = record {
       (cases_lt a p.a);
   ends = λ m a s h le lt b e. rear a s h (omega (arith, le, e));
 }
-
--- ---- where nothing is to be cut
-
-pub cut_first : (kept : Stretches) (l e : ℕ) → IsFirst kept l e → IsCut kept l e
-cut_first kept l e first a s h lt = absurd (cc (sym (first a lt) ∙ h))
-
-pub cut_last : (kept : Stretches) (l e a : ℕ) (s : Stretch) → AreApart kept → IsLast kept l e a s → s.end ≤ e → IsCut kept l e
-cut_last kept l e a s apart last le c t h lt = let n = no_later kept l e a c s t apart last h lt in omega (arith, n, le)
 
 -- ---- one cut
 

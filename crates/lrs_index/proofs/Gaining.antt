@@ -1,5 +1,5 @@
 -- A stretch that comes where no route runs.
-use Rattle.std.proofs.Common.{ℕ, ◌≡◌, ◌≢◌, ◌<◌, ◌≤◌, Bool, true, false, if◌then◌else◌, List, [], ◌∷◌, Option, Some, None, refl, sym, ap, ◌∙◌, arith, ⊎_elim}
+use Rattle.std.proofs.Common.{ℕ, ◌≡◌, ◌<◌, ◌≤◌, Bool, true, false, if◌then◌else◌, List, [], ◌∷◌, Option, Some, None, refl, sym, ap, ◌∙◌, arith, ⊎_elim}
 use Rattle.std.specs.FinMap.{insert, get}
 use Rattle.std.proofs.lemmas.Bool.{cases_lt, cases_Bool, and_from, or_left, eq-eqb, both_ways}
 use Rattle.std.proofs.lemmas.List.{append-nil}
@@ -8,8 +8,8 @@ use Rattle.lrs_element.specs.declared.link.Piece.{Piece}
 use Rattle.lrs_element.specs.declared.link.Ground.{Ground}
 use Rattle.lrs_element.specs.Course.{Millimetre, expand, runs_over}
 use Rattle.lrs_element.specs.Pieces.{IsFilled}
-use Rattle.lrs_index.specs.declared.ground.Stretch.{Stretch}
-use Rattle.lrs_index.specs.Ground.{Stretches, route_over, is_shared, IsStretch, HasGained}
+use Rattle.lrs_index.specs.declared.ground_index.Stretch.{Stretch}
+use Rattle.lrs_index.specs.Ground.{Stretches, route_over, is_shared, HasGained}
 use Rattle.lrs_index.specs.Stretches.{AreApart}
 use Rattle.lrs_index.proofs.Over.{over_gives, over_from, over_stretch, same_answer}
 use Rattle.lrs_index.proofs.Sharing.{some_millimetre, runs_over_from, runs_over_gives, is_taken, taken_from}

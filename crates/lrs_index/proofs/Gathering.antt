@@ -5,7 +5,7 @@ use Rattle.std.specs.List.{list_any, AllByRecursion}
 use Rattle.std.specs.FinMap.{get}
 use Rattle.std.proofs.lemmas.Bool.{cases_Bool, both_ways, false_from_ne_true, or_parts}
 use Rattle.std.proofs.lemmas.List.{take_more, take_all}
-use Rattle.std.proofs.lemmas.List.Folds.{list_any-append, list_any_at, Any-from_list_any}
+use Rattle.std.proofs.lemmas.List.Folds.{list_any-append, list_any_at}
 use Rattle.std.proofs.lemmas.List.Concat.{flat_map-append}
 use Rattle.std.proofs.lemmas.List.Elements.{All-from_recursion}
 use Rattle.lrs_measure.specs.Texts.{Name}
@@ -13,9 +13,8 @@ use Rattle.lrs_element.specs.declared.link.Piece.{Piece}
 use Rattle.lrs_element.specs.declared.link.Ground.{Ground}
 use Rattle.lrs_element.specs.Course.{Millimetre, expand, course_of, runs_over, is_at, meets}
 use Rattle.lrs_element.specs.Pieces.{IsFilled}
-use Rattle.lrs_index.specs.declared.ground.Stretch.{Stretch}
+use Rattle.lrs_index.specs.declared.ground_index.Stretch.{Stretch}
 use Rattle.lrs_index.specs.Ground.{Stretches, route_over, is_shared, is_run_once, IsStretch, begins_at, HasGained, IsWhole, AreWhole}
-use Rattle.lrs_index.proofs.Over.{which_answer}
 use Rattle.lrs_index.proofs.Sharing.{which_millimetre, some_millimetre, runs_over_from, is_taken}
 use Rattle.lrs_index.proofs.Pieces.{passing, course_at, any_course, begins_where, once_only}
 use Rattle.lrs_index.proofs.Cutting.{each, both}

@@ -1,20 +1,19 @@
 -- Ground that another route gets, or none.
-use Rattle.std.proofs.Common.{ℕ, ◌≡◌, ◌≢◌, ◌+◌, ◌<◌, ◌≤◌, Bool, true, false, if◌then◌else◌, List, [], ◌∷◌, ◌++◌, take, length, get_or, Option, Some, None, refl, sym, ap, subst, ◌∙◌, arith, ⊎_elim, ◌⊎◌, inl, inr, append-nil}
+use Rattle.std.proofs.Common.{ℕ, ◌≡◌, ◌+◌, ◌<◌, ◌≤◌, Bool, true, false, if◌then◌else◌, List, [], ◌∷◌, ◌++◌, take, length, get_or, Option, Some, None, refl, sym, ap, subst, ◌∙◌, arith, ⊎_elim, ◌⊎◌, inl, inr, append-nil}
 use Rattle.std.specs.Prelude.{◌||◌, nat_eq, option_and_then, option_map}
 use Rattle.std.specs.Option.{option_and}
-use Rattle.std.specs.FinMap.{get, insert, remove}
+use Rattle.std.specs.FinMap.{get}
 use Rattle.std.proofs.lemmas.Bool.{cases_lt, cases_Bool, both_ways, eq-eqb, eqb-true}
 use Rattle.std.proofs.lemmas.List.{take_more, take_all}
 use Rattle.lrs_measure.specs.Texts.{Name}
 use Rattle.lrs_element.specs.declared.link.Piece.{Piece}
 use Rattle.lrs_element.specs.declared.link.Ground.{Ground}
 use Rattle.lrs_element.specs.Course.{Millimetre, expand, course_of, runs_over}
-use Rattle.lrs_index.specs.declared.ground.Stretch.{Stretch}
-use Rattle.lrs_index.specs.Ground.{Stretches, route_over, IsWhole, AreWhole, StaysWhole}
+use Rattle.lrs_index.specs.declared.ground_index.Stretch.{Stretch}
+use Rattle.lrs_index.specs.Ground.{Stretches, route_over, IsWhole, StaysWhole}
 use Rattle.lrs_index.specs.Stretches.{AreApart, IsLast, AreParts, handed}
 use Rattle.lrs_index.proofs.Over.{over_gives, over_stretch, same_answer, no_answer}
 use Rattle.lrs_index.proofs.Sharing.{runs_over_from, runs_over_gives}
-use Rattle.lrs_index.proofs.Putting.{apart_within}
 use Rattle.lrs_index.proofs.Gathering.{runs_over-append}
 
 within_or : (l a b k x : ℕ) → ((k ≡ l) × (a ≤ x) × (x < b)) ⊎ (k ≡ l → a ≤ x → x < b → ⊥)

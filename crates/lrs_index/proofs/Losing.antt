@@ -10,7 +10,7 @@ use Rattle.std.proofs.lemmas.List.Folds.{list_any-append}
 use Rattle.lrs_measure.specs.Texts.{Name}
 use Rattle.lrs_element.specs.declared.link.Piece.{Piece}
 use Rattle.lrs_element.specs.Course.{Millimetre}
-use Rattle.lrs_index.specs.declared.ground.Stretch.{Stretch}
+use Rattle.lrs_index.specs.declared.ground_index.Stretch.{Stretch}
 use Rattle.lrs_index.specs.Ground.{Stretches, millimetre_cmp, begins_at, HasGained}
 use Rattle.lrs_index.specs.Stretches.{AreApart}
 use Rattle.lrs_index.proofs.Order.{total, exact}

@@ -13,7 +13,7 @@ use Rattle.std.proofs.lemmas.Bool.{cases_lt, false_from_ne_true}
 use Rattle.std.proofs.lemmas.Cmp.{ranked, nat_cmp_total}
 use Rattle.std.proofs.lemmas.Map.Lookups.{exact_pairs}
 use Rattle.lrs_element.specs.Course.{Millimetre}
-use Rattle.lrs_index.specs.declared.ground.Stretch.{Stretch}
+use Rattle.lrs_index.specs.declared.ground_index.Stretch.{Stretch}
 use Rattle.lrs_index.specs.Ground.{Stretches, millimetre_cmp}
 use Rattle.lrs_index.specs.Stretches.{IsFirst, IsLast}
 use Rattle.lrs_index.proofs.Entries.{found, get_found}

@@ -8,7 +8,7 @@ use Rattle.std.proofs.lemmas.Bool.{cases_lt, lt-ltb, ltb-true}
 use Rattle.std.proofs.lemmas.List.FromFn.{length-range_with_len, get_or-range_with_len}
 use Rattle.lrs_measure.specs.Texts.{Name}
 use Rattle.lrs_element.specs.Course.{Millimetre}
-use Rattle.lrs_index.specs.declared.ground.Stretch.{Stretch}
+use Rattle.lrs_index.specs.declared.ground_index.Stretch.{Stretch}
 use Rattle.lrs_index.specs.Ground.{Stretches, millimetre_cmp, reaching, first_some, route_over}
 use Rattle.lrs_index.specs.Stretches.{AreApart, IsFirst, IsLast}
 

@@ -28,10 +28,6 @@ passing test P xs h t =
     let a = Any-from_list_any test xs t in
     record { place = a.0; it = a.1; inside = a.2; is = a.3; passes = a.4; holds = subst P a.3 (All-from_recursion P xs h a.0 a.1 a.2) }
 
--- another test that it passes
-pub passes_too : {X : Type 0} (test other : X → Bool) (P : X → Type 0) (xs : List X) (p : Passing test P xs) → other p.it ≡ true → list_any other xs ≡ true
-passes_too test other P xs p h = list_any_at other xs p.place p.it p.inside (ap other p.is ∙ h)
-
 -- ---- courses
 
 -- a test of a course, piece by piece
@@ -63,9 +59,6 @@ begins_is q p = same_test _ _
 
 pub begins_where : (q : Millimetre) (p : Piece) → begins_at q p ≡ true → q ≡ (p.link, p.a)
 begins_where q p h = tie q (p.link, p.a) (sym (begins_is q p) ∙ h)
-
-pub begins_here : (p : Piece) → begins_at (p.link, p.a) p ≡ true
-begins_here p = begins_is (p.link, p.a) p ∙ ties (p.link, p.a) (p.link, p.a) refl
 
 -- ---- no millimetre twice
 

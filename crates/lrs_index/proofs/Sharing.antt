@@ -11,7 +11,7 @@ use Rattle.lrs_element.specs.declared.link.Ground.{Ground}
 use Rattle.lrs_element.specs.Course.{Millimetre, expand, runs_over, is_at, meets}
 use Rattle.lrs_element.specs.Pieces.{ground_of, piece_len}
 use Rattle.lrs_element.proofs.Expanding.{length-expand, get_or-expand}
-use Rattle.lrs_index.specs.declared.ground.Stretch.{Stretch}
+use Rattle.lrs_index.specs.declared.ground_index.Stretch.{Stretch}
 use Rattle.lrs_index.specs.Ground.{Stretches, route_over, is_shared}
 use Rattle.lrs_index.specs.Stretches.{AreApart, IsFirst, IsLast}
 use Rattle.lrs_index.proofs.Over.{IsOver, over_gives, over_stretch, which_answer, no_answer, no_later}

@@ -10,8 +10,8 @@ use Rattle.lrs_measure.specs.Lists.{each_two}
 use Rattle.lrs_measure.specs.Texts.{Name}
 use Rattle.lrs_element.specs.declared.link.Piece.{Piece}
 use Rattle.lrs_element.specs.declared.link.Ground.{Ground}
-use Rattle.lrs_element.specs.Course.{Millimetre, course_of, runs_over, is_at, meets}
-use Rattle.lrs_index.specs.declared.ground.Stretch.{Stretch}
+use Rattle.lrs_element.specs.Course.{Millimetre, course_of, runs_over, is_at}
+use Rattle.lrs_index.specs.declared.ground_index.Stretch.{Stretch}
 
 -- by link, and then along it
 abbrev pub millimetre_cmp : Millimetre → Millimetre → Ordering
@@ -70,6 +70,6 @@ pub record IsWhole (kept : Stretches) (p : Piece) : Type 0 where
 abbrev pub AreWhole : Stretches → List Piece → Type 0
 AreWhole kept pieces = AllByRecursion (IsWhole kept) pieces
 
--- No other piece is cut less than it was.
+-- What was whole is whole.
 abbrev pub StaysWhole : Stretches → Stretches → Type 0
 StaysWhole old new = (pieces : List Piece) → AreWhole old pieces → AreWhole new pieces

@@ -2,7 +2,7 @@
 use Rattle.std.specs.Prelude.{◌≡◌, ℕ, ◌<◌, ◌≤◌, Option, Some, None, option_map}
 use Rattle.lrs_measure.specs.Texts.{Name}
 use Rattle.std.specs.FinMap.{get, insert}
-use Rattle.lrs_index.specs.declared.ground.Stretch.{Stretch}
+use Rattle.lrs_index.specs.declared.ground_index.Stretch.{Stretch}
 use Rattle.lrs_index.specs.Ground.{Stretches}
 
 -- Each stretch has a millimetre, and two of a link have none in common.

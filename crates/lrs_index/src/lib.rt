@@ -1,9 +1,9 @@
 //! The index of ground: which route runs over which ground, found by search.
 #![tactic(auto)]
 
-mod ground;
+mod ground_index;
 
-pub use ground::GroundIndex;
+pub use ground_index::GroundIndex;
 
 #[cfg(test)]
 mod tests;

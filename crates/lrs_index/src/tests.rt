@@ -138,27 +138,11 @@ fn ground_is_freed_and_handed_over(rt: HostRuntime) {
     for (mm, name) in [(1, b), (2, c), (4, c), (5, a), (8, a)] {
         assert!(rt; index.route_over(7, mm) == Some(name));
     }
-    assert!(rt; index.cut_at(&[ahead(3, 8, 14)]).is_ok());
-    index.free(&[ahead(3, 8, 14)]);
+    let gone = [ahead(3, 8, 14)];
+    assert!(rt; index.cut_at(&gone).is_ok());
+    index.free(&gone);
     assert!(rt; index.route_over(3, 7) == Some(c));
     assert!(rt; index.route_over(3, 8).is_none());
     assert!(rt; index.route_over(3, 13).is_none());
     assert!(rt; index.route_over(3, 14) == Some(a));
-}
-
-#[test]
-fn each_refused_growth_is_answered(rt: HostRuntime) {
-    let (a, b) = (route(&rt, "A1"), route(&rt, "B1"));
-    let mut index = GroundIndex::new(rt.alloc());
-    let added = index.add_all(a, &FIRST).is_ok();
-    let between = [back(3, 4, 12), ahead(7, 5, 6)];
-    let cut = index.cut_at(&between).is_ok();
-    assert!(rt; index.route_over(3, 4).is_some() == added);
-    assert!(rt; index.route_over(7, 5).is_some() == added);
-    if cut {
-        index.hand_over(&between, b);
-        index.free(&between);
-        assert!(rt; index.route_over(3, 4).is_none());
-        assert!(rt; index.route_over(3, 3).is_some() == added);
-    }
 }
