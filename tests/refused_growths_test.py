@@ -1,6 +1,7 @@
 """Want of memory: the tests of refused growths (crates/*/src/refused.rt) run with one allocation refused, each in turn."""
 
 import concurrent.futures
+import os
 import pathlib
 import re
 import subprocess
@@ -9,6 +10,9 @@ CRATES = pathlib.Path(__file__).resolve().parent.parent / "crates"
 
 # Above the number of allocations that one of those tests makes.
 MOST_ALLOCATIONS = 100
+
+# How many runs there are side by side.
+RUNS = min(os.cpu_count() or 2, 4)
 
 
 def run_refusing(crate, allocation):
@@ -31,9 +35,10 @@ def each_refused_call(crate, step=1, start=1, least=1):
 
     Before the least allocation there are some that no test tells of, since they only make what a call is tried on."""
     refused = set()
-    with concurrent.futures.ThreadPoolExecutor(2) as pool:
-        for first in range(start, MOST_ALLOCATIONS, 2 * step):
-            runs = pool.map(lambda n: run_refusing(crate, n), (first, first + step))
+    with concurrent.futures.ThreadPoolExecutor(RUNS) as pool:
+        for first in range(start, MOST_ALLOCATIONS, RUNS * step):
+            last = first + RUNS * step
+            runs = pool.map(lambda n: run_refusing(crate, n), range(first, last, step))
             calls = [refused_calls(printed) for printed in runs]
             refused.update(*calls)
             if first >= least and not all(calls):

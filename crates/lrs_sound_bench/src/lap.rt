@@ -22,7 +22,13 @@ impl Lap {
         Ok(Lap { start, before })
     }
 
-    /// Prints what came since the start.
+    /// Prints the time since the start.
+    pub fn print_time<R: Runtime<A = Global>>(&self, rt: &R, name: &str) -> io::Result<()> {
+        let milliseconds = self.start.elapsed(rt)?.as_millis();
+        println!(rt; "{name}: {milliseconds} ms")
+    }
+
+    /// Prints the time since the start, and the memory beyond what was in use then.
     pub fn print<R: Runtime<A = Global>>(&self, rt: &R, name: &str) -> io::Result<()> {
         let milliseconds = self.start.elapsed(rt)?.as_millis();
         let more = memory::most_in_use(rt).saturating_sub(self.before) / 1_000;

@@ -250,7 +250,8 @@ impl Sample {
             self.enter(place, &mut image.entered.items)?;
             self.leave(place, &mut image.gone.items)?;
         }
-        for place in 0..self.all().saturating_add(image.gone.len() as u32) {
+        // those that entered, those that retired or abandoned, and others
+        for place in 0..self.all().saturating_mul(2) {
             let number = scattered(place);
             image.edits.items.push(edit(alloc, number)?).ok()?;
         }

@@ -1,5 +1,7 @@
 //! Each table of an image is tested in turn.
 
+ghost use Rattle.std.specs.Prelude.{◌≡◌, true, IfOk};
+
 use crate::lap::Lap;
 use lrs_machine::Image;
 use lrs_sound::image::{
@@ -10,7 +12,7 @@ use std::alloc::Global;
 use std::io::{self, ErrorKind};
 use std::rt::Runtime;
 
-/// A test whose table is unsound ends the measurement.
+/// Prints what the test of a table took; an unsound table is an error.
 fn ended<R: Runtime<A = Global>>(rt: &R, lap: &Lap, name: &str, passes: bool) -> io::Result<()>
     ensures { IfOk result (λ _. passes ≡ true) }
 {
@@ -54,5 +56,5 @@ pub fn measure<R: Runtime<A = Global>>(rt: &R, image: &Image) -> io::Result<()> 
     let lap = Lap::start(rt)?;
     let origins = origins_pass(alloc, image)?;
     ended(rt, &lap, "origin", origins)?;
-    whole.print(rt, "all")
+    whole.print_time(rt, "all")
 }
