@@ -142,12 +142,7 @@ fn collect(
 ///
 /// # Errors
 /// When memory runs out.
-fn read_met(
-    alloc: Global,
-    rows: &[Span],
-    low: u64,
-    high: u64,
-) -> Result<Vec<Span>, AllocError>
+fn read_met(alloc: Global, rows: &[Span], low: u64, high: u64) -> Result<Vec<Span>, AllocError>
     ensures { IfOk result (λ found. found.items ≡ filter (is_met low high) rows.now) }
 {
     let mut found = Vec::new(alloc);
