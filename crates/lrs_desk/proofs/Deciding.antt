@@ -1,6 +1,6 @@
 -- How the ground machine answers a command, by what is found in an image.
-use Rattle.std.proofs.Common.{◌≡◌, ℕ, ◌+◌, ◌<◌, ◌≤◌, suc, zero, Bool, true, false, cond, List, [], ◌∷◌, length, map, Some, None, Result, Ok, Err, refl, sym, ap, ◌∙◌, arith}
-use Rattle.std.specs.Prelude.{not, ◌&&◌, nat_le, nat_lt, slice_index_or}
+use Rattle.std.proofs.Common.{◌≡◌, ℕ, ◌+◌, ◌<◌, ◌≤◌, suc, zero, Bool, true, false, cond, List, [], ◌∷◌, length, map, Option, Some, None, Result, Ok, Err, refl, sym, ap, ◌∙◌, arith}
+use Rattle.std.specs.Prelude.{not, ◌&&◌, nat_le, nat_lt, option_map}
 use Rattle.std.specs.List.{position, position_or_len, prefix_len, list_all}
 use Rattle.std.proofs.lemmas.Bool.{and_parts, leb-true}
 use Rattle.std.proofs.lemmas.Bool.Decides.{nat_tests}
@@ -24,8 +24,9 @@ use Rattle.lrs_keep.specs.Change.{with_difference}
 use Rattle.lrs_verbs.specs.Keys.{place_among}
 use Rattle.lrs_machine.specs.Lines.{line_of}
 use Rattle.lrs_machine.specs.Sound.{IsSound}
-use Rattle.lrs_machine.specs.Machine.{Outcome, step, attempt, step_by_key, outcome_of, next, answer_known, line_at, check_room, refuse_if, ◌>>◌, needs_asset, needs_route}
+use Rattle.lrs_machine.specs.Machine.{step, attempt, step_by_key, outcome_of, next, answer_known, line_at, place_of_key, check_room, refuse_if, ◌>>◌, needs_asset, needs_route}
 use Rattle.lrs_verbs.specs.Plans.{Makes}
+use Rattle.lrs_orderly.proofs.Making.{made_is_sound}
 use Rattle.lrs_desk.specs.Decide.{IsDoneBy, HasRoom, LacksRoom, edit_of, done_image}
 
 -- an edit as the ground machine keeps it
@@ -56,18 +57,25 @@ module _ {X : Type 0} (p : X → Bool) where
       at_end true e k = cc
       at_end false e k = grind (arith, nat_tests)
 
-line_at-kept : (edits : List Edit) (place : ℕ) (d : Edit) → place < length edits → line_at place (map kept_edit edits) ≡ (slice_index_or edits place d).line
-line_at-kept [] place d h = absurd (omega (arith, h))
-line_at-kept (e ∷ es) zero d h = refl
-line_at-kept (e ∷ es) (suc k) d h = line_at-kept es k d (omega (arith, h))
-
 -- The key is known: nothing changes.
-pub step-known : (limits : Limits) (key : Name) (command : Command) (i : Image) (place : ℕ) (d : Edit) → place < length i.edits → place_among i.edits key ≡ Some place
-    → step limits key command (state_of i) ≡ record { answer = answer_known (place + 1) (slice_index_or i.edits place d).line (line_of command); state = state_of i }
-unfolding step state_of
-step-known limits key command i place d within at =
-    ap (step_by_key limits key command (state_of i)) (position-map kept_edit (λ e. same_name e.key key) i.edits ∙ at)
-    ∙ ap (λ line. let o : Outcome = record { answer = answer_known (place + 1) line (line_of command); state = state_of i } in o) (line_at-kept i.edits place d within)
+pub step-known : (limits : Limits) (key : Name) (command : Command) (s : State) (place : ℕ) → place_of_key key s.done ≡ Some place
+    → step limits key command s ≡ record { answer = answer_known (place + 1) (line_at place s.done) (line_of command); state = s }
+unfolding step
+step-known limits key command s place at = ap (step_by_key limits key command s) at
+
+-- the place of which a number is one more
+pub place_before : (n : ℕ) (o : Option ℕ) → Some n ≡ option_map (λ place. place + 1) o → (place : ℕ) × (o ≡ Some place) × (n ≡ place + 1)
+place_before n None h = absurd (cc h)
+place_before n (Some place) h = (place, refl, cc h)
+
+pub no_place : (o : Option ℕ) → None {A = ℕ} ≡ option_map (λ place. place + 1) o → o ≡ None
+no_place None h = refl
+no_place (Some place) h = absurd (cc h)
+
+-- no edit of an image has the key
+pub new_key : (key : Name) (i : Image) → place_of_key key (state_of i).done ≡ None → place_among i.edits key ≡ None
+unfolding state_of
+new_key key i none = sym (position-map kept_edit (λ e. same_name e.key key) i.edits) ∙ none
 
 -- The key is new.
 step-new : (limits : Limits) (key : Name) (command : Command) (i : Image) → place_among i.edits key ≡ None

@@ -6,7 +6,7 @@ ghost use Rattle.lrs_machine.specs.Machine.{answer_known};
 ghost use Rattle.lrs_desk.specs.Decide.{IsDecision, HasRoom, LacksRoom};
 
 use lrs_machine::{Answer, Cause, Command, Edit, Key, Limits, Line, What};
-use lrs_verbs::{Inventory, Plan, Planned, Stop, plan};
+use lrs_verbs::{Inventory, Plan, Planned, Stop, plan_command};
 use std::alloc::{AllocError, Global};
 
 /// What becomes of a command.
@@ -36,7 +36,7 @@ pub fn decide(
     if let Some(what) = lacks_room(inventory, limits, command) {
         return Ok(Decision::Stay(Answer::Refused(Cause::TooMany(what))));
     }
-    match plan(alloc, inventory, command) {
+    match plan_command(alloc, inventory, command) {
         Ok(plan) => Ok(Decision::Make(plan)),
         Err(Stop::Refused(cause)) => Ok(Decision::Stay(Answer::Refused(cause))),
         Err(Stop::Memory) => Err(AllocError),
