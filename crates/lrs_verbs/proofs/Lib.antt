@@ -1,0 +1,4 @@
+pub mod NamedEntries
+pub mod Positions
+pub mod Keyed
+pub mod Standing

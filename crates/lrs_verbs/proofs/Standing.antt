@@ -1,0 +1,121 @@
+-- Referents as they come into an index.
+use Rattle.std.proofs.Common.{◌≡◌, ℕ, ◌+◌, ◌<◌, ◌≤◌, Bool, true, false, cond, List, [], ◌∷◌, ◌++◌, length, take, get_or, Option, Some, None, refl, sym, ap, subst, ◌∙◌, arith}
+use Rattle.std.specs.Prelude.{is_some, slice_get}
+use Rattle.std.specs.List.{filter_map, flat_map}
+use Rattle.std.specs.Option.{option_or, option_map}
+use Rattle.std.specs.Ordering.{eq_by_cmp}
+use Rattle.std.specs.Cmp.{Equal-is}
+use Rattle.std.specs.Cmp.Lexicographic.{nat_list_cmp_total}
+use Rattle.std.specs.FinMap.{empty, insert, get, find, get-empty, get-insert}
+use Rattle.std.proofs.lemmas.List.{take_more, append-nil}
+use Rattle.std.proofs.lemmas.Option.{slice_get_past}
+use Rattle.std.proofs.lemmas.List.Elements.{filter_map-append}
+use Rattle.std.proofs.lemmas.List.Concat.{flat_map-append}
+use Rattle.lrs_measure.specs.Texts.{Name, name_cmp}
+use Rattle.lrs_element.specs.declared.link.Ground.{Ground}
+use Rattle.lrs_element.specs.Course.{Millimetre, ground_at}
+use Rattle.lrs_position.specs.declared.route.Referent.{Referent}
+use Rattle.lrs_machine.specs.declared.image.RouteEntry.{RouteEntry}
+use Rattle.lrs_machine.specs.Image.{referent_entry, referents_on}
+use Rattle.lrs_verbs.specs.Places.{Places, referent_among, IsPlaced, HaveCome}
+use Rattle.lrs_verbs.proofs.NamedEntries.{names_exact}
+
+or-None : {X : Type 0} (o : Option X) → option_or o None ≡ o
+or-None None = refl
+or-None (Some x) = refl
+
+or-or : {X : Type 0} (a b c : Option X) → option_or (option_or a b) c ≡ option_or a (option_or b c)
+or-or None b c = refl
+or-or (Some x) b c = refl
+
+or-known : {X : Type 0} (o p : Option X) → is_some o ≡ true → o ≡ option_or o p
+or-known None p h = absurd (cc h)
+or-known (Some x) p h = refl
+
+find-append : (xs ys : List (Name × Millimetre)) (q : Name) → find name_cmp q (xs ++ ys) ≡ option_or (find name_cmp q xs) (find name_cmp q ys)
+find-append [] ys q = refl
+find-append (x ∷ xs) ys q =
+    elim (eq_by_cmp name_cmp q x.0) as (λ b. cond b (Some x.1) (find name_cmp q (xs ++ ys)) ≡ option_or (cond b (Some x.1) (find name_cmp q xs)) (find name_cmp q ys)) [
+      | true ↦ refl
+      | false ↦ find-append xs ys q
+    ]
+
+none_come : (s : Places) → HaveCome s s []
+none_come s = record { at = λ name. sym (or-None (get s name)) }
+
+then_come : (a b c : Places) (xs ys : List (Name × Millimetre)) → HaveCome a b xs → HaveCome b c ys → HaveCome a c (xs ++ ys)
+then_come a b c xs ys h k = record {
+  at = λ name.
+      k.at name ∙ ap (λ o. option_or o (find name_cmp name ys)) (h.at name) ∙ or-or (get a name) (find name_cmp name xs) (find name_cmp name ys)
+      ∙ ap (option_or (get a name)) (sym (find-append xs ys name));
+}
+
+-- one more, whose name is new
+new_comes : (s : Places) (name : Name) (m : Millimetre) → is_some (get s name) ≡ false → HaveCome s (insert s name m) ((name, m) ∷ [])
+new_comes s name m new = record {
+  at = λ q.
+      get-insert nat_list_cmp_total s name m q
+      ∙ elim (eq_by_cmp name_cmp q name) as (λ b. eq_by_cmp name_cmp q name ≡ b → cond b (Some m) (get s q) ≡ option_or (get s q) (cond b (Some m) None)) [
+        | true ↦ λ same. is_new (get s q) (ap (λ k. is_some (get s k)) (names_exact q name ((Equal-is _).0 same)) ∙ new)
+        | false ↦ λ apart. sym (or-None (get s q))
+      ] refl;
+}
+  where
+    is_new : (o : Option Millimetre) → is_some o ≡ false → Some m ≡ option_or o (Some m)
+    is_new None h = refl
+    is_new (Some x) h = absurd (cc h)
+
+-- one of a known name
+known_comes : (s : Places) (name : Name) (m : Millimetre) → is_some (get s name) ≡ true → HaveCome s s ((name, m) ∷ [])
+known_comes s name m known = record {
+  at = λ q.
+      elim (eq_by_cmp name_cmp q name) as (λ b. eq_by_cmp name_cmp q name ≡ b → get s q ≡ option_or (get s q) (cond b (Some m) None)) [
+        | true ↦ λ same. or-known (get s q) (Some m) (ap (λ k. is_some (get s k)) (names_exact q name ((Equal-is _).0 same)) ∙ known)
+        | false ↦ λ apart. sym (or-None (get s q))
+      ] refl;
+}
+
+-- ---- a referent of a course
+
+module _ (course : List Ground) (r : Referent) where
+  abbrev pub own : List (Name × Millimetre)
+  own = filter_map (referent_entry course) (r ∷ [])
+
+  at_ground : (g : Ground) → slice_get course r.at ≡ Some g → own ≡ (r.name, (g.link, g.mm)) ∷ []
+  at_ground g is = ap (λ (o : Option Ground). filter_map (λ (x : Option Ground). option_map (λ (m : Millimetre). (r.name, m)) (option_map (λ h. (h.link, h.mm)) x)) (o ∷ [])) is
+
+  off_course : slice_get course r.at ≡ None → own ≡ []
+  off_course is = ap (λ (o : Option Ground). filter_map (λ (x : Option Ground). option_map (λ (m : Millimetre). (r.name, m)) (option_map (λ h. (h.link, h.mm)) x)) (o ∷ [])) is
+
+  pub comes_new : (s : Places) (g : Ground) → slice_get course r.at ≡ Some g → is_some (get s r.name) ≡ false → HaveCome s (insert s r.name (g.link, g.mm)) own
+  comes_new s g is new = subst (HaveCome s (insert s r.name (g.link, g.mm))) (sym (at_ground g is)) (new_comes s r.name (g.link, g.mm) new)
+
+  pub comes_known : (s : Places) → is_some (get s r.name) ≡ true → HaveCome s s own
+  comes_known s known = by (slice_get course r.at) refl
+    where
+      by : (o : Option Ground) → slice_get course r.at ≡ o → HaveCome s s own
+      by None is = subst (HaveCome s s) (sym (off_course is)) (none_come s)
+      by (Some g) is = subst (HaveCome s s) (sym (at_ground g is)) (known_comes s r.name (g.link, g.mm) known)
+
+  pub comes_off : (s : Places) → length course ≤ r.at → HaveCome s s own
+  comes_off s h = subst (HaveCome s s) (sym (off_course (slice_get_past course r.at h))) (none_come s)
+
+-- ---- lists of them
+
+pub come_first : (course : List Ground) (s : Places) → HaveCome s s (filter_map (referent_entry course) [])
+come_first course s = none_come s
+
+pub come_more : (course : List Ground) (rs : List Referent) (i : ℕ) (r : Referent) (a b c : Places) → i < length rs → r ≡ get_or rs i r → HaveCome a b (filter_map (referent_entry course) (take i rs))
+    → HaveCome b c (filter_map (referent_entry course) (r ∷ [])) → HaveCome a c (filter_map (referent_entry course) (take (i + 1) rs))
+come_more course rs i r a b c within is h k =
+    let f = referent_entry course in
+    subst (HaveCome a c) (sym (ap (filter_map f) (take_more rs i r within ∙ ap (λ x. take i rs ++ x ∷ []) (sym is)) ∙ filter_map-append f (take i rs) (r ∷ []))) (then_come a b c _ _ h k)
+
+pub come_routes : (es : List RouteEntry) (i : ℕ) (e : RouteEntry) (a b c : Places) → i < length es → e ≡ get_or es i e → HaveCome a b (flat_map referents_on (take i es)) → HaveCome b c (referents_on e)
+    → HaveCome a c (flat_map referents_on (take (i + 1) es))
+come_routes es i e a b c within is h k =
+    subst (HaveCome a c) (sym (ap (flat_map referents_on) (take_more es i e within ∙ ap (λ x. take i es ++ x ∷ []) (sym is)) ∙ flat_map-append referents_on (take i es) (e ∷ [])
+    ∙ ap (λ xs. flat_map referents_on (take i es) ++ xs) (append-nil (referents_on e)))) (then_come a b c _ _ h k)
+
+pub all_placed : (es : List RouteEntry) (s : Places) → HaveCome empty s (flat_map referents_on es) → IsPlaced s (referent_among es)
+all_placed es s h = record { at = λ name. h.at name ∙ ap (λ o. option_or o (referent_among es name)) (get-empty name_cmp name) }
