@@ -2,3 +2,10 @@ pub mod NamedEntries
 pub mod Positions
 pub mod Keyed
 pub mod Standing
+pub mod InOrder
+pub mod Filed
+pub mod NewCourse
+pub mod Unmoved
+pub mod NewLink
+pub mod NewClass
+pub mod NewRoute

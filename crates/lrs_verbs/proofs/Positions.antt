@@ -1,6 +1,6 @@
 -- Where an element is first found, as its list grows.
 use Rattle.std.proofs.Common.{◌≡◌, ℕ, ◌+◌, ◌<◌, ◌≤◌, suc, zero, take, Bool, true, false, cond, List, [], ◌∷◌, ◌++◌, length, Option, Some, None, refl, sym, ap, ◌∙◌, arith, length-append}
-use Rattle.std.specs.Prelude.{nat_eq, nat_lt, not, slice_index_or}
+use Rattle.std.specs.Prelude.{◌&&◌, nat_eq, nat_lt, not, slice_index_or}
 use Rattle.std.specs.List.{position, position_or_len, prefix_len, list_all}
 use Rattle.std.proofs.lemmas.Bool.{and_parts, and_from}
 use Rattle.std.proofs.lemmas.Bool.Decides.{nat_tests}
@@ -86,3 +86,19 @@ module _ {X : Type 0} where
       let both = and_parts (list_all (test x) xs) (each_two test xs) h in
       and_from (test x (slice_index_or xs i d)) (list_all (λ y. test y (slice_index_or xs i d)) (take i xs)) (all_get (test x) xs i d (omega (arith, within)) both.0) (each_before test xs i d (omega (arith, within)) both.1)
 
+
+module _ {X : Type 0} (p : X → Bool) where
+  none_in_front : (xs : List X) → length xs ≤ prefix_len (λ x. not (p x)) xs → list_all (λ x. not (p x)) xs ≡ true
+  none_in_front [] h = refl
+  none_in_front (x ∷ xs) h =
+      elim (not (p x)) as (λ b. length (x ∷ xs) ≤ cond b (1 + prefix_len (λ x. not (p x)) xs) 0 → (b && list_all (λ x. not (p x)) xs) ≡ true) [
+        | true ↦ λ k. none_in_front xs (omega (arith, k))
+        | false ↦ λ k. absurd (omega (arith, k))
+      ] h
+
+  pub none_passes : (xs : List X) → position p xs ≡ None → list_all (λ x. not (p x)) xs ≡ true
+  none_passes xs h = none_in_front xs (at_end (nat_lt (position_or_len p xs) (length xs)) refl h)
+    where
+      at_end : (b : Bool) → nat_lt (position_or_len p xs) (length xs) ≡ b → cond b (Some (position_or_len p xs)) None ≡ None → length xs ≤ position_or_len p xs
+      at_end true e k = cc
+      at_end false e k = grind (arith, nat_tests)
