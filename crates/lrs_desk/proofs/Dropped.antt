@@ -16,7 +16,8 @@ use Rattle.std.proofs.Math.ListN.{drop_of_length-le}
 use Rattle.lrs_measure.specs.Lists.{each_two}
 use Rattle.lrs_measure.specs.Texts.{Name, name_cmp, same_name, name_before}
 use Rattle.lrs_machine.specs.declared.image.RouteEntry.{RouteEntry}
-use Rattle.lrs_desk.specs.Change.{route_before, without}
+use Rattle.lrs_desk.specs.Change.{without}
+use Rattle.lrs_machine.specs.Sound.{route_before}
 use Rattle.lrs_desk.proofs.Inserts.{before_by}
 use Rattle.lrs_desk.proofs.Places.{passes_at, two_pass, known}
 use Rattle.lrs_desk.proofs.Deciding.{none_passes}

@@ -73,15 +73,6 @@ module _ {K X Row : Type 0} {R : K → K → Ordering} (total : IsTotalOrder R) 
       by Greater true e rest f = absurd (false≢true (sym e))
       by Greater false e rest f = ap (λ es. entry y ∷ es) (rest f)
 
--- to be less and to be before in the order of numbers are one
-pub numbers_agree : (m n : ℕ) → nat_lt m n ≡ is_lt (nat_cmp m n)
-numbers_agree m n = by (nat_lt m n) (nat_eq m n)
-  where
-    by : (b c : Bool) → b ≡ is_lt (cond b Less (cond c Equal Greater))
-    by true c = refl
-    by false true = refl
-    by false false = refl
-
 -- names are one where they tie
 pub names_exact : IsAntisymmetric name_cmp
 names_exact = slice_cmp-IsAntisymmetric nat_cmp-IsAntisymmetric

@@ -34,7 +34,8 @@ use Rattle.lrs_desk.specs.Change.{with_parts, with_edit, no_parts}
 use Rattle.lrs_machine.specs.Machine.{attempt, refuse_if, ◌>>◌}
 use Rattle.lrs_desk.specs.Plan.{is_new, Makes}
 use Rattle.lrs_machine.specs.Sound.{link_before, is_on_a_link, is_course, RouteCourse, course_before, are_courses, courses_of, spans_of, holds_in, holders_of, places_of, keeps_exclusive, are_spans_of, is_part, share_nothing, pairs_of, are_parts, parts_of, has_asset_place, is_balanced_at, are_balanced, gone_before, IsSound}
-use Rattle.lrs_desk.proofs.Filed.{is_some-find_row, put-insert_by, numbers_agree}
+use Rattle.lrs_ordered.specs.Laws.{numbers_agree}
+use Rattle.lrs_desk.proofs.Filed.{is_some-find_row, put-insert_by}
 use Rattle.lrs_desk.proofs.Inserts.{is_false, and_weaker, all_weaker, all_from, none_counted, any-insert_by, is_comparable, each_two-insert_by, all_made-insert_by}
 use Rattle.lrs_machine.proofs.Members.{In, any_found, any_of, all_at, flat_map_found, list_any-map}
 use Rattle.lrs_machine.proofs.Pairs.{place_had, part_on}

@@ -31,13 +31,13 @@ use Rattle.lrs_machine.specs.Bounds.{most_edits, most_routes}
 use Rattle.lrs_machine.specs.Register.{contains_key}
 use Rattle.lrs_measure.specs.Ordered.{insert_by}
 use Rattle.lrs_machine.specs.Image.{state_of, route_entry, referent_entry, referents_on, holds_on}
-use Rattle.lrs_desk.specs.Change.{route_before, with_parts, with_edit}
+use Rattle.lrs_desk.specs.Change.{with_parts, with_edit}
 use Rattle.lrs_machine.specs.State.{State}
 use Rattle.lrs_machine.specs.Machine.{attempt, refuse_if, refuse_at, ◌>>◌, ◌>>=◌, check_marks, set_route, is_taken}
 use Rattle.lrs_machine.specs.Machine as machine
 use Rattle.lrs_desk.specs.Plan.{is_new, Makes}
 use Rattle.lrs_desk.specs.NewRoute.{free_course, IsEntryOf, route_parts}
-use Rattle.lrs_machine.specs.Sound.{RouteCourse, course_before, is_course, is_on_a_link, are_courses, courses_of, RouteMarks, RouteReferents, are_all_referents, referents_of, RouteSpans, spans_of, are_spans, are_spans_of, holds_in, places_of, keeps_exclusive, are_parts, parts_of, has_asset_place, are_gone, are_balanced, gone_before, IsSound}
+use Rattle.lrs_machine.specs.Sound.{RouteCourse, course_before, is_course, is_on_a_link, are_courses, courses_of, RouteMarks, RouteReferents, are_all_referents, referents_of, RouteSpans, spans_of, are_spans, are_spans_of, holds_in, places_of, keeps_exclusive, are_parts, parts_of, has_asset_place, are_gone, are_balanced, gone_before, IsSound, route_before}
 use Rattle.lrs_machine.proofs.Members.{In, list_any-map}
 use Rattle.lrs_machine.proofs.SoundImages.{and_three}
 use Rattle.lrs_desk.proofs.Filed.{is_some-find_row, put-insert_by, names_exact, names_tie}

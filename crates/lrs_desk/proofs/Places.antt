@@ -14,7 +14,7 @@ use Rattle.lrs_measure.specs.Lists.{each_two}
 use Rattle.lrs_measure.specs.Texts.{Name, name_cmp, same_name, name_before}
 use Rattle.lrs_measure.specs.Ordered.{place_by, insert_by, insert_all}
 use Rattle.lrs_desk.proofs.Inserts.{before_by}
-use Rattle.lrs_desk.proofs.Filed.{numbers_agree}
+use Rattle.lrs_ordered.specs.Laws.{numbers_agree}
 
 module _ {X : Type 0} where
   -- each element passes where all do

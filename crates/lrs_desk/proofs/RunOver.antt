@@ -21,13 +21,13 @@ use Rattle.lrs_machine.specs.Bounds.{most_routes}
 use Rattle.lrs_machine.specs.Image.{state_of}
 use Rattle.lrs_machine.specs.Machine.{is_taken}
 use Rattle.lrs_events.specs.Places.{differs}
-use Rattle.lrs_machine.specs.Sound.{RouteCourse, course_before, is_course, is_on_a_link, courses_of, IsSound}
+use Rattle.lrs_machine.specs.Sound.{RouteCourse, course_before, is_course, is_on_a_link, courses_of, IsSound, route_before}
 use Rattle.lrs_position.specs.Routes.{is_route_course}
 use Rattle.lrs_measure.specs.Ordered.{insert_by, insert_all}
 use Rattle.lrs_machine.specs.declared.image.Edit.{Edit}
 use Rattle.lrs_measure.specs.Texts.{Name}
 use Rattle.lrs_desk.specs.declared.change.Parts.{Parts}
-use Rattle.lrs_desk.specs.Change.{without, route_before, apply}
+use Rattle.lrs_desk.specs.Change.{without, apply}
 use Rattle.lrs_desk.specs.RunOver.{ground_of_routes, IsOccupiedBy}
 use Rattle.lrs_desk.proofs.Leaving.{without-none}
 use Rattle.lrs_desk.proofs.NewRoute.{taken_is}

@@ -13,9 +13,8 @@ use Rattle.lrs_machine.specs.declared.table.Table.TheVariants as table
 use Rattle.lrs_machine.specs.Bounds.{most_routes, most_assets, most_edits}
 use Rattle.lrs_machine.specs.declared.image.RouteEntry.{RouteEntry}
 use Rattle.lrs_element.specs.Course.{meets}
-use Rattle.lrs_desk.specs.Change.{route_before}
 use Rattle.lrs_desk.specs.Plan.{is_new}
-use Rattle.lrs_machine.specs.Sound.{link_before, class_before, asset_before, course_before, is_asset, is_course, are_links, are_classes, are_assets, are_courses, courses_of, are_all_marks, marks_of, are_all_referents, referents_of, are_spans, spans_of, are_entered, are_gone, are_edits, are_origins, is_named_by, parts_of, Test, IsSound, first_unsound, first_failed, tests}
+use Rattle.lrs_machine.specs.Sound.{link_before, class_before, asset_before, course_before, is_asset, is_course, are_links, are_classes, are_assets, are_courses, courses_of, are_all_marks, marks_of, are_all_referents, referents_of, are_spans, spans_of, are_entered, are_gone, are_edits, are_origins, is_named_by, parts_of, Test, IsSound, first_unsound, first_failed, tests, route_before}
 use Rattle.lrs_machine.proofs.SoundImages.{passed}
 use Rattle.lrs_machine.proofs.Pairs.{each_two-map}
 use Rattle.lrs_desk.proofs.Inserts.{all_weaker, and_weaker, each_two-push}

@@ -1,17 +1,14 @@
 -- What a change makes of an image.
-use Rattle.std.specs.Prelude.{Bool, not, List, [], ◌∷◌, ◌++◌, filter, None}
+use Rattle.std.specs.Prelude.{not, List, [], ◌∷◌, ◌++◌, filter, None}
 use Rattle.std.specs.List.{list_any}
-use Rattle.lrs_measure.specs.Texts.{Name, same_name, name_before}
+use Rattle.lrs_measure.specs.Texts.{Name, same_name}
 use Rattle.lrs_machine.specs.declared.image.RouteEntry.{RouteEntry}
 use Rattle.lrs_machine.specs.declared.image.Edit.{Edit}
 use Rattle.lrs_machine.specs.declared.image.Image.{Image}
 use Rattle.lrs_desk.specs.declared.change.Parts.{Parts}
 use Rattle.lrs_desk.specs.declared.change.Change.{Change}
 use Rattle.lrs_measure.specs.Ordered.{insert_some, insert_all}
-use Rattle.lrs_machine.specs.Sound.{link_before, class_before, asset_before}
-
-abbrev pub route_before : RouteEntry → RouteEntry → Bool
-route_before a b = name_before a.route.name b.route.name
+use Rattle.lrs_machine.specs.Sound.{link_before, class_before, asset_before, route_before}
 
 -- the routes of other names
 abbrev pub without : List Name → List RouteEntry → List RouteEntry

@@ -3,7 +3,6 @@
 ghost use Rattle.std.specs.Prelude.{◌≡◌, IfOk};
 ghost use Rattle.lrs_desk.specs.Change as change;
 
-use crate::lists::Ordered;
 use lrs_element::Link;
 use lrs_events::{Asset, Class, Gone, Part};
 use lrs_machine::{Edit, RouteEntry};
@@ -75,47 +74,5 @@ impl Change {
             edit: self.edit.copy(alloc)?,
             parts: self.parts.copy(alloc)?,
         })
-    }
-}
-
-impl Ordered for Link {
-    ghost use Rattle.lrs_machine.specs.Sound.{link_before};
-
-    ghost before = { link_before };
-
-    fn is_before(&self, other: &Link) -> bool {
-        self.number < other.number
-    }
-}
-
-impl Ordered for Class {
-    ghost use Rattle.lrs_machine.specs.Sound.{class_before};
-
-    ghost before = { class_before };
-
-    fn is_before(&self, other: &Class) -> bool {
-        self.name.bytes().cmp(other.name.bytes()).is_lt()
-    }
-}
-
-impl Ordered for Asset {
-    ghost use Rattle.lrs_machine.specs.Sound.{asset_before};
-
-    ghost before = { asset_before };
-
-    fn is_before(&self, other: &Asset) -> bool {
-        self.number < other.number
-    }
-}
-
-impl Ordered for RouteEntry {
-    ghost use Rattle.lrs_desk.specs.Change.{route_before};
-
-    ghost before = { route_before };
-
-    fn is_before(&self, other: &RouteEntry) -> bool {
-        let name = &self.route.name;
-        let other_name = &other.route.name;
-        name.bytes().cmp(other_name.bytes()).is_lt()
     }
 }

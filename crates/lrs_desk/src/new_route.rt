@@ -6,8 +6,7 @@ ghost use Rattle.lrs_measure.specs.Lists.{each_two};
 ghost use Rattle.lrs_measure.specs.Texts.{same_name};
 ghost use Rattle.lrs_machine.specs.declared.command.Command.TheVariants as verb;
 ghost use Rattle.lrs_machine.specs.Image.{state_of};
-ghost use Rattle.lrs_machine.specs.Sound.{IsSound};
-ghost use Rattle.lrs_desk.specs.Change.{route_before};
+ghost use Rattle.lrs_machine.specs.Sound.{IsSound, route_before};
 ghost use Rattle.lrs_desk.specs.NewRoute as specs;
 ghost use Rattle.lrs_desk.specs.Plan.{Plans};
 ghost use Rattle.lrs_desk.specs.RunOver.{IsOccupiedBy};
@@ -68,7 +67,7 @@ fn free_course(
     requires routes { IsOccupiedBy occupied.now image.now.routes }
     ensures { IfOk result (λ course. course ≡ specs.free_course (state_of image.now) pieces.now) }
 {
-    match Course::new(alloc, pieces, image.links.as_slice()) {
+    match Course::new(alloc, pieces, &image.links.as_slice()) {
         Ok(course) => match occupied.first_shared(pieces) {
             Some(i) => Ok(Err(Cause::Taken(i as u64))),
             None => Ok(Ok(course)),

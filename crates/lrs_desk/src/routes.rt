@@ -4,7 +4,8 @@ ghost use Rattle.std.specs.Prelude.{◌≡◌, ◌≤◌, ◌<◌, true, vec_len
 ghost use Rattle.std.specs.List.{position};
 ghost use Rattle.lrs_measure.specs.Lists.{each_two};
 ghost use Rattle.lrs_measure.specs.Texts.{same_name};
-ghost use Rattle.lrs_desk.specs.Change.{route_before, without};
+ghost use Rattle.lrs_desk.specs.Change.{without};
+ghost use Rattle.lrs_machine.specs.Sound.{route_before};
 
 use lrs_machine::RouteEntry;
 use lrs_position::RouteName;

@@ -1,15 +1,16 @@
 //! The lists of an image, in which room is made before anything changes.
 
-ghost use Rattle.std.specs.Prelude.{◌≡◌, IfOk, IfErr, OnOk, OnErr, Some, None};
-ghost use Rattle.std.specs.List.{find};
-ghost use Rattle.std.specs.Option.{option_map};
-ghost use Rattle.lrs_machine.specs.Sound.{IsSound};
-ghost use Rattle.lrs_keep.specs.Change.{apply, CanMake, CanDiffer, with_difference};
-ghost use Rattle.lrs_keep.specs.Kept.{image_of, image_with, HasRoomFor};
+ghost use Rattle.std.specs.Prelude.{◌≡◌, ◌≤◌, ◌+◌, IfOk, OnOk, OnErr, true};
+ghost use Rattle.lrs_measure.specs.Lists.{each_two};
+ghost use Rattle.lrs_machine.specs.Image.{nothing};
+ghost use Rattle.lrs_machine.specs.Sound.{IsSound, route_before};
+ghost use Rattle.lrs_keep.specs.Change.{apply, CanMake, CanDiffer};
+ghost use Rattle.lrs_keep.specs.Kept.{image_of, image_with, HasRoomFor, IsPrepared};
 
 use crate::change::{Change, Difference};
 use crate::lists::{append_in_room, chunks_of, copies_of, make_room, push_in_room, rows_of};
 use crate::open_route::OpenRoute;
+use crate::routes::{drop_route, open_route, put_changed};
 use lrs_element::Link;
 use lrs_events::{Asset, Class, Gone, Part};
 use lrs_machine::{Edit, Image, RouteEntry};
@@ -31,6 +32,21 @@ pub struct KeptImage {
 }
 
 impl KeptImage {
+    /// The lists of the image without entries. It takes no memory.
+    pub fn empty(alloc: Global) -> KeptImage
+        ensures { image_of result ≡ nothing }
+    {
+        KeptImage {
+            links: Chunked::new(alloc),
+            classes: Chunked::new(alloc),
+            assets: Chunked::new(alloc),
+            routes: Chunked::new(alloc),
+            entered: Vec::new(alloc),
+            gone: Vec::new(alloc),
+            edits: Vec::new(alloc),
+        }
+    }
+
     /// The lists of an image.
     ///
     /// # Errors
@@ -96,7 +112,10 @@ impl KeptImage {
     {
         self.make_room(difference)?;
         match &difference.changed {
-            Some(change) => open_route(alloc, &mut self.routes, change),
+            Some(change) => {
+                let opened = open_route(alloc, &mut self.routes, change)?;
+                Ok(opened)
+            }
             None => Ok(None),
         }
     }
@@ -157,55 +176,5 @@ impl KeptImage {
         let opened = self.prepare(alloc, &change.difference)?;
         self.finish(opened, change);
         Ok(())
-    }
-}
-
-/// Takes the route that changes, if there is one of its name, out of its place and makes room for the change.
-fn open_route(
-    alloc: Global,
-    routes: &mut Chunked<RouteEntry>,
-    change: &RouteChange,
-) -> Result<Option<OpenRoute>, AllocError>
-    requires order { each_two route_before routes.old.rows ≡ true }
-    requires room { 1 ≤ routes.old.room }
-    requires can { CanChangeRoute (Some change.now) routes.old.rows }
-    ensures found { IfOk result (λ opened. option_map entry_of opened ≡ find (is_named change.now.route) routes.old.rows) }
-    ensures ready { IfOk result (IsOpenFor change.now) }
-    ensures others { OnOk result (routes.new.rows ≡ without change.now.route routes.old.rows) }
-    ensures err { OnErr result (routes.new.rows ≡ routes.old.rows) }
-    ensures room { OnOk result (routes.new.room ≡ routes.old.room) }
-{
-    let Some(entry) = routes.remove(&change.route) else {
-        return Ok(None);
-    };
-    let mut opened = OpenRoute::open(entry);
-    match opened.make_room(alloc, change) {
-        Ok(()) => Ok(Some(opened)),
-        Err(fault) => {
-            routes.insert_ordered(opened.close());
-            Err(fault)
-        }
-    }
-}
-
-/// Puts a route that was out of its place into its new one, as it is after its change.
-fn put_changed(
-    routes: &mut Chunked<RouteEntry>,
-    opened: Option<OpenRoute>,
-    change: Option<RouteChange>,
-)
-{
-    if let (Some(opened), Some(change)) = (opened, change) {
-        routes.insert_ordered(opened.finish(change));
-    }
-}
-
-fn drop_route(routes: &mut Chunked<RouteEntry>, name: Option<RouteName>)
-    requires order { each_two route_before routes.old.rows ≡ true }
-    ensures routes { routes.new.rows ≡ without_some name routes.old.rows }
-    ensures room { routes.new.room ≡ routes.old.room }
-{
-    if let Some(name) = name {
-        routes.remove(&name);
     }
 }

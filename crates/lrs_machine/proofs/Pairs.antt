@@ -130,7 +130,7 @@ pub record IsHeld (course : List Ground) (rows : List Span) (a : ℕ) (p : Place
   pub on_link : ground.link ≡ p.link
   pub at : ground.mm ≡ p.mm
 
-beside_ground : (s : Side) (g : Ground) (q : Place) → In q (places_at s g) → (q.link ≡ g.link) × (q.mm ≡ g.mm)
+pub beside_ground : (s : Side) (g : Ground) (q : Place) → In q (places_at s g) → (q.link ≡ g.link) × (q.mm ≡ g.mm)
 beside_ground L g q (inl e) = (ap (λ r. r.link) e, ap (λ r. r.mm) e)
 beside_ground L g q (inr m) = absurd m
 beside_ground R g q (inl e) = (ap (λ r. r.link) e, ap (λ r. r.mm) e)

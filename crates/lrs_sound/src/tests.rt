@@ -81,7 +81,7 @@ fn route_along(
     let Ok(refs) = Vec::from_slice(alloc, &[referent]) else {
         return None;
     };
-    let Ok(course) = Course::new(alloc, pieces, &LINKS) else {
+    let Ok(course) = Course::new(alloc, pieces, &LINKS.as_slice()) else {
         return None;
     };
     let length = course.len();

@@ -8,7 +8,8 @@ use Rattle.lrs_index.proofs.Pieces.{behind}
 use Rattle.lrs_index.proofs.Once.{free_behind}
 use Rattle.lrs_desk.specs.RunOver.{ground_of_routes, IsOccupiedBy}
 use Rattle.lrs_desk.proofs.RunOver.{change_once, routes_after, gained_new}
-use Rattle.lrs_desk.specs.Change.{route_before, apply}
+use Rattle.lrs_desk.specs.Change.{apply}
+use Rattle.lrs_machine.specs.Sound.{route_before}
 use Rattle.lrs_desk.specs.Index.{IsIndex}
 use Rattle.lrs_desk.proofs.Tables.{few_edits}
 use Rattle.lrs_desk.proofs.Keyed.{IsIndex-push, IsIndex-undo}

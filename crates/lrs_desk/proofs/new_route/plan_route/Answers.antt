@@ -9,7 +9,7 @@ use Rattle.lrs_machine.specs.Machine.{check_marks}
 use Rattle.lrs_desk.specs.Plan.{Makes}
 use Rattle.lrs_desk.proofs.NewRoute.{has_name, refuses_known, refuses_ground, after_marks, makes}
 use Rattle.lrs_measure.specs.Lists.{each_two}
-use Rattle.lrs_desk.specs.Change.{route_before}
+use Rattle.lrs_machine.specs.Sound.{route_before}
 use Rattle.lrs_desk.proofs.Tables.{routes_in_order}
 use Rattle.lrs_desk.proofs.new_route.plan_route.Goals as goal
 

@@ -3,7 +3,7 @@ use Rattle.std.specs.List.{list_any}
 use Rattle.lrs_measure.specs.Lists.{each_two}
 use Rattle.lrs_measure.specs.Texts.{same_name}
 use Rattle.lrs_machine.specs.declared.image.RouteEntry.{RouteEntry}
-use Rattle.lrs_desk.specs.Change.{route_before}
+use Rattle.lrs_machine.specs.Sound.{route_before}
 use Rattle.lrs_desk.proofs.Dropped.{order_of_some, without-step, without-end}
 use Rattle.lrs_desk.proofs.routes.drop_named.Goals as goal
 

@@ -1,6 +1,7 @@
 use Rattle.std.proofs.Common.{◌≡◌, ◌≤◌, true, drop, vec_len, vec_capacity}
 use Rattle.lrs_measure.specs.Lists.{each_two}
-use Rattle.lrs_desk.specs.Change.{route_before, without}
+use Rattle.lrs_desk.specs.Change.{without}
+use Rattle.lrs_machine.specs.Sound.{route_before}
 use Rattle.lrs_desk.proofs.routes.drop_named.Given as goal
 
 abbrev pub invariant-loop-name : goal.invariant-loop-name

@@ -1,6 +1,7 @@
 use Rattle.std.proofs.Common.{◌∙◌}
 use Rattle.lrs_measure.specs.Lists.{each_two}
-use Rattle.lrs_desk.specs.Change.{route_before, without, apply}
+use Rattle.lrs_desk.specs.Change.{without, apply}
+use Rattle.lrs_machine.specs.Sound.{route_before}
 use Rattle.lrs_measure.specs.Ordered.{insert_all}
 use Rattle.lrs_desk.specs.Opened.{image_of}
 use Rattle.lrs_desk.proofs.Tables.{links_in_order, classes_in_order, assets_in_order, routes_in_order}
