@@ -1,7 +1,9 @@
 -- Registers made of the rows of a list.
-use Rattle.std.proofs.Common.{◌≡◌, ℕ, Bool, true, false, cond, List, [], ◌∷◌, map, Option, Some, refl, sym, ap, ◌∙◌}
+use Rattle.std.proofs.Common.{◌≡◌, ℕ, Bool, true, false, cond, List, [], ◌∷◌, map, Option, Some, None, refl, sym, ap, ◌∙◌}
 use Rattle.std.specs.Prelude.{nat_lt, nat_eq, is_some, ◌||◌}
 use Rattle.std.specs.List.{list_any}
+use Rattle.std.specs.List as list
+use Rattle.std.specs.Option.{option_map}
 use Rattle.std.specs.declared.cmp.Ordering.{Ordering}
 use Rattle.std.specs.declared.cmp.Ordering.TheVariants.{Less, Equal, Greater}
 use Rattle.std.specs.Ordering.{eq_by_cmp, is_lt, is_eq, nat_cmp}
@@ -24,6 +26,26 @@ module _ {K X Row : Type 0} {R : K → K → Ordering} (total : IsTotalOrder R) 
   is_some-find_row (r ∷ rows) q =
       elim (is_row q r) as (λ b. is_some (cond b (Some (entry r).1) (find R q (map entry rows))) ≡ (b || list_any (is_row q) rows)) [ true ↦ refl | false ↦ is_some-find_row rows q ]
 
+  -- The row of a key is found where its value is.
+  pub find_row : (rows : List Row) (q : K) → find R q (map entry rows) ≡ option_map (λ r. (entry r).1) (list.find (λ r. is_eq (R (entry r).0 q)) rows)
+  find_row [] q = refl
+  find_row (r ∷ rows) q =
+      ap (λ b. cond b (Some (entry r).1) (find R q (map entry rows))) ((eq_by_cmp_equiv total).symm q (entry r).0)
+      ∙ elim (eq_by_cmp R (entry r).0 q) as (λ b. cond b (Some (entry r).1) (find R q (map entry rows)) ≡ option_map (λ r. (entry r).1) (cond b (Some r) (list.find (λ r. is_eq (R (entry r).0 q)) rows))) [
+        | true ↦ refl
+        | false ↦ find_row rows q
+      ]
+
+  -- ... with the key itself
+  pub find_entry : (rows : List Row) (q : K) → option_map (λ v. (q, v)) (find R q (map entry rows)) ≡ option_map entry (list.find (λ r. is_eq (R (entry r).0 q)) rows)
+  find_entry [] q = refl
+  find_entry (r ∷ rows) q =
+      ap (λ b. option_map (λ v. (q, v)) (cond b (Some (entry r).1) (find R q (map entry rows)))) ((eq_by_cmp_equiv total).symm q (entry r).0)
+      ∙ elim (eq_by_cmp R (entry r).0 q) as (λ b. eq_by_cmp R (entry r).0 q ≡ b → option_map (λ v. (q, v)) (cond b (Some (entry r).1) (find R q (map entry rows))) ≡ option_map entry (cond b (Some r) (list.find (λ r. is_eq (R (entry r).0 q)) rows))) [
+        | true ↦ λ same. ap (λ k. Some (k, (entry r).1)) (sym (exact (entry r).0 q ((Equal-is _).0 same)))
+        | false ↦ λ apart. find_entry rows q
+      ] refl
+
   -- A new row is put where the list's order puts it.
   pub put-insert_by : (before : Row → Row → Bool) → ((a b : Row) → before a b ≡ is_lt (R (entry a).0 (entry b).0)) → (x : Row) (rows : List Row) → list_any (is_row (entry x).0) rows ≡ false
       → put R (entry x).0 (entry x).1 (map entry rows) ≡ map entry (insert_by before x rows)
@@ -41,15 +63,6 @@ module _ {K X Row : Type 0} {R : K → K → Ordering} (total : IsTotalOrder R) 
       by Equal b e rest f = absurd (false≢true (sym f))
       by Greater true e rest f = absurd (false≢true (sym e))
       by Greater false e rest f = ap (λ es. entry y ∷ es) (rest f)
-
--- to be less and to be before in the order of numbers are one
-pub numbers_agree : (m n : ℕ) → nat_lt m n ≡ is_lt (nat_cmp m n)
-numbers_agree m n = by (nat_lt m n) (nat_eq m n)
-  where
-    by : (b c : Bool) → b ≡ is_lt (cond b Less (cond c Equal Greater))
-    by true c = refl
-    by false true = refl
-    by false false = refl
 
 -- rows that tie with a name are those that have it
 pub names_tie : {Row : Type 0} (name : Row → Name) (q : Name) (rows : List Row) → list_any (λ r. eq_by_cmp name_cmp q (name r)) rows ≡ list_any (λ r. same_name (name r) q) rows

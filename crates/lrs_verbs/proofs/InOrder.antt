@@ -11,6 +11,7 @@ use Rattle.std.proofs.lemmas.List.Folds.{list_all-append, list_all-map}
 use Rattle.lrs_measure.specs.Lists.{each_two}
 use Rattle.lrs_measure.specs.Ordered.{insert_by}
 use Rattle.lrs_machine.proofs.Members.{In}
+use Rattle.lrs_orderly.proofs.Found.{all_weaker}
 
 pub is_false : (b : Bool) → (b ≡ true → ⊥) → b ≡ false
 is_false true h = absurd (h refl)
@@ -27,10 +28,6 @@ other_holds a b fails h = by (or_cases a b h)
     by (inr e) = e
 
 module _ {X : Type 0} where
-  pub all_weaker : (p q : X → Bool) → ((x : X) → p x ≡ true → q x ≡ true) → (xs : List X) → list_all p xs ≡ true → list_all q xs ≡ true
-  all_weaker p q w [] h = refl
-  all_weaker p q w (x ∷ xs) h = and_weaker (p x) (list_all p xs) (q x) (list_all q xs) (w x) (all_weaker p q w xs) h
-
   pub all_from : (p : X → Bool) (xs : List X) → ((x : X) → In x xs → p x ≡ true) → list_all p xs ≡ true
   all_from p [] h = refl
   all_from p (x ∷ xs) h = and_from (p x) (list_all p xs) (h x (inl refl)) (all_from p xs (λ y m. h y (inr m)))
@@ -67,7 +64,7 @@ module _ {X : Type 0} where
       let rises = and_parts (list_all (before y) ys) (each_two before ys) h in
       elim (before x y) as (λ b. before x y ≡ b → each_two before (cond b (x ∷ y ∷ ys) (y ∷ insert_by before x ys)) ≡ true) [
         | true ↦ λ first. and_from (list_all (before x) (y ∷ ys)) (each_two before (y ∷ ys))
-            (and_from (before x y) (list_all (before x) ys) first (all_weaker (before y) (before x) (λ z k. chain x y z first k) ys rises.0)) h
+            (and_from (before x y) (list_all (before x) ys) first (all_weaker (before y) (before x) ys (λ z k. chain x y z first k) rises.0)) h
         | false ↦ λ later. and_from (list_all (before y) (insert_by before x ys)) (each_two before (insert_by before x ys))
             (all-insert_by (before y) before x ys (other_holds (before x y) (before y x) later each.0) rises.0) (each_two-insert_by before chain x ys each.1 rises.1)
       ] refl

@@ -9,3 +9,4 @@ pub mod Unmoved
 pub mod NewLink
 pub mod NewClass
 pub mod NewRoute
+pub mod Known

@@ -19,14 +19,16 @@ use Rattle.lrs_machine.specs.Entered.{is_asset_number, is_lateral_offset}
 use Rattle.lrs_machine.specs.Register.{insert, contains_key}
 use Rattle.lrs_machine.specs.Image.{state_of}
 use Rattle.lrs_machine.specs.Machine.{attempt, refuse_if, ◌>>◌}
-use Rattle.lrs_machine.specs.Sound.{class_before, asset_before, is_asset, are_assets}
+use Rattle.lrs_machine.specs.Sound.{class_before, asset_before, is_asset, are_assets, IsSound}
 use Rattle.lrs_keep.specs.Change.{with_difference}
-use Rattle.lrs_verbs.specs.Orderly.{IsOrderly}
-use Rattle.lrs_verbs.specs.Plans.{plan_of, Makes}
+use Rattle.lrs_orderly.specs.Orderly.{IsOrderly}
+use Rattle.lrs_orderly.proofs.Found.{all_weaker}
+use Rattle.lrs_orderly.proofs.Ordering.{sound_is_orderly}
+use Rattle.lrs_verbs.specs.Plans.{plan_of, IsPlanOf}
 use Rattle.lrs_verbs.proofs.NamedEntries.{names_exact}
 use Rattle.lrs_verbs.proofs.Filed.{is_some-find_row, put-insert_by, names_tie}
-use Rattle.lrs_verbs.proofs.InOrder.{and_weaker, all_weaker, any-insert_by, each_two-insert_by, before-chain, before-comparable}
-use Rattle.lrs_verbs.proofs.Unmoved.{adding, can_differ, indexed}
+use Rattle.lrs_verbs.proofs.InOrder.{and_weaker, any-insert_by, each_two-insert_by, before-chain, before-comparable}
+use Rattle.lrs_verbs.proofs.Unmoved.{adding, can_differ, tells}
 
 -- the image with the class
 abbrev pub with_class : Class → Image → Image
@@ -80,7 +82,7 @@ module _ (c : Class) (i : Image) (fresh : list_any (has_name c.name) i.classes �
       let order = each_two asset_before i.assets in
       let few = nat_le (length i.assets) most_assets in
       and_weaker (order && list_all (is_asset i.classes) i.assets) few (order && list_all (is_asset new) i.assets) few
-      (and_weaker order (list_all (is_asset i.classes) i.assets) order (list_all (is_asset new) i.assets) (λ k. k) (all_weaker (is_asset i.classes) (is_asset new) still_asset i.assets))
+      (and_weaker order (list_all (is_asset i.classes) i.assets) order (list_all (is_asset new) i.assets) (λ k. k) (all_weaker (is_asset i.classes) (is_asset new) i.assets still_asset))
       (λ k. k) h
 
   stays_orderly : IsOrderly (with_class c i)
@@ -93,20 +95,23 @@ module _ (c : Class) (i : Image) (fresh : list_any (has_name c.name) i.classes �
     referents = o.referents;
     spans = o.spans;
     entered_order = o.entered_order;
-    entered_within = o.entered_within;
+    entered_filled = o.entered_filled;
     entered_apart = o.entered_apart;
     entered_few = o.entered_few;
     gone_order = o.gone_order;
-    gone_within = o.gone_within;
+    gone_filled = o.gone_filled;
     gone_apart = o.gone_apart;
     keys = o.keys;
-    edits = o.edits;
+    few_edits = o.few_edits;
   }
 
-pub makes : (c : Class) (i : Image) → contains_key (state_of i).classes c.name ≡ false → IsOrderly i → Makes (verb.Class c) i (plan_of (adding None (Some c)))
-makes c i fresh o = record {
-  state = makes_new c i (length i.edits + 1) fresh;
-  orderly = λ room. subst IsOrderly (sym (with_difference-class c i)) (stays_orderly c i (sym (knows c.name i) ∙ fresh) o);
-  differ = can_differ (adding None (Some c)) i refl o;
-  indexed = indexed None (Some c) i;
+pub makes : (c : Class) (i : Image) → contains_key (state_of i).classes c.name ≡ false → IsSound i → IsPlanOf (verb.Class c) i (plan_of (adding None (Some c)))
+makes c i fresh s = record {
+  makes = record {
+    state = makes_new c i (length i.edits + 1) fresh;
+    edits = refl;
+    orderly = λ room. subst IsOrderly (sym (with_difference-class c i)) (stays_orderly c i (sym (knows c.name i) ∙ fresh) (sound_is_orderly i s));
+  };
+  differ = can_differ (adding None (Some c)) i refl s;
+  tells = tells None (Some c) i;
 }

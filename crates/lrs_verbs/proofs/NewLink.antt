@@ -24,13 +24,16 @@ use Rattle.lrs_machine.specs.Bounds.{most_routes}
 use Rattle.lrs_machine.specs.Register.{insert, contains_key}
 use Rattle.lrs_machine.specs.Image.{state_of, link_entry}
 use Rattle.lrs_machine.specs.Machine.{attempt, refuse_if, ◌>>◌}
-use Rattle.lrs_machine.specs.Sound.{link_before, is_on_a_link, is_course, RouteCourse, course_before, are_courses, courses_of, parts_of}
+use Rattle.lrs_machine.specs.Sound.{link_before, is_on_a_link, is_course, RouteCourse, course_before, are_courses, courses_of, parts_of, IsSound}
 use Rattle.lrs_keep.specs.Change.{with_difference}
-use Rattle.lrs_verbs.specs.Orderly.{IsOrderly, is_on_its_link}
-use Rattle.lrs_verbs.specs.Plans.{plan_of, Makes}
-use Rattle.lrs_verbs.proofs.Filed.{is_some-find_row, put-insert_by, numbers_agree}
-use Rattle.lrs_verbs.proofs.InOrder.{and_weaker, all_weaker, any-insert_by, is_comparable, each_two-insert_by}
-use Rattle.lrs_verbs.proofs.Unmoved.{adding, can_differ, indexed}
+use Rattle.lrs_orderly.specs.Orderly.{IsOrderly}
+use Rattle.lrs_orderly.proofs.Found.{all_weaker}
+use Rattle.lrs_orderly.proofs.Ordering.{sound_is_orderly}
+use Rattle.lrs_verbs.specs.Plans.{plan_of, IsPlanOf}
+use Rattle.lrs_verbs.proofs.Filed.{is_some-find_row, put-insert_by}
+use Rattle.lrs_ordered.specs.Laws.{numbers_agree}
+use Rattle.lrs_verbs.proofs.InOrder.{and_weaker, any-insert_by, is_comparable, each_two-insert_by}
+use Rattle.lrs_verbs.proofs.Unmoved.{adding, can_differ, tells}
 
 -- the image with the link
 abbrev pub with_link : Link → Image → Image
@@ -92,7 +95,7 @@ module _ (l : Link) (i : Image) (fresh : list_any (has_number l.number) i.links 
   still_course : (c : RouteCourse) → is_course i.links c ≡ true → is_course new c ≡ true
   still_course c h =
       and_weaker (is_route_course c.entries && list_all (is_on_a_link i.links) c.entries) (each_two differs c.entries) (is_route_course c.entries && list_all (is_on_a_link new) c.entries) (each_two differs c.entries)
-      (and_weaker (is_route_course c.entries) (list_all (is_on_a_link i.links) c.entries) (is_route_course c.entries) (list_all (is_on_a_link new) c.entries) (λ k. k) (all_weaker (is_on_a_link i.links) (is_on_a_link new) still_on c.entries))
+      (and_weaker (is_route_course c.entries) (list_all (is_on_a_link i.links) c.entries) (is_route_course c.entries) (list_all (is_on_a_link new) c.entries) (λ k. k) (all_weaker (is_on_a_link i.links) (is_on_a_link new) c.entries still_on))
       (λ k. k) h
 
   still_courses : (cs : List RouteCourse) → are_courses i.links cs ≡ true → are_courses new cs ≡ true
@@ -101,14 +104,9 @@ module _ (l : Link) (i : Image) (fresh : list_any (has_number l.number) i.links 
       let few = nat_le (length cs) most_routes in
       and_weaker (each_two course_before cs && list_all (is_course i.links) cs && free) few (each_two course_before cs && list_all (is_course new) cs && free) few
       (and_weaker (each_two course_before cs && list_all (is_course i.links) cs) free (each_two course_before cs && list_all (is_course new) cs) free
-      (and_weaker (each_two course_before cs) (list_all (is_course i.links) cs) (each_two course_before cs) (list_all (is_course new) cs) (λ k. k) (all_weaker (is_course i.links) (is_course new) still_course cs))
+      (and_weaker (each_two course_before cs) (list_all (is_course i.links) cs) (each_two course_before cs) (list_all (is_course new) cs) (λ k. k) (all_weaker (is_course i.links) (is_course new) cs still_course))
       (λ k. k))
       (λ k. k) h
-
-  still_within : (p : Part) → is_on_its_link i.links p ≡ true → is_on_its_link new p ≡ true
-  still_within p h =
-      let on : Link → Bool = λ k. nat_eq k.number p.link && nat_le p.hi k.length in
-      and_weaker (nat_lt p.lo p.hi) (list_any on i.links) (nat_lt p.lo p.hi) (list_any on new) (λ k. k) (any-insert_by on link_before l i.links) h
 
   stays_orderly : IsOrderly (with_link l i)
   stays_orderly = record {
@@ -120,20 +118,23 @@ module _ (l : Link) (i : Image) (fresh : list_any (has_number l.number) i.links 
     referents = o.referents;
     spans = o.spans;
     entered_order = o.entered_order;
-    entered_within = all_weaker (is_on_its_link i.links) (is_on_its_link new) still_within i.entered o.entered_within;
+    entered_filled = o.entered_filled;
     entered_apart = o.entered_apart;
     entered_few = o.entered_few;
     gone_order = o.gone_order;
-    gone_within = all_weaker (is_on_its_link i.links) (is_on_its_link new) still_within (parts_of i.gone) o.gone_within;
+    gone_filled = o.gone_filled;
     gone_apart = o.gone_apart;
     keys = o.keys;
-    edits = o.edits;
+    few_edits = o.few_edits;
   }
 
-pub makes : (l : Link) (i : Image) → contains_key (state_of i).links l.number ≡ false → IsOrderly i → Makes (verb.Link l) i (plan_of (adding (Some l) None))
-makes l i fresh o = record {
-  state = makes_new l i (length i.edits + 1) fresh;
-  orderly = λ room. subst IsOrderly (sym (with_difference-link l i)) (stays_orderly l i (sym (knows l.number i) ∙ fresh) o);
-  differ = can_differ (adding (Some l) None) i refl o;
-  indexed = indexed (Some l) None i;
+pub makes : (l : Link) (i : Image) → contains_key (state_of i).links l.number ≡ false → IsSound i → IsPlanOf (verb.Link l) i (plan_of (adding (Some l) None))
+makes l i fresh s = record {
+  makes = record {
+    state = makes_new l i (length i.edits + 1) fresh;
+    edits = refl;
+    orderly = λ room. subst IsOrderly (sym (with_difference-link l i)) (stays_orderly l i (sym (knows l.number i) ∙ fresh) (sound_is_orderly i s));
+  };
+  differ = can_differ (adding (Some l) None) i refl s;
+  tells = tells (Some l) None i;
 }

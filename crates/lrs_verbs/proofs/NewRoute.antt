@@ -32,13 +32,14 @@ use Rattle.lrs_machine.specs.Register.{contains_key}
 use Rattle.lrs_machine.specs.Image.{state_of, route_entry, referent_entry, referents_on, holds_on}
 use Rattle.lrs_machine.specs.State.{State}
 use Rattle.lrs_machine.specs.Machine.{attempt, refuse_if, refuse_at, ◌>>◌, ◌>>=◌, check_pieces, check_free, check_marks, set_route, is_taken}
-use Rattle.lrs_machine.specs.Sound.{RouteCourse, course_before, is_course, is_on_a_link, are_courses, courses_of, RouteMarks, RouteReferents, are_all_referents, referents_of, RouteSpans, spans_of, are_spans_of}
+use Rattle.lrs_machine.specs.Sound.{RouteCourse, course_before, is_course, is_on_a_link, are_courses, courses_of, RouteMarks, RouteReferents, are_all_referents, referents_of, RouteSpans, spans_of, are_spans_of, route_before, IsSound}
 use Rattle.lrs_machine.proofs.Members.{In, any_of, any_found, list_any-map}
 use Rattle.lrs_machine.proofs.SoundImages.{and_three}
-use Rattle.lrs_keep.specs.Change.{no_difference, route_before, with_difference}
-use Rattle.lrs_verbs.specs.Orderly.{IsOrderly}
+use Rattle.lrs_keep.specs.Change.{no_difference, with_difference}
+use Rattle.lrs_orderly.specs.Orderly.{IsOrderly}
+use Rattle.lrs_orderly.proofs.Ordering.{sound_is_orderly}
 use Rattle.lrs_verbs.specs.Changes.{is_run_once, route_on, ground_after, CanChangeGround}
-use Rattle.lrs_verbs.specs.Plans.{HasRoomFor, IsIndexed, Makes}
+use Rattle.lrs_verbs.specs.Plans.{TellsGround, IsPlanOf}
 use Rattle.lrs_verbs.specs.Checks.{new_course, new_marks, IsEntryOf, route_plan}
 use Rattle.lrs_verbs.proofs.NamedEntries.{names_exact}
 use Rattle.lrs_verbs.proofs.Filed.{is_some-find_row, put-insert_by, names_tie}
@@ -239,14 +240,14 @@ module _ (e : RouteEntry) (pieces : List Piece) (i : Image) (fresh : list_any (h
     referents = still_referents o.referents;
     spans = all_mapped-insert_by (are_spans_of i.assets) spans_entry route_before e i.routes (ap (λ rows. are_spans_of i.assets (record { course = e.route.course; rows = rows })) no_spans) o.spans;
     entered_order = o.entered_order;
-    entered_within = o.entered_within;
+    entered_filled = o.entered_filled;
     entered_apart = o.entered_apart;
     entered_few = o.entered_few;
     gone_order = o.gone_order;
-    gone_within = o.gone_within;
+    gone_filled = o.gone_filled;
     gone_apart = o.gone_apart;
     keys = o.keys;
-    edits = o.edits;
+    few_edits = o.few_edits;
   }
 
   -- ---- the index of its ground
@@ -273,9 +274,9 @@ module _ (e : RouteEntry) (pieces : List Piece) (i : Image) (fresh : list_any (h
         by true f = refl
         by false f = refl
 
-    stays_indexed : IsIndexed (route_plan e own) i
+    tells_ground : TellsGround (route_plan e own) i
     unfolding state_of
-    stays_indexed = record {
+    tells_ground = record {
       ground = on_ground;
       can_ground = record {
         gone_filled = tt;
@@ -292,7 +293,7 @@ module _ (e : RouteEntry) (pieces : List Piece) (i : Image) (fresh : list_any (h
 
 -- The verb makes the route, where its name is new, its ground is free and its marks are those of the course.
 module _ (name : Name) (pieces : List Piece) (marks line : List Mark) (course : List Ground) (i : Image) (e : RouteEntry) (fresh : contains_key (state_of i).routes name ≡ false)
-    (is : new_course (state_of i) pieces ≡ Ok course) (free : check_free (state_of i) pieces ≡ Ok tt) (marked : new_marks (length course) marks ≡ Ok line) (of : IsEntryOf name course line e) (o : IsOrderly i) where
+    (is : new_course (state_of i) pieces ≡ Ok course) (free : check_free (state_of i) pieces ≡ Ok tt) (marked : new_marks (length course) marks ≡ Ok line) (of : IsEntryOf name course line e) (s : IsSound i) where
   no_such_name : list_any (has_name e.route.name) i.routes ≡ false
   no_such_name = ap (λ n. list_any (has_name n) i.routes) of.name ∙ sym (knows name i) ∙ fresh
 
@@ -304,10 +305,13 @@ module _ (name : Name) (pieces : List Piece) (marks line : List Mark) (course : 
       (λ j. set_route (sym of.name j) (sym of.course j) (sym (of.marks ∙ (marks_of (length course) marks line marked).1) j) (state_of i))
       ∙ state-with_own e i no_such_name of.refs of.spans
 
-  pub makes : (own : List Piece) → course_of own ≡ e.route.course → AllByRecursion IsFilled own → Makes (verb.Route name pieces marks) i (route_plan e own)
+  pub makes : (own : List Piece) → course_of own ≡ e.route.course → AllByRecursion IsFilled own → IsPlanOf (verb.Route name pieces marks) i (route_plan e own)
   makes own over filled = record {
-    state = writes name pieces marks i (length i.edits + 1) fresh course is free line marked ∙ ap Ok (same_state ∙ ap state_of (sym (with_difference-route e i)));
-    orderly = λ room. subst IsOrderly (sym (with_difference-route e i)) (stays_orderly e pieces i no_such_name made free of.refs of.spans o (room.routes refl));
-    differ = can_differ (record no_difference { made = Some e }) i refl o;
-    indexed = stays_indexed e pieces i no_such_name made free of.refs of.spans o own over filled;
+    makes = record {
+      state = writes name pieces marks i (length i.edits + 1) fresh course is free line marked ∙ ap Ok (same_state ∙ ap state_of (sym (with_difference-route e i)));
+      edits = refl;
+      orderly = λ room. subst IsOrderly (sym (with_difference-route e i)) (stays_orderly e pieces i no_such_name made free of.refs of.spans (sound_is_orderly i s) (room.routes refl));
+    };
+    differ = can_differ (record no_difference { made = Some e }) i refl s;
+    tells = tells_ground e pieces i no_such_name made free of.refs of.spans (sound_is_orderly i s) own over filled;
   }

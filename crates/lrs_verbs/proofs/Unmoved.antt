@@ -12,35 +12,25 @@ use Rattle.lrs_machine.specs.declared.image.Image.{Image}
 use Rattle.lrs_machine.specs.declared.image.RouteEntry.{RouteEntry}
 use Rattle.lrs_machine.specs.Bounds.{most_routes}
 use Rattle.lrs_machine.specs.Image.{state_of}
-use Rattle.lrs_machine.specs.Sound.{RouteCourse, course_before, is_course, are_courses, courses_of}
+use Rattle.lrs_machine.specs.Sound.{route_before, IsSound}
 use Rattle.lrs_machine.proofs.Pairs.{each_two-map}
 use Rattle.lrs_keep.specs.declared.change.RouteChange.{RouteChange}
 use Rattle.lrs_keep.specs.declared.change.Difference.{Difference}
-use Rattle.lrs_keep.specs.Change.{no_difference, route_before, routes_after, CanChangeRoute, CanDiffer}
-use Rattle.lrs_verbs.specs.Orderly.{IsOrderly}
-use Rattle.lrs_verbs.specs.Plans.{plan_of, IsIndexed}
+use Rattle.lrs_keep.specs.Change.{no_difference, routes_after, CanChangeRoute, CanDiffer}
+use Rattle.lrs_keep.proofs.Tables.{routes_in_order}
+use Rattle.lrs_verbs.specs.Plans.{plan_of, TellsGround}
 
 -- a difference of links and classes alone
 abbrev pub adding : Option Link → Option Class → Difference
 adding link class = record no_difference { link = link; class = class }
 
-pub routes_in_order : (i : Image) → IsOrderly i → each_two route_before i.routes ≡ true
-routes_in_order i o =
-    let courses = courses_of i in
-    let order = each_two course_before courses in
-    let each = list_all (is_course i.links) courses in
-    let free = each_two (λ c d. not (meets c.entries d.entries)) courses in
-    let few = nat_le (length courses) most_routes in
-    sym (each_two-map course_before (λ (e : RouteEntry). record { route = e.route.name; entries = e.route.course }) i.routes)
-    ∙ (and_parts order each (and_parts (order && each) free (and_parts (order && each && free) few o.courses).0).0).0
-
 -- No route changes, so that all names stay in order.
-pub can_differ : (d : Difference) (i : Image) → d.changed ≡ None → IsOrderly i → CanDiffer d i
-can_differ d i none o = record {
+pub can_differ : (d : Difference) (i : Image) → d.changed ≡ None → IsSound i → CanDiffer d i
+can_differ d i none s = record {
   route = subst (λ (c : Option RouteChange). CanChangeRoute c i.routes) (sym none) tt;
-  names = ap (λ (c : Option RouteChange). each_two route_before (routes_after c i.routes)) none ∙ routes_in_order i o;
+  names = ap (λ (c : Option RouteChange). each_two route_before (routes_after c i.routes)) none ∙ routes_in_order i s;
 }
 
-pub indexed : (link : Option Link) (class : Option Class) (i : Image) → IsIndexed (plan_of (adding link class)) i
+pub tells : (link : Option Link) (class : Option Class) (i : Image) → TellsGround (plan_of (adding link class)) i
 unfolding state_of
-indexed link class i = record { ground = λ m. refl; can_ground = tt; referents = λ name. refl; new_referent = tt }
+tells link class i = record { ground = λ m. refl; can_ground = tt; referents = λ name. refl; new_referent = tt }

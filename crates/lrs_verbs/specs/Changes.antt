@@ -12,7 +12,7 @@ use Rattle.lrs_verbs.specs.declared.plan.GroundChange.{GroundChange}
 use Rattle.lrs_verbs.specs.declared.plan.ReferentPlace.{ReferentPlace}
 use Rattle.lrs_verbs.specs.declared.plan.ReferentPlaces.{ReferentPlaces}
 
--- TEMPORARY: of lrs_index
+-- no millimetre stands twice in the course
 abbrev pub is_run_once : List Ground → Bool
 is_run_once course = each_two (λ g h. not (is_at (g.link, g.mm) h)) course
 

@@ -1,7 +1,7 @@
 pub mod Keys
 pub mod Places
+pub mod Inventory
 pub mod Planned
-pub mod Orderly
 pub mod Changes
 pub mod Plans
 pub mod Checks

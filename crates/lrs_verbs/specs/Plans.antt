@@ -1,14 +1,13 @@
 -- What the plan of a command says of the ground.
-use Rattle.std.specs.Prelude.{◌≡◌, ◌+◌, ◌≤◌, true, [], length, None, Result, Ok, Err, ⊤}
+use Rattle.std.specs.Prelude.{◌≡◌, ◌+◌, [], length, None, Result, Ok, Err, ⊤}
 use Rattle.lrs_measure.specs.Texts.{Name}
 use Rattle.lrs_element.specs.Course.{Millimetre}
 use Rattle.lrs_machine.specs.declared.answer.Cause.{Cause}
 use Rattle.lrs_machine.specs.declared.command.Command.{Command}
 use Rattle.lrs_machine.specs.declared.image.Image.{Image}
-use Rattle.lrs_machine.specs.Bounds.{most_assets, most_routes}
 use Rattle.lrs_machine.specs.Image.{state_of}
-use Rattle.lrs_machine.specs.Machine.{attempt, needs_asset, needs_route}
-use Rattle.lrs_verbs.specs.Orderly.{IsOrderly}
+use Rattle.lrs_machine.specs.Machine.{attempt}
+use Rattle.lrs_orderly.specs.Made.{Makes}
 use Rattle.lrs_keep.specs.declared.change.Difference.{Difference}
 use Rattle.lrs_keep.specs.Change.{no_difference, with_difference, CanDiffer}
 use Rattle.lrs_verbs.specs.declared.plan.Plan.{Plan}
@@ -30,27 +29,21 @@ Answers r (Ok x) = r ≡ Ok x
 Answers r (Err (Refused c)) = r ≡ Err c
 Answers r (Err Memory) = ⊤
 
--- There is room for what the command needs.
-pub record HasRoomFor (command : Command) (i : Image) : Type 0 where
-  pub assets : needs_asset command ≡ true → length i.assets + 1 ≤ most_assets
-  pub routes : needs_route command ≡ true → length i.routes + 1 ≤ most_routes
-
--- The plan says what becomes of the ground that routes run over, and of where referents stand.
-pub record IsIndexed (p : Plan) (i : Image) : Type 0 where
+-- The plan tells what becomes of the ground that routes run over, and of where referents stand.
+pub record TellsGround (p : Plan) (i : Image) : Type 0 where
   pub ground : (m : Millimetre) → route_on (with_difference p.difference i).routes m ≡ ground_after p.ground (route_on i.routes) m
   pub can_ground : CanChangeGround p.ground (route_on i.routes)
   pub referents : (name : Name) → (state_of (with_difference p.difference i)).referents name ≡ referents_after p.referents (state_of i).referents name
   pub new_referent : IsNewReferent p.referents.come (state_of i).referents
 
 -- The plan makes of an image what the command makes of the ground, and keeps its rows in order.
-pub record Makes (command : Command) (i : Image) (p : Plan) : Type 0 where
-  pub state : attempt (length i.edits + 1) command (state_of i) ≡ Ok (state_of (with_difference p.difference i))
-  pub orderly : HasRoomFor command i → IsOrderly (with_difference p.difference i)
+pub record IsPlanOf (command : Command) (i : Image) (p : Plan) : Type 0 where
+  pub makes : Makes command i (with_difference p.difference i)
   pub differ : CanDiffer p.difference i
-  pub indexed : IsIndexed p i
+  pub tells : TellsGround p i
 
 -- This plan makes what the command makes, or it is refused for this cause, or memory has run out.
 abbrev pub Plans : Command → Image → Result Plan Stop → Type 0
-Plans command i (Ok p) = Makes command i p
+Plans command i (Ok p) = IsPlanOf command i p
 Plans command i (Err (Refused c)) = attempt (length i.edits + 1) command (state_of i) ≡ Err c
 Plans command i (Err Memory) = ⊤

@@ -1,7 +1,7 @@
 //! What a verb gives: what its command changes, or why it does not act.
 
-ghost use Rattle.std.specs.Prelude.{◌≡◌, if◌then◌else◌, [], None, Ok, Err};
-ghost use Rattle.lrs_keep.specs.Change.{no_difference};
+ghost use Rattle.std.specs.Prelude.{◌≡◌, if◌then◌else◌, Ok, Err};
+ghost use Rattle.lrs_verbs.specs.Plans.{no_plan};
 
 use lrs_element::Piece;
 use lrs_keep::Difference;
@@ -99,10 +99,7 @@ pub struct Plan {
 impl Plan {
     /// The plan that changes nothing. It takes no memory.
     pub fn none(alloc: Global) -> Plan
-        ensures difference { result.difference ≡ no_difference }
-        ensures ground { result.ground ≡ None }
-        ensures come { result.referents.come ≡ None }
-        ensures gone { result.referents.gone ≡ [] }
+        ensures { result ≡ no_plan }
     {
         Plan {
             difference: Difference::none(alloc),
