@@ -10,9 +10,9 @@ use Rattle.std.proofs.lemmas.List.Elements.{All-from_recursion}
 use Rattle.lrs_element.specs.declared.link.Piece.{Piece}
 use Rattle.lrs_element.specs.declared.link.Ground.{Ground}
 use Rattle.lrs_element.specs.Course.{Millimetre, expand, course_of, runs_over, is_at}
-use Rattle.lrs_index.specs.Occupied.{Stretches, millimetre_cmp, is_occupied, is_shared, is_run_once, begins_at}
+use Rattle.lrs_index.specs.Ground.{Stretches, millimetre_cmp, is_shared, is_run_once, begins_at}
 use Rattle.lrs_index.proofs.Order.{tie, ties}
-use Rattle.lrs_index.proofs.Sharing.{same_test}
+use Rattle.lrs_index.proofs.Sharing.{same_test, is_taken}
 
 -- an element that passes the test, with what is true of each
 pub record Passing {X : Type 0} (test : X → Bool) (P : X → Type 0) (xs : List X) : Type 0 where
@@ -51,7 +51,7 @@ none_passes test xs h = list_any_none test xs (λ k d lt. fails_before_first tes
 
 -- no piece shares ground
 pub none_shared : (kept : Stretches) (ps : List Piece) (first : Option ℕ) → first ≡ position (λ p. is_shared kept (expand p)) ps → is_some first ≡ false → is_shared kept (course_of ps) ≡ false
-none_shared kept ps None e h = any_course (λ g. is_occupied kept (g.link, g.mm)) ps ∙ none_passes (λ p. is_shared kept (expand p)) ps (sym e)
+none_shared kept ps None e h = any_course (λ g. is_taken kept (g.link, g.mm)) ps ∙ none_passes (λ p. is_shared kept (expand p)) ps (sym e)
 none_shared kept ps (Some i) e h = absurd (cc h)
 
 -- ---- where pieces begin

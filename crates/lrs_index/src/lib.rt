@@ -1,9 +1,9 @@
-//! Which ground is run over, found by search.
+//! The index of ground: which route runs over which ground, found by search.
 #![tactic(auto)]
 
-mod occupied;
+mod ground;
 
-pub use occupied::OccupiedGround;
+pub use ground::GroundIndex;
 
 #[cfg(test)]
 mod tests;
