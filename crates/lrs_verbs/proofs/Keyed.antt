@@ -39,16 +39,14 @@ IsIndex-push keys edits e h none = record {
     differs q apart = texts_ties e.key q ∙ (eq_by_cmp_equiv nat_list_cmp_total).symm e.key q ∙ apart
 
 -- What was put in is taken out.
-pub IsIndex-undo : (keys : FinMap name_cmp ℕ) (edits : List Edit) (key : Name) (n : ℕ) → IsIndex keys edits → place_among edits key ≡ None → IsIndex (remove (insert keys key n) key) edits
-IsIndex-undo keys edits key n h none = record {
-  at = λ q.
-      get-remove nat_list_cmp_total (insert keys key n) key q
-      ∙ ap (cond (eq_by_cmp name_cmp q key) None) (get-insert nat_list_cmp_total keys key n q)
-      ∙ elim (eq_by_cmp name_cmp q key) as (λ b. eq_by_cmp name_cmp q key ≡ b → cond b None (cond b (Some n) (get keys q)) ≡ place_among edits q) [
-        | true ↦ λ same. sym (ap (place_among edits) (names_exact q key ((Equal-is _).0 same)) ∙ none)
-        | false ↦ λ apart. h.at q
-      ] refl;
-}
+pub key_back : (keys : FinMap name_cmp ℕ) (key : Name) (n : ℕ) (q : Name) → get keys key ≡ None → get (remove (insert keys key n) key) q ≡ get keys q
+key_back keys key n q none =
+    get-remove nat_list_cmp_total (insert keys key n) key q
+    ∙ ap (cond (eq_by_cmp name_cmp q key) None) (get-insert nat_list_cmp_total keys key n q)
+    ∙ elim (eq_by_cmp name_cmp q key) as (λ b. eq_by_cmp name_cmp q key ≡ b → cond b None (cond b (Some n) (get keys q)) ≡ get keys q) [
+      | true ↦ λ same. sym (ap (get keys) (names_exact q key ((Equal-is _).0 same)) ∙ none)
+      | false ↦ λ apart. refl
+    ] refl
 
 -- The index of the first edits, with the key of the next.
 pub IsIndex-next : (keys : FinMap name_cmp ℕ) (edits : List Edit) (i : ℕ) (d : Edit) → i < length edits → each_two (λ d e. not (same_name d.key e.key)) edits ≡ true → IsIndex keys (take i edits)

@@ -1,5 +1,5 @@
 -- Look-ups in an image, beside those in its state.
-use Rattle.std.proofs.Common.{◌≡◌, ℕ, ◌+◌, ◌<◌, List, [], ◌∷◌, map, length, Option, Some, None, refl, sym, ap, ◌∙◌}
+use Rattle.std.proofs.Common.{◌≡◌, ℕ, zero, suc, ◌+◌, ◌<◌, List, [], ◌∷◌, map, length, get_or, Option, Some, None, refl, sym, ap, ◌∙◌, arith}
 use Rattle.std.specs.List.{position, find}
 use Rattle.std.specs.Option.{option_map}
 use Rattle.std.specs.Ordering.{nat_cmp, is_eq, eq_by_cmp}
@@ -12,35 +12,74 @@ use Rattle.lrs_machine.specs.declared.image.Image.{Image}
 use Rattle.lrs_machine.specs.declared.image.RouteEntry.{RouteEntry}
 use Rattle.lrs_machine.specs.Image.{state_of, link_entry, asset_entry, route_entry}
 use Rattle.lrs_machine.specs.Machine.{place_of_key, line_at}
+use Rattle.lrs_machine.specs.State as state
+use Rattle.lrs_position.specs.Locating.{Alignment}
+use Rattle.lrs_element.specs.declared.link.Link.{Link}
 use Rattle.lrs_machine.specs.Register.{get}
 use Rattle.lrs_events.specs.declared.class.Class.{Class}
+use Rattle.lrs_events.specs.declared.class.Asset.{Asset}
 use Rattle.lrs_events.specs.declared.class.Kind.{Kind}
 use Rattle.lrs_keep.specs.Change.{is_named}
 use Rattle.lrs_verbs.proofs.NamedEntries.{names_exact}
+use Rattle.lrs_verbs.specs.Keys.{place_among}
+use Rattle.lrs_verbs.proofs.Positions.{position-map}
 use Rattle.lrs_verbs.proofs.Filed.{find_row, find_entry}
 
 abbrev class_entry : Class → Name × Kind
 class_entry c = (c.name, c.kind)
 
 module _ (i : Image) where
-  pub link_found : (n : ℕ) → get (state_of i).links n ≡ option_map (λ l. l.length) (find (λ l. is_eq (nat_cmp l.number n)) i.links)
+  link_found : (n : ℕ) → option_map (λ l. l.length) (find (λ l. is_eq (nat_cmp l.number n)) i.links) ≡ get (state_of i).links n
   unfolding state_of
-  link_found n = find_row nat_cmp_total nat_cmp-IsAntisymmetric link_entry i.links n
+  link_found n = sym (find_row nat_cmp_total nat_cmp-IsAntisymmetric link_entry i.links n)
 
-  pub class_found : (name : Name) → get (state_of i).classes name ≡ option_map (λ c. c.kind) (find (λ c. is_eq (name_cmp c.name name)) i.classes)
+  class_found : (name : Name) → option_map (λ c. c.kind) (find (λ c. is_eq (name_cmp c.name name)) i.classes) ≡ get (state_of i).classes name
   unfolding state_of
-  class_found name = find_row nat_list_cmp_total names_exact class_entry i.classes name
+  class_found name = sym (find_row nat_list_cmp_total names_exact class_entry i.classes name)
 
-  pub asset_found : (n : ℕ) → option_map (λ a. (n, a)) (get (state_of i).assets n) ≡ option_map asset_entry (find (λ a. is_eq (nat_cmp a.number n)) i.assets)
+  asset_found : (n : ℕ) → option_map asset_entry (find (λ a. is_eq (nat_cmp a.number n)) i.assets) ≡ option_map (λ a. (n, a)) (get (state_of i).assets n)
   unfolding state_of
-  asset_found n = find_entry nat_cmp_total nat_cmp-IsAntisymmetric asset_entry i.assets n
+  asset_found n = sym (find_entry nat_cmp_total nat_cmp-IsAntisymmetric asset_entry i.assets n)
 
-  pub route_found : (name : Name) → option_map (λ a. (name, a)) (get (state_of i).routes name) ≡ option_map route_entry (find (λ e. is_eq (name_cmp e.route.name name)) i.routes)
+  route_found : (name : Name) → option_map route_entry (find (λ e. is_eq (name_cmp e.route.name name)) i.routes) ≡ option_map (λ a. (name, a)) (get (state_of i).routes name)
   unfolding state_of
-  route_found name = find_entry nat_list_cmp_total names_exact route_entry i.routes name
+  route_found name = sym (find_entry nat_list_cmp_total names_exact route_entry i.routes name)
 
-  same_test : (name : Name) (es : List RouteEntry) → find (λ e. is_eq (name_cmp e.route.name name)) es ≡ find (is_named name) es
-  same_test name es = λ j. find (λ e. sym (texts_ties e.route.name name) j) es
+  row_found : (name : Name) → find (λ e. is_eq (name_cmp e.route.name name)) i.routes ≡ find (is_named name) i.routes
+  row_found name = λ j. find (λ e. sym (texts_ties e.route.name name) j) i.routes
 
-  pub row_found : (name : Name) → find (λ e. is_eq (name_cmp e.route.name name)) i.routes ≡ find (is_named name) i.routes
-  row_found name = same_test name i.routes
+-- ... for what is found in the lists that are seen as the image
+module _ (i seen : Image) (is : i ≡ seen) where
+  pub link_of : (n : ℕ) (o : Option Link) → o ≡ find (λ l. is_eq (nat_cmp l.number n)) i.links → option_map (λ l. l.length) o ≡ get (state_of seen).links n
+  link_of n o e = ap (option_map (λ (l : Link). l.length)) e ∙ link_found i n ∙ ap (λ (j : Image). get (state_of j).links n) is
+
+  pub class_of : (name : Name) (o : Option Class) → o ≡ find (λ c. is_eq (name_cmp c.name name)) i.classes → option_map (λ c. c.kind) o ≡ get (state_of seen).classes name
+  class_of name o e = ap (option_map (λ (c : Class). c.kind)) e ∙ class_found i name ∙ ap (λ (j : Image). get (state_of j).classes name) is
+
+  pub asset_of : (n : ℕ) (o : Option Asset) → o ≡ find (λ a. is_eq (nat_cmp a.number n)) i.assets → option_map asset_entry o ≡ option_map (λ a. (n, a)) (get (state_of seen).assets n)
+  asset_of n o e = ap (option_map asset_entry) e ∙ asset_found i n ∙ ap (λ (j : Image). option_map (λ (a : state.Asset). (n, a)) (get (state_of j).assets n)) is
+
+  pub row_of : (name : Name) (o : Option RouteEntry) → o ≡ find (λ e. is_eq (name_cmp e.route.name name)) i.routes → o ≡ find (is_named name) seen.routes
+  row_of name o e = e ∙ row_found i name ∙ ap (λ (j : Image). find (is_named name) j.routes) is
+
+  pub route_of : (name : Name) (o : Option RouteEntry) → o ≡ find (λ e. is_eq (name_cmp e.route.name name)) i.routes → option_map route_entry o ≡ option_map (λ a. (name, a)) (get (state_of seen).routes name)
+  route_of name o e = ap (option_map route_entry) e ∙ route_found i name ∙ ap (λ (j : Image). option_map (λ (a : Alignment). (name, a)) (get (state_of j).routes name)) is
+
+-- ---- edits
+
+-- an edit as the ground machine keeps it
+abbrev kept_edit : Edit → state.Edit
+kept_edit e = record { key = e.key; line = e.line }
+
+pub place_of : (i : Image) (key : Name) → place_among i.edits key ≡ place_of_key key (state_of i).done
+unfolding state_of
+place_of i key = sym (position-map kept_edit (λ (e : state.Edit). same_name e.key key) i.edits)
+
+pub line_of : (i : Image) (place : ℕ) (e : Edit) → place < length i.edits → e ≡ get_or i.edits place e → e.line ≡ line_at place (state_of i).done
+unfolding state_of
+line_of i place e within is = by i.edits place within is
+  where
+    by : (es : List Edit) (k : ℕ) → k < length es → e ≡ get_or es k e → e.line ≡ line_at k (map kept_edit es)
+    by [] k h is = absurd (omega (arith, h))
+    by (d ∷ es) zero h is = ap (λ (x : Edit). x.line) is
+    by (d ∷ es) (suc k) h is = by es k (omega (arith, h)) is

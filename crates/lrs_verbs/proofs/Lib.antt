@@ -10,3 +10,6 @@ pub mod NewLink
 pub mod NewClass
 pub mod NewRoute
 pub mod Known
+pub mod Grounds
+pub mod Stopping
+pub mod Indexing

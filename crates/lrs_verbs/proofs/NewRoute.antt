@@ -38,7 +38,8 @@ use Rattle.lrs_machine.proofs.SoundImages.{and_three}
 use Rattle.lrs_keep.specs.Change.{no_difference, with_difference}
 use Rattle.lrs_orderly.specs.Orderly.{IsOrderly}
 use Rattle.lrs_orderly.proofs.Ordering.{sound_is_orderly}
-use Rattle.lrs_verbs.specs.Changes.{is_run_once, route_on, ground_after, CanChangeGround}
+use Rattle.lrs_index.specs.Ground.{is_run_once}
+use Rattle.lrs_verbs.specs.Changes.{route_on, ground_after, CanChangeGround}
 use Rattle.lrs_verbs.specs.Plans.{TellsGround, IsPlanOf}
 use Rattle.lrs_verbs.specs.Checks.{new_course, new_marks, IsEntryOf, route_plan}
 use Rattle.lrs_verbs.proofs.NamedEntries.{names_exact}
@@ -153,7 +154,7 @@ spans_entry e = record { course = e.route.course; rows = e.spans }
 abbrev are_free : RouteCourse → RouteCourse → Bool
 are_free c d = not (meets c.entries d.entries)
 
-at_is : (m : Millimetre) (g : Ground) → is_at m g ≡ true → m ≡ (g.link, g.mm)
+pub at_is : (m : Millimetre) (g : Ground) → is_at m g ≡ true → m ≡ (g.link, g.mm)
 at_is m g h =
     let both = and_parts (nat_eq g.link m.0) (nat_eq g.mm m.1) h in
     λ j. (sym (eqb-true g.link m.0 both.0) j, sym (eqb-true g.mm m.1 both.1) j)
@@ -166,7 +167,7 @@ nothing_taken i pieces h = by (position (λ p. is_taken (state_of i) (expand p))
     by None e k = e
     by (Some x) e k = absurd (cc k)
 
-taken_is : (i : Image) (p : Piece) → is_taken (state_of i) (expand p) ≡ list_any (λ e. meets (expand p) e.route.course) i.routes
+pub taken_is : (i : Image) (p : Piece) → is_taken (state_of i) (expand p) ≡ list_any (λ e. meets (expand p) e.route.course) i.routes
 unfolding state_of
 taken_is i p = list_any-map (λ route. meets (expand p) route.1.course) route_entry i.routes
 
@@ -284,6 +285,7 @@ module _ (e : RouteEntry) (pieces : List Piece) (i : Image) (fresh : list_any (h
         come_filled = filled;
         gone = λ m h. absurd (false≢true h);
         passed = λ m h. absurd (false≢true h);
+        apart = λ m h. refl;
         come = λ m h. ap (option_map (λ (f : RouteEntry). f.route.name)) (none_found (λ f. runs_over f.route.course m) i.routes (alone m (sym (over m) ∙ h)));
         once = ap is_run_once of ∙ runs_once;
       };

@@ -1,9 +1,10 @@
 -- Where an element is first found, as its list grows.
-use Rattle.std.proofs.Common.{◌≡◌, ℕ, ◌+◌, ◌<◌, ◌≤◌, suc, zero, take, Bool, true, false, cond, List, [], ◌∷◌, ◌++◌, length, Option, Some, None, refl, sym, ap, ◌∙◌, arith, length-append}
+use Rattle.std.proofs.Common.{◌≡◌, ℕ, ◌+◌, ◌<◌, ◌≤◌, suc, zero, take, Bool, true, false, cond, List, [], ◌∷◌, ◌++◌, map, length, Option, Some, None, refl, sym, ap, ◌∙◌, arith, length-append}
 use Rattle.std.specs.Prelude.{◌&&◌, nat_eq, nat_lt, not, slice_index_or}
 use Rattle.std.specs.List.{position, position_or_len, prefix_len, list_all}
 use Rattle.std.proofs.lemmas.Bool.{and_parts, and_from}
 use Rattle.std.proofs.lemmas.Bool.Decides.{nat_tests}
+use Rattle.std.proofs.lemmas.List.{length-map}
 use Rattle.std.proofs.lemmas.List.Folds.{prefix_len-append}
 use Rattle.std.proofs.lemmas.List.Sums.{prefix_len-le-length}
 use Rattle.lrs_measure.specs.Lists.{each_two}
@@ -102,3 +103,12 @@ module _ {X : Type 0} (p : X → Bool) where
       at_end : (b : Bool) → nat_lt (position_or_len p xs) (length xs) ≡ b → cond b (Some (position_or_len p xs)) None ≡ None → length xs ≤ position_or_len p xs
       at_end true e k = cc
       at_end false e k = grind (arith, nat_tests)
+
+-- in what is made of the elements
+module _ {X Y : Type 0} (f : X → Y) (p : Y → Bool) where
+  prefix_len-map : (xs : List X) → prefix_len (λ y. not (p y)) (map f xs) ≡ prefix_len (λ x. not (p (f x))) xs
+  prefix_len-map [] = refl
+  prefix_len-map (x ∷ xs) = ap (λ n. cond (not (p (f x))) (1 + n) 0) (prefix_len-map xs)
+
+  pub position-map : (xs : List X) → position p (map f xs) ≡ position (λ x. p (f x)) xs
+  position-map xs = λ j. cond (nat_lt (prefix_len-map xs j) (length-map xs f j)) (Some (prefix_len-map xs j)) None

@@ -1,22 +1,25 @@
 -- Referents as they come into an index.
 use Rattle.std.proofs.Common.{◌≡◌, ℕ, ◌+◌, ◌<◌, ◌≤◌, Bool, true, false, cond, List, [], ◌∷◌, ◌++◌, length, take, get_or, Option, Some, None, refl, sym, ap, subst, ◌∙◌, arith}
-use Rattle.std.specs.Prelude.{is_some, slice_get}
-use Rattle.std.specs.List.{filter_map, flat_map}
+use Rattle.std.specs.Prelude.{◌||◌, is_some, slice_get}
+use Rattle.std.specs.List.{filter_map, flat_map, list_any}
 use Rattle.std.specs.Option.{option_or, option_map}
 use Rattle.std.specs.Ordering.{eq_by_cmp}
 use Rattle.std.specs.Cmp.{Equal-is}
-use Rattle.std.specs.Cmp.Lexicographic.{nat_list_cmp_total}
-use Rattle.std.specs.FinMap.{empty, insert, get, find, get-empty, get-insert}
-use Rattle.std.proofs.lemmas.List.{take_more, append-nil}
+use Rattle.std.specs.Cmp.Lexicographic.{nat_list_cmp_total, texts_ties, bytes_decides}
+use Rattle.std.specs.FinMap.{empty, insert, remove, get, find, get-empty, get-insert, get-remove}
+use Rattle.std.proofs.lemmas.List.{take_more, take_all, append-nil}
+use Rattle.std.proofs.lemmas.List.Folds.{list_any-append}
 use Rattle.std.proofs.lemmas.Option.{slice_get_past}
 use Rattle.std.proofs.lemmas.List.Elements.{filter_map-append}
 use Rattle.std.proofs.lemmas.List.Concat.{flat_map-append}
-use Rattle.lrs_measure.specs.Texts.{Name, name_cmp}
+use Rattle.lrs_measure.specs.Texts.{Name, name_cmp, same_name}
 use Rattle.lrs_element.specs.declared.link.Ground.{Ground}
 use Rattle.lrs_element.specs.Course.{Millimetre, ground_at}
 use Rattle.lrs_position.specs.declared.route.Referent.{Referent}
 use Rattle.lrs_machine.specs.declared.image.RouteEntry.{RouteEntry}
 use Rattle.lrs_machine.specs.Image.{referent_entry, referents_on}
+use Rattle.lrs_verbs.specs.declared.plan.ReferentPlace.{ReferentPlace}
+use Rattle.lrs_verbs.specs.Changes.{with_referent, without_referent, IsNewReferent}
 use Rattle.lrs_verbs.specs.Places.{Places, referent_among, IsPlaced, HaveCome}
 use Rattle.lrs_verbs.proofs.NamedEntries.{names_exact}
 
@@ -119,3 +122,42 @@ come_routes es i e a b c within is h k =
 
 pub all_placed : (es : List RouteEntry) (s : Places) → HaveCome empty s (flat_map referents_on es) → IsPlaced s (referent_among es)
 all_placed es s h = record { at = λ name. h.at name ∙ ap (λ o. option_or o (referent_among es name)) (get-empty name_cmp name) }
+
+-- ---- referents that come and go
+
+module _ (s : Places) (r : ReferentPlace) (name : Name) where
+  pub put_in_is : get (insert s r.name (r.link, r.mm)) name ≡ with_referent (Some r) (get s) name
+  put_in_is = get-insert nat_list_cmp_total s r.name (r.link, r.mm) name ∙ ap (λ b. cond b (Some (r.link, r.mm)) (get s name)) (sym (texts_ties name r.name))
+
+  pub taken_out_is : get (remove s r.name) name ≡ without_referent (Some r) (get s) name
+  taken_out_is = get-remove nat_list_cmp_total s r.name name ∙ ap (λ b. cond b None (get s name)) (sym (texts_ties name r.name))
+
+-- what came is out again
+pub referents_back : (come : Option ReferentPlace) (stands : Name → Option Millimetre) (name : Name) → IsNewReferent come stands → without_referent come (with_referent come stands) name ≡ stands name
+referents_back None stands name new = refl
+referents_back (Some r) stands name new = by (same_name name r.name) refl
+  where
+    by : (b : Bool) → same_name name r.name ≡ b → cond b None (cond b (Some (r.link, r.mm)) (stands name)) ≡ stands name
+    by true is = sym (ap stands ((bytes_decides name r.name).0 is) ∙ new)
+    by false is = refl
+
+-- those of some names are out
+abbrev pub out_of : List Name → (Name → Option Millimetre) → Name → Option Millimetre
+out_of names stands name = cond (list_any (same_name name) names) None (stands name)
+
+pub out_more : (names : List Name) (i : ℕ) (n : Name) (first old new : Places) → i < length names → n ≡ get_or names i n → ((name : Name) → get old name ≡ out_of (take i names) (get first) name) → new ≡ remove old n
+    → (name : Name) → get new name ≡ out_of (take (i + 1) names) (get first) name
+out_more names i n first old new within is h next name =
+    ap (λ (s : Places). get s name) next ∙ get-remove nat_list_cmp_total old n name ∙ ap (λ b. cond b None (get old name)) (sym (texts_ties name n))
+    ∙ ap (cond (same_name name n) None) (h name)
+    ∙ either (same_name name n) (list_any (same_name name) (take i names)) (get first name)
+    ∙ ap (λ b. cond b None (get first name)) (sym (ap (list_any (same_name name)) (take_more names i n within ∙ ap (λ x. take i names ++ x ∷ []) (sym is)) ∙ list_any-append (same_name name) (take i names) (n ∷ [])))
+  where
+    either : (a b : Bool) (o : Option Millimetre) → cond a None (cond b None o) ≡ cond (b || (a || false)) None o
+    either true true o = refl
+    either true false o = refl
+    either false true o = refl
+    either false false o = refl
+
+pub out_all : (names : List Name) (i : ℕ) (first last : Places) → length names ≤ i → ((name : Name) → get last name ≡ out_of (take i names) (get first) name) → (name : Name) → get last name ≡ out_of names (get first) name
+out_all names i first last past h name = h name ∙ ap (λ (ns : List Name). out_of ns (get first) name) (take_all i names past)

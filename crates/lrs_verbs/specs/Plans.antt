@@ -4,11 +4,13 @@ use Rattle.lrs_measure.specs.Texts.{Name}
 use Rattle.lrs_element.specs.Course.{Millimetre}
 use Rattle.lrs_machine.specs.declared.answer.Cause.{Cause}
 use Rattle.lrs_machine.specs.declared.command.Command.{Command}
+use Rattle.lrs_machine.specs.declared.image.Edit.{Edit}
 use Rattle.lrs_machine.specs.declared.image.Image.{Image}
 use Rattle.lrs_machine.specs.Image.{state_of}
 use Rattle.lrs_machine.specs.Machine.{attempt}
 use Rattle.lrs_orderly.specs.Made.{Makes}
 use Rattle.lrs_keep.specs.declared.change.Difference.{Difference}
+use Rattle.lrs_keep.specs.declared.change.Change.{Change}
 use Rattle.lrs_keep.specs.Change.{no_difference, with_difference, CanDiffer}
 use Rattle.lrs_verbs.specs.declared.plan.Plan.{Plan}
 use Rattle.lrs_verbs.specs.declared.plan.Stop.{Stop}
@@ -22,6 +24,10 @@ plan_of d = record { difference = d; ground = None; referents = record { come = 
 -- the plan that changes nothing
 abbrev pub no_plan : Plan
 no_plan = plan_of no_difference
+
+-- what is kept of a plan, by this edit
+abbrev pub change_of : Edit → Plan → Change
+change_of e p = record { edit = e; difference = p.difference }
 
 -- The answer of a check, where memory does not run out.
 abbrev pub Answers : {X : Type 0} → Result X Cause → Result X Stop → Type 0

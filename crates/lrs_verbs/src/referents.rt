@@ -1,11 +1,14 @@
 //! The ground millimetres of referents, found by their names.
 
-ghost use Rattle.std.specs.Prelude.{◌≡◌, OnOk, OnErr, IfOk, [], ◌∷◌};
-ghost use Rattle.std.specs.List.{filter_map};
+ghost use Rattle.std.specs.Prelude.{◌≡◌, OnOk, OnErr, IfOk, [], ◌∷◌, None, if◌then◌else◌};
+ghost use Rattle.std.specs.List.{filter_map, list_any};
 ghost use Rattle.std.specs.FinMap as map;
+ghost use Rattle.lrs_measure.specs.Texts.{Name, same_name};
 ghost use Rattle.lrs_machine.specs.Image.{referent_entry};
+ghost use Rattle.lrs_verbs.specs.Changes.{with_referent, without_referent};
 ghost use Rattle.lrs_verbs.specs.Places.{referent_among, IsPlaced, HaveCome};
 
+use crate::plan::ReferentPlace;
 use lrs_element::Course;
 use lrs_machine::RouteEntry;
 use lrs_position::{RefName, Referent};
@@ -105,5 +108,37 @@ impl ReferentIndex {
         ensures { self.new ≡ map.remove self.old name.now }
     {
         self.places.remove(name);
+    }
+
+    /// Puts a referent in, if there is one.
+    ///
+    /// # Errors
+    /// When memory runs out; the referents are then as they were.
+    pub fn put_in(&mut self, come: &Option<ReferentPlace>) -> Result<(), AllocError>
+        ensures ok { OnOk result ((name : Name) → map.get self.new name ≡ with_referent come.now (map.get self.old) name) }
+        ensures err { OnErr result (self.new ≡ self.old) }
+    {
+        if let Some(referent) = come {
+            self.insert(referent.name, (referent.link, referent.mm))?;
+        }
+        Ok(())
+    }
+
+    /// Takes a referent out, if there is one. It takes no memory.
+    pub fn take_out(&mut self, come: &Option<ReferentPlace>)
+        ensures { (name : Name) → map.get self.new name ≡ without_referent come.now (map.get self.old) name }
+    {
+        if let Some(referent) = come {
+            self.remove(&referent.name);
+        }
+    }
+
+    /// Takes the referents of these names out. It takes no memory.
+    pub fn remove_all(&mut self, names: &[RefName])
+        ensures { (name : Name) → map.get self.new name ≡ (if list_any (same_name name) names.now then None else map.get self.old name) }
+    {
+        for name in names {
+            self.remove(name);
+        }
     }
 }

@@ -1,0 +1,78 @@
+//! A new route.
+
+ghost use Rattle.std.specs.Prelude.{◌≡◌, IfOk, None, length};
+ghost use Rattle.lrs_element.specs.Marks.{bad_mark};
+ghost use Rattle.lrs_machine.specs.declared.command.Command.TheVariants as verb;
+ghost use Rattle.lrs_verbs.specs.Checks.{IsEntryOf, BringsRoute};
+ghost use Rattle.lrs_verbs.specs.Plans.{Plans};
+
+use crate::inventory::Inventory;
+use crate::plan::{GroundChange, Plan, Stop, refuse_if};
+use crate::verbs::checks::{check_free, new_marks};
+use lrs_element::{Course, Mark, Marks, Piece};
+use lrs_keep::Difference;
+use lrs_machine::{Cause, RouteEntry};
+use lrs_measure::Rows;
+use lrs_position::{Route, RouteName};
+use lrs_spans::Spans;
+use std::alloc::{AllocError, Global};
+
+pub fn plan_route(
+    alloc: Global,
+    inventory: &Inventory,
+    name: RouteName,
+    pieces: &[Piece],
+    marks: &[Mark],
+) -> Result<Plan, Stop>
+    ensures { Plans (verb.Route name pieces.now marks.now) inventory.now result }
+{
+    inventory.is_sound();
+    let is_known = inventory.route(&name).is_some();
+    refuse_if(is_known, Cause::RouteKnown)?;
+    let course = inventory.course(alloc, pieces)?;
+    check_free(inventory, pieces)?;
+    let marks = new_marks(alloc, marks, course.len())?;
+    let plan = bring_route(alloc, new_entry(alloc, name, course, marks))?;
+    Ok(plan)
+}
+
+/// A route of this name, course and measure line, on which nothing lies.
+fn new_entry(alloc: Global, name: RouteName, course: Course, marks: Marks) -> RouteEntry
+    requires fit { bad_mark (length course) marks ≡ None }
+    ensures { IsEntryOf name course marks result }
+{
+    // It is not too long.
+    let _len = course.len();
+    let route = Route {
+        name,
+        course,
+        marks,
+        refs: Rows::new(alloc),
+    };
+    RouteEntry {
+        route,
+        spans: Spans::empty(alloc),
+    }
+}
+
+/// The plan by which a route comes, with its ground.
+fn bring_route(alloc: Global, entry: RouteEntry) -> Result<Plan, AllocError>
+    ensures { IfOk result (BringsRoute entry) }
+{
+    let come = Rows::from_vec(Vec::from_slice(alloc, entry.route.course.pieces())?);
+    let ground = GroundChange {
+        route: entry.route.name,
+        gone: Rows::new(alloc),
+        passed: Rows::new(alloc),
+        come,
+    };
+    let none = Plan::none(alloc);
+    Ok(Plan {
+        difference: Difference {
+            made: Some(entry),
+            ..none.difference
+        },
+        ground: Some(ground),
+        referents: none.referents,
+    })
+}
