@@ -6,6 +6,7 @@ use Rattle.std.specs.Ordering.{nat_cmp, is_eq, eq_by_cmp}
 use Rattle.std.specs.Cmp.Lexicographic.{nat_list_cmp_total, texts_ties}
 use Rattle.std.specs.FinMap.{nat_cmp-IsAntisymmetric}
 use Rattle.std.proofs.lemmas.Cmp.{nat_cmp_total}
+use Rattle.std.proofs.lemmas.List.Quantifiers.{position-Some}
 use Rattle.lrs_measure.specs.Texts.{Name, name_cmp, same_name}
 use Rattle.lrs_machine.specs.declared.image.Edit.{Edit}
 use Rattle.lrs_machine.specs.declared.image.Image.{Image}
@@ -71,15 +72,29 @@ module _ (i seen : Image) (is : i ≡ seen) where
 abbrev kept_edit : Edit → state.Edit
 kept_edit e = record { key = e.key; line = e.line }
 
-pub place_of : (i : Image) (key : Name) → place_among i.edits key ≡ place_of_key key (state_of i).done
+place_of : (i : Image) (key : Name) → place_among i.edits key ≡ place_of_key key (state_of i).done
 unfolding state_of
 place_of i key = sym (position-map kept_edit (λ (e : state.Edit). same_name e.key key) i.edits)
 
-pub line_of : (i : Image) (place : ℕ) (e : Edit) → place < length i.edits → e ≡ get_or i.edits place e → e.line ≡ line_at place (state_of i).done
+-- the number of a key's edit
+pub number_of : (i seen : Image) → i ≡ seen → (key : Name) (o : Option ℕ) → o ≡ place_among i.edits key → option_map (λ place. place + 1) o ≡ option_map (λ place. place + 1) (place_of_key key (state_of seen).done)
+number_of i seen is key o e = ap (option_map (λ (place : ℕ). place + 1)) (e ∙ place_of i key) ∙ ap (λ (j : Image). option_map (λ (place : ℕ). place + 1) (place_of_key key (state_of j).done)) is
+
+line_at-edit : (i : Image) (place : ℕ) (e : Edit) → place < length i.edits → e ≡ get_or i.edits place e → e.line ≡ line_at place (state_of i).done
 unfolding state_of
-line_of i place e within is = by i.edits place within is
+line_at-edit i place e within is = by i.edits place within is
   where
     by : (es : List Edit) (k : ℕ) → k < length es → e ≡ get_or es k e → e.line ≡ line_at k (map kept_edit es)
     by [] k h is = absurd (omega (arith, h))
     by (d ∷ es) zero h is = ap (λ (x : Edit). x.line) is
     by (d ∷ es) (suc k) h is = by es k (omega (arith, h)) is
+
+-- ... and its line
+pub line_of : (i seen : Image) → i ≡ seen → (key : Name) (place other : ℕ) (e : Edit) → Some place ≡ place_among i.edits key → e ≡ get_or i.edits place e → place + 1 ≡ other + 1 → e.line ≡ line_at other (state_of seen).done
+line_of i seen is key place other e found at same =
+    let within = (position-Some (λ (d : Edit). same_name d.key key) i.edits place e (sym found)).0 in
+    let eq : place ≡ other = omega (arith, same) in
+    line_at-edit i place e within at ∙ ap (λ (k : ℕ). line_at k (state_of i).done) eq ∙ ap (λ (j : Image). line_at other (state_of j).done) is
+
+pub place_within : (i : Image) (key : Name) (place : ℕ) (e : Edit) → Some place ≡ place_among i.edits key → place < length i.edits
+place_within i key place e found = (position-Some (λ (d : Edit). same_name d.key key) i.edits place e (sym found)).0

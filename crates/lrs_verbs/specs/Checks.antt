@@ -1,12 +1,10 @@
 -- What the checks of pieces and marks give where they pass.
 use Rattle.std.specs.Prelude.{◌≡◌, ℕ, List, [], length, Some, Result, Ok}
-use Rattle.std.specs.List.{AllByRecursion}
 use Rattle.lrs_measure.specs.Texts.{Name}
 use Rattle.lrs_element.specs.declared.link.Piece.{Piece}
 use Rattle.lrs_element.specs.declared.link.Ground.{Ground}
 use Rattle.lrs_element.specs.declared.marks.Mark.{Mark}
 use Rattle.lrs_element.specs.Course.{course_of, is_too_long}
-use Rattle.lrs_element.specs.Pieces.{IsFilled}
 use Rattle.lrs_machine.specs.declared.answer.Cause.{Cause}
 use Rattle.lrs_machine.specs.declared.answer.Cause.TheVariants as cause
 use Rattle.lrs_machine.specs.declared.image.RouteEntry.{RouteEntry}
@@ -40,10 +38,3 @@ pub record IsEntryOf (route : Name) (ground : List Ground) (line : List Mark) (e
 -- the plan by which this route comes, over these pieces
 abbrev pub route_plan : RouteEntry → List Piece → Plan
 route_plan e pieces = record (plan_of (record no_difference { made = Some e })) { ground = Some (record { route = e.route.name; gone = []; passed = []; come = pieces }) }
-
--- By the plan this route comes, and its ground.
-pub record BringsRoute (e : RouteEntry) (p : Plan) : Type 0 where
-  pub pieces : List Piece
-  pub plan : p ≡ route_plan e pieces
-  pub course : course_of pieces ≡ e.route.course
-  pub filled : AllByRecursion IsFilled pieces

@@ -1,16 +1,18 @@
 //! A new route.
 
 ghost use Rattle.std.specs.Prelude.{◌≡◌, IfOk, None, length};
+ghost use Rattle.std.specs.List.{AllByRecursion};
+ghost use Rattle.lrs_element.specs.Course.{course_of};
+ghost use Rattle.lrs_element.specs.Pieces.{IsFilled};
 ghost use Rattle.lrs_element.specs.Marks.{bad_mark};
 ghost use Rattle.lrs_machine.specs.declared.command.Command.TheVariants as verb;
-ghost use Rattle.lrs_verbs.specs.Checks.{IsEntryOf, BringsRoute};
+ghost use Rattle.lrs_verbs.specs.Checks.{IsEntryOf, route_plan};
 ghost use Rattle.lrs_verbs.specs.Plans.{Plans};
 
 use crate::inventory::Inventory;
 use crate::plan::{GroundChange, Plan, Stop, refuse_if};
 use crate::verbs::checks::{check_free, new_marks};
 use lrs_element::{Course, Mark, Marks, Piece};
-use lrs_keep::Difference;
 use lrs_machine::{Cause, RouteEntry};
 use lrs_measure::Rows;
 use lrs_position::{Route, RouteName};
@@ -32,8 +34,9 @@ pub fn plan_route(
     let course = inventory.course(alloc, pieces)?;
     check_free(inventory, pieces)?;
     let marks = new_marks(alloc, marks, course.len())?;
-    let plan = bring_route(alloc, new_entry(alloc, name, course, marks))?;
-    Ok(plan)
+    let come = pieces_of(alloc, &course)?;
+    let entry = new_entry(alloc, name, course, marks);
+    Ok(route_plan(alloc, entry, come))
 }
 
 /// A route of this name, course and measure line, on which nothing lies.
@@ -55,24 +58,27 @@ fn new_entry(alloc: Global, name: RouteName, course: Course, marks: Marks) -> Ro
     }
 }
 
-/// The plan by which a route comes, with its ground.
-fn bring_route(alloc: Global, entry: RouteEntry) -> Result<Plan, AllocError>
-    ensures { IfOk result (BringsRoute entry) }
+/// The pieces of a course.
+fn pieces_of(alloc: Global, course: &Course) -> Result<Rows<Piece>, AllocError>
+    ensures course { IfOk result (λ pieces. course_of pieces ≡ course.now) }
+    ensures filled { IfOk result (λ pieces. AllByRecursion IsFilled pieces) }
 {
-    let come = Rows::from_vec(Vec::from_slice(alloc, entry.route.course.pieces())?);
-    let ground = GroundChange {
-        route: entry.route.name,
+    let pieces = Vec::from_slice(alloc, course.pieces())?;
+    Ok(Rows::from_vec(pieces))
+}
+
+/// The plan by which a route comes, with its ground.
+fn route_plan(alloc: Global, entry: RouteEntry, come: Rows<Piece>) -> Plan
+    ensures { result ≡ route_plan entry come }
+{
+    let route = entry.route.name;
+    let mut plan = Plan::none(alloc);
+    plan.ground = Some(GroundChange {
+        route,
         gone: Rows::new(alloc),
         passed: Rows::new(alloc),
         come,
-    };
-    let none = Plan::none(alloc);
-    Ok(Plan {
-        difference: Difference {
-            made: Some(entry),
-            ..none.difference
-        },
-        ground: Some(ground),
-        referents: none.referents,
-    })
+    });
+    plan.difference.made = Some(entry);
+    plan
 }
