@@ -328,3 +328,6 @@ marks_of len marks line h = by (bad_mark len marks) refl h
     by : (o : Option ℕ) → bad_mark len marks ≡ o → (refuse_at o cause.BadMarks >> Ok marks) ≡ Ok line → (bad_mark len marks ≡ None) × (line ≡ marks)
     by None e k = (e, cc)
     by (Some x) e k = absurd (cc k)
+
+pub good_line : (len : ℕ) (marks line : List Mark) → new_marks len marks ≡ Ok line → bad_mark len line ≡ None
+good_line len marks line h = let of = marks_of len marks line h in ap (bad_mark len) of.1 ∙ of.0

@@ -265,7 +265,7 @@ module _ (e : RouteEntry) (pieces : List Piece) (i : Image) (fresh : list_any (h
     over : (m : Millimetre) → runs_over (course_of own) m ≡ runs_over e.route.course m
     over m = ap (λ xs. runs_over xs m) of
 
-    on_ground : (m : Millimetre) → route_on (insert_by route_before e i.routes) m ≡ ground_after (route_plan e own).ground (route_on i.routes) m
+    on_ground : (m : Millimetre) → route_on (insert_by route_before e i.routes) m ≡ ground_after (route_plan e.route.name e own).ground (route_on i.routes) m
     on_ground m =
         ap (option_map (λ (f : RouteEntry). f.route.name)) (find-insert_by (λ f. runs_over f.route.course m) route_before e i.routes (alone m))
         ∙ by (runs_over e.route.course m) (list.find (λ f. runs_over f.route.course m) i.routes)
@@ -275,7 +275,7 @@ module _ (e : RouteEntry) (pieces : List Piece) (i : Image) (fresh : list_any (h
         by true f = refl
         by false f = refl
 
-    tells_ground : TellsGround (route_plan e own) i
+    tells_ground : TellsGround (route_plan e.route.name e own) i
     unfolding state_of
     tells_ground = record {
       ground = on_ground;
@@ -307,8 +307,8 @@ module _ (name : Name) (pieces : List Piece) (marks line : List Mark) (course : 
       (λ j. set_route (sym of.name j) (sym of.course j) (sym (of.marks ∙ (marks_of (length course) marks line marked).1) j) (state_of i))
       ∙ state-with_own e i no_such_name of.refs of.spans
 
-  pub makes : (own : List Piece) → course_of own ≡ e.route.course → AllByRecursion IsFilled own → IsPlanOf (verb.Route name pieces marks) i (route_plan e own)
-  makes own over filled = record {
+  pub makes : (own : List Piece) → course_of own ≡ e.route.course → AllByRecursion IsFilled own → IsPlanOf (verb.Route name pieces marks) i (route_plan name e own)
+  makes own over filled = subst (λ (n : Name). IsPlanOf (verb.Route name pieces marks) i (route_plan n e own)) of.name (record {
     makes = record {
       state = writes name pieces marks i (length i.edits + 1) fresh course is free line marked ∙ ap Ok (same_state ∙ ap state_of (sym (with_difference-route e i)));
       edits = refl;
@@ -316,4 +316,4 @@ module _ (name : Name) (pieces : List Piece) (marks line : List Mark) (course : 
     };
     differ = can_differ (record no_difference { made = Some e }) i refl s;
     tells = tells_ground e pieces i no_such_name made free of.refs of.spans (sound_is_orderly i s) own over filled;
-  }
+  })

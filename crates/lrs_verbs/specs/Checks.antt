@@ -36,5 +36,5 @@ pub record IsEntryOf (route : Name) (ground : List Ground) (line : List Mark) (e
   pub spans : e.spans ≡ []
 
 -- the plan by which this route comes, over these pieces
-abbrev pub route_plan : RouteEntry → List Piece → Plan
-route_plan e pieces = record (plan_of (record no_difference { made = Some e })) { ground = Some (record { route = e.route.name; gone = []; passed = []; come = pieces }) }
+abbrev pub route_plan : Name → RouteEntry → List Piece → Plan
+route_plan name e pieces = record (plan_of (record no_difference { made = Some e })) { ground = Some (record { route = name; gone = []; passed = []; come = pieces }) }

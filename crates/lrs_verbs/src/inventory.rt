@@ -124,7 +124,7 @@ impl Inventory {
             referents,
         } = plan;
         let key = edit.key;
-        let place = self.kept.edits.len() as u64;
+        let place = self.kept.edits.as_slice().len() as u64;
         self.indexes.put_in(key, place, &ground, &referents.come)?;
         match make_change(alloc, &mut self.kept, keeper, Change { edit, difference }) {
             Ok(()) => {

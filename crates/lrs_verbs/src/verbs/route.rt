@@ -36,7 +36,7 @@ pub fn plan_route(
     let marks = new_marks(alloc, marks, course.len())?;
     let come = pieces_of(alloc, &course)?;
     let entry = new_entry(alloc, name, course, marks);
-    Ok(route_plan(alloc, entry, come))
+    Ok(route_plan(alloc, name, entry, come))
 }
 
 /// A route of this name, course and measure line, on which nothing lies.
@@ -68,10 +68,9 @@ fn pieces_of(alloc: Global, course: &Course) -> Result<Rows<Piece>, AllocError>
 }
 
 /// The plan by which a route comes, with its ground.
-fn route_plan(alloc: Global, entry: RouteEntry, come: Rows<Piece>) -> Plan
-    ensures { result ≡ route_plan entry come }
+fn route_plan(alloc: Global, route: RouteName, entry: RouteEntry, come: Rows<Piece>) -> Plan
+    ensures { result ≡ route_plan route entry come }
 {
-    let route = entry.route.name;
     let mut plan = Plan::none(alloc);
     plan.ground = Some(GroundChange {
         route,
