@@ -1,7 +1,7 @@
 -- The index of ground beside the routes, and as ground comes, goes and passes.
-use Rattle.std.proofs.Common.{◌≡◌, ℕ, ◌+◌, ◌<◌, ◌≤◌, Bool, true, false, cond, List, [], ◌∷◌, ◌++◌, length, take, drop, get_or, Option, Some, None, refl, sym, ap, subst, ◌∙◌, append-nil, ⊎_elim}
-use Rattle.std.specs.Prelude.{◌||◌, ◌&&◌, not, nat_le, nat_eq, is_some, position, option_map, map, if◌then◌else◌}
-use Rattle.std.specs.List.{list_any, list_all, find, flat_map, AllByRecursion}
+use Rattle.std.proofs.Common.{◌≡◌, ℕ, ◌+◌, ◌<◌, Bool, true, false, cond, List, [], ◌∷◌, ◌++◌, length, take, drop, get_or, Option, Some, None, refl, sym, ap, subst, ◌∙◌, append-nil, ⊎_elim}
+use Rattle.std.specs.Prelude.{◌||◌, ◌&&◌, not, nat_le, nat_eq, is_some, position, option_map, map}
+use Rattle.std.specs.List.{list_any, list_all, find, flat_map}
 use Rattle.std.specs.Option.{option_or}
 use Rattle.std.proofs.lemmas.Bool.{and_parts, and_from, both_ways, not-true, or_cases, false≢true, eq-eqb}
 use Rattle.std.proofs.lemmas.List.{take_more, take-append-drop}
@@ -14,7 +14,7 @@ use Rattle.lrs_element.specs.declared.link.Piece.{Piece}
 use Rattle.lrs_element.specs.declared.link.Ground.{Ground}
 use Rattle.lrs_element.specs.Course.{Millimetre, course_of, expand, meets, runs_over, is_at}
 use Rattle.lrs_index.specs.Ground.{Stretches, route_over, is_shared, is_run_once, HasGained, AreWhole, StaysWhole}
-use Rattle.lrs_index.specs.Routes.{routes_over, IsGroundOf}
+use Rattle.lrs_index.specs.Routes.{IsGroundOf}
 use Rattle.lrs_index.proofs.Sharing.{same_test}
 use Rattle.lrs_index.proofs.Once.{once_both, front}
 use Rattle.lrs_index.proofs.Pieces.{across, behind}

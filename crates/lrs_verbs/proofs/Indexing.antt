@@ -2,7 +2,7 @@
 use Rattle.std.proofs.Common.{◌≡◌, ℕ, Bool, true, false, cond, length, Option, Some, None, refl, sym, ap, subst, ◌∙◌}
 use Rattle.std.specs.Prelude.{◌||◌, is_some, option_map}
 use Rattle.std.specs.List.{list_any}
-use Rattle.std.specs.FinMap.{FinMap, get, insert, remove}
+use Rattle.std.specs.FinMap.{FinMap, get, remove}
 use Rattle.std.proofs.lemmas.Bool.{false≢true}
 use Rattle.lrs_measure.specs.Texts.{Name, name_cmp, same_name}
 use Rattle.lrs_element.specs.Course.{Millimetre, course_of, runs_over}
@@ -16,9 +16,9 @@ use Rattle.lrs_verbs.specs.declared.plan.GroundChange.{GroundChange}
 use Rattle.lrs_verbs.specs.declared.plan.ReferentPlace.{ReferentPlace}
 use Rattle.lrs_verbs.specs.declared.indexes.Indexes.{Indexes}
 use Rattle.lrs_verbs.specs.Keys.{IsIndex, place_among}
-use Rattle.lrs_verbs.specs.Changes.{route_on, ground_after, CanChange, CanChangeGround, with_referent, without_referent, referents_after, IsNewReferent}
+use Rattle.lrs_verbs.specs.Changes.{route_on, ground_after, CanChange, CanChangeGround, without_referent, referents_after, IsNewReferent}
 use Rattle.lrs_verbs.specs.Plans.{change_of, TellsGround}
-use Rattle.lrs_verbs.specs.Indexes.{IsIndexed, IsReady, IsReadyFor, AreWholeFor, made_by, ground_made, IsPutIn, TellSame}
+use Rattle.lrs_verbs.specs.Indexes.{IsIndexed, IsReadyFor, AreWholeFor, made_by, ground_made, IsPutIn, TellSame}
 use Rattle.lrs_verbs.proofs.Keyed.{IsIndex-push, key_back}
 use Rattle.lrs_verbs.proofs.Standing.{referents_back, out_of}
 

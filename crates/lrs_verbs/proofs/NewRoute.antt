@@ -1,6 +1,6 @@
 -- A new route.
 use Rattle.std.proofs.Common.{◌≡◌, ℕ, ◌+◌, ◌≤◌, Bool, true, false, cond, List, [], length, Option, Some, None, Result, Ok, Err, refl, sym, ap, ◌∙◌, subst, arith}
-use Rattle.std.specs.Prelude.{nat_le, nat_eq, ◌||◌, ◌&&◌, not, if◌then◌else◌}
+use Rattle.std.specs.Prelude.{nat_le, nat_eq, ◌||◌, ◌&&◌, not}
 use Rattle.std.specs.List.{list_any, list_all, position, flat_map, filter_map, AllByRecursion}
 use Rattle.std.specs.List as list
 use Rattle.std.specs.Option.{option_map}
@@ -16,7 +16,7 @@ use Rattle.lrs_measure.specs.Ordered.{insert_by}
 use Rattle.lrs_element.specs.declared.link.Piece.{Piece}
 use Rattle.lrs_element.specs.declared.link.Ground.{Ground}
 use Rattle.lrs_element.specs.declared.marks.Mark.{Mark}
-use Rattle.lrs_element.specs.Course.{Millimetre, expand, course_of, is_at, runs_over, meets, is_bad_piece, is_too_long, first_repeated}
+use Rattle.lrs_element.specs.Course.{Millimetre, expand, course_of, is_at, runs_over, meets, is_too_long}
 use Rattle.lrs_element.specs.Pieces.{IsFilled}
 use Rattle.lrs_position.specs.Routes.{is_route_course, have_marks, are_referents}
 use Rattle.lrs_position.specs.declared.route.Referent.{Referent}
@@ -32,14 +32,14 @@ use Rattle.lrs_machine.specs.Register.{contains_key}
 use Rattle.lrs_machine.specs.Image.{state_of, route_entry, referent_entry, referents_on, holds_on}
 use Rattle.lrs_machine.specs.State.{State}
 use Rattle.lrs_machine.specs.Machine.{attempt, refuse_if, refuse_at, ◌>>◌, ◌>>=◌, check_pieces, check_free, check_marks, set_route, is_taken}
-use Rattle.lrs_machine.specs.Sound.{RouteCourse, course_before, is_course, is_on_a_link, are_courses, courses_of, RouteMarks, RouteReferents, are_all_referents, referents_of, RouteSpans, spans_of, are_spans_of, route_before, IsSound}
+use Rattle.lrs_machine.specs.Sound.{RouteCourse, course_before, is_course, is_on_a_link, are_courses, courses_of, RouteMarks, RouteReferents, are_all_referents, referents_of, RouteSpans, are_spans_of, route_before, IsSound}
 use Rattle.lrs_machine.proofs.Members.{In, any_of, any_found, list_any-map}
 use Rattle.lrs_machine.proofs.SoundImages.{and_three}
 use Rattle.lrs_keep.specs.Change.{no_difference, with_difference}
 use Rattle.lrs_orderly.specs.Orderly.{IsOrderly}
 use Rattle.lrs_orderly.proofs.Ordering.{sound_is_orderly}
 use Rattle.lrs_index.specs.Ground.{is_run_once}
-use Rattle.lrs_verbs.specs.Changes.{route_on, ground_after, CanChangeGround}
+use Rattle.lrs_verbs.specs.Changes.{route_on, ground_after}
 use Rattle.lrs_verbs.specs.Plans.{TellsGround, IsPlanOf}
 use Rattle.lrs_verbs.specs.Checks.{new_course, new_marks, IsEntryOf, route_plan}
 use Rattle.lrs_verbs.proofs.NamedEntries.{names_exact}
@@ -135,7 +135,6 @@ module _ (e : RouteEntry) (i : Image) (fresh : list_any (has_name e.route.name) 
     referents = λ name. find name_cmp name (sym (made-insert_by_none referents_on route_before e i.routes nothing_refers) j);
     holds = λ a p. sym (any-insert_by_other (λ f. holds_on f a p) route_before e i.routes (nothing_held a p)) j;
   }
-
 
 -- ---- the image stays in order
 

@@ -87,7 +87,6 @@ module _ {X : Type 0} where
       let both = and_parts (list_all (test x) xs) (each_two test xs) h in
       and_from (test x (slice_index_or xs i d)) (list_all (λ y. test y (slice_index_or xs i d)) (take i xs)) (all_get (test x) xs i d (omega (arith, within)) both.0) (each_before test xs i d (omega (arith, within)) both.1)
 
-
 module _ {X : Type 0} (p : X → Bool) where
   none_in_front : (xs : List X) → length xs ≤ prefix_len (λ x. not (p x)) xs → list_all (λ x. not (p x)) xs ≡ true
   none_in_front [] h = refl

@@ -1,19 +1,12 @@
 -- Plans that leave the routes as they are.
-use Rattle.std.proofs.Common.{◌≡◌, true, List, [], Option, refl, sym, ap, subst, ◌∙◌}
-use Rattle.std.specs.Prelude.{◌&&◌, not, nat_le, length, None}
-use Rattle.std.specs.List.{list_all}
-use Rattle.std.proofs.lemmas.Bool.{and_parts}
-use Rattle.std.proofs.lemmas.List.{append-nil}
+use Rattle.std.proofs.Common.{◌≡◌, Option, refl, sym, ap, subst, ◌∙◌}
+use Rattle.std.specs.Prelude.{None}
 use Rattle.lrs_measure.specs.Lists.{each_two}
 use Rattle.lrs_element.specs.declared.link.Link.{Link}
-use Rattle.lrs_element.specs.Course.{meets}
 use Rattle.lrs_events.specs.declared.class.Class.{Class}
 use Rattle.lrs_machine.specs.declared.image.Image.{Image}
-use Rattle.lrs_machine.specs.declared.image.RouteEntry.{RouteEntry}
-use Rattle.lrs_machine.specs.Bounds.{most_routes}
 use Rattle.lrs_machine.specs.Image.{state_of}
 use Rattle.lrs_machine.specs.Sound.{route_before, IsSound}
-use Rattle.lrs_machine.proofs.Pairs.{each_two-map}
 use Rattle.lrs_keep.specs.declared.change.RouteChange.{RouteChange}
 use Rattle.lrs_keep.specs.declared.change.Difference.{Difference}
 use Rattle.lrs_keep.specs.Change.{no_difference, routes_after, CanChangeRoute, CanDiffer}

@@ -1,5 +1,5 @@
 -- What the checks of pieces and marks give where they pass.
-use Rattle.std.specs.Prelude.{◌≡◌, ℕ, List, [], length, Some, Result, Ok}
+use Rattle.std.specs.Prelude.{◌≡◌, ℕ, List, [], Some, Result, Ok}
 use Rattle.lrs_measure.specs.Texts.{Name}
 use Rattle.lrs_element.specs.declared.link.Piece.{Piece}
 use Rattle.lrs_element.specs.declared.link.Ground.{Ground}

@@ -1,9 +1,9 @@
 -- Where referents stand, and how a plan changes it.
-use Rattle.std.specs.Prelude.{◌≡◌, if◌then◌else◌, List, Option, Some, None}
-use Rattle.std.specs.List.{list_any, flat_map}
+use Rattle.std.specs.Prelude.{◌≡◌, List, Option}
+use Rattle.std.specs.List.{flat_map}
 use Rattle.std.specs.Option.{option_or}
 use Rattle.std.specs.FinMap.{FinMap, get, find}
-use Rattle.lrs_measure.specs.Texts.{Name, name_cmp, same_name}
+use Rattle.lrs_measure.specs.Texts.{Name, name_cmp}
 use Rattle.lrs_element.specs.Course.{Millimetre}
 use Rattle.lrs_machine.specs.declared.image.RouteEntry.{RouteEntry}
 use Rattle.lrs_machine.specs.Image.{referents_on}

@@ -1,4 +1,4 @@
-use Rattle.std.proofs.Common.{◌≡◌, List, false, ap, sym, subst, ◌∙◌}
+use Rattle.std.proofs.Common.{◌≡◌, List, false, ap, subst, ◌∙◌}
 use Rattle.lrs_element.specs.declared.link.Piece.{Piece}
 use Rattle.lrs_element.specs.Course.{course_of, meets}
 use Rattle.lrs_index.specs.Ground.{is_shared, HasGained, AreWhole}

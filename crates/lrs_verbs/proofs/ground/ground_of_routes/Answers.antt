@@ -1,9 +1,5 @@
-use Rattle.std.proofs.Common.{◌≡◌, List, [], take, ap, sym, subst, ◌∙◌}
-use Rattle.std.proofs.lemmas.List.{take_all}
-use Rattle.lrs_element.specs.declared.link.Ground.{Ground}
+use Rattle.std.proofs.Common.{ap, ◌∙◌}
 use Rattle.lrs_index.specs.Ground.{is_run_once, is_shared}
-use Rattle.lrs_index.specs.Routes.{IsGroundOf}
-use Rattle.lrs_machine.specs.declared.image.RouteEntry.{RouteEntry}
 use Rattle.lrs_verbs.proofs.Grounds.{own_once, own_free, next_ground}
 use Rattle.lrs_verbs.proofs.ground.ground_of_routes.Goals as goal
 

@@ -1,4 +1,4 @@
-use Rattle.std.proofs.Common.{◌≡◌, ℕ, ap, ◌∙◌}
+use Rattle.std.proofs.Common.{ℕ, ap, ◌∙◌}
 use Rattle.std.specs.FinMap.{FinMap, get, remove}
 use Rattle.lrs_measure.specs.Texts.{name_cmp}
 use Rattle.lrs_verbs.specs.Places.{Places}

@@ -1,4 +1,3 @@
-use Rattle.std.proofs.Common.{◌≡◌, ap, ◌∙◌}
 use Rattle.lrs_verbs.proofs.Indexing.{taken_out}
 use Rattle.lrs_verbs.proofs.indexes.Indexes.take_out.Goals as goal
 

@@ -1,4 +1,4 @@
-use Rattle.std.proofs.Common.{ap, sym, ◌∙◌, Some, None}
+use Rattle.std.proofs.Common.{sym, ◌∙◌, Some, None}
 use Rattle.lrs_keep.specs.Kept.{image_of}
 use Rattle.lrs_verbs.proofs.Known.{number_of, line_of}
 use Rattle.lrs_verbs.proofs.inventory.Inventory.edit_of_key.Goals as goal

@@ -1,4 +1,3 @@
-use Rattle.std.proofs.Common.{rules}
 use Rattle.lrs_verbs.proofs.Standing.{come_more}
 use Rattle.lrs_verbs.proofs.referents.ReferentIndex.add_all.Goals as goal
 

@@ -1,4 +1,3 @@
-use Rattle.std.proofs.Common.{refl}
 use Rattle.lrs_verbs.proofs.Standing.{out_more, out_all}
 use Rattle.lrs_verbs.proofs.referents.ReferentIndex.remove_all.Goals as goal
 
