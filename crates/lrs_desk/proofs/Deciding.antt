@@ -1,5 +1,5 @@
 -- How the ground machine answers a command, by what is found in an image.
-use Rattle.std.proofs.Common.{◌≡◌, ℕ, ◌+◌, ◌<◌, ◌≤◌, suc, zero, Bool, true, false, cond, List, [], ◌∷◌, length, map, Option, Some, None, Result, Ok, Err, refl, sym, ap, ◌∙◌, arith}
+use Rattle.std.proofs.Common.{◌≡◌, ℕ, ◌+◌, ◌≤◌, Bool, true, false, cond, List, [], ◌∷◌, length, map, Option, Some, None, Result, Ok, Err, refl, sym, ap, ◌∙◌, arith, ◌⊎◌, inl, inr}
 use Rattle.std.specs.Prelude.{not, ◌&&◌, nat_le, nat_lt, option_map}
 use Rattle.std.specs.List.{position, position_or_len, prefix_len, list_all}
 use Rattle.std.proofs.lemmas.Bool.{and_parts, leb-true}
@@ -15,17 +15,18 @@ use Rattle.lrs_machine.specs.declared.answer.Answer.TheVariants.{Done, Refused}
 use Rattle.lrs_machine.specs.declared.command.Command.{Command}
 use Rattle.lrs_machine.specs.declared.image.Edit.{Edit}
 use Rattle.lrs_machine.specs.declared.image.Image.{Image}
+use Rattle.lrs_machine.specs.declared.table.Table.{Table}
 use Rattle.lrs_verbs.specs.declared.plan.Plan.{Plan}
 use Rattle.lrs_machine.specs.Bounds.{most_routes, most_assets, most_edits}
 use Rattle.lrs_machine.specs.State.{State}
 use Rattle.lrs_machine.specs.State as state
 use Rattle.lrs_machine.specs.Image.{state_of, asset_entry, route_entry}
-use Rattle.lrs_keep.specs.Change.{with_difference}
+use Rattle.lrs_keep.specs.Change.{with_difference, apply}
 use Rattle.lrs_verbs.specs.Keys.{place_among}
 use Rattle.lrs_machine.specs.Lines.{line_of}
 use Rattle.lrs_machine.specs.Sound.{IsSound}
-use Rattle.lrs_machine.specs.Machine.{step, attempt, step_by_key, outcome_of, next, answer_known, line_at, place_of_key, check_room, refuse_if, ◌>>◌, needs_asset, needs_route}
-use Rattle.lrs_verbs.specs.Plans.{Makes}
+use Rattle.lrs_machine.specs.Machine.{Outcome, step, attempt, step_by_key, outcome_of, next, answer_known, line_at, place_of_key, check_room, refuse_if, ◌>>◌, needs_asset, needs_route}
+use Rattle.lrs_verbs.specs.Plans.{IsPlanOf, change_of}
 use Rattle.lrs_orderly.proofs.Making.{made_is_sound}
 use Rattle.lrs_desk.specs.Decide.{IsDoneBy, HasRoom, LacksRoom, edit_of, done_image}
 
@@ -68,7 +69,7 @@ pub place_before : (n : ℕ) (o : Option ℕ) → Some n ≡ option_map (λ plac
 place_before n None h = absurd (cc h)
 place_before n (Some place) h = (place, refl, cc h)
 
-pub no_place : (o : Option ℕ) → None {A = ℕ} ≡ option_map (λ place. place + 1) o → o ≡ None
+pub no_place : (o : Option ℕ) → ◌≡◌ {A = Option ℕ} None (option_map (λ place. place + 1) o) → o ≡ None
 no_place None h = refl
 no_place (Some place) h = absurd (cc h)
 
@@ -142,11 +143,11 @@ module _ (limits : Limits) (key : Name) (command : Command) (i : Image) (none : 
     state = record (state_of (with_difference p.difference i)) { done = sym (map-append kept_edit i.edits (edit_of key command ∷ [])) j };
   }
 
-  pub is_done : (p : Plan) → IsSound i → HasRoom limits command i → Makes command i p → IsDoneBy limits key command i p
-  is_done p sound room makes = record {
-    makes = makes;
-    outcome = step-new limits key command i none ∙ ap (outcome_of key command (state_of i)) (next-attempt room ∙ makes.state) ∙ done_is p;
-    sound = made_is_sound command i (with_difference p.difference i) (edit_of key command) sound (record { state = makes.state; edits = refl; orderly = λ h. makes.orderly h })
+  pub is_done : (p : Plan) → IsSound i → HasRoom limits command i → IsPlanOf command i p → IsDoneBy limits key command i p
+  is_done p sound room plan = record {
+    is_plan = plan;
+    outcome = step-new limits key command i none ∙ ap (outcome_of key command (state_of i)) (next-attempt room ∙ plan.makes.state) ∙ done_is p;
+    sound = made_is_sound command i (with_difference p.difference i) (edit_of key command) sound plan.makes
         (record { assets = few_rows (needs_asset command) (length i.assets) limits.assets most_assets room.assets (limits_few_assets limits); routes = few_rows (needs_route command) (length i.routes) limits.routes most_routes room.routes (limits_few_routes limits) })
         (none_passes (λ (e : Edit). same_name e.key key) i.edits none) (few room.edits (limits_few limits));
     new_key = none;
@@ -158,3 +159,9 @@ module _ (limits : Limits) (key : Name) (command : Command) (i : Image) (none : 
       few_rows : (b : Bool) (n limit most : ℕ) → (b && nat_le limit n) ≡ false → limit ≤ most → b ≡ true → n + 1 ≤ most
       few_rows true n limit most h k e = grind (arith, nat_tests)
       few_rows false n limit most h k e = absurd (cc e)
+
+-- What may be found after a failed commit of what is done: the old image, or one of the next state.
+pub old_or_next : (limits : Limits) (key : Name) (command : Command) (i : Image) (p : Plan) (e : Edit) → IsDoneBy limits key command i p → e ≡ edit_of key command → (c : Result Image Table)
+    → (c ≡ Ok i) ⊎ (c ≡ Ok (apply (change_of e p) i)) → (c ≡ Ok i) ⊎ ((image : Image) × (c ≡ Ok image) × (state_of image ≡ (step limits key command (state_of i)).state) × IsSound image)
+old_or_next limits key command i p e d same c (inl a) = inl a
+old_or_next limits key command i p e d same c (inr a) = inr (done_image key command p i, a ∙ ap (λ (e : Edit). Ok (apply (change_of e p) i)) same, sym (ap (λ (o : Outcome). o.state) d.outcome), d.sound)

@@ -14,7 +14,7 @@ use Rattle.lrs_desk.specs.declared.decide.Decision.TheVariants.{Stay, Make}
 use Rattle.lrs_machine.specs.Image.{state_of}
 use Rattle.lrs_keep.specs.Change.{with_difference, with_edit}
 use Rattle.lrs_verbs.specs.Keys.{place_among}
-use Rattle.lrs_verbs.specs.Plans.{Makes}
+use Rattle.lrs_verbs.specs.Plans.{IsPlanOf}
 use Rattle.lrs_machine.specs.Lines.{line_of}
 use Rattle.lrs_machine.specs.Machine.{step, needs_asset, needs_route}
 use Rattle.lrs_machine.specs.Sound.{IsSound}
@@ -29,7 +29,7 @@ done_image key command plan i = with_edit (edit_of key command) (with_difference
 
 -- The command is done by this plan under a new key, and leaves the image sound.
 pub record IsDoneBy (limits : Limits) (key : Name) (command : Command) (i : Image) (plan : Plan) : Type 0 where
-  pub makes : Makes command i plan
+  pub is_plan : IsPlanOf command i plan
   pub outcome : step limits key command (state_of i) ≡ record { answer = Done (length i.edits + 1); state = state_of (done_image key command plan i) }
   pub sound : IsSound (done_image key command plan i)
   pub new_key : place_among i.edits key ≡ None

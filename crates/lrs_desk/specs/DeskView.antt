@@ -1,5 +1,5 @@
 -- What is seen of a desk.
-use Rattle.std.specs.Prelude.{◌≡◌, Bool, true, false, Result, Ok}
+use Rattle.std.specs.Prelude.{◌≡◌, Bool, true, false, Result}
 use Rattle.lrs_machine.specs.declared.answer.Limits.{Limits}
 use Rattle.lrs_machine.specs.declared.image.Image.{Image}
 use Rattle.lrs_machine.specs.declared.table.Table.{Table}

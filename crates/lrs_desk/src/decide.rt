@@ -36,10 +36,23 @@ pub fn decide(
     if let Some(what) = lacks_room(inventory, limits, command) {
         return Ok(Decision::Stay(Answer::Refused(Cause::TooMany(what))));
     }
+    inventory.is_sound();
     match plan_command(alloc, inventory, command) {
         Ok(plan) => Ok(Decision::Make(plan)),
-        Err(Stop::Refused(cause)) => Ok(Decision::Stay(Answer::Refused(cause))),
-        Err(Stop::Memory) => Err(AllocError),
+        Err(stop) => {
+            let cause = refusal(stop)?;
+            Ok(Decision::Stay(Answer::Refused(cause)))
+        }
+    }
+}
+
+/// Why a command is refused, or want of memory.
+fn refusal(stop: Stop) -> Result<Cause, AllocError>
+    ensures { IfOk result (λ cause. stop ≡ Stop.Refused cause) }
+{
+    match stop {
+        Stop::Refused(cause) => Ok(cause),
+        Stop::Memory => Err(AllocError),
     }
 }
 

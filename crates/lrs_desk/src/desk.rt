@@ -1,18 +1,21 @@
 //! The desk: it does commands, and keeps what they change.
 
-ghost use Rattle.std.specs.Prelude.{◌≡◌, ◌↔◌, IsTrue, IfOk, IfErr, OnOk, Ok, Err, Result, ℕ, take, false};
+ghost use Rattle.std.specs.Prelude.{◌≡◌, ◌↔◌, IsTrue, ◌+◌, IfOk, IfErr, OnOk, OnErr, Ok, Err, Result, ℕ, length, take, true, false, None};
 ghost use Rattle.lrs_machine.specs.declared.table.Table.{Table};
 ghost use Rattle.lrs_machine.specs.declared.image.Image.{Image as ImageRows};
 ghost use Rattle.lrs_machine.specs.Image.{state_of};
 ghost use Rattle.lrs_machine.specs.Laws.{once};
 ghost use Rattle.lrs_machine.specs.Machine.{step, answers, state_after};
-ghost use Rattle.lrs_keep.specs.Keeping.{HasRisen, HoldsOnly};
+ghost use Rattle.lrs_keep.specs.Change.{apply, CanMake};
+ghost use Rattle.lrs_keep.specs.Keeping.{HasRisen, HoldsOnly, HoldsOldOrNew};
+ghost use Rattle.lrs_verbs.specs.Keys.{place_among};
+ghost use Rattle.lrs_verbs.specs.Plans.{change_of, TellsGround};
 ghost use Rattle.lrs_desk.specs.Desk.{IsUnchanged, HasBroken, records_of};
 
 use crate::decide::{Decision, decide};
 use lrs_keep::{CommitFault, Keeper, LoadFault};
 use lrs_machine::{Answer, Edit, Key, Limits, Table};
-use lrs_verbs::{Inventory, Planned};
+use lrs_verbs::{Inventory, Plan, Planned};
 use std::alloc::{AllocError, AllocFailed, Global};
 use std::marker::Model;
 
@@ -173,18 +176,59 @@ impl<K: Keeper> Desk<K> {
         match decision {
             Decision::Stay(answer) => Ok(answer),
             Decision::Make(plan) => {
-                let number = self.inventory.edits() + 1;
                 let edit = Edit { key, line };
-                match self.inventory.make(self.alloc, &mut self.keeper, edit, plan) {
-                    Ok(()) => Ok(Answer::Done(number)),
-                    Err(CommitFault::Memory) => Err(Fault::Memory),
-                    Err(CommitFault::Store) => {
-                        self.must_reopen = true;
-                        Err(Fault::Keep)
-                    }
-                }
+                let made = make(
+                    self.alloc,
+                    &mut self.inventory,
+                    &mut self.keeper,
+                    edit,
+                    plan,
+                );
+                self.must_reopen = matches!(made, Err(Fault::Keep));
+                made
             }
         }
+    }
+}
+
+// Makes the change of a plan, and answers the number of its edit.
+fn make<K: Keeper>(
+    alloc: Global,
+    inventory: &mut Inventory,
+    keeper: &mut K,
+    edit: Edit,
+    plan: Plan,
+) -> Result<Answer, Fault>
+    requires loaded { K.is_loaded keeper.old ≡ true }
+    requires kept { HoldsOnly (K.may_hold keeper.old) inventory.old }
+    requires can { CanMake (change_of edit plan) inventory.old }
+    requires tells { TellsGround plan inventory.old }
+    requires new_key { place_among inventory.old.edits edit.key ≡ None }
+    ensures answer { IfOk result (λ answer. answer ≡ Answer.Done (length inventory.old.edits + 1)) }
+    ensures ok { OnOk result (inventory.new ≡ apply (change_of edit plan) inventory.old) }
+    ensures ok_kept { OnOk result (HoldsOnly (K.may_hold keeper.new) (apply (change_of edit plan) inventory.old)) }
+    ensures err { OnErr result (inventory.new ≡ inventory.old) }
+    ensures memory { result ≡ Err Fault.Memory → (c : Result ImageRows Table) → K.may_hold keeper.new c → K.may_hold keeper.old c }
+    ensures store { result ≡ Err Fault.Keep → HoldsOldOrNew (change_of edit plan) (K.may_hold keeper.new) inventory.old }
+    ensures cause { result ≡ Err Fault.Keep → HasRisen (K.failures keeper.old) (K.failures keeper.new) }
+    ensures only { result ≡ Err Fault.MustReopen → ⊥ }
+    ensures loaded { K.is_loaded keeper.new ≡ true }
+{
+    let number = inventory.edits() + 1;
+    match inventory.make(alloc, keeper, edit, plan) {
+        Ok(()) => Ok(Answer::Done(number)),
+        Err(fault) => Err(commit_fault(fault)),
+    }
+}
+
+fn commit_fault(fault: CommitFault) -> Fault
+    ensures memory { result ≡ Fault.Memory → fault ≡ CommitFault.Memory }
+    ensures keep { result ≡ Fault.Keep → fault ≡ CommitFault.Store }
+    ensures only { result ≡ Fault.MustReopen → ⊥ }
+{
+    match fault {
+        CommitFault::Memory => Fault::Memory,
+        CommitFault::Store => Fault::Keep,
     }
 }
 

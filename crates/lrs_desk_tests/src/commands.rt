@@ -1,6 +1,9 @@
 //! Commands, their answers, and what a desk then knows.
 
-use crate::sheet::{AMPLE, KEYS, ahead, after_first_sheet, class, first_sheet, gives, image_of, key, link, mark, open, route};
+use crate::sheet::{
+    AMPLE, KEYS, after_first_sheet, ahead, class, first_sheet, gives, image_of, key, link, mark,
+    open, route,
+};
 use lrs_desk::{Answer, Cause, Image, Limits, Plain, run};
 use lrs_element::Link;
 use lrs_events::Kind;

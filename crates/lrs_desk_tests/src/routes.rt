@@ -1,6 +1,8 @@
 //! New routes, and why they are refused.
 
-use crate::sheet::{AMPLE, ahead, after_first_sheet, back, gives, image_of, key, link, mark, route};
+use crate::sheet::{
+    AMPLE, after_first_sheet, ahead, back, gives, image_of, key, link, mark, route,
+};
 use lrs_desk::{Answer, Cause, Desk, Plain, Planned};
 use lrs_element::{Link, Piece};
 use std::process::Abort;

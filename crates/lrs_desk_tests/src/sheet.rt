@@ -1,6 +1,6 @@
 //! The first sheet, and how tests act on a desk.
 
-use lrs_desk::{Answer, Command, Desk, Fault, Image, Keeper, Key, Limits, Planned, Plain};
+use lrs_desk::{Answer, Command, Desk, Fault, Image, Keeper, Key, Limits, Plain, Planned};
 use lrs_element::{Link, Mark, Piece};
 use lrs_events::{Class, ClassName, Kind};
 use lrs_machine::{MarkList, PieceList};

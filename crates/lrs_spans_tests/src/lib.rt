@@ -1,10 +1,9 @@
 //! Tests of lrs_spans: random calls beside a plain table of what assets hold, and each growth of a list refused.
 #![tactic(auto)]
 
-pub mod draws;
-
 #[cfg(test)]
 mod checked;
+pub mod draws;
 #[cfg(test)]
 mod queries;
 #[cfg(test)]
