@@ -4,13 +4,12 @@ use Rattle.std.specs.Prelude.{◌&&◌, ◌||◌, not, nat_eq, nat_le, ◌-◌}
 use Rattle.std.specs.List.{AllByRecursion, list_any, list_all}
 use Rattle.std.proofs.lemmas.List.Elements.{All-from_recursion, recursion_from_All}
 use Rattle.std.proofs.lemmas.List.Sorted.{All-permutation, list_any-IsPermutation, sum_by-IsPermutation}
-use Rattle.lrs_measure.specs.Lists.{each_two}
 use Rattle.lrs_element.specs.declared.link.Link.{Link}
 use Rattle.lrs_events.specs.declared.class.Asset.{Asset}
 use Rattle.lrs_events.specs.declared.part.Part.{Part}
 use Rattle.lrs_events.specs.Parts.{has_for, has_place}
 use Rattle.lrs_machine.specs.Bounds.{most_pairs}
-use Rattle.lrs_machine.specs.Sound.{RouteSpans, is_part, share_nothing, pairs_of, are_parts, is_origin, are_origins, has_asset_place}
+use Rattle.lrs_machine.specs.Sound.{RouteSpans, is_part, share_nothing, pairs_of, are_parts, is_origin, are_origins}
 use Rattle.lrs_sound.specs.Sweeping.{IsFilled}
 use Rattle.lrs_sound.specs.Balance.{AreHeld}
 use Rattle.lrs_sound.proofs.Sweeping.{each_two-permutation, share_nothing-comm}

@@ -1,10 +1,6 @@
-use Rattle.std.proofs.Common.{◌≡◌, List, sym, subst, ◌∙◌}
-use Rattle.std.specs.List.{AllByRecursion, list_all}
-use Rattle.lrs_element.specs.declared.link.Link.{Link}
-use Rattle.lrs_machine.specs.Sound.{RouteSpans}
+use Rattle.std.proofs.Common.{sym, subst, ◌∙◌}
+use Rattle.std.specs.List.{AllByRecursion}
 use Rattle.lrs_sound.specs.Sweeping.{IsFilled}
-use Rattle.lrs_sound.specs.Balance.{AreHeld}
-use Rattle.lrs_sound.specs.Exclusive.{AreKeyed}
 use Rattle.lrs_sound.proofs.Excluding.{exclusive_same}
 use Rattle.lrs_sound.proofs.Rearranged.{same_filled, same_held}
 use Rattle.lrs_sound.proofs.exclusive.keep_exclusive.Goals as goal
