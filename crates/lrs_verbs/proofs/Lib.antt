@@ -13,3 +13,4 @@ pub mod Known
 pub mod Grounds
 pub mod Stopping
 pub mod Indexing
+pub mod Made

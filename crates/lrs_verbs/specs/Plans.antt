@@ -1,5 +1,5 @@
 -- What the plan of a command says of the ground.
-use Rattle.std.specs.Prelude.{◌≡◌, ◌+◌, [], length, None, Result, Ok, Err, ⊤}
+use Rattle.std.specs.Prelude.{◌≡◌, ◌+◌, ◌≤◌, [], length, None, Result, Ok, Err, ⊤}
 use Rattle.lrs_measure.specs.Texts.{Name}
 use Rattle.lrs_element.specs.Course.{Millimetre}
 use Rattle.lrs_machine.specs.declared.answer.Cause.{Cause}
@@ -7,14 +7,17 @@ use Rattle.lrs_machine.specs.declared.command.Command.{Command}
 use Rattle.lrs_machine.specs.declared.image.Edit.{Edit}
 use Rattle.lrs_machine.specs.declared.image.Image.{Image}
 use Rattle.lrs_machine.specs.Image.{state_of}
+use Rattle.lrs_machine.specs.Bounds.{most_edits}
 use Rattle.lrs_machine.specs.Machine.{attempt}
-use Rattle.lrs_orderly.specs.Made.{Makes}
+use Rattle.lrs_machine.specs.Sound.{IsSound}
+use Rattle.lrs_orderly.specs.Made.{Makes, HasRoomFor}
 use Rattle.lrs_keep.specs.declared.change.Difference.{Difference}
 use Rattle.lrs_keep.specs.declared.change.Change.{Change}
-use Rattle.lrs_keep.specs.Change.{no_difference, with_difference, CanDiffer}
+use Rattle.lrs_keep.specs.Change.{no_difference, with_difference, CanDiffer, CanMake}
 use Rattle.lrs_verbs.specs.declared.plan.Plan.{Plan}
 use Rattle.lrs_verbs.specs.declared.plan.Stop.{Stop}
 use Rattle.lrs_verbs.specs.declared.plan.Stop.TheVariants.{Refused, Memory}
+use Rattle.lrs_verbs.specs.Keys.{place_among}
 use Rattle.lrs_verbs.specs.Changes.{route_on, ground_after, CanChangeGround, referents_after, IsNewReferent}
 
 -- the plan that changes an image by this difference, and nothing of its ground and referents
@@ -53,3 +56,8 @@ abbrev pub Plans : Command → Image → Result Plan Stop → Type 0
 Plans command i (Ok p) = IsPlanOf command i p
 Plans command i (Err (Refused c)) = attempt (length i.edits + 1) command (state_of i) ≡ Err c
 Plans command i (Err Memory) = ⊤
+
+-- A plan can be made, by an edit under a new key, where there is room for the edit and for what the command needs.
+abbrev pub PlansCanBeMade : Type 0
+PlansCanBeMade = (command : Command) (i : Image) (p : Plan) (e : Edit) → IsSound i → IsPlanOf command i p → HasRoomFor command i → place_among i.edits e.key ≡ None → length i.edits + 1 ≤ most_edits
+    → CanMake (change_of e p) i

@@ -19,7 +19,7 @@ use std::alloc::{AllocError, Global};
 /// When memory runs out.
 pub fn ground_of_routes(alloc: Global, routes: &[RouteEntry]) -> Result<GroundIndex, AllocError>
     requires once { is_run_once (flat_map (λ e. e.route.course) routes.now) ≡ true }
-    ensures { IfOk result (λ ground. IsGroundOf (λ e. e.route.name) (λ e. e.route.course) ground routes.now) }
+    ensures { IfOk result (λ index. IsGroundOf (λ e. e.route.name) (λ e. e.route.course) index routes.now) }
 {
     let mut ground = GroundIndex::new(alloc);
     for entry in routes {

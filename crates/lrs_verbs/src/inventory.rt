@@ -64,31 +64,45 @@ impl Inventory {
     }
 
     /// The image is sound: a fact for proofs, which takes no time.
-    pub fn is_sound(&self)
+    pub fn prove_sound(&self)
         ensures { IsSound self.now }
     {
         let _ = &self.kept;
     }
 
     /// How many edits there are.
-    pub fn edits(&self) -> usize
+    pub fn edits(&self) -> u64
         ensures { result ≡ length self.now.edits }
     {
-        self.kept.edits.len()
+        self.kept.edits.len() as u64
+    }
+
+    /// How many links there are.
+    pub fn links(&self) -> u64
+        ensures { result ≡ length self.now.links }
+    {
+        self.kept.links.len() as u64
+    }
+
+    /// How many classes there are.
+    pub fn classes(&self) -> u64
+        ensures { result ≡ length self.now.classes }
+    {
+        self.kept.classes.len() as u64
     }
 
     /// How many assets there are.
-    pub fn assets(&self) -> usize
+    pub fn assets(&self) -> u64
         ensures { result ≡ length self.now.assets }
     {
-        self.kept.assets.len()
+        self.kept.assets.len() as u64
     }
 
     /// How many routes there are.
-    pub fn routes(&self) -> usize
+    pub fn routes(&self) -> u64
         ensures { result ≡ length self.now.routes }
     {
-        self.kept.routes.len()
+        self.kept.routes.len() as u64
     }
 }
 

@@ -5,6 +5,7 @@ mod ground;
 mod indexes;
 mod inventory;
 mod keys;
+pub mod laws;
 mod plan;
 mod planned;
 mod referents;
@@ -16,3 +17,6 @@ pub use plan::{GroundChange, Plan, ReferentPlace, ReferentPlaces, Stop, refuse_i
 pub use planned::Planned;
 pub use referents::ReferentIndex;
 pub use verbs::plan_command;
+
+#[cfg(test)]
+mod tests;

@@ -12,7 +12,7 @@ use std::alloc::Global;
 pub fn plan_class(alloc: Global, inventory: &Inventory, class: Class) -> Result<Plan, Stop>
     ensures { Plans (verb.Class class) inventory.now result }
 {
-    inventory.is_sound();
+    inventory.prove_sound();
     let is_known = inventory.class(&class.name).is_some();
     refuse_if(is_known, Cause::ClassKnown)?;
     let mut plan = Plan::none(alloc);

@@ -12,7 +12,7 @@ use std::alloc::Global;
 pub fn plan_link(alloc: Global, inventory: &Inventory, link: Link) -> Result<Plan, Stop>
     ensures { Plans (verb.Link link) inventory.now result }
 {
-    inventory.is_sound();
+    inventory.prove_sound();
     let is_known = inventory.link_length(link.number).is_some();
     refuse_if(is_known, Cause::LinkKnown)?;
     let mut plan = Plan::none(alloc);

@@ -28,7 +28,7 @@ pub fn plan_route(
 ) -> Result<Plan, Stop>
     ensures { Plans (verb.Route name pieces.now marks.now) inventory.now result }
 {
-    inventory.is_sound();
+    inventory.prove_sound();
     let is_known = inventory.route(&name).is_some();
     refuse_if(is_known, Cause::RouteKnown)?;
     let course = inventory.course(alloc, pieces)?;

@@ -23,4 +23,4 @@ returns c =
     let k = c.args.class in
     let fresh = passed c.is_some-is_known.result cause.ClassKnown c.refuse_if.result _ c.refuse_if.ensures c.in_ok-refuse_if.was in
     subst (λ (p : Plan). IsPlanOf (verb.Class k) i (record p { difference = record p.difference { class = Some k } })) (sym c.none-plan.ensures)
-    (makes k i (ap is_some (sym c.class.ensures) ∙ sym c.is_some-is_known.ensures ∙ fresh) c.is_sound.ensures)
+    (makes k i (ap is_some (sym c.class.ensures) ∙ sym c.is_some-is_known.ensures ∙ fresh) c.prove_sound.ensures)

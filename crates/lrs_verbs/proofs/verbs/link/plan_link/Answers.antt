@@ -23,4 +23,4 @@ returns c =
     let l = c.args.link in
     let fresh = passed c.is_some-is_known.result cause.LinkKnown c.refuse_if.result _ c.refuse_if.ensures c.in_ok-refuse_if.was in
     subst (λ (p : Plan). IsPlanOf (verb.Link l) i (record p { difference = record p.difference { link = Some l } })) (sym c.none-plan.ensures)
-    (makes l i (ap is_some (sym c.link_length.ensures) ∙ sym c.is_some-is_known.ensures ∙ fresh) c.is_sound.ensures)
+    (makes l i (ap is_some (sym c.link_length.ensures) ∙ sym c.is_some-is_known.ensures ∙ fresh) c.prove_sound.ensures)

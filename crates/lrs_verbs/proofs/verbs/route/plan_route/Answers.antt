@@ -89,5 +89,5 @@ returns c =
     let line = subst (λ (n : ℕ). new_marks n marks ≡ Ok c.in_ok-marks.marks) c.len.ensures.len (subst (Answers (new_marks c.len.result marks)) c.in_ok-marks.was c.new_marks.ensures) in
     let entry = c.new_entry-entry.result in
     subst (λ (p : Plan). IsPlanOf (verb.Route name pieces marks) i p) (sym c.route_plan.ensures)
-    (makes name pieces marks c.in_ok-marks.marks course i entry fresh made free line c.new_entry-entry.ensures c.is_sound.ensures c.in_ok-come.come
+    (makes name pieces marks c.in_ok-marks.marks course i entry fresh made free line c.new_entry-entry.ensures c.prove_sound.ensures c.in_ok-come.come
     (c.in_ok-come.ensures.course ∙ sym c.new_entry-entry.ensures.course) c.in_ok-come.ensures.filled)
