@@ -1,6 +1,7 @@
 use super::*;
 use lrs_element::{Link, Mark, Piece};
 use lrs_events::{Class, ClassName, Kind};
+use lrs_keep::Difference;
 use lrs_machine::{Cause, Command, Edit, Image, Key, MarkList, PieceList, RouteEntry};
 use lrs_measure::Rows;
 use lrs_position::{RefName, RouteName};
@@ -135,12 +136,16 @@ fn routes_are_planned_over_free_ground(rt: HostRuntime) {
     let free = roads(&rt, None);
     assert!(rt; free.first_taken(&pieces).is_none() && free.route_over(1, 0).is_none());
     let plan = planned(&rt, &free, route(&rt, "A1", &pieces, 1_400)).expect(&rt, "a plan");
-    let come = plan.ground.expect(&rt, "ground").come;
-    assert!(rt; come.as_slice() == pieces);
+    let Plan {
+        difference, ground, ..
+    } = plan;
+    let ground = ground.expect(&rt, "ground");
+    assert!(rt; ground.come.as_slice() == pieces.as_slice());
 
     // The same with the route.
-    let entry = plan.difference.made.expect(&rt, "a route");
-    let known = roads(&rt, Some(entry));
+    let Difference { made, .. } = difference;
+    assert!(rt; made.is_some());
+    let known = roads(&rt, made);
     let a1 = name(&rt, "A1");
     assert!(rt; known.route_over(1, 999) == Some(a1) && known.route_over(2, 100) == Some(a1));
     assert!(rt; known.route_over(2, 99).is_none() && known.route_over(3, 0).is_none());
