@@ -40,7 +40,7 @@ use Rattle.lrs_machine.specs.Machine.{◌>>=◌, ◌>>◌, refuse_if, refuse_at,
 use Rattle.lrs_machine.specs.Machine.{extent_of, is_empty_extent, Wanted, wanted_of, first_holder, enter_asset, do_join_of, attempt, length_of_link}
 use Rattle.lrs_machine.specs.Laws.{IsGrounded, is_known, are_numbered}
 use Rattle.lrs_machine.proofs.Checks.{behind, bind, bind_known, unless, unless_at, given}
-use Rattle.lrs_machine.proofs.Members.{any_found, all_at, all_of, In-take, In-drop, flat_map_found, find_found}
+use Rattle.lrs_machine.proofs.Members.{all_weaker, any_found, all_at, all_of, In-take, In-drop, flat_map_found, find_found}
 use Rattle.lrs_machine.proofs.Pairs.{beside_ground}
 use Rattle.lrs_machine.proofs.Registers.{find-put, same_key}
 
@@ -63,38 +63,24 @@ module _ {X : Type 0} (p : X → Bool) where
       past : length xs ≤ position_or_len p xs
       past = ltb-false _ _ (false_from_ne_true _ (λ t. absurd (cc (sym (ap (λ (b : Bool). if b then Some (position_or_len p xs) else None) t) ∙ h))))
 
-weaker : {X : Type 0} (p q : X → Bool) (xs : List X) → ((x : X) → p x ≡ true → q x ≡ true) → list_all p xs ≡ true → list_all q xs ≡ true
-weaker p q xs w h = all_of q xs (λ x m. w x (all_at p x xs h m))
-
 -- ---- rows that are put
 
-module _ {K X : Type 0} (R : K → K → Ordering) where
-  -- a test of the values
-  all-put : (q : X → Bool) (k : K) (v : X) (rows : List (K × X)) → list_all (λ e. q e.1) rows ≡ true → q v ≡ true → list_all (λ e. q e.1) (put R k v rows) ≡ true
-  all-put q k v [] h is = and_from (q v) true is refl
-  all-put q k v (e ∷ es) h is = by (R k e.0) (and_parts (q e.1) (list_all (λ e. q e.1) es) h) (all-put q k v es)
-    where
-      by : (o : Ordering) → (q e.1 ≡ true) × (list_all (λ e. q e.1) es ≡ true) → (list_all (λ e. q e.1) es ≡ true → q v ≡ true → list_all (λ e. q e.1) (put R k v es) ≡ true)
-          → list_all (λ e. q e.1) (by_order o ((k, v) ∷ e ∷ es) ((e.0, v) ∷ es) (e ∷ put R k v es)) ≡ true
-      by Less both rest = and_from (q v) (list_all (λ e. q e.1) (e ∷ es)) is h
-      by Equal both rest = and_from (q v) (list_all (λ e. q e.1) es) is both.1
-      by Greater both rest = and_from (q e.1) (list_all (λ e. q e.1) (put R k v es)) both.0 (rest both.1 is)
-
-  -- a test of the keys
-  keys-put : (q : K → Bool) (k : K) (v : X) (rows : List (K × X)) → list_all (λ e. q e.0) rows ≡ true → q k ≡ true → list_all (λ e. q e.0) (put R k v rows) ≡ true
-  keys-put q k v [] h is = and_from (q k) true is refl
-  keys-put q k v (e ∷ es) h is = by (R k e.0) (and_parts (q e.0) (list_all (λ e. q e.0) es) h) (keys-put q k v es)
-    where
-      by : (o : Ordering) → (q e.0 ≡ true) × (list_all (λ e. q e.0) es ≡ true) → (list_all (λ e. q e.0) es ≡ true → q k ≡ true → list_all (λ e. q e.0) (put R k v es) ≡ true)
-          → list_all (λ e. q e.0) (by_order o ((k, v) ∷ e ∷ es) ((e.0, v) ∷ es) (e ∷ put R k v es)) ≡ true
-      by Less both rest = and_from (q k) (list_all (λ e. q e.0) (e ∷ es)) is h
-      by Equal both rest = and_from (q e.0) (list_all (λ e. q e.0) es) both.0 both.1
-      by Greater both rest = and_from (q e.0) (list_all (λ e. q e.0) (put R k v es)) both.0 (rest both.1 is)
+-- a test that the new row passes, and an old one with the new value
+all-put : {K X : Type 0} (R : K → K → Ordering) (p : K × X → Bool) (k : K) (v : X) (rows : List (K × X)) → list_all p rows ≡ true → p (k, v) ≡ true → ((e : K × X) → p e ≡ true → p (e.0, v) ≡ true)
+    → list_all p (put R k v rows) ≡ true
+all-put R p k v [] h is still = and_from (p (k, v)) true is refl
+all-put {K = K} {X = X} R p k v (e ∷ es) h is still = by (R k e.0) (and_parts (p e) (list_all p es) h) (λ both. all-put R p k v es both is still)
+  where
+    by : (o : Ordering) → (p e ≡ true) × (list_all p es ≡ true) → (list_all p es ≡ true → list_all p (put R k v es) ≡ true)
+        → list_all p (by_order o ((k, v) ∷ e ∷ es) ((e.0, v) ∷ es) (e ∷ put R k v es)) ≡ true
+    by Less both rest = and_from (p (k, v)) (list_all p (e ∷ es)) is h
+    by Equal both rest = and_from (p (e.0, v)) (list_all p es) (still e both.0) both.1
+    by Greater both rest = and_from (p e) (list_all p (put R k v es)) both.0 (rest both.1)
 
 -- Rows stay in the order of their numbers.
 numbered-put : {X : Type 0} (k : ℕ) (v : X) (rows : List (ℕ × X)) → are_numbered rows ≡ true → are_numbered (put nat_cmp k v rows) ≡ true
 numbered-put k v [] h = refl
-numbered-put k v (e ∷ es) h = by (nat_lt k e.0) (nat_eq k e.0) refl refl both (numbered-put k v es both.1)
+numbered-put {X = X} k v (e ∷ es) h = by (nat_lt k e.0) (nat_eq k e.0) refl refl both (numbered-put k v es both.1)
   where
     both : (list_all (λ f. nat_lt e.0 f.0) es ≡ true) × (are_numbered es ≡ true)
     both = and_parts (list_all (λ f. nat_lt e.0 f.0) es) (are_numbered es) h
@@ -105,13 +91,13 @@ numbered-put k v (e ∷ es) h = by (nat_lt k e.0) (nat_eq k e.0) refl refl both 
         let low = ltb-true k e.0 less in
         and_from (list_all (λ f. nat_lt k f.0) (e ∷ es)) (are_numbered (e ∷ es))
         (and_from (nat_lt k e.0) (list_all (λ f. nat_lt k f.0) es) less
-        (weaker (λ f. nat_lt e.0 f.0) (λ f. nat_lt k f.0) es (λ f l. let next = ltb-true e.0 f.0 l in lt-ltb k f.0 (omega (arith, low, next))) both.0)) h
+        (all_weaker (λ f. nat_lt e.0 f.0) (λ f. nat_lt k f.0) es (λ f l. let next = ltb-true e.0 f.0 l in lt-ltb k f.0 (omega (arith, low, next))) both.0)) h
     by false true less is both rest = and_from (list_all (λ f. nat_lt e.0 f.0) es) (are_numbered es) both.0 both.1
     by false false less is both rest =
         let above = ltb-false k e.0 less in
         let other : k ≡ e.0 → ⊥ = λ same. both_ways (nat_eq k e.0) is (subst (λ n. nat_eq k n ≡ true) same (eq-eqb k k refl)) in
         and_from (list_all (λ f. nat_lt e.0 f.0) (put nat_cmp k v es)) (are_numbered (put nat_cmp k v es))
-        (keys-put nat_cmp (λ n. nat_lt e.0 n) k v es both.0 (lt-ltb e.0 k (before (cases_order k e.0) above other))) rest
+        (all-put nat_cmp (λ (f : ℕ × X). nat_lt e.0 f.0) k v es both.0 (lt-ltb e.0 k (before (cases_order k e.0) above other)) (λ f later. later)) rest
       where
         before : (k ≡ e.0) ⊎ ((k < e.0) ⊎ (e.0 < k)) → e.0 ≤ k → (k ≡ e.0 → ⊥) → e.0 < k
         before (inl same) above other = absurd (other same)
@@ -190,7 +176,7 @@ module _ (s : State) (h : IsGrounded s) where
 
   set : (name : Name) (course : List Ground) (marks : List Mark) → list_all (on s.links) course ≡ true → IsGrounded (set_route name course marks s)
   set name course marks is = record {
-    courses = all-put name_cmp (λ (a : Alignment). list_all (on s.links) a.course) name _ (entries s.routes) h.courses is;
+    courses = all-put name_cmp (λ (e : Name × Alignment). list_all (on s.links) e.1.course) name _ (entries s.routes) h.courses is (λ e _. is);
     places = h.places;
     links = h.links;
     assets = h.assets;
@@ -231,7 +217,7 @@ module _ (s : State) (h : IsGrounded s) where
   -- a link that was not known: what was known still is
   new_link : (n len : ℕ) → contains_key s.links n ≡ false → IsGrounded (record s { links = insert s.links n len })
   new_link n len unknown = record {
-    courses = weaker _ _ (entries s.routes) (λ e. weaker (on s.links) (on (insert s.links n len)) e.1.course (λ g. still g.link g.mm)) h.courses;
+    courses = all_weaker _ _ (entries s.routes) (λ e. all_weaker (on s.links) (on (insert s.links n len)) e.1.course (λ g. still g.link g.mm)) h.courses;
     places = λ m a p x. still p.link p.mm (h.places m a p x);
     links = numbered-put n len (entries s.links) h.links;
     assets = h.assets;

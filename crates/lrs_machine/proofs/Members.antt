@@ -45,6 +45,10 @@ module _ {X : Type 0} where
   all_of p [] h = refl
   all_of p (x ∷ xs) h = and_from (p x) (list_all p xs) (h x (inl refl)) (all_of p xs (λ y m. h y (inr m)))
 
+  -- what passes a test passes a weaker one
+  pub all_weaker : (p q : X → Bool) (xs : List X) → ((x : X) → p x ≡ true → q x ≡ true) → list_all p xs ≡ true → list_all q xs ≡ true
+  all_weaker p q xs w h = all_of q xs (λ x m. w x (all_at p x xs h m))
+
   -- two members are one, or pass the test of each two in their order
   pub two_at : (test : X → X → Bool) (x y : X) (xs : List X) → each_two test xs ≡ true → In x xs → In y xs → (x ≡ y) ⊎ ((test x y ≡ true) ⊎ (test y x ≡ true))
   two_at test x y [] h m n = absurd m

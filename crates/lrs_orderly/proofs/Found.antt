@@ -20,9 +20,6 @@ module _ {X : Type 0} where
       all [] k g = refl
       all (y ∷ ys) k g = let both = and_parts (p x y) (list_all (p x) ys) g in and_from (q x y) (list_all (q x) ys) (k y (inl refl) both.0) (all ys (λ z m. k z (inr m)) both.1)
 
-  pub all_weaker : (p q : X → Bool) (xs : List X) → ((x : X) → p x ≡ true → q x ≡ true) → list_all p xs ≡ true → list_all q xs ≡ true
-  all_weaker p q xs w h = all_of q xs (λ x m. w x (all_at p x xs h m))
-
   all-push : (p : X → Bool) (xs : List X) (x : X) → list_all p xs ≡ true → p x ≡ true → list_all p (xs ++ x ∷ []) ≡ true
   all-push p xs x h here = list_all-append p xs (x ∷ []) ∙ and_from (list_all p xs) (p x && true) h (and_from (p x) true here refl)
 
