@@ -5,7 +5,7 @@ use Rattle.std.specs.List.{list_all, count_by}
 use Rattle.std.proofs.lemmas.Bool.{and_parts, and_from, cases_Bool}
 use Rattle.std.proofs.lemmas.List.Folds.{list_all-append}
 use Rattle.lrs_measure.specs.Lists.{each_two}
-use Rattle.lrs_machine.proofs.Members.{In, all_at, all_of}
+use Rattle.lrs_machine.proofs.Members.{In, all_at}
 use Rattle.lrs_machine.proofs.Counting.{one_more}
 
 module _ {X : Type 0} where
