@@ -1,3 +1,2 @@
-pub mod Ground
-pub mod Routes
+pub mod Occupied
 pub mod Stretches

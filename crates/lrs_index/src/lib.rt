@@ -1,9 +1,9 @@
-//! The index of ground: which route runs over which ground, found by search.
+//! Which ground is run over, found by search.
 #![tactic(auto)]
 
-mod ground_index;
+mod occupied;
 
-pub use ground_index::GroundIndex;
+pub use occupied::OccupiedGround;
 
 #[cfg(test)]
 mod tests;

@@ -4,4 +4,3 @@ pub mod Strict
 pub mod Inserted
 pub mod Fronts
 pub mod Lanes
-mod Starts

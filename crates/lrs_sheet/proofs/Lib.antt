@@ -1,12 +1,5 @@
 pub mod Wording
 pub mod Misfits
-pub mod Said
-pub mod OneArgument
-pub mod TableLines
-pub mod PrintedTexts
-pub mod Printed
-pub mod Deciding
-pub mod Judging
 pub mod HeaderFields
 pub mod ReadRows
 pub mod Done
@@ -14,5 +7,4 @@ pub mod Whole
 pub mod KeyBytes
 pub mod Breaking
 pub mod OneCommand
-pub mod Complete
 pub mod Determined

@@ -1,9 +1,5 @@
 pub mod Words
-pub mod Shapes
-pub mod Verbs
 pub mod Records
-pub mod Surveys
-pub mod CanonicalRecords
 pub mod Fields
 pub mod Replies
 pub mod Sheets

@@ -2,7 +2,7 @@
 
 ghost use Rattle.std.specs.Prelude.{◌≡◌, ◌≤◌, IsTrue, length, codes};
 ghost use Rattle.csv.specs.Records.{fields_of};
-ghost use Rattle.lrs_verbs.specs.Planned.{is_planned};
+ghost use Rattle.lrs_desk.specs.Plan.{is_planned};
 ghost use Rattle.lrs_sheet.specs.Records as spec;
 ghost use Rattle.lrs_sheet.specs.Fields.{NothingFrom, ReadsArguments, ReadsCommand};
 ghost use Rattle.lrs_machine.specs.declared.command.Command.{Command as DeclaredCommand};

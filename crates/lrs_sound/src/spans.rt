@@ -63,5 +63,5 @@ pub fn are_spans(
         return Ok(false);
     }
     let held = held_parts(alloc, routes)?;
-    keep_exclusive(alloc, assets, classes, held)
+    keep_exclusive(alloc, assets, classes, &held)
 }

@@ -3,7 +3,8 @@
 
 #[cfg(test)]
 mod checked;
-pub mod draws;
+#[cfg(test)]
+mod draws;
 #[cfg(test)]
 mod queries;
 #[cfg(test)]

@@ -1,4 +1,0 @@
-pub mod PutBack
-pub mod Named
-pub mod Becoming
-pub mod Tables

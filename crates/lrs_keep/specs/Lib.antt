@@ -1,4 +1,0 @@
-pub mod Change
-pub mod Kept
-pub mod Keeping
-pub mod Plain

@@ -1,0 +1,12 @@
+pub mod Sheet
+pub mod Names
+pub mod Entering
+pub mod Routes
+pub mod Retiring
+pub mod Refusals
+pub mod Long
+pub mod Readings
+pub mod Lines
+pub mod Images
+pub mod Laws
+pub mod StoredTables

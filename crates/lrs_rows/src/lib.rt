@@ -1,0 +1,13 @@
+//! Worked examples of the ground machine, which its own definitions compute.
+//!
+//! Each theorem of `specs/` states what the definitions give for a small road: three links of 10, 6 and 4
+//! millimetres, and a route over the first two. A definition that is changed breaks some of them. The
+//! functions here have no bodies of their own; each stands for one of the examples.
+#![tactic(auto)]
+
+pub mod entering;
+pub mod images;
+pub mod refusals;
+pub mod retiring;
+pub mod routes;
+pub mod stored;
