@@ -7,6 +7,7 @@ pub mod Refusals
 pub mod Long
 pub mod Readings
 pub mod Lines
+pub mod Records
 pub mod Images
 pub mod Laws
 pub mod StoredTables

@@ -7,6 +7,7 @@
 
 pub mod entering;
 pub mod images;
+pub mod records;
 pub mod refusals;
 pub mod retiring;
 pub mod routes;

@@ -1,5 +1,12 @@
 pub mod Wording
 pub mod Misfits
+pub mod Said
+pub mod OneArgument
+pub mod TableLines
+pub mod PrintedTexts
+pub mod Printed
+pub mod Deciding
+pub mod Judging
 pub mod HeaderFields
 pub mod ReadRows
 pub mod Done
@@ -7,4 +14,5 @@ pub mod Whole
 pub mod KeyBytes
 pub mod Breaking
 pub mod OneCommand
+pub mod Complete
 pub mod Determined

@@ -3,7 +3,9 @@ use Rattle.std.proofs.Common.{Ok, Err, Result, ◌∙◌, Option, ◌-◌, sym, 
 use Rattle.std.specs.Prelude.{slice_get, Contains, IsTrue}
 use Rattle.std.specs.List.{AllByRecursion}
 use Rattle.csv.specs.Records.{field_at}
-use Rattle.lrs_sheet.specs.Records.{Fits, FirstMalformed, IsWellFormed, IsVerb, Refuses, Shape, place_of, shapes_of, text_at}
+use Rattle.lrs_sheet.specs.Records.{FirstMalformedAmong, IsWellFormedAmong, Refuses, place_of, text_at, texts_of}
+use Rattle.lrs_sheet.specs.Shapes.{Fits, Shape}
+use Rattle.lrs_sheet.specs.Verbs.{IsVerb, done_verbs, shapes_of}
 use Rattle.lrs_sheet.specs.Fields.{FirstMisfit, ReadsArguments, ReadsCommand}
 use Rattle.lrs_machine.specs.declared.command.Command.{Command}
 use Rattle.lrs_sheet.specs.declared.fault.ReadFault.{ReadFault}
@@ -18,13 +20,13 @@ text_at-past (f ∷ fs) zero h = absurd (omega arith)
 text_at-past (f ∷ fs) (suc i) h = text_at-past fs i (omega arith)
 
 -- a field at an equal place
-pub fits-along : (fields : List (List ℕ)) (shape : Option Shape) (a b : ℕ) → a ≡ b → Fits shape (text_at fields a) → Fits shape (text_at fields b)
-fits-along fields shape a b e h = subst (λ (p : ℕ). Fits shape (text_at fields p)) e h
+pub fits-along : (fields : List (List ℕ)) (shape : Option Shape) (a b : ℕ) → a ≡ b → Fits (texts_of fields) shape (text_at fields a) → Fits (texts_of fields) shape (text_at fields b)
+fits-along fields shape a b e h = subst (λ (p : ℕ). Fits (texts_of fields) shape (text_at fields p)) e h
 
 -- the first misfit, by its place among the shapes
 pub misfit-at : (fields : List (List ℕ)) (place : ℕ) (shapes : List Shape) (m : ℕ) → FirstMisfit fields place shapes m
-    → (j : ℕ) × (m ≡ place + j) × (Fits (slice_get shapes j) (text_at fields (place + j)) → ⊥)
-    × ((i : ℕ) → i < j → Fits (slice_get shapes i) (text_at fields (place + i)))
+    → (j : ℕ) × (m ≡ place + j) × (Fits (texts_of fields) (slice_get shapes j) (text_at fields (place + j)) → ⊥)
+    × ((i : ℕ) → i < j → Fits (texts_of fields) (slice_get shapes i) (text_at fields (place + i)))
 misfit-at fields place [] m h =
     let e : m ≡ place + (m - place) = omega (arith, h.0) in (
       m - place,
@@ -46,21 +48,21 @@ misfit-at fields place (shape ∷ shapes) m (inr h) =
       from h.0 j earlier,
     )
   where
-    from : Fits (Some shape) (text_at fields place) → (j : ℕ) → ((i : ℕ) → i < j → Fits (slice_get shapes i) (text_at fields (place + 1 + i)))
-        → (i : ℕ) → i < suc j → Fits (slice_get (shape ∷ shapes) i) (text_at fields (place + i))
+    from : Fits (texts_of fields) (Some shape) (text_at fields place) → (j : ℕ) → ((i : ℕ) → i < j → Fits (texts_of fields) (slice_get shapes i) (text_at fields (place + 1 + i)))
+        → (i : ℕ) → i < suc j → Fits (texts_of fields) (slice_get (shape ∷ shapes) i) (text_at fields (place + i))
     from first j earlier zero below = fits-along fields (Some shape) place (place + 0) (omega arith) first
     from first j earlier (suc i) below = fits-along fields (slice_get shapes i) (place + 1 + i) (place + suc i) (omega arith) (earlier i (omega arith))
 
 -- where the key and the verb are well formed, the first misfit is the first malformed field
-pub misfit-malformed : (fields : List (List ℕ)) (m : ℕ) → IsTrue (is_key (text_at fields 0)) → IsVerb (text_at fields 1)
-    → FirstMisfit fields 2 (shapes_of (text_at fields 1)) m → FirstMalformed fields m
-misfit-malformed fields m key verb h =
+pub misfit-malformed : (names fields : List (List ℕ)) (m : ℕ) → IsTrue (is_key (text_at fields 0)) → Contains names (text_at fields 1)
+    → FirstMisfit fields 2 (shapes_of (text_at fields 1)) m → FirstMalformedAmong names fields m
+misfit-malformed names fields m key verb h =
     let (j, e, bad, earlier) = misfit-at fields 2 (shapes_of (text_at fields 1)) m h in
     let at : m ≡ suc (suc j) = omega arith in
     rw at (record { malformed = bad; earlier = before j earlier })
   where
-    before : (j : ℕ) → ((i : ℕ) → i < j → Fits (slice_get (shapes_of (text_at fields 1)) i) (text_at fields (2 + i)))
-        → (i : ℕ) → i < suc (suc j) → IsWellFormed fields i
+    before : (j : ℕ) → ((i : ℕ) → i < j → Fits (texts_of fields) (slice_get (shapes_of (text_at fields 1)) i) (text_at fields (2 + i)))
+        → (i : ℕ) → i < suc (suc j) → IsWellFormedAmong names fields i
     before j earlier zero below = key
     before j earlier (suc zero) below = verb
     before j earlier (suc (suc i)) below = earlier i (omega arith)
@@ -76,10 +78,10 @@ pub refuses : (fields : List (List ℕ)) (e : ReadFault) → IsTrue (is_key (tex
 refuses fields fault.Memory key reads = tt
 refuses fields (fault.Field at) key (inl (is, unknown)) = rw is (record { malformed = unknown; earlier = λ i below. first i below })
   where
-    first : (i : ℕ) → i < 1 → IsWellFormed fields i
+    first : (i : ℕ) → i < 1 → IsWellFormedAmong done_verbs fields i
     first zero below = key
     first (suc i) below = absurd (omega arith)
-refuses fields (fault.Field at) key (inr (known, misfit)) = misfit-malformed fields (place_of at) key known misfit
+refuses fields (fault.Field at) key (inr (known, misfit)) = misfit-malformed done_verbs fields (place_of at) key known misfit
 
 -- the fields of a verb that there is
 pub reads-verb : (fields : List (List ℕ)) (verb : List ℕ) (result : Result Command ReadFault) → IsVerb verb → text_at fields 1 ≡ verb → ReadsArguments fields verb result → ReadsCommand fields result

@@ -2,7 +2,9 @@
 use Rattle.std.proofs.Common.{◌≡◌, Option, Some, None, take, drop, ◌-◌, append_assoc, ℕ, suc, ◌+◌, ◌≤◌, Bool, true, false, List, [], ◌∷◌, ◌++◌, length, refl, sym, ap, ◌∙◌, arith, length-append}
 use Rattle.std.specs.Prelude.{◌==◌, IsTrue, IfNone, IfSome, codes}
 use Rattle.lrs_machine.specs.Entered.{are_entered_pieces, are_entered_marks}
-use Rattle.lrs_sheet.specs.Records.{Fits, Pieces, Marks, Number, Word, KindOf, PiecesOf, MarksOf}
+use Rattle.lrs_machine.specs.declared.answer.Field.{Field}
+use Rattle.lrs_sheet.proofs.Said.{pieces-said, marks-said}
+use Rattle.lrs_sheet.specs.Shapes.{Fits, Pieces, Marks}
 use Rattle.std.specs.List.{position, position_or_len}
 use Rattle.std.proofs.Math.Dec.{ltb}
 use Rattle.std.proofs.lemmas.Bool.Decides.{nat_tests}
@@ -153,17 +155,13 @@ more-parts now (Some rest) parts first goes more =
     omega (arith, some, size)
 
 -- pieces that no command can state
-pub no-pieces : (text : List ℕ) (ps : List Piece) → AreSaid IsPieceText (words_of text) ps → (IsTrue (are_entered_pieces ps) → ⊥) → Fits (Some Pieces) text → ⊥
-no-pieces text ps said not (PiecesOf qs, h) = not (rw (one-said IsPieceText one-piece (words_of text) ps qs said h.0) h.1)
-no-pieces text ps said not (MarksOf ms, h) = h
-no-pieces text ps said not (Number n, h) = h
-no-pieces text ps said not (Word name, h) = h
-no-pieces text ps said not (KindOf kind, h) = h
+pub no-pieces : (texts : Field → List ℕ) (text : List ℕ) (ps : List Piece) → AreSaid IsPieceText (words_of text) ps → (IsTrue (are_entered_pieces ps) → ⊥) → Fits texts (Some Pieces) text → ⊥
+no-pieces texts text ps said not fits =
+    let (qs, is, other, entered) = pieces-said texts text fits.0 fits.1 in
+    not (rw (one-said IsPieceText one-piece (words_of text) ps qs said other) entered)
 
 -- marks that none can state
-pub no-marks : (text : List ℕ) (ms : List Mark) → AreSaid IsMarkText (words_of text) ms → (IsTrue (are_entered_marks ms) → ⊥) → Fits (Some Marks) text → ⊥
-no-marks text ms said not (MarksOf ns, h) = not (rw (one-said IsMarkText one-mark (words_of text) ms ns said h.0) h.1)
-no-marks text ms said not (PiecesOf ps, h) = h
-no-marks text ms said not (Number n, h) = h
-no-marks text ms said not (Word name, h) = h
-no-marks text ms said not (KindOf kind, h) = h
+pub no-marks : (texts : Field → List ℕ) (text : List ℕ) (ms : List Mark) → AreSaid IsMarkText (words_of text) ms → (IsTrue (are_entered_marks ms) → ⊥) → Fits texts (Some Marks) text → ⊥
+no-marks texts text ms said not fits =
+    let (ns, is, other, entered) = marks-said texts text fits.0 fits.1 in
+    not (rw (one-said IsMarkText one-mark (words_of text) ms ns said other) entered)

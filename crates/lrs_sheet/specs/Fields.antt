@@ -6,25 +6,27 @@ use Rattle.lrs_machine.specs.declared.answer.Field.TheVariants as field
 use Rattle.lrs_machine.specs.declared.command.Command.{Command}
 use Rattle.lrs_sheet.specs.declared.fault.ReadFault.{ReadFault}
 use Rattle.lrs_sheet.specs.declared.fault.ReadFault.TheVariants as fault
-use Rattle.lrs_sheet.specs.Records.{Argument, Shape, Says, Fits, SayAll, IsVerb, place_of, shapes_of, text_at, verb_of, arguments_of}
+use Rattle.lrs_sheet.specs.Records.{SayAll, place_of, text_at, texts_of}
+use Rattle.lrs_sheet.specs.Shapes.{Argument, Shape, Says, Fits}
+use Rattle.lrs_sheet.specs.Verbs.{IsVerb, arguments_of, shapes_of, verb_of}
 
 -- the first field, from a place on, that does not fit the shapes that begin there
 abbrev pub FirstMisfit : List Text → ℕ → List Shape → ℕ → Type 0
 FirstMisfit fields place [] misfit = (place ≤ misfit) × ((i : ℕ) → place ≤ i → i < misfit → text_at fields i ≡ []) × (text_at fields misfit ≡ [] → ⊥)
 FirstMisfit fields place (shape ∷ shapes) misfit =
-    ((misfit ≡ place) × (Fits (Some shape) (text_at fields place) → ⊥))
-    ⊎ (Fits (Some shape) (text_at fields place) × FirstMisfit fields (place + 1) shapes misfit)
+    ((misfit ≡ place) × (Fits (texts_of fields) (Some shape) (text_at fields place) → ⊥))
+    ⊎ (Fits (texts_of fields) (Some shape) (text_at fields place) × FirstMisfit fields (place + 1) shapes misfit)
 
 -- one field: what it says, or that it says nothing of the shape
 abbrev pub ReadsField : {X : Type 0} → Shape → (X → Argument) → List Text → Field → Result X ReadFault → Type 0
 ReadsField shape said fields field result = MatchResult result
-    (λ x. Says shape (text_at fields (place_of field)) (said x) × Fits (Some shape) (text_at fields (place_of field)))
-    (λ e. (e ≡ fault.Field field) × (Fits (Some shape) (text_at fields (place_of field)) → ⊥))
+    (λ x. Says (texts_of fields) shape (text_at fields (place_of field)) (said x) × Fits (texts_of fields) (Some shape) (text_at fields (place_of field)))
+    (λ e. (e ≡ fault.Field field) × (Fits (texts_of fields) (Some shape) (text_at fields (place_of field)) → ⊥))
 
 -- one field that has a list: the same, or want of memory
 abbrev pub ReadsList : {X : Type 0} → Shape → (X → Argument) → List Text → Field → Result X ReadFault → Type 0
-ReadsList shape said fields field (Ok x) = Says shape (text_at fields (place_of field)) (said x) × Fits (Some shape) (text_at fields (place_of field))
-ReadsList shape said fields field (Err (fault.Field at)) = (at ≡ field) × (Fits (Some shape) (text_at fields (place_of field)) → ⊥)
+ReadsList shape said fields field (Ok x) = Says (texts_of fields) shape (text_at fields (place_of field)) (said x) × Fits (texts_of fields) (Some shape) (text_at fields (place_of field))
+ReadsList shape said fields field (Err (fault.Field at)) = (at ≡ field) × (Fits (texts_of fields) (Some shape) (text_at fields (place_of field)) → ⊥)
 ReadsList shape said fields field (Err fault.Memory) = ⊤
 
 -- the fields from a place on: that they are empty, or the first that is not

@@ -3,7 +3,8 @@
 ghost use Rattle.std.specs.Prelude.{◌≡◌};
 ghost use Rattle.csv.specs.Records.{fields_of};
 ghost use Rattle.lrs_sheet.specs.Records as spec;
-ghost use Rattle.lrs_sheet.specs.Records.{Number, Word, KindOf, PiecesOf, MarksOf, Whole};
+ghost use Rattle.lrs_sheet.specs.Shapes;
+ghost use Rattle.lrs_sheet.specs.Shapes.{Number, Word, KindOf, PiecesOf, MarksOf, Whole};
 ghost use Rattle.lrs_sheet.specs.Fields.{ReadsField, ReadsList};
 
 use crate::fault::ReadFault;
@@ -60,7 +61,7 @@ pub(crate) fn whole_at(
 
 /// The name of a class.
 pub(crate) fn class_name_at(row: &ByteRecord, field: Field) -> Result<ClassName, ReadFault>
-    ensures { ReadsField spec.ClassName Word (fields_of row.now) field result }
+    ensures { ReadsField Shapes.ClassName Word (fields_of row.now) field result }
 {
     match ClassName::new(text_at(row, place_of(field))) {
         Some(name) => Ok(name),
@@ -70,7 +71,7 @@ pub(crate) fn class_name_at(row: &ByteRecord, field: Field) -> Result<ClassName,
 
 /// The kind of a class.
 pub(crate) fn kind_at(row: &ByteRecord, field: Field) -> Result<Kind, ReadFault>
-    ensures { ReadsField spec.ClassKind KindOf (fields_of row.now) field result }
+    ensures { ReadsField Shapes.ClassKind KindOf (fields_of row.now) field result }
 {
     let text = text_at(row, place_of(field));
     if text == b"point".as_slice() {
@@ -86,7 +87,7 @@ pub(crate) fn kind_at(row: &ByteRecord, field: Field) -> Result<Kind, ReadFault>
 
 /// The name of a route.
 pub(crate) fn route_name_at(row: &ByteRecord, field: Field) -> Result<RouteName, ReadFault>
-    ensures { ReadsField spec.RouteName Word (fields_of row.now) field result }
+    ensures { ReadsField Shapes.RouteName Word (fields_of row.now) field result }
 {
     match RouteName::new(text_at(row, place_of(field))) {
         Some(name) => Ok(name),
@@ -100,7 +101,7 @@ pub(crate) fn pieces_at(
     row: &ByteRecord,
     field: Field,
 ) -> Result<PieceList, ReadFault>
-    ensures { ReadsList spec.Pieces PiecesOf (fields_of row.now) field result }
+    ensures { ReadsList Shapes.Pieces PiecesOf (fields_of row.now) field result }
 {
     match read_list(alloc, text_at(row, place_of(field))) {
         Ok(Some(pieces)) => match PieceList::new(pieces) {
@@ -114,7 +115,7 @@ pub(crate) fn pieces_at(
 
 /// A list of marks.
 pub(crate) fn marks_at(alloc: Global, row: &ByteRecord, field: Field) -> Result<MarkList, ReadFault>
-    ensures { ReadsList spec.Marks MarksOf (fields_of row.now) field result }
+    ensures { ReadsList Shapes.Marks MarksOf (fields_of row.now) field result }
 {
     match read_list(alloc, text_at(row, place_of(field))) {
         Ok(Some(marks)) => match MarkList::new(marks) {

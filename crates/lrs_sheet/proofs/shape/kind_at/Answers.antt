@@ -1,5 +1,5 @@
 use Rattle.std.proofs.Common.{rules}
-use Rattle.lrs_sheet.specs.Records.{KindOf}
+use Rattle.lrs_sheet.specs.Shapes.{KindOf}
 use Rattle.lrs_events.specs.declared.class.Kind.TheVariants.{Point, Stretch, Exclusive}
 use Rattle.lrs_sheet.proofs.shape.kind_at.Goals as goal
 

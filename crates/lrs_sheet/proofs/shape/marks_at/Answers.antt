@@ -2,7 +2,8 @@ use Rattle.std.proofs.Common.{◌≡◌, ◌∙◌, ap, refl}
 use Rattle.std.specs.Prelude.{IsTrue}
 use Rattle.csv.specs.Records.{fields_of}
 use Rattle.lrs_machine.specs.Entered.{are_entered_marks}
-use Rattle.lrs_sheet.specs.Records.{MarksOf, place_of, text_at}
+use Rattle.lrs_sheet.specs.Records.{place_of, text_at, texts_of}
+use Rattle.lrs_sheet.specs.Shapes.{MarksOf}
 use Rattle.lrs_sheet.specs.Words.{AreSaid, IsMarkText, words_of}
 use Rattle.lrs_sheet.proofs.Wording.{no-marks}
 use Rattle.lrs_sheet.proofs.shape.marks_at.Goals as goal
@@ -19,4 +20,4 @@ pub returns-in-None : goal.returns-in-None
 returns-in-None c =
     let text : c.text_at.result.now ≡ text_at (fields_of c.args.row.now) (place_of c.args.field) = c.text_at.ensures ∙ ap (text_at (fields_of c.args.row.now)) c.place_of.ensures in
     let found : AreSaid IsMarkText (words_of c.text_at.result.now) c.in-Ok-Some.marks.items = rw c.in-Ok-Some.field-0-is at c.in-Ok-Some.ensures.some in
-    (refl, no-marks (text_at (fields_of c.args.row.now) (place_of c.args.field)) c.in-Ok-Some.marks.items (rw (← text) found) c.in-None.ensures)
+    (refl, no-marks (texts_of (fields_of c.args.row.now)) (text_at (fields_of c.args.row.now) (place_of c.args.field)) c.in-Ok-Some.marks.items (rw (← text) found) c.in-None.ensures)

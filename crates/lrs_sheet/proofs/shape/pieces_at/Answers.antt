@@ -2,7 +2,8 @@ use Rattle.std.proofs.Common.{◌≡◌, ◌∙◌, ap, refl}
 use Rattle.std.specs.Prelude.{IsTrue}
 use Rattle.csv.specs.Records.{fields_of}
 use Rattle.lrs_machine.specs.Entered.{are_entered_pieces}
-use Rattle.lrs_sheet.specs.Records.{PiecesOf, place_of, text_at}
+use Rattle.lrs_sheet.specs.Records.{place_of, text_at, texts_of}
+use Rattle.lrs_sheet.specs.Shapes.{PiecesOf}
 use Rattle.lrs_sheet.specs.Words.{AreSaid, IsPieceText, words_of}
 use Rattle.lrs_sheet.proofs.Wording.{no-pieces}
 use Rattle.lrs_sheet.proofs.shape.pieces_at.Goals as goal
@@ -19,4 +20,4 @@ pub returns-in-None : goal.returns-in-None
 returns-in-None c =
     let text : c.text_at.result.now ≡ text_at (fields_of c.args.row.now) (place_of c.args.field) = c.text_at.ensures ∙ ap (text_at (fields_of c.args.row.now)) c.place_of.ensures in
     let found : AreSaid IsPieceText (words_of c.text_at.result.now) c.in-Ok-Some.pieces.items = rw c.in-Ok-Some.field-0-is at c.in-Ok-Some.ensures.some in
-    (refl, no-pieces (text_at (fields_of c.args.row.now) (place_of c.args.field)) c.in-Ok-Some.pieces.items (rw (← text) found) c.in-None.ensures)
+    (refl, no-pieces (texts_of (fields_of c.args.row.now)) (text_at (fields_of c.args.row.now) (place_of c.args.field)) c.in-Ok-Some.pieces.items (rw (← text) found) c.in-None.ensures)

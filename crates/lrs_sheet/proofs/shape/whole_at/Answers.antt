@@ -1,5 +1,5 @@
 use Rattle.std.proofs.Common.{rules}
-use Rattle.lrs_sheet.specs.Records.{Number}
+use Rattle.lrs_sheet.specs.Shapes.{Number}
 use Rattle.lrs_sheet.proofs.shape.whole_at.Goals as goal
 
 pub returns-in-Some : goal.returns-in-Some
