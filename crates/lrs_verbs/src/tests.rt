@@ -2,9 +2,9 @@ use super::*;
 use lrs_element::{Link, Mark, Piece};
 use lrs_events::{Class, ClassName, Kind};
 use lrs_keep::Difference;
-use lrs_machine::{Cause, Command, Edit, Image, Key, MarkList, PieceList, RouteEntry};
+use lrs_machine::{Cause, Command, Image, MarkList, PieceList, RouteEntry};
 use lrs_measure::Rows;
-use lrs_position::{RefName, RouteName};
+use lrs_position::RouteName;
 use lrs_sound::first_unsound;
 use std::process::Abort;
 
@@ -63,12 +63,7 @@ fn piece(link: u32, a: u32, b: u32, forward: bool) -> Piece {
 }
 
 /// A new route of this name, with marks at 0 and at this length.
-fn route(
-    rt: &(impl Abort + AllocGlobal),
-    text: &str,
-    pieces: &[Piece],
-    length: u64,
-) -> Command {
+fn route(rt: &(impl Abort + AllocGlobal), text: &str, pieces: &[Piece], length: u64) -> Command {
     let pieces = Vec::from_slice(rt.alloc(), pieces).expect(rt, "memory");
     let mut marks = Vec::new(rt.alloc());
     for at in [0, length] {
@@ -99,90 +94,80 @@ fn planned(
     }
 }
 
-/// Why a command is refused.
-fn refusal(
-    rt: &(impl Abort + AllocGlobal),
-    inventory: &Inventory,
-    command: Command,
-) -> Option<Cause> {
-    planned(rt, inventory, command).err()
+/// Expects that a command is refused for this cause.
+fn refuses(rt: &(impl Abort + AllocGlobal), inventory: &Inventory, command: Command, cause: Cause) {
+    let refusal = planned(rt, inventory, command).err();
+    assert!(rt; refusal == Some(cause));
+}
+
+/// The route A1 over both links, as it is planned.
+fn planned_route(rt: &(impl Abort + AllocGlobal)) -> Plan {
+    let free = roads(rt, None);
+    let pieces = [piece(1, 0, 1_000, true), piece(2, 100, 500, false)];
+    assert!(rt; free.first_taken(&pieces).is_none());
+    planned(rt, &free, route(rt, "A1", &pieces, 1_400)).expect(rt, "a plan")
+}
+
+/// The inventory of the links and the route A1.
+fn with_route(rt: &(impl Abort + AllocGlobal)) -> Inventory {
+    let plan = planned_route(rt);
+    let Plan { difference, .. } = plan;
+    let Difference { made, .. } = difference;
+    assert!(rt; made.is_some());
+    roads(rt, made)
 }
 
 #[test]
-fn links_and_classes_are_planned_while_they_are_new(rt: HostRuntime) {
-    let alloc = rt.alloc();
-    let none = inventory(&rt, Image::empty(alloc));
-    let sign = class(&rt, "SIGN", Kind::Point);
+fn a_link_is_planned_while_it_is_new(rt: HostRuntime) {
+    let none = inventory(&rt, Image::empty(rt.alloc()));
     let plan = planned(&rt, &none, Command::Link(ROADS[0])).expect(&rt, "a plan");
-    assert!(rt; plan.difference.link == Some(ROADS[0]) && plan.ground.is_none());
-    let plan = planned(&rt, &none, Command::Class(sign)).expect(&rt, "a plan");
-    assert!(rt; plan.difference.class == Some(sign) && plan.difference.link.is_none());
+    assert!(rt; plan.difference.link == Some(ROADS[0]));
+    let roads = roads(&rt, None);
+    assert!(rt; roads.link_length(2) == Some(500));
+    assert!(rt; roads.link_length(3).is_none());
+    refuses(&rt, &roads, Command::Link(ROADS[1]), Cause::LinkKnown);
+}
 
+#[test]
+fn a_class_is_planned_while_it_is_new(rt: HostRuntime) {
+    let alloc = rt.alloc();
+    let sign = class(&rt, "SIGN", Kind::Point);
+    let none = inventory(&rt, Image::empty(alloc));
+    let plan = planned(&rt, &none, Command::Class(sign)).expect(&rt, "a plan");
+    assert!(rt; plan.difference.class == Some(sign));
     let mut image = Image::empty(alloc);
     let mut classes = Vec::new(alloc);
     classes.push(sign).expect(&rt, "memory");
     image.classes = Rows::from_vec(classes);
     let known = inventory(&rt, image);
     assert!(rt; known.class(&sign.name) == Some(Kind::Point));
-    assert!(rt; refusal(&rt, &known, Command::Class(sign)) == Some(Cause::ClassKnown));
-    let roads = roads(&rt, None);
-    assert!(rt; roads.link_length(2) == Some(500) && roads.link_length(3).is_none());
-    assert!(rt; refusal(&rt, &roads, Command::Link(ROADS[1])) == Some(Cause::LinkKnown));
+    refuses(&rt, &known, Command::Class(sign), Cause::ClassKnown);
 }
 
 #[test]
-fn routes_are_planned_over_free_ground(rt: HostRuntime) {
+fn a_route_is_planned_with_its_ground(rt: HostRuntime) {
+    let plan = planned_route(&rt);
+    let ground = plan.ground.expect(&rt, "ground");
     let pieces = [piece(1, 0, 1_000, true), piece(2, 100, 500, false)];
-    let free = roads(&rt, None);
-    assert!(rt; free.first_taken(&pieces).is_none() && free.route_over(1, 0).is_none());
-    let plan = planned(&rt, &free, route(&rt, "A1", &pieces, 1_400)).expect(&rt, "a plan");
-    let Plan {
-        difference, ground, ..
-    } = plan;
-    let ground = ground.expect(&rt, "ground");
     assert!(rt; ground.come.as_slice() == pieces.as_slice());
-
-    // The same with the route.
-    let Difference { made, .. } = difference;
-    assert!(rt; made.is_some());
-    let known = roads(&rt, made);
-    let a1 = name(&rt, "A1");
-    assert!(rt; known.route_over(1, 999) == Some(a1) && known.route_over(2, 100) == Some(a1));
-    assert!(rt; known.route_over(2, 99).is_none() && known.route_over(3, 0).is_none());
-    let found = known.route(&a1).expect(&rt, "the route");
-    assert!(rt; found.route.course.len() == 1_400 && known.routes() == 1);
-    for (text, pieces, cause) in [
-        ("A1", [piece(2, 0, 50, true), piece(2, 50, 90, true)], Cause::RouteKnown),
-        ("A2", [piece(2, 0, 50, true), piece(3, 0, 50, true)], Cause::NoLink),
-        ("A2", [piece(2, 0, 50, true), piece(2, 50, 501, true)], Cause::BadPiece(1)),
-        ("A2", [piece(2, 0, 50, true), piece(2, 49, 90, true)], Cause::Taken(1)),
-        ("A2", [piece(2, 0, 90, true), piece(2, 499, 500, true)], Cause::Taken(1)),
-        ("A2", [piece(2, 0, 50, true), piece(2, 50, 90, true)], Cause::BadMarks(1)),
-    ] {
-        let command = route(&rt, text, &pieces, 91);
-        assert!(rt; refusal(&rt, &known, command) == Some(cause));
-    }
 }
 
 #[test]
-fn edits_are_found_by_their_keys(rt: HostRuntime) {
-    let alloc = rt.alloc();
-    let mut image = Image::empty(alloc);
-    let mut edits = Vec::new(alloc);
-    for text in ["s1", "s2"] {
-        let key = Key::new(text.as_bytes()).expect(&rt, "a key");
-        let line = Command::Link(ROADS[0]).line(alloc).expect(&rt, "memory");
-        edits.push(Edit { key, line }).expect(&rt, "memory");
-    }
-    image.edits = Rows::from_vec(edits);
-    let kept = inventory(&rt, image);
-    let key = Key::new(b"s2").expect(&rt, "a key");
-    let (number, edit) = kept.edit_of_key(&key).expect(&rt, "an edit");
-    assert!(rt; number == 2 && edit.key == key && kept.edits() == 2);
-    let other = Key::new(b"s3").expect(&rt, "a key");
-    assert!(rt; kept.edit_of_key(&other).is_none());
-    let name = RefName::new(b"KM1").expect(&rt, "a name");
-    assert!(rt; kept.referent(&name).is_none() && kept.asset(1).is_none());
-    let image = kept.image(alloc).expect(&rt, "memory");
-    assert!(rt; image.edits.len() == 2 && image.links.is_empty());
+fn a_route_is_found_by_its_name_and_its_ground(rt: HostRuntime) {
+    let known = with_route(&rt);
+    let a1 = name(&rt, "A1");
+    let found = known.route(&a1).expect(&rt, "the route");
+    assert!(rt; found.route.course.len() == 1_400);
+    assert!(rt; known.route_over(2, 100) == Some(a1));
+    assert!(rt; known.route_over(2, 99).is_none());
+}
+
+#[test]
+fn routes_are_refused_by_their_first_check(rt: HostRuntime) {
+    let known = with_route(&rt);
+    let free = [piece(2, 0, 50, true)];
+    refuses(&rt, &known, route(&rt, "A1", &free, 50), Cause::RouteKnown);
+    let taken = [piece(2, 0, 50, true), piece(2, 99, 101, true)];
+    refuses(&rt, &known, route(&rt, "A2", &taken, 52), Cause::Taken(1));
+    refuses(&rt, &known, route(&rt, "A2", &free, 51), Cause::BadMarks(1));
 }
