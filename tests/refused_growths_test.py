@@ -1,6 +1,7 @@
 """Want of memory: the tests of refused growths (crates/*/src/refused.rt) run with one allocation refused, each in turn."""
 
 import concurrent.futures
+import os
 import pathlib
 import re
 import subprocess
@@ -9,6 +10,9 @@ CRATES = pathlib.Path(__file__).resolve().parent.parent / "crates"
 
 # Above the number of allocations that one of those tests makes.
 MOST_ALLOCATIONS = 100
+
+# How many runs there are side by side.
+RUNS = min(os.cpu_count() or 2, 4)
 
 
 def run_refusing(crate, allocation):
@@ -26,14 +30,15 @@ def refused_calls(printed):
     return set(re.findall(r"^ +refused: (\S+)$", printed, re.M))
 
 
-def each_refused_call(crate, step=1, least=1):
-    """The calls that were refused, with each step-th allocation refused until none is left to refuse.
+def each_refused_call(crate, step=1, start=1, least=1):
+    """The calls that were refused, with each step-th allocation from the start on refused until none is left to refuse.
 
     Before the least allocation there are some that no test tells of, since they only make what a call is tried on."""
     refused = set()
-    with concurrent.futures.ThreadPoolExecutor(2) as pool:
-        for first in range(1, MOST_ALLOCATIONS, 2 * step):
-            runs = pool.map(lambda n: run_refusing(crate, n), (first, first + step))
+    with concurrent.futures.ThreadPoolExecutor(RUNS) as pool:
+        for first in range(start, MOST_ALLOCATIONS, RUNS * step):
+            last = first + RUNS * step
+            runs = pool.map(lambda n: run_refusing(crate, n), range(first, last, step))
             calls = [refused_calls(printed) for printed in runs]
             refused.update(*calls)
             if first >= least and not all(calls):
@@ -56,7 +61,8 @@ def test_a_desk_bears_a_refused_growth():
 
 
 def test_deciding_soundness_bears_a_refused_growth():
-    assert each_refused_call("lrs_sound", step=5, least=41) == {"image_of", "first_unsound"}
+    # The image takes some 20 allocations; then each one of the call is refused.
+    assert each_refused_call("lrs_sound_tests", start=19) == {"image_of", "first_unsound"}
 
 
 def test_spans_bear_a_refused_growth():

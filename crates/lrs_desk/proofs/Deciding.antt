@@ -1,6 +1,6 @@
 -- How the ground machine answers a command, by what is found in an image.
-use Rattle.std.proofs.Common.{◌≡◌, ℕ, ◌+◌, ◌<◌, ◌≤◌, suc, zero, Bool, true, false, cond, List, [], ◌∷◌, length, map, Some, None, Result, Ok, Err, refl, sym, ap, ◌∙◌, arith}
-use Rattle.std.specs.Prelude.{not, ◌&&◌, nat_le, nat_lt, slice_index_or}
+use Rattle.std.proofs.Common.{◌≡◌, ℕ, ◌+◌, ◌≤◌, Bool, true, false, cond, List, [], ◌∷◌, length, map, Option, Some, None, Result, Ok, Err, refl, sym, ap, ◌∙◌, arith, ◌⊎◌, inl, inr}
+use Rattle.std.specs.Prelude.{not, ◌&&◌, nat_le, nat_lt, option_map}
 use Rattle.std.specs.List.{position, position_or_len, prefix_len, list_all}
 use Rattle.std.proofs.lemmas.Bool.{and_parts, leb-true}
 use Rattle.std.proofs.lemmas.Bool.Decides.{nat_tests}
@@ -15,16 +15,19 @@ use Rattle.lrs_machine.specs.declared.answer.Answer.TheVariants.{Done, Refused}
 use Rattle.lrs_machine.specs.declared.command.Command.{Command}
 use Rattle.lrs_machine.specs.declared.image.Edit.{Edit}
 use Rattle.lrs_machine.specs.declared.image.Image.{Image}
-use Rattle.lrs_desk.specs.declared.change.Parts.{Parts}
+use Rattle.lrs_machine.specs.declared.table.Table.{Table}
+use Rattle.lrs_verbs.specs.declared.plan.Plan.{Plan}
 use Rattle.lrs_machine.specs.Bounds.{most_routes, most_assets, most_edits}
 use Rattle.lrs_machine.specs.State.{State}
 use Rattle.lrs_machine.specs.State as state
 use Rattle.lrs_machine.specs.Image.{state_of, asset_entry, route_entry}
-use Rattle.lrs_desk.specs.Change.{with_parts}
-use Rattle.lrs_desk.specs.Index.{place_among}
+use Rattle.lrs_keep.specs.Change.{with_difference, apply}
+use Rattle.lrs_verbs.specs.Keys.{place_among}
 use Rattle.lrs_machine.specs.Lines.{line_of}
-use Rattle.lrs_machine.specs.Machine.{Outcome, step, attempt, step_by_key, outcome_of, next, answer_known, line_at, check_room, refuse_if, ◌>>◌, needs_asset, needs_route}
-use Rattle.lrs_desk.specs.Plan.{Makes}
+use Rattle.lrs_machine.specs.Sound.{IsSound}
+use Rattle.lrs_machine.specs.Machine.{Outcome, step, attempt, step_by_key, outcome_of, next, answer_known, line_at, place_of_key, check_room, refuse_if, ◌>>◌, needs_asset, needs_route}
+use Rattle.lrs_verbs.specs.Plans.{IsPlanOf, change_of}
+use Rattle.lrs_orderly.proofs.Making.{made_is_sound}
 use Rattle.lrs_desk.specs.Decide.{IsDoneBy, HasRoom, LacksRoom, edit_of, done_image}
 
 -- an edit as the ground machine keeps it
@@ -55,18 +58,25 @@ module _ {X : Type 0} (p : X → Bool) where
       at_end true e k = cc
       at_end false e k = grind (arith, nat_tests)
 
-line_at-kept : (edits : List Edit) (place : ℕ) (d : Edit) → place < length edits → line_at place (map kept_edit edits) ≡ (slice_index_or edits place d).line
-line_at-kept [] place d h = absurd (omega (arith, h))
-line_at-kept (e ∷ es) zero d h = refl
-line_at-kept (e ∷ es) (suc k) d h = line_at-kept es k d (omega (arith, h))
-
 -- The key is known: nothing changes.
-pub step-known : (limits : Limits) (key : Name) (command : Command) (i : Image) (place : ℕ) (d : Edit) → place < length i.edits → place_among i.edits key ≡ Some place
-    → step limits key command (state_of i) ≡ record { answer = answer_known (place + 1) (slice_index_or i.edits place d).line (line_of command); state = state_of i }
-unfolding step state_of
-step-known limits key command i place d within at =
-    ap (step_by_key limits key command (state_of i)) (position-map kept_edit (λ e. same_name e.key key) i.edits ∙ at)
-    ∙ ap (λ line. let o : Outcome = record { answer = answer_known (place + 1) line (line_of command); state = state_of i } in o) (line_at-kept i.edits place d within)
+pub step-known : (limits : Limits) (key : Name) (command : Command) (s : State) (place : ℕ) → place_of_key key s.done ≡ Some place
+    → step limits key command s ≡ record { answer = answer_known (place + 1) (line_at place s.done) (line_of command); state = s }
+unfolding step
+step-known limits key command s place at = ap (step_by_key limits key command s) at
+
+-- the place of which a number is one more
+pub place_before : (n : ℕ) (o : Option ℕ) → Some n ≡ option_map (λ place. place + 1) o → (place : ℕ) × (o ≡ Some place) × (n ≡ place + 1)
+place_before n None h = absurd (cc h)
+place_before n (Some place) h = (place, refl, cc h)
+
+pub no_place : (o : Option ℕ) → ◌≡◌ {A = Option ℕ} None (option_map (λ place. place + 1) o) → o ≡ None
+no_place None h = refl
+no_place (Some place) h = absurd (cc h)
+
+-- no edit of an image has the key
+pub new_key : (key : Name) (i : Image) → place_of_key key (state_of i).done ≡ None → place_among i.edits key ≡ None
+unfolding state_of
+new_key key i none = sym (position-map kept_edit (λ e. same_name e.key key) i.edits) ∙ none
 
 -- The key is new.
 step-new : (limits : Limits) (key : Name) (command : Command) (i : Image) → place_among i.edits key ≡ None
@@ -104,6 +114,11 @@ limits_few_routes limits =
     let both = and_parts (nat_le limits.routes most_routes && nat_le limits.assets most_assets) (nat_le limits.edits most_edits) limits.bounds in
     leb-true limits.routes most_routes (and_parts (nat_le limits.routes most_routes) (nat_le limits.assets most_assets) both.0).0
 
+limits_few_assets : (limits : Limits) → limits.assets ≤ most_assets
+limits_few_assets limits =
+    let both = and_parts (nat_le limits.routes most_routes && nat_le limits.assets most_assets) (nat_le limits.edits most_edits) limits.bounds in
+    leb-true limits.assets most_assets (and_parts (nat_le limits.routes most_routes) (nat_le limits.assets most_assets) both.0).1
+
 module _ (limits : Limits) (key : Name) (command : Command) (i : Image) (none : place_among i.edits key ≡ None) where
   pub step-limited : (what : What) → LacksRoom what limits command i → step limits key command (state_of i) ≡ record { answer = Refused (cause.TooMany what); state = state_of i }
   step-limited what h =
@@ -121,24 +136,32 @@ module _ (limits : Limits) (key : Name) (command : Command) (i : Image) (none : 
       → step limits key command (state_of i) ≡ record { answer = Refused c; state = state_of i }
   step-refused c room refused = step-new limits key command i none ∙ ap (outcome_of key command (state_of i)) (next-attempt room ∙ refused)
 
-  done_is : (p : Parts) → outcome_of key command (state_of i) (Ok (state_of (with_parts p i))) ≡ record { answer = Done (length i.edits + 1); state = state_of (done_image key command p i) }
+  done_is : (p : Plan) → outcome_of key command (state_of i) (Ok (state_of (with_difference p.difference i))) ≡ record { answer = Done (length i.edits + 1); state = state_of (done_image key command p i) }
   unfolding state_of
   done_is p = λ j. record {
     answer = Done (length-map i.edits kept_edit j + 1);
-    state = record (state_of (with_parts p i)) { done = sym (map-append kept_edit i.edits (edit_of key command ∷ [])) j };
+    state = record (state_of (with_difference p.difference i)) { done = sym (map-append kept_edit i.edits (edit_of key command ∷ [])) j };
   }
 
-  pub is_done : (p : Parts) → HasRoom limits command i → Makes command i p → IsDoneBy limits key command i p
-  is_done p room makes = record {
-    dropped = makes.dropped;
-    outcome = step-new limits key command i none ∙ ap (outcome_of key command (state_of i)) (next-attempt room ∙ makes.state) ∙ done_is p;
-    sound = makes.sound (edit_of key command) (none_passes (λ (e : Edit). same_name e.key key) i.edits none) (few room.edits (limits_few limits)) (few_routes (needs_route command) room.routes (limits_few_routes limits));
+  pub is_done : (p : Plan) → IsSound i → HasRoom limits command i → IsPlanOf command i p → IsDoneBy limits key command i p
+  is_done p sound room plan = record {
+    is_plan = plan;
+    outcome = step-new limits key command i none ∙ ap (outcome_of key command (state_of i)) (next-attempt room ∙ plan.makes.state) ∙ done_is p;
+    sound = made_is_sound command i (with_difference p.difference i) (edit_of key command) sound plan.makes
+        (record { assets = few_rows (needs_asset command) (length i.assets) limits.assets most_assets room.assets (limits_few_assets limits); routes = few_rows (needs_route command) (length i.routes) limits.routes most_routes room.routes (limits_few_routes limits) })
+        (none_passes (λ (e : Edit). same_name e.key key) i.edits none) (few room.edits (limits_few limits));
     new_key = none;
   }
     where
       few : nat_le limits.edits (length i.edits) ≡ false → limits.edits ≤ most_edits → length i.edits + 1 ≤ most_edits
       few h k = grind (arith, nat_tests)
 
-      few_routes : (b : Bool) → (b && nat_le limits.routes (length i.routes)) ≡ false → limits.routes ≤ most_routes → b ≡ true → length i.routes + 1 ≤ most_routes
-      few_routes true h k e = grind (arith, nat_tests)
-      few_routes false h k e = absurd (cc e)
+      few_rows : (b : Bool) (n limit most : ℕ) → (b && nat_le limit n) ≡ false → limit ≤ most → b ≡ true → n + 1 ≤ most
+      few_rows true n limit most h k e = grind (arith, nat_tests)
+      few_rows false n limit most h k e = absurd (cc e)
+
+-- What may be found after a failed commit of what is done: the old image, or one of the next state.
+pub old_or_next : (limits : Limits) (key : Name) (command : Command) (i : Image) (p : Plan) (e : Edit) → IsDoneBy limits key command i p → e ≡ edit_of key command → (c : Result Image Table)
+    → (c ≡ Ok i) ⊎ (c ≡ Ok (apply (change_of e p) i)) → (c ≡ Ok i) ⊎ ((image : Image) × (c ≡ Ok image) × (state_of image ≡ (step limits key command (state_of i)).state) × IsSound image)
+old_or_next limits key command i p e d same c (inl a) = inl a
+old_or_next limits key command i p e d same c (inr a) = inr (done_image key command p i, a ∙ ap (λ (e : Edit). Ok (apply (change_of e p) i)) same, sym (ap (λ (o : Outcome). o.state) d.outcome), d.sound)

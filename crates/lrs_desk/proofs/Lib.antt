@@ -1,15 +1,2 @@
-pub mod Inserts
-pub mod Inserted
-pub mod Places
-pub mod Dropped
-pub mod Tables
-pub mod Filed
-pub mod Keyed
 pub mod Deciding
-pub mod Leaving
-pub mod NewLink
-pub mod NewClass
-pub mod NewCourse
-pub mod NewRoute
-pub mod RunOver
 pub mod Running

@@ -7,7 +7,7 @@ use Rattle.lrs_machine.specs.declared.image.Image.{Image}
 use Rattle.lrs_machine.specs.Image.{state_of}
 use Rattle.lrs_machine.specs.Machine.{step, Record}
 use Rattle.lrs_machine.specs.Sound.{IsSound}
-use Rattle.lrs_desk.specs.Keeping.{HasRisen}
+use Rattle.lrs_keep.specs.Keeping.{HasRisen}
 use Rattle.lrs_desk.specs.DeskView.{DeskView}
 
 -- the same image, and nothing else to be found

@@ -1,10 +1,3 @@
-pub mod Change
-pub mod Opened
-pub mod Keeping
-pub mod Index
-pub mod RunOver
-pub mod Plan
-pub mod NewRoute
 pub mod Decide
 pub mod DeskView
 pub mod Desk

@@ -1,35 +1,21 @@
 //! The desk: it does commands, and keeps what they change.
 
-ghost use Rattle.std.specs.Prelude.{◌≡◌, ◌+◌, ◌≤◌, ◌↔◌, IsTrue, IfOk, IfErr, OnOk, OnErr, Ok, Err, Result, ℕ, take, length, true, false, not, None, []};
-ghost use Rattle.lrs_measure.specs.Lists.{each_two};
-ghost use Rattle.lrs_measure.specs.Texts.{same_name};
+ghost use Rattle.std.specs.Prelude.{◌≡◌, ◌↔◌, IsTrue, ◌+◌, IfOk, IfErr, OnOk, OnErr, Ok, Err, Result, ℕ, length, take, true, false, None};
 ghost use Rattle.lrs_machine.specs.declared.table.Table.{Table};
 ghost use Rattle.lrs_machine.specs.declared.image.Image.{Image as ImageRows};
-ghost use Rattle.lrs_desk.specs.Change.{apply};
 ghost use Rattle.lrs_machine.specs.Image.{state_of};
-ghost use Rattle.lrs_machine.specs.Machine.{step, answers, state_after};
 ghost use Rattle.lrs_machine.specs.Laws.{once};
-ghost use Rattle.lrs_desk.specs.Index.{IsIndex, place_among};
-ghost use Rattle.lrs_desk.specs.RunOver.{IsOccupiedBy};
-ghost use Rattle.lrs_index.specs.Occupied.{HasGained, is_run_once, is_shared};
-ghost use Rattle.lrs_element.specs.Course.{course_of};
-ghost use Rattle.lrs_element.specs.Pieces.{IsFilled};
-ghost use Rattle.std.specs.List.{AllByRecursion};
-ghost use Rattle.std.specs.FinMap as map;
-ghost use Rattle.lrs_machine.specs.Sound.{IsSound};
-ghost use Rattle.lrs_desk.specs.Keeping.{HasRisen, HoldsOnly, HoldsOldOrNew};
+ghost use Rattle.lrs_machine.specs.Machine.{step, answers, state_after};
+ghost use Rattle.lrs_keep.specs.Change.{apply, CanMake};
+ghost use Rattle.lrs_keep.specs.Keeping.{HasRisen, HoldsOnly, HoldsOldOrNew};
+ghost use Rattle.lrs_verbs.specs.Keys.{place_among};
+ghost use Rattle.lrs_verbs.specs.Plans.{change_of, TellsGround};
 ghost use Rattle.lrs_desk.specs.Desk.{IsUnchanged, HasBroken, records_of};
 
-use crate::change::{Change, Parts};
 use crate::decide::{Decision, decide};
-use crate::index::KeyIndex;
-use crate::keep::keep;
-use crate::keeper::{KeepFault, Keeper};
-use crate::planned::Planned;
-use crate::taken::{ground_of, pieces_of};
-use lrs_element::Piece;
-use lrs_index::OccupiedGround;
-use lrs_machine::{Answer, Edit, Image, Key, Limits, Table};
+use lrs_keep::{CommitFault, Keeper, LoadFault};
+use lrs_machine::{Answer, Edit, Key, Limits, Table};
+use lrs_verbs::{Inventory, Plan, Planned};
 use std::alloc::{AllocError, AllocFailed, Global};
 use std::marker::Model;
 
@@ -69,39 +55,25 @@ pub enum OpenFault {
     Memory,
 }
 
-fn open_fault(fault: KeepFault) -> OpenFault
-    ensures memory { fault ≡ KeepFault.Memory → result ≡ OpenFault.Memory }
-    ensures keep { result ≡ OpenFault.Keep → fault ≡ KeepFault.Store }
-    ensures store { fault ≡ KeepFault.Store → result ≡ OpenFault.Keep }
-    ensures unsound { (t : Table) → result ≡ OpenFault.Unsound t → fault ≡ KeepFault.Unsound t }
-    ensures named { (t : Table) → fault ≡ KeepFault.Unsound t → result ≡ OpenFault.Unsound t }
+fn open_fault(fault: LoadFault) -> OpenFault
+    ensures memory { fault ≡ LoadFault.Memory → result ≡ OpenFault.Memory }
+    ensures keep { result ≡ OpenFault.Keep → fault ≡ LoadFault.Store }
+    ensures store { fault ≡ LoadFault.Store → result ≡ OpenFault.Keep }
+    ensures unsound { (t : Table) → result ≡ OpenFault.Unsound t → fault ≡ LoadFault.Unsound t }
+    ensures named { (t : Table) → fault ≡ LoadFault.Unsound t → result ≡ OpenFault.Unsound t }
 {
     match fault {
-        KeepFault::Memory => OpenFault::Memory,
-        KeepFault::Store => OpenFault::Keep,
-        KeepFault::Unsound(table) => OpenFault::Unsound(table),
+        LoadFault::Memory => OpenFault::Memory,
+        LoadFault::Store => OpenFault::Keep,
+        LoadFault::Unsound(table) => OpenFault::Unsound(table),
     }
-}
-
-// The places of the keys of edits, of which each has a key of its own.
-fn index_of(edits: &[Edit], alloc: Global) -> Result<KeyIndex, AllocError>
-    requires once { each_two (λ d e. not (same_name d.key e.key)) edits.now ≡ true }
-    ensures { IfOk result (λ keys. IsIndex keys edits.now) }
-{
-    let mut keys = KeyIndex::new(alloc);
-    for (i, edit) in edits.iter().enumerate() {
-        keys.insert(edit.key, i as u64)?;
-    }
-    Ok(keys)
 }
 
 /// Does commands under keys, over any keeper.
 #[derive(Drop)]
 pub struct Desk<K: Keeper> {
     keeper: K,
-    image: Image,
-    keys: KeyIndex,
-    occupied: OccupiedGround,
+    inventory: Inventory,
     limits: Limits,
     must_reopen: bool,
     alloc: Global,
@@ -113,13 +85,13 @@ impl<K: Keeper> Model for Desk<K> {
     ghost Value = { DeskView K };
 
     ghost view = { λ d. record {
-      image = d.image;
+      image = d.inventory;
       limits = d.limits;
       must_reopen = d.must_reopen;
       keeper = d.keeper;
     } };
 
-    ghost invariant = { λ d. IsWorking d.image d.keys d.occupied d.must_reopen (K.may_hold d.keeper) (K.is_loaded d.keeper) };
+    ghost invariant = { λ d. IsWorking d.inventory d.must_reopen (K.may_hold d.keeper) (K.is_loaded d.keeper) };
 }
 
 impl<K: Keeper> Desk<K> {
@@ -143,17 +115,12 @@ impl<K: Keeper> Desk<K> {
             Ok(image) => image,
             Err(fault) => return Err((open_fault(fault), keeper)),
         };
-        let Ok(keys) = index_of(image.edits.as_slice(), alloc) else {
-            return Err((OpenFault::Memory, keeper));
-        };
-        let Ok(occupied) = ground_of(image.routes.as_slice(), alloc) else {
+        let Ok(inventory) = Inventory::new(alloc, image) else {
             return Err((OpenFault::Memory, keeper));
         };
         Ok(Desk {
             keeper,
-            image,
-            keys,
-            occupied,
+            inventory,
             limits,
             must_reopen: false,
             alloc,
@@ -161,11 +128,10 @@ impl<K: Keeper> Desk<K> {
     }
 
     /// What is known.
-    pub fn image(&self) -> &Image
-        ensures image { result.now ≡ self.now.image }
-        ensures sound { IsSound self.now.image }
+    pub fn inventory(&self) -> &Inventory
+        ensures { result.now ≡ self.now.image }
     {
-        &self.image
+        &self.inventory
     }
 
     /// Gives the keeper back.
@@ -201,26 +167,22 @@ impl<K: Keeper> Desk<K> {
         let line = command.command().line(self.alloc)?;
         let decision = decide(
             self.alloc,
-            &self.image,
+            &self.inventory,
             &self.limits,
-            &self.keys,
-            &self.occupied,
             &key,
             command,
             &line,
         )?;
         match decision {
             Decision::Stay(answer) => Ok(answer),
-            Decision::Make(parts) => {
+            Decision::Make(plan) => {
                 let edit = Edit { key, line };
                 let made = make(
                     self.alloc,
-                    &mut self.image,
-                    &mut self.keys,
-                    &mut self.occupied,
+                    &mut self.inventory,
                     &mut self.keeper,
                     edit,
-                    parts,
+                    plan,
                 );
                 self.must_reopen = matches!(made, Err(Fault::Keep));
                 made
@@ -229,87 +191,44 @@ impl<K: Keeper> Desk<K> {
     }
 }
 
-// Makes a change, and answers the number of its edit. What comes is indexed before the commit, which
-// needs memory, and taken out again if the commit fails, which needs none.
+// Makes the change of a plan, and answers the number of its edit.
 fn make<K: Keeper>(
     alloc: Global,
-    image: &mut Image,
-    keys: &mut KeyIndex,
-    occupied: &mut OccupiedGround,
+    inventory: &mut Inventory,
     keeper: &mut K,
     edit: Edit,
-    parts: Parts,
+    plan: Plan,
 ) -> Result<Answer, Fault>
     requires loaded { K.is_loaded keeper.old ≡ true }
-    requires kept { HoldsOnly (K.may_hold keeper.old) image.old }
-    requires sound { IsSound image.old }
-    requires next_sound { IsSound (apply (record { edit = edit; parts = parts }) image.old) }
-    requires keys { IsIndex keys.old image.old.edits }
-    requires routes { IsOccupiedBy occupied.old image.old.routes }
-    requires new_key { place_among image.old.edits edit.key ≡ None }
-    requires dropped { parts.dropped ≡ [] }
-    ensures answer { IfOk result (λ answer. answer ≡ Answer.Done (length image.old.edits + 1)) }
-    ensures ok { OnOk result (image.new ≡ apply (record { edit = edit; parts = parts }) image.old) }
-    ensures ok_kept { OnOk result (HoldsOnly (K.may_hold keeper.new) (apply (record { edit = edit; parts = parts }) image.old)) }
-    ensures err { OnErr result (image.new ≡ image.old) }
+    requires kept { HoldsOnly (K.may_hold keeper.old) inventory.old }
+    requires can { CanMake (change_of edit plan) inventory.old }
+    requires tells { TellsGround plan inventory.old }
+    requires new_key { place_among inventory.old.edits edit.key ≡ None }
+    ensures answer { IfOk result (λ answer. answer ≡ Answer.Done (length inventory.old.edits + 1)) }
+    ensures ok { OnOk result (inventory.new ≡ apply (change_of edit plan) inventory.old) }
+    ensures ok_kept { OnOk result (HoldsOnly (K.may_hold keeper.new) (apply (change_of edit plan) inventory.old)) }
+    ensures err { OnErr result (inventory.new ≡ inventory.old) }
     ensures memory { result ≡ Err Fault.Memory → (c : Result ImageRows Table) → K.may_hold keeper.new c → K.may_hold keeper.old c }
-    ensures store { result ≡ Err Fault.Keep → HoldsOldOrNew (record { edit = edit; parts = parts }) (K.may_hold keeper.new) image.old }
+    ensures store { result ≡ Err Fault.Keep → HoldsOldOrNew (change_of edit plan) (K.may_hold keeper.new) inventory.old }
     ensures cause { result ≡ Err Fault.Keep → HasRisen (K.failures keeper.old) (K.failures keeper.new) }
     ensures only { result ≡ Err Fault.MustReopen → ⊥ }
     ensures loaded { K.is_loaded keeper.new ≡ true }
-    ensures keys { IsIndex keys.new image.new.edits }
-    ensures routes { IsOccupiedBy occupied.new image.new.routes }
 {
-    let place = image.edits.len() as u64;
-    let key = edit.key;
-    let pieces = pieces_of(parts.written.as_slice(), alloc)?;
-    index_change(keys, occupied, key, place, &pieces)?;
-    match keep(image, keeper, Change { edit, parts }) {
-        Ok(()) => Ok(Answer::Done(place + 1)),
-        Err(fault) => {
-            keys.remove(&key);
-            occupied.remove_all(&pieces);
-            Err(commit_fault(fault))
-        }
+    let number = inventory.edits() + 1;
+    match inventory.make(alloc, keeper, edit, plan) {
+        Ok(()) => Ok(Answer::Done(number)),
+        Err(fault) => Err(commit_fault(fault)),
     }
 }
 
-// Indexes a key and the ground of pieces, or neither.
-fn index_change(
-    keys: &mut KeyIndex,
-    occupied: &mut OccupiedGround,
-    key: Key,
-    place: u64,
-    pieces: &[Piece],
-) -> Result<(), AllocError>
-    requires filled { AllByRecursion IsFilled pieces.now }
-    requires once { is_run_once (course_of pieces.now) ≡ true }
-    requires free { is_shared occupied.old (course_of pieces.now) ≡ false }
-    ensures ok_key { OnOk result (keys.new ≡ map.insert keys.old key place) }
-    ensures ok_ground { OnOk result (HasGained occupied.old occupied.new pieces.now) }
-    ensures err_key { OnErr result (keys.new ≡ keys.old) }
-    ensures err_ground { OnErr result (occupied.new ≡ occupied.old) }
-{
-    occupied.add_all(pieces)?;
-    match keys.insert(key, place) {
-        Ok(()) => Ok(()),
-        Err(fault) => {
-            occupied.remove_all(pieces);
-            Err(fault)
-        }
-    }
-}
-
-fn commit_fault(fault: KeepFault) -> Fault
-    requires only { (t : Table) → fault ≡ KeepFault.Unsound t → ⊥ }
-    ensures memory { result ≡ Fault.Memory → fault ≡ KeepFault.Memory }
-    ensures keep { result ≡ Fault.Keep → fault ≡ KeepFault.Store }
+fn commit_fault(fault: CommitFault) -> Fault
+    ensures memory { result ≡ Fault.Memory → fault ≡ CommitFault.Memory }
+    ensures keep { result ≡ Fault.Keep → fault ≡ CommitFault.Store }
     ensures only { result ≡ Fault.MustReopen → ⊥ }
 {
     match fault {
-        KeepFault::Memory => Fault::Memory,
-        KeepFault::Store => Fault::Keep,
-        KeepFault::Unsound(_) => unreachable!(),
+        CommitFault::Memory => Fault::Memory,
+        CommitFault::Store => Fault::Keep,
     }
 }
 

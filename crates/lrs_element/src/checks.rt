@@ -1,69 +1,46 @@
 //! What is wrong with the pieces of a course.
 
-ghost use Rattle.std.specs.Prelude.{◌≡◌, ℕ, ◌+◌, ◌<◌, ◌≤◌, [], nat_eq, is_some, find, position, length, true, false, slice_index_or, AllPairs, IfOk};
+ghost use Rattle.std.specs.Prelude.{◌≡◌, ℕ, ◌+◌, ◌<◌, [], is_some, position, length, true, false, slice_index_or, IsTrue, IfOk};
 ghost use Rattle.std.specs.Bool.{OnTrue, OnFalse};
 ghost use Rattle.std.specs.List.{AllByRecursion, AllAdjacentBelow};
 ghost use Rattle.std.specs.List.Sorted.{IsPermutation};
-ghost use Rattle.lrs_element.specs.Course.{lacks_link, is_bad_piece, first_repeated};
-ghost use Rattle.lrs_element.specs.declared.link.Link.{Link};
+ghost use Rattle.lrs_element.specs.Course.{lacks_link, are_in_order, is_bad_piece, first_repeated};
 ghost use Rattle.lrs_element.specs.declared.link.Piece.{Piece};
 ghost use Rattle.lrs_element.specs.Pieces.{pieces_meet, IsFilled, IsInOrder};
 
-use crate::link::{Link, Piece};
+use crate::known::KnownLinks;
+use crate::link::Piece;
 use std::alloc::{AllocError, Global};
 
-/// How many of the links have a lower number.
-fn links_below(links: &[Link], number: u32) -> usize
-    requires { AllPairs (λ l m. l.number < m.number) links.now }
-    ensures bound { result ≤ length links.now }
-    ensures below { (k : ℕ) (l : Link) → k < result → (slice_index_or links.now k l).number < number }
-    ensures from { (k : ℕ) (l : Link) → result ≤ k → k < length links.now → number ≤ (slice_index_or links.now k l).number }
-{
-    links.partition_point(|link| link.number < number)
-}
-
-/// The link of this number, by binary search.
-fn find_link(links: &[Link], number: u32) -> Option<Link>
-    requires { AllPairs (λ l m. l.number < m.number) links.now }
-    ensures { result ≡ find (λ l. nat_eq l.number number) links.now }
-{
-    let at = links_below(links, number);
-    if at < links.len() && links[at].number == number {
-        Some(links[at])
-    } else {
-        None
-    }
-}
-
 /// Whether a piece is of no link.
-fn lacks_link(links: &[Link], piece: Piece) -> bool
-    requires { AllPairs (λ l m. l.number < m.number) links.now }
-    ensures { result ≡ lacks_link links.now piece }
+fn lacks_link<L: KnownLinks>(links: &L, piece: Piece) -> bool
+    requires { IsTrue (are_in_order (L.links links.now)) }
+    ensures { result ≡ lacks_link (L.links links.now) piece }
 {
-    find_link(links, piece.link).is_none()
+    links.link(piece.link).is_none()
 }
 
 /// Whether a piece has no millimetre, or goes past the end of its link.
-fn is_bad_piece(links: &[Link], piece: Piece) -> bool
-    requires { AllPairs (λ l m. l.number < m.number) links.now }
-    ensures { result ≡ is_bad_piece links.now piece }
+fn is_bad_piece<L: KnownLinks>(links: &L, piece: Piece) -> bool
+    requires { IsTrue (are_in_order (L.links links.now)) }
+    ensures { result ≡ is_bad_piece (L.links links.now) piece }
 {
-    let length = find_link(links, piece.link).map_or(0, |link| link.length);
+    let length = links.link(piece.link).map_or(0, |link| link.length);
     piece.b <= piece.a || length < piece.b
 }
 
 /// The first piece of no link.
-pub(crate) fn first_unlinked(links: &[Link], pieces: &[Piece]) -> Option<usize>
-    requires { AllPairs (λ l m. l.number < m.number) links.now }
-    ensures { result ≡ position (lacks_link links.now) pieces.now }
+pub(crate) fn first_unlinked<L: KnownLinks>(links: &L, pieces: &[Piece]) -> Option<usize>
+    requires { IsTrue (are_in_order (L.links links.now)) }
+    ensures { result ≡ position (lacks_link (L.links links.now)) pieces.now }
 {
     pieces.iter().position(|piece| lacks_link(links, *piece))
 }
 
 /// The first piece that has no millimetre, or goes past the end of its link.
-pub(crate) fn first_bad_piece(links: &[Link], pieces: &[Piece]) -> Option<usize>
-    requires { AllPairs (λ l m. l.number < m.number) links.now }
-    ensures { result ≡ position (is_bad_piece links.now) pieces.now }
+pub(crate) fn first_bad_piece<L: KnownLinks>(links: &L, pieces: &[Piece]) -> Option<usize>
+    requires { IsTrue (are_in_order (L.links links.now)) }
+    ensures { result ≡ position (is_bad_piece (L.links links.now)) pieces.now }
 {
     pieces.iter().position(|piece| is_bad_piece(links, *piece))
 }

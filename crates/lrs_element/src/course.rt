@@ -5,7 +5,8 @@ ghost use Rattle.lrs_element.specs.Pieces.{lesser_link};
 ghost use Rattle.lrs_element.specs.Course.{course_of, expand, turned, meets, share_link, is_too_long, are_in_order, lacks_link, is_bad_piece, first_repeated, IsFewest, AreGood};
 
 use crate::checks::{first_bad_piece, first_repeated, first_unlinked};
-use crate::link::{Ground, Link, Piece};
+use crate::known::KnownLinks;
+use crate::link::{Ground, Piece};
 use crate::pieces::{fewest_of, one_meets, push_range, starts_of, starts_up_to, turned_pieces};
 use std::alloc::{AllocError, Global};
 use std::error::Error;
@@ -149,14 +150,18 @@ impl Course {
     ///
     /// # Errors
     /// The first check that fails, each at the first piece that fails it, in the order of `CourseFault`.
-    pub fn new(alloc: Global, pieces: &[Piece], links: &[Link]) -> Result<Course, CourseFault>
-        requires { IsTrue (are_in_order links.now) }
+    pub fn new<L: KnownLinks>(
+        alloc: Global,
+        pieces: &[Piece],
+        links: &L,
+    ) -> Result<Course, CourseFault>
+        requires { IsTrue (are_in_order (L.links links.now)) }
         ensures course { IfOk result (λ course. course ≡ course_of pieces.now) }
-        ensures ok { OnOk result (AreGood links.now pieces.now) }
-        ensures no_link { (i : ℕ) → result ≡ Err (CourseFault.NoLink i) → position (lacks_link links.now) pieces.now ≡ Some i }
-        ensures bad_piece { (i : ℕ) → result ≡ Err (CourseFault.BadPiece i) → (position (lacks_link links.now) pieces.now ≡ None) × (position (is_bad_piece links.now) pieces.now ≡ Some i) }
-        ensures twice { (i : ℕ) → result ≡ Err (CourseFault.Twice i) → (position (lacks_link links.now) pieces.now ≡ None) × (position (is_bad_piece links.now) pieces.now ≡ None) × (first_repeated [] pieces.now ≡ Some i) }
-        ensures too_long { result ≡ Err CourseFault.TooLong → (position (lacks_link links.now) pieces.now ≡ None) × (position (is_bad_piece links.now) pieces.now ≡ None) × (first_repeated [] pieces.now ≡ None) × (is_too_long (course_of pieces.now) ≡ true) }
+        ensures ok { OnOk result (AreGood (L.links links.now) pieces.now) }
+        ensures no_link { (i : ℕ) → result ≡ Err (CourseFault.NoLink i) → position (lacks_link (L.links links.now)) pieces.now ≡ Some i }
+        ensures bad_piece { (i : ℕ) → result ≡ Err (CourseFault.BadPiece i) → (position (lacks_link (L.links links.now)) pieces.now ≡ None) × (position (is_bad_piece (L.links links.now)) pieces.now ≡ Some i) }
+        ensures twice { (i : ℕ) → result ≡ Err (CourseFault.Twice i) → (position (lacks_link (L.links links.now)) pieces.now ≡ None) × (position (is_bad_piece (L.links links.now)) pieces.now ≡ None) × (first_repeated [] pieces.now ≡ Some i) }
+        ensures too_long { result ≡ Err CourseFault.TooLong → (position (lacks_link (L.links links.now)) pieces.now ≡ None) × (position (is_bad_piece (L.links links.now)) pieces.now ≡ None) × (first_repeated [] pieces.now ≡ None) × (is_too_long (course_of pieces.now) ≡ true) }
     {
         if let Some(i) = first_unlinked(links, pieces) {
             return Err(CourseFault::NoLink(i));

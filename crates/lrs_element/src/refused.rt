@@ -28,10 +28,10 @@ fn refused(rt: &impl Print, call: &str) {
 
 /// The course of these pieces, asked for once more where that was refused.
 fn course_of(rt: &(impl Abort + Print + AllocGlobal), pieces: &[Piece]) -> Course {
-    match Course::new(rt.alloc(), pieces, &LINKS) {
+    match Course::new(rt.alloc(), pieces, &LINKS.as_slice()) {
         Err(CourseFault::Memory) => {
             refused(rt, "Course::new");
-            Course::new(rt.alloc(), pieces, &LINKS).expect(rt, "memory")
+            Course::new(rt.alloc(), pieces, &LINKS.as_slice()).expect(rt, "memory")
         }
         made => made.expect(rt, "a course"),
     }

@@ -60,7 +60,7 @@ fn the_first_fault_is_named(rt: HostRuntime) {
     ];
     for (pieces, want) in faults {
         assert!(rt;
-            Course::new(alloc, &pieces, &LINKS).is_err_and(|fault| fault == want),
+            Course::new(alloc, &pieces, &LINKS.as_slice()).is_err_and(|fault| fault == want),
             "{want}"
         );
     }
@@ -122,10 +122,10 @@ fn the_longest_route_has_ten_links(rt: HostRuntime) {
             .push(ahead(number, 0, 1_000_000_000))
             .expect(&rt, "memory");
     }
-    let fault = Course::new(alloc, &pieces, &LONG_LINKS).err();
+    let fault = Course::new(alloc, &pieces, &LONG_LINKS.as_slice()).err();
     assert_eq!(rt; fault, Some(CourseFault::TooLong));
     pieces.pop();
-    let course = Course::new(alloc, &pieces, &LONG_LINKS).expect(&rt, "ten links");
+    let course = Course::new(alloc, &pieces, &LONG_LINKS.as_slice()).expect(&rt, "ten links");
     assert_eq!(rt; course.len(), 10_000_000_000);
     assert_eq!(rt; course.pieces().len(), 10);
 }
@@ -139,17 +139,17 @@ fn a_route_has_a_thousand_pieces(rt: HostRuntime) {
             .push(ahead(7, 2 * i, 2 * i + 1))
             .expect(&rt, "memory");
     }
-    let fault = Course::new(alloc, &pieces, &LINKS).err();
+    let fault = Course::new(alloc, &pieces, &LINKS.as_slice()).err();
     assert_eq!(rt; fault, Some(CourseFault::TooLong));
     pieces.pop();
-    let course = Course::new(alloc, &pieces, &LINKS).expect(&rt, "a thousand pieces");
+    let course = Course::new(alloc, &pieces, &LINKS.as_slice()).expect(&rt, "a thousand pieces");
     assert_eq!(rt; course.len(), 1_000);
     assert_eq!(rt; course.pieces().len(), 1_000);
 }
 
 /// The course of these pieces.
 fn course_of(rt: &impl Abort, alloc: Global, pieces: &[Piece]) -> Course {
-    Course::new(alloc, pieces, &LINKS).expect(rt, "a course")
+    Course::new(alloc, pieces, &LINKS.as_slice()).expect(rt, "a course")
 }
 
 #[test]

@@ -6,8 +6,9 @@ ghost use Rattle.lrs_events.specs.Names;
 
 use lrs_measure::Text;
 use lrs_measure::alphabet::{are_capitals, are_word_bytes, has_length, is_lone_dash};
-use std::fmt;
+use lrs_ordered::{Keyed, Ordered};
 use std::marker::Model;
+use std::{cmp, fmt};
 
 fn is_class_name(bytes: &[u8]) -> bool
     ensures { result ≡ Names.is_class_name bytes.now }
@@ -164,6 +165,29 @@ pub struct Class {
     pub kind: Kind,
 }
 
+impl Ordered for Class {
+    ghost use Rattle.lrs_measure.specs.Texts.{name_before};
+
+    ghost before = { λ a b. name_before a.name b.name };
+
+    fn is_before(&self, other: &Class) -> bool {
+        self.name.bytes().cmp(other.name.bytes()).is_lt()
+    }
+}
+
+impl Keyed<ClassName> for Class {
+    ghost use Rattle.lrs_measure.specs.Texts.{name_cmp};
+    ghost use Rattle.lrs_ordered.specs.Laws.{name_after};
+
+    ghost key_order = { λ class name. name_cmp class.name name };
+
+    fn cmp_key(&self, name: &ClassName) -> cmp::Ordering {
+        self.name.bytes().cmp(name.bytes())
+    }
+
+    ghost rises = { λ a b name before from. name_after a.name b.name name before from };
+}
+
 /// An asset of the inventory. Its lateral offset is in millimetres from the linear element; its entry is the
 /// number of the edit that entered it.
 #[derive(Clone, Copy, Debug, PartialEq, Eq)]
@@ -173,4 +197,27 @@ pub struct Asset {
     pub value: Value,
     pub lateral: u32,
     pub entry: u64,
+}
+
+impl Ordered for Asset {
+    ghost use Rattle.std.specs.Prelude.{nat_lt};
+
+    ghost before = { λ a b. nat_lt a.number b.number };
+
+    fn is_before(&self, other: &Asset) -> bool {
+        self.number < other.number
+    }
+}
+
+impl Keyed<u64> for Asset {
+    ghost use Rattle.std.specs.Ordering.{nat_cmp};
+    ghost use Rattle.lrs_ordered.specs.Laws.{number_after};
+
+    ghost key_order = { λ asset number. nat_cmp asset.number number };
+
+    fn cmp_key(&self, number: &u64) -> cmp::Ordering {
+        self.number.cmp(number)
+    }
+
+    ghost rises = { λ a b number before from. number_after a.number b.number number before from };
 }

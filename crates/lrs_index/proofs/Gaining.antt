@@ -1,117 +1,110 @@
--- Stretches that come and go.
-use Rattle.std.proofs.Common.{ℕ, ◌≡◌, ◌≢◌, ◌<◌, ◌≤◌, Bool, true, false, cond, List, [], ◌∷◌, Option, Some, None, refl, sym, ap, ◌∙◌, arith, ⊎_elim, ◌⊎◌, inl, inr}
-use Rattle.std.specs.Prelude.{◌||◌}
-use Rattle.std.specs.Ordering.{eq_by_cmp}
-use Rattle.std.specs.FinMap.{empty, insert, get, get-empty, get-insert}
-use Rattle.std.proofs.lemmas.Bool.{cases_lt, cases_Bool, and_from, or_cases, or_left, or_right, eq-eqb, both_ways}
+-- A stretch that comes where no route runs.
+use Rattle.std.proofs.Common.{ℕ, ◌≡◌, ◌<◌, ◌≤◌, Bool, true, false, if◌then◌else◌, List, [], ◌∷◌, Option, Some, None, refl, sym, ap, ◌∙◌, arith, ⊎_elim}
+use Rattle.std.specs.FinMap.{insert, get}
+use Rattle.std.proofs.lemmas.Bool.{cases_lt, cases_Bool, and_from, or_left, eq-eqb, both_ways}
 use Rattle.std.proofs.lemmas.List.{append-nil}
+use Rattle.lrs_measure.specs.Texts.{Name}
 use Rattle.lrs_element.specs.declared.link.Piece.{Piece}
 use Rattle.lrs_element.specs.declared.link.Ground.{Ground}
 use Rattle.lrs_element.specs.Course.{Millimetre, expand, runs_over}
 use Rattle.lrs_element.specs.Pieces.{IsFilled}
-use Rattle.lrs_index.specs.Occupied.{Stretches, millimetre_cmp, is_occupied, is_shared, IsStretch, HasGained}
+use Rattle.lrs_index.specs.declared.ground_index.Stretch.{Stretch}
+use Rattle.lrs_index.specs.Ground.{Stretches, route_over, is_shared, HasGained}
 use Rattle.lrs_index.specs.Stretches.{AreApart}
-use Rattle.lrs_index.proofs.Order.{total, tie, ties, no_tie}
-use Rattle.lrs_index.proofs.Sharing.{same_test, some_millimetre, runs_over_from, runs_over_gives, is_on, occupied_from}
+use Rattle.lrs_index.proofs.Over.{over_gives, over_from, over_stretch, same_answer}
+use Rattle.lrs_index.proofs.Sharing.{some_millimetre, runs_over_from, runs_over_gives, is_taken, taken_from}
+use Rattle.lrs_index.proofs.Putting.{put_here, put_there, put_which}
 
-pub apart_empty : AreApart empty
-apart_empty = record {
-  filled = λ l a b s. absurd (cc (sym (get-empty millimetre_cmp (l, a)) ∙ s));
-  apart = λ l a b c d s t lt. absurd (cc (sym (get-empty millimetre_cmp (l, a)) ∙ s));
-}
-
--- ---- one stretch more
-
-module _ (old : Stretches) (p : Piece) where
+module _ (old : Stretches) (route : Name) (p : Piece) where
   abbrev begin : Millimetre
   begin = (p.link, p.a)
 
+  abbrev stretch : Stretch
+  stretch = record { end = p.b; route = route }
+
   abbrev more : Stretches
-  more = insert old begin p.b
+  more = insert old begin stretch
 
-  here : IsStretch more p
-  here = get-insert total old begin p.b begin ∙ ap (λ (b : Bool). cond b (Some p.b) (get old begin)) (ties begin begin refl)
-
-  there : (q : Millimetre) → q ≢ begin → get more q ≡ get old q
-  there q h = get-insert total old begin p.b q ∙ ap (λ (b : Bool). cond b (Some p.b) (get old q)) (no_tie q begin h)
-
-  -- what begins at q is new, or it was there
-  which : (q : Millimetre) (b : ℕ) → get more q ≡ Some b → ((q ≡ begin) × (b ≡ p.b)) ⊎ ((q ≢ begin) × (get old q ≡ Some b))
-  which q b h = ⊎_elim
-      (λ (t : eq_by_cmp millimetre_cmp q begin ≡ true).
-      let is = tie q begin t in
-      let same : Some b ≡ Some p.b = sym h ∙ ap (get more) is ∙ here in
-      inl (is, cc same))
-      (λ (f : eq_by_cmp millimetre_cmp q begin ≡ false).
-      let other : q ≢ begin = λ e. both_ways _ f (ties q begin e) in
-      inr (other, sym (there q other) ∙ h))
-      (cases_Bool (eq_by_cmp millimetre_cmp q begin))
-
-  module _ (free : is_shared old (expand p) ≡ false) where
+  module _ (free : is_shared old (expand p) ≡ false) (filled : IsFilled p) (apart : AreApart old) where
     -- no millimetre of the piece is on a stretch
-    not_on : (m a b : ℕ) → p.a ≤ m → m < p.b → get old (p.link, a) ≡ Some b → a ≤ m → m < b → ⊥
-    not_on m a b h l s k j = both_ways _ free (some_millimetre (is_occupied old) p m h l (occupied_from old p.link m a b s k j))
+    not_on : (m a : ℕ) (s : Stretch) → p.a ≤ m → m < p.b → get old (p.link, a) ≡ Some s → a ≤ m → m < s.end → ⊥
+    not_on m a s h l is k j = both_ways _ free (some_millimetre (is_taken old) p m h l (taken_from old p.link m a s apart is k j))
 
-    pub none_begins : IsFilled p → AreApart old → get old begin ≡ None
-    none_begins filled apart = by (get old begin) refl
+    pub none_begins : get old begin ≡ None
+    none_begins = by (get old begin) refl
       where
-        by : (o : Option ℕ) → get old begin ≡ o → get old begin ≡ None
+        by : (o : Option Stretch) → get old begin ≡ o → get old begin ≡ None
         by None e = e
-        by (Some b) e = absurd (not_on p.a p.a b (omega arith) filled e (omega arith) (apart.filled p.link p.a b e))
+        by (Some s) e = absurd (not_on p.a p.a s (omega arith) filled e (omega arith) (apart.filled p.link p.a s e))
 
-    pub apart_more : IsFilled p → AreApart old → AreApart more
-    apart_more filled apart = record {
-      filled = λ l a b s. ⊎_elim
-          (λ is. let e : a ≡ p.a = ap (λ (q : Millimetre). q.1) is.0 in let f : b ≡ p.b = is.1 in let lt : p.a < p.b = filled in omega arith)
-          (λ was. apart.filled l a b was.1)
-          (which (l, a) b s);
-      apart = λ l a b c d s t lt. ⊎_elim
+    pub apart_more : AreApart more
+    apart_more = record {
+      filled = λ l a s h. ⊎_elim
+          (λ is. let e = ap (λ (q : Millimetre). q.1) is.0 in let f = ap (λ (t : Stretch). t.end) is.1 in let lt : p.a < p.b = filled in omega (arith, e, f, lt))
+          (λ was. apart.filled l a s was.1)
+          (put_which old begin stretch (l, a) s h);
+      apart = λ l a c s t h g lt. ⊎_elim
           (λ is. ⊎_elim
-          (λ js. let e : a ≡ p.a = ap (λ (q : Millimetre). q.1) is.0 in let f : c ≡ p.a = ap (λ (q : Millimetre). q.1) js.0 in absurd (omega arith))
+          (λ js. let e = ap (λ (q : Millimetre). q.1) is.0 in let f = ap (λ (q : Millimetre). q.1) js.0 in absurd (omega (arith, e, f, lt)))
           (λ was.
           let k : l ≡ p.link = ap (λ (q : Millimetre). q.0) is.0 in
           let e : a ≡ p.a = ap (λ (q : Millimetre). q.1) is.0 in
-          let f : b ≡ p.b = is.1 in
-          let s' : get old (p.link, c) ≡ Some d = ap (λ (n : ℕ). get old (n, c)) (sym k) ∙ was.1 in
-          ⊎_elim (λ (in' : c < p.b). absurd (not_on c c d (omega arith) in' s' (omega arith) (apart.filled p.link c d s'))) (λ (ge : p.b ≤ c). omega arith) (cases_lt c p.b))
-          (which (l, c) d t))
+          let f : s.end ≡ p.b = ap (λ (x : Stretch). x.end) is.1 in
+          let g' : get old (p.link, c) ≡ Some t = ap (λ (n : ℕ). get old (n, c)) (sym k) ∙ was.1 in
+          ⊎_elim
+          (λ (over : c < p.b). absurd (not_on c c t (omega (arith, e, lt)) over g' (omega arith) (apart.filled p.link c t g')))
+          (λ (ge : p.b ≤ c). omega (arith, f, ge))
+          (cases_lt c p.b))
+          (put_which old begin stretch (l, c) t g))
           (λ was. ⊎_elim
           (λ js.
           let k : l ≡ p.link = ap (λ (q : Millimetre). q.0) js.0 in
           let e : c ≡ p.a = ap (λ (q : Millimetre). q.1) js.0 in
-          let s' : get old (p.link, a) ≡ Some b = ap (λ (n : ℕ). get old (n, a)) (sym k) ∙ was.1 in
-          ⊎_elim (λ (over : p.a < b). absurd (not_on p.a a b (omega arith) filled s' (omega arith) over)) (λ (le : b ≤ p.a). omega arith) (cases_lt p.a b))
-          (λ wast. apart.apart l a b c d was.1 wast.1 lt)
-          (which (l, c) d t))
-          (which (l, a) b s);
+          let h' : get old (p.link, a) ≡ Some s = ap (λ (n : ℕ). get old (n, a)) (sym k) ∙ was.1 in
+          ⊎_elim
+          (λ (over : p.a < s.end). absurd (not_on p.a a s (omega arith) filled h' (omega (arith, e, lt)) over))
+          (λ (le : s.end ≤ p.a). omega (arith, e, le))
+          (cases_lt p.a s.end))
+          (λ wast. apart.apart l a c s t was.1 wast.1 lt)
+          (put_which old begin stretch (l, c) t g))
+          (put_which old begin stretch (l, a) s h);
     }
 
-    occupied_more : get old begin ≡ None → (l m : ℕ) → is_occupied more (l, m) ≡ (is_occupied old (l, m) || runs_over (expand p) (l, m))
-    occupied_more none l m = same_test _ _
-        (λ t.
-        let o = is_on more l m t in
-        ⊎_elim
-        (λ is.
-        let k : l ≡ p.link = ap (λ (q : Millimetre). q.0) is.0 in
-        let e : o.from ≡ p.a = ap (λ (q : Millimetre). q.1) is.0 in
-        or_right _ _ (runs_over_from p l m (sym k) (omega (arith, o.begins, e)) (omega (arith, o.ends, is.1))))
-        (λ was. or_left _ _ (occupied_from old l m o.from o.to was.1 o.begins o.ends))
-        (which (l, o.from) o.to o.stretch))
-        (λ t. ⊎_elim
-        (λ (t : is_occupied old (l, m) ≡ true).
-        let o = is_on old l m t in
-        occupied_from more l m o.from o.to (there (l, o.from) (λ e. absurd (cc (sym (ap (get old) e ∙ none) ∙ o.stretch))) ∙ o.stretch) o.begins o.ends)
+    over_more : (l m : ℕ) → route_over more (l, m) ≡ (if runs_over (expand p) (l, m) then Some route else route_over old (l, m))
+    over_more l m = ⊎_elim
         (λ (t : runs_over (expand p) (l, m) ≡ true).
         let r = runs_over_gives p l m t in
-        occupied_from more l m p.a p.b (ap (λ (n : ℕ). get more (n, p.a)) (sym r.0) ∙ here) r.1 r.2)
-        (or_cases _ _ t))
+        over_stretch more l m p.a stretch apart_more (ap (λ (n : ℕ). get more (n, p.a)) (sym r.0) ∙ put_here old begin stretch) r.1 r.2
+        ∙ sym (ap (λ (b : Bool). if b then Some route else route_over old (l, m)) t))
+        (λ (f : runs_over (expand p) (l, m) ≡ false).
+        same_answer (route_over more (l, m)) (route_over old (l, m))
+        (λ r h.
+        let o = over_gives more l m r h in
+        ⊎_elim
+        (λ is.
+        let k = ap (λ (q : Millimetre). q.0) is.0 in
+        let e = ap (λ (q : Millimetre). q.1) is.0 in
+        let g = ap (λ (x : Stretch). x.end) is.1 in
+        absurd (both_ways _ f (runs_over_from p l m (sym k) (omega (arith, o.begins, e)) (omega (arith, o.ends, g)))))
+        (λ was. over_from old l m r apart (record { from = o.from; stretch = o.stretch; is = was.1; begins = o.begins; ends = o.ends; route = o.route }))
+        (put_which old begin stretch (l, o.from) o.stretch o.is))
+        (λ r h.
+        let o = over_gives old l m r h in
+        over_from more l m r apart_more (record {
+          from = o.from;
+          stretch = o.stretch;
+          is = put_there old begin stretch (l, o.from) (λ e. absurd (cc (sym (ap (get old) e ∙ none_begins) ∙ o.is))) ∙ o.is;
+          begins = o.begins;
+          ends = o.ends;
+          route = o.route;
+        }))
+        ∙ sym (ap (λ (b : Bool). if b then Some route else route_over old (l, m)) f))
+        (cases_Bool (runs_over (expand p) (l, m)))
 
-    pub gained_one : IsFilled p → AreApart old → HasGained old more (p ∷ [])
-    gained_one filled apart =
-        let none = none_begins filled apart in
-        record {
-          occupied = λ m. occupied_more none m.0 m.1 ∙ ap (λ (xs : List Ground). is_occupied old m || runs_over xs m) (sym (append-nil (expand p)));
-          stretches = (here, tt);
-          begun = (none, tt);
-          others = λ q h. there q (λ e. both_ways _ h (or_left _ _ (and_from _ _ (eq-eqb _ _ (ap (λ (x : Millimetre). x.0) (sym e))) (eq-eqb _ _ (ap (λ (x : Millimetre). x.1) (sym e))))));
-        }
+    pub gained_one : HasGained old more route (p ∷ [])
+    gained_one = record {
+      over = λ m. over_more m.0 m.1 ∙ ap (λ (xs : List Ground). if runs_over xs m then Some route else route_over old m) (sym (append-nil (expand p)));
+      stretches = (put_here old begin stretch, tt);
+      begun = (none_begins, tt);
+      others = λ q h. put_there old begin stretch q (λ e. both_ways _ h (or_left _ _ (and_from _ _ (eq-eqb _ _ (ap (λ (x : Millimetre). x.0) (sym e))) (eq-eqb _ _ (ap (λ (x : Millimetre). x.1) (sym e))))));
+    }

@@ -1,8 +1,13 @@
 pub mod Entries
 pub mod Order
+pub mod Over
 pub mod Sharing
+pub mod Putting
 pub mod Gaining
+pub mod Cutting
 pub mod Pieces
-pub mod Losing
 pub mod Gathering
+pub mod Losing
 pub mod Once
+pub mod Handing
+pub mod Routes

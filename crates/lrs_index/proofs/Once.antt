@@ -3,13 +3,13 @@ use Rattle.std.proofs.Common.{ℕ, ◌≡◌, ◌+◌, ◌<◌, ◌≤◌, Bool,
 use Rattle.std.specs.Prelude.{◌||◌, nat_lt, nat_eq}
 use Rattle.std.specs.List.{list_all, count_by}
 use Rattle.std.proofs.lemmas.Bool.{cases_Bool, cases_lt, or_parts, eqb-true, and_parts, and_from, both_ways, false_from_ne_true, lt-ltb, ltb-true, eq-eqb, not_from_false}
-use Rattle.std.proofs.lemmas.List.Folds.{Any-from_list_any, list_any-append, list_any_at}
+use Rattle.std.proofs.lemmas.List.Folds.{Any-from_list_any, list_any_at}
 use Rattle.std.proofs.lemmas.List.Sums.{sum_by-cons, sum_by-append}
-use Rattle.lrs_element.specs.declared.link.Piece.{Piece}
 use Rattle.lrs_element.specs.declared.link.Ground.{Ground}
-use Rattle.lrs_element.specs.Course.{Millimetre, course_of, runs_over, meets, is_at}
-use Rattle.lrs_index.specs.Occupied.{Stretches, is_occupied, is_shared, is_run_once, HasGained}
+use Rattle.lrs_element.specs.Course.{Millimetre, runs_over, meets, is_at}
+use Rattle.lrs_index.specs.Ground.{Stretches, is_shared, is_run_once}
 use Rattle.lrs_index.proofs.Pieces.{differ, among, across}
+use Rattle.lrs_index.proofs.Sharing.{is_taken}
 
 -- how often a course runs over a millimetre
 abbrev pub times : Millimetre → List Ground → ℕ
@@ -90,6 +90,15 @@ times_once (x ∷ xs) h =
 pub front : (xs ys : List Ground) → is_run_once (xs ++ ys) ≡ true → is_run_once xs ≡ true
 front xs ys h = times_once xs (λ m. let c = times-append m xs ys in let le = once_times m (xs ++ ys) h in omega (arith, c, le))
 
+-- two courses that run over one millimetre
+pub common : (xs ys : List Ground) (m : Millimetre) → runs_over xs m ≡ true → runs_over ys m ≡ true → meets xs ys ≡ true
+common xs ys m t r =
+    let a = Any-from_list_any (is_at m) xs t in
+    let u = and_parts (nat_eq a.1.link m.0) (nat_eq a.1.mm m.1) a.4 in
+    list_any_at (λ g. runs_over ys (g.link, g.mm)) xs a.0 a.1 a.2
+    (ap (λ (g : Ground). runs_over ys (g.link, g.mm)) a.3
+    ∙ ap (λ (q : Millimetre). runs_over ys q) (λ i. (eqb-true a.1.link m.0 u.0 i, eqb-true a.1.mm m.1 u.1 i)) ∙ r)
+
 -- two courses of which the second one runs over nothing of the first
 pub once_both : (xs ys : List Ground) → is_run_once xs ≡ true → is_run_once ys ≡ true → meets xs ys ≡ false → is_run_once (xs ++ ys) ≡ true
 once_both xs ys h k apart = times_once (xs ++ ys) (λ m.
@@ -98,27 +107,16 @@ once_both xs ys h k apart = times_once (xs ++ ys) (λ m.
     let b = once_times m ys k in
     ⊎_elim
     (λ (t : runs_over xs m ≡ true).
-    let n = not_over m ys (false_from_ne_true _ (λ r. absurd (both_ways _ apart (shared m t r)))) in
+    let n = not_over m ys (false_from_ne_true _ (λ r. absurd (both_ways _ apart (common xs ys m t r)))) in
     omega (arith, c, a, n))
     (λ (f : runs_over xs m ≡ false). let n = not_over m xs f in omega (arith, c, b, n))
     (cases_Bool (runs_over xs m)))
-  where
-    shared : (m : Millimetre) → runs_over xs m ≡ true → runs_over ys m ≡ true → meets xs ys ≡ true
-    shared m t r =
-        let a = Any-from_list_any (is_at m) xs t in
-        let u = and_parts (nat_eq a.1.link m.0) (nat_eq a.1.mm m.1) a.4 in
-        list_any_at (λ g. runs_over ys (g.link, g.mm)) xs a.0 a.1 a.2
-        (ap (λ (g : Ground). runs_over ys (g.link, g.mm)) a.3
-        ∙ ap (λ (q : Millimetre). runs_over ys q) (λ i. (eqb-true a.1.link m.0 u.0 i, eqb-true a.1.mm m.1 u.1 i)) ∙ r)
 
 -- ---- what stretches hold, and what is put in behind it
 
-pub free_behind : (kept : Stretches) (xs ys : List Ground) → ((m : Millimetre) → is_occupied kept m ≡ runs_over xs m) → is_run_once (xs ++ ys) ≡ true → is_shared kept ys ≡ false
+pub free_behind : (kept : Stretches) (xs ys : List Ground) → ((m : Millimetre) → is_taken kept m ≡ runs_over xs m) → is_run_once (xs ++ ys) ≡ true → is_shared kept ys ≡ false
 free_behind kept xs ys at once = false_from_ne_true _ (λ t.
-    let a = Any-from_list_any (λ g. is_occupied kept (g.link, g.mm)) ys t in
+    let a = Any-from_list_any (λ g. is_taken kept (g.link, g.mm)) ys t in
     let m : Millimetre = (a.1.link, a.1.mm) in
     let here : is_at m a.1 ≡ true = and_from (nat_eq a.1.link a.1.link) (nat_eq a.1.mm a.1.mm) (eq-eqb a.1.link a.1.link refl) (eq-eqb a.1.mm a.1.mm refl) in
     absurd (across m xs ys once (sym (at m) ∙ a.4) (list_any_at (is_at m) ys a.0 a.1 a.2 (ap (is_at m) a.3 ∙ here))))
-
-pub gained_behind : (old new : Stretches) (xs : List Ground) (ps : List Piece) → HasGained old new ps → ((m : Millimetre) → is_occupied old m ≡ runs_over xs m) → (m : Millimetre) → is_occupied new m ≡ runs_over (xs ++ course_of ps) m
-gained_behind old new xs ps g at m = g.occupied m ∙ ap (λ (b : Bool). b || runs_over (course_of ps) m) (at m) ∙ sym (list_any-append (is_at m) xs (course_of ps))

@@ -10,9 +10,9 @@ use Rattle.std.proofs.lemmas.List.Elements.{All-from_recursion}
 use Rattle.lrs_element.specs.declared.link.Piece.{Piece}
 use Rattle.lrs_element.specs.declared.link.Ground.{Ground}
 use Rattle.lrs_element.specs.Course.{Millimetre, expand, course_of, runs_over, is_at}
-use Rattle.lrs_index.specs.Occupied.{Stretches, millimetre_cmp, is_occupied, is_shared, is_run_once, begins_at}
+use Rattle.lrs_index.specs.Ground.{Stretches, millimetre_cmp, is_shared, is_run_once, begins_at}
 use Rattle.lrs_index.proofs.Order.{tie, ties}
-use Rattle.lrs_index.proofs.Sharing.{same_test}
+use Rattle.lrs_index.proofs.Sharing.{same_test, is_taken}
 
 -- an element that passes the test, with what is true of each
 pub record Passing {X : Type 0} (test : X → Bool) (P : X → Type 0) (xs : List X) : Type 0 where
@@ -27,10 +27,6 @@ pub passing : {X : Type 0} (test : X → Bool) (P : X → Type 0) (xs : List X) 
 passing test P xs h t =
     let a = Any-from_list_any test xs t in
     record { place = a.0; it = a.1; inside = a.2; is = a.3; passes = a.4; holds = subst P a.3 (All-from_recursion P xs h a.0 a.1 a.2) }
-
--- another test that it passes
-pub passes_too : {X : Type 0} (test other : X → Bool) (P : X → Type 0) (xs : List X) (p : Passing test P xs) → other p.it ≡ true → list_any other xs ≡ true
-passes_too test other P xs p h = list_any_at other xs p.place p.it p.inside (ap other p.is ∙ h)
 
 -- ---- courses
 
@@ -51,7 +47,7 @@ none_passes test xs h = list_any_none test xs (λ k d lt. fails_before_first tes
 
 -- no piece shares ground
 pub none_shared : (kept : Stretches) (ps : List Piece) (first : Option ℕ) → first ≡ position (λ p. is_shared kept (expand p)) ps → is_some first ≡ false → is_shared kept (course_of ps) ≡ false
-none_shared kept ps None e h = any_course (λ g. is_occupied kept (g.link, g.mm)) ps ∙ none_passes (λ p. is_shared kept (expand p)) ps (sym e)
+none_shared kept ps None e h = any_course (λ g. is_taken kept (g.link, g.mm)) ps ∙ none_passes (λ p. is_shared kept (expand p)) ps (sym e)
 none_shared kept ps (Some i) e h = absurd (cc h)
 
 -- ---- where pieces begin
@@ -63,9 +59,6 @@ begins_is q p = same_test _ _
 
 pub begins_where : (q : Millimetre) (p : Piece) → begins_at q p ≡ true → q ≡ (p.link, p.a)
 begins_where q p h = tie q (p.link, p.a) (sym (begins_is q p) ∙ h)
-
-pub begins_here : (p : Piece) → begins_at (p.link, p.a) p ≡ true
-begins_here p = begins_is (p.link, p.a) p ∙ ties (p.link, p.a) (p.link, p.a) refl
 
 -- ---- no millimetre twice
 

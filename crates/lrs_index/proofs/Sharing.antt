@@ -1,18 +1,20 @@
--- Which millimetres are occupied, and when a piece shares one.
-use Rattle.std.proofs.Common.{ℕ, ◌≡◌, ◌+◌, ◌-◌, ◌<◌, ◌≤◌, Bool, true, false, if◌then◌else◌, max, Option, Some, None, refl, sym, ap, ◌∙◌, arith, ⊎_elim}
-use Rattle.std.specs.Prelude.{nat_lt, nat_eq, ◌&&◌, unwrap_or}
-use Rattle.std.specs.List.{range_with_len, list_any}
-use Rattle.std.specs.FinMap.{empty, get, get-empty}
-use Rattle.std.proofs.lemmas.Bool.{cases_lt, and_parts, and_from, lt-ltb, ltb-true, eq-eqb, eqb-true, false_from_ne_true}
+-- When a piece shares a millimetre.
+use Rattle.std.proofs.Common.{ℕ, ◌≡◌, ◌+◌, ◌-◌, ◌<◌, ◌≤◌, Bool, true, false, if◌then◌else◌, max, Some, None, List, refl, sym, ap, ◌∙◌, arith}
+use Rattle.std.specs.Prelude.{nat_lt, nat_eq, ◌&&◌, is_some}
+use Rattle.std.specs.List.{list_any}
+use Rattle.std.specs.FinMap.{get}
+use Rattle.std.proofs.lemmas.Bool.{and_parts, and_from, lt-ltb, ltb-true, eq-eqb, eqb-true, false_from_ne_true, both_ways}
 use Rattle.std.proofs.lemmas.List.Folds.{Any-from_list_any, list_any_at}
-use Rattle.std.proofs.lemmas.List.FromFn.{length-range_with_len, get_or-range_with_len}
+use Rattle.lrs_measure.specs.Texts.{Name}
 use Rattle.lrs_element.specs.declared.link.Piece.{Piece}
 use Rattle.lrs_element.specs.declared.link.Ground.{Ground}
-use Rattle.lrs_element.specs.Course.{Millimetre, expand, runs_over}
+use Rattle.lrs_element.specs.Course.{Millimetre, expand, runs_over, is_at, meets}
 use Rattle.lrs_element.specs.Pieces.{ground_of, piece_len}
 use Rattle.lrs_element.proofs.Expanding.{length-expand, get_or-expand}
-use Rattle.lrs_index.specs.Occupied.{Stretches, millimetre_cmp, is_occupied, is_shared}
+use Rattle.lrs_index.specs.declared.ground_index.Stretch.{Stretch}
+use Rattle.lrs_index.specs.Ground.{Stretches, route_over, is_shared}
 use Rattle.lrs_index.specs.Stretches.{AreApart, IsFirst, IsLast}
+use Rattle.lrs_index.proofs.Over.{IsOver, over_gives, over_stretch, which_answer, no_answer, no_later}
 
 pub same_test : (x y : Bool) → (x ≡ true → y ≡ true) → (y ≡ true → x ≡ true) → x ≡ y
 same_test true y f g = sym (f refl)
@@ -57,61 +59,54 @@ runs_over_gives p l m h =
     let e : w.0 ≡ m = eqb-true _ _ t.1 in
     (eqb-true _ _ t.0, omega (arith, w.1, e), omega (arith, w.2, e))
 
--- ---- a millimetre on a stretch
+-- ---- ground that a route runs over
 
-pub record IsOn (kept : Stretches) (l m : ℕ) : Type 0 where
-  pub from : ℕ
-  pub to : ℕ
-  pub stretch : get kept (l, from) ≡ Some to
-  pub begins : from ≤ m
-  pub ends : m < to
+abbrev pub is_taken : Stretches → Millimetre → Bool
+is_taken kept m = is_some (route_over kept m)
 
-ends_behind : (m : ℕ) (o : Option ℕ) → nat_lt m (unwrap_or o 0) ≡ true → (b : ℕ) × (o ≡ Some b) × (m < b)
-ends_behind m None h = let k : m < 0 = ltb-true _ _ h in absurd (omega arith)
-ends_behind m (Some b) h = (b, refl, ltb-true _ _ h)
+pub taken_by : (kept : Stretches) (l m : ℕ) → is_taken kept (l, m) ≡ true → (r : Name) × IsOver kept l m r
+taken_by kept l m t = let w = which_answer (route_over kept (l, m)) t in (w.0, over_gives kept l m w.0 w.1)
 
-pub is_on : (kept : Stretches) (l m : ℕ) → is_occupied kept (l, m) ≡ true → IsOn kept l m
-is_on kept l m h =
-    let a = Any-from_list_any (λ a. nat_lt m (unwrap_or (get kept (l, a)) 0)) (range_with_len 0 (m + 1)) h in
-    let i : a.0 < m + 1 = omega (arith, length-range_with_len 0 (m + 1), a.2) in
-    let s : a.1 ≡ 0 + a.0 = sym a.3 ∙ get_or-range_with_len 0 (m + 1) a.0 a.1 i in
-    let e = ends_behind m (get kept (l, a.1)) a.4 in
-    record { from = a.1; to = e.0; stretch = e.1; begins = omega arith; ends = e.2 }
-
-pub occupied_from : (kept : Stretches) (l m a b : ℕ) → get kept (l, a) ≡ Some b → a ≤ m → m < b → is_occupied kept (l, m) ≡ true
-occupied_from kept l m a b s h k =
-    list_any_at (λ a. nat_lt m (unwrap_or (get kept (l, a)) 0)) (range_with_len 0 (m + 1)) a 0 (omega (arith, length-range_with_len 0 (m + 1)))
-    (ap (λ (c : ℕ). nat_lt m (unwrap_or (get kept (l, c)) 0)) (get_or-range_with_len 0 (m + 1) a 0 (omega arith))
-    ∙ ap (λ (c : ℕ). nat_lt m (unwrap_or (get kept (l, c)) 0)) (let z : 0 + a ≡ a = omega arith in z)
-    ∙ ap (λ (o : Option ℕ). nat_lt m (unwrap_or o 0)) s ∙ lt-ltb _ _ k)
-
-pub nothing_occupied : (m : Millimetre) → is_occupied empty m ≡ false
-nothing_occupied m = false_from_ne_true _ (λ t. let w = is_on empty m.0 m.1 t in absurd (cc (sym (get-empty millimetre_cmp (m.0, w.from)) ∙ w.stretch)))
+pub taken_from : (kept : Stretches) (l m a : ℕ) (s : Stretch) → AreApart kept → get kept (l, a) ≡ Some s → a ≤ m → m < s.end → is_taken kept (l, m) ≡ true
+taken_from kept l m a s apart is le lt = ap is_some (over_stretch kept l m a s apart is le lt)
 
 -- ---- a piece and the last stretch that begins before its end
 
 pub shares_none : (kept : Stretches) (p : Piece) → IsFirst kept p.link p.b → is_shared kept (expand p) ≡ false
 shares_none kept p h = false_from_ne_true _ (λ t.
-    let w = which_millimetre (is_occupied kept) p t in
-    let o = is_on kept p.link w.0 w.3 in
-    absurd (cc (sym (h o.from (omega (arith, o.begins, w.2))) ∙ o.stretch)))
+    let w = which_millimetre (is_taken kept) p t in
+    let o = taken_by kept p.link w.0 w.3 in
+    absurd (cc (sym (h o.1.from (omega (arith, o.1.begins, w.2))) ∙ o.1.is)))
 
-pub shares_last : (kept : Stretches) (p : Piece) (a b : ℕ) → AreApart kept → IsLast kept p.link p.b a b → p.a < p.b → nat_lt p.a b ≡ is_shared kept (expand p)
-shares_last kept p a b apart last filled = same_test _ _
+pub shares_last : (kept : Stretches) (p : Piece) (a : ℕ) (s : Stretch) → AreApart kept → IsLast kept p.link p.b a s → p.a < p.b → nat_lt p.a s.end ≡ is_shared kept (expand p)
+shares_last kept p a s apart last filled = same_test _ _
     (λ t.
-    let lt : p.a < b = ltb-true _ _ t in
-    let f : a < b = apart.filled p.link a b last.stretch in
+    let lt : p.a < s.end = ltb-true _ _ t in
+    let f = apart.filled p.link a s last.stretch in
     let before = last.before in
     let m : ℕ = max p.a a in
-    some_millimetre (is_occupied kept) p m (omega arith) (omega arith) (occupied_from kept p.link m a b last.stretch (omega arith) (omega arith)))
+    some_millimetre (is_taken kept) p m (omega arith) (omega arith) (taken_from kept p.link m a s apart last.stretch (omega arith) (omega arith)))
     (λ t.
-    let w = which_millimetre (is_occupied kept) p t in
-    let o = is_on kept p.link w.0 w.3 in
-    let le : o.from ≤ a = last.last o.from o.to o.stretch (omega (arith, o.begins, w.2)) in
-    lt-ltb _ _ (⊎_elim
-    (λ (lower : o.from < a). let n : o.to ≤ a = apart.apart p.link o.from o.to a b o.stretch last.stretch lower in let f : a < b = apart.filled p.link a b last.stretch in omega (arith, o.ends, w.1, n, f))
-    (λ (ge : a ≤ o.from).
-    let e : o.from ≡ a = omega arith in
-    let same : o.to ≡ b = cc (sym o.stretch ∙ ap (λ (c : ℕ). get kept (p.link, c)) e ∙ last.stretch) in
-    omega (arith, o.ends, w.1, same))
-    (cases_lt o.from a)))
+    let w = which_millimetre (is_taken kept) p t in
+    let o = (taken_by kept p.link w.0 w.3).1 in
+    let n = no_later kept p.link p.b a o.from s o.stretch apart last o.is (omega (arith, o.begins, w.2)) in
+    lt-ltb _ _ (omega (arith, o.ends, w.1, n)))
+
+-- ---- courses that share no ground
+
+pub free_at : (kept : Stretches) (xs : List Ground) (m : Millimetre) → is_shared kept xs ≡ false → runs_over xs m ≡ true → route_over kept m ≡ None
+free_at kept xs m free t = no_answer (route_over kept m) (λ r h. both_ways _ free
+    (let a = Any-from_list_any (is_at m) xs t in
+    let u = and_parts (nat_eq a.1.link m.0) (nat_eq a.1.mm m.1) a.4 in
+    list_any_at (λ g. is_taken kept (g.link, g.mm)) xs a.0 a.1 a.2
+    (ap (λ (g : Ground). is_taken kept (g.link, g.mm)) a.3
+    ∙ ap (is_taken kept) (λ i. (eqb-true a.1.link m.0 u.0 i, eqb-true a.1.mm m.1 u.1 i)) ∙ ap is_some h)))
+
+-- ground that routes run over shares nothing with free ground
+pub taken_apart : (kept : Stretches) (xs ys : List Ground) → ((m : Millimetre) → runs_over xs m ≡ true → is_taken kept m ≡ true) → is_shared kept ys ≡ false → meets xs ys ≡ false
+taken_apart kept xs ys taken free = false_from_ne_true _ (λ t.
+    let a = Any-from_list_any (λ g. runs_over ys (g.link, g.mm)) xs t in
+    let m : Millimetre = (a.1.link, a.1.mm) in
+    let here : is_at m a.1 ≡ true = and_from (nat_eq a.1.link a.1.link) (nat_eq a.1.mm a.1.mm) (eq-eqb a.1.link a.1.link refl) (eq-eqb a.1.mm a.1.mm refl) in
+    let over = list_any_at (is_at m) xs a.0 a.1 a.2 (ap (is_at m) a.3 ∙ here) in
+    absurd (cc (sym (ap is_some (free_at kept ys m free a.4)) ∙ taken m over)))

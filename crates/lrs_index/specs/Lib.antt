@@ -1,2 +1,3 @@
-pub mod Occupied
+pub mod Ground
+pub mod Routes
 pub mod Stretches

@@ -1,9 +1,9 @@
-//! Which ground is run over, found by search.
+//! The index of ground: which route runs over which ground, found by search.
 #![tactic(auto)]
 
-mod occupied;
+mod ground_index;
 
-pub use occupied::OccupiedGround;
+pub use ground_index::GroundIndex;
 
 #[cfg(test)]
 mod tests;

@@ -3,10 +3,11 @@ ghost use Rattle.std.specs.Bool.{OnTrue};
 ghost use Rattle.std.specs.List.{AllByRecursion};
 ghost use Rattle.lrs_element.specs.Course.{course_of};
 ghost use Rattle.lrs_element.specs.Pieces.{IsFilled};
-ghost use Rattle.lrs_index.specs.Occupied.{is_run_once, HasGained};
+ghost use Rattle.lrs_index.specs.Ground.{is_run_once, HasGained};
 
 use super::*;
 use lrs_element::Piece;
+use lrs_position::RouteName;
 use std::process::Abort;
 
 /// A piece that is run forwards.
@@ -29,68 +30,30 @@ fn back(link: u32, a: u32, b: u32) -> Piece {
     }
 }
 
-/// Whether a piece has ground, shares none, and is put in.
-fn adds(occupied: &mut OccupiedGround, piece: Piece) -> bool {
-    piece.a < piece.b && !occupied.shares(&piece) && occupied.add(piece).is_ok()
+fn route(rt: &impl Abort, name: &str) -> RouteName {
+    RouteName::new(name.as_bytes()).expect(rt, "a route name")
 }
 
 /// Whether pieces share no ground and are put in.
-fn adds_all(occupied: &mut OccupiedGround, pieces: &[Piece]) -> bool
+fn adds_all(index: &mut GroundIndex, route: RouteName, pieces: &[Piece]) -> bool
     requires filled { AllByRecursion IsFilled pieces.now }
     requires once { is_run_once (course_of pieces.now) ≡ true }
-    ensures { OnTrue result (HasGained occupied.old occupied.new pieces.now) }
+    ensures { OnTrue result (HasGained index.old index.new route pieces.now) }
 {
-    occupied.first_shared(pieces).is_none() && occupied.add_all(pieces).is_ok()
-}
-
-#[test]
-fn a_piece_shares_what_lies_on_a_stretch(rt: HostRuntime) {
-    let mut occupied = OccupiedGround::new(rt.alloc());
-    assert!(rt; !occupied.shares(&ahead(3, 0, 1_000_000_000)));
-    assert!(rt; adds(&mut occupied, back(3, 10, 20)));
-    assert!(rt; adds(&mut occupied, ahead(3, 20, 25)));
-    assert!(rt; adds(&mut occupied, ahead(3, 40, 50)));
-    assert!(rt; adds(&mut occupied, ahead(7, 0, 5)));
-    let shared = [
-        ahead(3, 0, 11),
-        back(3, 19, 20),
-        ahead(3, 24, 40),
-        back(3, 30, 41),
-        ahead(3, 12, 13),
-        ahead(3, 0, 100),
-        ahead(7, 4, 9),
-    ];
-    for piece in shared {
-        assert!(rt; occupied.shares(&piece));
-    }
-    let free = [
-        ahead(3, 0, 10),
-        back(3, 25, 40),
-        ahead(3, 50, 60),
-        ahead(7, 5, 9),
-        ahead(5, 10, 20),
-        ahead(3, 12, 12),
-        ahead(3, 15, 12),
-    ];
-    for piece in free {
-        assert!(rt; !occupied.shares(&piece));
-    }
-    assert!(rt; occupied.first_shared(&free).is_none());
-    let mixed = [ahead(3, 0, 10), back(7, 3, 9), ahead(3, 10, 20)];
-    assert!(rt; occupied.first_shared(&mixed) == Some(1));
+    index.first_taken(pieces).is_none() && index.add_all(route, pieces).is_ok()
 }
 
 const FIRST: [Piece; 2] = [
     Piece {
         link: 3,
         a: 0,
-        b: 5,
+        b: 20,
         forward: true,
     },
     Piece {
         link: 7,
         a: 3,
-        b: 5,
+        b: 9,
         forward: false,
     },
 ];
@@ -104,20 +67,82 @@ const SECOND: [Piece; 2] = [
     },
     Piece {
         link: 3,
-        a: 5,
-        b: 6,
+        a: 20,
+        b: 21,
         forward: true,
     },
 ];
 
 #[test]
+fn each_stretch_knows_its_route(rt: HostRuntime) {
+    let (a, b) = (route(&rt, "A1"), route(&rt, "B1"));
+    let mut index = GroundIndex::new(rt.alloc());
+    assert!(rt; !index.shares(&ahead(3, 0, 1_000_000_000)));
+    assert!(rt; adds_all(&mut index, a, &FIRST));
+    assert!(rt; adds_all(&mut index, b, &SECOND));
+    assert!(rt; index.route_over(3, 19) == Some(a));
+    assert!(rt; index.route_over(3, 20) == Some(b));
+    assert!(rt; index.route_over(3, 21).is_none());
+    assert!(rt; index.route_over(7, 2) == Some(b));
+    assert!(rt; index.route_over(7, 3) == Some(a));
+    assert!(rt; index.route_over(7, 9).is_none());
+    assert!(rt; index.route_over(5, 3).is_none());
+    assert!(rt; index.route_over(3, 4_294_967_295).is_none());
+    let shared = [
+        ahead(3, 0, 1),
+        back(3, 20, 40),
+        ahead(3, 0, 100),
+        back(7, 8, 9),
+    ];
+    for piece in shared {
+        assert!(rt; index.shares(&piece));
+    }
+    let free = [
+        ahead(3, 21, 30),
+        back(7, 9, 40),
+        ahead(5, 0, 9),
+        ahead(3, 4, 4),
+    ];
+    for piece in free {
+        assert!(rt; !index.shares(&piece));
+    }
+    assert!(rt; index.first_taken(&free).is_none());
+    assert!(rt; index.first_taken(&SECOND) == Some(0));
+}
+
+#[test]
 fn what_was_added_is_taken_out_again(rt: HostRuntime) {
-    let mut occupied = OccupiedGround::new(rt.alloc());
-    assert!(rt; adds_all(&mut occupied, &FIRST));
-    assert!(rt; adds_all(&mut occupied, &SECOND));
-    assert!(rt; occupied.shares(&ahead(7, 2, 4)));
-    occupied.remove_all(&SECOND);
-    assert!(rt; occupied.first_shared(&FIRST) == Some(0));
-    assert!(rt; adds_all(&mut occupied, &SECOND));
-    assert!(rt; occupied.first_shared(&SECOND) == Some(0));
+    let (a, b) = (route(&rt, "A1"), route(&rt, "B1"));
+    let mut index = GroundIndex::new(rt.alloc());
+    assert!(rt; adds_all(&mut index, a, &FIRST));
+    assert!(rt; adds_all(&mut index, b, &SECOND));
+    index.remove_added(&SECOND);
+    assert!(rt; index.route_over(3, 20).is_none());
+    assert!(rt; index.route_over(3, 19) == Some(a));
+    assert!(rt; adds_all(&mut index, a, &SECOND));
+    assert!(rt; index.route_over(3, 20) == Some(a));
+}
+
+#[test]
+fn ground_is_freed_and_handed_over(rt: HostRuntime) {
+    let (a, b, c) = (route(&rt, "A1"), route(&rt, "B1"), route(&rt, "C1"));
+    let mut index = GroundIndex::new(rt.alloc());
+    assert!(rt; adds_all(&mut index, a, &FIRST));
+    assert!(rt; adds_all(&mut index, b, &SECOND));
+    let between = [back(3, 4, 12), ahead(7, 2, 5)];
+    assert!(rt; index.cut_at(&between).is_ok());
+    index.hand_over(&between, c);
+    for (mm, name) in [(3, a), (4, c), (11, c), (12, a), (20, b)] {
+        assert!(rt; index.route_over(3, mm) == Some(name));
+    }
+    for (mm, name) in [(1, b), (2, c), (4, c), (5, a), (8, a)] {
+        assert!(rt; index.route_over(7, mm) == Some(name));
+    }
+    let gone = [ahead(3, 8, 14)];
+    assert!(rt; index.cut_at(&gone).is_ok());
+    index.free(&gone);
+    assert!(rt; index.route_over(3, 7) == Some(c));
+    assert!(rt; index.route_over(3, 8).is_none());
+    assert!(rt; index.route_over(3, 13).is_none());
+    assert!(rt; index.route_over(3, 14) == Some(a));
 }

@@ -1,17 +1,18 @@
 -- The rows in front of all that goes and comes stay as they are, and the greatest ends up to them.
 use Rattle.std.proofs.Common.{◌≡◌, ℕ, ◌+◌, ◌-◌, ◌<◌, ◌≤◌, zero, suc, min, max, true, cond, not, ◌⊎◌, inl, inr, List, [], ◌∷◌, ◌++◌, length, get_or, take, drop, refl, sym, ap, subst, ◌∙◌, arith, append_assoc}
 use Rattle.std.specs.List.{list_all, AllWithin}
-use Rattle.std.proofs.lemmas.Bool.{both_ways, not_from_false, false_from_ne_true}
-use Rattle.std.proofs.lemmas.List.{get_or_past, length-append, take_more, take_at, take-append-drop, length-take-le, drop_more, drop_all, append-nil}
+use Rattle.std.proofs.lemmas.Bool.{both_ways, not_from_false, false_from_ne_true, cases_lt}
+use Rattle.std.proofs.lemmas.List.{get_or_past, get_or_default, length-append, take_more, take_at, take-append-drop, length-take-le, drop_more, drop_all, append-nil}
 use Rattle.std.proofs.lemmas.List.Elements.{filter-append}
+use Rattle.lrs_measure.specs.Lists.{each_two}
 use Rattle.lrs_measure.specs.Ordered.{insert_by, insert_all}
 use Rattle.lrs_events.specs.declared.span.Span.{Span}
 use Rattle.lrs_events.specs.Changes.{same_row, has_row, without_rows, changed}
 use Rattle.lrs_lanes.specs.declared.order.RowOrder.TheVariants.{ByPlace}
 use Rattle.lrs_lanes.specs.Order.{place_before, stand_before}
 use Rattle.lrs_lanes.specs.Lane.{greatest_from, last_from}
-use Rattle.lrs_lanes.proofs.Members.{In, any_found, all_at, all_from, In-append_cases, In-shorter, filter_all}
-use Rattle.lrs_lanes.proofs.Ranks.{itself, row_ranks, row_is}
+use Rattle.lrs_lanes.proofs.Members.{In, any_found, all_at, all_from, In-append_cases, In-shorter, filter_all, two_pass}
+use Rattle.lrs_lanes.proofs.Ranks.{itself, before_trans, row_ranks, row_is}
 
 module _ {X : Type 0} where
   pub all_first : (P : X → Type 0) (xs : List X) (i : ℕ) → AllWithin P xs 0 i → (x : X) → In x (take i xs) → P x
@@ -46,6 +47,18 @@ stands_more front at next i rows others x within is h point e = stands_is next r
     by r s m (inl k) = stands front rows (take i others) h r s (In-shorter r next front rows (omega (arith, e)) m) k
     by r s m (inr (inl q)) = ap (place_before r) q ∙ all_first (λ r. place_before r x ≡ true) rows at point r (In-shorter r next at rows (omega (arith, e)) m)
     by r s m (inr (inr q)) = absurd q
+
+-- rows up to one that comes before x
+pub stands_up_to : (front : ℕ) (rows : List Span) (x p : Span) → (front ≡ 0 → ⊥) → front ≤ length rows → each_two place_before rows ≡ true → p ≡ get_or rows (front - 1) p → place_before p x ≡ true
+    → AllWithin (λ r. place_before r x ≡ true) rows 0 front
+stands_up_to front rows x p some within order is h k d low high = by (cases_lt k (front - 1))
+  where
+    last : place_before (get_or rows (front - 1) d) x ≡ true
+    last = ap (λ z. place_before z x) (get_or_default rows (front - 1) d p (omega (arith, some, within)) ∙ sym is) ∙ h
+
+    by : (k < front - 1) ⊎ (front - 1 ≤ k) → place_before (get_or rows k d) x ≡ true
+    by (inl l) = before_trans place_before (row_ranks ByPlace) (get_or rows k d) (get_or rows (front - 1) d) x (two_pass place_before rows k (front - 1) d order l (omega (arith, some, within))) last
+    by (inr l) = let e : k ≡ front - 1 = omega (arith, l, high, some) in ap (λ n. place_before (get_or rows n d) x) e ∙ last
 
 insert_by-front : (x : Span) (front rear : List Span) → ((r : Span) → In r front → place_before r x ≡ true) → insert_by place_before x (front ++ rear) ≡ front ++ insert_by place_before x rear
 insert_by-front x [] rear h = refl

@@ -4,3 +4,4 @@ pub mod Strict
 pub mod Inserted
 pub mod Fronts
 pub mod Lanes
+mod Starts

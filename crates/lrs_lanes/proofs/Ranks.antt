@@ -12,7 +12,7 @@ use Rattle.lrs_measure.specs.Texts.{Name, name_cmp, same_name, name_before}
 use Rattle.lrs_events.specs.declared.side.Side.{Side}
 use Rattle.lrs_events.specs.declared.side.Side.TheVariants.{L, R, B}
 use Rattle.lrs_events.specs.declared.span.Span.{Span}
-use Rattle.lrs_events.specs.Spans.{same_side}
+use Rattle.lrs_events.specs.Spans.{same_side, span_before}
 use Rattle.lrs_events.specs.Changes.{same_row}
 use Rattle.lrs_lanes.specs.declared.order.RowOrder.{RowOrder}
 use Rattle.lrs_lanes.specs.declared.order.RowOrder.TheVariants.{ByAsset, ByPlace}
@@ -83,6 +83,10 @@ name_tie key = record {
   not_second = λ x y h. ap (λ z. name_before z (key x)) (sym ((bytes_decides (key x) (key y)).0 h)) ∙ itself name_before names_rank (key x);
   tells = λ x y h k. names_tell (key x) (key y) h k;
 }
+
+-- two rows of one class
+pub of_one_class : (r s : Span) → same_name r.class s.class ≡ true → span_before r s ≡ (nat_lt r.asset s.asset || (nat_eq r.asset s.asset && nat_lt r.from s.from))
+of_one_class r s h = λ j. (name_tie (λ (c : Name). c)).not_first r.class s.class h j || (h j && (nat_lt r.asset s.asset || (nat_eq r.asset s.asset && nat_lt r.from s.from)))
 
 pub row_ranks : (order : RowOrder) → IsStrictWeakOrder (row_before order)
 row_ranks ByAsset =

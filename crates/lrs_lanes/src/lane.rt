@@ -1,7 +1,7 @@
 //! Lanes: the rows of a class on one side of a route, by where they begin.
 
 ghost use Rattle.std.specs.Prelude.{◌≡◌, ◌+◌, ◌<◌, ◌≤◌, true, false, [], ◌∷◌, ◌++◌, length, take, nat_lt, nat_le, IfOk, OnOk, OnErr, vec_len, vec_capacity};
-ghost use Rattle.std.specs.List.{filter};
+ghost use Rattle.std.specs.List.{filter, AllWithin};
 ghost use Rattle.std.specs.List.Sorted.{IsNonDecreasingBy, IsPartitionPoint, IsPermutation};
 ghost use Rattle.lrs_measure.specs.Lists.{each_two};
 ghost use Rattle.lrs_events.specs.Changes.{changed};
@@ -9,7 +9,7 @@ ghost use Rattle.lrs_events.specs.Spans.{span_before};
 ghost use Rattle.lrs_lanes.specs.Order.{place_before, differ_in_place, stand_before};
 ghost use Rattle.lrs_lanes.specs.Lane.{greatest_from, last_from, is_met, IsLeast, least_with};
 
-use crate::order::RowOrder;
+use crate::order::{RowOrder, comes_before};
 use crate::sorted::{change_in_room, rows_before, sort};
 use lrs_events::Span;
 use std::alloc::{AllocError, Global};
@@ -181,6 +181,15 @@ fn push_greatest(greatest: &mut Vec<u64>, rows: &[Span], start: usize)
     push_ends(greatest, &rows[start..]);
 }
 
+/// Whether the first `front` rows stand before the other.
+fn stands_before(rows: &[Span], front: usize, other: &Span) -> bool
+    requires within { front ≤ length rows.now }
+    requires order { each_two place_before rows.now ≡ true }
+    ensures { result ≡ true → AllWithin (λ r. place_before r other.now ≡ true) rows.now 0 front }
+{
+    front == 0 || comes_before(RowOrder::ByPlace, &rows[front - 1], other)
+}
+
 /// How many rows stand before each of others, all of them and those before them.
 fn front_before(rows: &[Span], others: &[Span]) -> usize
     requires { each_two place_before rows.now ≡ true }
@@ -189,7 +198,9 @@ fn front_before(rows: &[Span], others: &[Span]) -> usize
 {
     let mut front = rows.len();
     for other in others {
-        front = front.min(rows_before(RowOrder::ByPlace, rows, other));
+        if !stands_before(rows, front, other) {
+            front = front.min(rows_before(RowOrder::ByPlace, rows, other));
+        }
     }
     front
 }

@@ -1,6 +1,6 @@
 //! The orders in which rows are kept.
 
-ghost use Rattle.std.specs.Prelude.{◌≡◌};
+ghost use Rattle.std.specs.Prelude.{◌≡◌, ◌||◌, ◌&&◌, nat_eq, nat_lt};
 ghost use Rattle.std.specs.Ordering.{is_lt};
 ghost use Rattle.lrs_events.specs.Spans.{span_before};
 ghost use Rattle.lrs_lanes.specs.Order.{place_before, row_before};
@@ -17,11 +17,22 @@ pub enum RowOrder {
     ByPlace,
 }
 
+/// Whether the first comes before the second, where both are of one class.
+fn is_before_in_class(r: &Span, s: &Span) -> bool
+    ensures { result ≡ (nat_lt r.now.asset s.now.asset || (nat_eq r.now.asset s.now.asset && nat_lt r.now.from s.now.from)) }
+{
+    r.asset < s.asset || (r.asset == s.asset && r.from < s.from)
+}
+
 fn is_before_by_asset(r: &Span, s: &Span) -> bool
     ensures { result ≡ span_before r.now s.now }
 {
-    r.class < s.class
-        || (r.class == s.class && (r.asset < s.asset || (r.asset == s.asset && r.from < s.from)))
+    // Whether the classes are one is asked first, since most often they are.
+    if r.class == s.class {
+        is_before_in_class(r, s)
+    } else {
+        r.class < s.class
+    }
 }
 
 fn is_before_by_place(r: &Span, s: &Span) -> bool

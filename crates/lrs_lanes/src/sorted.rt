@@ -5,6 +5,7 @@ ghost use Rattle.std.specs.List.{insert, filter};
 ghost use Rattle.std.specs.List.Sorted.{IsPartitionPoint, IsPermutation, IsSortedBy};
 ghost use Rattle.lrs_measure.specs.Lists.{each_two};
 ghost use Rattle.lrs_measure.specs.Ordered.{place_by, insert_by, insert_all};
+ghost use Rattle.lrs_events.specs.declared.span.Span.{Span as DeclaredSpan};
 ghost use Rattle.lrs_events.specs.Changes.{same_row, has_row, without_rows, changed};
 ghost use Rattle.lrs_events.specs.Spans.{span_before};
 ghost use Rattle.lrs_lanes.specs.Order.{row_before};
@@ -127,6 +128,29 @@ fn change_few(order: RowOrder, rows: &mut Vec<Span>, gone: &[Span], come: &[Span
     insert_rows(order, rows, come);
 }
 
+/// The least and the greatest start of rows; where there are none, no start lies between the two.
+fn starts(rows: &[Span]) -> (u64, u64)
+    ensures { (r : DeclaredSpan) → has_row rows.now r ≡ true → (result.0 ≤ r.from) × (r.from ≤ result.1) }
+{
+    let mut least = u64::MAX;
+    let mut greatest = 0u64;
+    for row in rows {
+        least = row.from.min(least);
+        greatest = row.from.max(greatest);
+    }
+    (least, greatest)
+}
+
+/// Whether the row is one of those that go, whose least and greatest start are given. One that begins before or
+/// behind them all is not searched for.
+fn goes(gone: &[Span], least: u64, greatest: u64, row: &Span) -> bool
+    requires order { each_two span_before gone.now ≡ true }
+    requires starts { (r : DeclaredSpan) → has_row gone.now r ≡ true → (least ≤ r.from) × (r.from ≤ greatest) }
+    ensures { result ≡ has_row gone.now row.now }
+{
+    least <= row.from && row.from <= greatest && has(RowOrder::ByAsset, gone, row)
+}
+
 /// Takes out the rows that go, in one pass.
 fn retain_others(rows: &mut Vec<Span>, gone: &[Span])
     requires { each_two span_before gone.now ≡ true }
@@ -134,7 +158,8 @@ fn retain_others(rows: &mut Vec<Span>, gone: &[Span])
     ensures len { vec_len rows.new ≤ vec_len rows.old }
     ensures capacity { vec_capacity rows.new ≡ vec_capacity rows.old }
 {
-    rows.retain(|row| !has(RowOrder::ByAsset, gone, row));
+    let (least, greatest) = starts(gone);
+    rows.retain(|row| !goes(gone, least, greatest, row));
 }
 
 // Puts rows at the end of a vector that has room for them.

@@ -30,9 +30,10 @@ use Rattle.lrs_machine.specs.State.{State, Asset, Edit, Reason, Retired, Abandon
 use Rattle.lrs_machine.specs.Machine.{route_named, is_wrong_kind, check_pieces, check_free, check_marks, located_chainage, kind_of_asset, part_of, belongs_to}
 use Rattle.lrs_machine.specs.Machine.{extent_of, is_empty_extent, Wanted, wanted_of, first_holder, is_of_class, take_away, enter_asset, do_enter, do_supersede, do_join_of, attempt}
 use Rattle.lrs_machine.specs.Machine.{next, check_room, accept, outcome_of, step_by_key, place_of_key, step, step_record, Record, state_after}
-use Rattle.lrs_machine.specs.Laws.{IsBalanced, IsLawful, StepKeepsLaws, RunsAreLawful}
+use Rattle.lrs_machine.specs.Laws.{IsBalanced, IsGrounded, IsLawful, StepKeepsLaws, RunsAreLawful}
 use Rattle.lrs_machine.proofs.Checks.{behind, bind, bind_known, unless, unless_at, given}
 use Rattle.lrs_machine.proofs.Registers.{got_after, known_after, known_if_some, fails_where_none}
+use Rattle.lrs_machine.proofs.Grounded.{attempt_grounded}
 use Rattle.lrs_machine.proofs.Ledgers.{Fits, fits_away, IsClear, fits_entering, among_passes, place_beside}
 
 -- The next state is lawful with edit n as the last that its ledgers name, and keeps the list of edits.
@@ -193,9 +194,9 @@ fits_next s h = record {
   was_entered = h.named.was_entered;
 }
 
--- and is lawful again when that edit is kept
-accept_lawful : (key : Name) (command : Command) (s t : State) → Follows (length s.done + 1) s t → IsLawful (accept key command t)
-accept_lawful key command s t h = record {
+-- and is lawful again when that edit is kept, whatever it says
+kept_lawful : (s t : State) (done : List Edit) → Follows (length s.done + 1) s t → IsGrounded t → length done ≡ length s.done + 1 → IsLawful (record t { done = done })
+kept_lawful s t done h ground one_more = record {
   balanced = balanced_beside t _ _ _ _ _ _ h.fits.balanced;
   exclusive = h.fits.exclusive;
   named = record {
@@ -206,23 +207,33 @@ accept_lawful key command s t h = record {
     by_entry = h.fits.by_entry;
     was_entered = h.fits.was_entered;
   };
+  grounded = record { courses = ground.courses; places = ground.places; links = ground.links; assets = ground.assets };
 }
   where
-    one_more : length (accept key command t).done ≡ length s.done + 1
-    one_more = length_push t.done _ ∙ ap (λ (done : List Edit). length done + 1) h.done
-
-    within : (m : ℕ) → (1 ≤ m) × (m ≤ length s.done + 1) → (1 ≤ m) × (m ≤ length (accept key command t).done)
+    within : (m : ℕ) → (1 ≤ m) × (m ≤ length s.done + 1) → (1 ≤ m) × (m ≤ length done)
     within m is = (is.0, subst (λ k. m ≤ k) (sym one_more) is.1)
 
-outcome_lawful : (key : Name) (command : Command) (s : State) (r : Result State Cause) → IsLawful s → IfOk r (Follows (length s.done + 1) s)
+accept_lawful : (key : Name) (command : Command) (s t : State) → Follows (length s.done + 1) s t → IsGrounded t → IsLawful (accept key command t)
+accept_lawful key command s t h ground = kept_lawful s t (accept key command t).done h ground (length_push t.done _ ∙ ap (λ (done : List Edit). length done + 1) h.done)
+
+outcome_lawful : (key : Name) (command : Command) (s : State) (r : Result State Cause) → IsLawful s → IfOk r (Follows (length s.done + 1) s) → IfOk r IsGrounded
     → IsLawful (outcome_of key command s r).state
-outcome_lawful key command s (Ok t) h is = accept_lawful key command s t is
-outcome_lawful key command s (Err c) h is = h
+outcome_lawful key command s (Ok t) h is ground = accept_lawful key command s t is ground
+outcome_lawful key command s (Err c) h is ground = h
 
 by_place : (limits : Limits) (key : Name) (command : Command) (s : State) (o : Option ℕ) → IsLawful s → IsLawful (step_by_key limits key command s o).state
 by_place limits key command s (Some place) h = h
 by_place limits key command s None h =
     outcome_lawful key command s (next limits command s) h (behind _ (check_room limits command s) _ (attempt_fits (length s.done + 1) s (omega arith) (fits_next s h) command))
+    (behind _ (check_room limits command s) _ (attempt_grounded s h.grounded (length s.done + 1) command))
+
+-- What a command makes of a lawful state is lawful, with one more edit.
+pub made_lawful : (command : Command) (s t : State) (done : List Edit) → IsLawful s → attempt (length s.done + 1) command s ≡ Ok t → length done ≡ length s.done + 1
+    → IsLawful (record t { done = done })
+made_lawful command s t done h is one_more =
+    let fits = subst (λ r. IfOk r (Follows (length s.done + 1) s)) is (attempt_fits (length s.done + 1) s (omega arith) (fits_next s h) command) in
+    let ground = subst (λ r. IfOk r IsGrounded) is (attempt_grounded s h.grounded (length s.done + 1) command) in
+    kept_lawful s t done fits ground one_more
 
 pub every_step_keeps_the_laws : StepKeepsLaws
 unfolding step
@@ -248,6 +259,7 @@ nothing_lawful = record {
     by_entry = λ m a x p got e. absurd (false≢true e);
     was_entered = λ a x got. absurd (false≢true (known_if_some None x got));
   };
+  grounded = record { courses = refl; places = λ m a p e. absurd (false≢true e); links = refl; assets = refl };
 }
 
 run_lawful : (limits : Limits) (rs : List Record) (s : State) → IsLawful s → IsLawful (state_after limits rs s)

@@ -3,8 +3,10 @@ pub mod Keeping
 pub mod Registers
 pub mod Ledgers
 pub mod Checks
+pub mod Grounded
 pub mod Lawful
 pub mod Totals
+pub mod Counting
 pub mod Members
 pub mod Pairs
 pub mod SoundImages

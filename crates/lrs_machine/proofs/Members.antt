@@ -1,12 +1,14 @@
 -- The members of a list, and what tests of the whole list say of them.
 use Rattle.std.proofs.Common.{◌≡◌, ℕ, ◌+◌, ◌<◌, ◌≤◌, Bool, true, false, cond, ◌⊎◌, inl, inr, List, [], ◌∷◌, ◌++◌, map, take, drop, zero, suc, Some, refl, sym, ap, subst, ◌∙◌, arith}
-use Rattle.std.specs.Prelude.{◌||◌, is_some}
+use Rattle.std.specs.Prelude.{◌||◌, is_some, nat_lt, nat_eq}
 use Rattle.std.specs.List.{list_any, list_all, flat_map, count_by, range_with_len}
 use Rattle.std.specs.declared.cmp.Ordering.{Ordering}
-use Rattle.std.specs.Ordering.{eq_by_cmp, is_eq}
+use Rattle.std.specs.declared.cmp.Ordering.TheVariants.{Less, Equal, Greater}
+use Rattle.std.specs.Ordering.{eq_by_cmp, is_eq, is_lt, nat_cmp, ordering_reverse}
 use Rattle.std.specs.Cmp.{IsTotalOrder, Equal-is, tied_itself}
 use Rattle.std.specs.FinMap.{find}
-use Rattle.std.proofs.lemmas.Bool.{false≢true, and_parts, or_cases, or_left, or_right, cases_order}
+use Rattle.std.proofs.lemmas.Bool.{false≢true, and_parts, and_from, or_cases, or_left, or_right, cases_order}
+use Rattle.std.proofs.lemmas.Cmp.{nat_cmp_total}
 use Rattle.std.proofs.lemmas.List.Sums.{sum_by-cons}
 use Rattle.std.proofs.lemmas.Map.Lookups.{CmpEqualImpliesEq}
 use Rattle.lrs_measure.specs.Lists.{each_two}
@@ -37,6 +39,15 @@ module _ {X : Type 0} where
   all_at p x [] h m = absurd m
   all_at p x (y ∷ ys) h (inl e) = ap p e ∙ (and_parts _ _ h).0
   all_at p x (y ∷ ys) h (inr m) = all_at p x ys (and_parts _ _ h).1 m
+
+  -- all pass where each member does
+  pub all_of : (p : X → Bool) (xs : List X) → ((x : X) → In x xs → p x ≡ true) → list_all p xs ≡ true
+  all_of p [] h = refl
+  all_of p (x ∷ xs) h = and_from (p x) (list_all p xs) (h x (inl refl)) (all_of p xs (λ y m. h y (inr m)))
+
+  -- what passes a test passes a weaker one
+  pub all_weaker : (p q : X → Bool) (xs : List X) → ((x : X) → p x ≡ true → q x ≡ true) → list_all p xs ≡ true → list_all q xs ≡ true
+  all_weaker p q xs w h = all_of q xs (λ x m. w x (all_at p x xs h m))
 
   -- two members are one, or pass the test of each two in their order
   pub two_at : (test : X → X → Bool) (x y : X) (xs : List X) → each_two test xs ≡ true → In x xs → In y xs → (x ≡ y) ⊎ ((test x y ≡ true) ⊎ (test y x ≡ true))
@@ -162,3 +173,40 @@ module _ {K X : Type 0} {R : K → K → Ordering} where
       ap (λ b. is_some (cond b (Some e.1) (find R q es))) (ap (λ r. eq_by_cmp R q r.0) (sym same) ∙ ap is_eq (tied_itself total q))
   find_known total q v (e ∷ es) (inr m) =
       elim (eq_by_cmp R q e.0) as (λ b. is_some (cond b (Some e.1) (find R q es)) ≡ true) [ true ↦ refl | false ↦ find_known total q v es m ]
+
+-- to be less and to be before in the order of numbers are one
+numbers_agree : (m n : ℕ) → nat_lt m n ≡ is_lt (nat_cmp m n)
+numbers_agree m n = by (nat_lt m n) (nat_eq m n)
+  where
+    by : (b c : Bool) → b ≡ is_lt (cond b Less (cond c Equal Greater))
+    by true c = refl
+    by false true = refl
+    by false false = refl
+
+-- Rows in the order of their keys.
+module _ {K Row X : Type 0} {R : K → K → Ordering} (total : IsTotalOrder R) (key : Row → K) (value : Row → X) where
+  abbrev before : Row → Row → Bool
+  before a b = is_lt (R (key a) (key b))
+
+  other : (o : Ordering) → is_lt o ≡ true → is_eq (ordering_reverse o) ≡ false
+  other Less h = refl
+  other Equal h = absurd (false≢true h)
+  other Greater h = absurd (false≢true h)
+
+  -- a later row has another key
+  later_key : (a b : Row) → before a b ≡ true → eq_by_cmp R (key b) (key a) ≡ false
+  later_key a b h = ap is_eq (total.antisymm (key b) (key a)) ∙ other (R (key a) (key b)) h
+
+  -- the row of a key is the one that is found
+  pub find_member : (r : Row) (rows : List Row) → each_two before rows ≡ true → In r rows → find R (key r) (map (λ r. (key r, value r)) rows) ≡ Some (value r)
+  find_member r [] h m = absurd m
+  find_member r (y ∷ ys) h (inl e) =
+      ap (λ b. cond b (Some (value y)) (find R (key r) (map (λ r. (key r, value r)) ys))) (ap (λ z. eq_by_cmp R (key r) (key z)) (sym e) ∙ ap is_eq (tied_itself total (key r))) ∙ ap (λ z. Some (value z)) (sym e)
+  find_member r (y ∷ ys) h (inr m) =
+      let both = and_parts (list_all (before y) ys) (each_two before ys) h in
+      ap (λ b. cond b (Some (value y)) (find R (key r) (map (λ r. (key r, value r)) ys))) (later_key y r (all_at (before y) r ys both.0 m)) ∙ find_member r ys both.1 m
+
+-- ... and in the order of their numbers
+pub find_numbered : {Row X : Type 0} (key : Row → ℕ) (value : Row → X) (r : Row) (rows : List Row) → each_two (λ a b. nat_lt (key a) (key b)) rows ≡ true → In r rows
+    → find nat_cmp (key r) (map (λ r. (key r, value r)) rows) ≡ Some (value r)
+find_numbered key value r rows h m = find_member nat_cmp_total key value r rows (sym (ap (λ t. each_two t rows) (λ j a b. numbers_agree (key a) (key b) j)) ∙ h) m

@@ -23,7 +23,7 @@ use Rattle.lrs_machine.specs.Image.{reason_of}
 use Rattle.lrs_machine.specs.Sound.{share_nothing, is_part, places_of, is_on_a_link, is_span, has_asset_place, parts_of}
 use Rattle.lrs_machine.proofs.Members.{In, any_found, any_of, all_at, two_at, In-take, In-drop, In-range_with_len, In-flat_map, flat_map_found, list_any-map}
 
-same_side_is : (s t : LinkSide) → same_link_side s t ≡ true → s ≡ t
+pub same_side_is : (s t : LinkSide) → same_link_side s t ≡ true → s ≡ t
 same_side_is Left Left h = refl
 same_side_is Left Right h = absurd (false≢true h)
 same_side_is Right Left h = absurd (false≢true h)
@@ -64,7 +64,7 @@ pub pair_had : (part : Part) (m a : ℕ) (p : Place) → has_pair part m a p ≡
 pair_had part m a p h = let r = and_parts _ _ h in let e = and_parts _ _ r.0 in (eqb-true _ _ e.0, place_had part a p (and_from _ _ e.1 r.1))
 
 -- Two parts that share nothing have no pair in common.
-apart : (x y : Part) (a : ℕ) (p : Place) → share_nothing x y ≡ true → HasPlace x a p → HasPlace y a p → ⊥
+pub apart : (x y : Part) (a : ℕ) (p : Place) → share_nothing x y ≡ true → HasPlace x a p → HasPlace y a p → ⊥
 apart x y a p h k l = by (or_cases _ _ h)
   where
     alike : (nat_eq x.asset y.asset && nat_eq x.link y.link && same_link_side x.side y.side) ≡ true
@@ -130,7 +130,7 @@ pub record IsHeld (course : List Ground) (rows : List Span) (a : ℕ) (p : Place
   pub on_link : ground.link ≡ p.link
   pub at : ground.mm ≡ p.mm
 
-beside_ground : (s : Side) (g : Ground) (q : Place) → In q (places_at s g) → (q.link ≡ g.link) × (q.mm ≡ g.mm)
+pub beside_ground : (s : Side) (g : Ground) (q : Place) → In q (places_at s g) → (q.link ≡ g.link) × (q.mm ≡ g.mm)
 beside_ground L g q (inl e) = (ap (λ r. r.link) e, ap (λ r. r.mm) e)
 beside_ground L g q (inr m) = absurd m
 beside_ground R g q (inl e) = (ap (λ r. r.link) e, ap (λ r. r.mm) e)

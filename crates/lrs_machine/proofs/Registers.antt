@@ -22,7 +22,7 @@ shadowed : {A : Type 0} (b : Bool) (x y z : A) → cond b x z ≡ cond b x (cond
 shadowed true x y z = refl
 shadowed false x y z = refl
 
-same_key : {K : Type 0} {R : K → K → Ordering} → IsAntisymmetric R → (q k : K) → eq_by_cmp R q k ≡ true → q ≡ k
+pub same_key : {K : Type 0} {R : K → K → Ordering} → IsAntisymmetric R → (q k : K) → eq_by_cmp R q k ≡ true → q ≡ k
 same_key exact q k h = exact q k ((Equal-is _).0 h)
 
 module _ {K X : Type 0} {R : K → K → Ordering} (total : IsTotalOrder R) (exact : IsAntisymmetric R) where

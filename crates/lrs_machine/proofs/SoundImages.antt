@@ -1,6 +1,6 @@
 -- A sound image stands for a lawful state.
 use Rattle.std.proofs.Common.{◌≡◌, ℕ, ◌≤◌, Bool, true, false, cond, ◌⊎◌, inl, inr, List, [], ◌∷◌, map, length, Some, None, refl, sym, ap, subst, ◌∙◌, arith}
-use Rattle.std.specs.Prelude.{◌&&◌, ◌||◌, not, is_some, nat_eq, nat_le}
+use Rattle.std.specs.Prelude.{◌&&◌, ◌||◌, not, is_some, nat_eq, nat_le, nat_lt, unwrap_or}
 use Rattle.std.specs.List.{list_any, list_all}
 use Rattle.std.specs.Ordering.{nat_cmp}
 use Rattle.std.specs.Cmp.Lexicographic.{bytes_decides, nat_list_cmp_total}
@@ -11,6 +11,8 @@ use Rattle.std.proofs.lemmas.List.{length-map}
 use Rattle.std.proofs.lemmas.Map.Lookups.{exact_unsigned, exact_bytes}
 use Rattle.lrs_measure.specs.Lists.{each_two}
 use Rattle.lrs_measure.specs.Texts.{Name, name_cmp, same_name}
+use Rattle.lrs_element.specs.declared.link.Link.{Link}
+use Rattle.lrs_position.specs.Locating.{Alignment}
 use Rattle.lrs_events.specs.declared.class.Class.{Class}
 use Rattle.lrs_events.specs.declared.class.Kind.{Kind}
 use Rattle.lrs_events.specs.declared.class.Kind.TheVariants.{Exclusive}
@@ -30,10 +32,10 @@ use Rattle.lrs_machine.specs.Entered.{is_asset_number, is_lateral_offset}
 use Rattle.lrs_machine.specs.Bounds.{most_assets, most_routes, most_edits, most_pairs}
 use Rattle.lrs_machine.specs.State.{Reason, same_reason}
 use Rattle.lrs_machine.specs.State as state
-use Rattle.lrs_machine.specs.Image.{state_of, holds_on, asset_entry, reason_of}
-use Rattle.lrs_machine.specs.Sound.{asset_before, are_assets, course_before, are_courses, are_spans, are_entered, gone_before, are_gone, are_balanced, are_edits, Test, IsSound, first_unsound, first_failed, tests, courses_of, spans_of, parts_of, places_of, has_asset_place, holds_in, holders_of, is_asset, is_course, is_on_a_link, is_span, are_spans_of, keeps_exclusive, is_part, share_nothing, pairs_of, is_balanced_at, is_named_by, are_parts, is_origin, are_origins}
-use Rattle.lrs_machine.specs.Laws.{IsBalanced, IsExclusive, IsNamed, SoundIsLawful}
-use Rattle.lrs_machine.proofs.Members.{In, any_found, any_of, all_at, In-map, map_found, list_any-map, one_at, find_found, find_known}
+use Rattle.lrs_machine.specs.Image.{state_of, holds_on, link_entry, asset_entry, route_entry, reason_of}
+use Rattle.lrs_machine.specs.Sound.{link_before, are_links, asset_before, are_assets, course_before, are_courses, are_spans, are_entered, gone_before, are_gone, are_balanced, are_edits, Test, IsSound, first_unsound, first_failed, tests, courses_of, spans_of, parts_of, places_of, has_asset_place, holds_in, holders_of, is_asset, is_course, is_on_a_link, is_span, are_spans_of, keeps_exclusive, is_part, share_nothing, pairs_of, is_balanced_at, is_named_by, are_parts, is_origin, are_origins}
+use Rattle.lrs_machine.specs.Laws.{IsBalanced, IsExclusive, IsNamed, IsGrounded, SoundIsLawful}
+use Rattle.lrs_machine.proofs.Members.{In, any_found, any_of, all_at, all_of, find_numbered, In-map, map_found, list_any-map, one_at, find_found, find_known}
 use Rattle.lrs_machine.proofs.Pairs.{HasPlace, place_had, pair_had, one_row, each_two-map, part_on, part_asset, held, held_on, held_asset, Balance, balance, entered_by, has_entered, gone_by, has_gone, takes_away, same_reason_is, is_same_side}
 
 -- ---- the tests that a sound image passes
@@ -75,6 +77,7 @@ parts_tested i parts h =
 
 -- what the laws need of the tables
 pub record Tested (i : Image) : Type 0 where
+  pub link_order : each_two link_before i.links ≡ true
   pub asset_order : each_two asset_before i.assets ≡ true
   pub assets : list_all (is_asset i.classes) i.assets ≡ true
   pub courses : list_all (is_course i.links) (courses_of i) ≡ true
@@ -105,6 +108,7 @@ tested i h =
     (passed (record { table = table.Edit; passes = are_edits i.entered i.gone i.edits }) (tests i) h (inr (inr (inr (inr (inr (inr (inr (inr (inr (inl refl))))))))))) in
     let named = and_three (each_two (λ d e. not (same_name d.key e.key)) i.edits) (list_all (is_named_by i.edits) i.entered) (list_all (is_named_by i.edits) (parts_of i.gone)) edits.0 in
     record {
+      link_order = passed (record { table = table.Link; passes = are_links i.links }) (tests i) h (inl refl);
       asset_order = assets.0;
       assets = assets.1;
       courses = (and_three (each_two course_before (courses_of i)) (list_all (is_course i.links) (courses_of i)) (each_two (λ c d. not (meets c.entries d.entries)) (courses_of i)) courses.0).1;
@@ -342,5 +346,46 @@ module _ (i : Image) (t : Tested i) where
     was_entered = was_entered;
   }
 
+  -- a link's row is found by its number
+  link_found : (l : Link) → In l i.links → find nat_cmp l.number (map link_entry i.links) ≡ Some l.length
+  link_found l m = find_numbered (λ (l : Link). l.number) (λ (l : Link). l.length) l i.links t.link_order m
+
+  -- ground of a link's row is known
+  known_ground : (link mm : ℕ) → list_any (λ l. nat_eq l.number link && nat_lt mm l.length) i.links ≡ true → nat_lt mm (unwrap_or (find nat_cmp link (map link_entry i.links)) 0) ≡ true
+  known_ground link mm h =
+      let l = any_found (λ l. nat_eq l.number link && nat_lt mm l.length) i.links h in
+      let fits = and_parts (nat_eq l.0.number link) (nat_lt mm l.0.length) l.2 in
+      subst (λ n. nat_lt mm (unwrap_or (find nat_cmp n (map link_entry i.links)) 0) ≡ true) (eqb-true l.0.number link fits.0) (ap (λ o. nat_lt mm (unwrap_or o 0)) (link_found l.0 l.1) ∙ fits.1)
+
+  on_known_links : list_all (λ (route : Name × Alignment). list_all (λ g. nat_lt g.mm (unwrap_or (find nat_cmp g.link (map link_entry i.links)) 0)) route.1.course) (map route_entry i.routes) ≡ true
+  on_known_links = all_of _ (map route_entry i.routes) (λ route m.
+      let e = map_found route_entry route i.routes m in
+      let course = all_at (is_course i.links) _ (courses_of i) t.courses (In-map (λ e. record { route = e.route.name; entries = e.route.course }) e.0 i.routes e.1) in
+      let on_links = (and_three (is_route_course e.0.route.course) (list_all (is_on_a_link i.links) e.0.route.course) (each_two differs e.0.route.course) course).1 in
+      subst (λ (r : Name × Alignment). list_all (λ g. nat_lt g.mm (unwrap_or (find nat_cmp g.link (map link_entry i.links)) 0)) r.1.course ≡ true) (sym e.2)
+      (all_of _ e.0.route.course (λ g k. known_ground g.link g.mm (all_at (is_on_a_link i.links) g e.0.route.course on_links k))))
+
+  -- each place of an entered part is within its link
+  place_known : (m a : ℕ) (p : Place) → enters i m a p ≡ true → nat_lt p.mm (unwrap_or (find nat_cmp p.link (map link_entry i.links)) 0) ≡ true
+  place_known m a p h =
+      let r = entered_row m a p h in
+      let x = r.0 in
+      let within = (and_parts (nat_lt x.lo x.hi) (list_any (λ l. nat_eq l.number x.link && nat_le x.hi l.length) i.links) (and_parts _ _ (all_at (is_part i.links i.assets) x i.entered t.entered.inside r.1)).0).1 in
+      let l = any_found (λ l. nat_eq l.number x.link && nat_le x.hi l.length) i.links within in
+      let fits = and_parts (nat_eq l.0.number x.link) (nat_le x.hi l.0.length) l.2 in
+      let high = leb-true x.hi l.0.length fits.1 in
+      let below = r.3.high in
+      known_ground p.link p.mm (any_of (λ l. nat_eq l.number p.link && nat_lt p.mm l.length) l.0 i.links l.1
+      (and_from (nat_eq l.0.number p.link) (nat_lt p.mm l.0.length) (eq-eqb l.0.number p.link (eqb-true l.0.number x.link fits.0 ∙ r.3.on_link)) (lt-ltb p.mm l.0.length (omega (arith, high, below)))))
+
+  grounded : IsGrounded (state_of i)
+  unfolding state_of
+  grounded = record {
+    courses = on_known_links;
+    places = place_known;
+    links = each_two-map (λ (x y : ℕ × ℕ). nat_lt x.0 y.0) link_entry i.links ∙ t.link_order;
+    assets = each_two-map (λ (x y : ℕ × state.Asset). nat_lt x.0 y.0) asset_entry i.assets ∙ t.asset_order;
+  }
+
 pub sound_is_lawful : SoundIsLawful
-sound_is_lawful i h = let t = tested i h in record { balanced = balanced i t; exclusive = exclusive i t; named = named i t }
+sound_is_lawful i h = let t = tested i h in record { balanced = balanced i t; exclusive = exclusive i t; named = named i t; grounded = grounded i t }

@@ -53,7 +53,7 @@ count-none f a (suc n) none =
     sum_by-cons (λ x. cond (f x) 1 0) a (range_with_len (a + 1) n) ∙ ap (λ b. cond b 1 0 + count_by f (range_with_len (a + 1) n)) first ∙ rw rest refl
 
 -- a test that one number of a range passes, and no other number, is passed once
-count-one : (f : ℕ → Bool) (a n m : ℕ) → a ≤ m → m < a + n → f m ≡ true → ((k : ℕ) → f k ≡ true → k ≡ m) → count_by f (range_with_len a n) ≡ 1
+pub count-one : (f : ℕ → Bool) (a n m : ℕ) → a ≤ m → m < a + n → f m ≡ true → ((k : ℕ) → f k ≡ true → k ≡ m) → count_by f (range_with_len a n) ≡ 1
 count-one f a zero m low high is only = absurd (omega arith)
 count-one f a (suc n) m low high is only = by (cases_order a m) (count-one f (a + 1) n m)
   where

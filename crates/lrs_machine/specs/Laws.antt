@@ -1,20 +1,22 @@
 -- What holds of every state of the ground machine, and of its runs.
-use Rattle.std.specs.Prelude.{◌≡◌, ℕ, ◌+◌, ◌≤◌, Bool, true, false, ◌⊎◌, List, [], ◌∷◌, length, if◌then◌else◌, Some, is_some}
-use Rattle.lrs_measure.specs.Lists.{is_nothing}
-use Rattle.lrs_measure.specs.Texts.{Name}
+use Rattle.std.specs.Prelude.{◌≡◌, ℕ, ◌+◌, ◌≤◌, Bool, true, false, nat_lt, nat_eq, ◌⊎◌, List, [], ◌∷◌, length, if◌then◌else◌, Some, is_some}
+use Rattle.std.specs.List.{list_all, count_by}
+use Rattle.lrs_measure.specs.Lists.{is_nothing, each_two}
+use Rattle.lrs_measure.specs.Texts.{Name, same_name}
 use Rattle.lrs_element.specs.declared.link.Ground.{Ground}
+use Rattle.lrs_element.specs.Course.{Millimetre}
 use Rattle.lrs_events.specs.declared.class.Kind.TheVariants.{Exclusive}
-use Rattle.lrs_events.specs.Places.{Place}
+use Rattle.lrs_events.specs.Places.{Place, same_place}
 use Rattle.lrs_machine.specs.declared.command.Command.{Command}
 use Rattle.lrs_machine.specs.declared.command.Command.TheVariants as verb
 use Rattle.lrs_machine.specs.declared.answer.Answer.TheVariants.{Done}
 use Rattle.lrs_machine.specs.declared.answer.Limits.{Limits}
 use Rattle.lrs_machine.specs.declared.image.Image.{Image}
-use Rattle.lrs_machine.specs.Register.{get, contains_key}
+use Rattle.lrs_machine.specs.Register.{get, contains_key, entries}
 use Rattle.lrs_machine.specs.State.{State, Asset, Reason, Retired, Abandoned, nothing_known}
-use Rattle.lrs_machine.specs.Machine.{Extent, is_empty_extent, part_of, Record, step, step_record, state_after, place_of_key}
+use Rattle.lrs_machine.specs.Machine.{length_of_link, Extent, is_empty_extent, part_of, Record, step, step_record, state_after, place_of_key}
 use Rattle.lrs_machine.specs.Image.{state_of, nothing}
-use Rattle.lrs_machine.specs.Readings.{total_present, total_entered, total_gone}
+use Rattle.lrs_machine.specs.Readings.{all_places, assets_of, edits_of, total_present, total_entered, total_gone}
 use Rattle.lrs_machine.specs.Sound.{IsSound}
 use Rattle.lrs_machine.specs.Lines.{line_of}
 use Rattle.lrs_machine.specs.WellFormed.{IsWellFormed}
@@ -42,12 +44,28 @@ pub record IsNamed (s : State) : Type 0 where
   pub by_entry : (m a : ℕ) (x : Asset) (p : Place) → get s.assets a ≡ Some x → s.entered m a p ≡ true → m ≡ x.entry
   pub was_entered : (a : ℕ) (x : Asset) → get s.assets a ≡ Some x → (p : Place) × (s.entered x.entry a p ≡ true)
 
+-- whether the millimetre is one of a known link
+abbrev pub is_known : State → Millimetre → Bool
+is_known s (link, mm) = nat_lt mm (length_of_link s link)
+
+-- rows in the order of their numbers, each number once
+abbrev pub are_numbered : {X : Type 0} → List (ℕ × X) → Bool
+are_numbered rows = each_two (λ x y. nat_lt x.0 y.0) rows
+
+-- Each route runs over millimetres of known links, and each entered place lies on one; no link is known twice, and no asset.
+pub record IsGrounded (s : State) : Type 0 where
+  pub courses : list_all (λ route. list_all (λ g. is_known s (g.link, g.mm)) route.1.course) (entries s.routes) ≡ true
+  pub places : (m asset : ℕ) (p : Place) → s.entered m asset p ≡ true → is_known s (p.link, p.mm) ≡ true
+  pub links : are_numbered (entries s.links) ≡ true
+  pub assets : are_numbered (entries s.assets) ≡ true
+
 pub record IsLawful (s : State) : Type 0 where
   pub balanced : IsBalanced s
   pub exclusive : IsExclusive s
   pub named : IsNamed s
+  pub grounded : IsGrounded s
 
--- Every step keeps a lawful state lawful: balanced, exclusive, and its ledgers named.
+-- Every step keeps a lawful state lawful: balanced, exclusive, its ledgers named, and its ground known.
 abbrev pub StepKeepsLaws : Type 0
 StepKeepsLaws = (limits : Limits) (key : Name) (command : Command) (s : State) → IsLawful s → IsLawful (step limits key command s).state
 
@@ -61,6 +79,22 @@ AddsUp s = (class : Name) → total_present class s + total_gone Retired class s
 
 abbrev pub LawfulAddsUp : Type 0
 LawfulAddsUp = (s : State) → IsLawful s → AddsUp s
+
+-- What totals look at has the pair once: of the assets of each class, its own class has the asset once and no other one has it, and of the places of all links one is the place.
+pub record IsCounted (s : State) (asset : ℕ) (p : Place) : Type 0 where
+  pub row : Asset
+  pub known : get s.assets asset ≡ Some row
+  pub of_class : (class : Name) → count_by (nat_eq asset) (assets_of class s) ≡ (if same_name row.class class then 1 else 0)
+  pub place : count_by (same_place p) (all_places s) ≡ 1
+
+-- Totals count all members: each pair that is held, entered or gone, once, and the edit that entered it or took it away.
+pub record CountsAll (s : State) : Type 0 where
+  pub held : (asset : ℕ) (p : Place) → s.holds asset p ≡ true → IsCounted s asset p
+  pub entered : (m asset : ℕ) (p : Place) → s.entered m asset p ≡ true → IsCounted s asset p × (count_by (nat_eq m) (edits_of s) ≡ 1)
+  pub gone : (m asset : ℕ) (why : Reason) (p : Place) → s.gone m why asset p ≡ true → IsCounted s asset p × (count_by (nat_eq m) (edits_of s) ≡ 1)
+
+abbrev pub LawfulCountsAll : Type 0
+LawfulCountsAll = (s : State) → IsLawful s → CountsAll s
 
 -- The records without those whose key was accepted before them.
 abbrev pub once : Limits → List Record → State → List Record

@@ -23,6 +23,7 @@ use Rattle.lrs_events.specs.Places.{places_of_link, differs}
 use Rattle.lrs_report.specs.Segments.{is_exclusive}
 use Rattle.lrs_machine.specs.declared.image.Edit.{Edit}
 use Rattle.lrs_machine.specs.declared.image.Image.{Image}
+use Rattle.lrs_machine.specs.declared.image.RouteEntry.{RouteEntry}
 use Rattle.lrs_machine.specs.declared.table.Table.{Table}
 use Rattle.lrs_machine.specs.declared.table.Table.TheVariants as table
 use Rattle.lrs_machine.specs.Bounds.{most_routes, most_assets, most_edits, most_pairs}
@@ -56,6 +57,9 @@ abbrev pub are_assets : List Class → List Asset → Bool
 are_assets classes assets = each_two asset_before assets && list_all (is_asset classes) assets && nat_le (length assets) most_assets
 
 -- table `piece`: routes in the order of their names, over known links, no millimetre twice, and not too many
+
+abbrev pub route_before : RouteEntry → RouteEntry → Bool
+route_before a b = name_before a.route.name b.route.name
 
 pub record RouteCourse : Type 0 where
   pub route : Name

@@ -7,9 +7,11 @@ use crate::line::Line;
 use lrs_element::Link;
 use lrs_events::{Asset, Class, Gone, Part};
 use lrs_measure::{Rows, TryCopy};
-use lrs_position::Route;
+use lrs_ordered::{Keyed, Ordered};
+use lrs_position::{Route, RouteName};
 use lrs_spans::Spans;
 use std::alloc::{AllocError, Global};
+use std::cmp;
 
 /// A route and what lies on it.
 #[derive(Drop)]
@@ -25,6 +27,32 @@ impl TryCopy for RouteEntry {
             spans: self.spans.copy(alloc)?,
         })
     }
+}
+
+impl Ordered for RouteEntry {
+    ghost use Rattle.lrs_machine.specs.Sound.{route_before};
+
+    ghost before = { route_before };
+
+    fn is_before(&self, other: &RouteEntry) -> bool {
+        let name = &self.route.name;
+        let other_name = &other.route.name;
+        name.bytes().cmp(other_name.bytes()).is_lt()
+    }
+}
+
+impl Keyed<RouteName> for RouteEntry {
+    ghost use Rattle.lrs_measure.specs.Texts.{name_cmp};
+    ghost use Rattle.lrs_ordered.specs.Laws.{name_after};
+
+    ghost key_order = { λ entry name. name_cmp entry.route.name name };
+
+    fn cmp_key(&self, name: &RouteName) -> cmp::Ordering {
+        let own = &self.route.name;
+        own.bytes().cmp(name.bytes())
+    }
+
+    ghost rises = { λ a b name before from. name_after a.route.name b.route.name name before from };
 }
 
 /// An accepted command: its key and its canonical line.

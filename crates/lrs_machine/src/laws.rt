@@ -1,9 +1,10 @@
 //! Laws of the ground machine, over all states and lists of commands.
 
-ghost use Rattle.lrs_machine.specs.Laws.{StepKeepsLaws, RunsAreLawful, LawfulAddsUp, SoundIsLawful, ActsOnce, OnlyDoneChanges, NothingBetween, RouteEditsKeep, EmptyIsSound, LinesTellCommandsApart};
+ghost use Rattle.lrs_machine.specs.Laws.{StepKeepsLaws, RunsAreLawful, LawfulAddsUp, LawfulCountsAll, SoundIsLawful, ActsOnce, OnlyDoneChanges, NothingBetween, RouteEditsKeep, EmptyIsSound, LinesTellCommandsApart};
 
 /// Every step keeps a lawful state lawful: each ledger pair once, held what was entered and is not
-/// gone, no place held by two assets of one exclusive class, each asset entered by the one edit that it names.
+/// gone, no place held by two assets of one exclusive class, each asset entered by the one edit that it names,
+/// routes and entered places on known links.
 pub fn every_step_keeps_the_laws()
     ensures { StepKeepsLaws }
 {}
@@ -16,6 +17,12 @@ pub fn every_run_is_lawful()
 /// For each class, what is present is what was entered less what was retired and abandoned.
 pub fn totals_add_up()
     ensures { LawfulAddsUp }
+{}
+
+/// Totals count all members: in a lawful state each pair of asset and place that is held, entered or gone
+/// is of one asset, one place and one edit of those that totals look at.
+pub fn totals_count_all()
+    ensures { LawfulCountsAll }
 {}
 
 /// The state after a list of commands is the state after the list without every later command whose
@@ -39,7 +46,7 @@ pub fn nothing_between_unordered_ends()
     ensures { NothingBetween }
 {}
 
-/// A sound image stands for a lawful state: balanced, exclusive, and its ledgers named.
+/// A sound image stands for a lawful state: balanced, exclusive, its ledgers named, and its ground known.
 pub fn sound_images_are_lawful()
     ensures { SoundIsLawful }
 {}

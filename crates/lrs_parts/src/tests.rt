@@ -33,9 +33,9 @@ pub(super) fn course(rt: &(impl Abort + AllocGlobal)) -> Course {
             forward: false,
         },
     ];
-    match Course::new(rt.alloc(), &pieces, &links) {
+    match Course::new(rt.alloc(), &pieces, &links.as_slice()) {
         Err(CourseFault::Memory) => {
-            Course::new(rt.alloc(), &pieces, &links).expect(rt, "memory")
+            Course::new(rt.alloc(), &pieces, &links.as_slice()).expect(rt, "memory")
         }
         made => made.expect(rt, "a course"),
     }

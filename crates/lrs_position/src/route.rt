@@ -8,7 +8,9 @@ ghost use Rattle.lrs_position.specs.Routes.{is_route};
 use crate::name::{RefName, RouteName};
 use lrs_element::{Course, Marks};
 use lrs_measure::Rows;
+use lrs_ordered::{Keyed, Ordered};
 use std::alloc::{AllocError, Global};
+use std::cmp;
 
 /// A known place on a route (ISO 19148, referent): it stands in the millimetre `at` of chainage.
 #[derive(Clone, Copy, PartialEq, Eq)]
@@ -70,4 +72,27 @@ impl Route {
             refs: self.refs.copy(alloc)?,
         })
     }
+}
+
+impl Ordered for Referent {
+    ghost use Rattle.lrs_position.specs.Routes.{referent_before};
+
+    ghost before = { referent_before };
+
+    fn is_before(&self, other: &Referent) -> bool {
+        self.name.bytes().cmp(other.name.bytes()).is_lt()
+    }
+}
+
+impl Keyed<RefName> for Referent {
+    ghost use Rattle.lrs_measure.specs.Texts.{name_cmp};
+    ghost use Rattle.lrs_ordered.specs.Laws.{name_after};
+
+    ghost key_order = { λ referent name. name_cmp referent.name name };
+
+    fn cmp_key(&self, name: &RefName) -> cmp::Ordering {
+        self.name.bytes().cmp(name.bytes())
+    }
+
+    ghost rises = { λ a b n before from. name_after a.name b.name n before from };
 }

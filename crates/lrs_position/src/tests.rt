@@ -68,7 +68,7 @@ fn route_along(alloc: Global, links: &[Link], pieces: &[Piece], marks: &[Mark]) 
     let Ok(refs) = Vec::from_slice(alloc, &[referent]) else {
         return None;
     };
-    let Ok(course) = Course::new(alloc, pieces, links) else {
+    let Ok(course) = Course::new(alloc, pieces, &links) else {
         return None;
     };
     let length = course.len();

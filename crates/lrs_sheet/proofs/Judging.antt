@@ -10,7 +10,7 @@ use Rattle.lrs_machine.specs.Keys.{is_key}
 use Rattle.lrs_machine.specs.Lines.{Text}
 use Rattle.lrs_machine.specs.declared.command.Command.{Command}
 use Rattle.lrs_machine.specs.declared.command.Command.TheVariants as verb
-use Rattle.lrs_desk.specs.Plan.{is_planned}
+use Rattle.lrs_verbs.specs.Planned.{is_planned}
 use Rattle.lrs_sheet.proofs.Deciding.{argument_in, fits, fits-says, says-fits}
 use Rattle.lrs_sheet.proofs.Misfits.{misfit-malformed}
 use Rattle.lrs_sheet.specs.Fields.{FirstMisfit}

@@ -15,4 +15,5 @@ pub mod KeyBytes
 pub mod Breaking
 pub mod OneCommand
 pub mod Complete
+pub mod Readers
 pub mod Determined

@@ -3,12 +3,13 @@ use Rattle.std.specs.Prelude.{◌≡◌, ◌⊎◌, ℕ, ◌+◌, ◌<◌, ◌�
 use Rattle.lrs_machine.specs.Lines.{Text}
 use Rattle.lrs_machine.specs.declared.answer.Field.{Field}
 use Rattle.lrs_machine.specs.declared.answer.Field.TheVariants as field
+use Rattle.lrs_machine.specs.declared.command.Entry.{Entry}
 use Rattle.lrs_machine.specs.declared.command.Command.{Command}
 use Rattle.lrs_sheet.specs.declared.fault.ReadFault.{ReadFault}
 use Rattle.lrs_sheet.specs.declared.fault.ReadFault.TheVariants as fault
 use Rattle.lrs_sheet.specs.Records.{SayAll, place_of, text_at, texts_of}
-use Rattle.lrs_sheet.specs.Shapes.{Argument, Shape, Says, Fits}
-use Rattle.lrs_sheet.specs.Verbs.{IsVerb, arguments_of, shapes_of, verb_of}
+use Rattle.lrs_sheet.specs.Shapes.{Argument, Fits, Says, Shape}
+use Rattle.lrs_sheet.specs.Verbs.{IsVerb, arguments_of, entry_arguments, entry_shapes, shapes_of, verb_of}
 
 -- the first field, from a place on, that does not fit the shapes that begin there
 abbrev pub FirstMisfit : List Text → ℕ → List Shape → ℕ → Type 0
@@ -47,3 +48,9 @@ ReadsCommand fields (Ok command) = IsVerb (text_at fields 1) × (text_at fields 
 ReadsCommand fields (Err (fault.Field at)) =
     ((at ≡ field.Verb) × (IsVerb (text_at fields 1) → ⊥)) ⊎ (IsVerb (text_at fields 1) × FirstMisfit fields 2 (shapes_of (text_at fields 1)) (place_of at))
 ReadsCommand fields (Err fault.Memory) = ⊤
+
+-- the nine fields of an entry
+abbrev pub ReadsEntry : List Text → Result Entry ReadFault → Type 0
+ReadsEntry fields (Ok entry) = SayAll fields 2 entry_shapes (entry_arguments entry)
+ReadsEntry fields (Err (fault.Field field)) = FirstMisfit fields 2 entry_shapes (place_of field)
+ReadsEntry fields (Err fault.Memory) = ⊥

@@ -7,7 +7,7 @@ use Rattle.lrs_machine.specs.WellFormed.{IsWellFormed}
 use Rattle.lrs_machine.specs.declared.command.Command.{Command}
 use Rattle.lrs_machine.specs.State.{State}
 use Rattle.lrs_machine.specs.declared.answer.Limits.{Limits}
-use Rattle.lrs_desk.specs.Plan.{is_planned}
+use Rattle.lrs_verbs.specs.Planned.{is_planned}
 use Rattle.lrs_sheet.specs.declared.reply.Tally.{Tally}
 use Rattle.lrs_sheet.specs.CanonicalRecords.{IsInLowestTerms, line_by_table, record_of}
 use Rattle.lrs_sheet.specs.Records.{FirstMalformedAmong, SaysAmong}

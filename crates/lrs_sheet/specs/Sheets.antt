@@ -12,7 +12,7 @@ use Rattle.lrs_machine.specs.declared.answer.Limits.{Limits}
 use Rattle.lrs_machine.specs.declared.image.Image.{Image}
 use Rattle.lrs_machine.specs.declared.table.Table.{Table}
 use Rattle.lrs_desk.specs.DeskView.{DeskView}
-use Rattle.lrs_desk.specs.Keeping.{HoldsOnly}
+use Rattle.lrs_keep.specs.Keeping.{HoldsOnly}
 use Rattle.lrs_desk.specs.declared.desk.Fault.TheVariants as stop
 use Rattle.lrs_sheet.specs.declared.reply.Reply.{Reply}
 use Rattle.lrs_sheet.specs.declared.reply.Tally.{Tally}

@@ -6,6 +6,7 @@ mod fault;
 mod header;
 pub mod laws;
 mod list;
+mod place;
 mod record;
 mod reply;
 mod rows;

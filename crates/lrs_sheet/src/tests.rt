@@ -28,12 +28,12 @@ fn open(alloc: Global, limits: Limits) -> Result<Desk<Plain>, Fail> {
     }
 }
 
-fn edit_count(desk: &Desk<Plain>) -> usize {
-    desk.image().edits.as_slice().len()
+fn edit_count(desk: &Desk<Plain>) -> u64 {
+    desk.inventory().edits()
 }
 
-fn line_count(written: &[u8]) -> usize {
-    written.iter().filter(|byte| **byte == b'\n').count()
+fn line_count(written: &[u8]) -> u64 {
+    written.iter().filter(|byte| **byte == b'\n').count() as u64
 }
 
 fn tally(done: u64, again: u64, refused: u64) -> Result<Tally, SheetFault> {
@@ -368,7 +368,7 @@ fn a_sheet_cut_after_each_byte(rt: HostRuntime) -> Result<(), Fail> {
         } else if line.len() <= 1 || comma_count(line) == 10 {
             assert_eq!(rt;
                 result,
-                tally(line_count(written.as_slice()) as u64, 0, 0),
+                tally(line_count(written.as_slice()), 0, 0),
                 "{len}"
             );
         } else {

@@ -2,12 +2,16 @@
 
 ghost use Rattle.std.specs.Prelude.{◌≡◌, ◌≤◌, IsTrue, length, codes};
 ghost use Rattle.csv.specs.Records.{fields_of};
-ghost use Rattle.lrs_desk.specs.Plan.{is_planned};
+ghost use Rattle.lrs_verbs.specs.Planned.{is_planned};
 ghost use Rattle.lrs_sheet.specs.Records as spec;
-ghost use Rattle.lrs_sheet.specs.Fields.{NothingFrom, ReadsArguments, ReadsCommand};
+ghost use Rattle.lrs_sheet.specs.Fields.{NothingFrom, ReadsArguments, ReadsCommand, ReadsEntry};
 ghost use Rattle.lrs_machine.specs.declared.command.Command.{Command as DeclaredCommand};
 
 use crate::fault::ReadFault;
+use crate::place::{
+    asset_at, chainage_at, end_at, location, method_at, offset_at, position_at, referent_name_at,
+    side_at, some_pieces_at, value_at,
+};
 use crate::shape::{
     class_name_at, kind_at, marks_at, pieces_at, place_of, route_name_at, text_at, whole_at,
 };
@@ -15,7 +19,7 @@ use csv::ByteRecord;
 use lrs_desk::Planned;
 use lrs_element::Link;
 use lrs_events::Class;
-use lrs_machine::{Command, Field};
+use lrs_machine::{Command, Entry, Field};
 use std::alloc::Global;
 
 /// The field at a place after those of the key and the verb.
@@ -112,4 +116,165 @@ pub(crate) fn command_by_verb(alloc: Global, row: &ByteRecord) -> Result<Planned
     } else {
         Err(ReadFault::Field(Field::Verb))
     }
+}
+
+fn ref_of(row: &ByteRecord) -> Result<Command, ReadFault>
+    requires { length (fields_of row.now) ≤ 11 }
+    ensures { ReadsArguments (fields_of row.now) (codes "ref") result }
+{
+    let name = referent_name_at(row, Field::A)?;
+    let route = route_name_at(row, Field::B)?;
+    let method = method_at(row, Field::C)?;
+    let at = position_at(row, Field::C, method, Field::D)?;
+    nothing_from(row, Field::E)?;
+    Ok(Command::Ref { name, route, at })
+}
+
+fn unref_of(row: &ByteRecord) -> Result<Command, ReadFault>
+    requires { length (fields_of row.now) ≤ 11 }
+    ensures { ReadsArguments (fields_of row.now) (codes "unref") result }
+{
+    let name = referent_name_at(row, Field::A)?;
+    nothing_from(row, Field::B)?;
+    Ok(Command::Unref { name })
+}
+
+/// The fields of an entry.
+fn entry_of(row: &ByteRecord) -> Result<Entry, ReadFault>
+    requires { length (fields_of row.now) ≤ 11 }
+    ensures { ReadsEntry (fields_of row.now) result }
+{
+    let asset = asset_at(row, Field::A)?;
+    let class = class_name_at(row, Field::B)?;
+    let route = route_name_at(row, Field::C)?;
+    let side = side_at(row, Field::D)?;
+    let method = method_at(row, Field::E)?;
+    let start = position_at(row, Field::E, method, Field::F)?;
+    let end = end_at(row, Field::E, method, Field::G)?;
+    let value = value_at(row, Field::H)?;
+    let offset = offset_at(row, Field::I)?;
+    Ok(Entry {
+        asset,
+        class,
+        route,
+        side,
+        location: location(start, end),
+        value,
+        offset,
+    })
+}
+
+fn enter_of(row: &ByteRecord) -> Result<Command, ReadFault>
+    requires { length (fields_of row.now) ≤ 11 }
+    ensures { ReadsArguments (fields_of row.now) (codes "enter") result }
+{
+    match entry_of(row) {
+        Ok(entry) => Ok(Command::Enter(entry)),
+        Err(fault) => Err(fault),
+    }
+}
+
+fn supersede_of(row: &ByteRecord) -> Result<Command, ReadFault>
+    requires { length (fields_of row.now) ≤ 11 }
+    ensures { ReadsArguments (fields_of row.now) (codes "supersede") result }
+{
+    match entry_of(row) {
+        Ok(entry) => Ok(Command::Supersede(entry)),
+        Err(fault) => Err(fault),
+    }
+}
+
+fn retire_of(row: &ByteRecord) -> Result<Command, ReadFault>
+    requires { length (fields_of row.now) ≤ 11 }
+    ensures { ReadsArguments (fields_of row.now) (codes "retire") result }
+{
+    let asset = asset_at(row, Field::A)?;
+    let route = route_name_at(row, Field::B)?;
+    let method = method_at(row, Field::C)?;
+    let start = position_at(row, Field::C, method, Field::D)?;
+    let end = end_at(row, Field::C, method, Field::E)?;
+    nothing_from(row, Field::F)?;
+    Ok(Command::Retire {
+        asset,
+        route,
+        location: location(start, end),
+    })
+}
+
+fn split_of(row: &ByteRecord) -> Result<Command, ReadFault>
+    requires { length (fields_of row.now) ≤ 11 }
+    ensures { ReadsArguments (fields_of row.now) (codes "split") result }
+{
+    let route = route_name_at(row, Field::A)?;
+    let at = chainage_at(row, Field::B)?;
+    let name = route_name_at(row, Field::C)?;
+    nothing_from(row, Field::D)?;
+    Ok(Command::Split { route, at, name })
+}
+
+fn join_of(row: &ByteRecord) -> Result<Command, ReadFault>
+    requires { length (fields_of row.now) ≤ 11 }
+    ensures { ReadsArguments (fields_of row.now) (codes "join") result }
+{
+    let first = route_name_at(row, Field::A)?;
+    let second = route_name_at(row, Field::B)?;
+    nothing_from(row, Field::C)?;
+    Ok(Command::Join { first, second })
+}
+
+fn renumber_of(row: &ByteRecord) -> Result<Command, ReadFault>
+    requires { length (fields_of row.now) ≤ 11 }
+    ensures { ReadsArguments (fields_of row.now) (codes "renumber") result }
+{
+    let route = route_name_at(row, Field::A)?;
+    let name = route_name_at(row, Field::B)?;
+    nothing_from(row, Field::C)?;
+    Ok(Command::Renumber { route, name })
+}
+
+fn recalibrate_of(alloc: Global, row: &ByteRecord) -> Result<Command, ReadFault>
+    requires { length (fields_of row.now) ≤ 11 }
+    ensures { ReadsArguments (fields_of row.now) (codes "recalibrate") result }
+{
+    let route = route_name_at(row, Field::A)?;
+    let marks = marks_at(alloc, row, Field::B)?;
+    nothing_from(row, Field::C)?;
+    Ok(Command::Recalibrate { route, marks })
+}
+
+fn realign_of(alloc: Global, row: &ByteRecord) -> Result<Command, ReadFault>
+    requires { length (fields_of row.now) ≤ 11 }
+    ensures { ReadsArguments (fields_of row.now) (codes "realign") result }
+{
+    let route = route_name_at(row, Field::A)?;
+    let from = chainage_at(row, Field::B)?;
+    let to = chainage_at(row, Field::C)?;
+    let pieces = some_pieces_at(alloc, row, Field::D)?;
+    let marks = marks_at(alloc, row, Field::E)?;
+    nothing_from(row, Field::F)?;
+    Ok(Command::Realign {
+        route,
+        from,
+        to,
+        pieces,
+        marks,
+    })
+}
+
+fn close_of(row: &ByteRecord) -> Result<Command, ReadFault>
+    requires { length (fields_of row.now) ≤ 11 }
+    ensures { ReadsArguments (fields_of row.now) (codes "close") result }
+{
+    let route = route_name_at(row, Field::A)?;
+    nothing_from(row, Field::B)?;
+    Ok(Command::Close { route })
+}
+
+fn turn_of(row: &ByteRecord) -> Result<Command, ReadFault>
+    requires { length (fields_of row.now) ≤ 11 }
+    ensures { ReadsArguments (fields_of row.now) (codes "turn") result }
+{
+    let route = route_name_at(row, Field::A)?;
+    nothing_from(row, Field::B)?;
+    Ok(Command::Turn { route })
 }

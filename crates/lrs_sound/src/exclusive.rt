@@ -13,7 +13,7 @@ ghost use Rattle.lrs_sound.specs.Exclusive.{is_of_exclusive, is_name, is_place, 
 ghost use Rattle.std.specs.Prelude.{slice_get};
 
 use crate::known::asset_of;
-use crate::sweep::do_share_nothing;
+use crate::sweep::{do_share_nothing, into_line_order};
 use lrs_events::{Asset, Class, ClassName, Kind, Part};
 use std::alloc::{AllocError, Global};
 
@@ -92,13 +92,14 @@ pub fn keep_exclusive(
     alloc: Global,
     assets: &[Asset],
     classes: &[Class],
-    held: &[Part],
+    held: Vec<Part>,
 ) -> Result<bool, AllocError>
     requires assets { each_two asset_before assets.now ≡ true }
     requires classes { each_two class_before classes.now ≡ true }
-    requires filled { AllByRecursion IsFilled held.now }
-    ensures { IfOk result (λ kept. (links : List Link) (routes : List RouteSpans) → AreHeld links assets.now routes held.now → kept ≡ list_all (keeps_exclusive links assets.now routes) classes.now) }
+    requires filled { AllByRecursion IsFilled held.items }
+    ensures { IfOk result (λ kept. (links : List Link) (routes : List RouteSpans) → AreHeld links assets.now routes held.items → kept ≡ list_all (keeps_exclusive links assets.now routes) classes.now) }
 {
-    let keyed = keyed_parts(alloc, assets, classes, held)?;
-    do_share_nothing(alloc, &keyed)
+    let sorted = into_line_order(held);
+    let keyed = keyed_parts(alloc, assets, classes, &sorted)?;
+    Ok(do_share_nothing(keyed))
 }

@@ -1,4 +1,4 @@
-//! A whole image, table by table.
+//! A whole image, table by table: a test asks that those before it that it reads have passed.
 
 ghost use Rattle.std.specs.Prelude.{◌≡◌, true, IfOk};
 ghost use Rattle.lrs_machine.specs.Sound.{are_links, are_classes, are_assets, are_courses, are_all_referents, are_spans, are_entered, are_gone, are_edits, are_origins, courses_of, referents_of, spans_of, first_unsound};
@@ -14,39 +14,54 @@ use crate::spans::are_spans;
 use lrs_machine::{Image, Table};
 use std::alloc::{AllocError, Global};
 
-fn links_pass(image: &Image) -> bool
+/// Whether the table of links is sound.
+pub fn links_pass(image: &Image) -> bool
     ensures { result ≡ are_links image.now.links }
 {
     are_links(image.links.as_slice())
 }
 
-fn classes_pass(image: &Image) -> bool
+/// Whether the table of classes is sound.
+pub fn classes_pass(image: &Image) -> bool
     ensures { result ≡ are_classes image.now.classes }
 {
     are_classes(image.classes.as_slice())
 }
 
-fn assets_pass(image: &Image) -> bool
+/// Whether the table of assets is sound.
+pub fn assets_pass(image: &Image) -> bool
     requires { are_classes image.now.classes ≡ true }
     ensures { result ≡ are_assets image.now.classes image.now.assets }
 {
     are_assets(image.classes.as_slice(), image.assets.as_slice())
 }
 
-fn pieces_pass(alloc: Global, image: &Image) -> Result<bool, AllocError>
+/// Whether the table of pieces is sound.
+///
+/// # Errors
+/// When memory runs out.
+pub fn pieces_pass(alloc: Global, image: &Image) -> Result<bool, AllocError>
     requires { are_links image.now.links ≡ true }
     ensures { IfOk result (λ sound. sound ≡ are_courses image.now.links (courses_of image.now)) }
 {
     are_courses(alloc, image.links.as_slice(), image.routes.as_slice())
 }
 
-fn referents_pass(alloc: Global, image: &Image) -> Result<bool, AllocError>
+/// Whether the table of referents is sound.
+///
+/// # Errors
+/// When memory runs out.
+pub fn referents_pass(alloc: Global, image: &Image) -> Result<bool, AllocError>
     ensures { IfOk result (λ sound. sound ≡ are_all_referents (referents_of image.now)) }
 {
     are_referents(alloc, image.routes.as_slice())
 }
 
-fn spans_pass(alloc: Global, image: &Image) -> Result<bool, AllocError>
+/// Whether the table of spans is sound.
+///
+/// # Errors
+/// When memory runs out.
+pub fn spans_pass(alloc: Global, image: &Image) -> Result<bool, AllocError>
     requires classes { are_classes image.now.classes ≡ true }
     requires assets { are_assets image.now.classes image.now.assets ≡ true }
     requires courses { are_courses image.now.links (courses_of image.now) ≡ true }
@@ -60,7 +75,11 @@ fn spans_pass(alloc: Global, image: &Image) -> Result<bool, AllocError>
     )
 }
 
-fn entered_pass(alloc: Global, image: &Image) -> Result<bool, AllocError>
+/// Whether the table of what was entered is sound.
+///
+/// # Errors
+/// When memory runs out.
+pub fn entered_pass(alloc: Global, image: &Image) -> Result<bool, AllocError>
     requires links { are_links image.now.links ≡ true }
     requires assets { are_assets image.now.classes image.now.assets ≡ true }
     ensures { IfOk result (λ sound. sound ≡ are_entered image.now.links image.now.assets image.now.entered) }
@@ -73,7 +92,11 @@ fn entered_pass(alloc: Global, image: &Image) -> Result<bool, AllocError>
     )
 }
 
-fn gone_pass(alloc: Global, image: &Image) -> Result<bool, AllocError>
+/// Whether the table of what is gone is sound.
+///
+/// # Errors
+/// When memory runs out.
+pub fn gone_pass(alloc: Global, image: &Image) -> Result<bool, AllocError>
     requires links { are_links image.now.links ≡ true }
     requires assets { are_assets image.now.classes image.now.assets ≡ true }
     requires courses { are_courses image.now.links (courses_of image.now) ≡ true }
@@ -91,7 +114,11 @@ fn gone_pass(alloc: Global, image: &Image) -> Result<bool, AllocError>
     )
 }
 
-fn edits_pass(alloc: Global, image: &Image) -> Result<bool, AllocError>
+/// Whether the table of edits is sound.
+///
+/// # Errors
+/// When memory runs out.
+pub fn edits_pass(alloc: Global, image: &Image) -> Result<bool, AllocError>
     ensures { IfOk result (λ sound. sound ≡ are_edits image.now.entered image.now.gone image.now.edits) }
 {
     are_edits(
@@ -102,7 +129,11 @@ fn edits_pass(alloc: Global, image: &Image) -> Result<bool, AllocError>
     )
 }
 
-fn origins_pass(alloc: Global, image: &Image) -> Result<bool, AllocError>
+/// Whether the table of origins is sound.
+///
+/// # Errors
+/// When memory runs out.
+pub fn origins_pass(alloc: Global, image: &Image) -> Result<bool, AllocError>
     requires { are_assets image.now.classes image.now.assets ≡ true }
     ensures { IfOk result (λ sound. sound ≡ are_origins image.now.entered image.now.assets) }
 {

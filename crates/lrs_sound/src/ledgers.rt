@@ -1,6 +1,8 @@
 //! The ledgers of what was entered and what is gone.
 
-ghost use Rattle.std.specs.Prelude.{◌≡◌, true, IfOk};
+ghost use Rattle.std.specs.Prelude.{◌≡◌, ℕ, ◌+◌, ◌<◌, length, slice_index_or, true, IfOk};
+ghost use Rattle.lrs_events.specs.declared.part.Part.{Part};
+ghost use Rattle.lrs_sound.specs.Sweeping.{IsInOrder};
 ghost use Rattle.std.specs.List.{list_all};
 ghost use Rattle.lrs_measure.specs.Lists.{each_two};
 ghost use Rattle.lrs_machine.specs.Sound.{are_links, asset_before, is_part, are_parts, are_entered, are_courses, are_gone, parts_of};
@@ -11,7 +13,7 @@ use crate::held::held_parts;
 use crate::known::{knows_asset, link_reaches};
 use crate::order::{entered_rise, gone_rise};
 use crate::sums::have_few_places;
-use crate::sweep::do_share_nothing;
+use crate::sweep::{do_share_nothing_in_order, sorted_by_line};
 use lrs_element::Link;
 use lrs_events::{Asset, Gone, Part};
 use lrs_machine::RouteEntry;
@@ -37,8 +39,25 @@ fn are_inside(links: &[Link], assets: &[Asset], parts: &[Part]) -> bool
     parts.iter().all(|part| is_part(links, assets, part))
 }
 
+/// Whether parts in the order of their lines are within known links and of known assets, have each pair of asset
+/// and place once, and not too many of one asset.
+fn are_parts_in_order(links: &[Link], assets: &[Asset], sorted: &[Part]) -> bool
+    requires links { are_links links.now ≡ true }
+    requires assets { each_two asset_before assets.now ≡ true }
+    requires order { (k : ℕ) (d : Part) → k + 1 < length sorted.now → IsInOrder (slice_index_or sorted.now k d) (slice_index_or sorted.now (k + 1) d) }
+    ensures { result ≡ are_parts links.now assets.now sorted.now }
+{
+    if !are_inside(links, assets, sorted) {
+        return false;
+    }
+    if !do_share_nothing_in_order(sorted) {
+        return false;
+    }
+    have_few_places(sorted, MOST_PAIRS)
+}
+
 /// Whether the parts of a ledger lie within known links, are of known assets, have each pair of asset and
-/// place once, and not too many of one asset.
+/// place once, and not too many of one asset: all by one sort.
 fn are_parts(
     alloc: Global,
     links: &[Link],
@@ -49,13 +68,8 @@ fn are_parts(
     requires assets { each_two asset_before assets.now ≡ true }
     ensures { IfOk result (λ sound. sound ≡ are_parts links.now assets.now parts.now) }
 {
-    if !are_inside(links, assets, parts) {
-        return Ok(false);
-    }
-    if !do_share_nothing(alloc, parts)? {
-        return Ok(false);
-    }
-    have_few_places(alloc, parts, MOST_PAIRS)
+    let sorted = sorted_by_line(alloc, parts)?;
+    Ok(are_parts_in_order(links, assets, &sorted))
 }
 
 /// Whether entered parts are in their order, within known links, of known assets, have each pair of asset

@@ -9,7 +9,7 @@ mod edits;
 mod ends;
 mod exclusive;
 mod held;
-mod image;
+pub mod image;
 mod known;
 pub mod laws;
 mod ledgers;
@@ -29,8 +29,3 @@ pub use order::{are_classes, are_links};
 pub use origins::are_origins;
 pub use referents::are_referents;
 pub use spans::are_spans;
-
-#[cfg(test)]
-mod refused;
-#[cfg(test)]
-mod tests;

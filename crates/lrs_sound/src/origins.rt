@@ -9,6 +9,7 @@ ghost use Rattle.lrs_machine.specs.Sound.{asset_before, are_origins};
 ghost use Rattle.lrs_sound.specs.Origins.{has_number, is_named, agrees, agrees_with_all};
 
 use crate::known::asset_of;
+use crate::sweep::sorted_by_line;
 use lrs_events::{Asset, Part};
 use std::alloc::{AllocError, Global};
 
@@ -74,11 +75,12 @@ fn all_agree(assets: &[Asset], entered: &[Part]) -> bool
     entered.iter().all(|part| agrees(assets, part))
 }
 
-/// Whether each asset was entered, and by the one edit that it names.
-///
-/// # Errors
-/// When memory runs out.
-pub fn are_origins(alloc: Global, entered: &[Part], assets: &[Asset]) -> Result<bool, AllocError>
+/// Whether each asset was entered, and by the one edit that it names. It is fast where the parts are by asset.
+fn are_origins_by_asset(
+    alloc: Global,
+    entered: &[Part],
+    assets: &[Asset],
+) -> Result<bool, AllocError>
     requires { each_two asset_before assets.now ≡ true }
     ensures { IfOk result (λ sound. sound ≡ are_origins entered.now assets.now) }
 {
@@ -87,4 +89,16 @@ pub fn are_origins(alloc: Global, entered: &[Part], assets: &[Asset]) -> Result<
         return Ok(false);
     }
     Ok(all_agree(assets, entered))
+}
+
+/// Whether each asset was entered, and by the one edit that it names.
+///
+/// # Errors
+/// When memory runs out.
+pub fn are_origins(alloc: Global, entered: &[Part], assets: &[Asset]) -> Result<bool, AllocError>
+    requires { each_two asset_before assets.now ≡ true }
+    ensures { IfOk result (λ sound. sound ≡ are_origins entered.now assets.now) }
+{
+    let sorted = sorted_by_line(alloc, entered)?;
+    are_origins_by_asset(alloc, &sorted, assets)
 }

@@ -1,14 +1,12 @@
 //! How many places of an asset parts have.
 
-ghost use Rattle.std.specs.Prelude.{IfOk, IsTrue, ◌↔◌, ◌≡◌, ℕ, ◌+◌, ◌-◌, ◌<◌, ◌≤◌, length, slice_index_or};
+ghost use Rattle.std.specs.Prelude.{IsTrue, ◌↔◌, ◌≡◌, ℕ, ◌+◌, ◌-◌, ◌<◌, ◌≤◌, length, slice_index_or};
 ghost use Rattle.std.specs.Bool.{OnTrue, OnFalse};
 ghost use Rattle.lrs_events.specs.declared.part.Part.{Part};
 ghost use Rattle.lrs_machine.specs.Sound.{pairs_of};
 ghost use Rattle.lrs_sound.specs.Sweeping.{IsInOrder};
 
-use crate::sweep::sorted_by_line;
 use lrs_events::Part;
-use std::alloc::{AllocError, Global};
 
 fn places(part: &Part) -> u64
     ensures { result ≡ part.now.hi - part.now.lo }
@@ -44,10 +42,10 @@ fn sums_are_within(sorted: &[Part], most: u64) -> bool
     true
 }
 
-/// Whether parts have at most so many places of each asset, by one sort.
-pub fn have_few_places(alloc: Global, parts: &[Part], most: u64) -> Result<bool, AllocError>
-    ensures { IfOk result (λ few. IsTrue few ↔ ((asset : ℕ) → pairs_of asset parts.now ≤ most)) }
+/// Whether parts in the order of their lines have at most so many places of each asset.
+pub(crate) fn have_few_places(sorted: &[Part], most: u64) -> bool
+    requires order { (k : ℕ) (d : Part) → k + 1 < length sorted.now → IsInOrder (slice_index_or sorted.now k d) (slice_index_or sorted.now (k + 1) d) }
+    ensures { IsTrue result ↔ ((asset : ℕ) → pairs_of asset sorted.now ≤ most) }
 {
-    let sorted = sorted_by_line(alloc, parts)?;
-    Ok(sums_are_within(&sorted, most))
+    sums_are_within(sorted, most)
 }

@@ -39,21 +39,48 @@ fn line_key(part: &Part) -> ((u64, u32, bool), u32)
     )
 }
 
+fn sort_by_line(parts: &mut Vec<Part>)
+    ensures permutation { IsPermutation parts.old.items parts.new.items }
+    ensures sorted { (k : ℕ) (d : Part) → k + 1 < length parts.new.items → IsInOrder (slice_index_or parts.new.items k d) (slice_index_or parts.new.items (k + 1) d) }
+{
+    parts.sort_unstable_by_key(|part| line_key(part));
+}
+
+/// The parts by asset, link, side and start. What is asked of each asset in turn is then asked of one that was near.
 pub(crate) fn sorted_by_line(alloc: Global, parts: &[Part]) -> Result<Vec<Part>, AllocError>
     ensures permutation { IfOk result (λ sorted. IsPermutation parts.now sorted.items) }
     ensures sorted { IfOk result (λ sorted. (k : ℕ) (d : Part) → k + 1 < length sorted.items → IsInOrder (slice_index_or sorted.items k d) (slice_index_or sorted.items (k + 1) d)) }
 {
     let mut sorted = Vec::from_slice(alloc, parts)?;
-    sorted.sort_unstable_by_key(|part| line_key(part));
+    sort_by_line(&mut sorted);
     Ok(sorted)
+}
+
+/// The same parts by asset, link, side and start.
+pub(crate) fn into_line_order(mut parts: Vec<Part>) -> Vec<Part>
+    ensures permutation { IsPermutation parts.items result.items }
+    ensures sorted { (k : ℕ) (d : Part) → k + 1 < length result.items → IsInOrder (slice_index_or result.items k d) (slice_index_or result.items (k + 1) d) }
+{
+    sort_by_line(&mut parts);
+    parts
+}
+
+/// Whether no two parts in the order of their lines have a pair of asset and place in common. Two that do are
+/// side by side.
+pub(crate) fn do_share_nothing_in_order(sorted: &[Part]) -> bool
+    requires filled { AllByRecursion IsFilled sorted.now }
+    requires order { (k : ℕ) (d : Part) → k + 1 < length sorted.now → IsInOrder (slice_index_or sorted.now k d) (slice_index_or sorted.now (k + 1) d) }
+    ensures { result ≡ each_two share_nothing sorted.now }
+{
+    neighbours_share_nothing(sorted)
 }
 
 /// Whether no two parts have a pair of asset and place in common. A sort by asset, link, side and start
 /// brings two that do side by side.
-pub fn do_share_nothing(alloc: Global, parts: &[Part]) -> Result<bool, AllocError>
-    requires filled { AllByRecursion IsFilled parts.now }
-    ensures { IfOk result (λ apart. apart ≡ each_two share_nothing parts.now) }
+pub fn do_share_nothing(parts: Vec<Part>) -> bool
+    requires filled { AllByRecursion IsFilled parts.items }
+    ensures { result ≡ each_two share_nothing parts.items }
 {
-    let sorted = sorted_by_line(alloc, parts)?;
-    Ok(neighbours_share_nothing(&sorted))
+    let sorted = into_line_order(parts);
+    neighbours_share_nothing(&sorted)
 }

@@ -1,7 +1,8 @@
 -- Canonical rows that come where there were none.
-use Rattle.std.proofs.Common.{◌≡◌, true, List, [], inl, inr, ◌⊎◌, refl}
+use Rattle.std.proofs.Common.{◌≡◌, true, List, [], inl, inr, ◌⊎◌, refl, ◌∙◌}
 use Rattle.lrs_measure.specs.Ordered.{insert_all}
 use Rattle.lrs_events.specs.declared.span.Span.{Span}
+use Rattle.lrs_events.specs.Changes.{changed}
 use Rattle.lrs_events.specs.Spans.{are_rows, span_before}
 use Rattle.lrs_canonical.specs.Order.{In}
 use Rattle.lrs_canonical.proofs.Changing.{spans_strict, rows_sorted}
@@ -15,3 +16,7 @@ all_come rows h =
     only : (r : Span) → In r rows ⊎ In r [] → In r rows
     only r (inl m) = m
     only r (inr m) = absurd m
+
+-- ... and none go
+pub these_come : (rows come old : List Span) → are_rows rows ≡ true → come ≡ rows → old ≡ [] → changed span_before [] come old ≡ rows
+these_come rows come old h e f = (λ j. changed span_before [] (e j) (f j)) ∙ all_come rows h

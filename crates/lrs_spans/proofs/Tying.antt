@@ -11,8 +11,7 @@ use Rattle.lrs_measure.specs.Texts.{Name, same_name}
 use Rattle.lrs_events.specs.declared.side.LinkSide.{LinkSide}
 use Rattle.lrs_events.specs.declared.side.LinkSide.TheVariants.{Left, Right}
 use Rattle.lrs_events.specs.declared.span.Span.{Span}
-use Rattle.lrs_events.specs.declared.change.SpanChange.{SpanChange}
-use Rattle.lrs_events.specs.Changes.{same_row, has_row, changed_rows}
+use Rattle.lrs_events.specs.Changes.{same_row, has_row, changed}
 use Rattle.lrs_canonical.proofs.Differing.{one_row}
 use Rattle.lrs_events.specs.Members.{has_side}
 use Rattle.lrs_events.specs.Spans.{are_rows, span_before}
@@ -144,44 +143,44 @@ one_more_known come i row xs ys l e known keeps own r h =
 
 -- ---- a change of lanes
 
-module _ (change : SpanChange) (rows : List Span) (h : are_rows (changed_rows change rows) ≡ true) where
-  pub can_change : (xs : List ClassLanes) → AreTied rows xs → HaveRoom change.come.items xs → (k : ℕ) (d : ClassLanes) → k < length xs → CanChange change (get_or xs k d)
+module _ (gone come rows : List Span) (h : are_rows (changed span_before gone come rows) ≡ true) where
+  pub can_change : (xs : List ClassLanes) → AreTied rows xs → HaveRoom come xs → (k : ℕ) (d : ClassLanes) → k < length xs → CanChange gone come (get_or xs k d)
   can_change xs t o k d l =
       let c = t.each k d l in
       let m = get_or xs k d in
       record {
         room = o.each k d l;
-        left = lane_in_order (is_on m.class Left) change.gone.items change.come.items rows m.left.rows h c.left c.left_order;
-        right = lane_in_order (is_on m.class Right) change.gone.items change.come.items rows m.right.rows h c.right c.right_order;
+        left = lane_in_order (is_on m.class Left) gone come rows m.left.rows h c.left c.left_order;
+        right = lane_in_order (is_on m.class Right) gone come rows m.right.rows h c.right c.right_order;
       }
 
-  changed_class : (l m : ClassLanes) → IsClass rows l → CanChange change l → IsChangedClass change l m → IsClass (changed_rows change rows) m
+  changed_class : (l m : ClassLanes) → IsClass rows l → CanChange gone come l → IsChangedClass gone come l m → IsClass (changed span_before gone come rows) m
   changed_class l m c o e = record {
-    left = λ r. (λ j. has_row (e.left j) r) ∙ has_row-lane (is_on l.class Left) span_before place_before change.gone.items change.come.items rows l.left.rows c.left r ∙ (λ j. has_row (changed_rows change rows) r && is_on (sym e.class j) Left r);
-    right = λ r. (λ j. has_row (e.right j) r) ∙ has_row-lane (is_on l.class Right) span_before place_before change.gone.items change.come.items rows l.right.rows c.right r ∙ (λ j. has_row (changed_rows change rows) r && is_on (sym e.class j) Right r);
+    left = λ r. (λ j. has_row (e.left j) r) ∙ has_row-lane (is_on l.class Left) span_before place_before gone come rows l.left.rows c.left r ∙ (λ j. has_row (changed span_before gone come rows) r && is_on (sym e.class j) Left r);
+    right = λ r. (λ j. has_row (e.right j) r) ∙ has_row-lane (is_on l.class Right) span_before place_before gone come rows l.right.rows c.right r ∙ (λ j. has_row (changed span_before gone come rows) r && is_on (sym e.class j) Right r);
     left_order = ap (each_two place_before) e.left ∙ o.left;
     right_order = ap (each_two place_before) e.right ∙ o.right;
   }
 
-  pub stay_changed : (xs ys : List ClassLanes) → AreTied rows xs → HaveRoom change.come.items xs → AreChanged change xs ys → AreTied (changed_rows change rows) ys
+  pub stay_changed : (xs ys : List ClassLanes) → AreTied rows xs → HaveRoom come xs → AreChanged gone come xs ys → AreTied (changed span_before gone come rows) ys
   stay_changed xs ys t o a = record {
     each = λ k d l. let n = inside k l in changed_class (get_or xs k d) (get_or ys k d) (t.each k d n) (can_change xs t o k d n) (a.each k d n);
-    all = λ r m. same_classes xs ys a.count (λ k d l. (a.each k d l).class) r.class ∙ known r (or_cases (has_row rows r && not (has_row change.gone.items r)) (has_row change.come.items r) (sym (has_row-changed span_before change.gone.items change.come.items rows r) ∙ m));
+    all = λ r m. same_classes xs ys a.count (λ k d l. (a.each k d l).class) r.class ∙ known r (or_cases (has_row rows r && not (has_row gone r)) (has_row come r) (sym (has_row-changed span_before gone come rows r) ∙ m));
     once = λ i j d l m e. let n = inside j m in t.once i j d l n (sym (a.each i d (omega (arith, l, n))).class ∙ e ∙ (a.each j d n).class);
   }
     where
       inside : (k : ℕ) → k < length ys → k < length xs
       inside k l = let c = a.count in omega (arith, l, c)
 
-      known : (r : Span) → ((has_row rows r && not (has_row change.gone.items r)) ≡ true) ⊎ (has_row change.come.items r ≡ true) → has_lanes xs r.class ≡ true
-      known r (inl k) = t.all r (and_parts (has_row rows r) (not (has_row change.gone.items r)) k).0
+      known : (r : Span) → ((has_row rows r && not (has_row gone r)) ≡ true) ⊎ (has_row come r ≡ true) → has_lanes xs r.class ≡ true
+      known r (inl k) = t.all r (and_parts (has_row rows r) (not (has_row gone r)) k).0
       known r (inr k) = o.all r k
 
-  pub kept_changed : (new : List Span) (xs ys : List ClassLanes) → new ≡ changed_rows change rows → AreTied rows xs → HaveRoom change.come.items xs → AreChanged change xs ys → AreKept new ys
+  pub kept_changed : (new : List Span) (xs ys : List ClassLanes) → new ≡ changed span_before gone come rows → AreTied rows xs → HaveRoom come xs → AreChanged gone come xs ys → AreKept new ys
   kept_changed new xs ys e t o a = subst (λ (z : List Span). AreKept z ys) (sym e) (record { canonical = h; tied = stay_changed xs ys t o a })
 
 -- lanes are set to what a change makes of them, one after the other
-pub record HasChanged (change : SpanChange) (i : ℕ) (xs ys : List ClassLanes) : Type 0 where
+pub record HasChanged (gone come : List Span) (i : ℕ) (xs ys : List ClassLanes) : Type 0 where
   pub count : length ys ≡ length xs
-  pub each : (k : ℕ) (d : ClassLanes) → k < i → IsChangedClass change (get_or xs k d) (get_or ys k d)
+  pub each : (k : ℕ) (d : ClassLanes) → k < i → IsChangedClass gone come (get_or xs k d) (get_or ys k d)
   pub rest : (k : ℕ) (d : ClassLanes) → i ≤ k → get_or ys k d ≡ get_or xs k d

@@ -4,7 +4,6 @@ use Rattle.std.specs.List.{filter}
 use Rattle.lrs_measure.specs.Lists.{each_two}
 use Rattle.lrs_events.specs.declared.side.LinkSide.TheVariants.{Left, Right}
 use Rattle.lrs_events.specs.declared.span.Span.{Span}
-use Rattle.lrs_events.specs.declared.change.SpanChange.{SpanChange}
 use Rattle.lrs_events.specs.Changes.{has_row, changed}
 use Rattle.lrs_lanes.specs.Order.{place_before}
 use Rattle.lrs_spans.specs.declared.lanes.ClassLanes.{ClassLanes}
@@ -27,9 +26,9 @@ pub record HaveRoom (come : List Span) (lanes : List ClassLanes) : Type 0 where
   pub all : (r : Span) → has_row come r ≡ true → has_lanes lanes r.class ≡ true
 
 -- there is room for the rows that come
-pub record HasRoom (change : SpanChange) (o : Opened) : Type 0 where
-  pub rows : length o.rows + length change.come.items ≤ o.room
-  pub lanes : HaveRoom change.come.items o.lanes
+pub record HasRoom (come : List Span) (o : Opened) : Type 0 where
+  pub rows : length o.rows + length come ≤ o.room
+  pub lanes : HaveRoom come o.lanes
 
 -- lanes of the same class with the same rows
 pub record SameClass (l m : ClassLanes) : Type 0 where
@@ -45,18 +44,18 @@ pub record SameLanes (xs ys : List ClassLanes) : Type 0 where
 abbrev pub StayTied : List ClassLanes → List ClassLanes → Type 0
 StayTied xs ys = (rows : List Span) → AreTied rows xs → AreTied rows ys
 
--- what a change makes of the lanes of a class
-pub record IsChangedClass (change : SpanChange) (l m : ClassLanes) : Type 0 where
+-- what rows that go and rows that come make of the lanes of a class
+pub record IsChangedClass (gone come : List Span) (l m : ClassLanes) : Type 0 where
   pub class : m.class ≡ l.class
-  pub left : m.left.rows ≡ changed place_before change.gone.items (filter (is_on l.class Left) change.come.items) l.left.rows
-  pub right : m.right.rows ≡ changed place_before change.gone.items (filter (is_on l.class Right) change.come.items) l.right.rows
+  pub left : m.left.rows ≡ changed place_before gone (filter (is_on l.class Left) come) l.left.rows
+  pub right : m.right.rows ≡ changed place_before gone (filter (is_on l.class Right) come) l.right.rows
 
 -- the lanes of a class have room for a change that leaves them in order
-pub record CanChange (change : SpanChange) (l : ClassLanes) : Type 0 where
-  pub room : HasLaneRoom change.come.items l
-  pub left : each_two place_before (changed place_before change.gone.items (filter (is_on l.class Left) change.come.items) l.left.rows) ≡ true
-  pub right : each_two place_before (changed place_before change.gone.items (filter (is_on l.class Right) change.come.items) l.right.rows) ≡ true
+pub record CanChange (gone come : List Span) (l : ClassLanes) : Type 0 where
+  pub room : HasLaneRoom come l
+  pub left : each_two place_before (changed place_before gone (filter (is_on l.class Left) come) l.left.rows) ≡ true
+  pub right : each_two place_before (changed place_before gone (filter (is_on l.class Right) come) l.right.rows) ≡ true
 
-pub record AreChanged (change : SpanChange) (xs ys : List ClassLanes) : Type 0 where
+pub record AreChanged (gone come : List Span) (xs ys : List ClassLanes) : Type 0 where
   pub count : length ys ≡ length xs
-  pub each : (k : ℕ) (d : ClassLanes) → k < length xs → IsChangedClass change (slice_index_or xs k d) (slice_index_or ys k d)
+  pub each : (k : ℕ) (d : ClassLanes) → k < length xs → IsChangedClass gone come (slice_index_or xs k d) (slice_index_or ys k d)

@@ -13,7 +13,7 @@ ghost use Rattle.lrs_spans.specs.declared.lanes.ClassLanes.{ClassLanes as Declar
 ghost use Rattle.lrs_spans.specs.Tied.{is_on, has_lanes};
 ghost use Rattle.lrs_spans.specs.Opened.{HasLaneRoom, SameClass, SameLanes, StayTied, IsChangedClass, CanChange, AreChanged};
 
-use lrs_events::{ClassName, LinkSide, Side, Span, SpanChange};
+use lrs_events::{ClassName, LinkSide, Side, Span};
 use lrs_lanes::Lane;
 use std::alloc::{AllocError, Global};
 
@@ -81,43 +81,50 @@ fn change_lane(
     lane: &mut Lane,
     class: ClassName,
     side: LinkSide,
-    change: &SpanChange,
+    gone: &[Span],
+    come: &[Span],
     picked: &mut Vec<Span>,
 )
-    requires room { length (filter (is_on class side) change.now.come.items) ≤ lane.old.room }
-    requires gone { each_two span_before change.now.gone.items ≡ true }
-    requires after { each_two place_before (changed place_before change.now.gone.items (filter (is_on class side) change.now.come.items) lane.old.rows) ≡ true }
-    requires picked { length change.now.come.items ≤ vec_capacity picked.old }
-    ensures rows { lane.new.rows ≡ changed place_before change.now.gone.items (filter (is_on class side) change.now.come.items) lane.old.rows }
+    requires room { length (filter (is_on class side) come.now) ≤ lane.old.room }
+    requires gone { each_two span_before gone.now ≡ true }
+    requires after { each_two place_before (changed place_before gone.now (filter (is_on class side) come.now) lane.old.rows) ≡ true }
+    requires picked { length come.now ≤ vec_capacity picked.old }
+    ensures rows { lane.new.rows ≡ changed place_before gone.now (filter (is_on class side) come.now) lane.old.rows }
     ensures capacity { vec_capacity picked.old ≤ vec_capacity picked.new }
 {
-    pick(picked, class, side, &change.come);
-    lane.change(&change.gone, picked);
+    pick(picked, class, side, come);
+    lane.change(gone, picked);
 }
 
-/// Changes the lanes of a class, which have room for the rows that come.
-fn change_class(lanes: &mut ClassLanes, change: &SpanChange, picked: &mut Vec<Span>)
-    requires gone { each_two span_before change.now.gone.items ≡ true }
-    requires can { CanChange change.now lanes.old }
-    requires picked { length change.now.come.items ≤ vec_capacity picked.old }
-    ensures changed { IsChangedClass change.now lanes.old lanes.new }
+/// Takes the rows that go out of the lanes of a class, and puts those that come into them, for which they have
+/// room.
+fn change_class(lanes: &mut ClassLanes, gone: &[Span], come: &[Span], picked: &mut Vec<Span>)
+    requires gone { each_two span_before gone.now ≡ true }
+    requires can { CanChange gone.now come.now lanes.old }
+    requires picked { length come.now ≤ vec_capacity picked.old }
+    ensures changed { IsChangedClass gone.now come.now lanes.old lanes.new }
     ensures capacity { vec_capacity picked.old ≤ vec_capacity picked.new }
 {
     let class = lanes.class;
-    change_lane(&mut lanes.left, class, LinkSide::Left, change, picked);
-    change_lane(&mut lanes.right, class, LinkSide::Right, change, picked);
+    change_lane(&mut lanes.left, class, LinkSide::Left, gone, come, picked);
+    change_lane(&mut lanes.right, class, LinkSide::Right, gone, come, picked);
 }
 
-/// Changes lanes that have room for the rows that come, by the help of a vector that has room for them too. It
-/// takes no memory.
-pub(crate) fn change_lanes(lanes: &mut Vec<ClassLanes>, change: &SpanChange, picked: &mut Vec<Span>)
-    requires gone { each_two span_before change.now.gone.items ≡ true }
-    requires can { (k : ℕ) (d : DeclaredLanes) → k < length lanes.old.items → CanChange change.now (slice_index_or lanes.old.items k d) }
-    requires picked { length change.now.come.items ≤ vec_capacity picked.old }
-    ensures { AreChanged change.now lanes.old.items lanes.new.items }
+/// Takes the rows that go out of their lanes, and puts those that come into theirs, which have room for them, by
+/// the help of a vector that has room for them too. It takes no memory.
+pub(crate) fn change_lanes(
+    lanes: &mut Vec<ClassLanes>,
+    gone: &[Span],
+    come: &[Span],
+    picked: &mut Vec<Span>,
+)
+    requires gone { each_two span_before gone.now ≡ true }
+    requires can { (k : ℕ) (d : DeclaredLanes) → k < length lanes.old.items → CanChange gone.now come.now (slice_index_or lanes.old.items k d) }
+    requires picked { length come.now ≤ vec_capacity picked.old }
+    ensures { AreChanged gone.now come.now lanes.old.items lanes.new.items }
 {
     for i in 0..lanes.len() {
-        change_class(&mut lanes[i], change, picked);
+        change_class(&mut lanes[i], gone, come, picked);
     }
 }
 

@@ -21,6 +21,9 @@ use lrs_events::{ClassName, Span};
 use std::alloc::{AllocError, Global};
 use std::cmp::Ordering;
 
+// Where more than this part of the rows is met, to look at each row is quicker than to sort those that lanes have.
+const PART: usize = 8;
+
 /// By what rows are sorted.
 #[derive(Clone, Copy)]
 pub(crate) enum Sorting {
@@ -135,6 +138,22 @@ fn collect(
     Ok(found)
 }
 
+/// The rows with a millimetre from low up to high, in their order, found by a look at each row.
+///
+/// # Errors
+/// When memory runs out.
+fn read_met(alloc: Global, rows: &[Span], low: u64, high: u64) -> Result<Vec<Span>, AllocError>
+    ensures { IfOk result (λ found. found.items ≡ filter (is_met low high) rows.now) }
+{
+    let mut found = Vec::new(alloc);
+    for row in rows {
+        if row.from < high && low < row.to {
+            found.push(*row)?;
+        }
+    }
+    Ok(found)
+}
+
 /// The rows with a millimetre from chainage low up to high, in their order.
 ///
 /// # Errors
@@ -150,6 +169,9 @@ pub(crate) fn met(
     ensures { IfOk result (λ found. found.items ≡ filter (is_met low high) rows.now) }
 {
     let found = collect(alloc, lanes, low, high)?;
+    if found.len() > rows.len() / PART {
+        return read_met(alloc, rows, low, high);
+    }
     in_order(alloc, Sorting::ByRow, found)
 }
 

@@ -2,13 +2,13 @@
 
 ghost use Rattle.std.specs.Prelude.{◌≡◌, IsTrue, IfOk, OnOk, true, []};
 ghost use Rattle.lrs_measure.specs.Lists.{each_two};
-ghost use Rattle.lrs_events.specs.Changes.{changed_rows};
+ghost use Rattle.lrs_events.specs.Changes.{changed};
 ghost use Rattle.lrs_events.specs.Spans.{are_rows, span_before};
 ghost use Rattle.lrs_spans.specs.Opened.{HasRoom};
 ghost use Rattle.lrs_spans.specs.Tied.{AreTied};
 
 use crate::lanes::{ClassLanes, add_classes, change_lanes, make_lanes_room};
-use lrs_events::{Span, SpanChange};
+use lrs_events::Span;
 use lrs_lanes::{RowOrder, change_in_room};
 use std::alloc::{AllocError, Global};
 use std::marker::Model;
@@ -56,12 +56,8 @@ impl OpenSpans {
         ensures { IfOk result (λ spans. spans.rows ≡ rows.items) }
     {
         let mut spans = OpenSpans::empty(alloc);
-        let change = SpanChange {
-            gone: Vec::new(alloc),
-            come: rows,
-        };
-        spans.make_room(&change)?;
-        spans.change(&change);
+        spans.make_room(&rows)?;
+        spans.change(&[], &rows);
         Ok(spans)
     }
 
@@ -93,35 +89,32 @@ impl OpenSpans {
         self.lanes.as_slice()
     }
 
-    /// Makes room for a change. The rows stay as they are, whatever comes of it.
+    /// Makes room for a change by which these rows come. The rows stay as they are, whatever comes of it.
     ///
     /// # Errors
     /// When memory runs out.
-    pub fn make_room(&mut self, change: &SpanChange) -> Result<(), AllocError>
+    pub fn make_room(&mut self, come: &[Span]) -> Result<(), AllocError>
         ensures rows { self.new.rows ≡ self.old.rows }
-        ensures ok { OnOk result (HasRoom change.now self.new) }
+        ensures ok { OnOk result (HasRoom come.now self.new) }
     {
-        self.rows.reserve(change.come.len())?;
-        self.picked.reserve(change.come.len())?;
-        add_classes(&mut self.lanes, &change.come)?;
-        make_lanes_room(&mut self.lanes, &change.come)
+        let more = come.len();
+        self.rows.reserve(more)?;
+        self.picked.reserve(more)?;
+        add_classes(&mut self.lanes, come)?;
+        make_lanes_room(&mut self.lanes, come)
     }
 
-    /// Makes a change for which there is room. It takes no memory and cannot fail.
-    pub fn change(&mut self, change: &SpanChange)
-        requires room { HasRoom change.now self.old }
-        requires gone { each_two span_before change.now.gone.items ≡ true }
-        requires canonical { IsTrue (are_rows (changed_rows change.now self.old.rows)) }
-        ensures { self.new.rows ≡ changed_rows change.now self.old.rows }
+    /// Takes out the rows that go, which are sorted by class, asset and start, and puts those that come in their
+    /// places. There is room for them, so that it takes no memory and cannot fail.
+    pub fn change(&mut self, gone: &[Span], come: &[Span])
+        requires room { HasRoom come.now self.old }
+        requires gone { each_two span_before gone.now ≡ true }
+        requires canonical { IsTrue (are_rows (changed span_before gone.now come.now self.old.rows)) }
+        ensures { self.new.rows ≡ changed span_before gone.now come.now self.old.rows }
     {
-        change_lanes(&mut self.lanes, change, &mut self.picked);
+        change_lanes(&mut self.lanes, gone, come, &mut self.picked);
         // Its memory is not needed from here on.
         self.picked = Vec::new(*self.rows.allocator());
-        change_in_room(
-            RowOrder::ByAsset,
-            &mut self.rows,
-            &change.gone,
-            &change.come,
-        );
+        change_in_room(RowOrder::ByAsset, &mut self.rows, gone, come);
     }
 }

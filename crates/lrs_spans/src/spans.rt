@@ -100,8 +100,8 @@ impl Spans {
         ensures ok { OnOk result (self.new ≡ changed_rows change.now self.old) }
         ensures err { OnErr result (self.new ≡ self.old) }
     {
-        self.kept.make_room(change)?;
-        self.kept.change(change);
+        self.kept.make_room(&change.come)?;
+        self.kept.change(&change.gone, &change.come);
         Ok(())
     }
 }

@@ -3,8 +3,7 @@
 
 #[cfg(test)]
 mod checked;
-#[cfg(test)]
-mod draws;
+pub mod draws;
 #[cfg(test)]
 mod queries;
 #[cfg(test)]

@@ -3,8 +3,8 @@
 ghost use Rattle.std.specs.Prelude.{◌<◌};
 
 use crate::draws::Draws;
-use crate::table::{Classes, LENGTH, Table};
-use lrs_events::{LinkSide, Span};
+use crate::table::{ASSETS, Classes, LENGTH, Table};
+use lrs_events::{ClassName, LinkSide, Side, Span};
 use lrs_spans::Spans;
 use std::alloc::{AllocError, AllocGlobal};
 use std::process::Abort;
@@ -35,41 +35,75 @@ pub fn is_free_agrees(rt: &impl Abort, spans: &Spans, table: &Table, span: &Span
     }
 }
 
-/// The rows over a millimetre: one of each asset that holds it.
+/// The rows over a millimetre: one of each asset that holds it, by asset.
 pub fn at_agrees(
     rt: &(impl Abort + AllocGlobal),
     spans: &Spans,
     table: &Table,
+    classes: &Classes,
     at: u64,
-) -> Result<(), AllocError>
-    requires { at < 24 }
-{
+) -> Result<(), AllocError> {
     let found = spans.at(rt.alloc(), at)?;
-    assert_eq!(rt; found.len(), table.holders(at));
-    for row in &found {
-        assert!(rt; row.from <= at && at < row.to && table.is_held(row.asset, at));
+    let mut count = 0usize;
+    for asset in 0..ASSETS {
+        if let Some(row) = table.row_over(classes, asset, at) {
+            assert!(rt; found.get(count) == Some(&row));
+            count = count.saturating_add(1);
+        }
     }
+    assert_eq!(rt; found.len(), count);
     Ok(())
 }
 
-/// How many rows a lane has.
+/// The rows of a lane are those of the class that have the side or both, by start and then asset.
+fn side_agrees(
+    rt: &impl Abort,
+    found: &[Span],
+    table: &Table,
+    classes: &Classes,
+    class: ClassName,
+    side: Side,
+) {
+    let mut count = 0usize;
+    for from in 0..LENGTH {
+        for asset in 0..ASSETS {
+            if let Some(row) = table.row_from(classes, asset, from) {
+                if row.class == class && (row.side == side || row.side == Side::B) {
+                    assert!(rt; found.get(count) == Some(&row));
+                    count = count.saturating_add(1);
+                }
+            }
+        }
+    }
+    assert_eq!(rt; found.len(), count);
+}
+
+/// The rows of the lanes of an asset's class.
 pub fn lane_agrees(rt: &impl Abort, spans: &Spans, table: &Table, classes: &Classes, asset: u64) {
     let class = classes.of(asset);
     let left = spans.lane(class, LinkSide::Left);
-    assert_eq!(rt; left.len(), table.rows_on(asset, 0));
+    side_agrees(rt, left, table, classes, class, Side::L);
     let right = spans.lane(class, LinkSide::Right);
-    assert_eq!(rt; right.len(), table.rows_on(asset, 1));
+    side_agrees(rt, right, table, classes, class, Side::R);
 }
 
-/// The rows of an asset.
+/// The rows of an asset, by start.
 pub fn asset_rows_agree(
     rt: &impl Abort,
     spans: &Spans,
     table: &Table,
     classes: &Classes,
     asset: u64,
-) {
+)
+    requires { asset < 4 }
+{
     let found = spans.asset_rows(classes.of(asset), asset);
-    assert_eq!(rt; found.len(), table.rows_of(asset));
-    assert!(rt; found.iter().all(|row| row.asset == asset));
+    let mut count = 0usize;
+    for from in 0..LENGTH {
+        if let Some(row) = table.row_from(classes, asset, from) {
+            assert!(rt; found.get(count) == Some(&row));
+            count = count.saturating_add(1);
+        }
+    }
+    assert_eq!(rt; found.len(), count);
 }

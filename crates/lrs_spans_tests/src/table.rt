@@ -165,18 +165,73 @@ impl Table {
         turned
     }
 
+    /// The sides on which the asset holds the millimetre, if it does.
+    fn sides(&self, asset: u64, at: u64) -> Option<Side>
+        requires asset { asset < 4 }
+        requires at { at < 24 }
+    {
+        match (self.has(asset, at, 0), self.has(asset, at, 1)) {
+            (true, true) => Some(Side::B),
+            (true, false) => Some(Side::L),
+            (false, true) => Some(Side::R),
+            (false, false) => None,
+        }
+    }
+
     /// Whether another row of the asset must begin there: it holds something there, and not the same sides
     /// before.
     fn begins(&self, asset: u64, at: u64) -> bool
         requires asset { asset < 4 }
         requires at { at < 24 }
     {
-        let left = self.has(asset, at, 0);
-        let right = self.has(asset, at, 1);
-        if !left && !right {
-            return false;
+        let sides = self.sides(asset, at);
+        sides.is_some() && (at == 0 || self.sides(asset, at - 1) != sides)
+    }
+
+    /// How far the asset holds the same sides from a chainage on.
+    fn end(&self, asset: u64, from: u64) -> u64
+        requires asset { asset < 4 }
+        requires from { from < 24 }
+    {
+        let sides = self.sides(asset, from);
+        for at in from..LENGTH {
+            if self.sides(asset, at) != sides {
+                return at;
+            }
         }
-        at == 0 || self.has(asset, at - 1, 0) != left || self.has(asset, at - 1, 1) != right
+        LENGTH
+    }
+
+    /// The row of the asset that must begin there, if one must.
+    pub fn row_from(&self, classes: &Classes, asset: u64, from: u64) -> Option<Span>
+        requires asset { asset < 4 }
+        requires from { from < 24 }
+    {
+        if !self.begins(asset, from) {
+            return None;
+        }
+        let side = self.sides(asset, from)?;
+        Some(Span {
+            asset,
+            class: classes.of(asset),
+            from,
+            to: self.end(asset, from),
+            side,
+        })
+    }
+
+    /// The row of the asset that must have the millimetre, if one must.
+    pub fn row_over(&self, classes: &Classes, asset: u64, at: u64) -> Option<Span>
+        requires { asset < 4 }
+    {
+        for from in 0..LENGTH {
+            if let Some(row) = self.row_from(classes, asset, from) {
+                if row.from <= at && at < row.to {
+                    return Some(row);
+                }
+            }
+        }
+        None
     }
 
     /// What of the assets of the asset's class lies from chainage low up to high on a side or on both, if `taken`,
@@ -198,26 +253,6 @@ impl Table {
             }
         }
         part
-    }
-
-    /// Whether the asset holds the millimetre on any side.
-    pub fn is_held(&self, asset: u64, at: u64) -> bool
-        requires { at < 24 }
-    {
-        asset < ASSETS && (self.has(asset, at, 0) || self.has(asset, at, 1))
-    }
-
-    /// How many assets hold the millimetre.
-    pub fn holders(&self, at: u64) -> usize
-        requires { at < 24 }
-    {
-        let mut count = 0usize;
-        for asset in 0..ASSETS {
-            if self.is_held(asset, at) {
-                count = count.saturating_add(1);
-            }
-        }
-        count
     }
 
     /// The least asset of the class of the stretch's asset that holds some of it.
@@ -246,32 +281,6 @@ impl Table {
             }
         }
         false
-    }
-
-    /// How many rows it takes for the asset.
-    pub fn rows_of(&self, asset: u64) -> usize {
-        let mut count = 0usize;
-        for at in 0..LENGTH {
-            if asset < ASSETS && self.begins(asset, at) {
-                count = count.saturating_add(1);
-            }
-        }
-        count
-    }
-
-    /// How many rows of the assets of the asset's class have the side.
-    pub fn rows_on(&self, asset: u64, side: u64) -> usize
-        requires { side < 2 }
-    {
-        let mut count = 0usize;
-        for other in 0..ASSETS {
-            for at in 0..LENGTH {
-                if other % 2 == asset % 2 && self.begins(other, at) && self.has(other, at, side) {
-                    count = count.saturating_add(1);
-                }
-            }
-        }
-        count
     }
 
     /// How many rows it takes to say this.

@@ -1,7 +1,7 @@
 //! Random calls beside a plain table: after each, the rows say what the table does, in order and in as few rows
 //! as that takes.
 
-ghost use Rattle.std.specs.Prelude.{◌≤◌};
+ghost use Rattle.std.specs.Prelude.{◌<◌, ◌≤◌};
 
 use crate::draws::Draws;
 use crate::table::{ASSETS, Classes, LENGTH, Table};
@@ -31,7 +31,9 @@ fn drawn_side(draws: &mut Draws) -> Side {
 }
 
 /// A span on the small route, now and then without a millimetre.
-fn drawn_span(draws: &mut Draws, classes: &Classes) -> Span {
+fn drawn_span(draws: &mut Draws, classes: &Classes) -> Span
+    ensures { result.asset < 4 }
+{
     let asset = draws.below(ASSETS);
     let from = draws.below(LENGTH);
     let to = from.wrapping_add(draws.below(9)).min(LENGTH);
@@ -247,7 +249,7 @@ fn answers_agree(
     queries::is_free_agrees(rt, &trial.spans, &trial.table, &span);
     queries::lane_agrees(rt, &trial.spans, &trial.table, &trial.classes, span.asset);
     queries::asset_rows_agree(rt, &trial.spans, &trial.table, &trial.classes, span.asset);
-    queries::at_agrees(rt, &trial.spans, &trial.table, at)
+    queries::at_agrees(rt, &trial.spans, &trial.table, &trial.classes, at)
 }
 
 /// One sequence of calls on an empty route.

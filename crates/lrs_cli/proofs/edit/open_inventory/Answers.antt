@@ -7,7 +7,7 @@ use Rattle.lrs_cli.proofs.edit.open_inventory.Goals as goal
 
 pub returns-in-Ok-clause-fresh : goal.returns-in-Ok-clause-fresh
 returns-in-Ok-clause-fresh c =
-    let kept : Result Image Table = Ok c.in-Ok.desk.keeper in
-    let same : Ok c.empty.result ≡ Ok c.in-Ok.desk.image = sym (c.in-Ok.ensures.content kept refl) ∙ c.in-Ok.ensures.image kept refl in
+    let kept : Result Image Table = c.in-Ok.desk.keeper in
+    let same = sym (c.in-Ok.ensures.content kept refl) ∙ c.in-Ok.ensures.image kept refl in
     let P : Result Image Table → Type 0 = λ r. IfOk r (λ i. i ≡ nothing) in
-    (search rules, subst P same c.empty.ensures, search rules)
+    (search rules, subst P same (subst P (sym c.empty.ensures) refl), search rules)

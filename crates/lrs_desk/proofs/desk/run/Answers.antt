@@ -1,4 +1,4 @@
-use Rattle.std.proofs.Common.{◌≡◌, ◌+◌, Result, Err, ap, sym, arith, rules, ◌∙◌}
+use Rattle.std.proofs.Common.{◌≡◌, ◌+◌, Result, Err, ap, arith, ◌∙◌}
 use Rattle.lrs_machine.specs.declared.answer.Answer.{Answer}
 use Rattle.lrs_desk.specs.declared.desk.Fault.{Fault}
 use Rattle.lrs_desk.proofs.Running.{by_fault, done_more}

@@ -1,16 +1,17 @@
-use Rattle.std.proofs.Common.{◌++◌}
-use Rattle.std.proofs.lemmas.Slice.Eq.{slice_eq-Decides}
-use Rattle.lrs_sound.proofs.Ending.{alike_from_same, same_from_alike, end_eq}
+use Rattle.std.proofs.Common.{◌++◌, refl, sym, ◌∙◌, arith}
+use Rattle.std.proofs.lemmas.Bool.{false≢true}
+use Rattle.lrs_sound.proofs.Chunked.{all_chunks, one_chunk, one_more}
 use Rattle.lrs_sound.proofs.ends.are_had_alike.Goals as goal
+
+pub returns-then-not-branch : goal.returns-then-not-branch
+returns-then-not-branch c =
+    let xs = c.args.first.now ++ c.args.more.now in
+    (λ h. absurd (false≢true h), λ h. absurd (false≢true (sym c.if-not-branch.true ∙ c.in_ok-are_alike_in.ensures.1 (one_chunk c.loop-chunk.chunk xs c.args.all.now h))))
+
+pub loop-chunk-preserved : goal.loop-chunk-preserved
+loop-chunk-preserved c = one_more c.loop-chunk.chunk (c.args.first.now ++ c.args.more.now) c.args.all.now c.loop-chunk.invariant (c.in_ok-are_alike_in.ensures.0 c.if-not-branch.false)
 
 pub returns : goal.returns
 returns c =
-    let xs = c.args.first.now ++ c.args.more.now in
-    let ys = c.args.all.now in
-    let there = c.in_ok-there.there.items in
-    let back = c.in_ok-back.back.items in
-    let a = alike_from_same xs ys c.requires.filled c.requires.filled_all there back c.in_ok-there.ensures.permutation c.in_ok-back.ensures.permutation in
-    let b = same_from_alike xs ys c.requires.filled c.requires.filled_all there back c.in_ok-there.ensures.permutation c.in_ok-back.ensures.permutation c.in_ok-there.ensures.sorted c.in_ok-back.ensures.sorted in
-    let e = c.eq.ensures in
-    let t = slice_eq-Decides end_eq there back c.eq.result e in
-    (λ h. a (t.0 h), λ h. t.1 (b h))
+    let last = c.loop-chunk-test.false in
+    (λ h. all_chunks (c.args.first.now ++ c.args.more.now) c.args.all.now (λ k below. c.loop-chunk.invariant k (omega (arith, below, last))), λ h. refl)

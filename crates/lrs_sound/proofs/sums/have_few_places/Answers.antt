@@ -1,6 +1,8 @@
+use Rattle.std.proofs.lemmas.List.Sorted.{IsPermutation-refl}
 use Rattle.lrs_sound.proofs.Summed.{sums_answer}
 use Rattle.lrs_sound.proofs.sums.have_few_places.Goals as goal
 
 pub returns : goal.returns
-returns c = sums_answer c.args.parts.now c.in_ok-sorted.sorted.items c.args.most c.sums_are_within.result c.in_ok-sorted.ensures.permutation
-    (rw c.deref.ensures.value at c.sums_are_within.ensures.within) (rw c.deref.ensures.value at c.sums_are_within.ensures.beyond)
+returns c =
+    let parts = c.args.sorted.now in
+    sums_answer parts parts c.args.most c.sums_are_within.result (IsPermutation-refl parts) c.sums_are_within.ensures.within c.sums_are_within.ensures.beyond

@@ -1,0 +1,14 @@
+use Rattle.std.proofs.Common.{◌≤◌, ◌≡◌, ◌⊎◌}
+use Rattle.lrs_index.proofs.Handing.{IsHanded}
+use Rattle.lrs_index.proofs.ground_index.GroundIndex.change_piece.Given as goal
+
+abbrev pub invariant-loop-begin : goal.invariant-loop-begin
+invariant-loop-begin l = record {
+  handed : IsHanded l.fn.self l.self l.piece.link l.edge l.piece.b l.heir;
+  within : l.edge ≤ l.piece.b;
+  reached : (l.edge ≡ l.piece.b) ⊎ (l.piece.a ≤ l.edge);
+}
+
+-- each turn goes back along the link
+abbrev pub decreases-loop-begin : goal.decreases-loop-begin
+decreases-loop-begin l = l.edge

@@ -1,0 +1,4 @@
+pub mod PutBack
+pub mod Named
+pub mod Becoming
+pub mod Tables

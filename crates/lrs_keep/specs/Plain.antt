@@ -1,0 +1,18 @@
+-- What is kept in memory.
+use Rattle.std.specs.Prelude.{Result, Ok, Err, ⊤}
+use Rattle.lrs_machine.specs.declared.image.Image.{Image}
+use Rattle.lrs_machine.specs.declared.table.Table.{Table}
+use Rattle.lrs_machine.specs.Sound.{IsSound}
+use Rattle.lrs_keep.specs.declared.plain.Content.{Content}
+use Rattle.lrs_keep.specs.declared.plain.Content.TheVariants.{Sound, Unsound}
+use Rattle.lrs_keep.specs.Kept.{image_of}
+
+-- an image, or the name of a table
+abbrev pub content_in : Content → Result Image Table
+content_in (Sound kept) = Ok (image_of kept)
+content_in (Unsound table) = Err table
+
+-- the image is sound
+abbrev pub IsContent : Content → Type 0
+IsContent (Sound kept) = IsSound (image_of kept)
+IsContent (Unsound table) = ⊤

@@ -1,0 +1,18 @@
+//! What is kept, and how it changes: changes as differences, images open for a change, and keepers.
+#![tactic(auto)]
+
+mod change;
+mod keep;
+mod keeper;
+mod kept;
+mod lists;
+mod open_route;
+mod plain;
+mod routes;
+
+pub use change::{Change, Difference, ReferentChange, RouteChange};
+pub use keep::make_change;
+pub use keeper::{CommitFault, Keeper, LoadFault};
+pub use kept::KeptImage;
+pub use open_route::OpenRoute;
+pub use plain::Plain;

@@ -1,8 +1,0 @@
-//! Examples of commands that are refused.
-
-ghost use Rattle.lrs_rows.specs.Refusals.{EveryRefusal};
-
-/// Each cause in turn.
-pub fn every_refusal()
-    ensures { EveryRefusal }
-{}

@@ -1,0 +1,111 @@
+-- The indexes of an image as it changes.
+use Rattle.std.proofs.Common.{◌≡◌, ℕ, Bool, true, false, cond, length, Option, Some, None, refl, sym, ap, subst, ◌∙◌}
+use Rattle.std.specs.Prelude.{◌||◌, is_some, option_map}
+use Rattle.std.specs.List.{list_any}
+use Rattle.std.specs.FinMap.{FinMap, get, remove}
+use Rattle.std.proofs.lemmas.Bool.{false≢true}
+use Rattle.lrs_measure.specs.Texts.{Name, name_cmp, same_name}
+use Rattle.lrs_element.specs.Course.{Millimetre, course_of, runs_over}
+use Rattle.lrs_index.specs.Ground.{Stretches, route_over}
+use Rattle.lrs_machine.specs.declared.image.Edit.{Edit}
+use Rattle.lrs_machine.specs.declared.image.Image.{Image}
+use Rattle.lrs_machine.specs.Image.{state_of}
+use Rattle.lrs_keep.specs.Change.{apply, with_difference}
+use Rattle.lrs_verbs.specs.declared.plan.Plan.{Plan}
+use Rattle.lrs_verbs.specs.declared.plan.GroundChange.{GroundChange}
+use Rattle.lrs_verbs.specs.declared.plan.ReferentPlace.{ReferentPlace}
+use Rattle.lrs_verbs.specs.declared.indexes.Indexes.{Indexes}
+use Rattle.lrs_verbs.specs.Keys.{IsIndex, place_among}
+use Rattle.lrs_verbs.specs.Changes.{route_on, ground_after, CanChange, CanChangeGround, without_referent, referents_after, IsNewReferent}
+use Rattle.lrs_verbs.specs.Plans.{change_of, TellsGround}
+use Rattle.lrs_verbs.specs.Indexes.{IsIndexed, IsReadyFor, AreWholeFor, made_by, ground_made, IsPutIn, TellSame}
+use Rattle.lrs_verbs.proofs.Keyed.{IsIndex-push, key_back}
+use Rattle.lrs_verbs.proofs.Standing.{referents_back, out_of}
+
+-- Indexes that tell the same are those of the same image.
+pub still_indexed : (i : Image) (old new : Indexes) → IsIndexed i old → TellSame old new → IsIndexed i new
+still_indexed i old new x same = record {
+  keys = record { at = λ key. same.keys key ∙ x.keys.at key };
+  ground = record { at = λ m. same.ground m ∙ x.ground.at m };
+  referents = record { at = λ name. same.referents name ∙ x.referents.at name };
+}
+
+-- ---- before a commit
+
+module _ (i : Image) (x : Indexes) (ix : IsIndexed i x) (p : Plan) (tells : TellsGround p i) where
+  pub new_key : (key : Name) → place_among i.edits key ≡ None → get x.keys key ≡ None
+  new_key key none = ix.keys.at key ∙ none
+
+  pub can_ground : CanChangeGround p.ground (route_over x.ground)
+  can_ground = subst (CanChangeGround p.ground) (λ j m. sym (ix.ground.at m) j) tells.can_ground
+
+  pub new_referent : IsNewReferent p.referents.come (get x.referents)
+  new_referent = subst (IsNewReferent p.referents.come) (λ j name. sym (ix.referents.at name) j) tells.new_referent
+
+-- ---- where it fails
+
+module _ (key : Name) (place : ℕ) (change : Option GroundChange) (come : Option ReferentPlace) (before now new : Indexes) (put : IsPutIn key place change come before now) where
+  pub taken_out : new.keys ≡ remove now.keys key → ((m : Millimetre) → route_over new.ground m ≡ route_over before.ground m) → ((name : Name) → get new.referents name ≡ without_referent come (get now.referents) name) → TellSame before new
+  taken_out keys ground referents = record {
+    keys = λ q. ap (λ (s : FinMap name_cmp ℕ). get s q) (keys ∙ ap (λ (s : FinMap name_cmp ℕ). remove s key) put.keys) ∙ key_back before.keys key place q put.new_key;
+    ground = ground;
+    referents = λ name.
+        referents name
+        ∙ ap (λ (stands : Name → Option Millimetre). without_referent come stands name) (λ j n. put.referents n j)
+        ∙ referents_back come (get before.referents) name put.new_referent;
+  }
+
+-- ---- where it is done
+
+pub are_whole : (change : Option GroundChange) (old new : Stretches) → IsReadyFor change old new → AreWholeFor change new
+are_whole None old new r = tt
+are_whole (Some g) old new r = (r.gone, r.passed)
+
+module _ (g : GroundChange) (on : Millimetre → Option Name) (can : CanChange g on) (m : Millimetre) where
+  abbrev came : Bool → Option Name → Option Name
+  came b o = cond b (Some g.route) o
+
+  abbrev went : Bool → Option Name → Option Name
+  went b o = cond b None o
+
+  abbrev handed : Bool → Option Name → Option Name
+  handed b o = cond b (option_map (λ (r : Name). g.route) o) o
+
+  cases : (c p w : Bool) (o : Option Name) → (c ≡ true → o ≡ None) → (p ≡ true → is_some o ≡ true) → (p ≡ true → w ≡ false) → (w ≡ true → is_some o ≡ true)
+      → handed p (went w (came c o)) ≡ cond (c || p) (Some g.route) (went w o)
+  cases true true w o free run apart gone = absurd (false≢true (sym (ap (λ (o : Option Name). is_some o) (free refl)) ∙ run refl))
+  cases true false true o free run apart gone = absurd (false≢true (sym (ap (λ (o : Option Name). is_some o) (free refl)) ∙ gone refl))
+  cases true false false o free run apart gone = refl
+  cases false true true o free run apart gone = absurd (false≢true (sym (apart refl)))
+  cases false true false None free run apart gone = absurd (false≢true (run refl))
+  cases false true false (Some n) free run apart gone = refl
+  cases false false w o free run apart gone = refl
+
+  pub made_is : (f : Millimetre → Option Name) → f m ≡ cond (runs_over (course_of g.come) m) (Some g.route) (on m) → made_by g f m ≡ ground_after (Some g) on m
+  made_is f is =
+      ap (λ (o : Option Name). handed (runs_over (course_of g.passed) m) (went (runs_over (course_of g.gone) m) o)) is
+      ∙ cases (runs_over (course_of g.come) m) (runs_over (course_of g.passed) m) (runs_over (course_of g.gone) m) (on m) (can.come m) (can.passed m) (can.apart m) (can.gone m)
+
+ground_done : (change : Option GroundChange) (on : Millimetre → Option Name) → CanChangeGround change on → (old ready new : Stretches) → ((m : Millimetre) → route_over old m ≡ on m) → IsReadyFor change old ready
+    → ((m : Millimetre) → route_over new m ≡ ground_made change (route_over ready) m) → (m : Millimetre) → route_over new m ≡ ground_after change on m
+ground_done None on can old ready new at r done m = done m ∙ r m ∙ at m
+ground_done (Some g) on can old ready new at r done m = done m ∙ made_is g on can m (route_over ready) (r.come.over m ∙ ap (cond (runs_over (course_of g.come) m) (Some g.route)) (r.same m ∙ at m))
+
+module _ (i : Image) (p : Plan) (e : Edit) (old ready new : Indexes) (ix : IsIndexed i old) (tells : TellsGround p i) (put : IsPutIn e.key (length i.edits) p.ground p.referents.come old ready) where
+  same_referents : (state_of (apply (change_of e p) i)).referents ≡ (state_of (with_difference p.difference i)).referents
+  unfolding state_of
+  same_referents = refl
+
+  pub next_indexed : place_among i.edits e.key ≡ None → new.keys ≡ ready.keys → ((m : Millimetre) → route_over new.ground m ≡ ground_made p.ground (route_over ready.ground) m)
+      → ((name : Name) → get new.referents name ≡ out_of p.referents.gone (get ready.referents) name) → IsIndexed (apply (change_of e p) i) new
+  next_indexed none keys ground referents = record {
+    keys = subst (λ (s : FinMap name_cmp ℕ). IsIndex s (apply (change_of e p) i).edits) (sym (keys ∙ put.keys)) (IsIndex-push old.keys i.edits e ix.keys none);
+    ground = record { at = λ m. ground_done p.ground (route_on i.routes) tells.can_ground old.ground ready.ground new.ground ix.ground.at put.ground ground m ∙ sym (tells.ground m) };
+    referents = record {
+      at = λ name.
+          referents name
+          ∙ ap (λ (o : Option Millimetre). cond (list_any (same_name name) p.referents.gone) None o) (put.referents name)
+          ∙ ap (λ (stands : Name → Option Millimetre). referents_after p.referents stands name) (λ j n. ix.referents.at n j)
+          ∙ sym (tells.referents name) ∙ ap (λ (stands : Name → Option Millimetre). stands name) (sym same_referents);
+    };
+  }

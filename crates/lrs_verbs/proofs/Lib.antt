@@ -1,0 +1,16 @@
+pub mod NamedEntries
+pub mod Positions
+pub mod Keyed
+pub mod Standing
+pub mod InOrder
+pub mod Filed
+pub mod NewCourse
+pub mod Unmoved
+pub mod NewLink
+pub mod NewClass
+pub mod NewRoute
+pub mod Known
+pub mod Grounds
+pub mod Stopping
+pub mod Indexing
+pub mod Made

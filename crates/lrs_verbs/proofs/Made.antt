@@ -1,0 +1,13 @@
+-- What a plan makes is sound.
+use Rattle.lrs_machine.specs.declared.image.Edit.{Edit}
+use Rattle.lrs_keep.specs.Change.{with_difference}
+use Rattle.lrs_measure.specs.Texts.{same_name}
+use Rattle.lrs_orderly.proofs.Making.{made_is_sound}
+use Rattle.lrs_verbs.specs.Plans.{PlansCanBeMade}
+use Rattle.lrs_verbs.proofs.Positions.{none_passes}
+
+pub plans_can_be_made : PlansCanBeMade
+plans_can_be_made command i p e s plan room none few = record {
+  differ = plan.differ;
+  sound = made_is_sound command i (with_difference p.difference i) e s plan.makes room (none_passes (λ (d : Edit). same_name d.key e.key) i.edits none) few;
+}

@@ -1,0 +1,29 @@
+-- Plans that leave the routes as they are.
+use Rattle.std.proofs.Common.{◌≡◌, Option, refl, sym, ap, subst, ◌∙◌}
+use Rattle.std.specs.Prelude.{None}
+use Rattle.lrs_measure.specs.Lists.{each_two}
+use Rattle.lrs_element.specs.declared.link.Link.{Link}
+use Rattle.lrs_events.specs.declared.class.Class.{Class}
+use Rattle.lrs_machine.specs.declared.image.Image.{Image}
+use Rattle.lrs_machine.specs.Image.{state_of}
+use Rattle.lrs_machine.specs.Sound.{route_before, IsSound}
+use Rattle.lrs_keep.specs.declared.change.RouteChange.{RouteChange}
+use Rattle.lrs_keep.specs.declared.change.Difference.{Difference}
+use Rattle.lrs_keep.specs.Change.{no_difference, routes_after, CanChangeRoute, CanDiffer}
+use Rattle.lrs_keep.proofs.Tables.{routes_in_order}
+use Rattle.lrs_verbs.specs.Plans.{plan_of, TellsGround}
+
+-- a difference of links and classes alone
+abbrev pub adding : Option Link → Option Class → Difference
+adding link class = record no_difference { link = link; class = class }
+
+-- No route changes, so that all names stay in order.
+pub can_differ : (d : Difference) (i : Image) → d.changed ≡ None → IsSound i → CanDiffer d i
+can_differ d i none s = record {
+  route = subst (λ (c : Option RouteChange). CanChangeRoute c i.routes) (sym none) tt;
+  names = ap (λ (c : Option RouteChange). each_two route_before (routes_after c i.routes)) none ∙ routes_in_order i s;
+}
+
+pub tells : (link : Option Link) (class : Option Class) (i : Image) → TellsGround (plan_of (adding link class)) i
+unfolding state_of
+tells link class i = record { ground = λ m. refl; can_ground = tt; referents = λ name. refl; new_referent = tt }

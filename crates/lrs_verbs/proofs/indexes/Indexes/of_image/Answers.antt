@@ -1,0 +1,30 @@
+use Rattle.std.proofs.Common.{◌≡◌, List, true, sym, subst}
+use Rattle.std.specs.Prelude.{not}
+use Rattle.lrs_measure.specs.Lists.{each_two}
+use Rattle.lrs_measure.specs.Texts.{same_name}
+use Rattle.lrs_index.specs.Ground.{is_run_once}
+use Rattle.lrs_index.specs.Routes.{IsGroundOf}
+use Rattle.lrs_machine.specs.declared.image.Edit.{Edit}
+use Rattle.lrs_machine.specs.declared.image.RouteEntry.{RouteEntry}
+use Rattle.lrs_machine.specs.Image.{state_of}
+use Rattle.lrs_orderly.proofs.Ordering.{sound_is_orderly}
+use Rattle.lrs_verbs.specs.Keys.{IsIndex}
+use Rattle.lrs_verbs.specs.Places.{IsPlaced, referent_among}
+use Rattle.lrs_verbs.proofs.Grounds.{ground_of, run_once}
+use Rattle.lrs_verbs.proofs.indexes.Indexes.of_image.Goals as goal
+
+pub of_edits-requires : goal.of_edits-requires
+of_edits-requires c =
+    record { once = subst (λ (es : List Edit). each_two (λ d e. not (same_name d.key e.key)) es ≡ true) (sym c.as_slice.ensures) (sound_is_orderly c.args.image.now c.requires.sound).keys }
+
+pub ground_of_routes-requires : goal.ground_of_routes-requires
+ground_of_routes-requires c =
+    record { once = subst (λ (es : List RouteEntry). is_run_once (ground_of es) ≡ true) (sym c.as_slice-2.ensures) (run_once c.args.image.now c.requires.sound) }
+
+pub returns : goal.returns
+unfolding state_of
+returns c = record {
+  keys = subst (IsIndex c.in_ok-of_edits.field-0) c.as_slice.ensures c.in_ok-of_edits.ensures;
+  ground = subst (IsGroundOf (λ e. e.route.name) (λ e. e.route.course) c.in_ok-ground_of_routes.field-0) c.as_slice-2.ensures c.in_ok-ground_of_routes.ensures;
+  referents = subst (λ (es : List RouteEntry). IsPlaced c.in_ok-of_routes.field-0 (referent_among es)) c.as_slice-3.ensures c.in_ok-of_routes.ensures;
+}

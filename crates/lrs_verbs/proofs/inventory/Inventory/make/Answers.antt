@@ -1,0 +1,38 @@
+use Rattle.std.proofs.Common.{◌≡◌, ℕ, List, length, ap, sym, subst, ◌∙◌}
+use Rattle.std.specs.FinMap.{get}
+use Rattle.lrs_measure.specs.Texts.{Name}
+use Rattle.lrs_machine.specs.declared.image.Edit.{Edit}
+use Rattle.lrs_machine.specs.declared.image.Image.{Image}
+use Rattle.lrs_machine.specs.Sound.{IsSound}
+use Rattle.lrs_keep.specs.Kept.{image_of}
+use Rattle.lrs_keep.specs.Change.{apply}
+use Rattle.lrs_verbs.specs.Keys.{place_among}
+use Rattle.lrs_verbs.specs.Indexes.{IsIndexed, IsPutIn}
+use Rattle.lrs_verbs.specs.Plans.{change_of, TellsGround}
+use Rattle.lrs_verbs.proofs.Standing.{out_of}
+use Rattle.lrs_verbs.proofs.Indexing.{still_indexed, next_indexed}
+use Rattle.lrs_verbs.proofs.inventory.Inventory.make.Goals as goal
+
+pub invariant_of-self : goal.invariant_of-self
+invariant_of-self g c = record {
+  sound = c.self.invariant.sound;
+  indexed = still_indexed (image_of c.self.inside.kept) c.self.inside.indexes c.put_in.new.self c.self.invariant.indexed c.in_err-put_in.ensures.err;
+}
+
+pub invariant_of-self-in-Ok : goal.invariant_of-self-in-Ok
+invariant_of-self-in-Ok g c =
+    let i = image_of c.self.inside.kept in
+    let p = c.args.plan in
+    let e = c.args.edit in
+    let old = c.self.inside.indexes in
+    let ready = c.put_in.new.self in
+    let new = c.let_go.new.self in
+    let place = ap (λ (es : List Edit). length es) c.as_slice.ensures.value in
+    let put = subst (λ (n : ℕ). IsPutIn e.key n p.ground p.referents.come old ready) place c.in_ok-put_in.ensures.ok in
+    record {
+      sound = subst IsSound (sym (c.in-Ok.ensures.ok ∙ ap (apply (change_of e p)) c.self.view_is)) c.requires.can.sound;
+      indexed = subst (λ (j : Image). IsIndexed j new) (sym c.in-Ok.ensures.ok)
+          (next_indexed i p e old ready new c.self.invariant.indexed (subst (TellsGround p) (sym c.self.view_is) c.requires.tells) put
+          (ap (λ (j : Image). place_among j.edits e.key) c.self.view_is ∙ c.requires.new_key) c.let_go.ensures.keys c.let_go.ensures.ground
+          (subst (λ (names : List Name). (name : Name) → get new.referents name ≡ out_of names (get ready.referents) name) c.as_slice-in-Ok.ensures c.let_go.ensures.referents));
+    }

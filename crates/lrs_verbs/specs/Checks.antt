@@ -1,0 +1,40 @@
+-- What the checks of pieces and marks give where they pass.
+use Rattle.std.specs.Prelude.{◌≡◌, ℕ, List, [], Some, Result, Ok}
+use Rattle.lrs_measure.specs.Texts.{Name}
+use Rattle.lrs_element.specs.declared.link.Piece.{Piece}
+use Rattle.lrs_element.specs.declared.link.Ground.{Ground}
+use Rattle.lrs_element.specs.declared.marks.Mark.{Mark}
+use Rattle.lrs_element.specs.Course.{course_of, is_too_long}
+use Rattle.lrs_machine.specs.declared.answer.Cause.{Cause}
+use Rattle.lrs_machine.specs.declared.answer.Cause.TheVariants as cause
+use Rattle.lrs_machine.specs.declared.image.RouteEntry.{RouteEntry}
+use Rattle.lrs_machine.specs.Machine.{◌>>◌, refuse_if, check_pieces, check_marks}
+use Rattle.lrs_machine.specs.State.{State}
+use Rattle.lrs_keep.specs.Change.{no_difference}
+use Rattle.lrs_verbs.specs.declared.plan.Plan.{Plan}
+use Rattle.lrs_verbs.specs.Plans.{plan_of}
+
+-- The course of these pieces.
+abbrev pub new_course : State → List Piece → Result (List Ground) Cause
+new_course s pieces = do
+  check_pieces s pieces
+  refuse_if (is_too_long (course_of pieces)) cause.TooLong
+  Ok (course_of pieces)
+
+-- These marks, for a course of this length.
+abbrev pub new_marks : ℕ → List Mark → Result (List Mark) Cause
+new_marks len marks = do
+  check_marks len marks
+  Ok marks
+
+-- a route of this name, ground and measure line, on which nothing lies
+pub record IsEntryOf (route : Name) (ground : List Ground) (line : List Mark) (e : RouteEntry) : Type 0 where
+  pub name : e.route.name ≡ route
+  pub course : e.route.course ≡ ground
+  pub marks : e.route.marks ≡ line
+  pub refs : e.route.refs ≡ []
+  pub spans : e.spans ≡ []
+
+-- the plan by which this route comes, over these pieces
+abbrev pub route_plan : Name → RouteEntry → List Piece → Plan
+route_plan name e pieces = record (plan_of (record no_difference { made = Some e })) { ground = Some (record { route = name; gone = []; passed = []; come = pieces }) }

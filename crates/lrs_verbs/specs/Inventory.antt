@@ -1,0 +1,10 @@
+-- What is known of an inventory.
+use Rattle.lrs_machine.specs.declared.image.Image.{Image}
+use Rattle.lrs_machine.specs.Sound.{IsSound}
+use Rattle.lrs_verbs.specs.declared.indexes.Indexes.{Indexes}
+use Rattle.lrs_verbs.specs.Indexes.{IsIndexed}
+
+-- The image is sound, and indexed.
+pub record IsKnown (image : Image) (x : Indexes) : Type 0 where
+  pub sound : IsSound image
+  pub indexed : IsIndexed image x

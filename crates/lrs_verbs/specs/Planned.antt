@@ -1,0 +1,10 @@
+-- Which verbs have a body.
+use Rattle.std.specs.Prelude.{Bool, true, false}
+use Rattle.lrs_machine.specs.declared.command.Command.{Command}
+use Rattle.lrs_machine.specs.declared.command.Command.TheVariants as verb
+
+abbrev pub is_planned : Command → Bool
+is_planned (verb.Link l) = true
+is_planned (verb.Class c) = true
+is_planned (verb.Route name pieces marks) = true
+is_planned _ = false

@@ -1,0 +1,154 @@
+//! An inventory: its image, and what is looked up in it.
+
+ghost use Rattle.std.specs.Prelude.{◌≡◌, IfOk, OnOk, OnErr, Err, Result, None, true, length};
+ghost use Rattle.lrs_machine.specs.declared.image.Image.{Image as ImageRows};
+ghost use Rattle.lrs_machine.specs.declared.table.Table.{Table};
+ghost use Rattle.lrs_machine.specs.Sound.{IsSound};
+ghost use Rattle.lrs_keep.specs.Change.{apply, CanMake};
+ghost use Rattle.lrs_keep.specs.Keeping.{HasRisen, HoldsOnly, HoldsOldOrNew};
+ghost use Rattle.lrs_verbs.specs.Keys.{place_among};
+ghost use Rattle.lrs_verbs.specs.Plans.{change_of, TellsGround};
+
+mod lookups;
+
+use crate::indexes::Indexes;
+use crate::plan::Plan;
+use lrs_keep::{Change, CommitFault, Keeper, KeptImage, make_change};
+use lrs_machine::{Edit, Image};
+use std::alloc::{AllocError, Global};
+use std::marker::Model;
+
+/// A sound image, with indexes of its keys, of the ground of its routes and of its referents. Contracts see
+/// the image.
+#[derive(Drop)]
+pub struct Inventory {
+    kept: KeptImage,
+    indexes: Indexes,
+}
+
+impl Model for Inventory {
+    ghost use Rattle.lrs_machine.specs.declared.image.Image.{Image};
+    ghost use Rattle.lrs_keep.specs.Kept.{image_of};
+    ghost use Rattle.lrs_verbs.specs.Inventory.{IsKnown};
+
+    ghost Value = { Image };
+
+    ghost view = { λ a. image_of a.kept };
+
+    ghost invariant = { λ a. IsKnown (image_of a.kept) a.indexes };
+}
+
+impl Inventory {
+    /// An image with its indexes.
+    ///
+    /// # Errors
+    /// When memory runs out.
+    pub fn new(alloc: Global, image: Image) -> Result<Inventory, AllocError>
+        requires sound { IsSound image }
+        ensures { IfOk result (λ inventory. inventory ≡ image) }
+    {
+        let indexes = Indexes::of_image(alloc, &image)?;
+        let kept = KeptImage::of_image(alloc, image)?;
+        Ok(Inventory { kept, indexes })
+    }
+
+    /// A copy of the image.
+    ///
+    /// # Errors
+    /// When memory runs out.
+    pub fn image(&self, alloc: Global) -> Result<Image, AllocError>
+        ensures image { IfOk result (λ image. image ≡ self.now) }
+        ensures sound { IsSound self.now }
+    {
+        self.kept.image(alloc)
+    }
+
+    /// The image is sound: a fact for proofs, which takes no time.
+    pub fn prove_sound(&self)
+        ensures { IsSound self.now }
+    {
+        let _ = &self.kept;
+    }
+
+    /// How many edits there are.
+    pub fn edits(&self) -> u64
+        ensures { result ≡ length self.now.edits }
+    {
+        self.kept.edits.len() as u64
+    }
+
+    /// How many links there are.
+    pub fn links(&self) -> u64
+        ensures { result ≡ length self.now.links }
+    {
+        self.kept.links.len() as u64
+    }
+
+    /// How many classes there are.
+    pub fn classes(&self) -> u64
+        ensures { result ≡ length self.now.classes }
+    {
+        self.kept.classes.len() as u64
+    }
+
+    /// How many assets there are.
+    pub fn assets(&self) -> u64
+        ensures { result ≡ length self.now.assets }
+    {
+        self.kept.assets.len() as u64
+    }
+
+    /// How many routes there are.
+    pub fn routes(&self) -> u64
+        ensures { result ≡ length self.now.routes }
+    {
+        self.kept.routes.len() as u64
+    }
+}
+
+impl Inventory {
+    /// Makes a change by its plan, in what is kept and here. What comes is indexed before the commit, which
+    /// takes memory, and taken out again if the commit fails, which takes none.
+    ///
+    /// # Errors
+    /// Those of the keeper; here nothing has changed then.
+    pub fn make<K: Keeper>(
+        &mut self,
+        alloc: Global,
+        keeper: &mut K,
+        edit: Edit,
+        plan: Plan,
+    ) -> Result<(), CommitFault>
+        requires loaded { K.is_loaded keeper.old ≡ true }
+        requires content { HoldsOnly (K.may_hold keeper.old) self.old }
+        requires can { CanMake (change_of edit plan) self.old }
+        requires tells { TellsGround plan self.old }
+        requires new_key { place_among self.old.edits edit.key ≡ None }
+        ensures ok { OnOk result (self.new ≡ apply (change_of edit plan) self.old) }
+        ensures ok_kept { OnOk result (HoldsOnly (K.may_hold keeper.new) (apply (change_of edit plan) self.old)) }
+        ensures err { OnErr result (self.new ≡ self.old) }
+        ensures memory { result ≡ Err CommitFault.Memory → (c : Result ImageRows Table) → K.may_hold keeper.new c → K.may_hold keeper.old c }
+        ensures store { result ≡ Err CommitFault.Store → HoldsOldOrNew (change_of edit plan) (K.may_hold keeper.new) self.old }
+        ensures cause { result ≡ Err CommitFault.Store → HasRisen (K.failures keeper.old) (K.failures keeper.new) }
+        ensures loaded { K.is_loaded keeper.new ≡ true }
+    {
+        let Plan {
+            difference,
+            ground,
+            referents,
+        } = plan;
+        let key = edit.key;
+        let place = self.kept.edits.as_slice().len() as u64;
+        self.indexes.put_in(key, place, &ground, &referents.come)?;
+        match make_change(alloc, &mut self.kept, keeper, Change { edit, difference }) {
+            Ok(()) => {
+                self.indexes.let_go(&ground, referents.gone.as_slice());
+                Ok(())
+            }
+            Err(fault) => {
+                self.indexes.take_out(&key, &ground, &referents.come);
+                Err(fault)
+            }
+        }
+    }
+}

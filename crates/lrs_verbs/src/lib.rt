@@ -1,0 +1,22 @@
+//! The verbs: what each command would change of an inventory, and how the change is made.
+#![tactic(auto)]
+
+mod ground;
+mod indexes;
+mod inventory;
+mod keys;
+pub mod laws;
+mod plan;
+mod planned;
+mod referents;
+mod verbs;
+
+pub use inventory::Inventory;
+pub use keys::KeyIndex;
+pub use plan::{GroundChange, Plan, ReferentPlace, ReferentPlaces, Stop, refuse_if};
+pub use planned::Planned;
+pub use referents::ReferentIndex;
+pub use verbs::plan_command;
+
+#[cfg(test)]
+mod tests;

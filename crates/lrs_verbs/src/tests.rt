@@ -1,0 +1,173 @@
+use super::*;
+use lrs_element::{Link, Mark, Piece};
+use lrs_events::{Class, ClassName, Kind};
+use lrs_keep::Difference;
+use lrs_machine::{Cause, Command, Image, MarkList, PieceList, RouteEntry};
+use lrs_measure::Rows;
+use lrs_position::RouteName;
+use lrs_sound::first_unsound;
+use std::process::Abort;
+
+/// Two links.
+const ROADS: [Link; 2] = [
+    Link {
+        number: 1,
+        length: 1_000,
+    },
+    Link {
+        number: 2,
+        length: 500,
+    },
+];
+
+/// The inventory of a sound image.
+fn inventory(rt: &(impl Abort + AllocGlobal), image: Image) -> Inventory {
+    match first_unsound(rt.alloc(), &image).expect(rt, "memory") {
+        None => Inventory::new(rt.alloc(), image).expect(rt, "memory"),
+        Some(_) => panic!(rt; "an unsound image"),
+    }
+}
+
+/// The inventory of two links, and a route over them where it is given.
+fn roads(rt: &(impl Abort + AllocGlobal), entry: Option<RouteEntry>) -> Inventory {
+    let mut image = Image::empty(rt.alloc());
+    let mut links = Vec::new(rt.alloc());
+    for link in ROADS {
+        links.push(link).expect(rt, "memory");
+    }
+    image.links = Rows::from_vec(links);
+    if let Some(entry) = entry {
+        let mut routes = Vec::new(rt.alloc());
+        routes.push(entry).expect(rt, "memory");
+        image.routes = Rows::from_vec(routes);
+    }
+    inventory(rt, image)
+}
+
+fn name(rt: &impl Abort, text: &str) -> RouteName {
+    RouteName::new(text.as_bytes()).expect(rt, "a route name")
+}
+
+fn class(rt: &impl Abort, text: &str, kind: Kind) -> Class {
+    let name = ClassName::new(text.as_bytes()).expect(rt, "a class name");
+    Class { name, kind }
+}
+
+fn piece(link: u32, a: u32, b: u32, forward: bool) -> Piece {
+    Piece {
+        link,
+        a,
+        b,
+        forward,
+    }
+}
+
+/// A new route of this name, with marks at 0 and at this length.
+fn route(rt: &(impl Abort + AllocGlobal), text: &str, pieces: &[Piece], length: u64) -> Command {
+    let pieces = Vec::from_slice(rt.alloc(), pieces).expect(rt, "memory");
+    let mut marks = Vec::new(rt.alloc());
+    for at in [0, length] {
+        let mark = Mark {
+            chainage: at,
+            measure: at,
+        };
+        marks.push(mark).expect(rt, "memory");
+    }
+    Command::Route {
+        name: name(rt, text),
+        pieces: PieceList::new(pieces).expect(rt, "a list of pieces"),
+        marks: MarkList::new(marks).expect(rt, "a list of marks"),
+    }
+}
+
+/// What a command would change, or why it is refused.
+fn planned(
+    rt: &(impl Abort + AllocGlobal),
+    inventory: &Inventory,
+    command: Command,
+) -> Result<Plan, Cause> {
+    let command = Planned::new(command).expect(rt, "a verb that has a body");
+    match plan_command(rt.alloc(), inventory, &command) {
+        Ok(plan) => Ok(plan),
+        Err(Stop::Refused(cause)) => Err(cause),
+        Err(Stop::Memory) => panic!(rt; "memory"),
+    }
+}
+
+/// Expects that a command is refused for this cause.
+fn refuses(rt: &(impl Abort + AllocGlobal), inventory: &Inventory, command: Command, cause: Cause) {
+    let refusal = planned(rt, inventory, command).err();
+    assert!(rt; refusal == Some(cause));
+}
+
+/// The route A1 over both links, as it is planned.
+fn planned_route(rt: &(impl Abort + AllocGlobal)) -> Plan {
+    let free = roads(rt, None);
+    let pieces = [piece(1, 0, 1_000, true), piece(2, 100, 500, false)];
+    assert!(rt; free.first_taken(&pieces).is_none());
+    planned(rt, &free, route(rt, "A1", &pieces, 1_400)).expect(rt, "a plan")
+}
+
+/// The inventory of the links and the route A1.
+fn with_route(rt: &(impl Abort + AllocGlobal)) -> Inventory {
+    let plan = planned_route(rt);
+    let Plan { difference, .. } = plan;
+    let Difference { made, .. } = difference;
+    assert!(rt; made.is_some());
+    roads(rt, made)
+}
+
+#[test]
+fn a_link_is_planned_while_it_is_new(rt: HostRuntime) {
+    let none = inventory(&rt, Image::empty(rt.alloc()));
+    let plan = planned(&rt, &none, Command::Link(ROADS[0])).expect(&rt, "a plan");
+    assert!(rt; plan.difference.link == Some(ROADS[0]));
+    let roads = roads(&rt, None);
+    assert!(rt; roads.link_length(2) == Some(500));
+    assert!(rt; roads.link_length(3).is_none());
+    refuses(&rt, &roads, Command::Link(ROADS[1]), Cause::LinkKnown);
+}
+
+#[test]
+fn a_class_is_planned_while_it_is_new(rt: HostRuntime) {
+    let alloc = rt.alloc();
+    let sign = class(&rt, "SIGN", Kind::Point);
+    let none = inventory(&rt, Image::empty(alloc));
+    let plan = planned(&rt, &none, Command::Class(sign)).expect(&rt, "a plan");
+    assert!(rt; plan.difference.class == Some(sign));
+    let mut image = Image::empty(alloc);
+    let mut classes = Vec::new(alloc);
+    classes.push(sign).expect(&rt, "memory");
+    image.classes = Rows::from_vec(classes);
+    let known = inventory(&rt, image);
+    assert!(rt; known.class(&sign.name) == Some(Kind::Point));
+    refuses(&rt, &known, Command::Class(sign), Cause::ClassKnown);
+}
+
+#[test]
+fn a_route_is_planned_with_its_ground(rt: HostRuntime) {
+    let plan = planned_route(&rt);
+    let ground = plan.ground.expect(&rt, "ground");
+    let pieces = [piece(1, 0, 1_000, true), piece(2, 100, 500, false)];
+    assert!(rt; ground.come.as_slice() == pieces.as_slice());
+}
+
+#[test]
+fn a_route_is_found_by_its_name_and_its_ground(rt: HostRuntime) {
+    let known = with_route(&rt);
+    let a1 = name(&rt, "A1");
+    let found = known.route(&a1).expect(&rt, "the route");
+    assert!(rt; found.route.course.len() == 1_400);
+    assert!(rt; known.route_over(2, 100) == Some(a1));
+    assert!(rt; known.route_over(2, 99).is_none());
+}
+
+#[test]
+fn routes_are_refused_by_their_first_check(rt: HostRuntime) {
+    let known = with_route(&rt);
+    let free = [piece(2, 0, 50, true)];
+    refuses(&rt, &known, route(&rt, "A1", &free, 50), Cause::RouteKnown);
+    let taken = [piece(2, 0, 50, true), piece(2, 99, 101, true)];
+    refuses(&rt, &known, route(&rt, "A2", &taken, 52), Cause::Taken(1));
+    refuses(&rt, &known, route(&rt, "A2", &free, 51), Cause::BadMarks(1));
+}

@@ -1,0 +1,34 @@
+//! Checks that several verbs share.
+
+ghost use Rattle.std.specs.Prelude.{◌≡◌};
+ghost use Rattle.lrs_machine.specs.Image.{state_of};
+ghost use Rattle.lrs_machine.specs.Machine.{check_free};
+ghost use Rattle.lrs_verbs.specs.Checks.{new_marks};
+ghost use Rattle.lrs_verbs.specs.Plans.{Answers};
+
+use crate::inventory::Inventory;
+use crate::plan::Stop;
+use lrs_element::{Mark, MarkFault, Marks, Piece};
+use lrs_machine::Cause;
+use std::alloc::Global;
+
+/// Refuses pieces of which a route runs over a millimetre: the first of them.
+pub fn check_free(inventory: &Inventory, pieces: &[Piece]) -> Result<(), Stop>
+    ensures { Answers (check_free (state_of inventory.now) pieces.now) result }
+{
+    match inventory.first_taken(pieces) {
+        Some(i) => Err(Stop::Refused(Cause::Taken(i as u64))),
+        None => Ok(()),
+    }
+}
+
+/// These marks, for a course of this length.
+pub fn new_marks(alloc: Global, marks: &[Mark], len: u64) -> Result<Marks, Stop>
+    ensures { Answers (new_marks len marks.now) result }
+{
+    let list = Vec::from_slice(alloc, marks)?;
+    match Marks::new(list, len) {
+        Ok(marks) => Ok(marks),
+        Err(MarkFault(i)) => Err(Stop::Refused(Cause::BadMarks(i as u64))),
+    }
+}

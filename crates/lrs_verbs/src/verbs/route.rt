@@ -1,0 +1,83 @@
+//! A new route.
+
+ghost use Rattle.std.specs.Prelude.{◌≡◌, IfOk, None, length};
+ghost use Rattle.std.specs.List.{AllByRecursion};
+ghost use Rattle.lrs_element.specs.Course.{course_of};
+ghost use Rattle.lrs_element.specs.Pieces.{IsFilled};
+ghost use Rattle.lrs_element.specs.Marks.{bad_mark};
+ghost use Rattle.lrs_machine.specs.declared.command.Command.TheVariants as verb;
+ghost use Rattle.lrs_verbs.specs.Checks.{IsEntryOf, route_plan};
+ghost use Rattle.lrs_verbs.specs.Plans.{Plans};
+
+use crate::inventory::Inventory;
+use crate::plan::{GroundChange, Plan, Stop, refuse_if};
+use crate::verbs::checks::{check_free, new_marks};
+use lrs_element::{Course, Mark, Marks, Piece};
+use lrs_machine::{Cause, RouteEntry};
+use lrs_measure::Rows;
+use lrs_position::{Route, RouteName};
+use lrs_spans::Spans;
+use std::alloc::{AllocError, Global};
+
+pub fn plan_route(
+    alloc: Global,
+    inventory: &Inventory,
+    name: RouteName,
+    pieces: &[Piece],
+    marks: &[Mark],
+) -> Result<Plan, Stop>
+    ensures { Plans (verb.Route name pieces.now marks.now) inventory.now result }
+{
+    inventory.prove_sound();
+    let is_known = inventory.route(&name).is_some();
+    refuse_if(is_known, Cause::RouteKnown)?;
+    let course = inventory.course(alloc, pieces)?;
+    check_free(inventory, pieces)?;
+    let marks = new_marks(alloc, marks, course.len())?;
+    let come = pieces_of(alloc, &course)?;
+    let entry = new_entry(alloc, name, course, marks);
+    Ok(route_plan(alloc, name, entry, come))
+}
+
+/// A route of this name, course and measure line, on which nothing lies.
+fn new_entry(alloc: Global, name: RouteName, course: Course, marks: Marks) -> RouteEntry
+    requires fit { bad_mark (length course) marks ≡ None }
+    ensures { IsEntryOf name course marks result }
+{
+    // It is not too long.
+    let _len = course.len();
+    let route = Route {
+        name,
+        course,
+        marks,
+        refs: Rows::new(alloc),
+    };
+    RouteEntry {
+        route,
+        spans: Spans::empty(alloc),
+    }
+}
+
+/// The pieces of a course.
+fn pieces_of(alloc: Global, course: &Course) -> Result<Rows<Piece>, AllocError>
+    ensures course { IfOk result (λ pieces. course_of pieces ≡ course.now) }
+    ensures filled { IfOk result (λ pieces. AllByRecursion IsFilled pieces) }
+{
+    let pieces = Vec::from_slice(alloc, course.pieces())?;
+    Ok(Rows::from_vec(pieces))
+}
+
+/// The plan by which a route comes, with its ground.
+fn route_plan(alloc: Global, route: RouteName, entry: RouteEntry, come: Rows<Piece>) -> Plan
+    ensures { result ≡ route_plan route entry come }
+{
+    let mut plan = Plan::none(alloc);
+    plan.ground = Some(GroundChange {
+        route,
+        gone: Rows::new(alloc),
+        passed: Rows::new(alloc),
+        come,
+    });
+    plan.difference.made = Some(entry);
+    plan
+}
