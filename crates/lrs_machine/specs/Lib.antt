@@ -6,6 +6,7 @@ pub mod State
 pub mod Lines
 pub mod WellFormed
 pub mod Texts
+pub mod AnswerTexts
 pub mod Machine
 pub mod Image
 pub mod Readings

@@ -7,6 +7,7 @@ ghost use Rattle.lrs_machine.specs.Keys;
 
 use lrs_measure::Text;
 use lrs_measure::alphabet::{has_length, is_lone_dash, is_word_byte};
+use std::fmt;
 use std::marker::Model;
 
 fn is_key_byte(byte: u8) -> bool
@@ -67,5 +68,18 @@ impl Key {
         ensures alphabet { IsTrue (is_key self.now) }
     {
         self.text.bytes()
+    }
+}
+
+impl fmt::Display for Key {
+    ghost use Rattle.std.specs.Prelude.{Some};
+
+    ghost output = { λ key. Some key };
+
+    fn fmt<W: fmt::Write>(&self, f: &mut fmt::Formatter<W>) -> fmt::Result {
+        match str::from_utf8(self.bytes()) {
+            Ok(text) => f.write_str(text),
+            Err(_) => Err(fmt::Error),
+        }
     }
 }

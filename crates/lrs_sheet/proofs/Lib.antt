@@ -11,7 +11,6 @@ pub mod HeaderFields
 pub mod ReadRows
 pub mod Done
 pub mod Whole
-pub mod KeyBytes
 pub mod Breaking
 pub mod OneCommand
 pub mod Complete

@@ -16,7 +16,7 @@ mod verb;
 
 pub use fault::{ReadFault, SheetFault};
 pub use record::command_of;
-pub use reply::{CauseText, Reply, Tally};
+pub use reply::{Reply, Tally};
 pub use run::run_edits;
 
 #[cfg(test)]
