@@ -52,21 +52,21 @@ pub fn route(
 }
 
 /// A forward piece.
-pub fn ahead(link: u32, a: u32, b: u32) -> Piece {
+pub fn ahead(link: u32, from: u32, to: u32) -> Piece {
     Piece {
         link,
-        a,
-        b,
+        from,
+        to,
         forward: true,
     }
 }
 
 /// A backward piece.
-pub fn back(link: u32, a: u32, b: u32) -> Piece {
+pub fn back(link: u32, from: u32, to: u32) -> Piece {
     Piece {
         link,
-        a,
-        b,
+        from,
+        to,
         forward: false,
     }
 }

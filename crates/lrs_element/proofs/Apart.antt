@@ -31,27 +31,27 @@ place_of : (f : Bool) (a b m : ℕ) → a ≤ m → m < b → (i : ℕ) × (i < 
 place_of true a b m h l = (m - a, omega arith, omega arith)
 place_of false a b m h l = (b - 1 - m, omega arith, omega arith)
 
-runs_over_from : (p : Piece) (l m : ℕ) → p.link ≡ l → p.a ≤ m → m < p.b → runs_over (expand p) (l, m) ≡ true
+runs_over_from : (p : Piece) (l m : ℕ) → p.link ≡ l → p.from ≤ m → m < p.to → runs_over (expand p) (l, m) ≡ true
 runs_over_from p l m e h k =
-    let i = place_of p.forward p.a p.b m h k in
+    let i = place_of p.forward p.from p.to m h k in
     let g : Ground = ground_of p i.0 in
     list_any_at (is_at (l, m)) (expand p) i.0 g (omega (arith, length-expand p, i.1)) (ap (is_at (l, m)) (get_or-expand p i.0 g i.1) ∙ and_from _ _ (eq-eqb _ _ e) (eq-eqb _ _ i.2))
 
 -- a millimetre of a piece
 record IsOf (p : Piece) (g : Ground) : Type 0 where
   link : p.link ≡ g.link
-  from : p.a ≤ g.mm
-  to : g.mm < p.b
+  from : p.from ≤ g.mm
+  to : g.mm < p.to
 
 is_of : (p : Piece) (k : ℕ) (g : Ground) → k < length (expand p) → get_or (expand p) k g ≡ g → IsOf p g
 is_of p k g h e =
     let i : k < piece_len p = omega (arith, length-expand p) in
     let s : g ≡ ground_of p k = sym e ∙ get_or-expand p k g i in
-    let b = mm_bounds p.forward p.a p.b k i in
+    let b = mm_bounds p.forward p.from p.to k i in
     let at : IsOf p (ground_of p k) = record { link = refl; from = b.0; to = b.1 } in
     subst (IsOf p) (sym s) at
 
-runs_over_gives : (p : Piece) (l m : ℕ) → runs_over (expand p) (l, m) ≡ true → (p.link ≡ l) × (p.a ≤ m) × (m < p.b)
+runs_over_gives : (p : Piece) (l m : ℕ) → runs_over (expand p) (l, m) ≡ true → (p.link ≡ l) × (p.from ≤ m) × (m < p.to)
 runs_over_gives p l m h =
     let a = Any-from_list_any (is_at (l, m)) (expand p) h in
     let o = is_of p a.0 a.1 a.2 a.3 in
@@ -77,12 +77,12 @@ meets_pieces p q fp fq = same_test _ _
     (λ t.
     let u = and_parts _ _ t in
     let v = and_parts _ _ u.0 in
-    let zp : p.a < p.b = fp in
-    let zq : q.a < q.b = fq in
-    let x : p.a < q.b = ltb-true _ _ v.1 in
-    let y : q.a < p.b = ltb-true _ _ u.1 in
-    let m : ℕ = max p.a q.a in
-    let i = place_of p.forward p.a p.b m (omega arith) (omega arith) in
+    let zp : p.from < p.to = fp in
+    let zq : q.from < q.to = fq in
+    let x : p.from < q.to = ltb-true _ _ v.1 in
+    let y : q.from < p.to = ltb-true _ _ u.1 in
+    let m : ℕ = max p.from q.from in
+    let i = place_of p.forward p.from p.to m (omega arith) (omega arith) in
     let g : Ground = ground_of p i.0 in
     list_any_at (λ (g : Ground). runs_over (expand q) (g.link, g.mm)) (expand p) i.0 g (omega (arith, length-expand p, i.1))
     (ap (λ (w : Ground). runs_over (expand q) (w.link, w.mm)) (get_or-expand p i.0 g i.1) ∙ ap (λ (k : ℕ). runs_over (expand q) (p.link, k)) i.2
@@ -99,7 +99,7 @@ and_swap true false false = refl
 and_swap false y z = refl
 
 pub pieces_meet-comm : (p q : Piece) → pieces_meet p q ≡ pieces_meet q p
-pieces_meet-comm p q = ap (λ (b : Bool). b && nat_lt p.a q.b && nat_lt q.a p.b) (nat_eq-comm p.link q.link) ∙ and_swap (nat_eq q.link p.link) (nat_lt p.a q.b) (nat_lt q.a p.b)
+pieces_meet-comm p q = ap (λ (b : Bool). b && nat_lt p.from q.to && nat_lt q.from p.to) (nat_eq-comm p.link q.link) ∙ and_swap (nat_eq q.link p.link) (nat_lt p.from q.to) (nat_lt q.from p.to)
 
 -- ---- courses
 
@@ -252,7 +252,7 @@ AllApart-permutation xs ys p a = IsPermutation-keeps xs AllApart a (λ l i j hi 
 -- p ends before q begins, or lies on a link before it
 record IsBefore (p q : Piece) : Type 0 where
   link : p.link ≤ q.link
-  behind : p.link ≡ q.link → p.b ≤ q.a
+  behind : p.link ≡ q.link → p.to ≤ q.from
 
 before_apart : (p q : Piece) → IsBefore p q → pieces_meet p q ≡ false
 before_apart p q b = false_from_ne_true _ (λ t.
@@ -260,14 +260,14 @@ before_apart p q b = false_from_ne_true _ (λ t.
     let v = and_parts _ _ u.0 in
     let e : p.link ≡ q.link = eqb-true _ _ v.0 in
     let h = b.behind e in
-    let y : q.a < p.b = ltb-true _ _ u.1 in
+    let y : q.from < p.to = ltb-true _ _ u.1 in
     absurd (omega arith))
 
 before_trans : (p q r : Piece) → IsFilled q → IsBefore p q → IsBefore q r → IsBefore p r
 before_trans p q r f b c = record {
   link = omega (arith, b.link, c.link);
   behind = λ e.
-      let z : q.a < q.b = f in
+      let z : q.from < q.to = f in
       let x = b.behind (omega (arith, b.link, c.link)) in
       let y = c.behind (omega (arith, b.link, c.link)) in
       omega (arith, x, y);
@@ -289,9 +289,9 @@ before_from_order : (p q : Piece) → IsFilled p → IsFilled q → IsInOrder p 
 before_from_order p q fp fq o a = record {
   link = o.link;
   behind = λ e. ⊎_elim
-      (λ (lt : q.a < p.b). let z : q.a < q.b = fq in let s = o.start e in absurd (both_ways _ a (and_from _ _ (and_from _ _ (eq-eqb _ _ e) (lt-ltb _ _ (omega (arith, s, z)))) (lt-ltb _ _ lt))))
-      (λ (ge : p.b ≤ q.a). ge)
-      (cases_lt q.a p.b);
+      (λ (lt : q.from < p.to). let z : q.from < q.to = fq in let s = o.start e in absurd (both_ways _ a (and_from _ _ (and_from _ _ (eq-eqb _ _ e) (lt-ltb _ _ (omega (arith, s, z)))) (lt-ltb _ _ lt))))
+      (λ (ge : p.to ≤ q.from). ge)
+      (cases_lt q.from p.to);
 }
 
 pub all_apart_sorted : (xs : List Piece) → AllByRecursion IsFilled xs → ((k : ℕ) (d : Piece) → k + 1 < length xs → IsInOrder (get_or xs k d) (get_or xs (k + 1) d))
@@ -370,10 +370,10 @@ repeat_answer xs ys b f p o t u =
     e ∙ none_from_apart [] xs (apart_from_all xs (AllApart-permutation ys xs (IsPermutation-sym xs ys p) a)))
   where
     meets_some : (ys : List Piece) (k : ℕ) → k + 1 < length ys → ((d : Piece) → pieces_meet (get_or ys k d) (get_or ys (k + 1) d) ≡ true) → AllApart ys → ⊥
-    meets_some ys k h m a = let d : Piece = record { link = 0; a = 0; b = 0; forward = true } in both_ways _ (a.apart k (k + 1) d (omega arith) (omega arith) h) (m d)
+    meets_some ys k h m a = let d : Piece = record { link = 0; from = 0; to = 0; forward = true } in both_ways _ (a.apart k (k + 1) d (omega arith) (omega arith) h) (m d)
 
 -- the order of a sort by link and start
-pub in_order : (p q : Piece) → is_lt (ordering_then (nat_cmp q.link p.link) (nat_cmp q.a p.a)) ≡ false → IsInOrder p q
+pub in_order : (p q : Piece) → is_lt (ordering_then (nat_cmp q.link p.link) (nat_cmp q.from p.from)) ≡ false → IsInOrder p q
 in_order p q h = record { link = grind (arith, nat_tests); start = λ e. grind (arith, nat_tests) }
 
 -- ---- the least link that two courses share
@@ -463,13 +463,13 @@ least_end ps i xs ys least h e was =
 
 -- ---- a piece and a course
 
-meets_filled : (p : Piece) (qs : List Piece) (b : Bool) → p.a < p.b → AllByRecursion IsFilled qs → b ≡ list_any (pieces_meet p) qs → b ≡ meets (expand p) (course_of qs)
+meets_filled : (p : Piece) (qs : List Piece) (b : Bool) → p.from < p.to → AllByRecursion IsFilled qs → b ≡ list_any (pieces_meet p) qs → b ≡ meets (expand p) (course_of qs)
 meets_filled p qs b h f e = e ∙ sym (meets_course p qs h f)
 
-pub covers_some : (p : Piece) (qs : List Piece) (ys : List Ground) (b : Bool) → p.a < p.b → AllByRecursion IsFilled qs → course_of qs ≡ ys → b ≡ list_any (pieces_meet p) qs → b ≡ meets (expand p) ys
+pub covers_some : (p : Piece) (qs : List Piece) (ys : List Ground) (b : Bool) → p.from < p.to → AllByRecursion IsFilled qs → course_of qs ≡ ys → b ≡ list_any (pieces_meet p) qs → b ≡ meets (expand p) ys
 covers_some p qs ys b h f e is = meets_filled p qs b h f is ∙ ap (meets (expand p)) e
 
-pub covers_none : (p : Piece) (ys : List Ground) → p.b ≤ p.a → false ≡ meets (expand p) ys
+pub covers_none : (p : Piece) (ys : List Ground) → p.to ≤ p.from → false ≡ meets (expand p) ys
 covers_none p ys h =
     let e : expand p ≡ [] = nil_from_length (expand p) (length-expand p ∙ omega arith) in
     sym (ap (λ (xs : List Ground). meets xs ys) e)

@@ -57,10 +57,10 @@ step_continues true a b k h = eq-eqb _ _ (omega arith)
 step_continues false a b k h = eq-eqb _ _ (omega arith)
 
 ground_continues : (p : Piece) (k : ℕ) → suc k < piece_len p → continues (ground_of p k) (ground_of p (suc k)) ≡ true
-ground_continues p k h = and_from _ _ (and_from _ _ (eq-eqb p.link p.link refl) (same_bool-refl p.forward)) (step_continues p.forward p.a p.b k h)
+ground_continues p k h = and_from _ _ (and_from _ _ (eq-eqb p.link p.link refl) (same_bool-refl p.forward)) (step_continues p.forward p.from p.to k h)
 
 pub piece_count-expand : (p : Piece) → IsFilled p → piece_count (expand p) ≡ 1
-piece_count-expand p f = piece_count_run (expand p) (let z : p.a < p.b = f in omega (arith, length-expand p))
+piece_count-expand p f = piece_count_run (expand p) (let z : p.from < p.to = f in omega (arith, length-expand p))
     (λ k d lt.
     let i : suc k < piece_len p = omega (arith, length-expand p) in
     ap (λ (g : Ground). continues g (get_or (expand p) (suc k) d)) (get_or-expand p k d (omega arith)) ∙ ap (continues (ground_of p k)) (get_or-expand p (suc k) d i) ∙ ground_continues p k i)
@@ -84,8 +84,8 @@ seam p q = continues (ground_of p (piece_len p - 1)) (ground_of q 0)
 seam-true : (p q : Piece) → IsFilled p → IsFilled q → Continues p q → seam p q ≡ true
 seam-true p q fp fq c =
     let s : p.forward ≡ q.forward = c.same_direction in
-    let P : Bool → Type 0 = λ f. (if f then p.b else p.a) ≡ (if q.forward then q.a else q.b) → (nat_eq p.link q.link && same_bool f q.forward && (if f then nat_eq (if q.forward then q.a + 0 else q.b - 1 - 0) ((if f then p.a + (p.b - p.a - 1) else p.b - 1 - (p.b - p.a - 1)) + 1) else nat_eq (if f then p.a + (p.b - p.a - 1) else p.b - 1 - (p.b - p.a - 1)) ((if q.forward then q.a + 0 else q.b - 1 - 0) + 1))) ≡ true in
-    let at : P q.forward = λ m. and_from _ _ (and_from _ _ (eq-eqb _ _ c.same_link) (same_bool-refl q.forward)) (meet_edges q.forward p.a p.b q.a q.b fp fq m) in
+    let P : Bool → Type 0 = λ f. (if f then p.to else p.from) ≡ (if q.forward then q.from else q.to) → (nat_eq p.link q.link && same_bool f q.forward && (if f then nat_eq (if q.forward then q.from + 0 else q.to - 1 - 0) ((if f then p.from + (p.to - p.from - 1) else p.to - 1 - (p.to - p.from - 1)) + 1) else nat_eq (if f then p.from + (p.to - p.from - 1) else p.to - 1 - (p.to - p.from - 1)) ((if q.forward then q.from + 0 else q.to - 1 - 0) + 1))) ≡ true in
+    let at : P q.forward = λ m. and_from _ _ (and_from _ _ (eq-eqb _ _ c.same_link) (same_bool-refl q.forward)) (meet_edges q.forward p.from p.to q.from q.to fp fq m) in
     subst P (sym s) at c.meets
 
 seam_continues : (p q : Piece) → IsFilled p → IsFilled q → seam p q ≡ true → Continues p q
@@ -93,8 +93,8 @@ seam_continues p q fp fq t =
     let parts = and_parts _ _ t in
     let heads = and_parts _ _ parts.0 in
     let s : p.forward ≡ q.forward = same_bool-true p.forward q.forward heads.1 in
-    let P : Bool → Type 0 = λ f. (if f then nat_eq (if q.forward then q.a + 0 else q.b - 1 - 0) ((if f then p.a + (p.b - p.a - 1) else p.b - 1 - (p.b - p.a - 1)) + 1) else nat_eq (if f then p.a + (p.b - p.a - 1) else p.b - 1 - (p.b - p.a - 1)) ((if q.forward then q.a + 0 else q.b - 1 - 0) + 1)) ≡ true → (if f then p.b else p.a) ≡ (if q.forward then q.a else q.b) in
-    let at : P q.forward = λ m. edges_meet q.forward p.a p.b q.a q.b fp fq m in
+    let P : Bool → Type 0 = λ f. (if f then nat_eq (if q.forward then q.from + 0 else q.to - 1 - 0) ((if f then p.from + (p.to - p.from - 1) else p.to - 1 - (p.to - p.from - 1)) + 1) else nat_eq (if f then p.from + (p.to - p.from - 1) else p.to - 1 - (p.to - p.from - 1)) ((if q.forward then q.from + 0 else q.to - 1 - 0) + 1)) ≡ true → (if f then p.to else p.from) ≡ (if q.forward then q.from else q.to) in
+    let at : P q.forward = λ m. edges_meet q.forward p.from p.to q.from q.to fp fq m in
     record { same_link = eqb-true p.link q.link heads.0; same_direction = s; meets = subst P (sym s) at parts.1 }
 
 -- the count of two pieces, one after the other
@@ -104,8 +104,8 @@ one_more p q = if seam p q then 0 else 1
 -- one more piece q behind a course that ends in the piece p
 piece_count_push : (zs : List Ground) (p q : Piece) → IsFilled p → IsFilled q → piece_count ((zs ++ expand p) ++ expand q) ≡ piece_count (zs ++ expand p) + one_more p q
 piece_count_push zs p q fp fq =
-    let zp : p.a < p.b = fp in
-    let zq : q.a < q.b = fq in
+    let zp : p.from < p.to = fp in
+    let zq : q.from < q.to = fq in
     let d : Ground = ground_of q 0 in
     let n : ℕ = length zs + (piece_len p - 1) in
     let last : get_or (zs ++ expand p) n d ≡ ground_of p (piece_len p - 1) =

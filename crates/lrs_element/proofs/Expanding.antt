@@ -33,12 +33,12 @@ get_or-run false a b i d h =
     ∙ omega arith
 
 pub length-expand : (p : Piece) → length (expand p) ≡ piece_len p
-length-expand p = length-map (run p.forward p.a (p.b - p.a)) (at_mm p.link p.forward) ∙ length-run p.forward p.a (p.b - p.a)
+length-expand p = length-map (run p.forward p.from (p.to - p.from)) (at_mm p.link p.forward) ∙ length-run p.forward p.from (p.to - p.from)
 
 pub get_or-expand : (p : Piece) (i : ℕ) (d : Ground) → i < piece_len p → get_or (expand p) i d ≡ ground_of p i
 get_or-expand p i d h =
-    get_or-map (at_mm p.link p.forward) (run p.forward p.a (p.b - p.a)) i 0 d (omega (arith, length-run p.forward p.a (p.b - p.a)))
-    ∙ ap (at_mm p.link p.forward) (get_or-run p.forward p.a p.b i 0 h)
+    get_or-map (at_mm p.link p.forward) (run p.forward p.from (p.to - p.from)) i 0 d (omega (arith, length-run p.forward p.from (p.to - p.from)))
+    ∙ ap (at_mm p.link p.forward) (get_or-run p.forward p.from p.to i 0 h)
 
 -- a list is the expanded piece where each place agrees
 is_expanded : (p : Piece) (xs : List Ground) → length xs ≡ piece_len p → ((i : ℕ) (d : Ground) → i < piece_len p → get_or xs i d ≡ ground_of p i) → expand p ≡ xs
@@ -51,19 +51,19 @@ is_part p q i fits same = is_expanded q _
     (λ k d h. get_or-take (piece_len q) (drop i (expand p)) k d h ∙ get_or-drop i (expand p) k d ∙ get_or-expand p (i + k) d (omega arith) ∙ sym (same k h))
 
 -- a piece by its parts
-same_piece : (p : Piece) (l a b : ℕ) (f : Bool) → p.link ≡ l → p.a ≡ a → p.b ≡ b → p.forward ≡ f → p ≡ record { link = l; a = a; b = b; forward = f }
-same_piece p l a b f hl ha hb hf = λ i. record { link = hl i; a = ha i; b = hb i; forward = hf i }
+same_piece : (p : Piece) (l a b : ℕ) (f : Bool) → p.link ≡ l → p.from ≡ a → p.to ≡ b → p.forward ≡ f → p ≡ record { link = l; from = a; to = b; forward = f }
+same_piece p l a b f hl ha hb hf = λ i. record { link = hl i; from = ha i; to = hb i; forward = hf i }
 
-pub part_forward : (l a b f t : ℕ) → f < t → t ≤ b - a → expand (record { link = l; a = a + f; b = a + t; forward = true }) ≡ take (t - f) (drop f (expand (record { link = l; a = a; b = b; forward = true })))
+pub part_forward : (l a b f t : ℕ) → f < t → t ≤ b - a → expand (record { link = l; from = a + f; to = a + t; forward = true }) ≡ take (t - f) (drop f (expand (record { link = l; from = a; to = b; forward = true })))
 part_forward l a b f t h i =
     let e : a + t - (a + f) ≡ t - f = omega arith in
-    rw (← e) (is_part (record { link = l; a = a; b = b; forward = true }) (record { link = l; a = a + f; b = a + t; forward = true }) f (omega arith)
+    rw (← e) (is_part (record { link = l; from = a; to = b; forward = true }) (record { link = l; from = a + f; to = a + t; forward = true }) f (omega arith)
     (λ k lt. let m : a + f + k ≡ a + (f + k) = omega arith in ap (at_mm l true) m))
 
-pub part_backward : (l a b f t : ℕ) → f < t → t ≤ b - a → expand (record { link = l; a = b - t; b = b - f; forward = false }) ≡ take (t - f) (drop f (expand (record { link = l; a = a; b = b; forward = false })))
+pub part_backward : (l a b f t : ℕ) → f < t → t ≤ b - a → expand (record { link = l; from = b - t; to = b - f; forward = false }) ≡ take (t - f) (drop f (expand (record { link = l; from = a; to = b; forward = false })))
 part_backward l a b f t h i =
     let e : b - f - (b - t) ≡ t - f = omega arith in
-    rw (← e) (is_part (record { link = l; a = a; b = b; forward = false }) (record { link = l; a = b - t; b = b - f; forward = false }) f (omega arith)
+    rw (← e) (is_part (record { link = l; from = a; to = b; forward = false }) (record { link = l; from = b - t; to = b - f; forward = false }) f (omega arith)
     (λ k lt. let m : b - f - 1 - k ≡ b - 1 - (f + k) = omega arith in ap (at_mm l false) m))
 
 -- the piece r runs over what p runs over, and then what q runs over
@@ -77,31 +77,31 @@ is_joined p q r l here there = is_expanded r _
     get_or-append_right (expand p) (expand q) (piece_len p) k d (length-expand p) ge ∙ get_or-expand q (k - piece_len p) d (omega arith) ∙ sym (there (k - piece_len p) (omega arith)) ∙ ap (ground_of r) e)
     (cases_lt k (piece_len p)))
 
-joined_forward : (l a b c : ℕ) → a < b → b < c → expand (record { link = l; a = a; b = c; forward = true }) ≡ expand (record { link = l; a = a; b = b; forward = true }) ++ expand (record { link = l; a = b; b = c; forward = true })
+joined_forward : (l a b c : ℕ) → a < b → b < c → expand (record { link = l; from = a; to = c; forward = true }) ≡ expand (record { link = l; from = a; to = b; forward = true }) ++ expand (record { link = l; from = b; to = c; forward = true })
 joined_forward l a b c h i = is_joined _ _ _ (omega arith) (λ k lt. refl) (λ k lt. let m : a + (b - a + k) ≡ b + k = omega arith in ap (at_mm l true) m)
 
-joined_backward : (l a b c : ℕ) → a < b → b < c → expand (record { link = l; a = a; b = c; forward = false }) ≡ expand (record { link = l; a = b; b = c; forward = false }) ++ expand (record { link = l; a = a; b = b; forward = false })
+joined_backward : (l a b c : ℕ) → a < b → b < c → expand (record { link = l; from = a; to = c; forward = false }) ≡ expand (record { link = l; from = b; to = c; forward = false }) ++ expand (record { link = l; from = a; to = b; forward = false })
 joined_backward l a b c h i = is_joined _ _ _ (omega arith) (λ k lt. refl) (λ k lt. let m : c - 1 - (c - b + k) ≡ b - 1 - k = omega arith in ap (at_mm l false) m)
 
-pub joined_true : (p q : Piece) → p.forward ≡ true → Continues p q → IsFilled p → IsFilled q → expand (record { link = p.link; a = p.a; b = q.b; forward = p.forward }) ≡ expand p ++ expand q
+pub joined_true : (p q : Piece) → p.forward ≡ true → Continues p q → IsFilled p → IsFilled q → expand (record { link = p.link; from = p.from; to = q.to; forward = p.forward }) ≡ expand p ++ expand q
 joined_true p q h c pf qf =
     let k : q.forward ≡ true = sym c.same_direction ∙ h in
-    let m : p.b ≡ q.a = rw (h, k) at c.meets in
-    let x : q ≡ record { link = p.link; a = p.b; b = q.b; forward = true } = same_piece q p.link p.b q.b true (sym c.same_link) (sym m) refl k in
-    let y : p ≡ record { link = p.link; a = p.a; b = p.b; forward = true } = same_piece p p.link p.a p.b true refl refl refl h in
-    let j = joined_forward p.link p.a p.b q.b pf (let z : q.a < q.b = qf in omega arith) in
-    let P : Bool → Type 0 = λ f. expand (record { link = p.link; a = p.a; b = q.b; forward = f }) ≡ expand p ++ expand q in
-    subst P (sym h) (j ∙ sym (ap (λ (w : Piece). expand w ++ expand q) y ∙ ap (λ (w : Piece). expand (record { link = p.link; a = p.a; b = p.b; forward = true }) ++ expand w) x))
+    let m : p.to ≡ q.from = rw (h, k) at c.meets in
+    let x : q ≡ record { link = p.link; from = p.to; to = q.to; forward = true } = same_piece q p.link p.to q.to true (sym c.same_link) (sym m) refl k in
+    let y : p ≡ record { link = p.link; from = p.from; to = p.to; forward = true } = same_piece p p.link p.from p.to true refl refl refl h in
+    let j = joined_forward p.link p.from p.to q.to pf (let z : q.from < q.to = qf in omega arith) in
+    let P : Bool → Type 0 = λ f. expand (record { link = p.link; from = p.from; to = q.to; forward = f }) ≡ expand p ++ expand q in
+    subst P (sym h) (j ∙ sym (ap (λ (w : Piece). expand w ++ expand q) y ∙ ap (λ (w : Piece). expand (record { link = p.link; from = p.from; to = p.to; forward = true }) ++ expand w) x))
 
-pub joined_false : (p q : Piece) → p.forward ≡ false → Continues p q → IsFilled p → IsFilled q → expand (record { link = p.link; a = q.a; b = p.b; forward = p.forward }) ≡ expand p ++ expand q
+pub joined_false : (p q : Piece) → p.forward ≡ false → Continues p q → IsFilled p → IsFilled q → expand (record { link = p.link; from = q.from; to = p.to; forward = p.forward }) ≡ expand p ++ expand q
 joined_false p q h c pf qf =
     let k : q.forward ≡ false = sym c.same_direction ∙ h in
-    let m : q.b ≡ p.a = sym (rw (h, k) at c.meets) in
-    let x : q ≡ record { link = p.link; a = q.a; b = p.a; forward = false } = same_piece q p.link q.a p.a false (sym c.same_link) refl m k in
-    let y : p ≡ record { link = p.link; a = p.a; b = p.b; forward = false } = same_piece p p.link p.a p.b false refl refl refl h in
-    let j = joined_backward p.link q.a p.a p.b (let z : q.a < q.b = qf in omega arith) pf in
-    let P : Bool → Type 0 = λ f. expand (record { link = p.link; a = q.a; b = p.b; forward = f }) ≡ expand p ++ expand q in
-    subst P (sym h) (j ∙ sym (ap (λ (w : Piece). expand w ++ expand q) y ∙ ap (λ (w : Piece). expand (record { link = p.link; a = p.a; b = p.b; forward = false }) ++ expand w) x))
+    let m : q.to ≡ p.from = sym (rw (h, k) at c.meets) in
+    let x : q ≡ record { link = p.link; from = q.from; to = p.from; forward = false } = same_piece q p.link q.from p.from false (sym c.same_link) refl m k in
+    let y : p ≡ record { link = p.link; from = p.from; to = p.to; forward = false } = same_piece p p.link p.from p.to false refl refl refl h in
+    let j = joined_backward p.link q.from p.from p.to (let z : q.from < q.to = qf in omega arith) pf in
+    let P : Bool → Type 0 = λ f. expand (record { link = p.link; from = q.from; to = p.to; forward = f }) ≡ expand p ++ expand q in
+    subst P (sym h) (j ∙ sym (ap (λ (w : Piece). expand w ++ expand q) y ∙ ap (λ (w : Piece). expand (record { link = p.link; from = p.from; to = p.to; forward = false }) ++ expand w) x))
 
 -- the other way over one millimetre
 abbrev pub back : Ground → Ground
@@ -119,15 +119,15 @@ mirrored_place true a b k h = omega arith
 mirrored_place false a b k h = omega arith
 
 -- a piece run the other way
-pub expand_turned : (p : Piece) → expand (record { link = p.link; a = p.a; b = p.b; forward = not p.forward }) ≡ turned (expand p)
-expand_turned p = is_expanded (record { link = p.link; a = p.a; b = p.b; forward = not p.forward }) (turned (expand p)) (length-turned (expand p) ∙ length-expand p)
+pub expand_turned : (p : Piece) → expand (record { link = p.link; from = p.from; to = p.to; forward = not p.forward }) ≡ turned (expand p)
+expand_turned p = is_expanded (record { link = p.link; from = p.from; to = p.to; forward = not p.forward }) (turned (expand p)) (length-turned (expand p) ∙ length-expand p)
     (λ k d h.
-    let n : length (map back (expand p)) ≡ p.b - p.a = length-map (expand p) back ∙ length-expand p in
+    let n : length (map back (expand p)) ≡ p.to - p.from = length-map (expand p) back ∙ length-expand p in
     get_or-reverse (map back (expand p)) k d (omega arith)
     ∙ ap (λ (j : ℕ). get_or (map back (expand p)) (j - 1 - k) d) n
-    ∙ get_or-map back (expand p) (p.b - p.a - 1 - k) d d (omega (arith, length-expand p))
-    ∙ ap back (get_or-expand p (p.b - p.a - 1 - k) d (omega arith))
-    ∙ ap (at_mm p.link (not p.forward)) (mirrored_place p.forward p.a p.b k h))
+    ∙ get_or-map back (expand p) (p.to - p.from - 1 - k) d d (omega (arith, length-expand p))
+    ∙ ap back (get_or-expand p (p.to - p.from - 1 - k) d (omega arith))
+    ∙ ap (at_mm p.link (not p.forward)) (mirrored_place p.forward p.from p.to k h))
 
 pub slice_get-expand : (p : Piece) (i : ℕ) → i < piece_len p → slice_get (expand p) i ≡ Some (ground_of p i)
 slice_get-expand p i h =

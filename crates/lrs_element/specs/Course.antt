@@ -10,7 +10,7 @@ use Rattle.lrs_element.specs.Limits.{longest_route, most_pieces}
 
 -- the millimetres of a piece in the order in which it runs over them
 abbrev pub millimetres : Piece → List ℕ
-millimetres p = if p.forward then range_with_len p.a (p.b - p.a) else reverse (range_with_len p.a (p.b - p.a))
+millimetres p = if p.forward then range_with_len p.from (p.to - p.from) else reverse (range_with_len p.from (p.to - p.from))
 
 -- the expanded piece, one entry for each millimetre
 abbrev pub expand : Piece → List Ground
@@ -63,7 +63,7 @@ is_too_long course = nat_lt most_pieces (piece_count course) || nat_lt longest_r
 
 -- Each piece has a millimetre, and there are no more pieces than the course needs.
 pub record IsFewest (pieces : List Piece) : Type 0 where
-  pub filled : AllByRecursion (λ p. p.a < p.b) pieces
+  pub filled : AllByRecursion (λ p. p.from < p.to) pieces
   pub fewest : length pieces ≡ piece_count (course_of pieces)
 
 -- the piece is of no link
@@ -80,7 +80,7 @@ length_of links n = option_map_or (λ l. l.length) (find (λ l. nat_eq l.number 
 
 -- the piece has no millimetre, or goes past the end of its link
 abbrev pub is_bad_piece : List Link → Piece → Bool
-is_bad_piece links p = nat_le p.b p.a || nat_lt (length_of links p.link) p.b
+is_bad_piece links p = nat_le p.to p.from || nat_lt (length_of links p.link) p.to
 
 -- whether the two run over a millimetre of the link
 abbrev pub share_link : List Ground → List Ground → ℕ → Bool

@@ -6,22 +6,22 @@ use Rattle.lrs_element.specs.Course.{course_of}
 
 -- how many millimetres a piece has
 abbrev pub piece_len : Piece → ℕ
-piece_len p = p.b - p.a
+piece_len p = p.to - p.from
 
 -- the millimetre at a piece's place i
 abbrev pub ground_of : Piece → ℕ → Ground
-ground_of p i = record { link = p.link; mm = (if p.forward then p.a + i else p.b - 1 - i); forward = p.forward }
+ground_of p i = record { link = p.link; mm = (if p.forward then p.from + i else p.to - 1 - i); forward = p.forward }
 
 -- the piece has a millimetre
 abbrev pub IsFilled : Piece → Type 0
-IsFilled p = p.a < p.b
+IsFilled p = p.from < p.to
 
 -- the edges of a link where a piece begins and where it ends, in the direction in which it is run
 abbrev pub begin_of : Piece → ℕ
-begin_of p = if p.forward then p.a else p.b
+begin_of p = if p.forward then p.from else p.to
 
 abbrev pub end_of : Piece → ℕ
-end_of p = if p.forward then p.b else p.a
+end_of p = if p.forward then p.to else p.from
 
 -- the second piece goes on where the first one ends, on its link and in its direction
 pub record Continues (p q : Piece) : Type 0 where
@@ -49,12 +49,12 @@ pub record AreStarts (starts : List ℕ) (pieces : List Piece) : Type 0 where
 
 -- two pieces that have a millimetre have one in common
 abbrev pub pieces_meet : Piece → Piece → Bool
-pieces_meet p q = nat_eq p.link q.link && nat_lt p.a q.b && nat_lt q.a p.b
+pieces_meet p q = nat_eq p.link q.link && nat_lt p.from q.to && nat_lt q.from p.to
 
 -- p is of a lower link than q, or of the same one and does not start behind it
 pub record IsInOrder (p q : Piece) : Type 0 where
   pub link : p.link ≤ q.link
-  pub start : p.link ≡ q.link → p.a ≤ q.a
+  pub start : p.link ≡ q.link → p.from ≤ q.from
 
 -- the lesser of two links, one of which may be missing
 abbrev pub lesser_link : Option ℕ → ℕ → ℕ

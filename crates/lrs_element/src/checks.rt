@@ -26,7 +26,7 @@ fn is_bad_piece<L: KnownLinks>(links: &L, piece: Piece) -> bool
     ensures { result ≡ is_bad_piece (L.links links.now) piece }
 {
     let length = links.link(piece.link).map_or(0, |link| link.length);
-    piece.b <= piece.a || length < piece.b
+    piece.to <= piece.from || length < piece.to
 }
 
 /// The first piece of no link.
@@ -64,7 +64,7 @@ fn sorted_by_start(alloc: Global, pieces: &[Piece]) -> Result<Vec<Piece>, AllocE
     ensures sorted { IfOk result (λ sorted. AllAdjacentBelow IsInOrder sorted.items (length sorted.items)) }
 {
     let mut sorted = Vec::from_slice(alloc, pieces)?;
-    sorted.sort_unstable_by_key(|piece| (piece.link, piece.a));
+    sorted.sort_unstable_by_key(|piece| (piece.link, piece.from));
     Ok(sorted)
 }
 

@@ -248,7 +248,7 @@ impl Course {
     pub fn covers(&self, piece: Piece) -> bool
         ensures { result ≡ meets (expand piece) self.now }
     {
-        piece.a < piece.b && one_meets(&self.pieces, piece)
+        piece.from < piece.to && one_meets(&self.pieces, piece)
     }
 
     /// The least link of which both courses run over one millimetre, whichever way each is run.

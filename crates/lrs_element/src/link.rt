@@ -13,12 +13,12 @@ pub struct Link {
     pub ghost limits: { IsTrue (is_link number length) },
 }
 
-/// The millimetres `a <= k < b` of a link, run forwards or backwards.
+/// The millimetres `from <= k < to` of a link, run forwards or backwards.
 #[derive(Clone, Copy, Debug, PartialEq, Eq)]
 pub struct Piece {
     pub link: u32,
-    pub a: u32,
-    pub b: u32,
+    pub from: u32,
+    pub to: u32,
     pub forward: bool,
 }
 
@@ -41,7 +41,7 @@ impl Piece {
         ensures len { result ≡ piece_len self }
         ensures small { result < 2 ^ 32 }
     {
-        (self.b - self.a) as u64
+        (self.to - self.from) as u64
     }
 
     /// The millimetre at the piece's place `i`.
@@ -53,9 +53,9 @@ impl Piece {
         Ground {
             link: self.link,
             mm: if self.forward {
-                self.a + i
+                self.from + i
             } else {
-                self.b - 1 - i
+                self.to - 1 - i
             },
             forward: self.forward,
         }
@@ -72,14 +72,14 @@ impl Piece {
         let to = to as u32;
         if self.forward {
             Piece {
-                a: self.a + from,
-                b: self.a + to,
+                from: self.from + from,
+                to: self.from + to,
                 ..self
             }
         } else {
             Piece {
-                a: self.b - to,
-                b: self.b - from,
+                from: self.to - to,
+                to: self.to - from,
                 ..self
             }
         }
@@ -92,9 +92,9 @@ impl Piece {
         self.link == next.link
             && self.forward == next.forward
             && if self.forward {
-                self.b == next.a
+                self.to == next.from
             } else {
-                next.b == self.a
+                next.to == self.from
             }
     }
 
@@ -107,9 +107,9 @@ impl Piece {
         ensures joined { expand result ≡ expand self ++ expand next }
     {
         if self.forward {
-            Piece { b: next.b, ..self }
+            Piece { to: next.to, ..self }
         } else {
-            Piece { a: next.a, ..self }
+            Piece { from: next.from, ..self }
         }
     }
 
@@ -117,7 +117,7 @@ impl Piece {
     pub(crate) fn meets(self, other: Piece) -> bool
         ensures { result ≡ pieces_meet self other }
     {
-        self.link == other.link && self.a < other.b && other.a < self.b
+        self.link == other.link && self.from < other.to && other.from < self.to
     }
 
     /// The piece run the other way.

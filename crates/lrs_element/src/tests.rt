@@ -3,21 +3,21 @@ use std::alloc::Global;
 use std::process::Abort;
 
 /// A forward piece.
-pub(super) fn ahead(link: u32, a: u32, b: u32) -> Piece {
+pub(super) fn ahead(link: u32, from: u32, to: u32) -> Piece {
     Piece {
         link,
-        a,
-        b,
+        from,
+        to,
         forward: true,
     }
 }
 
 /// A backward piece.
-fn back(link: u32, a: u32, b: u32) -> Piece {
+fn back(link: u32, from: u32, to: u32) -> Piece {
     Piece {
         link,
-        a,
-        b,
+        from,
+        to,
         forward: false,
     }
 }

@@ -10,7 +10,7 @@ use Rattle.lrs_events.specs.Places.{Place, same_link_side}
 
 -- whether a part has the place
 abbrev pub has_place : Part → Place → Bool
-has_place part p = nat_eq part.link p.link && nat_le part.lo p.mm && nat_lt p.mm part.hi && same_link_side part.side p.side
+has_place part p = nat_eq part.link p.link && nat_le part.from p.mm && nat_lt p.mm part.to && same_link_side part.side p.side
 
 -- whether it tells that this edit entered the place for the asset, or took it away
 abbrev pub has_pair : Part → ℕ → ℕ → Place → Bool
@@ -36,7 +36,7 @@ side_number Right = 1
 
 -- in the order of edit, asset, link, start and side
 abbrev pub part_key : Part → List ℕ
-part_key p = p.edit ∷ p.asset ∷ p.link ∷ p.lo ∷ side_number p.side ∷ []
+part_key p = p.edit ∷ p.asset ∷ p.link ∷ p.from ∷ side_number p.side ∷ []
 
 abbrev pub part_before : Part → Part → Bool
 part_before x y = is_lt (slice_cmp nat_cmp (part_key x) (part_key y))

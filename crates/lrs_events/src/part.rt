@@ -2,15 +2,15 @@
 
 use crate::side::LinkSide;
 
-/// The millimetres `lo <= k < hi` of a link on one side of it, which an edit entered for an asset or took
+/// The millimetres `from <= k < to` of a link on one side of it, which an edit entered for an asset or took
 /// away from it.
 #[derive(Clone, Copy, Debug, PartialEq, Eq)]
 pub struct Part {
     pub edit: u64,
     pub asset: u64,
     pub link: u32,
-    pub lo: u32,
-    pub hi: u32,
+    pub from: u32,
+    pub to: u32,
     pub side: LinkSide,
 }
 

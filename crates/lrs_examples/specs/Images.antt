@@ -44,7 +44,7 @@ use Rattle.lrs_examples.specs.Retiring.{superseded}
 
 -- the parts of links that edit 8 entered for asset 10
 abbrev pub part : ℕ → ℕ → ℕ → LinkSide → Part
-part link lo hi side = record { edit = 8; asset = 10; link = link; lo = lo; hi = hi; side = side }
+part link lo hi side = record { edit = 8; asset = 10; link = link; from = lo; to = hi; side = side }
 
 -- a part that was taken away, abandoned or retired
 abbrev pub gone_part : Bool → Part → Gone

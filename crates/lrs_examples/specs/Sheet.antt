@@ -98,10 +98,10 @@ class name kind = verb.Class (record { name = name; kind = kind })
 
 -- a piece that is run forwards, and one that is run backwards
 abbrev pub forth : ℕ → ℕ → ℕ → Piece
-forth link a b = record { link = link; a = a; b = b; forward = true }
+forth link a b = record { link = link; from = a; to = b; forward = true }
 
 abbrev pub back : ℕ → ℕ → ℕ → Piece
-back link a b = record { link = link; a = a; b = b; forward = false }
+back link a b = record { link = link; from = a; to = b; forward = false }
 
 -- a chainage and its measure
 abbrev pub mark : ℕ → ℕ → Mark

@@ -51,12 +51,12 @@ whole_parts old new parts p w = record {
 pub stays_whole : (old new : Stretches) → AreParts old new → StaysWhole old new
 stays_whole old new parts pieces w = each (IsWhole old) (IsWhole new) pieces (whole_parts old new parts) w
 
-pub whole_cut : (kept : Stretches) (p : Piece) → IsCut kept p.link p.a → IsCut kept p.link p.b → IsWhole kept p
+pub whole_cut : (kept : Stretches) (p : Piece) → IsCut kept p.link p.from → IsCut kept p.link p.to → IsWhole kept p
 whole_cut kept p front rear = record {
   begins = λ m a s h le lt b e. ⊎_elim
-      (λ (before : a < p.a). let n = front a s h before in absurd (omega arith))
-      (λ (ge : p.a ≤ a). ge)
-      (cases_lt a p.a);
+      (λ (before : a < p.from). let n = front a s h before in absurd (omega arith))
+      (λ (ge : p.from ≤ a). ge)
+      (cases_lt a p.from);
   ends = λ m a s h le lt b e. rear a s h (omega (arith, le, e));
 }
 

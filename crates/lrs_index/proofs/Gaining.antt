@@ -17,17 +17,17 @@ use Rattle.lrs_index.proofs.Putting.{put_here, put_there, put_which}
 
 module _ (old : Stretches) (route : Name) (p : Piece) where
   abbrev begin : Millimetre
-  begin = (p.link, p.a)
+  begin = (p.link, p.from)
 
   abbrev stretch : Stretch
-  stretch = record { end = p.b; route = route }
+  stretch = record { end = p.to; route = route }
 
   abbrev more : Stretches
   more = insert old begin stretch
 
   module _ (free : is_shared old (expand p) ≡ false) (filled : IsFilled p) (apart : AreApart old) where
     -- no millimetre of the piece is on a stretch
-    not_on : (m a : ℕ) (s : Stretch) → p.a ≤ m → m < p.b → get old (p.link, a) ≡ Some s → a ≤ m → m < s.end → ⊥
+    not_on : (m a : ℕ) (s : Stretch) → p.from ≤ m → m < p.to → get old (p.link, a) ≡ Some s → a ≤ m → m < s.end → ⊥
     not_on m a s h l is k j = both_ways _ free (some_millimetre (is_taken old) p m h l (taken_from old p.link m a s apart is k j))
 
     pub none_begins : get old begin ≡ None
@@ -35,12 +35,12 @@ module _ (old : Stretches) (route : Name) (p : Piece) where
       where
         by : (o : Option Stretch) → get old begin ≡ o → get old begin ≡ None
         by None e = e
-        by (Some s) e = absurd (not_on p.a p.a s (omega arith) filled e (omega arith) (apart.filled p.link p.a s e))
+        by (Some s) e = absurd (not_on p.from p.from s (omega arith) filled e (omega arith) (apart.filled p.link p.from s e))
 
     pub apart_more : AreApart more
     apart_more = record {
       filled = λ l a s h. ⊎_elim
-          (λ is. let e = ap (λ (q : Millimetre). q.1) is.0 in let f = ap (λ (t : Stretch). t.end) is.1 in let lt : p.a < p.b = filled in omega (arith, e, f, lt))
+          (λ is. let e = ap (λ (q : Millimetre). q.1) is.0 in let f = ap (λ (t : Stretch). t.end) is.1 in let lt : p.from < p.to = filled in omega (arith, e, f, lt))
           (λ was. apart.filled l a s was.1)
           (put_which old begin stretch (l, a) s h);
       apart = λ l a c s t h g lt. ⊎_elim
@@ -48,23 +48,23 @@ module _ (old : Stretches) (route : Name) (p : Piece) where
           (λ js. let e = ap (λ (q : Millimetre). q.1) is.0 in let f = ap (λ (q : Millimetre). q.1) js.0 in absurd (omega (arith, e, f, lt)))
           (λ was.
           let k : l ≡ p.link = ap (λ (q : Millimetre). q.0) is.0 in
-          let e : a ≡ p.a = ap (λ (q : Millimetre). q.1) is.0 in
-          let f : s.end ≡ p.b = ap (λ (x : Stretch). x.end) is.1 in
+          let e : a ≡ p.from = ap (λ (q : Millimetre). q.1) is.0 in
+          let f : s.end ≡ p.to = ap (λ (x : Stretch). x.end) is.1 in
           let g' : get old (p.link, c) ≡ Some t = ap (λ (n : ℕ). get old (n, c)) (sym k) ∙ was.1 in
           ⊎_elim
-          (λ (over : c < p.b). absurd (not_on c c t (omega (arith, e, lt)) over g' (omega arith) (apart.filled p.link c t g')))
-          (λ (ge : p.b ≤ c). omega (arith, f, ge))
-          (cases_lt c p.b))
+          (λ (over : c < p.to). absurd (not_on c c t (omega (arith, e, lt)) over g' (omega arith) (apart.filled p.link c t g')))
+          (λ (ge : p.to ≤ c). omega (arith, f, ge))
+          (cases_lt c p.to))
           (put_which old begin stretch (l, c) t g))
           (λ was. ⊎_elim
           (λ js.
           let k : l ≡ p.link = ap (λ (q : Millimetre). q.0) js.0 in
-          let e : c ≡ p.a = ap (λ (q : Millimetre). q.1) js.0 in
+          let e : c ≡ p.from = ap (λ (q : Millimetre). q.1) js.0 in
           let h' : get old (p.link, a) ≡ Some s = ap (λ (n : ℕ). get old (n, a)) (sym k) ∙ was.1 in
           ⊎_elim
-          (λ (over : p.a < s.end). absurd (not_on p.a a s (omega arith) filled h' (omega (arith, e, lt)) over))
-          (λ (le : s.end ≤ p.a). omega (arith, e, le))
-          (cases_lt p.a s.end))
+          (λ (over : p.from < s.end). absurd (not_on p.from a s (omega arith) filled h' (omega (arith, e, lt)) over))
+          (λ (le : s.end ≤ p.from). omega (arith, e, le))
+          (cases_lt p.from s.end))
           (λ wast. apart.apart l a c s t was.1 wast.1 lt)
           (put_which old begin stretch (l, c) t g))
           (put_which old begin stretch (l, a) s h);
@@ -74,7 +74,7 @@ module _ (old : Stretches) (route : Name) (p : Piece) where
     over_more l m = ⊎_elim
         (λ (t : runs_over (expand p) (l, m) ≡ true).
         let r = runs_over_gives p l m t in
-        over_stretch more l m p.a stretch apart_more (ap (λ (n : ℕ). get more (n, p.a)) (sym r.0) ∙ put_here old begin stretch) r.1 r.2
+        over_stretch more l m p.from stretch apart_more (ap (λ (n : ℕ). get more (n, p.from)) (sym r.0) ∙ put_here old begin stretch) r.1 r.2
         ∙ sym (ap (λ (b : Bool). if b then Some route else route_over old (l, m)) t))
         (λ (f : runs_over (expand p) (l, m) ≡ false).
         same_answer (route_over more (l, m)) (route_over old (l, m))

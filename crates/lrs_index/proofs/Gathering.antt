@@ -33,15 +33,15 @@ gained_none s route = record { over = λ m. refl; stretches = tt; begun = tt; ot
 module _ (route : Name) (a b c : Stretches) (xs ys : List Piece) (g : HasGained a b route xs) (h : HasGained b c route ys) where
   -- a stretch of the first ones stays
   stays : (p : Piece) → IsStretch b route p → IsStretch c route p
-  stays p s = h.others (p.link, p.a) (false_from_ne_true _ (λ t.
-      let q = passing (begins_at (p.link, p.a)) (λ p. get b (p.link, p.a) ≡ None) ys h.begun t in
-      absurd (cc (sym (ap (get b) (begins_where (p.link, p.a) q.it q.passes) ∙ q.holds) ∙ s)))) ∙ s
+  stays p s = h.others (p.link, p.from) (false_from_ne_true _ (λ t.
+      let q = passing (begins_at (p.link, p.from)) (λ p. get b (p.link, p.from) ≡ None) ys h.begun t in
+      absurd (cc (sym (ap (get b) (begins_where (p.link, p.from) q.it q.passes) ∙ q.holds) ∙ s)))) ∙ s
 
   -- and where a later one begins none began
-  none_before : (p : Piece) → get b (p.link, p.a) ≡ None → get a (p.link, p.a) ≡ None
-  none_before p n = sym (g.others (p.link, p.a) (false_from_ne_true _ (λ t.
-      let q = passing (begins_at (p.link, p.a)) (IsStretch b route) xs g.stretches t in
-      absurd (cc (sym (ap (get b) (begins_where (p.link, p.a) q.it q.passes) ∙ q.holds) ∙ n))))) ∙ n
+  none_before : (p : Piece) → get b (p.link, p.from) ≡ None → get a (p.link, p.from) ≡ None
+  none_before p n = sym (g.others (p.link, p.from) (false_from_ne_true _ (λ t.
+      let q = passing (begins_at (p.link, p.from)) (IsStretch b route) xs g.stretches t in
+      absurd (cc (sym (ap (get b) (begins_where (p.link, p.from) q.it q.passes) ∙ q.holds) ∙ n))))) ∙ n
 
   pub gained_both : HasGained a c route (xs ++ ys)
   gained_both = record {
@@ -51,7 +51,7 @@ module _ (route : Name) (a b c : Stretches) (xs ys : List Piece) (g : HasGained 
         ∙ or_other (runs_over (course_of xs) m) (runs_over (course_of ys) m) (Some route) (route_over a m)
         ∙ ap (λ (t : Bool). if t then Some route else route_over a m) (sym (runs_over-append xs ys m));
     stretches = both (IsStretch c route) xs ys (each (IsStretch b route) (IsStretch c route) xs stays g.stretches) h.stretches;
-    begun = both (λ p. get a (p.link, p.a) ≡ None) xs ys g.begun (each (λ p. get b (p.link, p.a) ≡ None) (λ p. get a (p.link, p.a) ≡ None) ys none_before h.begun);
+    begun = both (λ p. get a (p.link, p.from) ≡ None) xs ys g.begun (each (λ p. get b (p.link, p.from) ≡ None) (λ p. get a (p.link, p.from) ≡ None) ys none_before h.begun);
     others = λ q n. let o = or_parts (list_any (begins_at q) xs) (list_any (begins_at q) ys) (sym (list_any-append (begins_at q) xs ys) ∙ n) in h.others q o.1 ∙ g.others q o.0;
   }
 
@@ -94,14 +94,14 @@ module _ (old new : Stretches) (route : Name) (ps : List Piece) (g : HasGained o
         ends = λ m a s h le lt b e. w.ends m a s (was m a s h le lt b e) le lt b e;
       }
         where
-          was : (m a : ℕ) (s : Stretch) → get new (o.link, a) ≡ Some s → a ≤ m → m < s.end → o.a ≤ m → m < o.b → get old (o.link, a) ≡ Some s
+          was : (m a : ℕ) (s : Stretch) → get new (o.link, a) ≡ Some s → a ≤ m → m < s.end → o.from ≤ m → m < o.to → get old (o.link, a) ≡ Some s
           was m a s h le lt b e = sym (g.others (o.link, a) (false_from_ne_true _ (λ t.
               let q = passing (begins_at (o.link, a)) (IsStretch new route) ps g.stretches t in
               let i = begins_where (o.link, a) q.it q.passes in
-              let same : Some s ≡ Some (record { end = q.it.b; route = route }) = sym h ∙ ap (get new) i ∙ q.holds in
-              let is : ◌≡◌ {A = Stretch} s (record { end = q.it.b; route = route }) = cc same in
-              let f : s.end ≡ q.it.b = ap (λ (x : Stretch). x.end) is in
-              let c : a ≡ q.it.a = ap (λ (x : Millimetre). x.1) i in
+              let same : Some s ≡ Some (record { end = q.it.to; route = route }) = sym h ∙ ap (get new) i ∙ q.holds in
+              let is : ◌≡◌ {A = Stretch} s (record { end = q.it.to; route = route }) = cc same in
+              let f : s.end ≡ q.it.to = ap (λ (x : Stretch). x.end) is in
+              let c : a ≡ q.it.from = ap (λ (x : Millimetre). x.1) i in
               let r : runs_over (expand q.it) (o.link, m) ≡ true = runs_over_from q.it o.link m (sym (ap (λ (x : Millimetre). x.0) i)) (omega (arith, c, le)) (omega (arith, f, lt)) in
               let over : runs_over (course_of ps) (o.link, m) ≡ true = any_course (is_at (o.link, m)) ps ∙ list_any_at (λ p. runs_over (expand p) (o.link, m)) ps q.place q.it q.inside (ap (λ (x : Piece). runs_over (expand x) (o.link, m)) q.is ∙ r) in
               absurd (both_ways _ n (some_millimetre (runs_over (course_of ps)) o m b e over))))) ∙ h

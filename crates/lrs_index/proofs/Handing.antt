@@ -86,7 +86,7 @@ and_some : (o route : Option Name) (x : Name) → option_and o route ≡ Some x 
 and_some None route x h = absurd (cc h)
 and_some (Some y) route x h = (y, refl, h)
 
-module _ (old new : Stretches) (p : Piece) (route : Option Name) (h : IsHanded old new p.link p.a p.b route) where
+module _ (old new : Stretches) (p : Piece) (route : Option Name) (h : IsHanded old new p.link p.from p.to route) where
   -- what begins there began there before, and ended there
   was : (k x : ℕ) (t : Stretch) → get new (k, x) ≡ Some t → (s : Stretch) × (get old (k, x) ≡ Some s) × (t.end ≡ s.end)
   was k x t g = ⊎_elim
@@ -94,7 +94,7 @@ module _ (old new : Stretches) (p : Piece) (route : Option Name) (h : IsHanded o
       let e = handed_gives route (get old (p.link, x)) t (sym (h.within x inside.1 inside.2) ∙ ap (λ (n : ℕ). get new (n, x)) (sym inside.0) ∙ g) in
       (e.0, ap (λ (n : ℕ). get old (n, x)) inside.0 ∙ e.1, e.2))
       (λ outside. (t, sym (h.others k x outside) ∙ g, refl))
-      (within_or p.link p.a p.b k x)
+      (within_or p.link p.from p.to k x)
 
   pub parts_handed : AreParts old new
   parts_handed k x t g = let w = was k x t g in record { from = x; before = w.0; was = w.1; begins = omega arith; ends = omega (arith, w.2) }
@@ -106,7 +106,7 @@ module _ (old new : Stretches) (p : Piece) (route : Option Name) (h : IsHanded o
   }
 
   module _ (apart : AreApart old) (w : IsWhole old p) where
-    over_within : (m : ℕ) → p.a ≤ m → m < p.b → route_over new (p.link, m) ≡ option_and (route_over old (p.link, m)) route
+    over_within : (m : ℕ) → p.from ≤ m → m < p.to → route_over new (p.link, m) ≡ option_and (route_over old (p.link, m)) route
     over_within m ge lt = same_answer (route_over new (p.link, m)) (option_and (route_over old (p.link, m)) route)
         (λ r e.
         let o = over_gives new p.link m r e in
@@ -118,7 +118,7 @@ module _ (old new : Stretches) (p : Piece) (route : Option Name) (h : IsHanded o
         (λ outside.
         let g = sym (h.others p.link o.from outside) ∙ o.is in
         absurd (outside refl (w.begins m o.from o.stretch g o.begins o.ends ge lt) (omega (arith, o.begins, lt))))
-        (within_or p.link p.a p.b p.link o.from))
+        (within_or p.link p.from p.to p.link o.from))
         (λ r e.
         let u = and_some (route_over old (p.link, m)) route r e in
         let o = over_gives old p.link m u.0 u.1 in
@@ -129,13 +129,13 @@ module _ (old new : Stretches) (p : Piece) (route : Option Name) (h : IsHanded o
         o.begins o.ends)
 
     -- a stretch with a millimetre beside the piece does not begin within it
-    beside : (k m x : ℕ) (s : Stretch) → (k ≡ p.link → p.a ≤ m → m < p.b → ⊥) → get old (k, x) ≡ Some s → x ≤ m → m < s.end → k ≡ p.link → p.a ≤ x → x < p.b → ⊥
+    beside : (k m x : ℕ) (s : Stretch) → (k ≡ p.link → p.from ≤ m → m < p.to → ⊥) → get old (k, x) ≡ Some s → x ≤ m → m < s.end → k ≡ p.link → p.from ≤ x → x < p.to → ⊥
     beside k m x s outside g le lt e ge before =
         let f = apart.filled k x s g in
         let n = w.ends x x s (ap (λ (n : ℕ). get old (n, x)) (sym e) ∙ g) (omega arith) f ge before in
         outside e (omega (arith, ge, le)) (omega (arith, lt, n))
 
-    over_beside : (k m : ℕ) → (k ≡ p.link → p.a ≤ m → m < p.b → ⊥) → route_over new (k, m) ≡ route_over old (k, m)
+    over_beside : (k m : ℕ) → (k ≡ p.link → p.from ≤ m → m < p.to → ⊥) → route_over new (k, m) ≡ route_over old (k, m)
     over_beside k m outside = same_answer (route_over new (k, m)) (route_over old (k, m))
         (λ r e.
         let o = over_gives new k m r e in

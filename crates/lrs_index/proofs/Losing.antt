@@ -42,12 +42,12 @@ out_twice true false o = refl
 out_twice false true o = refl
 out_twice false false o = refl
 
-pub without_next : (old mid new : Stretches) (ps : List Piece) (i : ℕ) (p d : Piece) → i < length ps → p ≡ get_or ps i d → IsWithout old mid (take i ps) → new ≡ remove mid (p.link, p.a) → IsWithout old new (take (i + 1) ps)
+pub without_next : (old mid new : Stretches) (ps : List Piece) (i : ℕ) (p d : Piece) → i < length ps → p ≡ get_or ps i d → IsWithout old mid (take i ps) → new ≡ remove mid (p.link, p.from) → IsWithout old new (take (i + 1) ps)
 without_next old mid new ps i p d lt is h e = record {
   at = λ q.
       let one = begins_at q p in
       ap (λ (s : Stretches). get s q) e
-      ∙ get-remove total mid (p.link, p.a) q
+      ∙ get-remove total mid (p.link, p.from) q
       ∙ ap (λ (b : Bool). cond b None (get mid q)) (sym (begins_is q p))
       ∙ ap (cond one None) (h.at q)
       ∙ out_twice (list_any (begins_at q) (take i ps)) one (get old q)
@@ -61,7 +61,7 @@ without_all old new ps i le h = subst (IsWithout old new) (take_all i ps le) h
 pub undone : (before old new : Stretches) (route : Name) (ps : List Piece) → HasGained before old route ps → IsWithout old new ps → new ≡ before
 undone before old new route ps g out = same_map total exact new before (λ q. out.at q ∙ ⊎_elim
     (λ (t : list_any (begins_at q) ps ≡ true).
-    let p = passing (begins_at q) (λ p. get before (p.link, p.a) ≡ None) ps g.begun t in
+    let p = passing (begins_at q) (λ p. get before (p.link, p.from) ≡ None) ps g.begun t in
     ap (λ (b : Bool). cond b None (get old q)) t ∙ sym (ap (get before) (begins_where q p.it p.passes) ∙ p.holds))
     (λ (f : list_any (begins_at q) ps ≡ false). ap (λ (b : Bool). cond b None (get old q)) f ∙ g.others q f)
     (cases_Bool (list_any (begins_at q) ps)))

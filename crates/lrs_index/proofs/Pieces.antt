@@ -52,13 +52,13 @@ none_shared kept ps (Some i) e h = absurd (cc h)
 
 -- ---- where pieces begin
 
-pub begins_is : (q : Millimetre) (p : Piece) → begins_at q p ≡ eq_by_cmp millimetre_cmp q (p.link, p.a)
+pub begins_is : (q : Millimetre) (p : Piece) → begins_at q p ≡ eq_by_cmp millimetre_cmp q (p.link, p.from)
 begins_is q p = same_test _ _
-    (λ t. let u = and_parts _ _ t in ties q (p.link, p.a) (λ i. (sym (eqb-true p.link q.0 u.0) i, sym (eqb-true p.a q.1 u.1) i)))
-    (λ t. let e = tie q (p.link, p.a) t in and_from _ _ (eq-eqb _ _ (sym (ap (λ (x : Millimetre). x.0) e))) (eq-eqb _ _ (sym (ap (λ (x : Millimetre). x.1) e))))
+    (λ t. let u = and_parts _ _ t in ties q (p.link, p.from) (λ i. (sym (eqb-true p.link q.0 u.0) i, sym (eqb-true p.from q.1 u.1) i)))
+    (λ t. let e = tie q (p.link, p.from) t in and_from _ _ (eq-eqb _ _ (sym (ap (λ (x : Millimetre). x.0) e))) (eq-eqb _ _ (sym (ap (λ (x : Millimetre). x.1) e))))
 
-pub begins_where : (q : Millimetre) (p : Piece) → begins_at q p ≡ true → q ≡ (p.link, p.a)
-begins_where q p h = tie q (p.link, p.a) (sym (begins_is q p) ∙ h)
+pub begins_where : (q : Millimetre) (p : Piece) → begins_at q p ≡ true → q ≡ (p.link, p.from)
+begins_where q p h = tie q (p.link, p.from) (sym (begins_is q p) ∙ h)
 
 -- ---- no millimetre twice
 

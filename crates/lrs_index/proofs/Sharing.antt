@@ -35,24 +35,24 @@ module _ (t : Millimetre → Bool) (p : Piece) where
   abbrev on_ground : Ground → Bool
   on_ground g = t (g.link, g.mm)
 
-  pub some_millimetre : (m : ℕ) → p.a ≤ m → m < p.b → t (p.link, m) ≡ true → list_any on_ground (expand p) ≡ true
+  pub some_millimetre : (m : ℕ) → p.from ≤ m → m < p.to → t (p.link, m) ≡ true → list_any on_ground (expand p) ≡ true
   some_millimetre m h l e =
-      let i = place_in p.forward p.a p.b m h l in
+      let i = place_in p.forward p.from p.to m h l in
       let g : Ground = ground_of p i.0 in
       list_any_at on_ground (expand p) i.0 g (omega (arith, length-expand p, i.1)) (ap on_ground (get_or-expand p i.0 g i.1) ∙ ap (λ (k : ℕ). t (p.link, k)) i.2 ∙ e)
 
-  pub which_millimetre : list_any on_ground (expand p) ≡ true → (m : ℕ) × (p.a ≤ m) × (m < p.b) × (t (p.link, m) ≡ true)
+  pub which_millimetre : list_any on_ground (expand p) ≡ true → (m : ℕ) × (p.from ≤ m) × (m < p.to) × (t (p.link, m) ≡ true)
   which_millimetre h =
       let a = Any-from_list_any on_ground (expand p) h in
       let i : a.0 < piece_len p = omega (arith, length-expand p, a.2) in
       let s : a.1 ≡ ground_of p a.0 = sym a.3 ∙ get_or-expand p a.0 a.1 i in
-      let b = within p.forward p.a p.b a.0 a.1.mm i (ap (λ (g : Ground). g.mm) s) in
+      let b = within p.forward p.from p.to a.0 a.1.mm i (ap (λ (g : Ground). g.mm) s) in
       (a.1.mm, b.0, b.1, ap (λ (l : ℕ). t (l, a.1.mm)) (sym (ap (λ (g : Ground). g.link) s)) ∙ a.4)
 
-pub runs_over_from : (p : Piece) (l m : ℕ) → p.link ≡ l → p.a ≤ m → m < p.b → runs_over (expand p) (l, m) ≡ true
+pub runs_over_from : (p : Piece) (l m : ℕ) → p.link ≡ l → p.from ≤ m → m < p.to → runs_over (expand p) (l, m) ≡ true
 runs_over_from p l m e h k = some_millimetre (λ x. nat_eq x.0 l && nat_eq x.1 m) p m h k (and_from _ _ (eq-eqb _ _ e) (eq-eqb m m refl))
 
-pub runs_over_gives : (p : Piece) (l m : ℕ) → runs_over (expand p) (l, m) ≡ true → (p.link ≡ l) × (p.a ≤ m) × (m < p.b)
+pub runs_over_gives : (p : Piece) (l m : ℕ) → runs_over (expand p) (l, m) ≡ true → (p.link ≡ l) × (p.from ≤ m) × (m < p.to)
 runs_over_gives p l m h =
     let w = which_millimetre (λ x. nat_eq x.0 l && nat_eq x.1 m) p h in
     let t = and_parts _ _ w.3 in
@@ -72,24 +72,24 @@ taken_from kept l m a s apart is le lt = ap is_some (over_stretch kept l m a s a
 
 -- ---- a piece and the last stretch that begins before its end
 
-pub shares_none : (kept : Stretches) (p : Piece) → IsFirst kept p.link p.b → is_shared kept (expand p) ≡ false
+pub shares_none : (kept : Stretches) (p : Piece) → IsFirst kept p.link p.to → is_shared kept (expand p) ≡ false
 shares_none kept p h = false_from_ne_true _ (λ t.
     let w = which_millimetre (is_taken kept) p t in
     let o = taken_by kept p.link w.0 w.3 in
     absurd (cc (sym (h o.1.from (omega (arith, o.1.begins, w.2))) ∙ o.1.is)))
 
-pub shares_last : (kept : Stretches) (p : Piece) (a : ℕ) (s : Stretch) → AreApart kept → IsLast kept p.link p.b a s → p.a < p.b → nat_lt p.a s.end ≡ is_shared kept (expand p)
+pub shares_last : (kept : Stretches) (p : Piece) (a : ℕ) (s : Stretch) → AreApart kept → IsLast kept p.link p.to a s → p.from < p.to → nat_lt p.from s.end ≡ is_shared kept (expand p)
 shares_last kept p a s apart last filled = same_test _ _
     (λ t.
-    let lt : p.a < s.end = ltb-true _ _ t in
+    let lt : p.from < s.end = ltb-true _ _ t in
     let f = apart.filled p.link a s last.stretch in
     let before = last.before in
-    let m : ℕ = max p.a a in
+    let m : ℕ = max p.from a in
     some_millimetre (is_taken kept) p m (omega arith) (omega arith) (taken_from kept p.link m a s apart last.stretch (omega arith) (omega arith)))
     (λ t.
     let w = which_millimetre (is_taken kept) p t in
     let o = (taken_by kept p.link w.0 w.3).1 in
-    let n = no_later kept p.link p.b a o.from s o.stretch apart last o.is (omega (arith, o.begins, w.2)) in
+    let n = no_later kept p.link p.to a o.from s o.stretch apart last o.is (omega (arith, o.begins, w.2)) in
     lt-ltb _ _ (omega (arith, o.ends, w.1, n)))
 
 -- ---- courses that share no ground

@@ -48,23 +48,23 @@ is_run_once course = each_two (λ g h. not (is_at (g.link, g.mm) h)) course
 
 -- the piece is a stretch of its own, for the route
 abbrev pub IsStretch : Stretches → Name → Piece → Type 0
-IsStretch kept route p = get kept (p.link, p.a) ≡ Some (record { end = p.b; route = route })
+IsStretch kept route p = get kept (p.link, p.from) ≡ Some (record { end = p.to; route = route })
 
 -- whether the piece begins at the millimetre, seen along its link
 abbrev pub begins_at : Millimetre → Piece → Bool
-begins_at m p = is_at m (record { link = p.link; mm = p.a; forward = p.forward })
+begins_at m p = is_at m (record { link = p.link; mm = p.from; forward = p.forward })
 
 -- The route has gained the ground of the pieces, each as a stretch of its own.
 pub record HasGained (old new : Stretches) (route : Name) (pieces : List Piece) : Type 0 where
   pub over : (m : Millimetre) → route_over new m ≡ (if runs_over (course_of pieces) m then Some route else route_over old m)
   pub stretches : AllByRecursion (IsStretch new route) pieces
-  pub begun : AllByRecursion (λ p. get old (p.link, p.a) ≡ None) pieces
+  pub begun : AllByRecursion (λ p. get old (p.link, p.from) ≡ None) pieces
   pub others : (m : Millimetre) → list_any (begins_at m) pieces ≡ false → get new m ≡ get old m
 
 -- A stretch that has a millimetre of the piece lies within it.
 pub record IsWhole (kept : Stretches) (p : Piece) : Type 0 where
-  pub begins : (m a : ℕ) (s : Stretch) → get kept (p.link, a) ≡ Some s → a ≤ m → m < s.end → p.a ≤ m → m < p.b → p.a ≤ a
-  pub ends : (m a : ℕ) (s : Stretch) → get kept (p.link, a) ≡ Some s → a ≤ m → m < s.end → p.a ≤ m → m < p.b → s.end ≤ p.b
+  pub begins : (m a : ℕ) (s : Stretch) → get kept (p.link, a) ≡ Some s → a ≤ m → m < s.end → p.from ≤ m → m < p.to → p.from ≤ a
+  pub ends : (m a : ℕ) (s : Stretch) → get kept (p.link, a) ≡ Some s → a ≤ m → m < s.end → p.from ≤ m → m < p.to → s.end ≤ p.to
 
 -- No stretch crosses an edge of a piece: it lies wholly within the piece or wholly outside it.
 abbrev pub AreWhole : Stretches → List Piece → Type 0

@@ -99,8 +99,8 @@ impl GroundIndex {
     pub fn shares(&self, piece: &Piece) -> bool
         ensures { result ≡ is_shared self.now (expand piece.now) }
     {
-        match self.last_before(piece.link, piece.b) {
-            Some((_, stretch)) => piece.a < piece.b && piece.a < stretch.end,
+        match self.last_before(piece.link, piece.to) {
+            Some((_, stretch)) => piece.from < piece.to && piece.from < stretch.end,
             None => false,
         }
     }
@@ -194,8 +194,8 @@ impl GroundIndex {
     {
         // The stretches are apart.
         let _ = &self.stretches;
-        let end = piece.b;
-        self.put(piece.link, piece.a, Stretch { end, route })?;
+        let end = piece.to;
+        self.put(piece.link, piece.from, Stretch { end, route })?;
         Ok(())
     }
 
@@ -230,7 +230,7 @@ impl GroundIndex {
         ensures { (before : Stretches) → (route : Name) → HasGained before self.old route pieces.now → self.new ≡ before }
     {
         for piece in pieces {
-            self.remove(piece.link, piece.a);
+            self.remove(piece.link, piece.from);
         }
     }
 
@@ -256,8 +256,8 @@ impl GroundIndex {
         ensures whole { OnOk result (IsWhole self.new piece.now) }
         ensures others { StaysWhole self.old self.new }
     {
-        self.cut(piece.link, piece.a)?;
-        self.cut(piece.link, piece.b)?;
+        self.cut(piece.link, piece.from)?;
+        self.cut(piece.link, piece.to)?;
         Ok(())
     }
 
@@ -298,8 +298,8 @@ impl GroundIndex {
     {
         // The stretches are apart.
         let _ = &self.stretches;
-        let mut edge = piece.b;
-        while let Some((begin, stretch)) = self.last_within(piece.link, piece.a, edge) {
+        let mut edge = piece.to;
+        while let Some((begin, stretch)) = self.last_within(piece.link, piece.from, edge) {
             self.change(piece.link, begin, stretch, heir);
             edge = begin;
         }

@@ -11,21 +11,21 @@ use lrs_position::RouteName;
 use std::process::Abort;
 
 /// A piece that is run forwards.
-fn ahead(link: u32, a: u32, b: u32) -> Piece {
+fn ahead(link: u32, from: u32, to: u32) -> Piece {
     Piece {
         link,
-        a,
-        b,
+        from,
+        to,
         forward: true,
     }
 }
 
 /// A piece that is run backwards.
-fn back(link: u32, a: u32, b: u32) -> Piece {
+fn back(link: u32, from: u32, to: u32) -> Piece {
     Piece {
         link,
-        a,
-        b,
+        from,
+        to,
         forward: false,
     }
 }
@@ -46,14 +46,14 @@ fn adds_all(index: &mut GroundIndex, route: RouteName, pieces: &[Piece]) -> bool
 const FIRST: [Piece; 2] = [
     Piece {
         link: 3,
-        a: 0,
-        b: 20,
+        from: 0,
+        to: 20,
         forward: true,
     },
     Piece {
         link: 7,
-        a: 3,
-        b: 9,
+        from: 3,
+        to: 9,
         forward: false,
     },
 ];
@@ -61,14 +61,14 @@ const FIRST: [Piece; 2] = [
 const SECOND: [Piece; 2] = [
     Piece {
         link: 7,
-        a: 0,
-        b: 3,
+        from: 0,
+        to: 3,
         forward: false,
     },
     Piece {
         link: 3,
-        a: 20,
-        b: 21,
+        from: 20,
+        to: 21,
         forward: true,
     },
 ];

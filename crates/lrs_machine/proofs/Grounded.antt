@@ -131,12 +131,12 @@ on_piece s p good = all_places (on s.links) (expand p) (λ j d lt.
     let inside : j < piece_len p = omega (arith, lt, length-expand p) in
     ap (on s.links) (get_or-expand p j d inside) ∙ at p.forward j inside)
   where
-    high : p.b ≤ length_of_link s p.link
-    high = ltb-false (length_of_link s p.link) p.b (or_parts (nat_le p.b p.a) (nat_lt (length_of_link s p.link) p.b) good).1
+    high : p.to ≤ length_of_link s p.link
+    high = ltb-false (length_of_link s p.link) p.to (or_parts (nat_le p.to p.from) (nat_lt (length_of_link s p.link) p.to) good).1
 
-    at : (f : Bool) (j : ℕ) → j < p.b - p.a → nat_lt (cond f (p.a + j) (p.b - 1 - j)) (length_of_link s p.link) ≡ true
-    at true j lt = lt-ltb (p.a + j) (length_of_link s p.link) (omega (arith, lt, high))
-    at false j lt = lt-ltb (p.b - 1 - j) (length_of_link s p.link) (omega (arith, lt, high))
+    at : (f : Bool) (j : ℕ) → j < p.to - p.from → nat_lt (cond f (p.from + j) (p.to - 1 - j)) (length_of_link s p.link) ≡ true
+    at true j lt = lt-ltb (p.from + j) (length_of_link s p.link) (omega (arith, lt, high))
+    at false j lt = lt-ltb (p.to - 1 - j) (length_of_link s p.link) (omega (arith, lt, high))
 
 on_course : (s : State) (pieces : List Piece) → list_all (λ p. not (is_bad_piece s p)) pieces ≡ true → list_all (on s.links) (course_of pieces) ≡ true
 on_course s [] h = refl

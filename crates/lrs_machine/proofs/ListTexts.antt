@@ -18,16 +18,16 @@ use Rattle.lrs_machine.proofs.Decimals.{IsSmall, small_below, small_from_to, lac
 -- the numbers of a piece
 record IsSmallPiece (p : Piece) : Type 0 where
   link : IsSmall p.link
-  a : IsSmall p.a
-  b : IsSmall p.b
+  from : IsSmall p.from
+  to : IsSmall p.to
 
 -- the numbers of an entered piece are small
 piece_entered : (p : Piece) → is_entered_piece p ≡ true → IsSmallPiece p
 piece_entered p h =
-    let outer = and_parts (is_link_number p.link && nat_le p.a longest_link) (nat_le p.b longest_link) h in
-    let inner = and_parts (is_link_number p.link) (nat_le p.a longest_link) outer.0 in
+    let outer = and_parts (is_link_number p.link && nat_le p.from longest_link) (nat_le p.to longest_link) h in
+    let inner = and_parts (is_link_number p.link) (nat_le p.from longest_link) outer.0 in
     let limit : IsSmall longest_link = record { bound = omega arith } in
-    record { link = small_from_to 1 999_999 p.link inner.0 (record { bound = omega arith }); a = small_below longest_link p.a inner.1 limit; b = small_below longest_link p.b outer.1 limit }
+    record { link = small_from_to 1 999_999 p.link inner.0 (record { bound = omega arith }); from = small_below longest_link p.from inner.1 limit; to = small_below longest_link p.to outer.1 limit }
 
 -- the direction of a piece
 abbrev direction_text : Bool → Text
@@ -47,24 +47,24 @@ lacks-direction c false plus minus = and_from (is_other c 45) true minus refl
 
 -- the parts of a piece's text lack a byte that is neither a digit nor a sign
 lacks-piece_parts : (c : ℕ) (p : Piece) → IsSmallPiece p → is_ascii_digit c ≡ false → is_other c 43 ≡ true → is_other c 45 ≡ true
-    → AllLack c (decimal p.link ∷ decimal p.a ∷ decimal p.b ∷ direction_text p.forward ∷ [])
+    → AllLack c (decimal p.link ∷ decimal p.from ∷ decimal p.to ∷ direction_text p.forward ∷ [])
 lacks-piece_parts c p small u plus minus =
-    (lacks-decimal c p.link u small.link, (lacks-decimal c p.a u small.a, (lacks-decimal c p.b u small.b, (lacks-direction c p.forward plus minus, tt))))
+    (lacks-decimal c p.link u small.link, (lacks-decimal c p.from u small.from, (lacks-decimal c p.to u small.to, (lacks-direction c p.forward plus minus, tt))))
 
 -- pieces of equal parts are equal
-pieces_alike : (p q : Piece) → p.link ≡ q.link → p.a ≡ q.a → p.b ≡ q.b → p.forward ≡ q.forward → p ≡ q
-pieces_alike p q link a b forward = λ i. record { link = link i; a = a i; b = b i; forward = forward i }
+pieces_alike : (p q : Piece) → p.link ≡ q.link → p.from ≡ q.from → p.to ≡ q.to → p.forward ≡ q.forward → p ≡ q
+pieces_alike p q link a b forward = λ i. record { link = link i; from = a i; to = b i; forward = forward i }
 
 -- equal texts come only of equal pieces
 piece_apart : (p q : Piece) → IsSmallPiece p → IsSmallPiece q → piece_text p ≡ piece_text q → p ≡ q
 piece_apart p q g h e =
-    let same = joined_apart 58 (decimal p.link) (decimal q.link) (decimal p.a ∷ decimal p.b ∷ direction_text p.forward ∷ []) (decimal q.a ∷ decimal q.b ∷ direction_text q.forward ∷ []) refl
+    let same = joined_apart 58 (decimal p.link) (decimal q.link) (decimal p.from ∷ decimal p.to ∷ direction_text p.forward ∷ []) (decimal q.from ∷ decimal q.to ∷ direction_text q.forward ∷ []) refl
     (lacks-piece_parts 58 p g refl refl refl) (lacks-piece_parts 58 q h refl refl refl) e in
     let link : decimal p.link ≡ decimal q.link = cc in
-    let a : decimal p.a ≡ decimal q.a = cc in
-    let b : decimal p.b ≡ decimal q.b = cc in
+    let a : decimal p.from ≡ decimal q.from = cc in
+    let b : decimal p.to ≡ decimal q.to = cc in
     let forward : direction_text p.forward ≡ direction_text q.forward = cc in
-    pieces_alike p q (decimals_apart p.link q.link g.link h.link link) (decimals_apart p.a q.a g.a h.a a) (decimals_apart p.b q.b g.b h.b b) (directions_apart p.forward q.forward forward)
+    pieces_alike p q (decimals_apart p.link q.link g.link h.link link) (decimals_apart p.from q.from g.from h.from a) (decimals_apart p.to q.to g.to h.to b) (directions_apart p.forward q.forward forward)
 
 -- and so piece by piece
 each_piece_apart : (ps qs : List Piece) → list_all is_entered_piece ps ≡ true → list_all is_entered_piece qs ≡ true → map piece_text ps ≡ map piece_text qs → ps ≡ qs
@@ -82,7 +82,7 @@ each_piece_apart (p ∷ ps) (q ∷ qs) g h e =
 
 -- a piece's text lacks what is neither a digit nor a sign nor a colon
 lacks-piece : (c : ℕ) (p : Piece) → is_entered_piece p ≡ true → is_ascii_digit c ≡ false → is_other c 43 ≡ true → is_other c 45 ≡ true → is_other c 58 ≡ true → Lacks c (piece_text p)
-lacks-piece c p h u plus minus colon = lacks-joined c 58 (decimal p.link ∷ decimal p.a ∷ decimal p.b ∷ direction_text p.forward ∷ []) colon (lacks-piece_parts c p (piece_entered p h) u plus minus)
+lacks-piece c p h u plus minus colon = lacks-joined c 58 (decimal p.link ∷ decimal p.from ∷ decimal p.to ∷ direction_text p.forward ∷ []) colon (lacks-piece_parts c p (piece_entered p h) u plus minus)
 
 -- and so each text of a list of pieces
 lacks-each_piece : (c : ℕ) (ps : List Piece) → list_all is_entered_piece ps ≡ true → is_ascii_digit c ≡ false → is_other c 43 ≡ true → is_other c 45 ≡ true → is_other c 58 ≡ true → AllLack c (map piece_text ps)
@@ -113,7 +113,7 @@ lacks-pieces ps h = lacks-joined 44 32 (map piece_text ps) refl (lacks-each_piec
 -- pieces are not an empty text
 pieces_not_empty : (ps : List Piece) → are_entered_pieces ps ≡ true → pieces_text ps ≡ [] → ⊥
 pieces_not_empty [] h e = false≢true h
-pieces_not_empty (p ∷ []) h e = not_empty 58 (decimal p.link) (join_with_byte 58 (decimal p.a ∷ decimal p.b ∷ direction_text p.forward ∷ [])) e
+pieces_not_empty (p ∷ []) h e = not_empty 58 (decimal p.link) (join_with_byte 58 (decimal p.from ∷ decimal p.to ∷ direction_text p.forward ∷ [])) e
 pieces_not_empty (p ∷ q ∷ ps) h e = not_empty 32 (piece_text p) (pieces_text (q ∷ ps)) e
 
 -- equal texts come only of equal pieces, and an empty one only of none

@@ -47,8 +47,8 @@ is_same_reason Abandoned = refl
 pub record HasPlace (part : Part) (a : ℕ) (p : Place) : Type 0 where
   pub of_asset : part.asset ≡ a
   pub on_link : part.link ≡ p.link
-  pub low : part.lo ≤ p.mm
-  pub high : p.mm < part.hi
+  pub low : part.from ≤ p.mm
+  pub high : p.mm < part.to
   pub on_side : part.side ≡ p.side
 
 pub place_had : (part : Part) (a : ℕ) (p : Place) → (nat_eq part.asset a && has_place part p) ≡ true → HasPlace part a p
@@ -70,11 +70,11 @@ apart x y a p h k l = by (or_cases _ _ h)
     alike : (nat_eq x.asset y.asset && nat_eq x.link y.link && same_link_side x.side y.side) ≡ true
     alike = and_from _ _ (and_from _ _ (eq-eqb _ _ (k.of_asset ∙ sym l.of_asset)) (eq-eqb _ _ (k.on_link ∙ sym l.on_link))) (is_same_side _ _ (k.on_side ∙ sym l.on_side))
 
-    first : (not (nat_eq x.asset y.asset && nat_eq x.link y.link && same_link_side x.side y.side) ≡ true) ⊎ (nat_le x.hi y.lo ≡ true) → ⊥
+    first : (not (nat_eq x.asset y.asset && nat_eq x.link y.link && same_link_side x.side y.side) ≡ true) ⊎ (nat_le x.to y.from ≡ true) → ⊥
     first (inl other) = both_ways _ (not-true _ other) alike
     first (inr e) = let o = leb-true _ _ e in omega arith
 
-    by : ((not (nat_eq x.asset y.asset && nat_eq x.link y.link && same_link_side x.side y.side) || nat_le x.hi y.lo) ≡ true) ⊎ (nat_le y.hi x.lo ≡ true) → ⊥
+    by : ((not (nat_eq x.asset y.asset && nat_eq x.link y.link && same_link_side x.side y.side) || nat_le x.to y.from) ≡ true) ⊎ (nat_le y.to x.from ≡ true) → ⊥
     by (inl e) = first (or_cases _ _ e)
     by (inr e) = let o = leb-true _ _ e in omega arith
 
@@ -106,10 +106,10 @@ place_on links l p m e h =
 -- the places of a part lie on the links
 pub part_on : (links : List Link) (assets : List Asset) (part : Part) (a : ℕ) (p : Place) → is_part links assets part ≡ true → HasPlace part a p → In p (places_of links)
 part_on links assets part a p h k =
-    let of_link : Link → Bool = λ l. nat_eq l.number part.link && nat_le part.hi l.length in
+    let of_link : Link → Bool = λ l. nat_eq l.number part.link && nat_le part.to l.length in
     let of_asset : Asset → Bool = λ x. nat_eq x.number part.asset in
-    let tests = and_parts (nat_lt part.lo part.hi && list_any of_link links) (list_any of_asset assets) h in
-    let found = any_found of_link links (and_parts (nat_lt part.lo part.hi) (list_any of_link links) tests.0).1 in
+    let tests = and_parts (nat_lt part.from part.to && list_any of_link links) (list_any of_asset assets) h in
+    let found = any_found of_link links (and_parts (nat_lt part.from part.to) (list_any of_link links) tests.0).1 in
     let fits = and_parts _ _ found.2 in
     let within = leb-true _ _ fits.1 in
     place_on links found.0 p found.1 (eqb-true _ _ fits.0 ∙ k.on_link) (omega arith)

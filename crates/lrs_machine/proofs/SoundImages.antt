@@ -301,9 +301,9 @@ module _ (i : Image) (t : Tested i) where
   first_place : (x : Part) → is_part i.links i.assets x ≡ true → (p : Place) × (has_pair x x.edit x.asset p ≡ true)
   first_place x h =
       let some = ltb-true _ _ (and_parts _ _ (and_parts _ _ h).0).0 in (
-        record { link = x.link; mm = x.lo; side = x.side },
+        record { link = x.link; mm = x.from; side = x.side },
         and_from _ _ (and_from _ _ (eq-eqb x.edit x.edit refl) (eq-eqb x.asset x.asset refl))
-            (and_from _ _ (and_from _ _ (and_from _ _ (eq-eqb x.link x.link refl) (le-leb x.lo x.lo (omega arith))) (lt-ltb x.lo x.hi some)) (is_same_side x.side x.side refl)),
+            (and_from _ _ (and_from _ _ (and_from _ _ (eq-eqb x.link x.link refl) (le-leb x.from x.from (omega arith))) (lt-ltb x.from x.to some)) (is_same_side x.side x.side refl)),
       )
 
   was_entered : (a : ℕ) (x : state.Asset) → find nat_cmp a (map asset_entry i.assets) ≡ Some x → (p : Place) × (enters i x.entry a p ≡ true)
@@ -370,10 +370,10 @@ module _ (i : Image) (t : Tested i) where
   place_known m a p h =
       let r = entered_row m a p h in
       let x = r.0 in
-      let within = (and_parts (nat_lt x.lo x.hi) (list_any (λ l. nat_eq l.number x.link && nat_le x.hi l.length) i.links) (and_parts _ _ (all_at (is_part i.links i.assets) x i.entered t.entered.inside r.1)).0).1 in
-      let l = any_found (λ l. nat_eq l.number x.link && nat_le x.hi l.length) i.links within in
-      let fits = and_parts (nat_eq l.0.number x.link) (nat_le x.hi l.0.length) l.2 in
-      let high = leb-true x.hi l.0.length fits.1 in
+      let within = (and_parts (nat_lt x.from x.to) (list_any (λ l. nat_eq l.number x.link && nat_le x.to l.length) i.links) (and_parts _ _ (all_at (is_part i.links i.assets) x i.entered t.entered.inside r.1)).0).1 in
+      let l = any_found (λ l. nat_eq l.number x.link && nat_le x.to l.length) i.links within in
+      let fits = and_parts (nat_eq l.0.number x.link) (nat_le x.to l.0.length) l.2 in
+      let high = leb-true x.to l.0.length fits.1 in
       let below = r.3.high in
       known_ground p.link p.mm (any_of (λ l. nat_eq l.number p.link && nat_lt p.mm l.length) l.0 i.links l.1
       (and_from (nat_eq l.0.number p.link) (nat_lt p.mm l.0.length) (eq-eqb l.0.number p.link (eqb-true l.0.number x.link fits.0 ∙ r.3.on_link)) (lt-ltb p.mm l.0.length (omega (arith, high, below)))))

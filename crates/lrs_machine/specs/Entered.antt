@@ -19,7 +19,7 @@ is_lateral_offset n = nat_le n 100_000
 
 -- the number that a link can have, and ends that some link can have
 abbrev pub is_entered_piece : Piece → Bool
-is_entered_piece p = is_link_number p.link && nat_le p.a longest_link && nat_le p.b longest_link
+is_entered_piece p = is_link_number p.link && nat_le p.from longest_link && nat_le p.to longest_link
 
 abbrev pub are_entered_pieces : List Piece → Bool
 are_entered_pieces pieces = is_from_to 1 most_pieces (length pieces) && list_all is_entered_piece pieces

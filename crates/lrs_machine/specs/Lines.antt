@@ -26,7 +26,7 @@ abbrev pub parts : List Text → Text
 parts = join_with_byte 58
 
 abbrev pub piece_text : Piece → Text
-piece_text p = parts (decimal p.link ∷ decimal p.a ∷ decimal p.b ∷ (if p.forward then codes "+" else codes "-") ∷ [])
+piece_text p = parts (decimal p.link ∷ decimal p.from ∷ decimal p.to ∷ (if p.forward then codes "+" else codes "-") ∷ [])
 
 abbrev pub mark_text : Mark → Text
 mark_text m = parts (decimal m.chainage ∷ decimal m.measure ∷ [])

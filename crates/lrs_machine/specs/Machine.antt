@@ -73,7 +73,7 @@ located_chainage s a e = do
 
 -- the piece has no millimetre, or ends behind the end of its link
 abbrev pub is_bad_piece : State → Piece → Bool
-is_bad_piece s p = nat_le p.b p.a || nat_lt (length_of_link s p.link) p.b
+is_bad_piece s p = nat_le p.to p.from || nat_lt (length_of_link s p.link) p.to
 
 -- some route runs over a millimetre of the course
 abbrev pub is_taken : State → List Ground → Bool

@@ -129,21 +129,21 @@ are_spans links classes assets routes = list_all (are_spans_of assets) routes &&
 
 -- in the order of edit, reason, asset, link, start and side
 abbrev pub gone_key : Gone → List ℕ
-gone_key g = g.part.edit ∷ (if g.abandoned then 1 else 0) ∷ g.part.asset ∷ g.part.link ∷ g.part.lo ∷ side_number g.part.side ∷ []
+gone_key g = g.part.edit ∷ (if g.abandoned then 1 else 0) ∷ g.part.asset ∷ g.part.link ∷ g.part.from ∷ side_number g.part.side ∷ []
 
 abbrev pub gone_before : Gone → Gone → Bool
 gone_before x y = is_lt (slice_cmp nat_cmp (gone_key x) (gone_key y))
 
 abbrev pub is_part : List Link → List Asset → Part → Bool
-is_part links assets p = nat_lt p.lo p.hi && list_any (λ l. nat_eq l.number p.link && nat_le p.hi l.length) links && list_any (λ a. nat_eq a.number p.asset) assets
+is_part links assets p = nat_lt p.from p.to && list_any (λ l. nat_eq l.number p.link && nat_le p.to l.length) links && list_any (λ a. nat_eq a.number p.asset) assets
 
 -- two parts have no pair of asset and place in common
 abbrev pub share_nothing : Part → Part → Bool
-share_nothing x y = not (nat_eq x.asset y.asset && nat_eq x.link y.link && same_link_side x.side y.side) || nat_le x.hi y.lo || nat_le y.hi x.lo
+share_nothing x y = not (nat_eq x.asset y.asset && nat_eq x.link y.link && same_link_side x.side y.side) || nat_le x.to y.from || nat_le y.to x.from
 
 -- how many places of an asset the parts have
 abbrev pub pairs_of : ℕ → List Part → ℕ
-pairs_of asset parts = sum_by (λ p. if nat_eq p.asset asset then p.hi - p.lo else 0) parts
+pairs_of asset parts = sum_by (λ p. if nat_eq p.asset asset then p.to - p.from else 0) parts
 
 abbrev pub are_parts : List Link → List Asset → List Part → Bool
 are_parts links assets parts = list_all (is_part links assets) parts && each_two share_nothing parts && list_all (λ a. nat_le (pairs_of a.number parts) most_pairs) assets

@@ -18,7 +18,7 @@ fn is_link_number(number: u32) -> bool
 fn is_entered_piece(piece: &Piece) -> bool
     ensures { result ≡ Entered.is_entered_piece piece.now }
 {
-    is_link_number(piece.link) && piece.a <= 1_000_000_000 && piece.b <= 1_000_000_000
+    is_link_number(piece.link) && piece.from <= 1_000_000_000 && piece.to <= 1_000_000_000
 }
 
 fn each_is_entered(pieces: &[Piece]) -> bool

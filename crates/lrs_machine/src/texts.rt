@@ -72,9 +72,9 @@ pub fn value_text(value: &Value) -> &str
 fn piece_text(alloc: Global, piece: &Piece) -> Result<String, AllocError>
     ensures { IfOk result (λ text. string_bytes text ≡ Lines.piece_text piece.now) }
 {
-    let Piece { link, a, b, .. } = *piece;
+    let Piece { link, from, to, .. } = *piece;
     let direction = if piece.forward { "+" } else { "-" };
-    format!(in alloc; "{link}:{a}:{b}:{direction}")
+    format!(in alloc; "{link}:{from}:{to}:{direction}")
 }
 
 /// The pieces as words between spaces.

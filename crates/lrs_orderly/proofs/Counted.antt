@@ -60,18 +60,18 @@ module _ {X : Type 0} where
 
 -- the part is not empty, and within its link
 abbrev pub is_on_its_link : List Link → Part → Bool
-is_on_its_link links p = nat_lt p.lo p.hi && list_any (λ l. nat_eq l.number p.link && nat_le p.hi l.length) links
+is_on_its_link links p = nat_lt p.from p.to && list_any (λ l. nat_eq l.number p.link && nat_le p.to l.length) links
 
 -- whether a part on a link has the millimetre
 abbrev over_mm : Part → ℕ → ℕ → Bool
-over_mm x n k = (nat_eq x.link n && nat_le x.lo k) && nat_lt k x.hi
+over_mm x n k = (nat_eq x.link n && nat_le x.from k) && nat_lt k x.to
 
 -- the millimetres of the part, on a link
 by_link : (x : Part) (n len : ℕ) → count_by (has_place x) (places_of_link n len) ≡ count_by (over_mm x n) (range_with_len 0 len)
 by_link x n len = by_millimetre (has_place x) (over_mm x n) x.side n (λ k side. refl) (range_with_len 0 len)
 
 elsewhere_on : (x : Part) (n len : ℕ) → nat_eq x.link n ≡ false → count_by (has_place x) (places_of_link n len) ≡ 0
-elsewhere_on x n len h = by_link x n len ∙ ap (λ b. count_by (λ k. (b && nat_le x.lo k) && nat_lt k x.hi) (range_with_len 0 len)) h ∙ count-none (range_with_len 0 len)
+elsewhere_on x n len h = by_link x n len ∙ ap (λ b. count_by (λ k. (b && nat_le x.from k) && nat_lt k x.to) (range_with_len 0 len)) h ∙ count-none (range_with_len 0 len)
 
 within_mm : (lo hi s : ℕ) (m r : ℕ) → m ≡ min hi (s + 1 + r) - max lo (s + 1) → cond (nat_le lo s && nat_lt s hi) 1 0 + m ≡ min hi (s + (suc r)) - max lo s
 within_mm lo hi s m r e = by (cases_lt s lo) (cases_lt s hi)
@@ -81,15 +81,15 @@ within_mm lo hi s m r e = by (cases_lt s lo) (cases_lt s hi)
     by (inr a) (inl b) = (λ i. cond (le-leb lo s a i && lt-ltb s hi b i) 1 0 + m) ∙ omega (arith, a, b, e)
     by (inr a) (inr b) = (λ i. cond (le-leb lo s a i && le-ltb s hi b i) 1 0 + m) ∙ omega (arith, a, b, e)
 
-in_range : (x : Part) (n s len : ℕ) → nat_eq x.link n ≡ true → count_by (over_mm x n) (range_with_len s len) ≡ min x.hi (s + len) - max x.lo s
+in_range : (x : Part) (n s len : ℕ) → nat_eq x.link n ≡ true → count_by (over_mm x n) (range_with_len s len) ≡ min x.to (s + len) - max x.from s
 in_range x n s zero h = omega arith
 in_range x n s (suc len) h =
     let rest = range_with_len (s + 1) len in
     one_more (over_mm x n) s rest
-    ∙ ap (λ b. cond ((b && nat_le x.lo s) && nat_lt s x.hi) 1 0 + count_by (over_mm x n) rest) h
-    ∙ within_mm x.lo x.hi s (count_by (over_mm x n) rest) len (in_range x n (s + 1) len h)
+    ∙ ap (λ b. cond ((b && nat_le x.from s) && nat_lt s x.to) 1 0 + count_by (over_mm x n) rest) h
+    ∙ within_mm x.from x.to s (count_by (over_mm x n) rest) len (in_range x n (s + 1) len h)
 
-on_link : (x : Part) (n len : ℕ) → nat_eq x.link n ≡ true → count_by (has_place x) (places_of_link n len) ≡ min x.hi (0 + len) - max x.lo 0
+on_link : (x : Part) (n len : ℕ) → nat_eq x.link n ≡ true → count_by (has_place x) (places_of_link n len) ≡ min x.to (0 + len) - max x.from 0
 on_link x n len h = by_link x n len ∙ in_range x n 0 len h
 
 nowhere : (x : Part) (links : List Link) → ((k : Link) → In k links → nat_eq x.link k.number ≡ false) → count_by (has_place x) (places_of links) ≡ 0
@@ -101,9 +101,9 @@ nowhere x (k ∷ ks) w =
     omega (arith, a, b, c)
 
 abbrev holds_part : Part → Link → Bool
-holds_part x l = nat_eq l.number x.link && nat_le x.hi l.length
+holds_part x l = nat_eq l.number x.link && nat_le x.to l.length
 
-pub one_part : (x : Part) (links : List Link) → each_two link_before links ≡ true → list_any (holds_part x) links ≡ true → count_by (has_place x) (places_of links) ≡ x.hi - x.lo
+pub one_part : (x : Part) (links : List Link) → each_two link_before links ≡ true → list_any (holds_part x) links ≡ true → count_by (has_place x) (places_of links) ≡ x.to - x.from
 one_part x [] order h = absurd (false≢true h)
 one_part x (k ∷ ks) order h = by (cases_Bool (nat_eq x.link k.number)) (one_part x ks both.1)
   where
@@ -113,22 +113,22 @@ one_part x (k ∷ ks) order h = by (cases_Bool (nat_eq x.link k.number)) (one_pa
     all : count_by (has_place x) (places_of (k ∷ ks)) ≡ count_by (has_place x) (places_of_link k.number k.length) + count_by (has_place x) (places_of ks)
     all = count-append (has_place x) (places_of_link k.number k.length) (places_of ks)
 
-    by : (nat_eq x.link k.number ≡ true) ⊎ (nat_eq x.link k.number ≡ false) → (list_any (holds_part x) ks ≡ true → count_by (has_place x) (places_of ks) ≡ x.hi - x.lo)
-        → count_by (has_place x) (places_of (k ∷ ks)) ≡ x.hi - x.lo
+    by : (nat_eq x.link k.number ≡ true) ⊎ (nat_eq x.link k.number ≡ false) → (list_any (holds_part x) ks ≡ true → count_by (has_place x) (places_of ks) ≡ x.to - x.from)
+        → count_by (has_place x) (places_of (k ∷ ks)) ≡ x.to - x.from
     by (inl e) rest =
         let is = eqb-true x.link k.number e in
         let here = on_link x k.number k.length e in
         let none = nowhere x ks (λ l m. let less = ltb-true k.number l.number (all_at (link_before k) l ks both.0 m) in ne_eqb x.link l.number (λ same. omega (arith, less, same, is))) in
         fits here none (or_cases (holds_part x k) (list_any (holds_part x) ks) h)
       where
-        fits : count_by (has_place x) (places_of_link k.number k.length) ≡ min x.hi (0 + k.length) - max x.lo 0 → count_by (has_place x) (places_of ks) ≡ 0
-            → (holds_part x k ≡ true) ⊎ (list_any (holds_part x) ks ≡ true) → count_by (has_place x) (places_of (k ∷ ks)) ≡ x.hi - x.lo
-        fits here none (inl g) = let high = leb-true x.hi k.length (and_parts (nat_eq k.number x.link) (nat_le x.hi k.length) g).1 in omega (arith, all, here, none, high)
+        fits : count_by (has_place x) (places_of_link k.number k.length) ≡ min x.to (0 + k.length) - max x.from 0 → count_by (has_place x) (places_of ks) ≡ 0
+            → (holds_part x k ≡ true) ⊎ (list_any (holds_part x) ks ≡ true) → count_by (has_place x) (places_of (k ∷ ks)) ≡ x.to - x.from
+        fits here none (inl g) = let high = leb-true x.to k.length (and_parts (nat_eq k.number x.link) (nat_le x.to k.length) g).1 in omega (arith, all, here, none, high)
         fits here none (inr g) =
             let found = any_found (holds_part x) ks g in
             let l = found.0 in
             let less = ltb-true k.number l.number (all_at (link_before k) l ks both.0 found.1) in
-            let same = eqb-true l.number x.link (and_parts (nat_eq l.number x.link) (nat_le x.hi l.length) found.2).0 in
+            let same = eqb-true l.number x.link (and_parts (nat_eq l.number x.link) (nat_le x.to l.length) found.2).0 in
             let is = eqb-true x.link k.number e in
             absurd (omega (arith, less, same, is))
     by (inr e) rest =
@@ -138,7 +138,7 @@ one_part x (k ∷ ks) order h = by (cases_Bool (nat_eq x.link k.number)) (one_pa
       where
         elsewhere : (holds_part x k ≡ true) ⊎ (list_any (holds_part x) ks ≡ true) → list_any (holds_part x) ks ≡ true
         elsewhere (inl g) =
-            let same = eqb-true k.number x.link (and_parts (nat_eq k.number x.link) (nat_le x.hi k.length) g).0 in
+            let same = eqb-true k.number x.link (and_parts (nat_eq k.number x.link) (nat_le x.to k.length) g).0 in
             absurd (eqb-false x.link k.number e (sym same))
         elsewhere (inr g) = g
 
@@ -148,13 +148,13 @@ abbrev of_asset : ℕ → Part → Place → Bool
 of_asset a x p = nat_eq x.asset a && has_place x p
 
 abbrev size_for : ℕ → Part → ℕ
-size_for a x = if nat_eq x.asset a then x.hi - x.lo else 0
+size_for a x = if nat_eq x.asset a then x.to - x.from else 0
 
 one_of : (links : List Link) (a : ℕ) (x : Part) → each_two link_before links ≡ true → is_on_its_link links x ≡ true → count_by (of_asset a x) (places_of links) ≡ size_for a x
 one_of links a x order on = by (nat_eq x.asset a)
   where
-    by : (b : Bool) → count_by (λ p. b && has_place x p) (places_of links) ≡ cond b (x.hi - x.lo) 0
-    by true = one_part x links order (and_parts (nat_lt x.lo x.hi) (list_any (holds_part x) links) on).1
+    by : (b : Bool) → count_by (λ p. b && has_place x p) (places_of links) ≡ cond b (x.to - x.from) 0
+    by true = one_part x links order (and_parts (nat_lt x.from x.to) (list_any (holds_part x) links) on).1
     by false = count-none (places_of links)
 
 -- parts that share nothing have no place of an asset in common

@@ -44,12 +44,12 @@ abbrev place_at : Part → ℕ → Place
 place_at x mm = record { link = x.link; mm = mm; side = x.side }
 
 -- the part has the pair of its asset and each of its places, by its edit
-pub has_its_pair : (x : Part) (m a link : ℕ) (side : LinkSide) (mm : ℕ) → x.edit ≡ m → x.asset ≡ a → x.link ≡ link → x.side ≡ side → x.lo ≤ mm → mm < x.hi
+pub has_its_pair : (x : Part) (m a link : ℕ) (side : LinkSide) (mm : ℕ) → x.edit ≡ m → x.asset ≡ a → x.link ≡ link → x.side ≡ side → x.from ≤ mm → mm < x.to
     → has_pair x m a (record { link = link; mm = mm; side = side }) ≡ true
 has_its_pair x m a link side mm e f g h low high =
     let place =
-    and_from ((nat_eq x.link link && nat_le x.lo mm) && nat_lt mm x.hi) (same_link_side x.side side)
-    (and_from (nat_eq x.link link && nat_le x.lo mm) (nat_lt mm x.hi) (and_from (nat_eq x.link link) (nat_le x.lo mm) (eq-eqb x.link link g) (le-leb x.lo mm low)) (lt-ltb mm x.hi high))
+    and_from ((nat_eq x.link link && nat_le x.from mm) && nat_lt mm x.to) (same_link_side x.side side)
+    (and_from (nat_eq x.link link && nat_le x.from mm) (nat_lt mm x.to) (and_from (nat_eq x.link link) (nat_le x.from mm) (eq-eqb x.link link g) (le-leb x.from mm low)) (lt-ltb mm x.to high))
     (is_same_side x.side side h) in
     and_from (nat_eq x.edit m && nat_eq x.asset a) (has_place x (record { link = link; mm = mm; side = side }))
     (and_from (nat_eq x.edit m) (nat_eq x.asset a) (eq-eqb x.edit m e) (eq-eqb x.asset a f)) place
@@ -60,25 +60,25 @@ pub record Overlap (x y : Part) : Type 0 where
   pub link : x.link ≡ y.link
   pub side : x.side ≡ y.side
   pub mm : ℕ
-  pub after : x.lo ≤ mm
-  pub before : mm < x.hi
-  pub after_too : y.lo ≤ mm
-  pub before_too : mm < y.hi
+  pub after : x.from ≤ mm
+  pub before : mm < x.to
+  pub after_too : y.from ≤ mm
+  pub before_too : mm < y.to
 
-pub overlapping : (x y : Part) → x.lo < x.hi → y.lo < y.hi → share_nothing x y ≡ false → Overlap x y
+pub overlapping : (x y : Part) → x.from < x.to → y.from < y.to → share_nothing x y ≡ false → Overlap x y
 overlapping x y fx fy h =
     let alike = nat_eq x.asset y.asset && nat_eq x.link y.link && same_link_side x.side y.side in
-    let outer = or_parts (not alike || nat_le x.hi y.lo) (nat_le y.hi x.lo) h in
-    let inner = or_parts (not alike) (nat_le x.hi y.lo) outer.0 in
+    let outer = or_parts (not alike || nat_le x.to y.from) (nat_le y.to x.from) h in
+    let inner = or_parts (not alike) (nat_le x.to y.from) outer.0 in
     let same = and_parts (nat_eq x.asset y.asset && nat_eq x.link y.link) (same_link_side x.side y.side) (not-false alike inner.0) in
     let first = and_parts (nat_eq x.asset y.asset) (nat_eq x.link y.link) same.0 in
-    let yx : y.lo < x.hi = leb-false x.hi y.lo inner.1 in
-    let xy : x.lo < y.hi = leb-false y.hi x.lo outer.1 in
+    let yx : y.from < x.to = leb-false x.to y.from inner.1 in
+    let xy : x.from < y.to = leb-false y.to x.from outer.1 in
     record {
       asset = eqb-true x.asset y.asset first.0;
       link = eqb-true x.link y.link first.1;
       side = same_side_is x.side y.side same.1;
-      mm = max x.lo y.lo;
+      mm = max x.from y.from;
       after = omega arith;
       before = omega arith;
       after_too = omega arith;
@@ -110,12 +110,12 @@ link_row links n mm h = by (find nat_cmp n (map link_entry links)) refl h
         (found.0, found.1, sym (ap (λ (r : ℕ × ℕ). r.0) found.2), omega (arith, within, same))
 
 -- a part whose last millimetre is of a known link is within that link
-on_its_link : (links : List Link) (x : Part) → x.lo < x.hi → nat_lt (x.hi - 1) (unwrap_or (find nat_cmp x.link (map link_entry links)) 0) ≡ true → is_on_its_link links x ≡ true
+on_its_link : (links : List Link) (x : Part) → x.from < x.to → nat_lt (x.to - 1) (unwrap_or (find nat_cmp x.link (map link_entry links)) 0) ≡ true → is_on_its_link links x ≡ true
 on_its_link links x filled h =
-    let l = link_row links x.link (x.hi - 1) h in
+    let l = link_row links x.link (x.to - 1) h in
     let within = l.3 in
-    and_from (nat_lt x.lo x.hi) (list_any (λ k. nat_eq k.number x.link && nat_le x.hi k.length) links) (lt-ltb x.lo x.hi filled)
-    (any_of (λ k. nat_eq k.number x.link && nat_le x.hi k.length) l.0 links l.1 (and_from (nat_eq l.0.number x.link) (nat_le x.hi l.0.length) (eq-eqb l.0.number x.link l.2) (le-leb x.hi l.0.length (omega (arith, within, filled)))))
+    and_from (nat_lt x.from x.to) (list_any (λ k. nat_eq k.number x.link && nat_le x.to k.length) links) (lt-ltb x.from x.to filled)
+    (any_of (λ k. nat_eq k.number x.link && nat_le x.to k.length) l.0 links l.1 (and_from (nat_eq l.0.number x.link) (nat_le x.to l.0.length) (eq-eqb l.0.number x.link l.2) (le-leb x.to l.0.length (omega (arith, within, filled)))))
 
 -- a pair is balanced
 balance_from : (h e g : Bool) → (g ≡ true → e ≡ true) → (h ≡ true → e ≡ true) → (e ≡ true → (h ≡ true) ⊎ (g ≡ true)) → (h ≡ true → g ≡ true → ⊥)
@@ -201,39 +201,39 @@ module _ (i : Image) (o : IsOrderly i) (l : IsLawful (state_of i)) where
 
   -- ---- parts
 
-  has_own : (x : Part) (mm : ℕ) → x.lo ≤ mm → mm < x.hi → has_pair x x.edit x.asset (place_at x mm) ≡ true
+  has_own : (x : Part) (mm : ℕ) → x.from ≤ mm → mm < x.to → has_pair x x.edit x.asset (place_at x mm) ≡ true
   has_own x mm low high = has_its_pair x x.edit x.asset x.link x.side mm refl refl refl refl low high
 
-  own_pair : (x : Part) (mm : ℕ) → In x i.entered → x.lo ≤ mm → mm < x.hi → enters i x.edit x.asset (place_at x mm) ≡ true
+  own_pair : (x : Part) (mm : ℕ) → In x i.entered → x.from ≤ mm → mm < x.to → enters i x.edit x.asset (place_at x mm) ≡ true
   own_pair x mm m low high = any_of (λ part. has_pair part x.edit x.asset (place_at x mm)) x i.entered m (has_own x mm low high)
 
-  own_gone : (g : Gone) (mm : ℕ) → In g i.gone → g.part.lo ≤ mm → mm < g.part.hi → takes i g.part.edit (reason_of g) g.part.asset (place_at g.part mm) ≡ true
+  own_gone : (g : Gone) (mm : ℕ) → In g i.gone → g.part.from ≤ mm → mm < g.part.to → takes i g.part.edit (reason_of g) g.part.asset (place_at g.part mm) ≡ true
   own_gone g mm m low high =
       let x = g.part in
       any_of (takes_away x.edit (reason_of g) x.asset (place_at x mm)) g i.gone m
       (and_from (same_reason (reason_of g) (reason_of g)) (has_pair x x.edit x.asset (place_at x mm)) (is_same_reason (reason_of g)) (has_own x mm low high))
 
   -- a part is filled, so it has its first place and its last one
-  entered_filled : (x : Part) → In x i.entered → x.lo < x.hi
-  entered_filled x m = ltb-true x.lo x.hi (all_at is_filled x i.entered o.entered_filled m)
+  entered_filled : (x : Part) → In x i.entered → x.from < x.to
+  entered_filled x m = ltb-true x.from x.to (all_at is_filled x i.entered o.entered_filled m)
 
-  gone_filled : (g : Gone) → In g i.gone → g.part.lo < g.part.hi
-  gone_filled g m = ltb-true g.part.lo g.part.hi (all_at is_filled g.part (parts_of i.gone) o.gone_filled (In-map (λ g. g.part) g i.gone m))
+  gone_filled : (g : Gone) → In g i.gone → g.part.from < g.part.to
+  gone_filled g m = ltb-true g.part.from g.part.to (all_at is_filled g.part (parts_of i.gone) o.gone_filled (In-map (λ g. g.part) g i.gone m))
 
-  first_pair : (x : Part) → In x i.entered → enters i x.edit x.asset (place_at x x.lo) ≡ true
-  first_pair x m = let f = entered_filled x m in own_pair x x.lo m (omega arith) f
+  first_pair : (x : Part) → In x i.entered → enters i x.edit x.asset (place_at x x.from) ≡ true
+  first_pair x m = let f = entered_filled x m in own_pair x x.from m (omega arith) f
 
-  first_gone : (g : Gone) → In g i.gone → takes i g.part.edit (reason_of g) g.part.asset (place_at g.part g.part.lo) ≡ true
-  first_gone g m = let f = gone_filled g m in own_gone g g.part.lo m (omega arith) f
+  first_gone : (g : Gone) → In g i.gone → takes i g.part.edit (reason_of g) g.part.asset (place_at g.part g.part.from) ≡ true
+  first_gone g m = let f = gone_filled g m in own_gone g g.part.from m (omega arith) f
 
   entered_on : (x : Part) → In x i.entered → is_on_its_link i.links x ≡ true
-  entered_on x m = let f = entered_filled x m in on_its_link i.links x f (place_known x.edit x.asset (place_at x (x.hi - 1)) (own_pair x (x.hi - 1) m (omega (arith, f)) (omega (arith, f))))
+  entered_on x m = let f = entered_filled x m in on_its_link i.links x f (place_known x.edit x.asset (place_at x (x.to - 1)) (own_pair x (x.to - 1) m (omega (arith, f)) (omega (arith, f))))
 
   gone_on : (g : Gone) → In g i.gone → is_on_its_link i.links g.part ≡ true
   gone_on g m =
       let f = gone_filled g m in
-      let p = place_at g.part (g.part.hi - 1) in
-      let e = gone_entered g.part.edit g.part.asset (reason_of g) p (own_gone g (g.part.hi - 1) m (omega (arith, f)) (omega (arith, f))) in
+      let p = place_at g.part (g.part.to - 1) in
+      let e = gone_entered g.part.edit g.part.asset (reason_of g) p (own_gone g (g.part.to - 1) m (omega (arith, f)) (omega (arith, f))) in
       on_its_link i.links g.part f (place_known e.0 g.part.asset p e.1)
 
   all_entered_on : list_all (is_on_its_link i.links) i.entered ≡ true
@@ -245,15 +245,15 @@ module _ (i : Image) (o : IsOrderly i) (l : IsLawful (state_of i)) where
       ap (is_on_its_link i.links) found.2 ∙ gone_on found.0 found.1)
 
   is_entered_part : (x : Part) → In x i.entered → is_part i.links i.assets x ≡ true
-  is_entered_part x m = and_from (is_on_its_link i.links x) (list_any (λ a. nat_eq a.number x.asset) i.assets) (entered_on x m) (asset_known x.edit x.asset (place_at x x.lo) (first_pair x m))
+  is_entered_part x m = and_from (is_on_its_link i.links x) (list_any (λ a. nat_eq a.number x.asset) i.assets) (entered_on x m) (asset_known x.edit x.asset (place_at x x.from) (first_pair x m))
 
   is_gone_part : (x : Part) → In x (parts_of i.gone) → is_part i.links i.assets x ≡ true
   is_gone_part x m =
       let found = map_found (λ (g : Gone). g.part) x i.gone m in
       let g = found.0 in
-      let e = gone_entered g.part.edit g.part.asset (reason_of g) (place_at g.part g.part.lo) (first_gone g found.1) in
+      let e = gone_entered g.part.edit g.part.asset (reason_of g) (place_at g.part g.part.from) (first_gone g found.1) in
       ap (is_part i.links i.assets) found.2
-      ∙ and_from (is_on_its_link i.links g.part) (list_any (λ a. nat_eq a.number g.part.asset) i.assets) (gone_on g found.1) (asset_known e.0 g.part.asset (place_at g.part g.part.lo) e.1)
+      ∙ and_from (is_on_its_link i.links g.part) (list_any (λ a. nat_eq a.number g.part.asset) i.assets) (gone_on g found.1) (asset_known e.0 g.part.asset (place_at g.part g.part.from) e.1)
 
   entered_apart : each_two share_nothing i.entered ≡ true
   entered_apart = each_two_from share_nothing_in_an_edit share_nothing i.entered two o.entered_apart
@@ -357,18 +357,18 @@ module _ (i : Image) (o : IsOrderly i) (l : IsLawful (state_of i)) where
 
   entered_named : list_all (is_named_by i.edits) i.entered ≡ true
   entered_named = all_of (is_named_by i.edits) i.entered (λ x m.
-      named x (entered_done x.edit x.asset (place_at x x.lo) (first_pair x m)))
+      named x (entered_done x.edit x.asset (place_at x x.from) (first_pair x m)))
 
   gone_named : list_all (is_named_by i.edits) (parts_of i.gone) ≡ true
   gone_named = all_of (is_named_by i.edits) (parts_of i.gone) (λ x m.
       let found = map_found (λ (g : Gone). g.part) x i.gone m in
       let g = found.0 in
-      ap (is_named_by i.edits) found.2 ∙ named g.part (gone_done g.part.edit g.part.asset (reason_of g) (place_at g.part g.part.lo) (first_gone g found.1)))
+      ap (is_named_by i.edits) found.2 ∙ named g.part (gone_done g.part.edit g.part.asset (reason_of g) (place_at g.part g.part.from) (first_gone g found.1)))
 
   -- ---- the edits that entered the assets
 
   entry_of_part : (a : Asset) (x : Part) → In a i.assets → In x i.entered → x.asset ≡ a.number → x.edit ≡ a.entry
-  entry_of_part a x m n e = by_entry x.edit x.asset (kept_asset a) (place_at x x.lo) (ap (λ k. find nat_cmp k (map asset_entry i.assets)) e ∙ asset_found a m) (first_pair x n)
+  entry_of_part a x m n e = by_entry x.edit x.asset (kept_asset a) (place_at x x.from) (ap (λ k. find nat_cmp k (map asset_entry i.assets)) e ∙ asset_found a m) (first_pair x n)
 
   origin : (a : Asset) → In a i.assets → is_origin i.entered a ≡ true
   origin a m =

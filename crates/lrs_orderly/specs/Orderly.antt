@@ -15,7 +15,7 @@ use Rattle.lrs_machine.specs.Sound.{are_links, are_classes, are_assets, are_cour
 
 -- the part has a place
 abbrev pub is_filled : Part → Bool
-is_filled p = nat_lt p.lo p.hi
+is_filled p = nat_lt p.from p.to
 
 -- parts of one edit share nothing
 abbrev pub share_nothing_in_an_edit : Part → Part → Bool

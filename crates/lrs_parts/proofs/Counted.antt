@@ -81,19 +81,19 @@ is_beside link a b f s p = nat_eq link p.link && nat_le a p.mm && nat_lt p.mm b 
 abbrev pub beside_on : LinkSide → Place → Ground → Bool
 beside_on s p g = same_place p (beside g s)
 
-pub count_piece : (s : LinkSide) (q : Piece) (p : Place) → q.a ≤ q.b → count_by (beside_on s p) (expand q) ≡ pick (is_beside q.link q.a q.b q.forward s p) 1 0
+pub count_piece : (s : LinkSide) (q : Piece) (p : Place) → q.from ≤ q.to → count_by (beside_on s p) (expand q) ≡ pick (is_beside q.link q.from q.to q.forward s p) 1 0
 count_piece s q p h =
     count_map (beside_on s p) (λ k. let g : Ground = record { link = q.link; mm = k; forward = q.forward } in g) (millimetres q)
     ∙ count_both (nat_eq p.link q.link) (same_link_side p.side (along_link q.forward s)) (λ k. nat_eq p.mm k) (millimetres q)
-    ∙ ap (λ n. pick (nat_eq p.link q.link && same_link_side p.side (along_link q.forward s)) n 0) (by q.forward ∙ count_range p.mm q.a (q.b - q.a) ∙ ap (λ e. pick (nat_le q.a p.mm && nat_lt p.mm e) 1 0) end)
-    ∙ (λ i. pick (number_same p.link q.link i && side_same p.side (along_link q.forward s) i) (pick (nat_le q.a p.mm && nat_lt p.mm q.b) 1 0) 0)
-    ∙ shape (nat_eq q.link p.link) (nat_le q.a p.mm) (nat_lt p.mm q.b) (same_link_side (along_link q.forward s) p.side)
+    ∙ ap (λ n. pick (nat_eq p.link q.link && same_link_side p.side (along_link q.forward s)) n 0) (by q.forward ∙ count_range p.mm q.from (q.to - q.from) ∙ ap (λ e. pick (nat_le q.from p.mm && nat_lt p.mm e) 1 0) end)
+    ∙ (λ i. pick (number_same p.link q.link i && side_same p.side (along_link q.forward s) i) (pick (nat_le q.from p.mm && nat_lt p.mm q.to) 1 0) 0)
+    ∙ shape (nat_eq q.link p.link) (nat_le q.from p.mm) (nat_lt p.mm q.to) (same_link_side (along_link q.forward s) p.side)
   where
-    by : (f : Bool) → count_by (λ k. nat_eq p.mm k) (cond f (range_with_len q.a (q.b - q.a)) (reverse (range_with_len q.a (q.b - q.a)))) ≡ count_by (λ k. nat_eq p.mm k) (range_with_len q.a (q.b - q.a))
+    by : (f : Bool) → count_by (λ k. nat_eq p.mm k) (cond f (range_with_len q.from (q.to - q.from)) (reverse (range_with_len q.from (q.to - q.from)))) ≡ count_by (λ k. nat_eq p.mm k) (range_with_len q.from (q.to - q.from))
     by true = refl
-    by false = count_reverse (λ k. nat_eq p.mm k) (range_with_len q.a (q.b - q.a))
+    by false = count_reverse (λ k. nat_eq p.mm k) (range_with_len q.from (q.to - q.from))
 
-    end : q.a + (q.b - q.a) ≡ q.b
+    end : q.from + (q.to - q.from) ≡ q.to
     end = omega (arith, h)
 
     shape : (a l t b : Bool) → pick (a && b) (pick (l && t) 1 0) 0 ≡ pick (((a && l) && t) && b) 1 0
@@ -112,7 +112,7 @@ run_times s course a p run = pick (nat_eq run.asset a) (count_by (beside_on s p)
 
 -- a piece from its place low up to its place high
 pub part_any : (l a b : ℕ) (f : Bool) (low high : ℕ) → low < high → high ≤ b - a
-    → expand (record { link = l; a = pick f (a + low) (b - high); b = pick f (a + high) (b - low); forward = f }) ≡ take (high - low) (drop low (expand (record { link = l; a = a; b = b; forward = f })))
+    → expand (record { link = l; from = pick f (a + low) (b - high); to = pick f (a + high) (b - low); forward = f }) ≡ take (high - low) (drop low (expand (record { link = l; from = a; to = b; forward = f })))
 part_any l a b true low high h k = part_forward l a b low high h k
 part_any l a b false low high h k = part_backward l a b low high h k
 
@@ -145,14 +145,14 @@ count_in n run s st q a p = by (cases_lt low high)
 
     by : (low < high) ⊎ (high ≤ low) → count_by (has_for a p) (parts_in n run s st q) ≡ pick (nat_eq run.asset a) (count_by (beside_on s p) (range low (run.to - st) (expand q))) 0
     by (inl h) =
-        let fits : high ≤ q.b - q.a = omega arith in
-        let q' : Piece = record { link = q.link; a = pick q.forward (q.a + low) (q.b - high); b = pick q.forward (q.a + high) (q.b - low); forward = q.forward } in
+        let fits : high ≤ q.to - q.from = omega arith in
+        let q' : Piece = record { link = q.link; from = pick q.forward (q.from + low) (q.to - high); to = pick q.forward (q.from + high) (q.to - low); forward = q.forward } in
         ap (λ b. count_by (has_for a p) (chosen b)) (lt-ltb low high h)
         ∙ count_one (has_for a p) x
-        ∙ inside (nat_eq run.asset a) (is_beside q'.link q'.a q'.b q'.forward s p)
+        ∙ inside (nat_eq run.asset a) (is_beside q'.link q'.from q'.to q'.forward s p)
         ∙ ap (λ m. pick (nat_eq run.asset a) m 0)
-        (sym (count_piece s q' p (ends_rise q.a q.b q.forward low high h fits))
-        ∙ ap (count_by (beside_on s p)) (part_any q.link q.a q.b q.forward low high h fits ∙ range_capped low (run.to - st) high (expand q) capped))
+        (sym (count_piece s q' p (ends_rise q.from q.to q.forward low high h fits))
+        ∙ ap (count_by (beside_on s p)) (part_any q.link q.from q.to q.forward low high h fits ∙ range_capped low (run.to - st) high (expand q) capped))
     by (inr h) =
         ap (λ b. count_by (has_for a p) (chosen b)) (le-ltb low high h)
         ∙ sym (ap (λ xs. pick (nat_eq run.asset a) (count_by (beside_on s p) xs) 0) (range_none low (run.to - st) high (expand q) capped h) ∙ none (nat_eq run.asset a))

@@ -165,7 +165,7 @@ same_way true = refl
 same_way false = refl
 
 goes_straight_on : (q : Piece) (i : ℕ) → i + 1 < piece_len q → continues (ground_of q i) (ground_of q (i + 1)) ≡ true
-goes_straight_on q i h = and_from _ _ (and_from _ _ (eq-eqb q.link q.link refl) (same_way q.forward)) (straight_on q.forward q.a q.b i h)
+goes_straight_on q i h = and_from _ _ (and_from _ _ (eq-eqb q.link q.link refl) (same_way q.forward)) (straight_on q.forward q.from q.to i h)
 
 same_along : (f : Bool) (s t : LinkSide) → along_link f s ≡ along_link f t → s ≡ t
 same_along true s t e = e
@@ -239,7 +239,7 @@ module _ (rows : List Span) (pieces : List Piece) (xs : List Part) (once : each_
       ∙ both
 
   -- ... and in the way in which the link runs
-  neighbours : (q : Piece) (n a : ℕ) (side : LinkSide) → In q pieces → q.a ≤ n → n + 1 < q.b
+  neighbours : (q : Piece) (n a : ℕ) (side : LinkSide) → In q pieces → q.from ≤ n → n + 1 < q.to
       → holds_by_spans course rows a (record { link = q.link; mm = n; side = side }) ≡ true → holds_by_spans course rows a (record { link = q.link; mm = n + 1; side = side }) ≡ true
       → one_has xs a (record { link = q.link; mm = n; side = side }) (record { link = q.link; mm = n + 1; side = side }) ≡ true
   neighbours q n a side m low high h k = by (cases_Bool q.forward)
@@ -249,14 +249,14 @@ module _ (rows : List Span) (pieces : List Piece) (xs : List Part) (once : each_
 
       by : (q.forward ≡ true) ⊎ (q.forward ≡ false) → one_has xs a (abbrev_place n) (abbrev_place (n + 1)) ≡ true
       by (inl e) =
-          let one : (ground_of q (n - q.a)).mm ≡ n = ap (λ f. let z : ℕ = cond f (q.a + (n - q.a)) (q.b - 1 - (n - q.a)) in z) e ∙ omega (arith, low) in
-          let two : (ground_of q (n - q.a + 1)).mm ≡ n + 1 = ap (λ f. let z : ℕ = cond f (q.a + (n - q.a + 1)) (q.b - 1 - (n - q.a + 1)) in z) e ∙ omega (arith, low) in
+          let one : (ground_of q (n - q.from)).mm ≡ n = ap (λ f. let z : ℕ = cond f (q.from + (n - q.from)) (q.to - 1 - (n - q.from)) in z) e ∙ omega (arith, low) in
+          let two : (ground_of q (n - q.from + 1)).mm ≡ n + 1 = ap (λ f. let z : ℕ = cond f (q.from + (n - q.from + 1)) (q.to - 1 - (n - q.from + 1)) in z) e ∙ omega (arith, low) in
           (λ j. one_has xs a (abbrev_place (sym one j)) (abbrev_place (sym two j)))
-          ∙ along q (n - q.a) a side m (omega (arith, low, high)) (ap (λ z. holds_by_spans course rows a (abbrev_place z)) one ∙ h) (ap (λ z. holds_by_spans course rows a (abbrev_place z)) two ∙ k)
+          ∙ along q (n - q.from) a side m (omega (arith, low, high)) (ap (λ z. holds_by_spans course rows a (abbrev_place z)) one ∙ h) (ap (λ z. holds_by_spans course rows a (abbrev_place z)) two ∙ k)
       by (inr e) =
-          let i : ℕ = q.b - 1 - (n + 1) in
-          let one : (ground_of q i).mm ≡ n + 1 = ap (λ f. let z : ℕ = cond f (q.a + i) (q.b - 1 - i) in z) e ∙ omega (arith, low, high) in
-          let two : (ground_of q (i + 1)).mm ≡ n = ap (λ f. let z : ℕ = cond f (q.a + (i + 1)) (q.b - 1 - (i + 1)) in z) e ∙ omega (arith, low, high) in
+          let i : ℕ = q.to - 1 - (n + 1) in
+          let one : (ground_of q i).mm ≡ n + 1 = ap (λ f. let z : ℕ = cond f (q.from + i) (q.to - 1 - i) in z) e ∙ omega (arith, low, high) in
+          let two : (ground_of q (i + 1)).mm ≡ n = ap (λ f. let z : ℕ = cond f (q.from + (i + 1)) (q.to - 1 - (i + 1)) in z) e ∙ omega (arith, low, high) in
           swapped a (abbrev_place n) (abbrev_place (n + 1)) xs
           ∙ (λ j. one_has xs a (abbrev_place (sym one j)) (abbrev_place (sym two j)))
           ∙ along q i a side m (omega (arith, low, high)) (ap (λ z. holds_by_spans course rows a (abbrev_place z)) one ∙ k) (ap (λ z. holds_by_spans course rows a (abbrev_place z)) two ∙ h)
@@ -266,17 +266,17 @@ module _ (rows : List Span) (pieces : List Piece) (xs : List Part) (once : each_
 pub record HasPlace (x : Part) (a : ℕ) (p : Place) : Type 0 where
   pub asset : x.asset ≡ a
   pub link : x.link ≡ p.link
-  pub low : x.lo ≤ p.mm
-  pub high : p.mm < x.hi
+  pub low : x.from ≤ p.mm
+  pub high : p.mm < x.to
   pub side : x.side ≡ p.side
 
 has : (x : Part) (a : ℕ) (p : Place) → has_for a p x ≡ true → HasPlace x a p
 has x a p h =
     let r = and_parts (nat_eq x.asset a) (has_place x p) h in
-    let s = and_parts ((nat_eq x.link p.link && nat_le x.lo p.mm) && nat_lt p.mm x.hi) (same_link_side x.side p.side) r.1 in
-    let t = and_parts (nat_eq x.link p.link && nat_le x.lo p.mm) (nat_lt p.mm x.hi) s.0 in
-    let u = and_parts (nat_eq x.link p.link) (nat_le x.lo p.mm) t.0 in
-    record { asset = eqb-true x.asset a r.0; link = eqb-true x.link p.link u.0; low = leb-true x.lo p.mm u.1; high = ltb-true p.mm x.hi t.1; side = side_alike x.side p.side s.1 }
+    let s = and_parts ((nat_eq x.link p.link && nat_le x.from p.mm) && nat_lt p.mm x.to) (same_link_side x.side p.side) r.1 in
+    let t = and_parts (nat_eq x.link p.link && nat_le x.from p.mm) (nat_lt p.mm x.to) s.0 in
+    let u = and_parts (nat_eq x.link p.link) (nat_le x.from p.mm) t.0 in
+    record { asset = eqb-true x.asset a r.0; link = eqb-true x.link p.link u.0; low = leb-true x.from p.mm u.1; high = ltb-true p.mm x.to t.1; side = side_alike x.side p.side s.1 }
 
 side_refl : (s : LinkSide) → same_link_side s s ≡ true
 side_refl Left = refl
@@ -285,68 +285,68 @@ side_refl Right = refl
 from_has : (x : Part) (a : ℕ) (p : Place) → HasPlace x a p → has_for a p x ≡ true
 from_has x a p h =
     and_from (nat_eq x.asset a) (has_place x p) (eq-eqb x.asset a h.asset)
-    (and_from ((nat_eq x.link p.link && nat_le x.lo p.mm) && nat_lt p.mm x.hi) (same_link_side x.side p.side)
-    (and_from (nat_eq x.link p.link && nat_le x.lo p.mm) (nat_lt p.mm x.hi) (and_from (nat_eq x.link p.link) (nat_le x.lo p.mm) (eq-eqb x.link p.link h.link) (le-leb x.lo p.mm h.low)) (lt-ltb p.mm x.hi h.high))
+    (and_from ((nat_eq x.link p.link && nat_le x.from p.mm) && nat_lt p.mm x.to) (same_link_side x.side p.side)
+    (and_from (nat_eq x.link p.link && nat_le x.from p.mm) (nat_lt p.mm x.to) (and_from (nat_eq x.link p.link) (nat_le x.from p.mm) (eq-eqb x.link p.link h.link) (le-leb x.from p.mm h.low)) (lt-ltb p.mm x.to h.high))
     (ap (same_link_side x.side) (sym h.side) ∙ side_refl x.side))
 
 abbrev begin : Part → Place
-begin x = record { link = x.link; mm = x.lo; side = x.side }
+begin x = record { link = x.link; mm = x.from; side = x.side }
 
 abbrev begins_in : Part → Part → Bool
 begins_in x y = has_for x.asset (begin x) y
 
 abbrev is_filled : Part → Bool
-is_filled x = nat_lt x.lo x.hi
+is_filled x = nat_lt x.from x.to
 
 module _ (rows : List Span) (pieces : List Piece) (xs ys : List Part) (once : each_two differs (course_of pieces) ≡ true) (whole : AreWhole (course_of pieces) rows xs)
     (filled : list_all is_filled xs ≡ true) (had : IsHadOnce xs) (within : list_all (λ y. list_any (lies_in y) pieces) ys ≡ true)
     (shows : (a : ℕ) (p : Place) → list_any (has_for a p) xs ≡ holds_by_spans (course_of pieces) rows a p) (others : (a : ℕ) (p : Place) → list_any (has_for a p) ys ≡ holds_by_spans (course_of pieces) rows a p) where
   -- of two parts that begin in one other, none begins behind
-  not_behind : (y x : Part) (j : ℕ) (d : Part) → In y ys → j < length xs → begins_in x y ≡ true → begins_in (get_or xs j d) y ≡ true → x.lo < (get_or xs j d).lo → ⊥
+  not_behind : (y x : Part) (j : ℕ) (d : Part) → In y ys → j < length xs → begins_in x y ≡ true → begins_in (get_or xs j d) y ≡ true → x.from < (get_or xs j d).from → ⊥
   not_behind y x j d m lt h k less =
       let w = get_or xs j d in
       let hx = has y x.asset (begin x) h in
       let hw = has y w.asset (begin w) k in
       let q = any_found (lies_in y) pieces (all_at (λ y. list_any (lies_in y) pieces) y ys within m) in
-      let in' = and_parts (nat_eq y.link q.0.link && nat_le q.0.a y.lo) (nat_le y.hi q.0.b) q.2 in
-      let on = and_parts (nat_eq y.link q.0.link) (nat_le q.0.a y.lo) in'.0 in
+      let in' = and_parts (nat_eq y.link q.0.link && nat_le q.0.from y.from) (nat_le y.to q.0.to) q.2 in
+      let on = and_parts (nat_eq y.link q.0.link) (nat_le q.0.from y.from) in'.0 in
       let link = eqb-true y.link q.0.link on.0 in
-      let from = leb-true q.0.a y.lo on.1 in
-      let to = leb-true y.hi q.0.b in'.1 in
+      let from = leb-true q.0.from y.from on.1 in
+      let to = leb-true y.to q.0.to in'.1 in
       let xl = hx.low in
       let wh = hw.high in
-      let k1 : w.lo - 1 + 1 ≡ w.lo = omega (arith, less) in
-      let p0 : Place = record { link = q.0.link; mm = w.lo - 1; side = w.side } in
-      let p1 : Place = record { link = q.0.link; mm = w.lo - 1 + 1; side = w.side } in
+      let k1 : w.from - 1 + 1 ≡ w.from = omega (arith, less) in
+      let p0 : Place = record { link = q.0.link; mm = w.from - 1; side = w.side } in
+      let p1 : Place = record { link = q.0.link; mm = w.from - 1 + 1; side = w.side } in
       let y0 : HasPlace y w.asset p0 = record { asset = hw.asset; link = link; low = omega (arith, xl, less); high = omega (arith, wh); side = hw.side } in
       let y1 : HasPlace y w.asset p1 = record { asset = hw.asset; link = link; low = omega (arith, xl, less); high = omega (arith, wh, k1); side = hw.side } in
       let held0 = sym (others w.asset p0) ∙ any_of (has_for w.asset p0) y ys m (from_has y w.asset p0 y0) in
       let held1 = sym (others w.asset p1) ∙ any_of (has_for w.asset p1) y ys m (from_has y w.asset p1 y1) in
-      let both = neighbours rows pieces xs once whole q.0 (w.lo - 1) w.asset w.side q.1 (omega (arith, from, xl, less)) (omega (arith, to, wh, k1)) held0 held1 in
+      let both = neighbours rows pieces xs once whole q.0 (w.from - 1) w.asset w.side q.1 (omega (arith, from, xl, less)) (omega (arith, to, wh, k1)) held0 held1 in
       let z = any_found (λ x. has_for w.asset p0 x && has_for w.asset p1 x) xs both in
       let zz = and_parts (has_for w.asset p0 z.0) (has_for w.asset p1 z.0) z.2 in
       let place = place_in z.0 xs z.1 in
       let at = place.2 d in
       let z1 : has_for w.asset p1 (get_or xs place.0 d) ≡ true = ap (has_for w.asset p1) at ∙ zz.1 in
-      let rises = ltb-true w.lo w.hi (all_at_place is_filled xs j d filled lt) in
+      let rises = ltb-true w.from w.to (all_at_place is_filled xs j d filled lt) in
       let w1 : has_for w.asset p1 w ≡ true = from_has w w.asset p1 (record { asset = refl; link = sym hw.link ∙ link; low = omega (arith, k1); high = omega (arith, k1, rises); side = refl }) in
       let limit = had w.asset p1 in
       let low = (has z.0 w.asset p0 zz.0).low in
       by place.0 p1 z.0 place.1 z1 w1 limit low at (cases_order place.0 j)
     where
       by : (i : ℕ) (p : Place) (z : Part) → i < length xs → has_for (get_or xs j d).asset p (get_or xs i d) ≡ true → has_for (get_or xs j d).asset p (get_or xs j d) ≡ true → times_had (get_or xs j d).asset p xs ≤ 1
-          → z.lo ≤ (get_or xs j d).lo - 1 → get_or xs i d ≡ z → (i ≡ j) ⊎ ((i < j) ⊎ (j < i)) → ⊥
+          → z.from ≤ (get_or xs j d).from - 1 → get_or xs i d ≡ z → (i ≡ j) ⊎ ((i < j) ⊎ (j < i)) → ⊥
       by i p z il a b limit low at (inl e) =
-          let same : (get_or xs j d).lo ≡ z.lo = ap (λ k. (get_or xs k d).lo) (sym e) ∙ ap (λ x. x.lo) at in
+          let same : (get_or xs j d).from ≡ z.from = ap (λ k. (get_or xs k d).from) (sym e) ∙ ap (λ x. x.from) at in
           omega (arith, low, same, less)
       by i p z il a b limit low at (inr (inl l)) = let two = two_counted (has_for (get_or xs j d).asset p) xs i j d l lt a b in omega (arith, two, limit)
       by i p z il a b limit low at (inr (inr l)) = let two = two_counted (has_for (get_or xs j d).asset p) xs j i d l il b a in omega (arith, two, limit)
 
   each_once : (y : Part) → In y ys → count_by (λ x. begins_in x y) xs ≤ 1
-  each_once y m = at_most_once (λ x. begins_in x y) xs (λ i j d less lt h k. by i j d less lt h k (cases_order (get_or xs i d).lo (get_or xs j d).lo))
+  each_once y m = at_most_once (λ x. begins_in x y) xs (λ i j d less lt h k. by i j d less lt h k (cases_order (get_or xs i d).from (get_or xs j d).from))
     where
       by : (i j : ℕ) (d : Part) → i < j → j < length xs → begins_in (get_or xs i d) y ≡ true → begins_in (get_or xs j d) y ≡ true
-          → ((get_or xs i d).lo ≡ (get_or xs j d).lo) ⊎ (((get_or xs i d).lo < (get_or xs j d).lo) ⊎ ((get_or xs j d).lo < (get_or xs i d).lo)) → ⊥
+          → ((get_or xs i d).from ≡ (get_or xs j d).from) ⊎ (((get_or xs i d).from < (get_or xs j d).from) ⊎ ((get_or xs j d).from < (get_or xs i d).from)) → ⊥
       by i j d less lt h k (inr (inl l)) = not_behind y (get_or xs i d) j d m lt h k l
       by i j d less lt h k (inr (inr l)) = not_behind y (get_or xs j d) i d m (omega (arith, less, lt)) k h l
       by i j d less lt h k (inl e) =
@@ -354,8 +354,8 @@ module _ (rows : List Span) (pieces : List Piece) (xs ys : List Part) (once : ea
           let w = get_or xs j d in
           let hx = has y x.asset (begin x) h in
           let hw = has y w.asset (begin w) k in
-          let xr = ltb-true x.lo x.hi (all_at_place is_filled xs i d filled (omega (arith, less, lt))) in
-          let wr = ltb-true w.lo w.hi (all_at_place is_filled xs j d filled lt) in
+          let xr = ltb-true x.from x.to (all_at_place is_filled xs i d filled (omega (arith, less, lt))) in
+          let wr = ltb-true w.from w.to (all_at_place is_filled xs j d filled lt) in
           let two = two_counted (has_for x.asset (begin x)) xs i j d less lt
           (from_has x x.asset (begin x) (record { asset = refl; link = refl; low = omega arith; high = xr; side = refl }))
           (from_has w x.asset (begin x) (record { asset = sym hw.asset ∙ hx.asset; link = sym hw.link ∙ hx.link; low = omega (arith, e); high = omega (arith, e, wr); side = sym hw.side ∙ hx.side })) in
@@ -364,7 +364,7 @@ module _ (rows : List Span) (pieces : List Piece) (xs ys : List Part) (once : ea
 
   each_begun : (x : Part) → In x xs → 1 ≤ count_by (begins_in x) ys
   each_begun x m =
-      let r = ltb-true x.lo x.hi (all_at is_filled x xs filled m) in
+      let r = ltb-true x.from x.to (all_at is_filled x xs filled m) in
       let own = from_has x x.asset (begin x) (record { asset = refl; link = refl; low = omega arith; high = r; side = refl }) in
       let there = others x.asset (begin x) ∙ sym (shows x.asset (begin x)) ∙ any_of (has_for x.asset (begin x)) x xs m own in
       ltb-true 0 (count_by (begins_in x) ys) (sym (any_counted (begins_in x) ys) ∙ there)

@@ -33,8 +33,8 @@ in_threes a b c d e =
 -- by two keys, one within the other
 pub same_order : (x y : Part)
     → part_before x y
-    ≡ is_lt (ordering_then (ordering_then (ordering_then (nat_cmp x.edit y.edit) (nat_cmp x.asset y.asset)) (nat_cmp x.link y.link)) (ordering_then (nat_cmp x.lo y.lo) (nat_cmp (side_number x.side) (side_number y.side))))
-same_order x y = ap is_lt (in_threes (nat_cmp x.edit y.edit) (nat_cmp x.asset y.asset) (nat_cmp x.link y.link) (nat_cmp x.lo y.lo) (nat_cmp (side_number x.side) (side_number y.side)))
+    ≡ is_lt (ordering_then (ordering_then (ordering_then (nat_cmp x.edit y.edit) (nat_cmp x.asset y.asset)) (nat_cmp x.link y.link)) (ordering_then (nat_cmp x.from y.from) (nat_cmp (side_number x.side) (side_number y.side))))
+same_order x y = ap is_lt (in_threes (nat_cmp x.edit y.edit) (nat_cmp x.asset y.asset) (nat_cmp x.link y.link) (nat_cmp x.from y.from) (nat_cmp (side_number x.side) (side_number y.side)))
 
 -- ---- parts in that order, each pair once
 
@@ -79,17 +79,17 @@ same_numbers Left Right e = absurd (omega (arith, e))
 same_numbers Right Left e = absurd (omega (arith, e))
 same_numbers Right Right e = refl
 
-has_first : (x y : Part) → part_key y ≡ part_key x → nat_lt y.lo y.hi ≡ true → has_for x.asset (record { link = x.link; mm = x.lo; side = x.side }) y ≡ true
+has_first : (x y : Part) → part_key y ≡ part_key x → nat_lt y.from y.to ≡ true → has_for x.asset (record { link = x.link; mm = x.from; side = x.side }) y ≡ true
 has_first x y e f =
     let asset : y.asset ≡ x.asset = ap (λ l. get_or l 1 0) e in
     let link : y.link ≡ x.link = ap (λ l. get_or l 2 0) e in
-    let lo : y.lo ≡ x.lo = ap (λ l. get_or l 3 0) e in
+    let lo : y.from ≡ x.from = ap (λ l. get_or l 3 0) e in
     let side : side_number y.side ≡ side_number x.side = ap (λ l. get_or l 4 0) e in
-    let rises = ltb-true y.lo y.hi f in
-    and_from (nat_eq y.asset x.asset) (((nat_eq y.link x.link && nat_le y.lo x.lo) && nat_lt x.lo y.hi) && same_link_side y.side x.side) (eq-eqb y.asset x.asset asset)
-    (and_from ((nat_eq y.link x.link && nat_le y.lo x.lo) && nat_lt x.lo y.hi) (same_link_side y.side x.side)
-    (and_from (nat_eq y.link x.link && nat_le y.lo x.lo) (nat_lt x.lo y.hi)
-    (and_from (nat_eq y.link x.link) (nat_le y.lo x.lo) (eq-eqb y.link x.link link) (le-leb y.lo x.lo (omega (arith, lo)))) (lt-ltb x.lo y.hi (omega (arith, lo, rises))))
+    let rises = ltb-true y.from y.to f in
+    and_from (nat_eq y.asset x.asset) (((nat_eq y.link x.link && nat_le y.from x.from) && nat_lt x.from y.to) && same_link_side y.side x.side) (eq-eqb y.asset x.asset asset)
+    (and_from ((nat_eq y.link x.link && nat_le y.from x.from) && nat_lt x.from y.to) (same_link_side y.side x.side)
+    (and_from (nat_eq y.link x.link && nat_le y.from x.from) (nat_lt x.from y.to)
+    (and_from (nat_eq y.link x.link) (nat_le y.from x.from) (eq-eqb y.link x.link link) (le-leb y.from x.from (omega (arith, lo)))) (lt-ltb x.from y.to (omega (arith, lo, rises))))
     (same_numbers y.side x.side side))
 
 decided : (o p : Ordering) → o ≡ ordering_reverse p → is_lt p ≡ false → (p ≡ Equal) ⊎ (is_lt o ≡ true)
@@ -97,7 +97,7 @@ decided o Less e h = absurd (false≢true (sym h))
 decided o Equal e h = inl refl
 decided o Greater e h = inr (ap is_lt e)
 
-pub strictly : (xs : List Part) → AllAdjacentBelow (λ x y. part_before y x ≡ false) xs (length xs) → list_all (λ x. nat_lt x.lo x.hi) xs ≡ true → IsHadOnce xs → each_two part_before xs ≡ true
+pub strictly : (xs : List Part) → AllAdjacentBelow (λ x y. part_before y x ≡ false) xs (length xs) → list_all (λ x. nat_lt x.from x.to) xs ≡ true → IsHadOnce xs → each_two part_before xs ≡ true
 strictly xs order filled once = each_placed part_before xs (λ i j d less within.
     let x = get_or xs i d in
     let y = get_or xs j d in
@@ -109,10 +109,10 @@ strictly xs order filled once = each_placed part_before xs (λ i j d less within
     by i j d less within (inl e) =
         let x = get_or xs i d in
         let y = get_or xs j d in
-        let p : Place = record { link = x.link; mm = x.lo; side = x.side } in
+        let p : Place = record { link = x.link; mm = x.from; side = x.side } in
         let same = exact_bytes (part_key y) (part_key x) e in
         let two = two_counted (has_for x.asset p) xs i j d less within
-        (has_first x x refl (all_at_place (λ z. nat_lt z.lo z.hi) xs i d filled (omega (arith, less, within))))
-        (has_first x y same (all_at_place (λ z. nat_lt z.lo z.hi) xs j d filled within)) in
+        (has_first x x refl (all_at_place (λ z. nat_lt z.from z.to) xs i d filled (omega (arith, less, within))))
+        (has_first x y same (all_at_place (λ z. nat_lt z.from z.to) xs j d filled within)) in
         let one = once x.asset p in
         absurd (omega (arith, two, one))

@@ -147,8 +147,8 @@ module _ (n : ℕ) (rows : List Span) (course : List Ground) (made sorted : List
   pub edit_is : list_all (λ x. nat_eq x.edit n) sorted ≡ true
   edit_is = kept (λ x. nat_eq x.edit n) (λ asset s q low high m h k. eq-eqb n n refl)
 
-  pub filled_are : list_all (λ x. nat_lt x.lo x.hi) sorted ≡ true
-  filled_are = kept (λ x. nat_lt x.lo x.hi) (λ asset s q low high m h k. lt-ltb _ _ (rises q.forward q.a q.b low high h k))
+  pub filled_are : list_all (λ x. nat_lt x.from x.to) sorted ≡ true
+  filled_are = kept (λ x. nat_lt x.from x.to) (λ asset s q low high m h k. lt-ltb _ _ (rises q.forward q.from q.to low high h k))
 
   pub are_in_pieces : AreInPieces course sorted
   are_in_pieces = record {
@@ -157,7 +157,7 @@ module _ (n : ℕ) (rows : List Span) (course : List Ground) (made sorted : List
     run_over = cut.run_over;
     within = kept (λ x. list_any (lies_in x) cut.pieces) (λ asset s q low high m h k.
         any_of (lies_in (part_between n asset s q low high)) q cut.pieces m
-        (and_from _ _ (and_from _ _ (eq-eqb q.link q.link refl) (le-leb _ _ (above q.forward q.a q.b low high h k))) (le-leb _ _ (below q.forward q.a q.b low high h k))));
+        (and_from _ _ (and_from _ _ (eq-eqb q.link q.link refl) (le-leb _ _ (above q.forward q.from q.to low high h k))) (le-leb _ _ (below q.forward q.from q.to low high h k))));
   }
 
   pub times_are : (a : ℕ) (p : Place) → times_had a p sorted ≡ times_in_rows course rows a p

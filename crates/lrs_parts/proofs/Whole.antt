@@ -28,7 +28,7 @@ Unjoined (p ∷ q ∷ ps) = (continues (ground_of p (piece_len p - 1)) (ground_o
 
 filled_first : (p : Piece) (ps : List Piece) (d : Ground) → IsFilled p → (0 < length (course_of (p ∷ ps))) × (get_or (course_of (p ∷ ps)) 0 d ≡ ground_of p 0)
 filled_first p ps d f =
-    let g : p.a < p.b = f in
+    let g : p.from < p.to = f in
     let l = length-expand p in
     let m = length-append (expand p) (course_of ps) in
     (omega (arith, g, l, m), get_or_append_left (expand p) (course_of ps) d 0 (omega (arith, g, l)) ∙ get_or-expand p 0 d (omega (arith, g)))
@@ -36,7 +36,7 @@ filled_first p ps d f =
 -- the count of pieces that end and begin so
 count_more : (p q : Piece) (ps : List Piece) → IsFilled p → IsFilled q → piece_count (course_of (p ∷ q ∷ ps)) ≡ breaks (ground_of p (piece_len p - 1)) (ground_of q 0) + piece_count (course_of (q ∷ ps))
 count_more p q ps fp fq =
-    let g : p.a < p.b = fp in
+    let g : p.from < p.to = fp in
     let l = length-expand p in
     let d = ground_of q 0 in
     let first = filled_first q ps d fq in
@@ -96,7 +96,7 @@ inside false a b low high i h k l = (omega (arith, h, k, l), omega (arith, h, k,
 
 has_ground : (n a : ℕ) (s : LinkSide) (q : Piece) (low high i : ℕ) → low ≤ i → i < high → high ≤ piece_len q → has_for a (beside (ground_of q i) s) (part_between n a s q low high) ≡ true
 has_ground n a s q low high i h k l =
-    let both = inside q.forward q.a q.b low high i h k l in
+    let both = inside q.forward q.from q.to low high i h k l in
     and_from _ _ (eq-eqb a a refl) (and_from _ _ (and_from _ _ (and_from _ _ (eq-eqb q.link q.link refl) (le-leb _ _ both.0)) (lt-ltb _ _ both.1)) (side_is (along_link q.forward s)))
 
 in_piece : (n : ℕ) (run : Run) (s : LinkSide) (st i : ℕ) (q : Piece) → run.from ≤ st + i → st + i + 1 < run.to → i + 1 < piece_len q

@@ -19,8 +19,8 @@ part_between edit asset s p low high = record {
   edit = edit;
   asset = asset;
   link = p.link;
-  lo = (if p.forward then p.a + low else p.b - high);
-  hi = (if p.forward then p.a + high else p.b - low);
+  from = (if p.forward then p.from + low else p.to - high);
+  to = (if p.forward then p.from + high else p.to - low);
   side = along_link p.forward s;
 }
 

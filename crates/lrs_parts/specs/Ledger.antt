@@ -21,7 +21,7 @@ times_in_rows course rows asset p = sum_by (times_in_row course asset p) rows
 
 -- whether the part lies on the ground of the piece
 abbrev pub lies_in : Part → Piece → Bool
-lies_in part piece = nat_eq part.link piece.link && nat_le piece.a part.lo && nat_le part.hi piece.b
+lies_in part piece = nat_eq part.link piece.link && nat_le piece.from part.from && nat_le part.to piece.to
 
 -- each part lies in one of the fewest pieces of the course
 pub record AreInPieces (course : List Ground) (parts : List Part) : Type 0 where

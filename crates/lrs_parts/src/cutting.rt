@@ -34,15 +34,15 @@ fn part_between(edit: u64, asset: u64, side: LinkSide, piece: Piece, low: u64, h
         edit,
         asset,
         link: piece.link,
-        lo: if piece.forward {
-            piece.a + low
+        from: if piece.forward {
+            piece.from + low
         } else {
-            piece.b - high
+            piece.to - high
         },
-        hi: if piece.forward {
-            piece.a + high
+        to: if piece.forward {
+            piece.from + high
         } else {
-            piece.b - low
+            piece.to - low
         },
         side: along_link(piece.forward, side),
     }

@@ -34,13 +34,13 @@ fn parts_on(
 
 /// What orders the rows of a ledger: edit, asset and link, then start and side.
 fn key_of(part: &Part) -> ((u64, u64, u32), (u32, u8))
-    ensures { result ≡ ((part.now.edit, part.now.asset, part.now.link), (part.now.lo, side_number part.now.side)) }
+    ensures { result ≡ ((part.now.edit, part.now.asset, part.now.link), (part.now.from, side_number part.now.side)) }
 {
     let side = match part.side {
         LinkSide::Left => 0,
         LinkSide::Right => 1,
     };
-    ((part.edit, part.asset, part.link), (part.lo, side))
+    ((part.edit, part.asset, part.link), (part.from, side))
 }
 
 /// The parts in the order of a ledger.
@@ -73,7 +73,7 @@ pub fn parts(
     ensures times { IfOk result (λ parts. (asset : ℕ) (p : Place) → times_had asset p parts.items ≡ times_in_rows course.now rows.now asset p) }
     ensures once { IfOk result (λ parts. each_two differs course.now ≡ true → IsHadOnce parts.items) }
     ensures order { IfOk result (λ parts. each_two differs course.now ≡ true → each_two part_before parts.items ≡ true) }
-    ensures filled { IfOk result (λ parts. list_all (λ part. nat_lt part.lo part.hi) parts.items ≡ true) }
+    ensures filled { IfOk result (λ parts. list_all (λ part. nat_lt part.from part.to) parts.items ≡ true) }
     ensures within { IfOk result (λ parts. AreInPieces course.now parts.items) }
     ensures whole { IfOk result (λ parts. AreWhole course.now rows.now parts.items) }
     ensures fewest { IfOk result (λ parts. each_two differs course.now ≡ true → NoneIsShorter course.now rows.now parts.items) }

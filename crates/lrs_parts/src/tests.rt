@@ -22,14 +22,14 @@ pub(super) fn course(rt: &(impl Abort + AllocGlobal)) -> Course {
     let pieces = [
         Piece {
             link: 3,
-            a: 0,
-            b: 10,
+            from: 0,
+            to: 10,
             forward: true,
         },
         Piece {
             link: 7,
-            a: 0,
-            b: 10,
+            from: 0,
+            to: 10,
             forward: false,
         },
     ];
@@ -55,13 +55,13 @@ pub(super) fn row(rt: &impl Abort) -> Span
 }
 
 /// A part that edit 9 enters for the asset.
-fn part(link: u32, lo: u32, hi: u32, side: LinkSide) -> Part {
+fn part(link: u32, from: u32, to: u32, side: LinkSide) -> Part {
     Part {
         edit: 9,
         asset: 5,
         link,
-        lo,
-        hi,
+        from,
+        to,
         side,
     }
 }

@@ -41,7 +41,7 @@ position_none p xs d none =
 
 -- the millimetre at place k
 abbrev pub mm_of : Piece → ℕ → ℕ
-mm_of p k = if p.forward then p.a + k else p.b - 1 - k
+mm_of p k = if p.forward then p.from + k else p.to - 1 - k
 
 inside : (f : Bool) (a b k : ℕ) → k < b - a → (a ≤ (if f then a + k else b - 1 - k)) × ((if f then a + k else b - 1 - k) < b)
 inside true a b k h = (omega arith, omega arith)
@@ -60,19 +60,19 @@ none_in_piece p link mm other =
     let l : k < piece_len p = omega (arith, length-expand p) in
     ap (is_at (link, mm)) (get_or-expand p k (ground_of p 0) l) ∙ other_mm p link mm k l (other k l))
 
-pub none_below : (p : Piece) (link mm : ℕ) → mm < p.a → None ≡ position (is_at (link, mm)) (expand p)
-none_below p link mm h = none_in_piece p link mm (λ k l _ e. let i = inside p.forward p.a p.b k l in omega (arith, i.0, e))
+pub none_below : (p : Piece) (link mm : ℕ) → mm < p.from → None ≡ position (is_at (link, mm)) (expand p)
+none_below p link mm h = none_in_piece p link mm (λ k l _ e. let i = inside p.forward p.from p.to k l in omega (arith, i.0, e))
 
-pub none_above : (p : Piece) (link mm : ℕ) → p.b ≤ mm → None ≡ position (is_at (link, mm)) (expand p)
-none_above p link mm h = none_in_piece p link mm (λ k l _ e. let i = inside p.forward p.a p.b k l in omega (arith, i.1, e))
+pub none_above : (p : Piece) (link mm : ℕ) → p.to ≤ mm → None ≡ position (is_at (link, mm)) (expand p)
+none_above p link mm h = none_in_piece p link mm (λ k l _ e. let i = inside p.forward p.from p.to k l in omega (arith, i.1, e))
 
 pub found_in_piece : (p : Piece) (link mm i : ℕ) → p.link ≡ link → i < piece_len p → mm_of p i ≡ mm → Some i ≡ position (is_at (link, mm)) (expand p)
 found_in_piece p link mm i el h em =
     position_found (is_at (link, mm)) (expand p) i (ground_of p 0) (omega (arith, length-expand p))
-    (λ k lt. let l : k < piece_len p = omega arith in ap (is_at (link, mm)) (get_or-expand p k (ground_of p 0) l) ∙ other_mm p link mm k l (λ _ e. same_mm p.forward p.a p.b i k lt h (e ∙ sym em)))
+    (λ k lt. let l : k < piece_len p = omega arith in ap (is_at (link, mm)) (get_or-expand p k (ground_of p 0) l) ∙ other_mm p link mm k l (λ _ e. same_mm p.forward p.from p.to i k lt h (e ∙ sym em)))
     (ap (is_at (link, mm)) (get_or-expand p i (ground_of p 0) h) ∙ and_from _ _ (eq-eqb _ _ el) (eq-eqb _ _ em))
 
-pub place_is : (p : Piece) (mm i : ℕ) (f : Bool) → p.forward ≡ f → (if f then p.a + i else p.b - 1 - i) ≡ mm → mm_of p i ≡ mm
+pub place_is : (p : Piece) (mm i : ℕ) (f : Bool) → p.forward ≡ f → (if f then p.from + i else p.to - 1 - i) ≡ mm → mm_of p i ≡ mm
 place_is p mm i f e h = rw e h
 
 -- ---- the place of a millimetre in a course

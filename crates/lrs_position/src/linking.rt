@@ -108,7 +108,7 @@ fn entry_of(course: &Course, link: u32, mm: u32) -> Option<u64>
             Some(place) => return Some(start + place),
             None => {}
         }
-        start += u64::from(piece.b - piece.a);
+        start += u64::from(piece.to - piece.from);
     }
     None
 }
@@ -117,13 +117,13 @@ fn entry_of(course: &Course, link: u32, mm: u32) -> Option<u64>
 fn place_in(piece: Piece, link: u32, mm: u32) -> Option<u64>
     ensures { result ≡ position (is_at (link, mm)) (expand piece) }
 {
-    if piece.link != link || mm < piece.a || piece.b <= mm {
+    if piece.link != link || mm < piece.from || piece.to <= mm {
         return None;
     }
     let place = if piece.forward {
-        mm - piece.a
+        mm - piece.from
     } else {
-        piece.b - 1 - mm
+        piece.to - 1 - mm
     };
     Some(u64::from(place))
 }

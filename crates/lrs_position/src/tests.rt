@@ -21,14 +21,14 @@ const LINKS: [Link; 2] = [
 const PIECES: [Piece; 2] = [
     Piece {
         link: 1,
-        a: 0,
-        b: 5_000,
+        from: 0,
+        to: 5_000,
         forward: true,
     },
     Piece {
         link: 2,
-        a: 0,
-        b: 3_000,
+        from: 0,
+        to: 3_000,
         forward: false,
     },
 ];
@@ -358,8 +358,8 @@ fn the_longest_route_has_its_last_millimetre(rt: HostRuntime) -> Result<(), Fail
     for link in LONG_LINKS {
         pieces.push(Piece {
             link: link.number,
-            a: 0,
-            b: link.length,
+            from: 0,
+            to: link.length,
             forward: true,
         })?;
     }

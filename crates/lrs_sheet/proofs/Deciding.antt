@@ -100,7 +100,7 @@ abbrev pub is_piece : Text → Bool
 is_piece word = nat_eq (length (parts_of 58 word)) 4 && is_number 1 999_999 (part word 0) && is_number 0 longest_link (part word 1) && is_number 0 longest_link (part word 2) && bytes_eq (part word 3) (sign_text (bytes_eq (part word 3) (codes "+")))
 
 abbrev pub piece_in : Text → Piece
-piece_in word = record { link = digits_value 10 (part word 0); a = digits_value 10 (part word 1); b = digits_value 10 (part word 2); forward = bytes_eq (part word 3) (codes "+") }
+piece_in word = record { link = digits_value 10 (part word 0); from = digits_value 10 (part word 1); to = digits_value 10 (part word 2); forward = bytes_eq (part word 3) (codes "+") }
 
 piece-from : (word : Text) → is_piece word ≡ true → IsPieceText word (piece_in word)
 piece-from word h =
@@ -115,8 +115,8 @@ piece-from word h =
     record {
       four = eqb-true (length (parts_of 58 word)) 4 first.0;
       link = number-from 1 999_999 (part word 0) first.1;
-      a = number-from 0 longest_link (part word 1) second.1;
-      b = number-from 0 longest_link (part word 2) third.1;
+      from = number-from 0 longest_link (part word 1) second.1;
+      to = number-from 0 longest_link (part word 2) third.1;
       direction = same-text (part word 3) (sign_text (bytes_eq (part word 3) (codes "+"))) last.1;
     }
 
@@ -135,7 +135,7 @@ piece-is word p h =
     let b = is_number 0 longest_link (part word 2) in
     let direction : bytes_eq (part word 3) (sign_text (bytes_eq (part word 3) (codes "+"))) ≡ true = rw h.direction (sign-back p.forward) in
     and_from (four && link && a && b) (bytes_eq (part word 3) (sign_text (bytes_eq (part word 3) (codes "+"))))
-    (and_from (four && link && a) b (and_from (four && link) a (and_from four link (same-count (length (parts_of 58 word)) 4 h.four) (number-is 1 999_999 (part word 0) p.link h.link)) (number-is 0 longest_link (part word 1) p.a h.a)) (number-is 0 longest_link (part word 2) p.b h.b))
+    (and_from (four && link && a) b (and_from (four && link) a (and_from four link (same-count (length (parts_of 58 word)) 4 h.four) (number-is 1 999_999 (part word 0) p.link h.link)) (number-is 0 longest_link (part word 1) p.from h.from)) (number-is 0 longest_link (part word 2) p.to h.to))
     direction
 
 abbrev pub is_mark : Text → Bool

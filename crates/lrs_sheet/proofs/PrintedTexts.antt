@@ -77,14 +77,14 @@ split-joined c x (y ∷ xs) own h = split-more c x (join_with_byte c (y ∷ xs))
 -- the numbers of an entered piece
 record IsPieceIn (p : Piece) : Type 0 where
   link : (1 ≤ p.link) × (p.link ≤ 999_999)
-  a : p.a ≤ longest_link
-  b : p.b ≤ longest_link
+  from : p.from ≤ longest_link
+  to : p.to ≤ longest_link
 
 piece-in : (p : Piece) → is_entered_piece p ≡ true → IsPieceIn p
 piece-in p h =
-    let outer = and_parts (is_link_number p.link && nat_le p.a longest_link) (nat_le p.b longest_link) h in
-    let inner = and_parts (is_link_number p.link) (nat_le p.a longest_link) outer.0 in
-    record { link = from-to 1 999_999 p.link inner.0; a = below longest_link p.a inner.1; b = below longest_link p.b outer.1 }
+    let outer = and_parts (is_link_number p.link && nat_le p.from longest_link) (nat_le p.to longest_link) h in
+    let inner = and_parts (is_link_number p.link) (nat_le p.from longest_link) outer.0 in
+    record { link = from-to 1 999_999 p.link inner.0; from = below longest_link p.from inner.1; to = below longest_link p.to outer.1 }
 
 -- the direction of a piece
 abbrev sign : Bool → Text
@@ -95,27 +95,27 @@ lacks-sign c true plus minus = and_from (is_other c 43) true plus refl
 lacks-sign c false plus minus = and_from (is_other c 45) true minus refl
 
 -- the parts of a piece's text
-lacks-parts : (c : ℕ) (p : Piece) → IsPieceIn p → is_ascii_digit c ≡ false → is_other c 43 ≡ true → is_other c 45 ≡ true → AllLack c (decimal p.link ∷ decimal p.a ∷ decimal p.b ∷ sign p.forward ∷ [])
+lacks-parts : (c : ℕ) (p : Piece) → IsPieceIn p → is_ascii_digit c ≡ false → is_other c 43 ≡ true → is_other c 45 ≡ true → AllLack c (decimal p.link ∷ decimal p.from ∷ decimal p.to ∷ sign p.forward ∷ [])
 lacks-parts c p h u plus minus = (
   lacks-decimal c p.link u (record { bound = omega (arith, h.link.1) }),
-  (lacks-decimal c p.a u (record { bound = omega (arith, h.a) }), (lacks-decimal c p.b u (record { bound = omega (arith, h.b) }), (lacks-sign c p.forward plus minus, tt))),
+  (lacks-decimal c p.from u (record { bound = omega (arith, h.from) }), (lacks-decimal c p.to u (record { bound = omega (arith, h.to) }), (lacks-sign c p.forward plus minus, tt))),
 )
 
 -- a piece is said by its text
 piece-says : (p : Piece) → IsPieceIn p → IsPieceText (piece_text p) p
 piece-says p h =
-    let split = split-joined 58 (decimal p.link) (decimal p.a ∷ decimal p.b ∷ sign p.forward ∷ []) refl (lacks-parts 58 p h refl refl refl) in
+    let split = split-joined 58 (decimal p.link) (decimal p.from ∷ decimal p.to ∷ sign p.forward ∷ []) refl (lacks-parts 58 p h refl refl refl) in
     let link = decimal-says 1 999_999 p.link h.link.0 h.link.1 (omega arith) in
-    let a = decimal-says 0 longest_link p.a (omega arith) h.a (omega arith) in
-    let b = decimal-says 0 longest_link p.b (omega arith) h.b (omega arith) in
-    record { four = rw split refl; link = rw split link; a = rw split a; b = rw split b; direction = rw split refl }
+    let a = decimal-says 0 longest_link p.from (omega arith) h.from (omega arith) in
+    let b = decimal-says 0 longest_link p.to (omega arith) h.to (omega arith) in
+    record { four = rw split refl; link = rw split link; from = rw split a; to = rw split b; direction = rw split refl }
 
 -- the texts of pieces have no space
 lacks-pieces : (ps : List Piece) → list_all is_entered_piece ps ≡ true → AllLack 32 (map piece_text ps)
 lacks-pieces [] h = tt
 lacks-pieces (p ∷ ps) h =
     let both = and_parts (is_entered_piece p) (list_all is_entered_piece ps) h in
-    (lacks-joined 32 58 (decimal p.link ∷ decimal p.a ∷ decimal p.b ∷ sign p.forward ∷ []) refl (lacks-parts 32 p (piece-in p both.0) refl refl refl), lacks-pieces ps both.1)
+    (lacks-joined 32 58 (decimal p.link ∷ decimal p.from ∷ decimal p.to ∷ sign p.forward ∷ []) refl (lacks-parts 32 p (piece-in p both.0) refl refl refl), lacks-pieces ps both.1)
 
 each-piece : (ps : List Piece) → list_all is_entered_piece ps ≡ true → AreSaid IsPieceText (map piece_text ps) ps
 each-piece [] h = tt

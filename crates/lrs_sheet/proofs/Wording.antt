@@ -63,10 +63,10 @@ one-sign false true e = absurd (differ (same_name (codes "-")) (codes "-") (code
 pub one-piece : (word : List ℕ) (p q : Piece) → IsPieceText word p → IsPieceText word q → p ≡ q
 one-piece word p q h g =
     let link : p.link ≡ q.link = h.link.value ∙ sym g.link.value in
-    let a : p.a ≡ q.a = h.a.value ∙ sym g.a.value in
-    let b : p.b ≡ q.b = h.b.value ∙ sym g.b.value in
+    let a : p.from ≡ q.from = h.from.value ∙ sym g.from.value in
+    let b : p.to ≡ q.to = h.to.value ∙ sym g.to.value in
     let forward : p.forward ≡ q.forward = one-sign p.forward q.forward (sym h.direction ∙ g.direction) in
-    λ i. record { link = link i; a = a i; b = b i; forward = forward i }
+    λ i. record { link = link i; from = a i; to = b i; forward = forward i }
 
 -- or one mark
 pub one-mark : (word : List ℕ) (m n : Mark) → IsMarkText word m → IsMarkText word n → m ≡ n

@@ -34,8 +34,8 @@ sign_text forward = if forward then codes "+" else codes "-"
 pub record IsPieceText (word : Text) (p : Piece) : Type 0 where
   pub four : length (parts_of 58 word) ≡ 4
   pub link : SaysNumber 1 999_999 (part word 0) p.link
-  pub a : SaysNumber 0 longest_link (part word 1) p.a
-  pub b : SaysNumber 0 longest_link (part word 2) p.b
+  pub from : SaysNumber 0 longest_link (part word 1) p.from
+  pub to : SaysNumber 0 longest_link (part word 2) p.to
   pub direction : part word 3 ≡ sign_text p.forward
 
 -- The word says this mark, as `5000:6000`: its chainage and its measure.

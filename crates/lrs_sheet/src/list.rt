@@ -103,16 +103,16 @@ fn read_piece(word: &[u8]) -> Option<Piece>
     ensures some { IfSome result (λ piece. IsPieceText word.now piece) }
     ensures none { IfNone result ((piece : DeclaredPiece) → IsPieceText word.now piece → ⊥) }
 {
-    let Some((link, a, b, direction)) = four_parts(word) else {
+    let Some((link, from, to, direction)) = four_parts(word) else {
         return None;
     };
     let Some(link) = number(link, 1, 999_999) else {
         return None;
     };
-    let Some(a) = number(a, 0, 1_000_000_000) else {
+    let Some(from) = number(from, 0, 1_000_000_000) else {
         return None;
     };
-    let Some(b) = number(b, 0, 1_000_000_000) else {
+    let Some(to) = number(to, 0, 1_000_000_000) else {
         return None;
     };
     let Some(forward) = is_forward(direction) else {
@@ -120,8 +120,8 @@ fn read_piece(word: &[u8]) -> Option<Piece>
     };
     Some(Piece {
         link: link as u32,
-        a: a as u32,
-        b: b as u32,
+        from: from as u32,
+        to: to as u32,
         forward,
     })
 }

@@ -31,7 +31,7 @@ filled links assets (x ∷ xs) h =
     let both = and_parts (is_part links assets x) (list_all (is_part links assets) xs) h in
     let known = and_parts _ _ both.0 in
     let on = and_parts _ _ known.0 in
-    (ltb-true x.lo x.hi on.0, filled links assets xs both.1)
+    (ltb-true x.from x.to on.0, filled links assets xs both.1)
 
 -- what is had once is counted as it is had
 shown : (xs : List Part) (a : ℕ) (p : Place) → IsHadOnce xs → times_had a p xs ≡ cond (has_asset_place xs a p) 1 0

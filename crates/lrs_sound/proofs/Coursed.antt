@@ -80,7 +80,7 @@ piece_once p = from_places differs (expand p) (λ i j d less inside.
     let last : j < piece_len p = omega (arith, length-expand p, inside) in
     let first : i < piece_len p = omega (arith, last, less) in
     subst (λ g. differs g (get_or (expand p) j d) ≡ true) (sym (get_or-expand p i d first))
-    (subst (λ h. differs (ground_of p i) h ≡ true) (sym (get_or-expand p j d last)) (apart (nat_eq p.link p.link) (other p.forward p.a p.b i j less last))))
+    (subst (λ h. differs (ground_of p i) h ≡ true) (sym (get_or-expand p j d last)) (apart (nat_eq p.link p.link) (other p.forward p.from p.to i j less last))))
   where
     other : (f : Bool) (a b i j : ℕ) → i < j → j < b - a → nat_eq (cond f (a + j) (b - 1 - j)) (cond f (a + i) (b - 1 - i)) ≡ false
     other true a b i j h k = ne_eqb (a + j) (a + i) (λ e. absurd (omega arith))

@@ -73,12 +73,12 @@ before_end m n = by (cases_lt m n)
 
 one_tallied : (q : End) (x : Part) → IsFilled x → cond (reached q (start_of x)) 1 0 ≡ cond (has_for q.asset (place_of q) x) 1 0 + cond (reached q (end_of x)) 1 0
 one_tallied q x f =
-    let full : x.lo < x.hi = f in
+    let full : x.from < x.to = f in
     let a = nat_eq x.asset q.asset in
     let l = nat_eq x.link q.link in
     let s = same_bool (is_right x.side) q.right in
-    let h : Tallies a l s (nat_le x.lo q.mm) (nat_le x.hi q.mm) = tallies a l s (nat_le x.lo q.mm) (nat_le x.hi q.mm) (λ e. let k = leb-true x.hi q.mm e in le-leb x.lo q.mm (omega (arith, k, full))) in
-    h ∙ (λ i. cond (a && (((l && nat_le x.lo q.mm) && sym (before_end q.mm x.hi) i) && same_side_test x.side q.right i)) 1 0 + cond (reached q (end_of x)) 1 0)
+    let h : Tallies a l s (nat_le x.from q.mm) (nat_le x.to q.mm) = tallies a l s (nat_le x.from q.mm) (nat_le x.to q.mm) (λ e. let k = leb-true x.to q.mm e in le-leb x.from q.mm (omega (arith, k, full))) in
+    h ∙ (λ i. cond (a && (((l && nat_le x.from q.mm) && sym (before_end q.mm x.to) i) && same_side_test x.side q.right i)) 1 0 + cond (reached q (end_of x)) 1 0)
 
 all_tallied : (q : End) (xs : List Part) → AllByRecursion IsFilled xs → count_by (reached q) (map start_of xs) ≡ times_had q.asset (place_of q) xs + count_by (reached q) (map end_of xs)
 all_tallied q [] f = refl

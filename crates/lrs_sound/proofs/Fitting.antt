@@ -39,8 +39,8 @@ none_summed : (n : ℕ) (parts : List Part) → list_any (λ p. nat_eq p.asset n
 none_summed n [] h = refl
 none_summed n (x ∷ xs) h =
     let both = or_parts (nat_eq x.asset n) (list_any (λ p. nat_eq p.asset n) xs) h in
-    let e = sum_by-cons (λ p. cond (nat_eq p.asset n) (p.hi - p.lo) 0) x xs in
-    e ∙ (λ j. cond (both.0 j) (x.hi - x.lo) 0 + none_summed n xs both.1 j)
+    let e = sum_by-cons (λ p. cond (nat_eq p.asset n) (p.to - p.from) 0) x xs in
+    e ∙ (λ j. cond (both.0 j) (x.to - x.from) 0 + none_summed n xs both.1 j)
 
 module _ (links : List Link) (assets : List Asset) (parts : List Part) where
   abbrev is_few : Asset → Bool

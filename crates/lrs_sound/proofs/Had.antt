@@ -25,11 +25,11 @@ sides_same Left Right h = absurd (false≢true h)
 sides_same Right Left h = absurd (false≢true h)
 sides_same Right Right h = refl
 
-pub has_it : (x : Part) (a : ℕ) (p : Place) → x.asset ≡ a → x.link ≡ p.link → x.side ≡ p.side → x.lo ≤ p.mm → p.mm < x.hi → has_for a p x ≡ true
+pub has_it : (x : Part) (a : ℕ) (p : Place) → x.asset ≡ a → x.link ≡ p.link → x.side ≡ p.side → x.from ≤ p.mm → p.mm < x.to → has_for a p x ≡ true
 has_it x a p f g h low high =
     and_from (nat_eq x.asset a) (has_place x p) (eq-eqb x.asset a f)
-    (and_from ((nat_eq x.link p.link && nat_le x.lo p.mm) && nat_lt p.mm x.hi) (same_link_side x.side p.side)
-    (and_from (nat_eq x.link p.link && nat_le x.lo p.mm) (nat_lt p.mm x.hi) (and_from (nat_eq x.link p.link) (nat_le x.lo p.mm) (eq-eqb x.link p.link g) (le-leb x.lo p.mm low)) (lt-ltb p.mm x.hi high))
+    (and_from ((nat_eq x.link p.link && nat_le x.from p.mm) && nat_lt p.mm x.to) (same_link_side x.side p.side)
+    (and_from (nat_eq x.link p.link && nat_le x.from p.mm) (nat_lt p.mm x.to) (and_from (nat_eq x.link p.link) (nat_le x.from p.mm) (eq-eqb x.link p.link g) (le-leb x.from p.mm low)) (lt-ltb p.mm x.to high))
     (ap (same_link_side x.side) (sym h) ∙ same_refl x.side))
 
 -- ---- counts
@@ -77,15 +77,15 @@ clash x y a p test k l =
     and_from (nat_eq x.asset y.asset && nat_eq x.link y.link) (same_link_side x.side y.side)
     (and_from (nat_eq x.asset y.asset) (nat_eq x.link y.link) (eq-eqb x.asset y.asset (hx.of_asset ∙ sym hy.of_asset)) (eq-eqb x.link y.link (hx.on_link ∙ sym hy.on_link)))
     (ap (same_link_side x.side) (sym (hx.on_side ∙ sym hy.on_side)) ∙ same_refl x.side) in
-    by hx.low hx.high hy.low hy.high same (or_cases (not (alike x y) || nat_le x.hi y.lo) (nat_le y.hi x.lo) test)
+    by hx.low hx.high hy.low hy.high same (or_cases (not (alike x y) || nat_le x.to y.from) (nat_le y.to x.from) test)
   where
-    first : x.lo ≤ p.mm → p.mm < x.hi → y.lo ≤ p.mm → p.mm < y.hi → alike x y ≡ true → (not (alike x y) ≡ true) ⊎ (nat_le x.hi y.lo ≡ true) → ⊥
+    first : x.from ≤ p.mm → p.mm < x.to → y.from ≤ p.mm → p.mm < y.to → alike x y ≡ true → (not (alike x y) ≡ true) ⊎ (nat_le x.to y.from ≡ true) → ⊥
     first a b c d same (inl o) = both_ways (alike x y) (not-true (alike x y) o) same
-    first a b c d same (inr o) = let e = leb-true x.hi y.lo o in omega (arith, a, b, c, d, e)
+    first a b c d same (inr o) = let e = leb-true x.to y.from o in omega (arith, a, b, c, d, e)
 
-    by : x.lo ≤ p.mm → p.mm < x.hi → y.lo ≤ p.mm → p.mm < y.hi → alike x y ≡ true → ((not (alike x y) || nat_le x.hi y.lo) ≡ true) ⊎ (nat_le y.hi x.lo ≡ true) → ⊥
-    by a b c d same (inl o) = first a b c d same (or_cases (not (alike x y)) (nat_le x.hi y.lo) o)
-    by a b c d same (inr o) = let e = leb-true y.hi x.lo o in omega (arith, a, b, c, d, e)
+    by : x.from ≤ p.mm → p.mm < x.to → y.from ≤ p.mm → p.mm < y.to → alike x y ≡ true → ((not (alike x y) || nat_le x.to y.from) ≡ true) ⊎ (nat_le y.to x.from ≡ true) → ⊥
+    by a b c d same (inl o) = first a b c d same (or_cases (not (alike x y)) (nat_le x.to y.from) o)
+    by a b c d same (inr o) = let e = leb-true y.to x.from o in omega (arith, a, b, c, d, e)
 
 -- two parts have a pair in common
 pub record Overlap (x y : Part) : Type 0 where
@@ -96,15 +96,15 @@ pub record Overlap (x y : Part) : Type 0 where
 
 pub overlapping : (x y : Part) → IsFilled x → IsFilled y → share_nothing x y ≡ false → Overlap x y
 overlapping x y fx fy h =
-    let outer = or_parts (not (alike x y) || nat_le x.hi y.lo) (nat_le y.hi x.lo) h in
-    let inner = or_parts (not (alike x y)) (nat_le x.hi y.lo) outer.0 in
+    let outer = or_parts (not (alike x y) || nat_le x.to y.from) (nat_le y.to x.from) h in
+    let inner = or_parts (not (alike x y)) (nat_le x.to y.from) outer.0 in
     let same = and_parts (nat_eq x.asset y.asset && nat_eq x.link y.link) (same_link_side x.side y.side) (not-false (alike x y) inner.0) in
     let first = and_parts (nat_eq x.asset y.asset) (nat_eq x.link y.link) same.0 in
-    let yx : y.lo < x.hi = leb-false x.hi y.lo inner.1 in
-    let xy : x.lo < y.hi = leb-false y.hi x.lo outer.1 in
-    let xx : x.lo < x.hi = fx in
-    let yy : y.lo < y.hi = fy in
-    let p : Place = record { link = x.link; mm = max x.lo y.lo; side = x.side } in
+    let yx : y.from < x.to = leb-false x.to y.from inner.1 in
+    let xy : x.from < y.to = leb-false y.to x.from outer.1 in
+    let xx : x.from < x.to = fx in
+    let yy : y.from < y.to = fy in
+    let p : Place = record { link = x.link; mm = max x.from y.from; side = x.side } in
     record {
       asset = x.asset;
       place = p;

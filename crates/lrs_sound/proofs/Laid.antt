@@ -38,9 +38,9 @@ module _ (links : List Link) where
 
       there : ends_on_a_link links p ≡ true → list_all (is_on_a_link links) (expand p) ≡ true
       there h =
-          let l = any_found (λ l. nat_eq l.number p.link && nat_le p.b l.length) links h in
-          let both = and_parts (nat_eq l.0.number p.link) (nat_le p.b l.0.length) l.2 in
-          let most = leb-true p.b l.0.length both.1 in
+          let l = any_found (λ l. nat_eq l.number p.link && nat_le p.to l.length) links h in
+          let both = and_parts (nat_eq l.0.number p.link) (nat_le p.to l.0.length) l.2 in
+          let most = leb-true p.to l.0.length both.1 in
           all_members (is_on_a_link links) (expand p) (λ g m.
           let at = place_in g (expand p) m in
           let within : at.0 < piece_len p = omega (arith, at.1, length-expand p) in
@@ -48,19 +48,19 @@ module _ (links : List Link) where
           subst (λ h. is_on_a_link links h ≡ true) is
           (any_of (λ l. nat_eq l.number p.link && nat_lt (ground_of p at.0).mm l.length) l.0 links l.1
           (and_from (nat_eq l.0.number p.link) (nat_lt (ground_of p at.0).mm l.0.length) both.0
-          (let low = inside p.forward p.a p.b at.0 within in lt-ltb (ground_of p at.0).mm l.0.length (omega (arith, low, most))))))
+          (let low = inside p.forward p.from p.to at.0 within in lt-ltb (ground_of p at.0).mm l.0.length (omega (arith, low, most))))))
 
       last : Bool → ℕ
-      last true = p.b - 1 - p.a
+      last true = p.to - 1 - p.from
       last false = 0
 
-      last_is : (fw : Bool) → cond fw (p.a + last fw) (p.b - 1 - last fw) ≡ p.b - 1
-      last_is true = let lt : p.a < p.b = f in omega (arith, lt)
+      last_is : (fw : Bool) → cond fw (p.from + last fw) (p.to - 1 - last fw) ≡ p.to - 1
+      last_is true = let lt : p.from < p.to = f in omega (arith, lt)
       last_is false = omega arith
 
-      last_in : (fw : Bool) → last fw < p.b - p.a
-      last_in true = let lt : p.a < p.b = f in omega (arith, lt)
-      last_in false = let lt : p.a < p.b = f in omega (arith, lt)
+      last_in : (fw : Bool) → last fw < p.to - p.from
+      last_in true = let lt : p.from < p.to = f in omega (arith, lt)
+      last_in false = let lt : p.from < p.to = f in omega (arith, lt)
 
       back : list_all (is_on_a_link links) (expand p) ≡ true → ends_on_a_link links p ≡ true
       back h =
@@ -73,10 +73,10 @@ module _ (links : List Link) where
           let l = any_found (λ l. nat_eq l.number p.link && nat_lt (ground_of p i).mm l.length) links on in
           let both = and_parts (nat_eq l.0.number p.link) (nat_lt (ground_of p i).mm l.0.length) l.2 in
           let less = ltb-true (ground_of p i).mm l.0.length both.1 in
-          let is : (ground_of p i).mm ≡ p.b - 1 = last_is p.forward in
-          let lt : p.a < p.b = f in
-          any_of (λ l. nat_eq l.number p.link && nat_le p.b l.length) l.0 links l.1
-          (and_from (nat_eq l.0.number p.link) (nat_le p.b l.0.length) both.0 (le-leb p.b l.0.length (omega (arith, less, is, lt))))
+          let is : (ground_of p i).mm ≡ p.to - 1 = last_is p.forward in
+          let lt : p.from < p.to = f in
+          any_of (λ l. nat_eq l.number p.link && nat_le p.to l.length) l.0 links l.1
+          (and_from (nat_eq l.0.number p.link) (nat_le p.to l.0.length) both.0 (le-leb p.to l.0.length (omega (arith, less, is, lt))))
 
   pub pieces_are : (ps : List Piece) → AllByRecursion IsFilled ps → list_all (ends_on_a_link links) ps ≡ list_all (is_on_a_link links) (course_of ps)
   pieces_are [] f = refl

@@ -27,7 +27,7 @@ all_alike p xs ys same = not_any p xs ∙ ap not (list_any-IsPermutation (λ x. 
 
 module _ (xs ys : List Part) (same : IsPermutation xs ys) where
   alike_pairs : (a : ℕ) → pairs_of a xs ≡ pairs_of a ys
-  alike_pairs a = sym (sum_by-IsPermutation (λ p. cond (nat_eq p.asset a) (p.hi - p.lo) 0) xs ys same)
+  alike_pairs a = sym (sum_by-IsPermutation (λ p. cond (nat_eq p.asset a) (p.to - p.from) 0) xs ys same)
 
   pub same_parts : (links : List Link) (assets : List Asset) → are_parts links assets xs ≡ are_parts links assets ys
   same_parts links assets = λ j. all_alike (is_part links assets) xs ys same j && (each_two-permutation share_nothing share_nothing-comm xs ys same).0 j

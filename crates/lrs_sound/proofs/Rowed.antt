@@ -54,9 +54,9 @@ module _ (course : List Ground) (rows : List Span) (parts : List Part) (edit : �
       back : holds_by_spans course rows asset p ≡ true → has_asset_place parts asset p ≡ true
       back h = has_entered parts edit asset p (pairs edit asset p ∙ and_from (nat_eq edit edit) (holds_by_spans course rows asset p) (eq-eqb edit edit refl) h)
 
-pub filled_each : (parts : List Part) → list_all (λ part. nat_lt part.lo part.hi) parts ≡ true → AllByRecursion IsFilled parts
+pub filled_each : (parts : List Part) → list_all (λ part. nat_lt part.from part.to) parts ≡ true → AllByRecursion IsFilled parts
 filled_each [] h = tt
-filled_each (x ∷ xs) h = let both = and_parts (nat_lt x.lo x.hi) (list_all (λ part. nat_lt part.lo part.hi) xs) h in (ltb-true x.lo x.hi both.0, filled_each xs both.1)
+filled_each (x ∷ xs) h = let both = and_parts (nat_lt x.from x.to) (list_all (λ part. nat_lt part.from part.to) xs) h in (ltb-true x.from x.to both.0, filled_each xs both.1)
 
 -- ---- one more route
 
@@ -131,7 +131,7 @@ made_more routes i e parts more all lt here before full one is = record {
 
 filled_at : (x : Part) (xs : List Part) → AllByRecursion IsFilled xs → In x xs → IsFilled x
 filled_at x [] f m = absurd m
-filled_at x (y ∷ ys) f (inl e) = subst (λ z. z.lo < z.hi) (sym e) f.0
+filled_at x (y ∷ ys) f (inl e) = subst (λ z. z.from < z.to) (sym e) f.0
 filled_at x (y ∷ ys) f (inr m) = filled_at x ys f.1 m
 
 module _ (links : List Link) (assets : List Asset) (routes : List RouteEntry) (courses : are_courses links (route_courses routes) ≡ true) (spans : list_all (fits_route assets) routes ≡ true) where
@@ -178,8 +178,8 @@ module _ (links : List Link) (assets : List Asset) (routes : List RouteEntry) (c
   module _ (parts : List Part) (full : AllByRecursion IsFilled parts) (are : AreOfRoutes (route_spans routes) parts) where
     inside : (x : Part) → In x parts → is_part links assets x ≡ true
     inside x m =
-        let lt : x.lo < x.hi = filled_at x parts full m in
-        let p : Place = record { link = x.link; mm = x.hi - 1; side = x.side } in
+        let lt : x.from < x.to = filled_at x parts full m in
+        let p : Place = record { link = x.link; mm = x.to - 1; side = x.side } in
         let has : has_asset_place parts x.asset p ≡ true = any_of (λ y. nat_eq y.asset x.asset && has_place y p) x parts m (has_it x x.asset p refl refl refl (omega (arith, lt)) (omega (arith, lt))) in
         let on = any_found (λ s. holds_by_spans s.course s.rows x.asset p) (route_spans routes) (sym (are.shows x.asset p) ∙ has) in
         let entry = map_found of_entry on.0 routes on.1 in
@@ -191,11 +191,11 @@ module _ (links : List Link) (assets : List Asset) (routes : List RouteEntry) (c
         let link = any_found (λ l. nat_eq l.number is.ground.link && nat_lt is.ground.mm l.length) links (all_at (is_on_a_link links) is.ground e.route.course (all_at (is_on_links links) e routes on_links entry.1) is.on_course) in
         let both = and_parts (nat_eq link.0.number is.ground.link) (nat_lt is.ground.mm link.0.length) link.2 in
         let reach = ltb-true is.ground.mm link.0.length both.1 in
-        let mm : is.ground.mm ≡ x.hi - 1 = is.at in
-        and_from (nat_lt x.lo x.hi && list_any (λ l. nat_eq l.number x.link && nat_le x.hi l.length) links) (list_any (λ a. nat_eq a.number x.asset) assets)
-        (and_from (nat_lt x.lo x.hi) (list_any (λ l. nat_eq l.number x.link && nat_le x.hi l.length) links) (lt-ltb x.lo x.hi lt)
-        (any_of (λ l. nat_eq l.number x.link && nat_le x.hi l.length) link.0 links link.1
-        (and_from (nat_eq link.0.number x.link) (nat_le x.hi link.0.length) (eq-eqb link.0.number x.link (eqb-true link.0.number is.ground.link both.0 ∙ is.on_link)) (le-leb x.hi link.0.length (omega (arith, reach, mm, lt))))))
+        let mm : is.ground.mm ≡ x.to - 1 = is.at in
+        and_from (nat_lt x.from x.to && list_any (λ l. nat_eq l.number x.link && nat_le x.to l.length) links) (list_any (λ a. nat_eq a.number x.asset) assets)
+        (and_from (nat_lt x.from x.to) (list_any (λ l. nat_eq l.number x.link && nat_le x.to l.length) links) (lt-ltb x.from x.to lt)
+        (any_of (λ l. nat_eq l.number x.link && nat_le x.to l.length) link.0 links link.1
+        (and_from (nat_eq link.0.number x.link) (nat_le x.to link.0.length) (eq-eqb link.0.number x.link (eqb-true link.0.number is.ground.link both.0 ∙ is.on_link)) (le-leb x.to link.0.length (omega (arith, reach, mm, lt))))))
         (any_of (λ a. nat_eq a.number x.asset) asset.0 assets asset.1 (eq-eqb asset.0.number x.asset asset.2))
 
     pub are_held : AreHeld links assets (route_spans routes) parts

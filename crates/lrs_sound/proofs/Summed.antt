@@ -13,13 +13,13 @@ use Rattle.lrs_machine.specs.Sound.{pairs_of}
 use Rattle.lrs_sound.specs.Sweeping.{is_right, IsInOrder}
 
 abbrev size_for : ℕ → Part → ℕ
-size_for a p = cond (nat_eq p.asset a) (p.hi - p.lo) 0
+size_for a p = cond (nat_eq p.asset a) (p.to - p.from) 0
 
-mine : (a : ℕ) (p : Part) → p.asset ≡ a → size_for a p ≡ p.hi - p.lo
-mine a p e = ap (λ b. cond b (p.hi - p.lo) 0) (eq-eqb p.asset a e)
+mine : (a : ℕ) (p : Part) → p.asset ≡ a → size_for a p ≡ p.to - p.from
+mine a p e = ap (λ b. cond b (p.to - p.from) 0) (eq-eqb p.asset a e)
 
 other : (a : ℕ) (p : Part) → (p.asset ≡ a → ⊥) → size_for a p ≡ 0
-other a p e = ap (λ b. cond b (p.hi - p.lo) 0) (ne_eqb p.asset a e)
+other a p e = ap (λ b. cond b (p.to - p.from) 0) (ne_eqb p.asset a e)
 
 pairs_more : (a : ℕ) (xs : List Part) (i : ℕ) (d : Part) → i < length xs → pairs_of a (take (i + 1) xs) ≡ pairs_of a (take i xs) + size_for a (get_or xs i d)
 pairs_more a xs i d lt =
@@ -35,7 +35,7 @@ assets_rise : (x y : Part) → IsInOrder x y → x.asset ≤ y.asset
 assets_rise x y h = by (cases_lt y.asset x.asset)
   where
     by : (y.asset < x.asset) ⊎ (x.asset ≤ y.asset) → x.asset ≤ y.asset
-    by (inl less) = absurd (true≢false (subst (λ o. is_lt (ordering_then (ordering_then (ordering_then o (nat_cmp y.link x.link)) (bool_cmp (is_right y.side) (is_right x.side))) (nat_cmp y.lo x.lo)) ≡ false) (less_is_less y.asset x.asset less) h))
+    by (inl less) = absurd (true≢false (subst (λ o. is_lt (ordering_then (ordering_then (ordering_then o (nat_cmp y.link x.link)) (bool_cmp (is_right y.side) (is_right x.side))) (nat_cmp y.from x.from)) ≡ false) (less_is_less y.asset x.asset less) h))
     by (inr le) = le
 
 -- what is summed of the first i parts
@@ -56,7 +56,7 @@ module _ (xs : List Part) (most i last sum before : ℕ) (d : Part) (lt : i < le
   x = get_or xs i d
 
   abbrev size : ℕ
-  size = x.hi - x.lo
+  size = x.to - x.from
 
   rises : last ≤ x.asset
   rises = by (cases_eq i 0)

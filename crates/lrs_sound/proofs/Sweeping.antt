@@ -94,7 +94,7 @@ same_line-comm : (x y : Part) → same_line x y ≡ same_line y x
 same_line-comm x y = ap₂ (λ a b. a && b) (ap₂ (λ a b. a && b) (nat_eq-comm x.asset y.asset) (nat_eq-comm x.link y.link)) (side-comm x.side y.side)
 
 pub share_nothing-comm : (x y : Part) → share_nothing x y ≡ share_nothing y x
-share_nothing-comm x y = ap (λ l. not l || nat_le x.hi y.lo || nat_le y.hi x.lo) (same_line-comm x y) ∙ or_swap (same_line y x) (nat_le x.hi y.lo) (nat_le y.hi x.lo)
+share_nothing-comm x y = ap (λ l. not l || nat_le x.to y.from || nat_le y.to x.from) (same_line-comm x y) ∙ or_swap (same_line y x) (nat_le x.to y.from) (nat_le y.to x.from)
 
 -- ---- the order of lines
 
@@ -144,13 +144,13 @@ line_of x y h =
 
 -- the first lies on an earlier line, or ends before the second begins
 abbrev Ahead : Part → Part → Type 0
-Ahead x y = (line_cmp x y ≡ Less) ⊎ ((line_cmp x y ≡ Equal) × (x.hi ≤ y.lo))
+Ahead x y = (line_cmp x y ≡ Less) ⊎ ((line_cmp x y ≡ Equal) × (x.to ≤ y.from))
 
 ahead-trans : (x y z : Part) → IsFilled y → Ahead x y → Ahead y z → Ahead x z
 ahead-trans x y z f (inl a) (inl b) = inl (line_total.trans x y z a b)
 ahead-trans x y z f (inl a) (inr b) = inl (sym (alike_right line_total y z x b.0) ∙ a)
 ahead-trans x y z f (inr a) (inl b) = inl (line_total.congr x y z a.0 ∙ b)
-ahead-trans x y z f (inr a) (inr b) = let full : y.lo < y.hi = f in inr (line_total.congr x y z a.0 ∙ b.0, omega (arith, a.1, b.1, full))
+ahead-trans x y z f (inr a) (inr b) = let full : y.from < y.to = f in inr (line_total.congr x y z a.0 ∙ b.0, omega (arith, a.1, b.1, full))
 
 ahead_shares : (x y : Part) → Ahead x y → share_nothing x y ≡ true
 ahead_shares x y (inl a) = by_line (same_line x y) refl
@@ -158,7 +158,7 @@ ahead_shares x y (inl a) = by_line (same_line x y) refl
     less_not_equal : Less ≡ Equal → ⊥
     less_not_equal e = absurd cc
 
-    by_line : (b : Bool) → same_line x y ≡ b → (not (same_line x y) || nat_le x.hi y.lo || nat_le y.hi x.lo) ≡ true
+    by_line : (b : Bool) → same_line x y ≡ b → (not (same_line x y) || nat_le x.to y.from || nat_le y.to x.from) ≡ true
     by_line true e = absurd (less_not_equal (sym a ∙ line_is x y e))
     by_line false e = rw e refl
 ahead_shares x y (inr a) = or_left _ _ (or_right _ _ (le-leb _ _ a.1))
@@ -169,22 +169,22 @@ ahead_from_order x y fx fy order shares = by_cases (line_cmp x y) refl
     at_most : (m n : ℕ) → is_lt (nat_cmp m n) ≡ false → n ≤ m
     at_most m n h = grind (arith, nat_tests)
 
-    by_ends : (b : Bool) → nat_le x.hi y.lo ≡ b → line_cmp x y ≡ Equal → Ahead x y
+    by_ends : (b : Bool) → nat_le x.to y.from ≡ b → line_cmp x y ≡ Equal → Ahead x y
     by_ends true f e = inr (e, leb-true _ _ f)
     by_ends false f e =
-        let full : y.lo < y.hi = fy in
+        let full : y.from < y.to = fy in
         let tied : line_cmp y x ≡ Equal = tied_back line_total x y e in
-        let low : x.lo ≤ y.lo = at_most y.lo x.lo (subst (λ o. is_lt (ordering_then o (nat_cmp y.lo x.lo)) ≡ false) tied order) in
-        let other : nat_le y.hi x.lo ≡ true = subst (λ b. (b || nat_le y.hi x.lo) ≡ true) f (subst (λ b. (not b || nat_le x.hi y.lo || nat_le y.hi x.lo) ≡ true) (line_of x y e) shares) in
-        let above : y.hi ≤ x.lo = leb-true _ _ other in
+        let low : x.from ≤ y.from = at_most y.from x.from (subst (λ o. is_lt (ordering_then o (nat_cmp y.from x.from)) ≡ false) tied order) in
+        let other : nat_le y.to x.from ≡ true = subst (λ b. (b || nat_le y.to x.from) ≡ true) f (subst (λ b. (not b || nat_le x.to y.from || nat_le y.to x.from) ≡ true) (line_of x y e) shares) in
+        let above : y.to ≤ x.from = leb-true _ _ other in
         absurd (omega (arith, full, low, above))
 
     by_cases : (o : Ordering) → line_cmp x y ≡ o → Ahead x y
     by_cases Less e = inl e
-    by_cases Equal e = by_ends (nat_le x.hi y.lo) refl e
+    by_cases Equal e = by_ends (nat_le x.to y.from) refl e
     by_cases Greater e =
         let less : line_cmp y x ≡ Less = line_total.antisymm y x ∙ ap ordering_reverse e in
-        absurd (true≢false (subst (λ o. is_lt (ordering_then o (nat_cmp y.lo x.lo)) ≡ false) less order))
+        absurd (true≢false (subst (λ o. is_lt (ordering_then o (nat_cmp y.from x.from)) ≡ false) less order))
 
 -- ---- all of them
 
@@ -227,7 +227,7 @@ sweep_answer xs ys b filled same order all some = go b refl
     go true e = e ∙ sym (alike ∙ each_share ys (all_ahead ys full order (OnTrue_at e all)))
     go false e =
         let m = OnFalse_at e some in
-        let d : Part = record { edit = 0; asset = 0; link = 0; lo = 0; hi = 0; side = Left } in
+        let d : Part = record { edit = 0; asset = 0; link = 0; from = 0; to = 0; side = Left } in
         e ∙ sym (alike ∙ each_two_fails share_nothing share_nothing-comm ys m.0 d m.1 (m.2 d))
 
 -- ---- what a loop over neighbours finds

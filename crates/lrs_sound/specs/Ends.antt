@@ -6,10 +6,10 @@ use Rattle.lrs_sound.specs.declared.ends.End.{End}
 use Rattle.lrs_sound.specs.Sweeping.{is_right}
 
 abbrev pub start_of : Part → End
-start_of p = record { asset = p.asset; link = p.link; right = is_right p.side; mm = p.lo }
+start_of p = record { asset = p.asset; link = p.link; right = is_right p.side; mm = p.from }
 
 abbrev pub end_of : Part → End
-end_of p = record { asset = p.asset; link = p.link; right = is_right p.side; mm = p.hi }
+end_of p = record { asset = p.asset; link = p.link; right = is_right p.side; mm = p.to }
 
 -- by asset, link and side, and then by millimetre
 abbrev pub IsRising : End → End → Type 0

@@ -23,7 +23,7 @@ fn end_on_links(links: &[Link], pieces: &[Piece]) -> bool
 {
     pieces
         .iter()
-        .all(|piece| link_reaches(links, piece.link, piece.b))
+        .all(|piece| link_reaches(links, piece.link, piece.to))
 }
 
 /// Whether a course runs over known links alone.

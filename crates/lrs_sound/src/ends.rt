@@ -28,7 +28,7 @@ fn start_of(part: &Part) -> End
         asset: part.asset,
         link: part.link,
         right: matches!(part.side, LinkSide::Right),
-        mm: part.lo,
+        mm: part.from,
     }
 }
 
@@ -39,7 +39,7 @@ fn end_of(part: &Part) -> End
         asset: part.asset,
         link: part.link,
         right: matches!(part.side, LinkSide::Right),
-        mm: part.hi,
+        mm: part.to,
     }
 }
 

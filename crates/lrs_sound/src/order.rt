@@ -55,7 +55,7 @@ fn part_key(part: &Part) -> [u64; 5]
         part.edit,
         part.asset,
         u64::from(part.link),
-        u64::from(part.lo),
+        u64::from(part.from),
         side_number(part.side),
     ]
 }
@@ -68,7 +68,7 @@ fn gone_key(gone: &Gone) -> [u64; 6]
         u64::from(gone.abandoned),
         gone.part.asset,
         u64::from(gone.part.link),
-        u64::from(gone.part.lo),
+        u64::from(gone.part.from),
         side_number(gone.part.side),
     ]
 }

@@ -9,9 +9,9 @@ ghost use Rattle.lrs_sound.specs.Sweeping.{IsInOrder};
 use lrs_events::Part;
 
 fn places(part: &Part) -> u64
-    ensures { result ≡ part.now.hi - part.now.lo }
+    ensures { result ≡ part.now.to - part.now.from }
 {
-    u64::from(part.hi.saturating_sub(part.lo))
+    u64::from(part.to.saturating_sub(part.from))
 }
 
 // What is summed of the part's asset so far.

@@ -15,7 +15,7 @@ fn share_nothing(x: &Part, y: &Part) -> bool
     ensures { result ≡ share_nothing x.now y.now }
 {
     let same_line = x.asset == y.asset && x.link == y.link && x.side == y.side;
-    !same_line || x.hi <= y.lo || y.hi <= x.lo
+    !same_line || x.to <= y.from || y.to <= x.from
 }
 
 fn neighbours_share_nothing(parts: &[Part]) -> bool
@@ -31,11 +31,11 @@ fn neighbours_share_nothing(parts: &[Part]) -> bool
 }
 
 fn line_key(part: &Part) -> ((u64, u32, bool), u32)
-    ensures { result ≡ ((part.now.asset, part.now.link, is_right part.now.side), part.now.lo) }
+    ensures { result ≡ ((part.now.asset, part.now.link, is_right part.now.side), part.now.from) }
 {
     (
         (part.asset, part.link, matches!(part.side, LinkSide::Right)),
-        part.lo,
+        part.from,
     )
 }
 

@@ -139,7 +139,7 @@ impl Sample {
         } else {
             LinkSide::Right
         };
-        let (lo, hi) = if back {
+        let (from, to) = if back {
             (
                 self.length().saturating_sub(to),
                 self.length().saturating_sub(from),
@@ -151,8 +151,8 @@ impl Sample {
             edit: u64::from(place) + 1,
             asset: scattered(place),
             link: route.saturating_add(1),
-            lo,
-            hi,
+            from,
+            to,
             side,
         }
     }
@@ -190,8 +190,8 @@ impl Sample {
         let number = u64::from(route);
         let piece = Piece {
             link: route.saturating_add(1),
-            a: 0,
-            b: self.length(),
+            from: 0,
+            to: self.length(),
             forward: !self.runs_back(route),
         };
         let referent = Referent {

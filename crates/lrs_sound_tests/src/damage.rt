@@ -98,8 +98,8 @@ impl Change for Part {
             0 => part.edit = nudged(draws, part.edit),
             1 => part.asset = nudged(draws, part.asset),
             2 => part.link = nudged_32(draws, part.link),
-            3 => part.lo = nudged_32(draws, part.lo),
-            4 => part.hi = nudged_32(draws, part.hi),
+            3 => part.from = nudged_32(draws, part.from),
+            4 => part.to = nudged_32(draws, part.to),
             _ => part.side = other_side(part.side),
         }
         part
@@ -126,8 +126,8 @@ impl Change for Piece {
         let mut piece = *self;
         match draws.below(4) {
             0 => piece.link = nudged_32(draws, piece.link),
-            1 => piece.a = nudged_32(draws, piece.a),
-            2 => piece.b = nudged_32(draws, piece.b),
+            1 => piece.from = nudged_32(draws, piece.from),
+            2 => piece.to = nudged_32(draws, piece.to),
             _ => piece.forward = !piece.forward,
         }
         piece

@@ -93,20 +93,20 @@ struct Cut {
 fn cuts(rt: &(impl Abort + AllocGlobal), draws: &mut Draws, links: &[Link]) -> Vec<Cut> {
     let mut cuts = Vec::new(rt.alloc());
     for link in links {
-        let mut a = 0u32;
+        let mut from = 0u32;
         for _ in 0..link.length {
-            let b = link.length.min(a.saturating_add(1 + draws.below(5) as u32));
+            let to = link.length.min(from.saturating_add(1 + draws.below(5) as u32));
             let piece = Piece {
                 link: link.number,
-                a,
-                b,
+                from,
+                to,
                 forward: draws.below(2) == 0,
             };
             let route = draws.below(ROUTES + 1);
-            if a < b {
+            if from < to {
                 cuts.push(Cut { route, piece }).expect(rt, "memory");
             }
-            a = b;
+            from = to;
         }
     }
     cuts
@@ -227,14 +227,14 @@ fn drawn_fate(draws: &mut Draws) -> Fate {
 /// Whether the part goes on where the row ends.
 fn goes_on(row: &Part, part: &Part) -> bool {
     let same_line = row.asset == part.asset && row.link == part.link && row.side == part.side;
-    same_line && row.edit == part.edit && row.hi == part.lo
+    same_line && row.edit == part.edit && row.to == part.from
 }
 
 /// Adds a part, most often to the last row where it goes on with that.
 fn add_entered(rt: &impl Abort, draws: &mut Draws, rows: &mut Vec<Part>, part: Part) {
     if let Some(last) = rows.last_mut() {
         if goes_on(last, &part) && draws.below(8) != 0 {
-            last.hi = part.hi;
+            last.to = part.to;
             return;
         }
     }
@@ -246,7 +246,7 @@ fn add_gone(rt: &impl Abort, draws: &mut Draws, rows: &mut Vec<Gone>, gone: Gone
     if let Some(last) = rows.last_mut() {
         let alike = last.abandoned == gone.abandoned && goes_on(&last.part, &gone.part);
         if alike && draws.below(8) != 0 {
-            last.part.hi = gone.part.hi;
+            last.part.to = gone.part.to;
             return;
         }
     }
@@ -276,13 +276,13 @@ fn enter_line(
     side: LinkSide,
 ) {
     let mut gone = Fate::Free;
-    for lo in 0..link.length {
+    for mm in 0..link.length {
         if draws.below(3) == 0 {
             gone = drawn_fate(draws);
         }
         let place = Place {
             link: link.number,
-            mm: lo,
+            mm,
             side,
         };
         let held = plain::holds(image.routes.as_slice(), asset.number, place);
@@ -290,8 +290,8 @@ fn enter_line(
             edit: asset.entry,
             asset: asset.number,
             link: link.number,
-            lo,
-            hi: lo.saturating_add(1),
+            from: mm,
+            to: mm.saturating_add(1),
             side,
         };
         enter(rt, draws, image, part, if held { Fate::Held } else { gone });

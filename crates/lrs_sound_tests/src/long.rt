@@ -53,8 +53,8 @@ fn part(edit: u64, asset: u64, link: u32, side: LinkSide) -> Part {
         edit,
         asset,
         link,
-        lo: 0,
-        hi: LONGEST_LINK,
+        from: 0,
+        to: LONGEST_LINK,
         side,
     }
 }
@@ -73,8 +73,8 @@ fn entered(rt: &(impl Abort + AllocGlobal)) -> Rows<Part> {
     }
     for place in 0..PIECES {
         let millimetre = Part {
-            lo: 2 * place,
-            hi: 2 * place + 1,
+            from: 2 * place,
+            to: 2 * place + 1,
             ..part(3, 3, 11, LinkSide::Right)
         };
         parts.push(millimetre).expect(rt, "memory");
@@ -268,7 +268,7 @@ fn with_entered(rt: &(impl Abort + AllocGlobal), part: Part) -> Image {
 #[test]
 fn entered_parts(rt: HostRuntime) {
     let one_more = Part {
-        hi: 1,
+        to: 1,
         ..part(4, 2, 11, LinkSide::Left)
     };
     // one place more than an asset may have
@@ -281,14 +281,14 @@ fn entered_parts(rt: HostRuntime) {
     names(&rt, Table::Gone, with_entered(&rt, other));
     // the last millimetre twice
     let twice = Part {
-        lo: LONGEST_LINK - 1,
+        from: LONGEST_LINK - 1,
         ..part(4, 1, 10, LinkSide::Left)
     };
     names(&rt, Table::Entered, with_entered(&rt, twice));
     // a millimetre past the end of a link
     let beyond = Part {
-        lo: LONGEST_LINK,
-        hi: LONGEST_LINK + 1,
+        from: LONGEST_LINK,
+        to: LONGEST_LINK + 1,
         ..part(4, 1, 10, LinkSide::Left)
     };
     names(&rt, Table::Entered, with_entered(&rt, beyond));
@@ -300,7 +300,7 @@ fn unbalanced_ledgers(rt: HostRuntime) {
     forgotten.gone.items.pop();
     let mut shorter = long_image(&rt);
     if let Some(last) = shorter.gone.items.last_mut() {
-        last.part.hi = LONGEST_LINK - 1;
+        last.part.to = LONGEST_LINK - 1;
     }
     let mut never = long_image(&rt);
     never.entered.items.pop();

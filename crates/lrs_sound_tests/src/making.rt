@@ -64,33 +64,33 @@ pub fn asset(rt: &impl Abort, number: u64, class: &[u8]) -> Asset {
 }
 
 /// A part that edit 8 entered for asset 10.
-pub fn part(link: u32, lo: u32, hi: u32, side: LinkSide) -> Part {
+pub fn part(link: u32, from: u32, to: u32, side: LinkSide) -> Part {
     Part {
         edit: 8,
         asset: 10,
         link,
-        lo,
-        hi,
+        from,
+        to,
         side,
     }
 }
 
 /// A piece of a link that a course runs ahead.
-pub fn forth(link: u32, a: u32, b: u32) -> Piece {
+pub fn forth(link: u32, from: u32, to: u32) -> Piece {
     Piece {
         link,
-        a,
-        b,
+        from,
+        to,
         forward: true,
     }
 }
 
 /// A piece of a link that a course runs back.
-pub fn back(link: u32, a: u32, b: u32) -> Piece {
+pub fn back(link: u32, from: u32, to: u32) -> Piece {
     Piece {
         link,
-        a,
-        b,
+        from,
+        to,
         forward: false,
     }
 }

@@ -54,11 +54,11 @@ fn with_gone<const N: usize>(rt: &(impl Abort + AllocGlobal), gone: [Gone; N]) -
 }
 
 /// A part of link 1 that edit 7 retired or abandoned.
-fn gone(abandoned: bool, lo: u32, hi: u32, side: LinkSide) -> Gone {
+fn gone(abandoned: bool, from: u32, to: u32, side: LinkSide) -> Gone {
     Gone {
         part: Part {
             edit: 7,
-            ..part(1, lo, hi, side)
+            ..part(1, from, to, side)
         },
         abandoned,
     }

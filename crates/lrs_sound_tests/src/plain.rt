@@ -50,13 +50,13 @@ fn at_each_place<F: Fn(Place) -> bool>(links: &[Link], test: F) -> bool
 fn ground(pieces: &[Piece], at: u64) -> Option<(u32, u32, bool)> {
     let mut left = at;
     for piece in pieces {
-        let len = u64::from(piece.b.saturating_sub(piece.a));
+        let len = u64::from(piece.to.saturating_sub(piece.from));
         if left < len {
             let along = left as u32;
             let mm = if piece.forward {
-                piece.a.saturating_add(along)
+                piece.from.saturating_add(along)
             } else {
-                piece.b.saturating_sub(along).saturating_sub(1)
+                piece.to.saturating_sub(along).saturating_sub(1)
             };
             return Some((piece.link, mm, piece.forward));
         }
@@ -112,7 +112,7 @@ fn has_asset(assets: &[Asset], number: u64) -> bool {
 
 fn has_place(part: &Part, asset: u64, place: Place) -> bool {
     let here = part.asset == asset && part.link == place.link && part.side == place.side;
-    here && part.lo <= place.mm && place.mm < part.hi
+    here && part.from <= place.mm && place.mm < part.to
 }
 
 fn is_asset(classes: &[Class], asset: &Asset) -> bool {
@@ -146,7 +146,7 @@ fn runs(routes: &[RouteEntry], place: Place) -> u64 {
     let mut count = 0u64;
     for entry in routes {
         for piece in entry.route.course.pieces() {
-            if piece.link == place.link && piece.a <= place.mm && place.mm < piece.b {
+            if piece.link == place.link && piece.from <= place.mm && place.mm < piece.to {
                 count = count.saturating_add(1);
             }
         }
@@ -238,8 +238,8 @@ fn for_each_asset<F: Fn(u64, Place) -> bool>(image: &Image, test: F) -> bool
 }
 
 fn is_part(image: &Image, part: &Part) -> bool {
-    part.lo < part.hi
-        && has_link(image.links.as_slice(), part.link, part.hi.saturating_sub(1))
+    part.from < part.to
+        && has_link(image.links.as_slice(), part.link, part.to.saturating_sub(1))
         && has_asset(image.assets.as_slice(), part.asset)
 }
 
@@ -265,7 +265,7 @@ fn lies_before(x: &Part, y: &Part) -> bool {
     if x.link != y.link {
         return x.link < y.link;
     }
-    x.lo < y.lo || (x.lo == y.lo && side_number(x.side) < side_number(y.side))
+    x.from < y.from || (x.from == y.from && side_number(x.side) < side_number(y.side))
 }
 
 /// Whether the first comes before the second, by edit and then by where they lie.

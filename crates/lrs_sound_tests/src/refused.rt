@@ -21,13 +21,13 @@ fn signs() -> Option<Class> {
 }
 
 /// A part of link 1 of which edit 1 tells.
-fn told(lo: u32, hi: u32) -> Part {
+fn told(from: u32, to: u32) -> Part {
     Part {
         edit: 1,
         asset: 10,
         link: 1,
-        lo,
-        hi,
+        from,
+        to,
         side: LinkSide::Right,
     }
 }
@@ -47,8 +47,8 @@ fn route(alloc: Global, links: &[Link]) -> Option<RouteEntry> {
     };
     let piece = Piece {
         link: 1,
-        a: 0,
-        b: 9,
+        from: 0,
+        to: 9,
         forward: false,
     };
     let course = laying::course(alloc, links, &[piece])?;

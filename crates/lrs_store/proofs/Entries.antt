@@ -42,7 +42,7 @@ module _ (told : List Part) where
   parts-same : (links : List Link) (assets : List Asset) (parts : List Part) → are_parts links (map entry assets) parts ≡ are_parts links assets parts
   parts-same links assets parts =
       ap₂ (λ (g : Part → Bool) b. list_all g parts && each_two share_nothing parts && b)
-      (λ i p. nat_lt p.lo p.hi && list_any (λ l. nat_eq l.number p.link && nat_le p.hi l.length) links && list_any-map (λ a. nat_eq a.number p.asset) entry assets i)
+      (λ i p. nat_lt p.from p.to && list_any (λ l. nat_eq l.number p.link && nat_le p.to l.length) links && list_any-map (λ a. nat_eq a.number p.asset) entry assets i)
       (list_all-map (λ a. nat_le (pairs_of a.number parts) most_pairs) entry assets)
 
   pub entered-same : (links : List Link) (assets : List Asset) (parts : List Part) → are_entered links (map entry assets) parts ≡ are_entered links assets parts

@@ -131,7 +131,7 @@ piece_of r = do
   a ← short r.a
   b ← short r.b
   forward ← whole r.dir >>= is_forward_numbered
-  only_if (is_route_name r.route && nat_lt a b) (record { route = r.route; said = record { n = n; said = record { link = link; a = a; b = b; forward = forward } } })
+  only_if (is_route_name r.route && nat_lt a b) (record { route = r.route; said = record { n = n; said = record { link = link; from = a; to = b; forward = forward } } })
 
 abbrev pub mark_of : MarkRow → Option (OfRoute (Numbered Mark))
 mark_of r = do
@@ -167,7 +167,7 @@ part_of r = do
   lo ← short r.lo
   hi ← short r.hi
   side ← whole r.side >>= link_side_numbered
-  Some (record { edit = edit; asset = asset; link = link; lo = lo; hi = hi; side = side })
+  Some (record { edit = edit; asset = asset; link = link; from = lo; to = hi; side = side })
 
 abbrev pub gone_of : GoneRow → Option Gone
 gone_of r = do

@@ -76,8 +76,8 @@ or_none None = refl
 or_none (Some l) = refl
 
 -- ... and of the same length
-pub bad : (links : List Link) (p : Piece) → (nat_le p.b p.a || nat_lt (unwrap_or (find nat_cmp p.link (map link_entry links)) 0) p.b) ≡ is_bad_piece links p
-bad links p = ap (λ n. nat_le p.b p.a || nat_lt n p.b) (ap (λ o. unwrap_or o 0) (found_length p.link links) ∙ or_none (list.find (has_number p.link) links))
+pub bad : (links : List Link) (p : Piece) → (nat_le p.to p.from || nat_lt (unwrap_or (find nat_cmp p.link (map link_entry links)) 0) p.to) ≡ is_bad_piece links p
+bad links p = ap (λ n. nat_le p.to p.from || nat_lt n p.to) (ap (λ o. unwrap_or o 0) (found_length p.link links) ∙ or_none (list.find (has_number p.link) links))
 
 -- ---- tests and the first place where they pass
 
@@ -135,14 +135,14 @@ at_same g h = λ j. nat_eq-comm h.link g.link j && nat_eq-comm h.mm g.mm j
 -- a millimetre of a piece
 record IsOf (p : Piece) (g : Ground) : Type 0 where
   link : g.link ≡ p.link
-  below : g.mm < p.b
+  below : g.mm < p.to
 
 is_of : (p : Piece) (g : Ground) → In g (expand p) → IsOf p g
 is_of p g m =
     let at = place_in g g (expand p) m in
     let inside : at.0 < piece_len p = omega (arith, length-expand p, at.1) in
     let is : g ≡ ground_of p at.0 = sym at.2 ∙ get_or-expand p at.0 g inside in
-    let there : IsOf p (ground_of p at.0) = record { link = refl; below = by p.forward p.a p.b at.0 inside } in
+    let there : IsOf p (ground_of p at.0) = record { link = refl; below = by p.forward p.from p.to at.0 inside } in
     subst (IsOf p) (sym is) there
   where
     by : (f : Bool) (a b i : ℕ) → i < b - a → cond f (a + i) (b - 1 - i) < b
@@ -155,7 +155,7 @@ piece_once p = each_two-from_places differs (expand p) (λ i j d less inside.
     let last : j < piece_len p = omega (arith, length-expand p, inside) in
     let first : i < piece_len p = omega (arith, last, less) in
     subst (λ g. differs g (get_or (expand p) j d) ≡ true) (sym (get_or-expand p i d first))
-    (subst (λ h. differs (ground_of p i) h ≡ true) (sym (get_or-expand p j d last)) (apart (nat_eq p.link p.link) (other p.forward p.a p.b i j less last))))
+    (subst (λ h. differs (ground_of p i) h ≡ true) (sym (get_or-expand p j d last)) (apart (nat_eq p.link p.link) (other p.forward p.from p.to i j less last))))
   where
     other : (f : Bool) (a b i j : ℕ) → i < j → j < b - a → nat_eq (cond f (a + j) (b - 1 - j)) (cond f (a + i) (b - 1 - i)) ≡ false
     other true a b i j h k = ne_eqb (a + j) (a + i) (λ e. absurd (omega arith))
@@ -196,8 +196,8 @@ pub on_links : (links : List Link) (pieces : List Piece) → position (is_bad_pi
 on_links links pieces none = all_from (is_on_a_link links) (course_of pieces) (λ g m.
     let found = flat_map_found expand g pieces m in
     let p = found.0 in
-    let fine = or_parts (nat_le p.b p.a) (nat_lt (length_of links p.link) p.b) (fails_at (is_bad_piece links) p pieces (no_place (is_bad_piece links) pieces none) found.1) in
-    let within : p.b ≤ length_of links p.link = ltb-false (length_of links p.link) p.b fine.1 in
+    let fine = or_parts (nat_le p.to p.from) (nat_lt (length_of links p.link) p.to) (fails_at (is_bad_piece links) p pieces (no_place (is_bad_piece links) pieces none) found.1) in
+    let within : p.to ≤ length_of links p.link = ltb-false (length_of links p.link) p.to fine.1 in
     let of = is_of p g found.2 in
     on_link g.link g.mm links (subst (λ n. g.mm < length_of links n) (sym of.link) (omega (arith, of.below, within))))
 

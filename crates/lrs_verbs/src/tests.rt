@@ -53,11 +53,11 @@ fn class(rt: &impl Abort, text: &str, kind: Kind) -> Class {
     Class { name, kind }
 }
 
-fn piece(link: u32, a: u32, b: u32, forward: bool) -> Piece {
+fn piece(link: u32, from: u32, to: u32, forward: bool) -> Piece {
     Piece {
         link,
-        a,
-        b,
+        from,
+        to,
         forward,
     }
 }

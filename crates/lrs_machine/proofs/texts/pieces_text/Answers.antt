@@ -7,7 +7,7 @@ use Rattle.lrs_machine.proofs.texts.pieces_text.Goals as goal
 
 pub loop-i-preserved : goal.loop-i-preserved
 loop-i-preserved c =
-    let d : Piece = record { link = 0; a = 0; b = 0; forward = false } in
+    let d : Piece = record { link = 0; from = 0; to = 0; forward = false } in
     let i = c.loop-i.i in
     c.in_ok-push_word.ensures
     ∙ ap (after_words (nat_eq i 0) (string_bytes c.loop-i.words)) (c.as_str.ensures.value ∙ c.in_ok-word.ensures)

@@ -4,9 +4,9 @@ use Rattle.lrs_index.proofs.ground_index.GroundIndex.change_piece.Given as goal
 
 abbrev pub invariant-loop-begin : goal.invariant-loop-begin
 invariant-loop-begin l = record {
-  handed : IsHanded l.fn.self l.self l.piece.link l.edge l.piece.b l.heir;
-  within : l.edge ≤ l.piece.b;
-  reached : (l.edge ≡ l.piece.b) ⊎ (l.piece.a ≤ l.edge);
+  handed : IsHanded l.fn.self l.self l.piece.link l.edge l.piece.to l.heir;
+  within : l.edge ≤ l.piece.to;
+  reached : (l.edge ≡ l.piece.to) ⊎ (l.piece.from ≤ l.edge);
 }
 
 -- each turn goes back along the link

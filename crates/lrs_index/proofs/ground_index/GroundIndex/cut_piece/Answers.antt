@@ -9,7 +9,7 @@ returns-in_err-cut-2-clause-others c = stays_whole c.args.self.now c.cut-2.new.s
 
 pub returns-clause-whole : goal.returns-clause-whole
 returns-clause-whole c = whole_cut c.cut-2.new.self c.args.piece.now
-    (cut_parts c.cut.new.self c.cut-2.new.self c.args.piece.now.link c.args.piece.now.a c.cut-2.ensures.parts c.in_ok-cut.ensures.cut)
+    (cut_parts c.cut.new.self c.cut-2.new.self c.args.piece.now.link c.args.piece.now.from c.cut-2.ensures.parts c.in_ok-cut.ensures.cut)
     c.in_ok-cut-2.ensures.cut
 
 pub returns-clause-others : goal.returns-clause-others
