@@ -10,8 +10,7 @@ use Rattle.std.proofs.lemmas.Bool.{false≢true, both_ways, and_parts, and_from,
 use Rattle.std.proofs.lemmas.List.Folds.{list_all-map}
 use Rattle.lrs_measure.specs.Lists.{each_two}
 use Rattle.lrs_measure.specs.Ordered.{insert_by}
-use Rattle.lrs_machine.proofs.Members.{In}
-use Rattle.lrs_orderly.proofs.Found.{all_weaker}
+use Rattle.lrs_machine.proofs.Members.{In, all_weaker}
 
 pub is_false : (b : Bool) → (b ≡ true → ⊥) → b ≡ false
 is_false true h = absurd (h refl)

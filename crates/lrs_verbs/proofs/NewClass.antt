@@ -22,7 +22,7 @@ use Rattle.lrs_machine.specs.Machine.{attempt, refuse_if, ◌>>◌}
 use Rattle.lrs_machine.specs.Sound.{class_before, asset_before, is_asset, are_assets, IsSound}
 use Rattle.lrs_keep.specs.Change.{with_difference}
 use Rattle.lrs_orderly.specs.Orderly.{IsOrderly}
-use Rattle.lrs_orderly.proofs.Found.{all_weaker}
+use Rattle.lrs_machine.proofs.Members.{all_weaker}
 use Rattle.lrs_orderly.proofs.Ordering.{sound_is_orderly}
 use Rattle.lrs_verbs.specs.Plans.{plan_of, IsPlanOf}
 use Rattle.lrs_verbs.proofs.NamedEntries.{names_exact}

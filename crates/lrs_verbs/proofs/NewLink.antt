@@ -26,7 +26,7 @@ use Rattle.lrs_machine.specs.Machine.{attempt, refuse_if, ◌>>◌}
 use Rattle.lrs_machine.specs.Sound.{link_before, is_on_a_link, is_course, RouteCourse, course_before, are_courses, courses_of, IsSound}
 use Rattle.lrs_keep.specs.Change.{with_difference}
 use Rattle.lrs_orderly.specs.Orderly.{IsOrderly}
-use Rattle.lrs_orderly.proofs.Found.{all_weaker}
+use Rattle.lrs_machine.proofs.Members.{all_weaker}
 use Rattle.lrs_orderly.proofs.Ordering.{sound_is_orderly}
 use Rattle.lrs_verbs.specs.Plans.{plan_of, IsPlanOf}
 use Rattle.lrs_verbs.proofs.Filed.{is_some-find_row, put-insert_by}
