@@ -57,7 +57,7 @@ def test_parts_of_a_ledger_bear_a_refused_growth():
 
 
 def test_a_desk_bears_a_refused_growth():
-    assert each_refused_call("lrs_desk", step=4) >= {"Desk::open", "run", "link", "class", "route"}
+    assert each_refused_call("lrs_desk_tests", step=4) >= {"Desk::open", "run", "link", "class", "route"}
 
 
 def test_deciding_soundness_bears_a_refused_growth():
