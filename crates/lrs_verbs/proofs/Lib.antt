@@ -2,7 +2,6 @@ pub mod NamedEntries
 pub mod Positions
 pub mod Keyed
 pub mod Standing
-pub mod InOrder
 pub mod Filed
 pub mod NewCourse
 pub mod Unmoved
