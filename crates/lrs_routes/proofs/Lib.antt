@@ -4,4 +4,6 @@ pub mod Listed
 pub mod Naming
 pub mod Rewriting
 pub mod Standing
+pub mod Running
+pub mod Differences
 pub mod Renaming
