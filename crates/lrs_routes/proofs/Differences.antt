@@ -1,10 +1,8 @@
 -- Routes are dropped and written by a difference.
 use Rattle.std.proofs.Common.{◌≡◌, Bool, true, false, cond, inl, inr, List, [], ◌∷◌, filter, Option, Some, None, refl, sym, ap, ◌∙◌}
-use Rattle.std.specs.Prelude.{◌||◌, ◌&&◌, not}
-use Rattle.std.specs.List.{list_any, list_all, cons_option, find}
-use Rattle.std.specs.Option.{option_map, option_and_then}
-use Rattle.std.proofs.Math.Bool.{or-false}
-use Rattle.std.proofs.lemmas.Bool.{and_parts, and_from}
+use Rattle.std.specs.Prelude.{not}
+use Rattle.std.specs.List.{list_all, cons_option}
+use Rattle.std.proofs.lemmas.Bool.{and_parts}
 use Rattle.std.proofs.lemmas.List.{append-nil}
 use Rattle.lrs_measure.specs.Lists.{each_two}
 use Rattle.lrs_measure.specs.Ordered.{insert_by, insert_some, insert_all}
@@ -12,10 +10,10 @@ use Rattle.lrs_measure.specs.Texts.{Name, same_name}
 use Rattle.lrs_machine.specs.declared.image.RouteEntry.{RouteEntry}
 use Rattle.lrs_machine.specs.declared.image.Image.{Image}
 use Rattle.lrs_machine.specs.Sound.{route_before, IsSound}
-use Rattle.lrs_machine.proofs.Members.{In, all_at, all_of}
+use Rattle.lrs_machine.proofs.Members.{In, all_at}
 use Rattle.lrs_keep.specs.declared.change.RouteChange.{RouteChange}
 use Rattle.lrs_keep.specs.declared.change.Difference.{Difference}
-use Rattle.lrs_keep.specs.Change.{is_named, without, without_some, routes_after, entry_after, no_difference, with_difference}
+use Rattle.lrs_keep.specs.Change.{is_named, without, without_some, routes_after, with_difference}
 use Rattle.lrs_keep.proofs.Named.{others-next, others-none}
 use Rattle.lrs_keep.proofs.Tables.{routes_in_order}
 use Rattle.lrs_routes.specs.Rewriting.{routes_left, rewritten, with_routes}

@@ -1,7 +1,7 @@
 -- Other marks, or another name.
-use Rattle.std.proofs.Common.{◌≡◌, ℕ, ◌+◌, ◌≤◌, Bool, true, false, inl, inr, List, [], ◌∷◌, ◌++◌, map, length, Option, Some, None, Ok, refl, sym, ap, subst, ◌∙◌, arith}
+use Rattle.std.proofs.Common.{◌≡◌, ℕ, ◌+◌, ◌≤◌, Bool, true, false, cond, inl, inr, List, [], ◌∷◌, ◌++◌, map, length, Option, Some, None, Ok, refl, sym, ap, subst, ◌∙◌, arith}
 use Rattle.std.specs.Prelude.{◌||◌, not, is_some, is_none, nat_eq}
-use Rattle.std.specs.Option.{ok_or}
+use Rattle.std.specs.Option.{ok_or, option_or, option_map}
 use Rattle.std.specs.List.{list_any, list_all, flat_map, filter_map}
 use Rattle.std.proofs.lemmas.Bool.{false≢true, both_ways, and_from, and_parts, or_left, eq-eqb}
 use Rattle.std.proofs.lemmas.List.{append-nil}
@@ -10,7 +10,7 @@ use Rattle.lrs_measure.specs.Lists.{each_two}
 use Rattle.lrs_measure.specs.Ordered.{insert_by}
 use Rattle.lrs_measure.specs.Texts.{Name, name_cmp, same_name}
 use Rattle.lrs_ordered.proofs.Places.{two_passing}
-use Rattle.lrs_element.specs.Course.{is_at}
+use Rattle.lrs_element.specs.Course.{Millimetre, is_at, runs_over}
 use Rattle.lrs_element.specs.Marks.{bad_mark}
 use Rattle.lrs_position.specs.declared.route.Referent.{Referent}
 use Rattle.lrs_position.specs.Routes.{referent_before}
@@ -36,11 +36,13 @@ use Rattle.lrs_keep.proofs.PutBack.{none_goes}
 use Rattle.lrs_keep.proofs.Tables.{routes_in_order}
 use Rattle.lrs_routes.specs.Rewriting.{routes_named, routes_left, rewritten, with_routes, has_referent, runs_at, IsLeft, AreFit}
 use Rattle.lrs_routes.specs.Standing.{SayTheSame}
+use Rattle.lrs_routes.specs.Running.{runs_on, is_run_by}
 use Rattle.lrs_routes.specs.Renaming.{HasSame, RenumberMakes, RecalibrateMakes}
 use Rattle.lrs_routes.proofs.InOrder.{is_false}
 use Rattle.lrs_routes.proofs.Listed.{In-filter, length-parted}
 use Rattle.lrs_routes.proofs.Naming.{same_either, earlier_name, only_one, removed, route_found, route_none, put_rewrites, left_in_order}
 use Rattle.lrs_routes.proofs.Rewriting.{are_unlike, its_course, old_spans, old_few, orderly}
+use Rattle.lrs_routes.proofs.Running.{moves_ground}
 use Rattle.lrs_routes.proofs.Standing.{keeps_state}
 
 -- the referents of a route have names of their own
@@ -105,10 +107,24 @@ module _ (i : Image) (r w : RouteEntry) (s : IsSound i) (m : In r i.routes) (sam
   abbrev new : Image
   new = with_routes (rewritten dropped written i.routes) i
 
+  pub same_state : state_of new ≡ record (state_of i) { routes = record { rows = map route_entry (rewritten dropped written i.routes) } }
+  same_state = keeps_state i dropped written s fit says
+
+  -- its ground passes to its name
+  pub moves : (at : Millimetre) → runs_on (rewritten dropped written i.routes) at ≡ cond (runs_over r.route.course at) (Some w.route.name) (runs_on i.routes at)
+  moves at =
+      moves_ground i dropped written s fit at
+      ∙ (λ j. option_or (option_map (λ (e : RouteEntry). e.route.name) (cond (runs_over (same.course j) at) (Some w) None)) (cond (list_any (is_run_by at) (ours j)) None (runs_on i.routes at)))
+      ∙ by (runs_over r.route.course at) (runs_on i.routes at)
+    where
+      by : (b : Bool) (o : Option Name) → option_or (option_map (λ (e : RouteEntry). e.route.name) (cond b (Some w) None)) (cond (b || false) None o) ≡ cond b (Some w.route.name) o
+      by true o = refl
+      by false o = refl
+
   -- What a command makes is this image, where it makes this route of the other.
   makes : (command : Command) (next : State) → attempt (length i.edits + 1) command (state_of i) ≡ Ok next → next ≡ record (state_of i) { routes = record { rows = map route_entry (rewritten dropped written i.routes) } } → Makes command i new
   makes command next does is = record {
-    state = does ∙ ap Ok (is ∙ sym (keeps_state i dropped written s fit says));
+    state = does ∙ ap Ok (is ∙ sym same_state);
     edits = refl;
     orderly = λ room. orderly i dropped written s fit few;
   }
@@ -116,7 +132,7 @@ module _ (i : Image) (r w : RouteEntry) (s : IsSound i) (m : In r i.routes) (sam
 -- ---- other marks
 
 module _ (i : Image) (r w : RouteEntry) (s : IsSound i) (m : In r i.routes) (same : HasSame r w) (name : w.route.name ≡ r.route.name) where
-  named_ours : (e : RouteEntry) → In e i.routes → same_name w.route.name e.route.name ≡ true → same_name e.route.name r.route.name ≡ true
+  pub named_ours : (e : RouteEntry) → In e i.routes → same_name w.route.name e.route.name ≡ true → same_name e.route.name r.route.name ≡ true
   named_ours e k h = same_either e.route.name r.route.name ∙ (λ j. same_name (sym name j) e.route.name) ∙ h
 
   abbrev outcome : State
@@ -157,8 +173,8 @@ module _ (i : Image) (r w : RouteEntry) (s : IsSound i) (m : In r i.routes) (sam
   none_named : (e : RouteEntry) → In e i.routes → same_name w.route.name e.route.name ≡ false
   none_named e k = is_false (same_name w.route.name e.route.name) (λ h. both_ways (list_any (is_named w.route.name) i.routes) fresh (any_of (is_named w.route.name) e i.routes k (same_either e.route.name w.route.name ∙ h)))
 
-  own : (e : RouteEntry) → In e i.routes → same_name w.route.name e.route.name ≡ true → same_name e.route.name r.route.name ≡ true
-  own e k h = absurd (both_ways (same_name w.route.name e.route.name) (none_named e k) h)
+  pub own_if_new : (e : RouteEntry) → In e i.routes → same_name w.route.name e.route.name ≡ true → same_name e.route.name r.route.name ≡ true
+  own_if_new e k h = absurd (both_ways (same_name w.route.name e.route.name) (none_named e k) h)
 
   abbrev others : List RouteEntry
   others = routes_left (r.route.name ∷ []) i.routes
@@ -188,7 +204,7 @@ module _ (i : Image) (r w : RouteEntry) (s : IsSound i) (m : In r i.routes) (sam
       >> Ok (set_route w.route.name a.course a.marks (drop_route r.route.name (state_of i))))
 
   renumbers : Makes (verb.Renumber r.route.name w.route.name) i (with_routes (rewritten (r.route.name ∷ []) (w ∷ []) i.routes) i)
-  renumbers = makes i r w s m same own (verb.Renumber r.route.name w.route.name) result attempts state_rows
+  renumbers = makes i r w s m same own_if_new (verb.Renumber r.route.name w.route.name) result attempts state_rows
 
 pub renumber_makes : RenumberMakes
 renumber_makes i r w s m same marks fresh = renumbers i r w s m same marks fresh

@@ -1,18 +1,18 @@
 -- Which route runs over a millimetre.
-use Rattle.std.proofs.Common.{◌≡◌, Bool, true, false, cond, ◌⊎◌, inl, inr, List, [], ◌∷◌, Option, Some, None, refl, sym, ap, subst, ◌∙◌}
+use Rattle.std.proofs.Common.{◌≡◌, Bool, true, false, cond, ◌⊎◌, inl, inr, List, [], ◌∷◌, Option, Some, None, refl, sym, ap, ◌∙◌}
 use Rattle.std.specs.Prelude.{◌||◌, not}
 use Rattle.std.specs.List.{list_any, find}
 use Rattle.std.specs.Option.{option_map, option_or}
-use Rattle.std.proofs.lemmas.Bool.{both_ways, not-true, or_from, or_cases, cases_Bool}
+use Rattle.std.proofs.lemmas.Bool.{both_ways, not-true, cases_Bool}
 use Rattle.lrs_measure.specs.Lists.{each_two}
 use Rattle.lrs_measure.specs.Texts.{Name, same_name}
-use Rattle.lrs_element.specs.Course.{Millimetre, is_at, runs_over, meets}
+use Rattle.lrs_element.specs.Course.{Millimetre, is_at, meets}
 use Rattle.lrs_canonical.proofs.Changing.{any_insert_all}
 use Rattle.lrs_machine.specs.declared.image.RouteEntry.{RouteEntry}
 use Rattle.lrs_machine.specs.declared.image.Image.{Image}
 use Rattle.lrs_machine.specs.Sound.{route_before, IsSound}
 use Rattle.lrs_machine.proofs.Members.{In, any_found, any_of, two_at}
-use Rattle.lrs_routes.specs.Rewriting.{routes_named, routes_left, rewritten, runs_at, AreFit}
+use Rattle.lrs_routes.specs.Rewriting.{routes_named, routes_left, rewritten, AreFit}
 use Rattle.lrs_routes.specs.Running.{runs_on, is_run_by, RewritingMovesGround}
 use Rattle.lrs_routes.proofs.InOrder.{is_false, none_found}
 use Rattle.lrs_routes.proofs.Apart.{at_is, meet_at}

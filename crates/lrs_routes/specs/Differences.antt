@@ -2,7 +2,6 @@
 use Rattle.std.specs.Prelude.{◌≡◌, false, List, [], Option, Some, None}
 use Rattle.std.specs.List.{cons_option, find}
 use Rattle.std.specs.Option.{option_map, option_and_then}
-use Rattle.lrs_measure.specs.Lists.{each_two}
 use Rattle.lrs_measure.specs.Texts.{Name, same_name}
 use Rattle.lrs_machine.specs.declared.image.RouteEntry.{RouteEntry}
 use Rattle.lrs_machine.specs.declared.image.Image.{Image}
@@ -10,7 +9,7 @@ use Rattle.lrs_machine.specs.Sound.{IsSound}
 use Rattle.lrs_keep.specs.declared.change.RouteChange.{RouteChange}
 use Rattle.lrs_keep.specs.declared.change.Difference.{Difference}
 use Rattle.lrs_keep.specs.Change.{is_named, entry_after, no_difference, with_difference}
-use Rattle.lrs_routes.specs.Rewriting.{rewritten, with_routes}
+use Rattle.lrs_routes.specs.Rewriting.{rewritten}
 
 -- the change of a route that leaves it as it is
 abbrev pub no_change : Name → RouteChange

@@ -12,4 +12,7 @@ pub mod Known
 pub mod Grounds
 pub mod Stopping
 pub mod Indexing
+pub mod Rerouted
+pub mod Recalibrated
+pub mod Renumbered
 pub mod Made

@@ -1,13 +1,13 @@
 -- A new route.
 use Rattle.std.proofs.Common.{◌≡◌, ℕ, ◌+◌, ◌≤◌, Bool, true, false, cond, List, [], length, Option, Some, None, Result, Ok, Err, refl, sym, ap, ◌∙◌, subst, arith}
-use Rattle.std.specs.Prelude.{nat_le, nat_eq, ◌||◌, ◌&&◌, not}
+use Rattle.std.specs.Prelude.{nat_le, ◌||◌, ◌&&◌, not}
 use Rattle.std.specs.List.{list_any, list_all, position, flat_map, filter_map, AllByRecursion}
 use Rattle.std.specs.List as list
 use Rattle.std.specs.Option.{option_map}
 use Rattle.std.specs.Ordering.{eq_by_cmp}
 use Rattle.std.specs.Cmp.Lexicographic.{nat_list_cmp_total}
 use Rattle.std.specs.FinMap.{find}
-use Rattle.std.proofs.lemmas.Bool.{false≢true, both_ways, and_parts, and_from, le-leb, eqb-true}
+use Rattle.std.proofs.lemmas.Bool.{false≢true, both_ways, and_parts, and_from, le-leb}
 use Rattle.std.proofs.lemmas.List.{append-nil, length-map}
 use Rattle.std.proofs.lemmas.List.Folds.{list_all-map, flat_map-map}
 use Rattle.lrs_measure.specs.Lists.{each_two}
