@@ -31,7 +31,7 @@ use Rattle.lrs_keep.proofs.Tables.{passes}
 use Rattle.lrs_verbs.specs.declared.plan.GroundChange.{GroundChange}
 use Rattle.lrs_verbs.specs.Changes.{CanChange, route_on}
 use Rattle.lrs_verbs.specs.Indexes.{IsReady}
-use Rattle.lrs_verbs.proofs.InOrder.{is_false, none_found}
+use Rattle.lrs_routes.proofs.InOrder.{is_false, none_found}
 use Rattle.lrs_verbs.proofs.NewRoute.{taken_is}
 
 -- ---- a sound image runs over each millimetre once

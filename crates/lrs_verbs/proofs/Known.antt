@@ -1,5 +1,6 @@
 -- Look-ups in an image, beside those in its state.
-use Rattle.std.proofs.Common.{◌≡◌, ℕ, zero, suc, ◌+◌, ◌<◌, List, [], ◌∷◌, map, length, get_or, Option, Some, sym, ap, ◌∙◌, arith}
+use Rattle.std.proofs.Common.{◌≡◌, ℕ, zero, suc, ◌+◌, ◌<◌, List, [], ◌∷◌, map, length, get_or, Option, Some, None, refl, sym, ap, ◌∙◌, arith}
+use Rattle.std.specs.Prelude.{is_some}
 use Rattle.std.specs.List.{find}
 use Rattle.std.specs.Option.{option_map}
 use Rattle.std.specs.Ordering.{nat_cmp, is_eq}
@@ -26,6 +27,13 @@ use Rattle.lrs_verbs.specs.Keys.{place_among}
 use Rattle.lrs_verbs.proofs.Positions.{position-map}
 use Rattle.lrs_verbs.proofs.Filed.{find_row, find_entry}
 
+-- what is found is known where what it stands for is
+pub same_known : {X Y Z : Type 0} (f : X → Z) (h : Y → Z) (o : Option X) (p : Option Y) → option_map f o ≡ option_map h p → is_some p ≡ is_some o
+same_known f h None None e = refl
+same_known f h None (Some y) e = absurd (cc e)
+same_known f h (Some x) None e = absurd (cc e)
+same_known f h (Some x) (Some y) e = refl
+
 abbrev class_entry : Class → Name × Kind
 class_entry c = (c.name, c.kind)
 
@@ -48,6 +56,11 @@ module _ (i : Image) where
 
   row_found : (name : Name) → find (λ e. is_eq (name_cmp e.route.name name)) i.routes ≡ find (is_named name) i.routes
   row_found name = λ j. find (λ e. sym (texts_ties e.route.name name) j) i.routes
+
+  -- the value at a name is that of the route of the name
+  pub route_value : (name : Name) → get (state_of i).routes name ≡ option_map (λ e. (route_entry e).1) (find (is_named name) i.routes)
+  unfolding state_of
+  route_value name = find_row nat_list_cmp_total names_exact route_entry i.routes name ∙ ap (option_map (λ (e : RouteEntry). (route_entry e).1)) (row_found name)
 
 -- ... for what is found in the lists that are seen as the image
 module _ (i seen : Image) (is : i ≡ seen) where

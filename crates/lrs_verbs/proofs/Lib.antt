@@ -2,7 +2,6 @@ pub mod NamedEntries
 pub mod Positions
 pub mod Keyed
 pub mod Standing
-pub mod InOrder
 pub mod Filed
 pub mod NewCourse
 pub mod Unmoved
@@ -13,4 +12,7 @@ pub mod Known
 pub mod Grounds
 pub mod Stopping
 pub mod Indexing
+pub mod Rerouted
+pub mod Recalibrated
+pub mod Renumbered
 pub mod Made

@@ -27,7 +27,7 @@ use Rattle.lrs_orderly.proofs.Ordering.{sound_is_orderly}
 use Rattle.lrs_verbs.specs.Plans.{plan_of, IsPlanOf}
 use Rattle.lrs_verbs.proofs.NamedEntries.{names_exact}
 use Rattle.lrs_verbs.proofs.Filed.{is_some-find_row, put-insert_by, names_tie}
-use Rattle.lrs_verbs.proofs.InOrder.{and_weaker, any-insert_by, each_two-insert_by, before-chain, before-comparable}
+use Rattle.lrs_routes.proofs.InOrder.{and_weaker, any-insert_by, each_two-insert_by, before-chain, before-comparable}
 use Rattle.lrs_verbs.proofs.Unmoved.{adding, can_differ, tells}
 
 -- the image with the class

@@ -7,7 +7,7 @@ use Rattle.std.specs.Option.{option_map, option_map_or}
 use Rattle.std.specs.Ordering.{nat_cmp, eq_by_cmp}
 use Rattle.std.specs.Cmp.{unsigned_tied}
 use Rattle.std.specs.FinMap.{find}
-use Rattle.std.proofs.lemmas.Bool.{false≢true, both_ways, and_parts, and_from, or_left, or_parts, eq-eqb, eqb-true, lt-ltb, ltb-true, ltb-false, ne_eqb}
+use Rattle.std.proofs.lemmas.Bool.{false≢true, both_ways, and_parts, and_from, or_left, or_parts, eqb-true, lt-ltb, ltb-true, ltb-false, ne_eqb}
 use Rattle.std.proofs.lemmas.List.{append-nil}
 use Rattle.std.proofs.lemmas.List.Folds.{list_all-append, list_any_at}
 use Rattle.std.proofs.lemmas.List.Quantifiers.{position-Some}
@@ -30,22 +30,15 @@ use Rattle.lrs_machine.specs.Machine.{◌>>◌, refuse_if, refuse_at}
 use Rattle.lrs_verbs.specs.Checks.{new_course, new_marks}
 use Rattle.lrs_events.specs.Places.{differs}
 use Rattle.lrs_machine.specs.Sound.{is_on_a_link}
-use Rattle.lrs_machine.proofs.Members.{In, any_found, any_of, flat_map_found}
+use Rattle.lrs_machine.proofs.Members.{In, any_found, any_of, all_of, flat_map_found}
 use Rattle.lrs_verbs.proofs.Positions.{none_passes}
-use Rattle.lrs_verbs.proofs.InOrder.{is_false, all_from}
+use Rattle.lrs_routes.proofs.InOrder.{is_false}
+use Rattle.lrs_routes.proofs.Apart.{nat_eq-comm, at_same}
 
 -- ---- the links of an image and those of its state
 
 abbrev has_number : ℕ → Link → Bool
 has_number n l = nat_eq l.number n
-
-nat_eq-comm : (m n : ℕ) → nat_eq m n ≡ nat_eq n m
-nat_eq-comm m n = same (nat_eq m n) (nat_eq n m) (λ t. eq-eqb n m (sym (eqb-true m n t))) (λ t. eq-eqb m n (sym (eqb-true n m t)))
-  where
-    same : (x y : Bool) → (x ≡ true → y ≡ true) → (y ≡ true → x ≡ true) → x ≡ y
-    same true y f g = sym (f refl)
-    same false true f g = g refl
-    same false false f g = refl
 
 tied : (n : ℕ) (l : Link) → eq_by_cmp nat_cmp n l.number ≡ has_number n l
 tied n l = unsigned_tied n l.number ∙ nat_eq-comm n l.number
@@ -116,7 +109,7 @@ module _ {X : Type 0} where
   each_two-from_places test [] h = refl
   each_two-from_places test (x ∷ xs) h =
       and_from (list_all (test x) xs) (each_two test xs)
-      (all_from (test x) xs (λ y m. let at = place_in y x xs m in subst (λ z. test x z ≡ true) at.2 (h 0 (suc at.0) x (omega arith) (omega (arith, at.1)))))
+      (all_of (test x) xs (λ y m. let at = place_in y x xs m in subst (λ z. test x z ≡ true) at.2 (h 0 (suc at.0) x (omega arith) (omega (arith, at.1)))))
       (each_two-from_places test xs (λ i j d less inside. h (suc i) (suc j) d (omega (arith, less)) (omega (arith, inside))))
 
   each_two-append : (test : X → X → Bool) (xs ys : List X) → each_two test xs ≡ true → each_two test ys ≡ true → ((x y : X) → In x xs → In y ys → test x y ≡ true) → each_two test (xs ++ ys) ≡ true
@@ -124,13 +117,10 @@ module _ {X : Type 0} where
   each_two-append test (x ∷ xs) ys h k across =
       let both = and_parts (list_all (test x) xs) (each_two test xs) h in
       and_from (list_all (test x) (xs ++ ys)) (each_two test (xs ++ ys))
-      (list_all-append (test x) xs ys ∙ and_from (list_all (test x) xs) (list_all (test x) ys) both.0 (all_from (test x) ys (λ y m. across x y (inl refl) m)))
+      (list_all-append (test x) xs ys ∙ and_from (list_all (test x) xs) (list_all (test x) ys) both.0 (all_of (test x) ys (λ y m. across x y (inl refl) m)))
       (each_two-append test xs ys both.1 k (λ z y n m. across z y (inr n) m))
 
 -- ---- the millimetres of pieces
-
-at_same : (g h : Ground) → is_at (g.link, g.mm) h ≡ is_at (h.link, h.mm) g
-at_same g h = λ j. nat_eq-comm h.link g.link j && nat_eq-comm h.mm g.mm j
 
 -- a millimetre of a piece
 record IsOf (p : Piece) (g : Ground) : Type 0 where
@@ -193,7 +183,7 @@ on_link n k (l ∷ ls) h =
     ] h
 
 pub on_links : (links : List Link) (pieces : List Piece) → position (is_bad_piece links) pieces ≡ None → list_all (is_on_a_link links) (course_of pieces) ≡ true
-on_links links pieces none = all_from (is_on_a_link links) (course_of pieces) (λ g m.
+on_links links pieces none = all_of (is_on_a_link links) (course_of pieces) (λ g m.
     let found = flat_map_found expand g pieces m in
     let p = found.0 in
     let fine = or_parts (nat_le p.to p.from) (nat_lt (length_of links p.link) p.to) (fails_at (is_bad_piece links) p pieces (no_place (is_bad_piece links) pieces none) found.1) in
@@ -203,18 +193,12 @@ on_links links pieces none = all_from (is_on_a_link links) (course_of pieces) (�
 
 -- ---- free ground
 
--- Where no piece meets a course, what they run over does not, nor does it that.
+-- Where no piece meets a course, what they run over does not.
 pub apart_from : (pieces : List Piece) (other : List Ground) → ((p : Piece) → In p pieces → meets (expand p) other ≡ false) → meets (course_of pieces) other ≡ false
 apart_from pieces other h = is_false (meets (course_of pieces) other) (λ t.
     let g = any_found (λ g. runs_over other (g.link, g.mm)) (course_of pieces) t in
     let found = flat_map_found expand g.0 pieces g.1 in
     both_ways (meets (expand found.0) other) (h found.0 found.1) (any_of (λ g. runs_over other (g.link, g.mm)) g.0 (expand found.0) found.2 g.2))
-
-pub apart_too : (xs ys : List Ground) → meets xs ys ≡ false → meets ys xs ≡ false
-apart_too xs ys h = is_false (meets ys xs) (λ t.
-    let y = any_found (λ g. runs_over xs (g.link, g.mm)) ys t in
-    let x = any_found (is_at (y.0.link, y.0.mm)) xs y.2 in
-    both_ways (meets xs ys) h (any_of (λ g. runs_over ys (g.link, g.mm)) x.0 xs x.1 (any_of (is_at (x.0.link, x.0.mm)) y.0 ys y.1 (at_same x.0 y.0 ∙ x.2))))
 
 -- ---- marks
 

@@ -1,13 +1,13 @@
 -- A new route.
 use Rattle.std.proofs.Common.{◌≡◌, ℕ, ◌+◌, ◌≤◌, Bool, true, false, cond, List, [], length, Option, Some, None, Result, Ok, Err, refl, sym, ap, ◌∙◌, subst, arith}
-use Rattle.std.specs.Prelude.{nat_le, nat_eq, ◌||◌, ◌&&◌, not}
+use Rattle.std.specs.Prelude.{nat_le, ◌||◌, ◌&&◌, not}
 use Rattle.std.specs.List.{list_any, list_all, position, flat_map, filter_map, AllByRecursion}
 use Rattle.std.specs.List as list
 use Rattle.std.specs.Option.{option_map}
 use Rattle.std.specs.Ordering.{eq_by_cmp}
 use Rattle.std.specs.Cmp.Lexicographic.{nat_list_cmp_total}
 use Rattle.std.specs.FinMap.{find}
-use Rattle.std.proofs.lemmas.Bool.{false≢true, both_ways, and_parts, and_from, le-leb, eqb-true}
+use Rattle.std.proofs.lemmas.Bool.{false≢true, both_ways, and_parts, and_from, le-leb}
 use Rattle.std.proofs.lemmas.List.{append-nil, length-map}
 use Rattle.std.proofs.lemmas.List.Folds.{list_all-map, flat_map-map}
 use Rattle.lrs_measure.specs.Lists.{each_two}
@@ -22,6 +22,7 @@ use Rattle.lrs_position.specs.Routes.{is_route_course, have_marks, are_referents
 use Rattle.lrs_position.specs.declared.route.Referent.{Referent}
 use Rattle.lrs_events.specs.Places.{Place, differs}
 use Rattle.lrs_events.specs.Spans.{holds_by_spans}
+use Rattle.lrs_lanes.proofs.Inserted.{length-insert_by}
 use Rattle.lrs_machine.specs.declared.answer.Cause.{Cause}
 use Rattle.lrs_machine.specs.declared.answer.Cause.TheVariants as cause
 use Rattle.lrs_machine.specs.declared.command.Command.TheVariants as verb
@@ -33,7 +34,7 @@ use Rattle.lrs_machine.specs.Image.{state_of, route_entry, referent_entry, refer
 use Rattle.lrs_machine.specs.State.{State}
 use Rattle.lrs_machine.specs.Machine.{attempt, refuse_if, refuse_at, ◌>>◌, ◌>>=◌, check_pieces, check_free, check_marks, set_route, is_taken}
 use Rattle.lrs_machine.specs.Sound.{RouteCourse, course_before, is_course, is_on_a_link, are_courses, courses_of, RouteMarks, RouteReferents, are_all_referents, referents_of, RouteSpans, are_spans_of, route_before, IsSound}
-use Rattle.lrs_machine.proofs.Members.{In, any_of, any_found, list_any-map}
+use Rattle.lrs_machine.proofs.Members.{In, any_of, any_found, all_of, list_any-map}
 use Rattle.lrs_machine.proofs.SoundImages.{and_three}
 use Rattle.lrs_keep.specs.Change.{no_difference, with_difference}
 use Rattle.lrs_orderly.specs.Orderly.{IsOrderly}
@@ -44,8 +45,9 @@ use Rattle.lrs_verbs.specs.Plans.{TellsGround, IsPlanOf}
 use Rattle.lrs_verbs.specs.Checks.{new_course, new_marks, IsEntryOf, route_plan}
 use Rattle.lrs_verbs.proofs.NamedEntries.{names_exact}
 use Rattle.lrs_verbs.proofs.Filed.{is_some-find_row, put-insert_by, names_tie}
-use Rattle.lrs_verbs.proofs.InOrder.{none_found, is_false, and_weaker, all_from, all-insert_by, each_two-insert_by, before-chain, before-comparable, length-insert_by, any-insert_by_other, find-insert_by, each_two-insert_among, made-insert_by_none, all_mapped-insert_by, map-insert_by}
-use Rattle.lrs_verbs.proofs.NewCourse.{no_place, fails_at, once, on_links, apart_from, apart_too, IsMade, made_of, marks_of}
+use Rattle.lrs_routes.proofs.InOrder.{none_found, is_false, and_weaker, all-insert_by, each_two-insert_by, before-chain, before-comparable, any-insert_by_other, find-insert_by, each_two-insert_among, made-insert_by_none, all_mapped-insert_by, map-insert_by}
+use Rattle.lrs_routes.proofs.Apart.{at_is, apart_too}
+use Rattle.lrs_verbs.proofs.NewCourse.{no_place, fails_at, once, on_links, apart_from, IsMade, made_of, marks_of}
 use Rattle.lrs_verbs.proofs.Unmoved.{can_differ}
 
 -- the image with the route
@@ -153,11 +155,6 @@ spans_entry e = record { course = e.route.course; rows = e.spans }
 abbrev are_free : RouteCourse → RouteCourse → Bool
 are_free c d = not (meets c.entries d.entries)
 
-pub at_is : (m : Millimetre) (g : Ground) → is_at m g ≡ true → m ≡ (g.link, g.mm)
-at_is m g h =
-    let both = and_parts (nat_eq g.link m.0) (nat_eq g.mm m.1) h in
-    λ j. (sym (eqb-true g.link m.0 both.0) j, sym (eqb-true g.mm m.1 both.1) j)
-
 -- no route runs over a millimetre of the pieces
 nothing_taken : (i : Image) (pieces : List Piece) → check_free (state_of i) pieces ≡ Ok tt → position (λ p. is_taken (state_of i) (expand p)) pieces ≡ None
 nothing_taken i pieces h = by (position (λ p. is_taken (state_of i) (expand p)) pieces) refl h
@@ -184,11 +181,11 @@ module _ (e : RouteEntry) (pieces : List Piece) (i : Image) (fresh : list_any (h
       fails_at (λ g. meets (expand p) g.route.course) f i.routes (sym (taken_is i p) ∙ fails_at (λ q. is_taken (state_of i) (expand q)) p pieces (no_place (λ q. is_taken (state_of i) (expand q)) pieces (nothing_taken i pieces free)) n) m)
 
   ahead : list_all (are_free (course_entry e)) (courses_of i) ≡ true
-  ahead = list_all-map (are_free (course_entry e)) course_entry i.routes ∙ all_from (λ f. not (meets e.route.course f.route.course)) i.routes (λ f m. ap not (apart f m))
+  ahead = list_all-map (are_free (course_entry e)) course_entry i.routes ∙ all_of (λ f. not (meets e.route.course f.route.course)) i.routes (λ f m. ap not (apart f m))
 
   behind : list_all (λ d. are_free d (course_entry e)) (courses_of i) ≡ true
   behind = list_all-map (λ d. are_free d (course_entry e)) course_entry i.routes
-      ∙ all_from (λ f. not (meets f.route.course e.route.course)) i.routes (λ f m. ap not (apart_too e.route.course f.route.course (apart f m)))
+      ∙ all_of (λ f. not (meets f.route.course e.route.course)) i.routes (λ f m. ap not (apart_too e.route.course f.route.course (apart f m)))
 
   other_names : list_any (λ c. eq_by_cmp name_cmp e.route.name c.route) (courses_of i) ≡ false
   other_names = list_any-map (λ c. eq_by_cmp name_cmp e.route.name c.route) course_entry i.routes ∙ ties e.route.name i.routes ∙ fresh

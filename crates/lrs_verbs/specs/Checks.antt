@@ -1,5 +1,5 @@
 -- What the checks of pieces and marks give where they pass.
-use Rattle.std.specs.Prelude.{◌≡◌, ℕ, List, [], Some, Result, Ok}
+use Rattle.std.specs.Prelude.{◌≡◌, ℕ, List, [], Some, None, Result, Ok}
 use Rattle.lrs_measure.specs.Texts.{Name}
 use Rattle.lrs_element.specs.declared.link.Piece.{Piece}
 use Rattle.lrs_element.specs.declared.link.Ground.{Ground}
@@ -11,6 +11,7 @@ use Rattle.lrs_machine.specs.declared.image.RouteEntry.{RouteEntry}
 use Rattle.lrs_machine.specs.Machine.{◌>>◌, refuse_if, check_pieces, check_marks}
 use Rattle.lrs_machine.specs.State.{State}
 use Rattle.lrs_keep.specs.Change.{no_difference}
+use Rattle.lrs_routes.specs.Differences.{no_change, rerouting}
 use Rattle.lrs_verbs.specs.declared.plan.Plan.{Plan}
 use Rattle.lrs_verbs.specs.Plans.{plan_of}
 
@@ -38,3 +39,11 @@ pub record IsEntryOf (route : Name) (ground : List Ground) (line : List Mark) (e
 -- the plan by which this route comes, over these pieces
 abbrev pub route_plan : Name → RouteEntry → List Piece → Plan
 route_plan name e pieces = record (plan_of (record no_difference { made = Some e })) { ground = Some (record { route = name; gone = []; passed = []; come = pieces }) }
+
+-- the plan by which a route gets these marks
+abbrev pub recalibrated : Name → List Mark → Plan
+recalibrated route marks = plan_of (rerouting (Some (record (no_change route) { marks = Some marks })) None None)
+
+-- the plan by which a route gets this name, and its ground, these pieces, passes to it
+abbrev pub renumbered : Name → Name → List Piece → Plan
+renumbered route name passed = record (plan_of (rerouting (Some (record (no_change route) { name = name })) None None)) { ground = Some (record { route = name; gone = []; passed = passed; come = [] }) }

@@ -62,21 +62,39 @@ fn piece(link: u32, from: u32, to: u32, forward: bool) -> Piece {
     }
 }
 
+/// Marks of 0 at 0, and of this measure at this length.
+fn marks(rt: &(impl Abort + AllocGlobal), length: u64, measure: u64) -> MarkList {
+    let mut marks = Vec::new(rt.alloc());
+    for (chainage, measure) in [(0, 0), (length, measure)] {
+        let mark = Mark { chainage, measure };
+        marks.push(mark).expect(rt, "memory");
+    }
+    MarkList::new(marks).expect(rt, "a list of marks")
+}
+
 /// A new route of this name, with marks at 0 and at this length.
 fn route(rt: &(impl Abort + AllocGlobal), text: &str, pieces: &[Piece], length: u64) -> Command {
     let pieces = Vec::from_slice(rt.alloc(), pieces).expect(rt, "memory");
-    let mut marks = Vec::new(rt.alloc());
-    for at in [0, length] {
-        let mark = Mark {
-            chainage: at,
-            measure: at,
-        };
-        marks.push(mark).expect(rt, "memory");
-    }
     Command::Route {
         name: name(rt, text),
         pieces: PieceList::new(pieces).expect(rt, "a list of pieces"),
-        marks: MarkList::new(marks).expect(rt, "a list of marks"),
+        marks: marks(rt, length, length),
+    }
+}
+
+/// Marks for the route of this name, of 0 at 0 and of this measure at this length.
+fn recalibrate(rt: &(impl Abort + AllocGlobal), text: &str, length: u64, measure: u64) -> Command {
+    Command::Recalibrate {
+        route: name(rt, text),
+        marks: marks(rt, length, measure),
+    }
+}
+
+/// Another name for the route of this one.
+fn renumber(rt: &impl Abort, text: &str, new: &str) -> Command {
+    Command::Renumber {
+        route: name(rt, text),
+        name: name(rt, new),
     }
 }
 
@@ -170,4 +188,49 @@ fn routes_are_refused_by_their_first_check(rt: HostRuntime) {
     let taken = [piece(2, 0, 50, true), piece(2, 99, 101, true)];
     refuses(&rt, &known, route(&rt, "A2", &taken, 52), Cause::Taken(1));
     refuses(&rt, &known, route(&rt, "A2", &free, 51), Cause::BadMarks(1));
+}
+
+#[test]
+fn a_route_gets_other_marks(rt: HostRuntime) {
+    let known = with_route(&rt);
+    let command = recalibrate(&rt, "A1", 1_400, 7_000);
+    let plan = planned(&rt, &known, command).expect(&rt, "a plan");
+    assert!(rt; plan.ground.is_none());
+    let change = plan.difference.changed.expect(&rt, "a route that changes");
+    assert!(rt; change.name == name(&rt, "A1"));
+    assert!(rt; change.course.is_none());
+    let line = change.marks.expect(&rt, "marks");
+    assert!(rt; line.list()[1].measure == 7_000);
+}
+
+#[test]
+fn other_marks_are_refused_by_their_first_check(rt: HostRuntime) {
+    let known = with_route(&rt);
+    refuses(&rt, &known, recalibrate(&rt, "A2", 1, 1), Cause::NoRoute);
+    refuses(
+        &rt,
+        &known,
+        recalibrate(&rt, "A1", 1_399, 1),
+        Cause::BadMarks(1),
+    );
+}
+
+#[test]
+fn the_ground_of_a_route_passes_to_its_new_name(rt: HostRuntime) {
+    let known = with_route(&rt);
+    let plan = planned(&rt, &known, renumber(&rt, "A1", "B7")).expect(&rt, "a plan");
+    let change = plan.difference.changed.expect(&rt, "a route that changes");
+    assert!(rt; change.name == name(&rt, "B7"));
+    assert!(rt; change.marks.is_none());
+    let ground = plan.ground.expect(&rt, "ground");
+    let pieces = [piece(1, 0, 1_000, true), piece(2, 100, 500, false)];
+    assert!(rt; ground.passed.as_slice() == pieces.as_slice());
+    assert!(rt; ground.route == name(&rt, "B7"));
+}
+
+#[test]
+fn another_name_is_refused_by_its_first_check(rt: HostRuntime) {
+    let known = with_route(&rt);
+    refuses(&rt, &known, renumber(&rt, "A2", "A1"), Cause::NoRoute);
+    refuses(&rt, &known, renumber(&rt, "A1", "A1"), Cause::RouteKnown);
 }

@@ -2,9 +2,12 @@
 
 ghost use Rattle.lrs_verbs.specs.Plans.{Plans};
 
+mod changes;
 mod checks;
 mod class;
 mod link;
+mod recalibrate;
+mod renumber;
 mod route;
 
 use crate::inventory::Inventory;
@@ -13,6 +16,8 @@ use crate::planned::Planned;
 use class::plan_class;
 use link::plan_link;
 use lrs_machine::Command;
+use recalibrate::plan_recalibrate;
+use renumber::plan_renumber;
 use route::plan_route;
 use std::alloc::Global;
 
@@ -31,6 +36,13 @@ pub fn plan_command(alloc: Global, inventory: &Inventory, command: &Planned) -> 
             pieces,
             marks,
         } => plan_route(alloc, inventory, *name, pieces.as_slice(), marks.as_slice()),
+        Command::Renumber { route, name } => plan_renumber(alloc, inventory, *route, *name),
+        Command::Recalibrate { route, marks } => plan_recalibrate(
+            alloc,
+            inventory,
+            *route,
+            marks.as_slice(),
+        ),
         _ => unreachable!(),
     }
 }

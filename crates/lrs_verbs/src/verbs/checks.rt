@@ -1,16 +1,35 @@
 //! Checks that several verbs share.
 
-ghost use Rattle.std.specs.Prelude.{◌≡◌};
+ghost use Rattle.std.specs.Prelude.{◌≡◌, Some, None, IfOk, IfErr};
+ghost use Rattle.std.specs.List.{find};
+ghost use Rattle.lrs_keep.specs.Change.{is_named};
+ghost use Rattle.lrs_machine.specs.declared.answer.Cause.TheVariants as cause;
 ghost use Rattle.lrs_machine.specs.Image.{state_of};
 ghost use Rattle.lrs_machine.specs.Machine.{check_free};
 ghost use Rattle.lrs_verbs.specs.Checks.{new_marks};
 ghost use Rattle.lrs_verbs.specs.Plans.{Answers};
+ghost use Rattle.lrs_verbs.specs.declared.plan.Stop.TheVariants as stop;
 
 use crate::inventory::Inventory;
 use crate::plan::Stop;
 use lrs_element::{Mark, MarkFault, Marks, Piece};
-use lrs_machine::Cause;
+use lrs_machine::{Cause, RouteEntry};
+use lrs_position::RouteName;
 use std::alloc::Global;
+
+/// The route of a name, with what lies on it.
+///
+/// # Errors
+/// There is none.
+pub fn route_named<'a>(inventory: &'a Inventory, name: &RouteName) -> Result<&'a RouteEntry, Stop>
+    ensures found { IfOk result (λ row. find (is_named name.now) inventory.now.routes ≡ Some row.now) }
+    ensures missing { IfErr result (λ why. (why ≡ stop.Refused cause.NoRoute) × (find (is_named name.now) inventory.now.routes ≡ None)) }
+{
+    match inventory.route(name) {
+        Some(entry) => Ok(entry),
+        None => Err(Stop::Refused(Cause::NoRoute)),
+    }
+}
 
 /// Refuses pieces of which a route runs over a millimetre: the first of them.
 pub fn check_free(inventory: &Inventory, pieces: &[Piece]) -> Result<(), Stop>

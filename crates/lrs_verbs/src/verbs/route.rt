@@ -1,9 +1,6 @@
 //! A new route.
 
-ghost use Rattle.std.specs.Prelude.{◌≡◌, IfOk, None, length};
-ghost use Rattle.std.specs.List.{AllByRecursion};
-ghost use Rattle.lrs_element.specs.Course.{course_of};
-ghost use Rattle.lrs_element.specs.Pieces.{IsFilled};
+ghost use Rattle.std.specs.Prelude.{◌≡◌, None, length};
 ghost use Rattle.lrs_element.specs.Marks.{bad_mark};
 ghost use Rattle.lrs_machine.specs.declared.command.Command.TheVariants as verb;
 ghost use Rattle.lrs_verbs.specs.Checks.{IsEntryOf, route_plan};
@@ -11,13 +8,14 @@ ghost use Rattle.lrs_verbs.specs.Plans.{Plans};
 
 use crate::inventory::Inventory;
 use crate::plan::{GroundChange, Plan, Stop, refuse_if};
+use crate::verbs::changes::pieces_of;
 use crate::verbs::checks::{check_free, new_marks};
 use lrs_element::{Course, Mark, Marks, Piece};
 use lrs_machine::{Cause, RouteEntry};
 use lrs_measure::Rows;
 use lrs_position::{Route, RouteName};
 use lrs_spans::Spans;
-use std::alloc::{AllocError, Global};
+use std::alloc::Global;
 
 pub fn plan_route(
     alloc: Global,
@@ -56,15 +54,6 @@ fn new_entry(alloc: Global, name: RouteName, course: Course, marks: Marks) -> Ro
         route,
         spans: Spans::empty(alloc),
     }
-}
-
-/// The pieces of a course.
-fn pieces_of(alloc: Global, course: &Course) -> Result<Rows<Piece>, AllocError>
-    ensures course { IfOk result (λ pieces. course_of pieces ≡ course.now) }
-    ensures filled { IfOk result (λ pieces. AllByRecursion IsFilled pieces) }
-{
-    let pieces = Vec::from_slice(alloc, course.pieces())?;
-    Ok(Rows::from_vec(pieces))
 }
 
 /// The plan by which a route comes, with its ground.

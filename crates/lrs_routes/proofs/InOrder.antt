@@ -1,5 +1,5 @@
 -- Lists in order with one more element, and tests of them.
-use Rattle.std.proofs.Common.{◌≡◌, ◌+◌, Bool, true, false, cond, ◌⊎◌, inl, inr, List, [], ◌∷◌, ◌++◌, length, map, Option, Some, None, refl, sym, ap, ◌∙◌, arith}
+use Rattle.std.proofs.Common.{◌≡◌, Bool, true, false, cond, ◌⊎◌, inl, inr, List, [], ◌∷◌, ◌++◌, map, Option, Some, None, refl, sym, ap, ◌∙◌}
 use Rattle.std.specs.Prelude.{◌||◌, ◌&&◌}
 use Rattle.std.specs.List.{list_any, list_all, flat_map, find}
 use Rattle.std.specs.declared.cmp.Ordering.{Ordering}
@@ -10,7 +10,7 @@ use Rattle.std.proofs.lemmas.Bool.{false≢true, both_ways, and_parts, and_from,
 use Rattle.std.proofs.lemmas.List.Folds.{list_all-map}
 use Rattle.lrs_measure.specs.Lists.{each_two}
 use Rattle.lrs_measure.specs.Ordered.{insert_by}
-use Rattle.lrs_machine.proofs.Members.{In, all_weaker}
+use Rattle.lrs_machine.proofs.Members.{all_weaker}
 
 pub is_false : (b : Bool) → (b ≡ true → ⊥) → b ≡ false
 is_false true h = absurd (h refl)
@@ -27,10 +27,6 @@ other_holds a b fails h = by (or_cases a b h)
     by (inr e) = e
 
 module _ {X : Type 0} where
-  pub all_from : (p : X → Bool) (xs : List X) → ((x : X) → In x xs → p x ≡ true) → list_all p xs ≡ true
-  all_from p [] h = refl
-  all_from p (x ∷ xs) h = and_from (p x) (list_all p xs) (h x (inl refl)) (all_from p xs (λ y m. h y (inr m)))
-
   pub all-insert_by : (p : X → Bool) (before : X → X → Bool) (x : X) (xs : List X) → p x ≡ true → list_all p xs ≡ true → list_all p (insert_by before x xs) ≡ true
   all-insert_by p before x [] here h = and_from (p x) true here refl
   all-insert_by p before x (y ∷ ys) here h =
@@ -96,15 +92,6 @@ module _ {K Row : Type 0} {R : K → K → Ordering} (total : IsTotalOrder R) (k
       and_from (before_by x y || before_by y x) (is_comparable before_by x ys) (either (R (key x) (key y)) (R (key y) (key x)) (total.antisymm (key x) (key y)) apart.0) (before-comparable x ys apart.1)
 
 module _ {X : Type 0} where
-  pub length-insert_by : (before : X → X → Bool) (x : X) (xs : List X) → length (insert_by before x xs) ≡ length xs + 1
-  length-insert_by before x [] = refl
-  length-insert_by before x (y ∷ ys) =
-      let rest = length-insert_by before x ys in
-      elim (before x y) as (λ b. length (cond b (x ∷ y ∷ ys) (y ∷ insert_by before x ys)) ≡ length (y ∷ ys) + 1) [
-        | true ↦ omega arith
-        | false ↦ omega (arith, rest)
-      ]
-
   -- an element that fails is not seen
   pub any-insert_by_other : (p : X → Bool) (before : X → X → Bool) (x : X) (xs : List X) → p x ≡ false → list_any p (insert_by before x xs) ≡ list_any p xs
   any-insert_by_other p before x [] fails = ap (λ b. b || false) fails

@@ -1,0 +1,9 @@
+pub mod InOrder
+pub mod Apart
+pub mod Listed
+pub mod Naming
+pub mod Rewriting
+pub mod Standing
+pub mod Running
+pub mod Differences
+pub mod Renaming

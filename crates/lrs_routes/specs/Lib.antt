@@ -1,0 +1,5 @@
+pub mod Rewriting
+pub mod Standing
+pub mod Running
+pub mod Differences
+pub mod Renaming

@@ -1,0 +1,37 @@
+//! Laws of routes that are dropped and routes that are written.
+
+ghost use Rattle.lrs_routes.specs.Rewriting.{RewritingIsOrderly};
+ghost use Rattle.lrs_routes.specs.Standing.{RewritingKeepsState};
+ghost use Rattle.lrs_routes.specs.Running.{RewritingMovesGround};
+ghost use Rattle.lrs_routes.specs.Differences.{DifferenceRewrites};
+ghost use Rattle.lrs_routes.specs.Renaming.{RecalibrateMakes, RenumberMakes};
+
+/// Routes dropped and written that fit leave an image in order.
+pub fn rewriting_is_orderly()
+    ensures { RewritingIsOrderly }
+{}
+
+/// Routes dropped and written that say the same of the ground leave the state but for its routes.
+pub fn rewriting_keeps_state()
+    ensures { RewritingKeepsState }
+{}
+
+/// Which route runs over a millimetre where routes are dropped and written.
+pub fn rewriting_moves_ground()
+    ensures { RewritingMovesGround }
+{}
+
+/// A difference drops and writes routes.
+pub fn difference_rewrites()
+    ensures { DifferenceRewrites }
+{}
+
+/// A route with other marks is what its recalibration makes.
+pub fn recalibrate_makes()
+    ensures { RecalibrateMakes }
+{}
+
+/// A route under a new name is what its renumbering makes.
+pub fn renumber_makes()
+    ensures { RenumberMakes }
+{}

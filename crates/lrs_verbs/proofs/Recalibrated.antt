@@ -1,0 +1,95 @@
+-- A route with other marks.
+use Rattle.std.proofs.Common.{◌≡◌, ℕ, true, false, cond, List, [], ◌∷◌, length, Option, Some, None, Result, Ok, Err, refl, sym, ap, subst, ◌∙◌}
+use Rattle.std.specs.Prelude.{is_none}
+use Rattle.std.specs.List.{find}
+use Rattle.std.specs.Option.{option_map, ok_or}
+use Rattle.lrs_measure.specs.Texts.{Name, same_name}
+use Rattle.lrs_element.specs.declared.marks.Mark.{Mark}
+use Rattle.lrs_element.specs.Course.{Millimetre, runs_over}
+use Rattle.lrs_element.specs.Marks.{bad_mark}
+use Rattle.lrs_position.specs.Locating.{Alignment}
+use Rattle.lrs_machine.specs.declared.answer.Cause.{Cause}
+use Rattle.lrs_machine.specs.declared.answer.Cause.TheVariants as cause
+use Rattle.lrs_machine.specs.declared.command.Command.TheVariants as verb
+use Rattle.lrs_machine.specs.declared.image.Image.{Image}
+use Rattle.lrs_machine.specs.declared.image.RouteEntry.{RouteEntry}
+use Rattle.lrs_machine.specs.Image.{state_of, route_entry}
+use Rattle.lrs_machine.specs.State.{State}
+use Rattle.lrs_machine.specs.Machine.{attempt, ◌>>◌, ◌>>=◌, check_marks, set_route}
+use Rattle.lrs_machine.specs.Sound.{IsSound}
+use Rattle.lrs_machine.proofs.Members.{In}
+use Rattle.lrs_orderly.specs.Made.{Makes}
+use Rattle.lrs_keep.specs.Change.{is_named}
+use Rattle.lrs_routes.specs.Rewriting.{rewritten, with_routes}
+use Rattle.lrs_routes.proofs.Renaming.{recalibrate_makes, named_ours, moves}
+use Rattle.lrs_routes.proofs.Running.{runs_there}
+use Rattle.lrs_verbs.specs.Changes.{route_on}
+use Rattle.lrs_verbs.specs.Checks.{new_marks, recalibrated}
+use Rattle.lrs_verbs.specs.Plans.{IsPlanOf}
+use Rattle.lrs_verbs.proofs.Known.{route_value}
+use Rattle.lrs_verbs.proofs.NewCourse.{marks_of, good_line}
+use Rattle.lrs_verbs.proofs.Rerouted.{after, at, own_name, same, new_name, new_marks_are, image_is, differs_so, stands}
+
+-- ---- what the verb does
+
+module _ (route : Name) (marks : List Mark) (i : Image) (n : ℕ) where
+  abbrev then_marks : Alignment → Result State Cause
+  then_marks a = check_marks (length a.course) marks >> Ok (set_route route a.course marks (state_of i))
+
+  attempt_is : (o : Option RouteEntry) → find (is_named route) i.routes ≡ o → attempt n (verb.Recalibrate route marks) (state_of i) ≡ (ok_or (option_map (λ e. (route_entry e).1) o) cause.NoRoute >>= then_marks)
+  unfolding attempt
+  attempt_is o is = ap (λ g. ok_or g cause.NoRoute >>= then_marks) (route_value i route ∙ ap (option_map (λ (e : RouteEntry). (route_entry e).1)) is)
+
+  pub refuses_route : find (is_named route) i.routes ≡ None → attempt n (verb.Recalibrate route marks) (state_of i) ≡ Err cause.NoRoute
+  refuses_route none = attempt_is None none
+
+  pub refuses_marks : (r : RouteEntry) → find (is_named route) i.routes ≡ Some r → (c : Cause) → new_marks (length r.route.course) marks ≡ Err c → attempt n (verb.Recalibrate route marks) (state_of i) ≡ Err c
+  refuses_marks r found c bad = attempt_is (Some r) found ∙ by (check_marks (length r.route.course) marks) (set_route route r.route.course marks (state_of i)) bad
+    where
+      by : (x : Result (Unit {0}) Cause) (t : State) → ◌≡◌ {A = Result (List Mark) Cause} (x >> Ok marks) (Err c) → (x >> Ok t) ≡ Err c
+      by (Ok u) t h = absurd (cc h)
+      by (Err d) t h = let same : d ≡ c = cc h in ap Err same
+
+-- ---- The plan of the verb, where the marks are those of the route's course.
+module _ (route : Name) (marks line : List Mark) (i : Image) (r : RouteEntry) (s : IsSound i) (found : find (is_named route) i.routes ≡ Some r) (marked : new_marks (length r.route.course) marks ≡ Ok line) where
+  good : is_none (bad_mark (length r.route.course) line) ≡ true
+  good = ap is_none (good_line (length r.route.course) marks line marked)
+
+  abbrev w : RouteEntry
+  w = after route route (Some line) i r s found good
+
+  abbrev new : Image
+  new = with_routes (rewritten (r.route.name ∷ []) (w ∷ []) i.routes) i
+
+  its_name : w.route.name ≡ r.route.name
+  its_name = new_name route route (Some line) i r s found good ∙ sym (own_name route route (Some line) i r s found good)
+
+  its_marks : w.route.marks ≡ marks
+  its_marks = new_marks_are route route (Some line) i r s found good ∙ (marks_of (length r.route.course) marks line marked).1
+
+  there : In r i.routes
+  there = at route route (Some line) i r s found good
+
+  own : (e : RouteEntry) → In e i.routes → same_name w.route.name e.route.name ≡ true → same_name e.route.name r.route.name ≡ true
+  own = named_ours i r w s there (same route route (Some line) i r s found good) its_name
+
+  still_there : (m : Millimetre) → cond (runs_over r.route.course m) (Some w.route.name) (route_on i.routes m) ≡ route_on i.routes m
+  still_there m = elim (runs_over r.route.course m) as (λ b. runs_over r.route.course m ≡ b → cond b (Some w.route.name) (route_on i.routes m) ≡ route_on i.routes m) [
+    | true ↦ λ on. ap Some its_name ∙ sym (runs_there i r m s there on)
+    | false ↦ λ off. refl
+  ] refl
+
+  pub recalibrates : IsPlanOf (verb.Recalibrate route marks) i (recalibrated route line)
+  recalibrates = record {
+    makes = subst (λ (j : Image). Makes (verb.Recalibrate route marks) i j) (sym (image_is route route (Some line) i r s found good))
+        (subst (λ (m : List Mark). Makes (verb.Recalibrate route m) i new) its_marks
+        (subst (λ (n : Name). Makes (verb.Recalibrate n w.route.marks) i new) (own_name route route (Some line) i r s found good)
+        (recalibrate_makes i r w s there (same route route (Some line) i r s found good) its_name)));
+    differ = differs_so route route (Some line) i r s found good own;
+    tells = record {
+      ground = λ m. ap (λ (j : Image). route_on j.routes m) (image_is route route (Some line) i r s found good) ∙ moves i r w s there (same route route (Some line) i r s found good) own m ∙ still_there m;
+      can_ground = tt;
+      referents = stands route route (Some line) i r s found good own;
+      new_referent = tt;
+    };
+  }

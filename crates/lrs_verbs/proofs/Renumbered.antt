@@ -1,0 +1,102 @@
+-- A route under another name.
+use Rattle.std.proofs.Common.{◌≡◌, ℕ, true, false, cond, List, [], ◌∷◌, length, Option, Some, None, Result, Ok, Err, refl, sym, ap, subst, ◌∙◌}
+use Rattle.std.specs.Prelude.{is_none, is_some}
+use Rattle.std.specs.List.{find, list_any, AllByRecursion}
+use Rattle.std.specs.Option.{option_map, ok_or}
+use Rattle.std.proofs.lemmas.Bool.{false≢true}
+use Rattle.lrs_measure.specs.Texts.{Name, same_name}
+use Rattle.lrs_element.specs.declared.link.Piece.{Piece}
+use Rattle.lrs_element.specs.Course.{course_of, runs_over}
+use Rattle.lrs_element.specs.Marks.{bad_mark}
+use Rattle.lrs_element.specs.Pieces.{IsFilled}
+use Rattle.lrs_position.specs.Locating.{Alignment}
+use Rattle.lrs_machine.specs.declared.answer.Cause.{Cause}
+use Rattle.lrs_machine.specs.declared.answer.Cause.TheVariants as cause
+use Rattle.lrs_machine.specs.declared.command.Command.TheVariants as verb
+use Rattle.lrs_machine.specs.declared.image.Image.{Image}
+use Rattle.lrs_machine.specs.declared.image.RouteEntry.{RouteEntry}
+use Rattle.lrs_machine.specs.Image.{state_of, route_entry}
+use Rattle.lrs_machine.specs.State.{State}
+use Rattle.lrs_machine.specs.Machine.{attempt, refuse_if, ◌>>◌, ◌>>=◌, set_route, drop_route}
+use Rattle.lrs_machine.specs.Register.{contains_key}
+use Rattle.lrs_machine.specs.Sound.{IsSound}
+use Rattle.lrs_machine.proofs.Members.{In}
+use Rattle.lrs_orderly.specs.Made.{Makes}
+use Rattle.lrs_sound.proofs.Fitting.{fits}
+use Rattle.lrs_keep.specs.Change.{is_named}
+use Rattle.lrs_routes.specs.Rewriting.{rewritten, with_routes}
+use Rattle.lrs_routes.proofs.Renaming.{renumber_makes, own_if_new, moves}
+use Rattle.lrs_routes.proofs.Running.{runs_there}
+use Rattle.lrs_verbs.specs.Changes.{route_on}
+use Rattle.lrs_verbs.specs.Checks.{renumbered}
+use Rattle.lrs_verbs.specs.Plans.{IsPlanOf}
+use Rattle.lrs_verbs.proofs.Known.{route_value}
+use Rattle.lrs_verbs.proofs.NewRoute.{knows}
+use Rattle.lrs_verbs.proofs.Rerouted.{after, at, own_name, same, new_name, new_marks_are, image_is, differs_so, stands}
+
+-- ---- what the verb does
+
+module _ (route name : Name) (i : Image) (n : ℕ) where
+  abbrev then_name : Alignment → Result State Cause
+  then_name a = refuse_if (contains_key (state_of i).routes name) cause.RouteKnown >> Ok (set_route name a.course a.marks (drop_route route (state_of i)))
+
+  attempt_is : (o : Option RouteEntry) → find (is_named route) i.routes ≡ o → attempt n (verb.Renumber route name) (state_of i) ≡ (ok_or (option_map (λ e. (route_entry e).1) o) cause.NoRoute >>= then_name)
+  unfolding attempt
+  attempt_is o is = ap (λ g. ok_or g cause.NoRoute >>= then_name) (route_value i route ∙ ap (option_map (λ (e : RouteEntry). (route_entry e).1)) is)
+
+  pub refuses_route : find (is_named route) i.routes ≡ None → attempt n (verb.Renumber route name) (state_of i) ≡ Err cause.NoRoute
+  refuses_route none = attempt_is None none
+
+  pub refuses_known : (r : RouteEntry) → find (is_named route) i.routes ≡ Some r → contains_key (state_of i).routes name ≡ true → attempt n (verb.Renumber route name) (state_of i) ≡ Err cause.RouteKnown
+  refuses_known r found known = attempt_is (Some r) found ∙ ap (λ b. refuse_if b cause.RouteKnown >> Ok (set_route name r.route.course r.route.marks (drop_route route (state_of i)))) known
+
+-- ---- The plan of the verb, where the name is new.
+module _ (route name : Name) (i : Image) (r : RouteEntry) (s : IsSound i) (found : find (is_named route) i.routes ≡ Some r) (fresh : contains_key (state_of i).routes name ≡ false) where
+  good : is_none (bad_mark (length r.route.course) r.route.marks) ≡ true
+  good = (fits r).1
+
+  abbrev w : RouteEntry
+  w = after route name None i r s found good
+
+  abbrev new : Image
+  new = with_routes (rewritten (r.route.name ∷ []) (w ∷ []) i.routes) i
+
+  its_name : w.route.name ≡ name
+  its_name = new_name route name None i r s found good
+
+  its_marks : w.route.marks ≡ r.route.marks
+  its_marks = new_marks_are route name None i r s found good
+
+  there : In r i.routes
+  there = at route name None i r s found good
+
+  no_such : list_any (is_named w.route.name) i.routes ≡ false
+  no_such = ap (λ n. list_any (is_named n) i.routes) its_name ∙ sym (knows name i) ∙ fresh
+
+  own : (e : RouteEntry) → In e i.routes → same_name w.route.name e.route.name ≡ true → same_name e.route.name r.route.name ≡ true
+  own = own_if_new i r w s there (same route name None i r s found good) its_marks no_such
+
+  pub renumbers : (passed : List Piece) → course_of passed ≡ r.route.course → AllByRecursion IsFilled passed → IsPlanOf (verb.Renumber route name) i (renumbered route name passed)
+  renumbers passed of filled = record {
+    makes = subst (λ (j : Image). Makes (verb.Renumber route name) i j) (sym (image_is route name None i r s found good))
+        (subst (λ (n : Name). Makes (verb.Renumber route n) i new) its_name
+        (subst (λ (n : Name). Makes (verb.Renumber n w.route.name) i new) (own_name route name None i r s found good)
+        (renumber_makes i r w s there (same route name None i r s found good) its_marks no_such)));
+    differ = differs_so route name None i r s found good own;
+    tells = record {
+      ground = λ m. ap (λ (j : Image). route_on j.routes m) (image_is route name None i r s found good) ∙ moves i r w s there (same route name None i r s found good) own m
+          ∙ (λ j. cond (runs_over (sym of j) m) (Some (its_name j)) (route_on i.routes m));
+      can_ground = record {
+        gone_filled = tt;
+        passed_filled = filled;
+        come_filled = tt;
+        gone = λ m h. absurd (false≢true h);
+        passed = λ m h. ap is_some (runs_there i r m s there (ap (λ c. runs_over c m) (sym of) ∙ h));
+        apart = λ m h. refl;
+        come = λ m h. absurd (false≢true h);
+        once = refl;
+      };
+      referents = stands route name None i r s found good own;
+      new_referent = tt;
+    };
+  }

@@ -1,0 +1,40 @@
+//! What verbs of routes make their plans of.
+
+ghost use Rattle.std.specs.Prelude.{◌≡◌, IfOk};
+ghost use Rattle.std.specs.List.{AllByRecursion};
+ghost use Rattle.lrs_element.specs.Course.{course_of};
+ghost use Rattle.lrs_element.specs.Pieces.{IsFilled};
+ghost use Rattle.lrs_routes.specs.Differences.{no_change};
+
+use lrs_element::{Course, Piece};
+use lrs_keep::{ReferentChange, RouteChange};
+use lrs_measure::Rows;
+use lrs_position::RouteName;
+use std::alloc::{AllocError, Global};
+
+/// The change of a route that leaves it as it is. It takes no memory.
+pub fn no_change(alloc: Global, route: RouteName) -> RouteChange
+    ensures { result ≡ no_change route }
+{
+    RouteChange {
+        route,
+        name: route,
+        course: None,
+        marks: None,
+        refs: ReferentChange {
+            gone: Rows::new(alloc),
+            come: Rows::new(alloc),
+        },
+        spans_gone: Rows::new(alloc),
+        spans_come: Rows::new(alloc),
+    }
+}
+
+/// The pieces of a course.
+pub fn pieces_of(alloc: Global, course: &Course) -> Result<Rows<Piece>, AllocError>
+    ensures course { IfOk result (λ pieces. course_of pieces ≡ course.now) }
+    ensures filled { IfOk result (λ pieces. AllByRecursion IsFilled pieces) }
+{
+    let pieces = Vec::from_slice(alloc, course.pieces())?;
+    Ok(Rows::from_vec(pieces))
+}

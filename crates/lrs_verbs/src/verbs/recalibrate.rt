@@ -1,0 +1,40 @@
+//! Other marks for a route.
+
+ghost use Rattle.std.specs.Prelude.{◌≡◌};
+ghost use Rattle.lrs_machine.specs.declared.command.Command.TheVariants as verb;
+ghost use Rattle.lrs_verbs.specs.Checks.{recalibrated};
+ghost use Rattle.lrs_verbs.specs.Plans.{Plans};
+
+use crate::inventory::Inventory;
+use crate::plan::{Plan, Stop};
+use crate::verbs::changes::no_change;
+use crate::verbs::checks::{new_marks, route_named};
+use lrs_element::{Mark, Marks};
+use lrs_position::RouteName;
+use std::alloc::Global;
+
+pub fn plan_recalibrate(
+    alloc: Global,
+    inventory: &Inventory,
+    route: RouteName,
+    marks: &[Mark],
+) -> Result<Plan, Stop>
+    ensures { Plans (verb.Recalibrate route marks.now) inventory.now result }
+{
+    inventory.prove_sound();
+    let entry = route_named(inventory, &route)?;
+    let len = entry.route.course.len();
+    let marks = new_marks(alloc, marks, len)?;
+    Ok(recalibrated(alloc, route, marks))
+}
+
+/// The plan by which a route gets these marks.
+fn recalibrated(alloc: Global, route: RouteName, marks: Marks) -> Plan
+    ensures { result ≡ recalibrated route marks }
+{
+    let mut change = no_change(alloc, route);
+    change.marks = Some(marks);
+    let mut plan = Plan::none(alloc);
+    plan.difference.changed = Some(change);
+    plan
+}

@@ -1,0 +1,49 @@
+//! Another name for a route.
+
+ghost use Rattle.std.specs.Prelude.{◌≡◌};
+ghost use Rattle.lrs_machine.specs.declared.command.Command.TheVariants as verb;
+ghost use Rattle.lrs_verbs.specs.Checks.{renumbered};
+ghost use Rattle.lrs_verbs.specs.Plans.{Plans};
+
+use crate::inventory::Inventory;
+use crate::plan::{GroundChange, Plan, Stop, refuse_if};
+use crate::verbs::changes::{no_change, pieces_of};
+use crate::verbs::checks::route_named;
+use lrs_element::Piece;
+use lrs_machine::Cause;
+use lrs_measure::Rows;
+use lrs_position::RouteName;
+use std::alloc::Global;
+
+pub fn plan_renumber(
+    alloc: Global,
+    inventory: &Inventory,
+    route: RouteName,
+    name: RouteName,
+) -> Result<Plan, Stop>
+    ensures { Plans (verb.Renumber route name) inventory.now result }
+{
+    inventory.prove_sound();
+    let entry = route_named(inventory, &route)?;
+    let is_known = inventory.route(&name).is_some();
+    refuse_if(is_known, Cause::RouteKnown)?;
+    let passed = pieces_of(alloc, &entry.route.course)?;
+    Ok(renumbered(alloc, route, name, passed))
+}
+
+/// The plan by which a route gets this name, and its ground passes to it.
+fn renumbered(alloc: Global, route: RouteName, name: RouteName, passed: Rows<Piece>) -> Plan
+    ensures { result ≡ renumbered route name passed }
+{
+    let mut change = no_change(alloc, route);
+    change.name = name;
+    let mut plan = Plan::none(alloc);
+    plan.ground = Some(GroundChange {
+        route: name,
+        gone: Rows::new(alloc),
+        passed,
+        come: Rows::new(alloc),
+    });
+    plan.difference.changed = Some(change);
+    plan
+}
