@@ -5,6 +5,9 @@ pub mod Standing
 pub mod InOrder
 pub mod Filed
 pub mod NewCourse
+pub mod FromReferents
+pub mod Located
+pub mod Holding
 pub mod Unmoved
 pub mod NewLink
 pub mod NewClass
