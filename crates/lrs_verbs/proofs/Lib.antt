@@ -8,6 +8,7 @@ pub mod NewCourse
 pub mod FromReferents
 pub mod Located
 pub mod Holding
+pub mod FirstHolder
 pub mod Unmoved
 pub mod NewLink
 pub mod NewClass

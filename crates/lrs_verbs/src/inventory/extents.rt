@@ -3,13 +3,15 @@
 ghost use Rattle.std.specs.Prelude.{◌≡◌, ◌<◌, ◌≤◌, nat_le, length, IfOk};
 ghost use Rattle.lrs_measure.specs.Fraction.{IsLowest};
 ghost use Rattle.lrs_position.specs.Translating.{alignment_of, IsOnRoute};
+ghost use Rattle.lrs_events.specs.Places.{places_on};
 ghost use Rattle.lrs_machine.specs.Image.{state_of};
-ghost use Rattle.lrs_machine.specs.Machine.{extent_of, is_empty_extent};
+ghost use Rattle.lrs_machine.specs.Machine.{extent_of, first_holder, is_empty_extent, part_of};
 ghost use Rattle.lrs_verbs.specs.Extents.{cause_of, IsRouteIn, LocatesAs, located_cell, located_end, EndsBy};
 ghost use Rattle.lrs_verbs.specs.Plans.{Answers};
 
 use crate::inventory::Inventory;
 use crate::plan::Stop;
+use lrs_events::{ClassName, Side};
 use lrs_machine::{Cause, RouteEntry};
 use lrs_measure::Frac;
 use lrs_position::{EnteredPosition, EventLocation, PlaceFault, cell, locate, snap};
@@ -133,5 +135,23 @@ impl Inventory {
                 Ok(Stretch { from, to })
             }
         }
+    }
+
+    /// The least asset of a class that holds a place of a stretch of a route, on a side that it shares with
+    /// this one.
+    pub fn first_holder(
+        &self,
+        entry: &RouteEntry,
+        class: ClassName,
+        stretch: Stretch,
+        side: Side,
+    ) -> Option<u64>
+        requires known { IsRouteIn self.now entry.now }
+        requires filled { stretch.from < stretch.to }
+        requires within { EndsBy (length entry.now.route.course) stretch }
+        ensures { result ≡ first_holder (state_of self.now) class (places_on side (part_of entry.now.route.course stretch)) }
+    {
+        self.prove_sound();
+        entry.spans.over(stretch.from, stretch.to, class, side)
     }
 }
