@@ -5,6 +5,10 @@ pub mod Standing
 pub mod InOrder
 pub mod Filed
 pub mod NewCourse
+pub mod FromReferents
+pub mod Located
+pub mod Holding
+pub mod FirstHolder
 pub mod Unmoved
 pub mod NewLink
 pub mod NewClass

@@ -129,7 +129,7 @@ module _ {X : Type 0} where
 
 -- ---- the millimetres of pieces
 
-at_same : (g h : Ground) → is_at (g.link, g.mm) h ≡ is_at (h.link, h.mm) g
+pub at_same : (g h : Ground) → is_at (g.link, g.mm) h ≡ is_at (h.link, h.mm) g
 at_same g h = λ j. nat_eq-comm h.link g.link j && nat_eq-comm h.mm g.mm j
 
 -- a millimetre of a piece
