@@ -6,11 +6,11 @@ ghost use Rattle.lrs_verbs.specs.Planned.{is_planned};
 ghost use Rattle.lrs_sheet.specs.Fields.{ReadsArguments, ReadsCommand};
 ghost use Rattle.lrs_sheet.specs.Verbs.{IsVerb, all_verbs};
 
-use crate::fault::ReadFault;
 use crate::arguments::{
     class_of, close_of, enter_of, join_of, link_of, realign_of, recalibrate_of, ref_of,
     renumber_of, retire_of, route_of, split_of, supersede_of, turn_of, unref_of,
 };
+use crate::fault::ReadFault;
 use crate::shape::text_at;
 use csv::ByteRecord;
 use lrs_desk::Planned;

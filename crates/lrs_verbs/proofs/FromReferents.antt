@@ -42,7 +42,7 @@ cross test x y (z ∷ zs) ys h (inl e) n =
     ap (λ w. test w y) e ∙ all_at (test z) y ys (and_parts (list_all (test z) zs) (list_all (test z) ys) (sym (list_all-append (test z) zs ys) ∙ both.0)).1 n
 cross test x y (z ∷ zs) ys h (inr m) n = cross test x y zs ys (and_parts (list_all (test z) (zs ++ ys)) (each_two test (zs ++ ys)) h).1 m n
 
-rear_of : {X : Type 0} (test : X → X → Bool) (xs ys : List X) → each_two test (xs ++ ys) ≡ true → each_two test ys ≡ true
+pub rear_of : {X : Type 0} (test : X → X → Bool) (xs ys : List X) → each_two test (xs ++ ys) ≡ true → each_two test ys ≡ true
 rear_of test [] ys h = h
 rear_of test (z ∷ zs) ys h = rear_of test zs ys (and_parts (list_all (test z) (zs ++ ys)) (each_two test (zs ++ ys)) h).1
 
@@ -169,7 +169,7 @@ pub record IsRowOf (c : List Ground) (refs : List Referent) (name : Name) (m : M
   pub is : In ref refs
   pub named : ref.name ≡ name
 
-row_of : (c : List Ground) (refs : List Referent) (name : Name) (m : Millimetre) → In (name, m) (filter_map (referent_entry c) refs) → IsRowOf c refs name m
+pub row_of : (c : List Ground) (refs : List Referent) (name : Name) (m : Millimetre) → In (name, m) (filter_map (referent_entry c) refs) → IsRowOf c refs name m
 row_of c [] name m h = absurd h
 row_of c (q ∷ qs) name m h = by (slice_get c q.at) refl h (row_of c qs name m)
   where
@@ -202,10 +202,10 @@ named_there (q ∷ qs) name at h = by (cases_Bool (same_name q.name name)) (name
 abbrev pub apart_courses : RouteEntry → RouteEntry → Bool
 apart_courses y z = not (meets y.route.course z.route.course)
 
-abbrev other_names : Referent → Referent → Bool
+abbrev pub other_names : Referent → Referent → Bool
 other_names u v = not (same_name u.name v.name)
 
-abbrev refs_of : RouteEntry → List Referent
+abbrev pub refs_of : RouteEntry → List Referent
 refs_of y = y.route.refs
 
 module _ (r : RouteEntry) (name : Name) (once : each_two differs r.route.course ≡ true) (within : list_all (λ q. nat_lt q.at (length r.route.course)) r.route.refs ≡ true) where
@@ -263,6 +263,21 @@ module _ (r : RouteEntry) (name : Name) (once : each_two differs r.route.course 
               let apart = not-true (same_name row.ref.name q.0.name) (cross other_names row.ref q.0 (refs_of y) (flat_map refs_of ys) named row.is (In-flat_map refs_of r q.0 ys k q.1)) in
               absurd (both_ways (same_name row.ref.name q.0.name) apart ((bytes_decides row.ref.name q.0.name).1 (row.named ∙ sym q.2)))
 
+-- No two routes of a sound image have a millimetre in common.
+pub courses_apart : (i : Image) → IsSound i → each_two apart_courses i.routes ≡ true
+courses_apart i s =
+    let course : RouteEntry → RouteCourse = λ e. record { route = e.route.name; entries = e.route.course } in
+    let outer = and_parts (each_two course_before (courses_of i) && list_all (is_course i.links) (courses_of i) && each_two (λ c d. not (meets c.entries d.entries)) (courses_of i)) (nat_le (length (courses_of i)) most_routes) (passes i s).courses in
+    sym (each_two-map (λ c d. not (meets c.entries d.entries)) course i.routes)
+    ∙ (and_parts (each_two course_before (courses_of i) && list_all (is_course i.links) (courses_of i)) (each_two (λ c d. not (meets c.entries d.entries)) (courses_of i)) outer.0).1
+
+-- ... nor two referents one name.
+pub names_once : (i : Image) → IsSound i → each_two other_names (flat_map refs_of i.routes) ≡ true
+names_once i s =
+    let refs : RouteEntry → RouteReferents = λ e. record { length = length e.route.course; refs = e.route.refs } in
+    ap (each_two other_names) (sym (flat_map-map (λ (q : RouteReferents). q.refs) refs i.routes))
+    ∙ (and_parts (list_all (λ q. are_referents q.length q.refs) (referents_of i)) (each_two other_names (flat_map (λ q. q.refs) (referents_of i))) (passes i s).referents).1
+
 -- What a position on a route counts from is found among the route's own referents.
 pub referents_found : (i : Image) (r : RouteEntry) → IsSound i → In r i.routes → (name : Name) → entry_of_referent (state_of i) (alignment_of r.route) name ≡ referent_at r.route.refs name
 unfolding state_of
@@ -275,7 +290,4 @@ referents_found i r s m name =
     let its = and_three (is_route_course r.route.course) (list_all (is_on_a_link i.links) r.route.course) (each_two differs r.route.course) (all_at (is_course i.links) (course r) (courses_of i) tests.1 (In-map course r i.routes m)) in
     let names = and_parts (list_all (λ q. are_referents q.length q.refs) (referents_of i)) (each_two other_names (flat_map (λ q. q.refs) (referents_of i))) p.referents in
     let own_refs = and_parts (each_two referent_before r.route.refs) (list_all (λ q. nat_lt q.at (length r.route.course)) r.route.refs) (all_at (λ q. are_referents q.length q.refs) (refs r) (referents_of i) names.0 (In-map refs r i.routes m)) in
-    found_among r name its.2 own_refs.1 i.routes
-    (sym (each_two-map (λ c d. not (meets c.entries d.entries)) course i.routes) ∙ tests.2)
-    (ap (each_two other_names) (sym (flat_map-map (λ (q : RouteReferents). q.refs) refs i.routes)) ∙ names.1)
-    m
+    found_among r name its.2 own_refs.1 i.routes (courses_apart i s) (names_once i s) m

@@ -1,13 +1,13 @@
 -- One route of a list in the order of names gives its place to another of its name.
 use Rattle.std.proofs.Common.{◌≡◌, Bool, true, false, cond, ◌⊎◌, inl, inr, List, [], ◌∷◌, ◌++◌, map, filter, Option, Some, refl, sym, ap, ◌∙◌}
-use Rattle.std.specs.Prelude.{not, ◌||◌}
+use Rattle.std.specs.Prelude.{not, ◌||◌, ◌&&◌}
 use Rattle.std.specs.List.{find, list_any, list_all, flat_map}
 use Rattle.std.specs.Option.{option_map}
 use Rattle.std.specs.Cmp.Lexicographic.{bytes_decides}
-use Rattle.std.proofs.lemmas.Bool.{both_ways, and_parts}
+use Rattle.std.proofs.lemmas.Bool.{both_ways, and_parts, and_from}
 use Rattle.std.proofs.lemmas.List.{map-append}
 use Rattle.std.proofs.lemmas.List.Elements.{filter-append}
-use Rattle.std.proofs.lemmas.List.Folds.{list_any-append}
+use Rattle.std.proofs.lemmas.List.Folds.{list_any-append, list_all-append}
 use Rattle.std.proofs.lemmas.List.Concat.{flat_map-append}
 use Rattle.lrs_measure.specs.Lists.{each_two}
 use Rattle.lrs_measure.specs.Ordered.{insert_by}
@@ -122,3 +122,10 @@ module _ {r e : RouteEntry} {old new : List RouteEntry} (p : IsReplaced r e old 
       ∙ (λ j. sym (filter_all test front ahead) j ++ (own j ++ sym (filter_all test rear behind) j))
       ∙ sym (filter-append test front (f r ++ rear) ∙ ap (λ ys. filter test front ++ ys) (filter-append test (f r) rear))
       ∙ ap (filter test) (sym (ap (flat_map f) p.was ∙ flat_map-append f p.front (r ∷ p.rear)))
+
+  -- All pass where the new one does.
+  pub all_still : (test : RouteEntry → Bool) → test e ≡ true → list_all test old ≡ true → list_all test new ≡ true
+  all_still test here h =
+      let parts = and_parts (list_all test p.front) (test r && list_all test p.rear) (sym (list_all-append test p.front (r ∷ p.rear)) ∙ ap (list_all test) (sym p.was) ∙ h) in
+      ap (list_all test) p.is ∙ list_all-append test p.front (e ∷ p.rear)
+      ∙ and_from (list_all test p.front) (test e && list_all test p.rear) parts.0 (and_from (test e) (list_all test p.rear) here (and_parts (test r) (list_all test p.rear) parts.1).1)

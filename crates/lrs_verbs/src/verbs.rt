@@ -5,7 +5,9 @@ ghost use Rattle.lrs_verbs.specs.Plans.{Plans};
 mod checks;
 mod class;
 mod link;
+mod referents;
 mod route;
+mod unref;
 
 use crate::inventory::Inventory;
 use crate::plan::{Plan, Stop};
@@ -15,6 +17,7 @@ use link::plan_link;
 use lrs_machine::Command;
 use route::plan_route;
 use std::alloc::Global;
+use unref::plan_unref;
 
 /// What a command would change of an inventory.
 ///
@@ -31,6 +34,7 @@ pub fn plan_command(alloc: Global, inventory: &Inventory, command: &Planned) -> 
             pieces,
             marks,
         } => plan_route(alloc, inventory, *name, pieces.as_slice(), marks.as_slice()),
+        Command::Unref { name } => plan_unref(alloc, inventory, *name),
         _ => unreachable!(),
     }
 }
