@@ -2,6 +2,7 @@
 //! before the next one is read, so that nothing grows with the number of records.
 #![tactic(auto)]
 
+mod arguments;
 mod fault;
 mod header;
 pub mod laws;

@@ -1,58 +1,68 @@
-//! The fields of each verb.
+//! Which verb a record has.
 
-ghost use Rattle.std.specs.Prelude.{◌≡◌, ◌≤◌, IsTrue, length, codes};
+ghost use Rattle.std.specs.Prelude.{◌≡◌, ◌≤◌, ◌↔◌, Contains, IsTrue, length};
 ghost use Rattle.csv.specs.Records.{fields_of};
 ghost use Rattle.lrs_verbs.specs.Planned.{is_planned};
-ghost use Rattle.lrs_sheet.specs.Records as spec;
-ghost use Rattle.lrs_sheet.specs.Fields.{NothingFrom, ReadsArguments, ReadsCommand, ReadsEntry};
-ghost use Rattle.lrs_machine.specs.declared.command.Command.{Command as DeclaredCommand};
+ghost use Rattle.lrs_sheet.specs.Fields.{ReadsArguments, ReadsCommand};
+ghost use Rattle.lrs_sheet.specs.Verbs.{IsVerb, all_verbs};
 
+use crate::arguments::{
+    class_of, close_of, enter_of, join_of, link_of, realign_of, recalibrate_of, ref_of,
+    renumber_of, retire_of, route_of, split_of, supersede_of, turn_of, unref_of,
+};
 use crate::fault::ReadFault;
-use crate::place::{
-    asset_at, chainage_at, end_at, location, method_at, offset_at, position_at, referent_name_at,
-    side_at, some_pieces_at, value_at,
-};
-use crate::shape::{
-    class_name_at, kind_at, marks_at, pieces_at, place_of, route_name_at, text_at, whole_at,
-};
+use crate::shape::text_at;
 use csv::ByteRecord;
 use lrs_desk::Planned;
-use lrs_element::Link;
-use lrs_events::Class;
-use lrs_machine::{Command, Entry, Field};
+use lrs_machine::{Command, Field};
 use std::alloc::Global;
 
-/// The field at a place after those of the key and the verb.
-fn argument_at(place: usize) -> Field
-    requires low { 2 ≤ place }
-    requires high { place ≤ 10 }
-    ensures { spec.place_of result ≡ place }
+/// Whether a desk does the verb of this name.
+fn is_done(verb: &[u8]) -> bool
+    ensures { IsTrue result ↔ IsVerb verb.now }
 {
-    match place {
-        2 => Field::A,
-        3 => Field::B,
-        4 => Field::C,
-        5 => Field::D,
-        6 => Field::E,
-        7 => Field::F,
-        8 => Field::G,
-        9 => Field::H,
-        _ => Field::I,
-    }
+    verb == b"link".as_slice() || verb == b"class".as_slice() || verb == b"route".as_slice()
 }
 
-/// The fields that a verb does not use are empty.
-fn nothing_from(row: &ByteRecord, first: Field) -> Result<(), ReadFault>
+/// The command that the fields of a verb say.
+fn command_of_verb(alloc: Global, row: &ByteRecord, verb: &[u8]) -> Result<Command, ReadFault>
     requires eleven { length (fields_of row.now) ≤ 11 }
-    requires argument { 2 ≤ spec.place_of first }
-    ensures { NothingFrom (fields_of row.now) (spec.place_of first) result }
+    requires known { Contains all_verbs verb.now }
+    ensures { ReadsArguments (fields_of row.now) verb.now result }
 {
-    for i in place_of(first)..11 {
-        if !text_at(row, i).is_empty() {
-            return Err(ReadFault::Field(argument_at(i)));
-        }
+    if verb == b"link".as_slice() {
+        link_of(row)
+    } else if verb == b"class".as_slice() {
+        class_of(row)
+    } else if verb == b"route".as_slice() {
+        route_of(alloc, row)
+    } else if verb == b"ref".as_slice() {
+        ref_of(row)
+    } else if verb == b"unref".as_slice() {
+        unref_of(row)
+    } else if verb == b"enter".as_slice() {
+        enter_of(row)
+    } else if verb == b"retire".as_slice() {
+        retire_of(row)
+    } else if verb == b"split".as_slice() {
+        split_of(row)
+    } else if verb == b"join".as_slice() {
+        join_of(row)
+    } else if verb == b"renumber".as_slice() {
+        renumber_of(row)
+    } else if verb == b"recalibrate".as_slice() {
+        recalibrate_of(alloc, row)
+    } else if verb == b"realign".as_slice() {
+        realign_of(alloc, row)
+    } else if verb == b"close".as_slice() {
+        close_of(row)
+    } else if verb == b"supersede".as_slice() {
+        supersede_of(row)
+    } else if verb == b"turn".as_slice() {
+        turn_of(row)
+    } else {
+        unreachable!()
     }
-    Ok(())
 }
 
 /// A command of a verb that a desk does.
@@ -66,215 +76,17 @@ fn planned(command: Command) -> Planned
     }
 }
 
-fn link_of(row: &ByteRecord) -> Result<Planned, ReadFault>
-    requires { length (fields_of row.now) ≤ 11 }
-    ensures { ReadsArguments (fields_of row.now) (codes "link") result }
-{
-    let number = whole_at(row, Field::A, 1, 999_999)? as u32;
-    let length = whole_at(row, Field::B, 1, 1_000_000_000)? as u32;
-    nothing_from(row, Field::C)?;
-    Ok(planned(Command::Link(Link { number, length })))
-}
-
-fn class_of(row: &ByteRecord) -> Result<Planned, ReadFault>
-    requires { length (fields_of row.now) ≤ 11 }
-    ensures { ReadsArguments (fields_of row.now) (codes "class") result }
-{
-    let name = class_name_at(row, Field::A)?;
-    let kind = kind_at(row, Field::B)?;
-    nothing_from(row, Field::C)?;
-    Ok(planned(Command::Class(Class { name, kind })))
-}
-
-fn route_of(alloc: Global, row: &ByteRecord) -> Result<Planned, ReadFault>
-    requires { length (fields_of row.now) ≤ 11 }
-    ensures { ReadsArguments (fields_of row.now) (codes "route") result }
-{
-    let name = route_name_at(row, Field::A)?;
-    let pieces = pieces_at(alloc, row, Field::B)?;
-    let marks = marks_at(alloc, row, Field::C)?;
-    nothing_from(row, Field::D)?;
-    Ok(planned(Command::Route {
-        name,
-        pieces,
-        marks,
-    }))
-}
-
 /// The command that the fields after the key say.
 pub(crate) fn command_by_verb(alloc: Global, row: &ByteRecord) -> Result<Planned, ReadFault>
     requires { length (fields_of row.now) ≤ 11 }
     ensures { ReadsCommand (fields_of row.now) result }
 {
     let verb = text_at(row, 1);
-    if verb == b"link".as_slice() {
-        link_of(row)
-    } else if verb == b"class".as_slice() {
-        class_of(row)
-    } else if verb == b"route".as_slice() {
-        route_of(alloc, row)
-    } else {
-        Err(ReadFault::Field(Field::Verb))
+    if !is_done(verb) {
+        return Err(ReadFault::Field(Field::Verb));
     }
-}
-
-fn ref_of(row: &ByteRecord) -> Result<Command, ReadFault>
-    requires { length (fields_of row.now) ≤ 11 }
-    ensures { ReadsArguments (fields_of row.now) (codes "ref") result }
-{
-    let name = referent_name_at(row, Field::A)?;
-    let route = route_name_at(row, Field::B)?;
-    let method = method_at(row, Field::C)?;
-    let at = position_at(row, Field::C, method, Field::D)?;
-    nothing_from(row, Field::E)?;
-    Ok(Command::Ref { name, route, at })
-}
-
-fn unref_of(row: &ByteRecord) -> Result<Command, ReadFault>
-    requires { length (fields_of row.now) ≤ 11 }
-    ensures { ReadsArguments (fields_of row.now) (codes "unref") result }
-{
-    let name = referent_name_at(row, Field::A)?;
-    nothing_from(row, Field::B)?;
-    Ok(Command::Unref { name })
-}
-
-/// The fields of an entry.
-fn entry_of(row: &ByteRecord) -> Result<Entry, ReadFault>
-    requires { length (fields_of row.now) ≤ 11 }
-    ensures { ReadsEntry (fields_of row.now) result }
-{
-    let asset = asset_at(row, Field::A)?;
-    let class = class_name_at(row, Field::B)?;
-    let route = route_name_at(row, Field::C)?;
-    let side = side_at(row, Field::D)?;
-    let method = method_at(row, Field::E)?;
-    let start = position_at(row, Field::E, method, Field::F)?;
-    let end = end_at(row, Field::E, method, Field::G)?;
-    let value = value_at(row, Field::H)?;
-    let offset = offset_at(row, Field::I)?;
-    Ok(Entry {
-        asset,
-        class,
-        route,
-        side,
-        location: location(start, end),
-        value,
-        offset,
-    })
-}
-
-fn enter_of(row: &ByteRecord) -> Result<Command, ReadFault>
-    requires { length (fields_of row.now) ≤ 11 }
-    ensures { ReadsArguments (fields_of row.now) (codes "enter") result }
-{
-    match entry_of(row) {
-        Ok(entry) => Ok(Command::Enter(entry)),
+    match command_of_verb(alloc, row, verb) {
+        Ok(command) => Ok(planned(command)),
         Err(fault) => Err(fault),
     }
-}
-
-fn supersede_of(row: &ByteRecord) -> Result<Command, ReadFault>
-    requires { length (fields_of row.now) ≤ 11 }
-    ensures { ReadsArguments (fields_of row.now) (codes "supersede") result }
-{
-    match entry_of(row) {
-        Ok(entry) => Ok(Command::Supersede(entry)),
-        Err(fault) => Err(fault),
-    }
-}
-
-fn retire_of(row: &ByteRecord) -> Result<Command, ReadFault>
-    requires { length (fields_of row.now) ≤ 11 }
-    ensures { ReadsArguments (fields_of row.now) (codes "retire") result }
-{
-    let asset = asset_at(row, Field::A)?;
-    let route = route_name_at(row, Field::B)?;
-    let method = method_at(row, Field::C)?;
-    let start = position_at(row, Field::C, method, Field::D)?;
-    let end = end_at(row, Field::C, method, Field::E)?;
-    nothing_from(row, Field::F)?;
-    Ok(Command::Retire {
-        asset,
-        route,
-        location: location(start, end),
-    })
-}
-
-fn split_of(row: &ByteRecord) -> Result<Command, ReadFault>
-    requires { length (fields_of row.now) ≤ 11 }
-    ensures { ReadsArguments (fields_of row.now) (codes "split") result }
-{
-    let route = route_name_at(row, Field::A)?;
-    let at = chainage_at(row, Field::B)?;
-    let name = route_name_at(row, Field::C)?;
-    nothing_from(row, Field::D)?;
-    Ok(Command::Split { route, at, name })
-}
-
-fn join_of(row: &ByteRecord) -> Result<Command, ReadFault>
-    requires { length (fields_of row.now) ≤ 11 }
-    ensures { ReadsArguments (fields_of row.now) (codes "join") result }
-{
-    let first = route_name_at(row, Field::A)?;
-    let second = route_name_at(row, Field::B)?;
-    nothing_from(row, Field::C)?;
-    Ok(Command::Join { first, second })
-}
-
-fn renumber_of(row: &ByteRecord) -> Result<Command, ReadFault>
-    requires { length (fields_of row.now) ≤ 11 }
-    ensures { ReadsArguments (fields_of row.now) (codes "renumber") result }
-{
-    let route = route_name_at(row, Field::A)?;
-    let name = route_name_at(row, Field::B)?;
-    nothing_from(row, Field::C)?;
-    Ok(Command::Renumber { route, name })
-}
-
-fn recalibrate_of(alloc: Global, row: &ByteRecord) -> Result<Command, ReadFault>
-    requires { length (fields_of row.now) ≤ 11 }
-    ensures { ReadsArguments (fields_of row.now) (codes "recalibrate") result }
-{
-    let route = route_name_at(row, Field::A)?;
-    let marks = marks_at(alloc, row, Field::B)?;
-    nothing_from(row, Field::C)?;
-    Ok(Command::Recalibrate { route, marks })
-}
-
-fn realign_of(alloc: Global, row: &ByteRecord) -> Result<Command, ReadFault>
-    requires { length (fields_of row.now) ≤ 11 }
-    ensures { ReadsArguments (fields_of row.now) (codes "realign") result }
-{
-    let route = route_name_at(row, Field::A)?;
-    let from = chainage_at(row, Field::B)?;
-    let to = chainage_at(row, Field::C)?;
-    let pieces = some_pieces_at(alloc, row, Field::D)?;
-    let marks = marks_at(alloc, row, Field::E)?;
-    nothing_from(row, Field::F)?;
-    Ok(Command::Realign {
-        route,
-        from,
-        to,
-        pieces,
-        marks,
-    })
-}
-
-fn close_of(row: &ByteRecord) -> Result<Command, ReadFault>
-    requires { length (fields_of row.now) ≤ 11 }
-    ensures { ReadsArguments (fields_of row.now) (codes "close") result }
-{
-    let route = route_name_at(row, Field::A)?;
-    nothing_from(row, Field::B)?;
-    Ok(Command::Close { route })
-}
-
-fn turn_of(row: &ByteRecord) -> Result<Command, ReadFault>
-    requires { length (fields_of row.now) ≤ 11 }
-    ensures { ReadsArguments (fields_of row.now) (codes "turn") result }
-{
-    let route = route_name_at(row, Field::A)?;
-    nothing_from(row, Field::B)?;
-    Ok(Command::Turn { route })
 }

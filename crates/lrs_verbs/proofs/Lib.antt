@@ -4,6 +4,10 @@ pub mod Keyed
 pub mod Standing
 pub mod Filed
 pub mod NewCourse
+pub mod FromReferents
+pub mod Located
+pub mod Holding
+pub mod FirstHolder
 pub mod Unmoved
 pub mod NewLink
 pub mod NewClass
@@ -16,3 +20,6 @@ pub mod Rerouted
 pub mod Recalibrated
 pub mod Renumbered
 pub mod Made
+pub mod Replaced
+pub mod RouteReferents
+pub mod GoneReferent

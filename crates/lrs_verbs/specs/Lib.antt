@@ -6,3 +6,5 @@ pub mod Indexes
 pub mod Inventory
 pub mod Plans
 pub mod Checks
+pub mod Extents
+pub mod RouteReferents

@@ -9,7 +9,10 @@ ghost use Rattle.lrs_keep.specs.Keeping.{HasRisen, HoldsOnly, HoldsOldOrNew};
 ghost use Rattle.lrs_verbs.specs.Keys.{place_among};
 ghost use Rattle.lrs_verbs.specs.Plans.{change_of, TellsGround};
 
+mod extents;
 mod lookups;
+
+pub use extents::Stretch;
 
 use crate::indexes::Indexes;
 use crate::plan::Plan;

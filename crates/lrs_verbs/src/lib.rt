@@ -11,7 +11,7 @@ mod planned;
 mod referents;
 mod verbs;
 
-pub use inventory::Inventory;
+pub use inventory::{Inventory, Stretch};
 pub use keys::KeyIndex;
 pub use plan::{GroundChange, Plan, ReferentPlace, ReferentPlaces, Stop, refuse_if};
 pub use planned::Planned;

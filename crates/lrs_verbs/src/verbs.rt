@@ -7,8 +7,10 @@ mod checks;
 mod class;
 mod link;
 mod recalibrate;
+mod referents;
 mod renumber;
 mod route;
+mod unref;
 
 use crate::inventory::Inventory;
 use crate::plan::{Plan, Stop};
@@ -20,6 +22,7 @@ use recalibrate::plan_recalibrate;
 use renumber::plan_renumber;
 use route::plan_route;
 use std::alloc::Global;
+use unref::plan_unref;
 
 /// What a command would change of an inventory.
 ///
@@ -36,6 +39,7 @@ pub fn plan_command(alloc: Global, inventory: &Inventory, command: &Planned) -> 
             pieces,
             marks,
         } => plan_route(alloc, inventory, *name, pieces.as_slice(), marks.as_slice()),
+        Command::Unref { name } => plan_unref(alloc, inventory, *name),
         Command::Renumber { route, name } => plan_renumber(alloc, inventory, *route, *name),
         Command::Recalibrate { route, marks } => plan_recalibrate(
             alloc,

@@ -1,7 +1,7 @@
 use Rattle.std.proofs.Common.{rules, length, arith, ◌≤◌}
 use Rattle.csv.specs.Records.{fields_of}
 use Rattle.lrs_sheet.proofs.Misfits.{text_at-past}
-use Rattle.lrs_sheet.proofs.verb.entry_of.Goals as goal
+use Rattle.lrs_sheet.proofs.arguments.entry_of.Goals as goal
 
 pub returns : goal.returns
 returns c =

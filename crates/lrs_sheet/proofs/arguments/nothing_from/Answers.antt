@@ -2,7 +2,7 @@ use Rattle.std.proofs.Common.{length, arith, inl, inr, ap}
 use Rattle.std.proofs.lemmas.Bool.{cases_lt}
 use Rattle.csv.specs.Records.{fields_of}
 use Rattle.lrs_sheet.proofs.Misfits.{text_at-past}
-use Rattle.lrs_sheet.proofs.verb.nothing_from.Goals as goal
+use Rattle.lrs_sheet.proofs.arguments.nothing_from.Goals as goal
 
 pub returns : goal.returns
 returns c i h = elim (cases_lt i c.loop-i.i) [

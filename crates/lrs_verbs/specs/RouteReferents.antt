@@ -1,0 +1,28 @@
+-- What changes where the referents of one route change, and nothing else.
+use Rattle.std.specs.Prelude.{[], ◌∷◌, Some, None}
+use Rattle.lrs_measure.specs.Texts.{Name}
+use Rattle.lrs_keep.specs.declared.change.ReferentChange.{ReferentChange}
+use Rattle.lrs_keep.specs.declared.change.RouteChange.{RouteChange}
+use Rattle.lrs_keep.specs.declared.change.Difference.{Difference}
+use Rattle.lrs_keep.specs.Change.{no_difference}
+use Rattle.lrs_verbs.specs.declared.plan.Plan.{Plan}
+use Rattle.lrs_verbs.specs.declared.plan.ReferentPlaces.{ReferentPlaces}
+use Rattle.lrs_verbs.specs.Plans.{plan_of}
+
+-- the route keeps its name, its course, its marks and its rows
+abbrev pub change_of_referents : Name → ReferentChange → RouteChange
+change_of_referents route refs = record { route = route; name = route; course = None; marks = None; refs = refs; spans_gone = []; spans_come = [] }
+
+abbrev pub difference_of_referents : Name → ReferentChange → Difference
+difference_of_referents route refs = record no_difference { changed = Some (change_of_referents route refs) }
+
+-- The plan by which referents of this route change, and where they then stand.
+abbrev pub plan_of_referents : Name → ReferentChange → ReferentPlaces → Plan
+plan_of_referents route refs places = record (plan_of (difference_of_referents route refs)) { referents = places }
+
+-- the referent of this name goes
+abbrev pub without_one : Name → ReferentChange
+without_one name = record { gone = name ∷ []; come = [] }
+
+abbrev pub nowhere : Name → ReferentPlaces
+nowhere name = record { come = None; gone = name ∷ [] }
