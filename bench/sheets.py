@@ -109,7 +109,7 @@ def main():
         path = str(folder / "sheet")
         write(path, [link(n) if n <= MOST_LINKS else link(1) for n in range(1, records + 1)])
         compare(program, "links", path, records)
-        mixed = [link(n) for n in range(1, records * 3 // 10 + 1)]
+        mixed = [link(n) for n in range(1, min(records, MOST_LINKS) + 1)]
         random.Random(1).shuffle(mixed)
         write(path, mixed)
         compare(program, "links, their numbers in no order", path, len(mixed))

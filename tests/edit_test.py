@@ -3,7 +3,7 @@
 import pathlib
 import tempfile
 
-from program import FIRST, FIRST_REPLIES, HEADER, ends, faults, lines, record, replies, run, run_sheet, sheet_of
+from program import FIRST, FIRST_REPLIES, HEADER, after_first, ends, faults, lines, record, replies, run, run_sheet, sheet_of
 
 MARK = b"\xef\xbb\xbf"
 
@@ -53,13 +53,6 @@ def test_limits_of_links():
         ("b8,link,\u0665,1", "b8,refused,Malformed:a"),
         ("b9,link,0,0,x", "b9,refused,Malformed:a"),
     )
-
-
-def after_first(*rows):
-    """After the first sheet these records get these replies."""
-    expected = FIRST_REPLIES + lines(*(reply for _, reply in rows))
-    refused = any(",refused," in reply for _, reply in rows)
-    ends(run_sheet(FIRST + b"".join(record(text) for text, _ in rows)), expected, 1 if refused else 0)
 
 
 def test_routes_that_are_refused():

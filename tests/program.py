@@ -120,3 +120,10 @@ def run_on_terminal(sheet, *names, **streams):
         reader.join()
         os.close(outer)
     return ended, b"".join(seen)
+
+
+def after_first(*rows):
+    """After the first sheet these records get these replies; the numbers of edits go on at 8."""
+    sheet = FIRST + b"".join(record(text) for text, _ in rows)
+    refused = any(",refused," in reply for _, reply in rows)
+    ends(run_sheet(sheet), FIRST_REPLIES + lines(*(reply for _, reply in rows)), 1 if refused else 0)

@@ -1,0 +1,88 @@
+"""Verbs over the first sheet's route: A1 runs forwards over link 1, and then backwards over link 2; 8,000 mm, measures 0 to 9,000."""
+
+from program import after_first
+
+
+def test_other_marks():
+    after_first(
+        ("a1,recalibrate,B1,0:0 8000:8000", "a1,refused,NoRoute"),
+        ("a2,recalibrate,A1,0:0 8001:8000", "a2,refused,BadMarks:1"),
+        ("a3,recalibrate,A1,0:100 4000:100 8000:200", "a3,refused,BadMarks:1"),
+        ("a4,recalibrate,A1,0:5 7999:8000", "a4,refused,BadMarks:1"),
+        ("a5,recalibrate,A1,0:0", "a5,refused,Malformed:b"),
+        ("a6,recalibrate,A1,0:0 8000:8000,x", "a6,refused,Malformed:c"),
+        ("a7,recalibrate,A1,0:0 8000:8000", "a7,done,8"),
+        ("a7,recalibrate,A1,0:0 8000:8000", "a7,again,8"),
+        ("a7,recalibrate,A1,0:0 8000:9000", "a7,refused,KeyUsed:8"),
+        ("a8,recalibrate,A1,0:7 1:8 8000:100000000000", "a8,done,9"),
+    )
+
+
+def test_another_name():
+    after_first(
+        ("a1,renumber,A1,A1", "a1,refused,RouteKnown"),
+        ("a2,renumber,B1,A1", "a2,refused,NoRoute"),
+        ("a3,renumber,A1,B1", "a3,done,8"),
+        ("a4,renumber,A1,C1", "a4,refused,NoRoute"),
+        ("a5,renumber,B1,-B", "a5,refused,Malformed:b"),
+        ("b1,route,C1,3:0:1:+ 2:0:1:+,0:0 2:2", "b1,refused,Taken:1"),
+        ("b2,route,B1,3:0:1:+,0:0 1:1", "b2,refused,RouteKnown"),
+        ("b3,route,A1,3:0:1:+,0:0 1:1", "b3,done,9"),
+        ("b4,renumber,B1,A1", "b4,refused,RouteKnown"),
+        ("b5,renumber,B1,0-9", "b5,done,10"),
+        ("b6,recalibrate,B1,0:0 8000:8000", "b6,refused,NoRoute"),
+        ("b7,recalibrate,0-9,0:0 8000:8000", "b7,done,11"),
+        ("b8,renumber,A1,Z9", "b8,done,12"),
+        ("b9,route,A1,3:0:2:+,0:0 2:2", "b9,refused,Taken:0"),
+    )
+
+
+def test_referents():
+    after_first(
+        ("a1,ref,KM2,A1,abs,3", "a1,done,8"),
+        ("a2,ref,KM2,A1,abs,3", "a2,refused,RefKnown"),
+        ("a3,ref,KM5,B1,abs,3", "a3,refused,NoRoute"),
+        ("a4,ref,KM5,A1,rel,KM4+1", "a4,refused,NoRef"),
+        ("a5,ref,KM5,A1,rel,KM2+4998", "a5,done,9"),
+        ("a6,ref,END,A1,int,1/1", "a6,done,10"),
+        ("a7,ref,OFF,A1,abs,9001", "a7,refused,OffRoute"),
+        ("a8,ref,OFF,A1,rel,KM2-3", "a8,refused,OffRoute"),
+        ("a9,ref,OFF,A1,foot,3", "a9,refused,Malformed:c"),
+        ("b1,unref,KM9", "b1,refused,NoRef"),
+        ("b2,unref,KM5", "b2,done,11"),
+        ("b3,unref,KM5", "b3,refused,NoRef"),
+        ("b4,ref,KM5,A1,rel,KM5+0", "b4,refused,NoRef"),
+        ("b5,ref,KM5,A1,abs,6000", "b5,done,12"),
+        ("c1,renumber,A1,B1", "c1,done,13"),
+        ("c2,ref,KM6,A1,abs,0", "c2,refused,NoRoute"),
+        ("c3,ref,KM6,B1,rel,KM5-1", "c3,done,14"),
+        ("c4,ref,KM5,B1,abs,0", "c4,refused,RefKnown"),
+        ("c5,recalibrate,B1,0:0 8000:8000", "c5,done,15"),
+        ("c6,ref,KM7,B1,abs,8001", "c6,refused,OffRoute"),
+        ("c7,ref,KM7,B1,abs,8000", "c7,done,16"),
+    )
+
+
+def test_assets():
+    after_first(
+        ("r1,ref,KM5,A1,abs,6000", "r1,done,8"),
+        ("e1,enter,10,SPEED,A1,B,abs,5,16,80,0", "e1,done,9"),
+        ("e2,enter,10,SPEED,A1,B,abs,5,16,80,0", "e2,refused,AssetKnown"),
+        ("e3,enter,11,SPEED,A1,L,abs,10,20,80,0", "e3,refused,Overlap:10"),
+        ("e4,enter,11,SPEED,A1,L,abs,16,20,80,0", "e4,done,10"),
+        ("e5,enter,12,SIGN,A1,R,rel,KM5+0,,80,150", "e5,done,11"),
+        ("e6,enter,13,SIGN,A1,R,rel,KM5+0,KM5+1,80,150", "e6,refused,WrongKind"),
+        ("e7,enter,13,RAIL,A1,R,rel,KM5+0,,x,150", "e7,refused,WrongKind"),
+        ("e8,enter,13,RAIL,A1,R,int,1/3,1/3,x,150", "e8,refused,Empty"),
+        ("e9,enter,13,NONE,A1,R,int,1/3,2/3,x,150", "e9,refused,NoClass"),
+        ("f1,enter,13,RAIL,X1,R,int,1/3,2/3,x,150", "f1,refused,NoRoute"),
+        ("f2,enter,13,RAIL,A1,R,rel,NO+3,KM5+1,x,150", "f2,refused,NoRef"),
+        ("f3,enter,13,RAIL,A1,R,rel,KM5+3,KM5+100000,x,150", "f3,refused,OffRoute"),
+        ("f4,enter,13,RAIL,A1,R,int,1/3,2/3,x,150", "f4,done,12"),
+        ("f5,enter,14,RAIL,A1,B,int,0/1,1/1,x,0", "f5,done,13"),
+        ("f6,enter,15,RAIL,A1,L,int,1/2,1/3,x,0", "f6,refused,Empty"),
+        ("f7,enter,15,SPEED,A1,B,int,0/1,1/1,x,0", "f7,refused,Overlap:10"),
+        ("f8,renumber,A1,B1", "f8,done,14"),
+        ("f9,enter,15,SPEED,B1,R,abs,19,21,x,0", "f9,done,15"),
+        ("g1,enter,16,SPEED,B1,R,abs,20,21,x,0", "g1,refused,Overlap:15"),
+    )
