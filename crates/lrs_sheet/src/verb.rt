@@ -21,7 +21,10 @@ use std::alloc::Global;
 fn is_done(verb: &[u8]) -> bool
     ensures { IsTrue result ↔ IsVerb verb.now }
 {
-    verb == b"link".as_slice() || verb == b"class".as_slice() || verb == b"route".as_slice()
+    verb == b"link".as_slice()
+        || verb == b"class".as_slice()
+        || verb == b"route".as_slice()
+        || verb == b"unref".as_slice()
 }
 
 /// The command that the fields of a verb say.
