@@ -9,6 +9,7 @@ pub mod FromReferents
 pub mod Located
 pub mod Holding
 pub mod FirstHolder
+pub mod InPlace
 pub mod Unmoved
 pub mod NewLink
 pub mod NewClass
