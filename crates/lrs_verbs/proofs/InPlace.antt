@@ -4,7 +4,10 @@ use Rattle.std.specs.Prelude.{◌||◌, ◌&&◌, not}
 use Rattle.std.specs.List.{list_any, list_all, flat_map, find}
 use Rattle.std.specs.Option.{option_map}
 use Rattle.std.specs.Cmp.Lexicographic.{bytes_decides}
+use Rattle.std.proofs.Math.Bool.{or-false}
 use Rattle.std.proofs.lemmas.Bool.{both_ways, and_parts, and_from, cases_Bool}
+use Rattle.std.proofs.lemmas.List.Elements.{filter-append}
+use Rattle.std.proofs.lemmas.List.Concat.{flat_map-append}
 use Rattle.lrs_measure.specs.Lists.{each_two}
 use Rattle.lrs_measure.specs.Ordered.{insert_by}
 use Rattle.lrs_measure.specs.Texts.{Name, same_name, name_before}
@@ -13,6 +16,7 @@ use Rattle.lrs_machine.specs.declared.image.RouteEntry.{RouteEntry}
 use Rattle.lrs_machine.specs.Sound.{route_before}
 use Rattle.lrs_machine.proofs.Members.{In, all_at}
 use Rattle.lrs_machine.proofs.Pairs.{each_two-map}
+use Rattle.lrs_lanes.proofs.Members.{filter_all}
 use Rattle.lrs_keep.specs.Change.{is_named, without}
 use Rattle.lrs_keep.proofs.Named.{name_apart}
 use Rattle.lrs_keep.proofs.PutBack.{none_goes, found_passes}
@@ -84,6 +88,20 @@ module _ {X : Type 0} where
     pub all_still : (p : X → Bool) → p new ≡ true → list_all p xs ≡ true → list_all p ys ≡ true
     all_still p h all = ap (list_all p) d.after ∙ still_all p old new d.front d.rear h (sym (ap (list_all p) d.before) ∙ all)
 
+    pub any_same : (p : X → Bool) → p new ≡ p old → list_any p ys ≡ list_any p xs
+    any_same p h = any_more p false (h ∙ sym (or-false (p old))) ∙ or-false (list_any p xs)
+
+    -- Where the new one has what passes of the old one, and what is made of the rest passes, all have what passes.
+    pub made_filtered : {Y : Type 0} (f : X → List Y) (test : Y → Bool) → f new ≡ filter test (f old)
+        → ((y : Y) → In y (flat_map f d.front) → test y ≡ true) → ((y : Y) → In y (flat_map f d.rear) → test y ≡ true) → flat_map f ys ≡ filter test (flat_map f xs)
+    made_filtered f test own ahead behind =
+        let front = flat_map f d.front in
+        let rear = flat_map f d.rear in
+        ap (flat_map f) d.after ∙ flat_map-append f d.front (new ∷ d.rear)
+        ∙ (λ j. sym (filter_all test front ahead) j ++ (own j ++ sym (filter_all test rear behind) j))
+        ∙ sym (filter-append test front (f old ++ rear) ∙ ap (λ zs. filter test front ++ zs) (filter-append test (f old) rear))
+        ∙ ap (filter test) (sym (ap (flat_map f) d.before ∙ flat_map-append f d.front (old ∷ d.rear)))
+
 -- ---- routes
 
 some_is : (a b : RouteEntry) → Some a ≡ Some b → b ≡ a
@@ -102,6 +120,18 @@ at_front : (new y : RouteEntry) (ys : List RouteEntry) → new.route.name ≡ y.
 at_front new y [] is h = refl
 at_front new y (z ∷ zs) is h =
     ap (λ b. cond b (new ∷ z ∷ zs) (z ∷ insert_by route_before new zs)) (ap (λ n. name_before n z.route.name) is ∙ (and_parts (route_before y z) (list_all (route_before y) zs) h).0)
+
+-- One of the routes is found by its name.
+pub found_by_name : (r : RouteEntry) (routes : List RouteEntry) → each_two route_before routes ≡ true → In r routes → find (is_named r.route.name) routes ≡ Some r
+found_by_name r [] h m = absurd m
+found_by_name r (y ∷ ys) h (inl e) =
+    ap (λ b. cond b (Some y) (find (is_named r.route.name) ys)) ((bytes_decides y.route.name r.route.name).1 (ap (λ (x : RouteEntry). x.route.name) (sym e))) ∙ ap (λ (x : RouteEntry). Some x) (sym e)
+found_by_name r (y ∷ ys) h (inr m) =
+    let both = and_parts (list_all (route_before y) ys) (each_two route_before ys) h in
+    let other = is_false (is_named r.route.name y) (λ t.
+        let same : y.route.name ≡ r.route.name = (bytes_decides y.route.name r.route.name).0 t in
+        not_itself r.route.name (ap (λ n. name_before n r.route.name) (sym same) ∙ all_at (route_before y) r ys both.0 m)) in
+    ap (λ b. cond b (Some y) (find (is_named r.route.name) ys)) other ∙ found_by_name r ys both.1 m
 
 -- The route of a name, taken out and put back as one of the same name, is in its place.
 pub in_place : (name : Name) (old new : RouteEntry) → new.route.name ≡ old.route.name → (routes : List RouteEntry) → each_two route_before routes ≡ true → find (is_named name) routes ≡ Some old

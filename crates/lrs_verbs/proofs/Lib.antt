@@ -19,6 +19,6 @@ pub mod Grounds
 pub mod Stopping
 pub mod Indexing
 pub mod Made
-pub mod Replaced
 pub mod RouteReferents
 pub mod GoneReferent
+pub mod NewReferent
