@@ -5,6 +5,7 @@ ghost use Rattle.lrs_verbs.specs.Plans.{Plans};
 mod checks;
 mod class;
 mod link;
+mod new_referent;
 mod referents;
 mod route;
 mod unref;
@@ -15,6 +16,7 @@ use crate::planned::Planned;
 use class::plan_class;
 use link::plan_link;
 use lrs_machine::Command;
+use new_referent::plan_ref;
 use route::plan_route;
 use std::alloc::Global;
 use unref::plan_unref;
@@ -34,6 +36,7 @@ pub fn plan_command(alloc: Global, inventory: &Inventory, command: &Planned) -> 
             pieces,
             marks,
         } => plan_route(alloc, inventory, *name, pieces.as_slice(), marks.as_slice()),
+        Command::Ref { name, route, at } => plan_ref(alloc, inventory, *name, *route, *at),
         Command::Unref { name } => plan_unref(alloc, inventory, *name),
         _ => unreachable!(),
     }
