@@ -34,7 +34,7 @@ use Rattle.lrs_verbs.proofs.FromReferents.{row_of, cross, rear_of, apart_courses
 use Rattle.lrs_routes.proofs.InOrder.{is_false}
 use Rattle.lrs_verbs.proofs.NamedEntries.{names_exact}
 use Rattle.lrs_routes.proofs.Apart.{at_is}
-use Rattle.lrs_verbs.proofs.Replaced.{IsReplaced, all_filtered}
+use Rattle.lrs_verbs.proofs.InPlace.{DifferAt, made_filtered}
 use Rattle.lrs_verbs.proofs.RouteReferents.{new, became, after, in_its_place, is_plan}
 
 -- ---- the route on which a referent stands
@@ -161,7 +161,7 @@ module _ (name : Name) (place : Millimetre) (i : Image) (s : IsSound i) (h : (st
       (and_from (each_two referent_before (filter (is_kept name) r.route.refs)) (list_all (λ q. nat_lt q.at len) (filter (is_kept name) r.route.refs))
       (each_two-filter referent_before (is_kept name) r.route.refs refs.0) (all-filter (λ q. nat_lt q.at len) (is_kept name) r.route.refs refs.1))
 
-  abbrev p : IsReplaced r (new i r (without_one name) s on.known fits) i.routes (after i r (without_one name) s on.known fits)
+  abbrev p : DifferAt r (new i r (without_one name) s on.known fits) i.routes (after i r (without_one name) s on.known fits)
   p = in_its_place i r (without_one name) s on.known fits
 
   abbrev routes_after : List RouteEntry
@@ -169,7 +169,7 @@ module _ (name : Name) (place : Millimetre) (i : Image) (s : IsSound i) (h : (st
 
   -- the referents of other routes have other names
   once : each_two other_names (flat_map refs_of p.front ++ (r.route.refs ++ flat_map refs_of p.rear)) ≡ true
-  once = ap (each_two other_names) (sym (ap (flat_map refs_of) p.was ∙ flat_map-append refs_of p.front (r ∷ p.rear))) ∙ names_once i s
+  once = ap (each_two other_names) (sym (ap (flat_map refs_of) p.before ∙ flat_map-append refs_of p.front (r ∷ p.rear))) ∙ names_once i s
 
   ahead : (q : Referent) → In q (flat_map refs_of p.front) → is_kept name q ≡ true
   ahead q n = other_kept name q.name (ap (same_name q.name) (sym on.named)
@@ -182,12 +182,12 @@ module _ (name : Name) (place : Millimetre) (i : Image) (s : IsSound i) (h : (st
       other_kept name q.name (is_false (same_name q.name name) (λ t. both_ways (same_name on.ref.name q.name) other ((bytes_decides on.ref.name q.name).1 (on.named ∙ sym ((bytes_decides q.name name).0 t)))))
 
   refs_left : flat_map refs_of routes_after ≡ filter (is_kept name) (flat_map refs_of i.routes)
-  refs_left = all_filtered p refs_of (is_kept name) (became i r (without_one name) s on.known fits).refs ahead behind
+  refs_left = made_filtered r (new i r (without_one name) s on.known fits) i.routes routes_after p refs_of (is_kept name) (became i r (without_one name) s on.known fits).refs ahead behind
 
   rows_left : flat_map referents_on routes_after ≡ filter (is_kept_row name) (flat_map referents_on i.routes)
   rows_left =
       let b = became i r (without_one name) s on.known fits in
-      all_filtered p referents_on (is_kept_row name) ((λ j. filter_map (referent_entry (b.course j)) (b.refs j)) ∙ rows_kept name r.route.course r.route.refs) (from p.front ahead) (from p.rear behind)
+      made_filtered r (new i r (without_one name) s on.known fits) i.routes routes_after p referents_on (is_kept_row name) ((λ j. filter_map (referent_entry (b.course j)) (b.refs j)) ∙ rows_kept name r.route.course r.route.refs) (from p.front ahead) (from p.rear behind)
     where
       from : (routes : List RouteEntry) → ((q : Referent) → In q (flat_map refs_of routes) → is_kept name q ≡ true) → (x : Name × Millimetre) → In x (flat_map referents_on routes) → is_kept_row name x ≡ true
       from routes others x n =

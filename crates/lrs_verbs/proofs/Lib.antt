@@ -8,6 +8,7 @@ pub mod FromReferents
 pub mod Located
 pub mod Holding
 pub mod FirstHolder
+pub mod InPlace
 pub mod Unmoved
 pub mod NewLink
 pub mod NewClass
@@ -20,6 +21,6 @@ pub mod Rerouted
 pub mod Recalibrated
 pub mod Renumbered
 pub mod Made
-pub mod Replaced
 pub mod RouteReferents
 pub mod GoneReferent
+pub mod NewReferent

@@ -38,7 +38,7 @@ use Rattle.lrs_verbs.specs.Changes.{route_on, referents_after, IsNewReferent}
 use Rattle.lrs_verbs.specs.Plans.{TellsGround, IsPlanOf}
 use Rattle.lrs_verbs.specs.RouteReferents.{change_of_referents, difference_of_referents, plan_of_referents}
 use Rattle.lrs_verbs.proofs.FromReferents.{other_names, refs_of}
-use Rattle.lrs_verbs.proofs.Replaced.{IsReplaced, found, replaced, map_same, any_same, all_still, found_same}
+use Rattle.lrs_verbs.proofs.InPlace.{DifferAt, found_by_name, in_place, map_same, any_same, all_still, names_stay, ground_stays}
 
 some_is : (a b : RouteEntry) → Some a ≡ Some b → a ≡ b
 some_is a b h = cc
@@ -61,14 +61,14 @@ module _ (i : Image) (r : RouteEntry) (c : ReferentChange) (s : IsSound i) (m : 
   order = routes_in_order i s
 
   found_there : find (is_named r.route.name) i.routes ≡ Some r
-  found_there = found r.route.name r i.routes order m refl
+  found_there = found_by_name r i.routes order m
 
   -- the routes after the change
   abbrev pub after : List RouteEntry
   after = insert_by route_before new (without r.route.name i.routes)
 
-  pub in_its_place : IsReplaced r new i.routes after
-  in_its_place = replaced r.route.name r new i.routes order m refl became.name
+  pub in_its_place : DifferAt r new i.routes after
+  in_its_place = in_place r.route.name r new became.name i.routes order found_there
 
   abbrev next : Image
   next = record i { routes = after }
@@ -91,9 +91,9 @@ module _ (i : Image) (r : RouteEntry) (c : ReferentChange) (s : IsSound i) (m : 
   state-with : (stands : Name → Option Millimetre) → ((q : Name) → entries.find name_cmp q (flat_map referents_on after) ≡ stands q) → record (state_of i) { referents = stands } ≡ state_of next
   unfolding state_of
   state-with stands h = λ j. record (state_of i) {
-    routes = record { rows = sym (map_same in_its_place route_entry same_entry) j };
+    routes = record { rows = sym (map_same r new i.routes after in_its_place route_entry same_entry) j };
     referents = λ q. sym (h q) j;
-    holds = λ a p. sym (any_same in_its_place (λ f. holds_on f a p) (same_held a p)) j;
+    holds = λ a p. sym (any_same r new i.routes after in_its_place (λ f. holds_on f a p) (same_held a p)) j;
   }
 
   -- ---- the image stays in order
@@ -112,7 +112,7 @@ module _ (i : Image) (r : RouteEntry) (c : ReferentChange) (s : IsSound i) (m : 
       let its : are_fitting (refs_entry new) ≡ true = (λ j. are_referents (length (became.course j)) (became.refs j)) ∙ own_refs in
       let each = (and_parts (list_all are_fitting (referents_of i)) (each_two other_names (flat_map (λ q. q.refs) (referents_of i))) h).0 in
       and_from (list_all are_fitting (referents_of next)) (each_two other_names (flat_map (λ q. q.refs) (referents_of next)))
-      (list_all-map are_fitting refs_entry after ∙ all_still in_its_place (λ e. are_fitting (refs_entry e)) its (sym (list_all-map are_fitting refs_entry i.routes) ∙ each))
+      (list_all-map are_fitting refs_entry after ∙ all_still r new i.routes after in_its_place (λ e. are_fitting (refs_entry e)) its (sym (list_all-map are_fitting refs_entry i.routes) ∙ each))
       (ap (each_two other_names) (flat_map-map (λ (q : RouteReferents). q.refs) refs_entry after) ∙ once)
 
   stays_orderly : each_two other_names (flat_map refs_of after) ≡ true → IsOrderly i → IsOrderly next
@@ -120,10 +120,10 @@ module _ (i : Image) (r : RouteEntry) (c : ReferentChange) (s : IsSound i) (m : 
     links = o.links;
     classes = o.classes;
     assets = o.assets;
-    courses = ap (are_courses i.links) (map_same in_its_place (λ e. record { route = e.route.name; entries = e.route.course }) (λ j. record { route = became.name j; entries = became.course j })) ∙ o.courses;
-    marks = ap are_all_marks (map_same in_its_place (λ e. record { course = e.route.course; marks = e.route.marks }) (λ j. record { course = became.course j; marks = became.marks j })) ∙ o.marks;
+    courses = ap (are_courses i.links) (map_same r new i.routes after in_its_place (λ e. record { route = e.route.name; entries = e.route.course }) (λ j. record { route = became.name j; entries = became.course j })) ∙ o.courses;
+    marks = ap are_all_marks (map_same r new i.routes after in_its_place (λ e. record { course = e.route.course; marks = e.route.marks }) (λ j. record { course = became.course j; marks = became.marks j })) ∙ o.marks;
     referents = still_referents once o.referents;
-    spans = ap (list_all (are_spans_of i.assets)) (map_same in_its_place (λ e. record { course = e.route.course; rows = e.spans }) (λ j. record { course = became.course j; rows = same_rows j })) ∙ o.spans;
+    spans = ap (list_all (are_spans_of i.assets)) (map_same r new i.routes after in_its_place (λ e. record { course = e.route.course; rows = e.spans }) (λ j. record { course = became.course j; rows = same_rows j })) ∙ o.spans;
     entered_order = o.entered_order;
     entered_filled = o.entered_filled;
     entered_apart = o.entered_apart;
@@ -144,9 +144,7 @@ module _ (i : Image) (r : RouteEntry) (c : ReferentChange) (s : IsSound i) (m : 
       (all_at (are_spans_of i.assets) (entry r) (spans_of i) (sound_is_orderly i s).spans (In-map entry r i.routes m))).0
 
   names_in_order : each_two route_before after ≡ true
-  names_in_order =
-      sym (each_two-map name_before (λ (e : RouteEntry). e.route.name) after) ∙ ap (each_two name_before) (map_same in_its_place (λ e. e.route.name) became.name)
-      ∙ each_two-map name_before (λ (e : RouteEntry). e.route.name) i.routes ∙ order
+  names_in_order = names_stay r new i.routes after in_its_place became.name order
 
   can_become : CanBecome change r
   can_become = record { fits = fits; rows = ap are_rows same_rows ∙ own_rows; gone = refl }
@@ -163,7 +161,7 @@ module _ (i : Image) (r : RouteEntry) (c : ReferentChange) (s : IsSound i) (m : 
       → IsNewReferent places.come (state_of i).referents → TellsGround (plan_of_referents r.route.name c places) i
   unfolding state_of
   tells places h fresh = record {
-    ground = λ m. ap (λ (k : Image). route_on k.routes m) is_next ∙ found_same in_its_place (λ e. runs_over e.route.course m) (λ e. e.route.name) (ap (λ course. runs_over course m) became.course) became.name;
+    ground = λ m. ap (λ (k : Image). route_on k.routes m) is_next ∙ ground_stays r new i.routes after in_its_place became.name became.course m;
     can_ground = tt;
     referents = λ q. ap (λ (k : Image). (state_of k).referents q) is_next ∙ h q;
     new_referent = fresh;

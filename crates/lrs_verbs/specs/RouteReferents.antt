@@ -1,6 +1,8 @@
 -- What changes where the referents of one route change, and nothing else.
 use Rattle.std.specs.Prelude.{[], ◌∷◌, Some, None}
 use Rattle.lrs_measure.specs.Texts.{Name}
+use Rattle.lrs_element.specs.Course.{Millimetre}
+use Rattle.lrs_position.specs.declared.route.Referent.{Referent}
 use Rattle.lrs_keep.specs.declared.change.ReferentChange.{ReferentChange}
 use Rattle.lrs_keep.specs.declared.change.RouteChange.{RouteChange}
 use Rattle.lrs_keep.specs.declared.change.Difference.{Difference}
@@ -26,3 +28,10 @@ without_one name = record { gone = name ∷ []; come = [] }
 
 abbrev pub nowhere : Name → ReferentPlaces
 nowhere name = record { come = None; gone = name ∷ [] }
+
+-- this referent comes
+abbrev pub with_one : Referent → ReferentChange
+with_one r = record { gone = []; come = r ∷ [] }
+
+abbrev pub standing_at : Name → Millimetre → ReferentPlaces
+standing_at name place = record { come = Some (record { name = name; link = place.0; mm = place.1 }); gone = [] }

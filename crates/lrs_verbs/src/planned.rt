@@ -7,7 +7,7 @@ ghost use Rattle.lrs_verbs.specs.Planned.{is_planned};
 use lrs_machine::Command;
 use std::marker::Model;
 
-/// A command of one of the verbs `link`, `class`, `route`, `unref`, `renumber` and `recalibrate`.
+/// A command of one of the verbs `link`, `class`, `route`, `ref`, `unref`, `renumber` and `recalibrate`.
 #[derive(Drop)]
 pub struct Planned {
     command: Command,
@@ -34,6 +34,7 @@ impl Planned {
             Command::Link(_)
             | Command::Class(_)
             | Command::Route { .. }
+            | Command::Ref { .. }
             | Command::Unref { .. }
             | Command::Renumber { .. }
             | Command::Recalibrate { .. } => Some(Planned { command }),

@@ -6,6 +6,7 @@ mod changes;
 mod checks;
 mod class;
 mod link;
+mod new_referent;
 mod recalibrate;
 mod referents;
 mod renumber;
@@ -18,6 +19,7 @@ use crate::planned::Planned;
 use class::plan_class;
 use link::plan_link;
 use lrs_machine::Command;
+use new_referent::plan_ref;
 use recalibrate::plan_recalibrate;
 use renumber::plan_renumber;
 use route::plan_route;
@@ -39,6 +41,7 @@ pub fn plan_command(alloc: Global, inventory: &Inventory, command: &Planned) -> 
             pieces,
             marks,
         } => plan_route(alloc, inventory, *name, pieces.as_slice(), marks.as_slice()),
+        Command::Ref { name, route, at } => plan_ref(alloc, inventory, *name, *route, *at),
         Command::Unref { name } => plan_unref(alloc, inventory, *name),
         Command::Renumber { route, name } => plan_renumber(alloc, inventory, *route, *name),
         Command::Recalibrate { route, marks } => plan_recalibrate(

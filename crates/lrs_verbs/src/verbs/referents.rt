@@ -6,7 +6,7 @@ ghost use Rattle.lrs_verbs.specs.RouteReferents.{plan_of_referents};
 use crate::plan::{Plan, ReferentPlaces};
 use lrs_keep::{ReferentChange, RouteChange};
 use lrs_measure::Rows;
-use lrs_position::{RefName, RouteName};
+use lrs_position::{RefName, Referent, RouteName};
 use std::alloc::{AllocError, Global};
 
 /// The plan by which referents of this route change, and where they then stand.
@@ -38,4 +38,12 @@ pub fn one_name(alloc: Global, name: RefName) -> Result<Rows<RefName>, AllocErro
 {
     let names = Vec::from_slice(alloc, &[name])?;
     Ok(Rows::from_vec(names))
+}
+
+/// This referent alone.
+pub fn one_referent(alloc: Global, referent: Referent) -> Result<Rows<Referent>, AllocError>
+    ensures { IfOk result (λ referents. referents ≡ referent ∷ []) }
+{
+    let referents = Vec::from_slice(alloc, &[referent])?;
+    Ok(Rows::from_vec(referents))
 }

@@ -1,4 +1,4 @@
-//! A referent goes.
+//! A referent goes, by the verb `unref`.
 
 ghost use Rattle.lrs_machine.specs.declared.command.Command.TheVariants as verb;
 ghost use Rattle.lrs_verbs.specs.Plans.{Plans};
