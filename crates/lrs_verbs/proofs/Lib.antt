@@ -10,6 +10,8 @@ pub mod Located
 pub mod Holding
 pub mod FirstHolder
 pub mod InPlace
+pub mod NewRow
+pub mod NewParts
 pub mod Unmoved
 pub mod NewLink
 pub mod NewClass

@@ -7,3 +7,4 @@ pub mod Inventory
 pub mod Plans
 pub mod Checks
 pub mod Extents
+pub mod Entering
