@@ -39,7 +39,7 @@ use Rattle.lrs_verbs.proofs.InOrder.{is_false, all_from}
 abbrev has_number : ℕ → Link → Bool
 has_number n l = nat_eq l.number n
 
-nat_eq-comm : (m n : ℕ) → nat_eq m n ≡ nat_eq n m
+pub nat_eq-comm : (m n : ℕ) → nat_eq m n ≡ nat_eq n m
 nat_eq-comm m n = same (nat_eq m n) (nat_eq n m) (λ t. eq-eqb n m (sym (eqb-true m n t))) (λ t. eq-eqb m n (sym (eqb-true n m t)))
   where
     same : (x y : Bool) → (x ≡ true → y ≡ true) → (y ≡ true → x ≡ true) → x ≡ y
@@ -119,7 +119,7 @@ module _ {X : Type 0} where
       (all_from (test x) xs (λ y m. let at = place_in y x xs m in subst (λ z. test x z ≡ true) at.2 (h 0 (suc at.0) x (omega arith) (omega (arith, at.1)))))
       (each_two-from_places test xs (λ i j d less inside. h (suc i) (suc j) d (omega (arith, less)) (omega (arith, inside))))
 
-  each_two-append : (test : X → X → Bool) (xs ys : List X) → each_two test xs ≡ true → each_two test ys ≡ true → ((x y : X) → In x xs → In y ys → test x y ≡ true) → each_two test (xs ++ ys) ≡ true
+  pub each_two-append : (test : X → X → Bool) (xs ys : List X) → each_two test xs ≡ true → each_two test ys ≡ true → ((x y : X) → In x xs → In y ys → test x y ≡ true) → each_two test (xs ++ ys) ≡ true
   each_two-append test [] ys h k across = k
   each_two-append test (x ∷ xs) ys h k across =
       let both = and_parts (list_all (test x) xs) (each_two test xs) h in

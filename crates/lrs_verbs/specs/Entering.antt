@@ -1,20 +1,29 @@
 -- What an entry changes: an asset, a row on its route, and the rows of a ledger for it.
-use Rattle.std.specs.Prelude.{◌≡◌, ℕ, ◌&&◌, true, nat_eq, nat_lt, List, [], ◌∷◌, Some, None}
+use Rattle.std.specs.Prelude.{◌≡◌, ℕ, ◌&&◌, true, false, nat_eq, nat_lt, List, [], ◌∷◌, Some, None}
 use Rattle.std.specs.List.{list_any, list_all}
 use Rattle.lrs_measure.specs.Lists.{each_two}
 use Rattle.lrs_measure.specs.Texts.{Name}
 use Rattle.lrs_element.specs.declared.link.Ground.{Ground}
+use Rattle.lrs_position.specs.Translating.{alignment_of}
 use Rattle.lrs_events.specs.declared.class.Asset.{Asset}
+use Rattle.lrs_events.specs.declared.class.Kind.{Kind}
 use Rattle.lrs_events.specs.declared.part.Part.{Part}
 use Rattle.lrs_events.specs.declared.span.Span.{Span}
 use Rattle.lrs_events.specs.Parts.{has_pair, IsHadOnce, part_before}
 use Rattle.lrs_events.specs.Places.{Place}
 use Rattle.lrs_events.specs.Spans.{holds_by_span}
 use Rattle.lrs_machine.specs.declared.command.Entry.{Entry}
+use Rattle.lrs_machine.specs.declared.image.Image.{Image}
+use Rattle.lrs_machine.specs.declared.image.RouteEntry.{RouteEntry}
+use Rattle.lrs_machine.specs.Image.{state_of}
+use Rattle.lrs_machine.specs.Register.{get, contains_key}
 use Rattle.lrs_machine.specs.Machine.{Extent}
 use Rattle.lrs_keep.specs.declared.change.Difference.{Difference}
 use Rattle.lrs_keep.specs.declared.change.RouteChange.{RouteChange}
 use Rattle.lrs_keep.specs.Change.{no_difference}
+use Rattle.lrs_verbs.specs.declared.plan.Plan.{Plan}
+use Rattle.lrs_verbs.specs.Extents.{IsRouteIn}
+use Rattle.lrs_verbs.specs.Plans.{plan_of}
 
 -- the asset that an edit enters
 abbrev pub asset_of : ℕ → Entry → Asset
@@ -39,3 +48,17 @@ pub record AreEntered (edit : ℕ) (course : List Ground) (row : Span) (parts : 
   pub once : IsHadOnce parts
   pub order : each_two part_before parts ≡ true
   pub filled : list_all (λ x. nat_lt x.from x.to) parts ≡ true
+
+-- the plan that enters an asset by these rows of a ledger
+pub record IsEntering (edit : ℕ) (e : Entry) (x : Extent) (course : List Ground) (p : Plan) : Type 0 where
+  pub parts : List Part
+  pub entered : AreEntered edit course (row_of e x) parts
+  pub plan_is : p ≡ plan_of (entering edit e x parts)
+
+-- The asset of an entry is new, and its class and its route are these.
+pub record HasBegun (i : Image) (e : Entry) (kind : Kind) (r : RouteEntry) : Type 0 where
+  pub fresh : contains_key (state_of i).assets e.asset ≡ false
+  pub class : get (state_of i).classes e.class ≡ Some kind
+  pub route : IsRouteIn i r
+  pub name : r.route.name ≡ e.route
+  pub alignment : get (state_of i).routes e.route ≡ Some (alignment_of r.route)
