@@ -1,6 +1,6 @@
 -- What an entry makes: a new asset, a row on its route, and the rows of a ledger for it.
 use Rattle.std.proofs.Common.{◌≡◌, ℕ, ◌+◌, ◌<◌, ◌≤◌, Bool, true, false, cond, List, [], ◌∷◌, ◌++◌, map, filter, length, Option, Some, None, Ok, refl, sym, ap, subst, ◌∙◌, arith, inl, inr, ◌⊎◌}
-use Rattle.std.specs.Prelude.{◌||◌, ◌&&◌, not, nat_eq, nat_lt, nat_le, slice_range}
+use Rattle.std.specs.Prelude.{is_some, ◌||◌, ◌&&◌, not, nat_eq, nat_lt, nat_le, slice_range}
 use Rattle.std.specs.List.{list_any, list_all, flat_map}
 use Rattle.std.specs.List as list
 use Rattle.std.specs.Option.{option_map}
@@ -8,7 +8,7 @@ use Rattle.std.specs.Ordering.{nat_cmp, eq_by_cmp}
 use Rattle.std.specs.Cmp.{nat_cmp_total, unsigned_tied}
 use Rattle.std.specs.Cmp.Lexicographic.{bytes_decides}
 use Rattle.std.specs.FinMap.{find, nat_cmp-IsAntisymmetric}
-use Rattle.std.proofs.lemmas.Bool.{both_ways, not-true, and_parts, and_from, or_left, or_right, or_parts, eqb-true, eq-eqb, le-leb, leb-true, lt-ltb, cases_lt}
+use Rattle.std.proofs.lemmas.Bool.{both_ways, not-true, and_parts, and_from, or_left, or_right, or_parts, eqb-true, eq-eqb, le-leb, leb-true, leb-false, lt-ltb, cases_lt}
 use Rattle.std.proofs.lemmas.Bool.Decides.{nat_tests}
 use Rattle.std.proofs.lemmas.List.{append-nil}
 use Rattle.std.proofs.lemmas.List.Folds.{list_all-map, list_any-append}
@@ -20,6 +20,7 @@ use Rattle.lrs_element.specs.Limits.{longest_route, most_pieces}
 use Rattle.lrs_element.specs.Course.{is_too_long, piece_count}
 use Rattle.lrs_position.specs.Routes.{is_route, is_route_course, have_marks, are_referents}
 use Rattle.lrs_events.specs.declared.class.Asset.{Asset}
+use Rattle.lrs_events.specs.declared.class.Kind.{Kind}
 use Rattle.lrs_events.specs.declared.part.Part.{Part}
 use Rattle.lrs_events.specs.declared.span.Span.{Span}
 use Rattle.lrs_events.specs.Places.{Place, is_among, places_on}
@@ -33,7 +34,9 @@ use Rattle.lrs_machine.specs.declared.image.Image.{Image}
 use Rattle.lrs_machine.specs.declared.image.Edit.{Edit}
 use Rattle.lrs_machine.specs.Bounds.{most_pairs, most_assets, most_edits}
 use Rattle.lrs_machine.specs.Image.{state_of, holds_on, route_entry, referents_on, asset_entry}
-use Rattle.lrs_machine.specs.Machine.{Extent, enter_asset, attempt}
+use Rattle.lrs_machine.specs.Machine.{Extent, is_empty_extent, enter_asset, attempt}
+use Rattle.lrs_machine.specs.Entered.{is_asset_number, is_lateral_offset}
+use Rattle.lrs_machine.specs.Register.{contains_key}
 use Rattle.lrs_machine.specs.Sound.{route_before, asset_before, is_asset, are_assets, is_span, are_spans_of, spans_of, is_on_a_link, is_part, share_nothing, pairs_of, are_parts, parts_of, is_named_by, are_courses, courses_of, are_all_marks, marks_of, are_all_referents, referents_of, IsSound, RouteCourse, RouteMarks, RouteReferents, RouteSpans}
 use Rattle.lrs_machine.proofs.Members.{In, any_found, any_of, all_at, all_weaker}
 use Rattle.lrs_machine.proofs.SoundImages.{and_three}
@@ -46,11 +49,13 @@ use Rattle.lrs_orderly.specs.Orderly.{IsOrderly, is_filled, share_nothing_in_an_
 use Rattle.lrs_orderly.proofs.Found.{each_two_from}
 use Rattle.lrs_orderly.proofs.Ordering.{sound_is_orderly}
 use Rattle.lrs_verbs.specs.Changes.{route_on}
-use Rattle.lrs_verbs.specs.Entering.{asset_of, row_of, with_row, entering, AreEntered}
+use Rattle.lrs_verbs.specs.Entering.{asset_of, row_of, with_row, entering, AreInLimits, AreEntered, IsEntering, HasBegun}
 use Rattle.lrs_verbs.specs.Extents.{IsRouteIn}
+use Rattle.lrs_verbs.specs.declared.plan.Plan.{Plan}
 use Rattle.lrs_verbs.specs.Plans.{plan_of, TellsGround, IsPlanOf}
-use Rattle.lrs_verbs.proofs.Filed.{put-insert_by}
+use Rattle.lrs_verbs.proofs.Filed.{is_some-find_row, put-insert_by}
 use Rattle.lrs_verbs.proofs.InOrder.{and_weaker, all_from, all-insert_by, any-insert_by, each_two-insert_by, is_comparable, length-insert_by}
+use Rattle.lrs_verbs.proofs.NewClass as new_class
 use Rattle.lrs_verbs.proofs.NewCourse.{each_two-append, nat_eq-comm}
 use Rattle.lrs_verbs.proofs.Located.{route_in}
 use Rattle.lrs_verbs.proofs.Holding.{alone}
@@ -97,6 +102,10 @@ longest r =
 ties : (n : ℕ) (assets : List Asset) → list_any (λ a. eq_by_cmp nat_cmp n a.number) assets ≡ list_any (λ a. nat_eq n a.number) assets
 ties n [] = refl
 ties n (a ∷ others) = λ j. unsigned_tied n a.number j || ties n others j
+
+pub knows : (n : ℕ) (i : Image) → contains_key (state_of i).assets n ≡ list_any (λ (a : Asset). nat_eq n a.number) i.assets
+unfolding state_of
+knows n i = is_some-find_row nat_cmp_total nat_cmp-IsAntisymmetric asset_entry i.assets n ∙ ties n i.assets
 
 asset_chain : (a b c : Asset) → asset_before a b ≡ true → asset_before b c ≡ true → asset_before a c ≡ true
 asset_chain a b c h k = grind (arith, nat_tests)
@@ -366,3 +375,20 @@ module _ (e : Entry) (i : Image) (r : RouteEntry) (x : Extent) (parts : List Par
     differ = can;
     tells = tells;
   }
+
+-- The verb enters the asset, where its checks have passed.
+pub enters : (e : Entry) (i : Image) (kind : Kind) (r : RouteEntry) (x : Extent) (p : Plan) → IsSound i → HasBegun i e kind r → AreInLimits e → is_empty_extent x ≡ false → x.to ≤ length r.route.course
+    → attempt (length i.edits + 1) (verb.Enter e) (state_of i) ≡ Ok (enter_asset (length i.edits + 1) e (places_on e.side (slice_range r.route.course x.from x.to)) (state_of i))
+    → IsEntering (length i.edits + 1) e x r.route.course p → IsPlanOf (verb.Enter e) i p
+enters e i kind r x p s begun limits some within done entered =
+    let known : list_any (λ c. same_name c.name e.class) i.classes ≡ true = sym (new_class.knows e.class i) ∙ ap is_some begun.class in
+    subst (IsPlanOf (verb.Enter e) i) (sym entered.plan_is)
+    (makes e i r x entered.parts s (record {
+      fresh = sym (knows e.asset i) ∙ begun.fresh;
+      asset = and_from (is_asset_number e.asset && is_lateral_offset e.offset) (list_any (λ c. same_name c.name e.class) i.classes) (and_from (is_asset_number e.asset) (is_lateral_offset e.offset) limits.number limits.lateral) known;
+      route = begun.route;
+      name = begun.name;
+      filled = leb-false x.to x.from some;
+      within = within;
+      done = done;
+    }) entered.entered)

@@ -15,6 +15,7 @@ use Rattle.lrs_events.specs.Spans.{holds_by_span}
 use Rattle.lrs_machine.specs.declared.command.Entry.{Entry}
 use Rattle.lrs_machine.specs.declared.image.Image.{Image}
 use Rattle.lrs_machine.specs.declared.image.RouteEntry.{RouteEntry}
+use Rattle.lrs_machine.specs.Entered.{is_asset_number, is_lateral_offset}
 use Rattle.lrs_machine.specs.Image.{state_of}
 use Rattle.lrs_machine.specs.Register.{get, contains_key}
 use Rattle.lrs_machine.specs.Machine.{Extent}
@@ -28,6 +29,11 @@ use Rattle.lrs_verbs.specs.Plans.{plan_of}
 -- the asset that an edit enters
 abbrev pub asset_of : ℕ → Entry → Asset
 asset_of edit e = record { number = e.asset; class = e.class; value = e.value; lateral = e.offset; entry = edit }
+
+-- its number and its lateral offset can be those of an asset
+pub record AreInLimits (e : Entry) : Type 0 where
+  pub number : is_asset_number e.asset ≡ true
+  pub lateral : is_lateral_offset e.offset ≡ true
 
 -- the row that says what it holds
 abbrev pub row_of : Entry → Extent → Span

@@ -4,6 +4,7 @@ ghost use Rattle.lrs_verbs.specs.Plans.{Plans};
 
 mod checks;
 mod class;
+mod enter;
 mod link;
 mod route;
 
