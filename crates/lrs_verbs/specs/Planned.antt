@@ -7,4 +7,5 @@ abbrev pub is_planned : Command → Bool
 is_planned (verb.Link l) = true
 is_planned (verb.Class c) = true
 is_planned (verb.Route name pieces marks) = true
+is_planned (verb.Enter e) = true
 is_planned _ = false

@@ -7,7 +7,7 @@ ghost use Rattle.lrs_verbs.specs.Planned.{is_planned};
 use lrs_machine::Command;
 use std::marker::Model;
 
-/// A command of one of the verbs `link`, `class` and `route`.
+/// A command of one of the verbs `link`, `class`, `route` and `enter`.
 #[derive(Drop)]
 pub struct Planned {
     command: Command,
@@ -31,9 +31,10 @@ impl Planned {
         ensures { SomeIff result (IsTrue (is_planned command)) command }
     {
         match command {
-            Command::Link(_) | Command::Class(_) | Command::Route { .. } => Some(Planned {
-                command,
-            }),
+            Command::Link(_)
+            | Command::Class(_)
+            | Command::Route { .. }
+            | Command::Enter(_) => Some(Planned { command }),
             _ => None,
         }
     }

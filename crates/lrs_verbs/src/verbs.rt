@@ -12,6 +12,7 @@ use crate::inventory::Inventory;
 use crate::plan::{Plan, Stop};
 use crate::planned::Planned;
 use class::plan_class;
+use enter::plan_enter;
 use link::plan_link;
 use lrs_machine::Command;
 use route::plan_route;
@@ -32,6 +33,7 @@ pub fn plan_command(alloc: Global, inventory: &Inventory, command: &Planned) -> 
             pieces,
             marks,
         } => plan_route(alloc, inventory, *name, pieces.as_slice(), marks.as_slice()),
+        Command::Enter(entry) => plan_enter(alloc, inventory, entry),
         _ => unreachable!(),
     }
 }
