@@ -26,6 +26,7 @@ fn is_done(verb: &[u8]) -> bool
         || verb == b"route".as_slice()
         || verb == b"ref".as_slice()
         || verb == b"unref".as_slice()
+        || verb == b"enter".as_slice()
         || verb == b"renumber".as_slice()
         || verb == b"recalibrate".as_slice()
 }

@@ -9,6 +9,11 @@ pub mod Located
 pub mod Holding
 pub mod FirstHolder
 pub mod InPlace
+pub mod NewRow
+pub mod NewParts
+pub mod Appended
+pub mod NewEntry
+pub mod EntryChecks
 pub mod Unmoved
 pub mod NewLink
 pub mod NewClass

@@ -112,7 +112,7 @@ module _ {X : Type 0} where
       (all_of (test x) xs (λ y m. let at = place_in y x xs m in subst (λ z. test x z ≡ true) at.2 (h 0 (suc at.0) x (omega arith) (omega (arith, at.1)))))
       (each_two-from_places test xs (λ i j d less inside. h (suc i) (suc j) d (omega (arith, less)) (omega (arith, inside))))
 
-  each_two-append : (test : X → X → Bool) (xs ys : List X) → each_two test xs ≡ true → each_two test ys ≡ true → ((x y : X) → In x xs → In y ys → test x y ≡ true) → each_two test (xs ++ ys) ≡ true
+  pub each_two-append : (test : X → X → Bool) (xs ys : List X) → each_two test xs ≡ true → each_two test ys ≡ true → ((x y : X) → In x xs → In y ys → test x y ≡ true) → each_two test (xs ++ ys) ≡ true
   each_two-append test [] ys h k across = k
   each_two-append test (x ∷ xs) ys h k across =
       let both = and_parts (list_all (test x) xs) (each_two test xs) h in

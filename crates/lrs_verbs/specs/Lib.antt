@@ -8,3 +8,4 @@ pub mod Plans
 pub mod Checks
 pub mod Extents
 pub mod RouteReferents
+pub mod Entering

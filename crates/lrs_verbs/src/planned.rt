@@ -7,7 +7,8 @@ ghost use Rattle.lrs_verbs.specs.Planned.{is_planned};
 use lrs_machine::Command;
 use std::marker::Model;
 
-/// A command of one of the verbs `link`, `class`, `route`, `ref`, `unref`, `renumber` and `recalibrate`.
+/// A command of one of the verbs `link`, `class`, `route`, `ref`, `unref`, `enter`, `renumber` and
+/// `recalibrate`.
 #[derive(Drop)]
 pub struct Planned {
     command: Command,
@@ -36,6 +37,7 @@ impl Planned {
             | Command::Route { .. }
             | Command::Ref { .. }
             | Command::Unref { .. }
+            | Command::Enter(_)
             | Command::Renumber { .. }
             | Command::Recalibrate { .. } => Some(Planned { command }),
             _ => None,

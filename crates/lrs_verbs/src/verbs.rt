@@ -5,6 +5,7 @@ ghost use Rattle.lrs_verbs.specs.Plans.{Plans};
 mod changes;
 mod checks;
 mod class;
+mod enter;
 mod link;
 mod new_referent;
 mod recalibrate;
@@ -17,6 +18,7 @@ use crate::inventory::Inventory;
 use crate::plan::{Plan, Stop};
 use crate::planned::Planned;
 use class::plan_class;
+use enter::plan_enter;
 use link::plan_link;
 use lrs_machine::Command;
 use new_referent::plan_ref;
@@ -43,6 +45,7 @@ pub fn plan_command(alloc: Global, inventory: &Inventory, command: &Planned) -> 
         } => plan_route(alloc, inventory, *name, pieces.as_slice(), marks.as_slice()),
         Command::Ref { name, route, at } => plan_ref(alloc, inventory, *name, *route, *at),
         Command::Unref { name } => plan_unref(alloc, inventory, *name),
+        Command::Enter(entry) => plan_enter(alloc, inventory, entry),
         Command::Renumber { route, name } => plan_renumber(alloc, inventory, *route, *name),
         Command::Recalibrate { route, marks } => plan_recalibrate(
             alloc,

@@ -1,0 +1,180 @@
+-- The rows of a ledger for what a new row holds.
+use Rattle.std.proofs.Common.{◌≡◌, ℕ, zero, suc, ◌+◌, ◌-◌, ◌*◌, ◌<◌, ◌≤◌, min, Bool, true, false, cond, ◌⊎◌, inl, inr, List, [], ◌∷◌, ◌++◌, map, take, drop, length, refl, sym, ap, subst, ◌∙◌, arith, length-append}
+use Rattle.std.specs.Prelude.{◌||◌, ◌&&◌, not, nat_eq, nat_lt, nat_le, slice_range}
+use Rattle.std.specs.List.{list_any, list_all, count_by, flat_map}
+use Rattle.std.proofs.lemmas.Bool.{both_ways, and_parts, and_from, or_left, cases_Bool, eqb-true, eq-eqb, ltb-true, lt-ltb, le-leb}
+use Rattle.std.proofs.lemmas.List.{length-take}
+use Rattle.std.proofs.lemmas.List.Sums.{sum_by-cons}
+use Rattle.lrs_measure.specs.Lists.{each_two}
+use Rattle.lrs_element.specs.declared.link.Link.{Link}
+use Rattle.lrs_element.specs.declared.link.Ground.{Ground}
+use Rattle.lrs_element.specs.Limits.{longest_route}
+use Rattle.lrs_events.specs.declared.part.Part.{Part}
+use Rattle.lrs_events.specs.declared.side.Side.{Side}
+use Rattle.lrs_events.specs.declared.side.Side.TheVariants.{L, R, B}
+use Rattle.lrs_events.specs.declared.span.Span.{Span}
+use Rattle.lrs_events.specs.Parts.{has_pair, has_place, has_for, times_had, IsHadOnce}
+use Rattle.lrs_events.specs.Places.{Place, same_place, same_link_side, is_among, places_at, places_on}
+use Rattle.lrs_events.specs.Spans.{holds_by_span, holds_by_spans}
+use Rattle.lrs_machine.specs.Bounds.{most_pairs}
+use Rattle.lrs_machine.specs.Sound.{link_before, is_on_a_link, share_nothing, pairs_of, has_asset_place}
+use Rattle.lrs_machine.proofs.Members.{In, any_found, any_of, all_at, map_found, In-map, all_of}
+use Rattle.lrs_machine.proofs.Pairs.{IsHeld, held, same_side_is, is_same_side}
+use Rattle.lrs_orderly.proofs.Counted.{is_on_its_link, fewer}
+use Rattle.lrs_orderly.proofs.Sounding.{has_its_pair, Overlap, overlapping}
+use Rattle.lrs_verbs.specs.Entering.{AreEntered}
+
+-- ---- parts that have each pair once
+
+count_later : {X : Type 0} (p : X → Bool) (x : X) (xs : List X) → count_by p xs ≤ count_by p (x ∷ xs)
+count_later p x xs = let e = sum_by-cons (λ y. cond (p y) 1 0) x xs in omega (arith, e)
+
+count_here : {X : Type 0} (p : X → Bool) (x : X) (xs : List X) → p x ≡ true → count_by p (x ∷ xs) ≡ 1 + count_by p xs
+count_here p x xs h = sum_by-cons (λ y. cond (p y) 1 0) x xs ∙ ap (λ b. cond b 1 0 + count_by p xs) h
+
+count_member : {X : Type 0} (p : X → Bool) (x : X) (xs : List X) → In x xs → p x ≡ true → 1 ≤ count_by p xs
+count_member p x [] m h = absurd m
+count_member p x (y ∷ ys) (inl e) h = let k = count_here p y ys (ap p (sym e) ∙ h) in omega (arith, k)
+count_member p x (y ∷ ys) (inr m) h = let k = count_later p y ys in let l = count_member p x ys m h in omega (arith, k, l)
+
+-- a part has each of its places
+has_own : (x : Part) (p : Place) → x.link ≡ p.link → x.side ≡ p.side → x.from ≤ p.mm → p.mm < x.to → has_place x p ≡ true
+has_own x p link side low high =
+    and_from (nat_eq x.link p.link && nat_le x.from p.mm && nat_lt p.mm x.to) (same_link_side x.side p.side)
+    (and_from (nat_eq x.link p.link && nat_le x.from p.mm) (nat_lt p.mm x.to) (and_from (nat_eq x.link p.link) (nat_le x.from p.mm) (eq-eqb x.link p.link link) (le-leb x.from p.mm low)) (lt-ltb p.mm x.to high))
+    (is_same_side x.side p.side side)
+
+had : (x : Part) (a : ℕ) (p : Place) → x.asset ≡ a → has_place x p ≡ true → has_for a p x ≡ true
+had x a p e h = and_from (nat_eq x.asset a) (has_place x p) (eq-eqb x.asset a e) h
+
+pub parts_apart : (xs : List Part) → IsHadOnce xs → list_all (λ x. nat_lt x.from x.to) xs ≡ true → each_two share_nothing xs ≡ true
+parts_apart [] once filled = refl
+parts_apart (x ∷ xs) once filled =
+    let both = and_parts (nat_lt x.from x.to) (list_all (λ x. nat_lt x.from x.to) xs) filled in
+    and_from (list_all (share_nothing x) xs) (each_two share_nothing xs)
+    (all_of (share_nothing x) xs (λ y m. by y m (ltb-true x.from x.to both.0) (ltb-true y.from y.to (all_at (λ x. nat_lt x.from x.to) y xs both.1 m)) (cases_Bool (share_nothing x y))))
+    (parts_apart xs (λ a p. let k = once a p in let l = count_later (has_for a p) x xs in omega (arith, k, l)) both.1)
+  where
+    clash : (y : Part) → In y xs → Overlap x y → ⊥
+    clash y m o =
+        let p : Place = record { link = x.link; mm = o.mm; side = x.side } in
+        let here = count_here (has_for x.asset p) x xs (had x x.asset p refl (has_own x p refl refl o.after o.before)) in
+        let there = count_member (has_for x.asset p) y xs m (had y x.asset p (sym o.asset) (has_own y p (sym o.link) (sym o.side) o.after_too o.before_too)) in
+        let most = once x.asset p in
+        omega (arith, here, there, most)
+
+    by : (y : Part) → In y xs → x.from < x.to → y.from < y.to → (share_nothing x y ≡ true) ⊎ (share_nothing x y ≡ false) → share_nothing x y ≡ true
+    by y m f g (inl e) = e
+    by y m f g (inr e) = absurd (clash y m (overlapping x y f g e))
+
+-- ---- how many places a row has
+
+places_few : (side : Side) (g : Ground) → length (places_at side g) ≤ 2
+places_few L g = omega arith
+places_few R g = omega arith
+places_few B g = omega arith
+
+places_length : (side : Side) (c : List Ground) → length (places_on side c) ≤ 2 * length c
+places_length side [] = omega arith
+places_length side (g ∷ gs) =
+    let e = length-append (places_at side g) (places_on side gs) in
+    let f = places_few side g in
+    let k = places_length side gs in
+    omega (arith, e, f, k)
+
+-- ---- the parts of a row
+
+-- a place as a part of one millimetre
+abbrev single : ℕ → ℕ → Place → Part
+single n a p = record { edit = n; asset = a; link = p.link; from = p.mm; to = p.mm + 1; side = p.side }
+
+singles_few : (n a : ℕ) (ps : List Place) → pairs_of a (map (single n a) ps) ≤ length ps
+singles_few n a [] = omega arith
+singles_few n a (p ∷ ps) =
+    let e = sum_by-cons (λ (x : Part). cond (nat_eq x.asset a) (x.to - x.from) 0) (single n a p) (map (single n a) ps) in
+    let k = singles_few n a ps in
+    let f = ap (λ b. cond b ((p.mm + 1) - p.mm) 0) (eq-eqb a a refl) in
+    omega (arith, e, k, f)
+
+module _ (links : List Link) (order : each_two link_before links ≡ true) (course : List Ground) (on : list_all (is_on_a_link links) course ≡ true) (n : ℕ) (row : Span) (short : row.to ≤ longest_route) (parts : List Part)
+    (led : AreEntered n course row parts) where
+  abbrev places : List Place
+  places = places_on row.side (slice_range course row.from row.to)
+
+  -- the row holds each place of a part
+  holder : (y : Part) → In y parts → (mm : ℕ) → y.from ≤ mm → mm < y.to → holds_by_span course row y.asset (record { link = y.link; mm = mm; side = y.side }) ≡ true
+  holder y m mm low high =
+      let p : Place = record { link = y.link; mm = mm; side = y.side } in
+      let edit = eqb-true y.edit n (all_at (λ x. nat_eq x.edit n) y parts led.edit_is m) in
+      (and_parts (nat_eq n n) (holds_by_span course row y.asset p) (sym (led.pairs n y.asset p) ∙ any_of (λ x. has_pair x n y.asset p) y parts m (has_its_pair y n y.asset y.link y.side mm edit refl refl refl low high))).1
+
+  filled : (y : Part) → In y parts → y.from < y.to
+  filled y m = ltb-true y.from y.to (all_at (λ x. nat_lt x.from x.to) y parts led.filled m)
+
+  pub of_edit : (y : Part) → In y parts → y.edit ≡ n
+  of_edit y m = eqb-true y.edit n (all_at (λ x. nat_eq x.edit n) y parts led.edit_is m)
+
+  pub of_asset : (y : Part) → In y parts → y.asset ≡ row.asset
+  of_asset y m =
+      let p : Place = record { link = y.link; mm = y.from; side = y.side } in
+      sym (eqb-true row.asset y.asset (and_parts (nat_eq row.asset y.asset) (is_among places p) (holder y m y.from (omega arith) (filled y m))).0)
+
+  -- what is held is on a link
+  on_link : (a : ℕ) (p : Place) → holds_by_span course row a p ≡ true → (l : Link) × In l links × (l.number ≡ p.link) × (p.mm < l.length)
+  on_link a p h =
+      let k = held course (row ∷ []) a p (or_left (holds_by_span course row a p) false h) in
+      let g = k.ground in
+      let l = any_found (λ (l : Link). nat_eq l.number g.link && nat_lt g.mm l.length) links (all_at (is_on_a_link links) g course on k.on_course) in
+      let both = and_parts (nat_eq l.0.number g.link) (nat_lt g.mm l.0.length) l.2 in
+      let low = ltb-true g.mm l.0.length both.1 in
+      let at = k.at in
+      (l.0, l.1, eqb-true l.0.number g.link both.0 ∙ k.on_link, omega (arith, low, at))
+
+  -- so is a part that ends with it
+  within : (x : Part) (a : ℕ) (p : Place) → x.link ≡ p.link → x.to ≡ p.mm + 1 → x.from < x.to → holds_by_span course row a p ≡ true → is_on_its_link links x ≡ true
+  within x a p link to some h =
+      let l = on_link a p h in
+      let high = l.3 in
+      and_from (nat_lt x.from x.to) (list_any (λ (l : Link). nat_eq l.number x.link && nat_le x.to l.length) links) (lt-ltb x.from x.to some)
+      (any_of (λ (l : Link). nat_eq l.number x.link && nat_le x.to l.length) l.0 links l.1
+      (and_from (nat_eq l.0.number x.link) (nat_le x.to l.0.length) (eq-eqb l.0.number x.link (l.2 ∙ sym link)) (le-leb x.to l.0.length (omega (arith, high, to)))))
+
+  parts_within : list_all (is_on_its_link links) parts ≡ true
+  parts_within = all_of (is_on_its_link links) parts (λ y m.
+      let some = filled y m in
+      within y y.asset (record { link = y.link; mm = y.to - 1; side = y.side }) refl (omega (arith, some)) some (holder y m (y.to - 1) (omega (arith, some)) (omega (arith, some))))
+
+  its_own : (p : Place) → same_place p p ≡ true
+  its_own p = and_from (nat_eq p.link p.link && nat_eq p.mm p.mm) (same_link_side p.side p.side) (and_from (nat_eq p.link p.link) (nat_eq p.mm p.mm) (eq-eqb p.link p.link refl) (eq-eqb p.mm p.mm refl)) (is_same_side p.side p.side refl)
+
+  abbrev singles : List Part
+  singles = map (single n row.asset) places
+
+  singles_within : list_all (is_on_its_link links) singles ≡ true
+  singles_within = all_of (is_on_its_link links) singles (λ y m.
+      let q = map_found (single n row.asset) y places m in
+      subst (λ z. is_on_its_link links z ≡ true) (sym q.2)
+      (within (single n row.asset q.0) row.asset q.0 refl refl (omega arith)
+      (and_from (nat_eq row.asset row.asset) (is_among places q.0) (eq-eqb row.asset row.asset refl) (any_of (same_place q.0) q.0 places q.1 (its_own q.0)))))
+
+  -- the places of the parts are places of the row
+  covered : (p : Place) → has_asset_place parts row.asset p ≡ true → has_asset_place singles row.asset p ≡ true
+  covered p h =
+      let y = any_found (λ part. nat_eq part.asset row.asset && has_place part p) parts h in
+      let pair = and_from (nat_eq y.0.edit n && nat_eq y.0.asset row.asset) (has_place y.0 p)
+      (and_from (nat_eq y.0.edit n) (nat_eq y.0.asset row.asset) (eq-eqb y.0.edit n (of_edit y.0 y.1)) (and_parts (nat_eq y.0.asset row.asset) (has_place y.0 p) y.2).0) (and_parts (nat_eq y.0.asset row.asset) (has_place y.0 p) y.2).1 in
+      let holds = (and_parts (nat_eq n n) (holds_by_span course row row.asset p) (sym (led.pairs n row.asset p) ∙ any_of (λ x. has_pair x n row.asset p) y.0 parts y.1 pair)).1 in
+      let q = any_found (same_place p) places (and_parts (nat_eq row.asset row.asset) (is_among places p) holds).1 in
+      let t = and_parts (nat_eq p.link q.0.link && nat_eq p.mm q.0.mm) (same_link_side p.side q.0.side) q.2 in
+      let u = and_parts (nat_eq p.link q.0.link) (nat_eq p.mm q.0.mm) t.0 in
+      let mm = eqb-true p.mm q.0.mm u.1 in
+      any_of (λ part. nat_eq part.asset row.asset && has_place part p) (single n row.asset q.0) singles (In-map (single n row.asset) q.0 places q.1)
+      (had (single n row.asset q.0) row.asset p refl (has_own (single n row.asset q.0) p (sym (eqb-true p.link q.0.link u.0)) (sym (same_side_is p.side q.0.side t.1)) (omega (arith, mm)) (omega (arith, mm))))
+
+  pub few : pairs_of row.asset parts ≤ most_pairs
+  few =
+      let a = fewer links row.asset parts singles order parts_within (parts_apart parts led.once led.filled) singles_within covered in
+      let b = singles_few n row.asset places in
+      let c = places_length row.side (slice_range course row.from row.to) in
+      let d = length-take (row.to - row.from) (drop row.from course) in
+      omega (arith, a, b, c, d, short)
