@@ -1,9 +1,9 @@
 -- The first malformed field of a record, and what its fields say, as they are computed.
-use Rattle.std.proofs.Common.{◌≡◌, ℕ, zero, suc, ◌+◌, ◌<◌, ◌-◌, Bool, true, false, List, [], ◌∷◌, Option, Some, None, drop, refl, sym, ap, ◌∙◌, arith, inl, inr}
+use Rattle.std.proofs.Common.{◌≡◌, ℕ, zero, suc, ◌+◌, ◌<◌, ◌-◌, Bool, true, false, List, [], ◌∷◌, Option, Some, None, drop, refl, sym, ap, subst, ◌∙◌, arith, inl, inr}
 use Rattle.std.specs.Prelude.{Contains, ◌||◌, if◌then◌else◌}
-use Rattle.std.specs.List.{list_any}
+use Rattle.std.specs.List.{list_any, list_all}
 use Rattle.std.specs.Str.{bytes_eq}
-use Rattle.std.proofs.lemmas.Bool.{false≢true}
+use Rattle.std.proofs.lemmas.Bool.{false≢true, and_parts}
 use Rattle.std.proofs.lemmas.Slice.Eq.{bytes_eq-Decides}
 use Rattle.csv.specs.Records.{field_at}
 use Rattle.lrs_machine.specs.Keys.{is_key}
@@ -17,7 +17,7 @@ use Rattle.lrs_sheet.specs.Fields.{FirstMisfit}
 use Rattle.lrs_sheet.specs.Records.{FirstMalformedAmong, IsWellFormedAmong, SayAll, SaysAmong, text_at, texts_of}
 use Rattle.lrs_sheet.specs.Shapes.{Argument, Shape}
 use Rattle.lrs_sheet.specs.Laws.{DoneVerbsArePlanned}
-use Rattle.lrs_sheet.specs.Verbs.{arguments_of, done_verbs, shapes_of, verb_of}
+use Rattle.lrs_sheet.specs.Verbs.{all_verbs, arguments_of, done_verbs, shapes_of, verb_of}
 
 -- the place of the first of some fields that is not empty
 abbrev pub first_full : ℕ → List Text → Option ℕ
@@ -156,6 +156,16 @@ says-from names fields key command is same known verb fit said = record {
   same_verb = verb;
   arguments = rw said at (fitting-say fields 2 (shapes_of (verb_of command)) fit);
 }
+
+-- A name among some, each of which is among others, is among these.
+within : (names others : List Text) → list_all (is_among others) names ≡ true → (name : Text) → Contains names name → Contains others name
+within [] others h name (k, below, is) = absurd (omega (arith, below))
+within (other ∷ names) others h name (zero, below, is) = subst (Contains others) is (among others other (and_parts (is_among others other) (list_all (is_among others) names) h).0)
+within (other ∷ names) others h name (suc k, below, is) = within names others (and_parts (is_among others other) (list_all (is_among others) names) h).1 name (k, omega (arith, below), is)
+
+-- The verbs that the program does are among all of them.
+pub done-known : (name : Text) → Contains done_verbs name → Contains all_verbs name
+done-known = within done_verbs all_verbs refl
 
 -- The verbs that the program does are those that a desk does.
 planned-done : (command : Command) → is_planned command ≡ is_among done_verbs (verb_of command)

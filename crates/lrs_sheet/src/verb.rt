@@ -21,14 +21,10 @@ use std::alloc::Global;
 fn is_done(verb: &[u8]) -> bool
     ensures { IsTrue result ↔ IsVerb verb.now }
 {
-    verb == b"link".as_slice()
-        || verb == b"class".as_slice()
-        || verb == b"route".as_slice()
-        || verb == b"ref".as_slice()
-        || verb == b"unref".as_slice()
-        || verb == b"enter".as_slice()
-        || verb == b"renumber".as_slice()
-        || verb == b"recalibrate".as_slice()
+    matches!(
+        verb,
+        b"link" | b"class" | b"route" | b"ref" | b"unref" | b"enter" | b"renumber" | b"recalibrate"
+    )
 }
 
 /// The command that the fields of a verb say.
