@@ -27,7 +27,7 @@ use Rattle.lrs_machine.proofs.Members.{In, any_found, any_of, all_at, In-append_
 use Rattle.lrs_machine.proofs.SoundImages.{and_three}
 use Rattle.lrs_lanes.proofs.Members.{all-filter, each_two-filter}
 use Rattle.lrs_keep.specs.Change.{changed_refs}
-use Rattle.lrs_verbs.specs.Changes.{route_on, referents_after}
+use Rattle.lrs_verbs.specs.Changes.{route_on}
 use Rattle.lrs_verbs.specs.Plans.{IsPlanOf}
 use Rattle.lrs_verbs.specs.RouteReferents.{plan_of_referents, without_one, nowhere}
 use Rattle.lrs_verbs.proofs.FromReferents.{row_of, cross, rear_of, apart_courses, other_names, refs_of, courses_apart, names_once}
@@ -119,17 +119,17 @@ module _ (name : Name) where
   found_kept [] q = elim (is_gone q) as (λ b. ◌≡◌ {A = Option Millimetre} None (cond b None None)) [ true ↦ refl | false ↦ refl ]
   found_kept (x ∷ xs) q =
       elim (is_gone x.0) as (λ b. is_gone x.0 ≡ b
-          → entries.find name_cmp q (cond (not b) (x ∷ filter is_kept_row xs) (filter is_kept_row xs)) ≡ cond (is_gone q) None (cond (eq_by_cmp name_cmp q x.0) (Some x.1) (entries.find name_cmp q xs))) [
+      → entries.find name_cmp q (cond (not b) (x ∷ filter is_kept_row xs) (filter is_kept_row xs)) ≡ cond (is_gone q) None (cond (eq_by_cmp name_cmp q x.0) (Some x.1) (entries.find name_cmp q xs))) [
         | true ↦ λ g. found_kept xs q ∙ elim (eq_by_cmp name_cmp q x.0) as (λ b. eq_by_cmp name_cmp q x.0 ≡ b
             → cond (is_gone q) None (entries.find name_cmp q xs) ≡ cond (is_gone q) None (cond b (Some x.1) (entries.find name_cmp q xs))) [
-          | true ↦ λ e. ap (λ b. cond b None (entries.find name_cmp q xs)) (alike e ∙ g) ∙ sym (ap (λ b. cond b None (Some x.1)) (alike e ∙ g))
-          | false ↦ λ e. refl
-        ] refl
+              | true ↦ λ e. ap (λ b. cond b None (entries.find name_cmp q xs)) (alike e ∙ g) ∙ sym (ap (λ b. cond b None (Some x.1)) (alike e ∙ g))
+              | false ↦ λ e. refl
+            ] refl
         | false ↦ λ g. elim (eq_by_cmp name_cmp q x.0) as (λ b. eq_by_cmp name_cmp q x.0 ≡ b
             → cond b (Some x.1) (entries.find name_cmp q (filter is_kept_row xs)) ≡ cond (is_gone q) None (cond b (Some x.1) (entries.find name_cmp q xs))) [
-          | true ↦ λ e. sym (ap (λ b. cond b None (Some x.1)) (alike e ∙ g))
-          | false ↦ λ e. found_kept xs q
-        ] refl
+              | true ↦ λ e. sym (ap (λ b. cond b None (Some x.1)) (alike e ∙ g))
+              | false ↦ λ e. found_kept xs q
+            ] refl
       ] refl
     where
       alike : eq_by_cmp name_cmp q x.0 ≡ true → is_gone q ≡ is_gone x.0

@@ -1,6 +1,6 @@
 -- A route of a list in the order of names is changed, and keeps its name and its place.
-use Rattle.std.proofs.Common.{◌≡◌, Bool, true, false, cond, ◌⊎◌, inl, inr, List, [], ◌∷◌, ◌++◌, map, filter, Option, Some, None, refl, sym, ap, ◌∙◌}
-use Rattle.std.specs.Prelude.{◌||◌, ◌&&◌, not}
+use Rattle.std.proofs.Common.{◌≡◌, Bool, true, false, cond, ◌⊎◌, inl, inr, List, [], ◌∷◌, ◌++◌, map, filter, Some, refl, sym, ap, ◌∙◌}
+use Rattle.std.specs.Prelude.{◌||◌, not}
 use Rattle.std.specs.List.{list_any, list_all, flat_map, find}
 use Rattle.std.specs.Option.{option_map}
 use Rattle.std.specs.Cmp.Lexicographic.{bytes_decides}
@@ -10,7 +10,7 @@ use Rattle.std.proofs.lemmas.List.Elements.{filter-append}
 use Rattle.std.proofs.lemmas.List.Concat.{flat_map-append}
 use Rattle.lrs_measure.specs.Lists.{each_two}
 use Rattle.lrs_measure.specs.Ordered.{insert_by}
-use Rattle.lrs_measure.specs.Texts.{Name, same_name, name_before}
+use Rattle.lrs_measure.specs.Texts.{Name, name_before}
 use Rattle.lrs_element.specs.Course.{Millimetre, runs_over}
 use Rattle.lrs_machine.specs.declared.image.RouteEntry.{RouteEntry}
 use Rattle.lrs_machine.specs.Sound.{route_before}
@@ -129,8 +129,8 @@ found_by_name r (y ∷ ys) h (inl e) =
 found_by_name r (y ∷ ys) h (inr m) =
     let both = and_parts (list_all (route_before y) ys) (each_two route_before ys) h in
     let other = is_false (is_named r.route.name y) (λ t.
-        let same : y.route.name ≡ r.route.name = (bytes_decides y.route.name r.route.name).0 t in
-        not_itself r.route.name (ap (λ n. name_before n r.route.name) (sym same) ∙ all_at (route_before y) r ys both.0 m)) in
+    let same : y.route.name ≡ r.route.name = (bytes_decides y.route.name r.route.name).0 t in
+    not_itself r.route.name (ap (λ n. name_before n r.route.name) (sym same) ∙ all_at (route_before y) r ys both.0 m)) in
     ap (λ b. cond b (Some y) (find (is_named r.route.name) ys)) other ∙ found_by_name r ys both.1 m
 
 -- The route of a name, taken out and put back as one of the same name, is in its place.

@@ -1,6 +1,6 @@
 -- A referent comes.
-use Rattle.std.proofs.Common.{◌≡◌, ℕ, ◌+◌, ◌<◌, Bool, true, false, cond, ◌⊎◌, inl, inr, List, [], ◌∷◌, ◌++◌, filter, length, Option, Some, None, Result, Ok, Err, refl, sym, ap, subst, ◌∙◌}
-use Rattle.std.specs.Prelude.{◌||◌, ◌&&◌, not, nat_lt, is_some, slice_get}
+use Rattle.std.proofs.Common.{◌≡◌, ℕ, ◌+◌, ◌<◌, Bool, true, false, cond, inl, inr, List, [], ◌∷◌, ◌++◌, length, Option, Some, None, Result, Ok, Err, refl, sym, ap, subst, ◌∙◌}
+use Rattle.std.specs.Prelude.{◌&&◌, not, nat_lt, is_some}
 use Rattle.std.specs.List.{list_any, list_all, flat_map, filter_map, cons_option}
 use Rattle.std.specs.Option.{option_map, option_or, ok_or}
 use Rattle.std.specs.Ordering.{eq_by_cmp}
@@ -19,7 +19,6 @@ use Rattle.lrs_position.specs.declared.expression.Expr.{Expr}
 use Rattle.lrs_position.specs.declared.route.Referent.{Referent}
 use Rattle.lrs_position.specs.Locating.{Alignment, cell}
 use Rattle.lrs_position.specs.Routes.{is_route, is_route_course, have_marks, are_referents, referent_before}
-use Rattle.lrs_position.specs.Translating.{alignment_of}
 use Rattle.lrs_machine.specs.declared.answer.Cause.{Cause}
 use Rattle.lrs_machine.specs.declared.answer.Cause.TheVariants as cause
 use Rattle.lrs_machine.specs.declared.command.Command.TheVariants as verb
@@ -30,16 +29,13 @@ use Rattle.lrs_machine.specs.Machine.{attempt, refuse_if, ◌>>◌, ◌>>=◌, r
 use Rattle.lrs_machine.specs.Register.{get}
 use Rattle.lrs_machine.specs.Sound.{IsSound}
 use Rattle.lrs_machine.specs.State.{State}
-use Rattle.lrs_machine.proofs.Members.{In, any_found, all_at, all_of, In-append_left, In-append_right, In-append_cases, In-flat_map, flat_map_found, find_known}
+use Rattle.lrs_machine.proofs.Members.{In, any_found, all_at, all_of, In-flat_map, flat_map_found, find_known}
 use Rattle.lrs_machine.proofs.SoundImages.{and_three}
 use Rattle.lrs_lanes.proofs.Members.{filter_all}
-use Rattle.lrs_keep.specs.declared.change.ReferentChange.{ReferentChange}
 use Rattle.lrs_keep.specs.Change.{changed_refs}
-use Rattle.lrs_verbs.specs.Changes.{referents_after}
 use Rattle.lrs_verbs.specs.Extents.{located_cell}
 use Rattle.lrs_verbs.specs.Plans.{IsPlanOf}
 use Rattle.lrs_verbs.specs.RouteReferents.{plan_of_referents, with_one, standing_at}
-use Rattle.lrs_verbs.proofs.Filed.{names_tie}
 use Rattle.lrs_verbs.proofs.FromReferents.{ground_there, other_names, refs_of, names_once}
 use Rattle.lrs_routes.proofs.InOrder.{is_false, all-insert_by, each_two-insert_by, before-chain, before-comparable}
 use Rattle.lrs_verbs.proofs.NamedEntries.{names_exact}
@@ -99,8 +95,8 @@ module _ (name : Name) (place : Millimetre) where
   one_more front old now rear none h q =
       find_append front (now ++ rear) q ∙ ap (option_or (find name_cmp q front)) (find_append now rear q ∙ ap (λ o. option_or o (find name_cmp q rear)) (h q))
       ∙ elim (same_name q name) as (λ b. same_name q name ≡ b
-          → option_or (find name_cmp q front) (option_or (cond b (Some place) (find name_cmp q old)) (find name_cmp q rear))
-            ≡ cond b (Some place) (option_or (find name_cmp q front) (option_or (find name_cmp q old) (find name_cmp q rear)))) [
+      → option_or (find name_cmp q front) (option_or (cond b (Some place) (find name_cmp q old)) (find name_cmp q rear))
+      ≡ cond b (Some place) (option_or (find name_cmp q front) (option_or (find name_cmp q old) (find name_cmp q rear)))) [
         | true ↦ λ same. ap (λ o. option_or o (Some place)) (ap (λ n. find name_cmp n front) ((bytes_decides q name).0 same) ∙ none)
         | false ↦ λ apart. refl
       ] refl
@@ -127,7 +123,7 @@ module _ (name : Name) (place : Millimetre) where
     behind_other y old now apart h q =
         ap (cond (eq_by_cmp name_cmp q y.0) (Some y.1)) (h q)
         ∙ elim (eq_by_cmp name_cmp q y.0) as (λ b. eq_by_cmp name_cmp q y.0 ≡ b
-            → cond b (Some y.1) (cond (same_name q name) (Some place) (find name_cmp q old)) ≡ cond (same_name q name) (Some place) (cond b (Some y.1) (find name_cmp q old))) [
+        → cond b (Some y.1) (cond (same_name q name) (Some place) (find name_cmp q old)) ≡ cond (same_name q name) (Some place) (cond b (Some y.1) (find name_cmp q old))) [
           | true ↦ λ same. sym (ap (λ b. cond b (Some place) (Some y.1)) (other (names_exact q y.0 ((Equal-is _).0 same))))
           | false ↦ λ e. refl
         ] refl

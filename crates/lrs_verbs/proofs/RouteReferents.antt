@@ -1,18 +1,15 @@
 -- An image in which the referents of one route change, and nothing else.
-use Rattle.std.proofs.Common.{◌≡◌, ℕ, ◌+◌, Bool, true, false, List, map, length, Option, Some, Ok, refl, sym, ap, subst, ◌∙◌}
-use Rattle.std.specs.Prelude.{◌&&◌, not, nat_lt}
-use Rattle.std.specs.List.{list_any, list_all, flat_map, find}
-use Rattle.std.specs.List as list
+use Rattle.std.proofs.Common.{◌≡◌, ℕ, ◌+◌, Bool, true, List, length, Option, Some, Ok, refl, sym, ap, subst, ◌∙◌}
+use Rattle.std.specs.List.{list_all, flat_map, find}
 use Rattle.std.specs.Option.{option_map}
 use Rattle.std.specs.FinMap as entries
 use Rattle.std.proofs.lemmas.Bool.{and_parts, and_from}
 use Rattle.std.proofs.lemmas.List.{append-nil}
 use Rattle.std.proofs.lemmas.List.Folds.{list_all-map, flat_map-map}
 use Rattle.lrs_measure.specs.Lists.{each_two}
-use Rattle.lrs_measure.specs.Texts.{Name, name_before, name_cmp, same_name}
+use Rattle.lrs_measure.specs.Texts.{Name, name_cmp}
 use Rattle.lrs_measure.specs.Ordered.{insert_by, insert_some}
-use Rattle.lrs_element.specs.Course.{Millimetre, runs_over}
-use Rattle.lrs_position.specs.declared.route.Referent.{Referent}
+use Rattle.lrs_element.specs.Course.{Millimetre}
 use Rattle.lrs_position.specs.Routes.{is_route, is_route_course, have_marks, are_referents}
 use Rattle.lrs_events.specs.Places.{Place}
 use Rattle.lrs_events.specs.Spans.{are_rows, holds_by_spans}
@@ -23,7 +20,6 @@ use Rattle.lrs_machine.specs.Image.{state_of, route_entry, referents_on, holds_o
 use Rattle.lrs_machine.specs.Machine.{attempt}
 use Rattle.lrs_machine.specs.Sound.{RouteReferents, RouteSpans, are_courses, are_all_marks, are_all_referents, referents_of, are_spans_of, is_span, spans_of, route_before, IsSound}
 use Rattle.lrs_machine.proofs.Members.{In, In-map, all_at}
-use Rattle.lrs_machine.proofs.Pairs.{each_two-map}
 use Rattle.lrs_machine.proofs.SoundImages.{and_three}
 use Rattle.lrs_lanes.proofs.Members.{filter_all}
 use Rattle.lrs_keep.specs.declared.change.ReferentChange.{ReferentChange}

@@ -3,8 +3,8 @@ use lrs_element::{Link, Mark, Piece};
 use lrs_events::{Class, ClassName, Kind};
 use lrs_keep::Difference;
 use lrs_machine::{Cause, Command, Image, MarkList, PieceList, RouteEntry};
-use lrs_measure::Rows;
-use lrs_position::RouteName;
+use lrs_measure::{Frac, Rows};
+use lrs_position::{EnteredPosition, Expr, RefName, RouteName};
 use lrs_sound::first_unsound;
 use std::process::Abort;
 
@@ -95,6 +95,20 @@ fn renumber(rt: &impl Abort, text: &str, new: &str) -> Command {
     Command::Renumber {
         route: name(rt, text),
         name: name(rt, new),
+    }
+}
+
+fn referent_name(rt: &impl Abort, text: &str) -> RefName {
+    RefName::new(text.as_bytes()).expect(rt, "a referent's name")
+}
+
+/// A new referent of this name at a measure of a route.
+fn referent(rt: &impl Abort, text: &str, route: &str, measure: i128) -> Command {
+    let measure = Frac::new(measure, 1).expect(rt, "a measure");
+    Command::Ref {
+        name: referent_name(rt, text),
+        route: name(rt, route),
+        at: EnteredPosition::new(Expr::Abs(measure)).expect(rt, "a position"),
     }
 }
 
@@ -233,4 +247,32 @@ fn another_name_is_refused_by_its_first_check(rt: HostRuntime) {
     let known = with_route(&rt);
     refuses(&rt, &known, renumber(&rt, "A2", "A1"), Cause::NoRoute);
     refuses(&rt, &known, renumber(&rt, "A1", "A1"), Cause::RouteKnown);
+}
+
+#[test]
+fn a_referent_is_planned_in_its_millimetre(rt: HostRuntime) {
+    let known = with_route(&rt);
+    let plan = planned(&rt, &known, referent(&rt, "KM1", "A1", 1_010)).expect(&rt, "a plan");
+    let Plan {
+        difference,
+        referents,
+        ..
+    } = plan;
+    let place = referents.come.expect(&rt, "a place");
+    assert!(rt; place.link == 2 && place.mm == 489);
+    let Difference { changed, .. } = difference;
+    let changed = changed.expect(&rt, "a route");
+    assert!(rt; changed.refs.come.len() == 1);
+    assert!(rt; changed.refs.gone.is_empty());
+}
+
+#[test]
+fn referents_are_refused_by_their_first_check(rt: HostRuntime) {
+    let known = with_route(&rt);
+    refuses(&rt, &known, referent(&rt, "KM1", "B1", 0), Cause::NoRoute);
+    let behind = referent(&rt, "KM1", "A1", 1_401);
+    refuses(&rt, &known, behind, Cause::OffRoute);
+    let name = referent_name(&rt, "KM1");
+    assert!(rt; known.referent(&name).is_none());
+    refuses(&rt, &known, Command::Unref { name }, Cause::NoRef);
 }
