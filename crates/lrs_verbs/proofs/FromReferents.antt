@@ -90,10 +90,10 @@ own c (r ∷ rs) name h =
         ap (λ o. find name_cmp name (cons_option (option_map (λ m. (r.name, m)) (option_map (λ (g : Ground). (g.link, g.mm)) o)) (filter_map (referent_entry c) rs))) there
         ∙ (λ k. cond (tie k) (Some (found.0.link, found.0.mm)) (rest k))
         ∙ elim (same_name r.name name) as (λ b. cond b (Some (found.0.link, found.0.mm)) (option_and_then (ground_at c) (referent_at rs name))
-            ≡ option_and_then (ground_at c) (option_map (λ (q : Referent). q.at) (cond b (Some r) (list.find (λ (q : Referent). same_name q.name name) rs)))) [
-              | true ↦ sym (ap (option_map (λ (g : Ground). (g.link, g.mm))) there)
-              | false ↦ refl
-            ]
+        ≡ option_and_then (ground_at c) (option_map (λ (q : Referent). q.at) (cond b (Some r) (list.find (λ (q : Referent). same_name q.name name) rs)))) [
+          | true ↦ sym (ap (option_map (λ (g : Ground). (g.link, g.mm))) there)
+          | false ↦ refl
+        ]
 
 -- an entry's millimetre is found at that entry
 found_there : (c : List Ground) (j : ℕ) (m : Millimetre) → each_two differs c ≡ true → ground_at c j ≡ Some m → entry_of c m ≡ Some j

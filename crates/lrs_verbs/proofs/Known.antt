@@ -1,5 +1,6 @@
 -- Look-ups in an image, beside those in its state.
-use Rattle.std.proofs.Common.{◌≡◌, ℕ, zero, suc, ◌+◌, ◌<◌, List, [], ◌∷◌, map, length, get_or, Option, Some, sym, ap, ◌∙◌, arith}
+use Rattle.std.proofs.Common.{◌≡◌, ℕ, zero, suc, ◌+◌, ◌<◌, List, [], ◌∷◌, map, length, get_or, Option, Some, None, refl, sym, ap, ◌∙◌, arith}
+use Rattle.std.specs.Prelude.{is_some}
 use Rattle.std.specs.List.{find}
 use Rattle.std.specs.Option.{option_map}
 use Rattle.std.specs.Ordering.{nat_cmp, is_eq}
@@ -98,3 +99,10 @@ line_of i seen is key place other e found at same =
 
 pub place_within : (i : Image) (key : Name) (place : ℕ) (e : Edit) → Some place ≡ place_among i.edits key → place < length i.edits
 place_within i key place e found = (position-Some (λ (d : Edit). same_name d.key key) i.edits place e (sym found)).0
+
+-- what is found here is found there
+pub known_both : {X Y Z : Type 0} (f : X → Z) (h : Y → Z) (o : Option X) (p : Option Y) → option_map f o ≡ option_map h p → is_some p ≡ is_some o
+known_both f h None None e = refl
+known_both f h None (Some y) e = absurd (cc e)
+known_both f h (Some x) None e = absurd (cc e)
+known_both f h (Some x) (Some y) e = refl

@@ -12,10 +12,9 @@ ghost use Rattle.lrs_verbs.specs.Plans.{change_of, TellsGround};
 mod extents;
 mod lookups;
 
-pub use extents::Stretch;
-
 use crate::indexes::Indexes;
 use crate::plan::Plan;
+pub use extents::Stretch;
 use lrs_keep::{Change, CommitFault, Keeper, KeptImage, make_change};
 use lrs_machine::{Edit, Image};
 use std::alloc::{AllocError, Global};

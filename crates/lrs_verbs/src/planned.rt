@@ -31,10 +31,8 @@ impl Planned {
         ensures { SomeIff result (IsTrue (is_planned command)) command }
     {
         match command {
-            Command::Link(_)
-            | Command::Class(_)
-            | Command::Route { .. }
-            | Command::Enter(_) => Some(Planned { command }),
+            Command::Link(_) | Command::Class(_) | Command::Route { .. } | Command::Enter(_) =>
+                Some(Planned { command }),
             _ => None,
         }
     }

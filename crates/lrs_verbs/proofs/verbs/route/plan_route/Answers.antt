@@ -11,15 +11,10 @@ use Rattle.lrs_verbs.specs.declared.plan.Plan.{Plan}
 use Rattle.lrs_verbs.specs.Checks.{new_course, new_marks}
 use Rattle.lrs_verbs.specs.Plans.{IsPlanOf, Answers}
 use Rattle.lrs_verbs.proofs.Stopping.{refused, passed, stopped}
+use Rattle.lrs_verbs.proofs.Known.{known_both}
 use Rattle.lrs_verbs.proofs.NewCourse.{good_line}
 use Rattle.lrs_verbs.proofs.NewRoute.{refuses_known, refuses_pieces, refuses_ground, refuses_marks, makes}
 use Rattle.lrs_verbs.proofs.verbs.route.plan_route.Goals as goal
-
-some_both : {X Y Z : Type 0} (f : X → Z) (h : Y → Z) (o : Option X) (p : Option Y) → option_map f o ≡ option_map h p → is_some p ≡ is_some o
-some_both f h None None e = refl
-some_both f h None (Some y) e = absurd (cc e)
-some_both f h (Some x) None e = absurd (cc e)
-some_both f h (Some x) (Some y) e = refl
 
 pub returns-in_err-refuse_if : goal.returns-in_err-refuse_if
 returns-in_err-refuse_if c =
@@ -29,7 +24,7 @@ returns-in_err-refuse_if c =
     let marks = c.args.marks.now in
     let e = err_from_is_err_and c.from_residual.result c.from_residual.ensures.1 in
     rw (e.1, e.2) (refused (verb.Route name pieces marks) i c.is_some-is_known.result cause.RouteKnown c.refuse_if.result _ c.refuse_if.ensures c.in_err-refuse_if.was
-    (λ known. refuses_known name pieces marks i _ (some_both _ _ c.route.result (get (state_of i).routes name) c.route.ensures.route ∙ sym c.is_some-is_known.ensures ∙ known)))
+    (λ known. refuses_known name pieces marks i _ (known_both _ _ c.route.result (get (state_of i).routes name) c.route.ensures.route ∙ sym c.is_some-is_known.ensures ∙ known)))
 
 pub returns-in_err-course : goal.returns-in_err-course
 returns-in_err-course c =
@@ -38,7 +33,7 @@ returns-in_err-course c =
     let pieces = c.args.pieces.now in
     let marks = c.args.marks.now in
     let unknown = passed c.is_some-is_known.result cause.RouteKnown c.refuse_if.result _ c.refuse_if.ensures c.in_ok-refuse_if.was in
-    let fresh = some_both _ _ c.route.result (get (state_of i).routes name) c.route.ensures.route ∙ sym c.is_some-is_known.ensures ∙ unknown in
+    let fresh = known_both _ _ c.route.result (get (state_of i).routes name) c.route.ensures.route ∙ sym c.is_some-is_known.ensures ∙ unknown in
     let e = err_from_is_err_and c.from_residual-in_err-course.result c.from_residual-in_err-course.ensures.1 in
     rw (e.1, e.2) (stopped (verb.Route name pieces marks) i (new_course (state_of i) pieces) _ (subst (Answers (new_course (state_of i) pieces)) c.in_err-course.was c.course.ensures) (λ d is. refuses_pieces name pieces marks i _ fresh d is))
 
@@ -49,7 +44,7 @@ returns-in_err-check_free c =
     let pieces = c.args.pieces.now in
     let marks = c.args.marks.now in
     let unknown = passed c.is_some-is_known.result cause.RouteKnown c.refuse_if.result _ c.refuse_if.ensures c.in_ok-refuse_if.was in
-    let fresh = some_both _ _ c.route.result (get (state_of i).routes name) c.route.ensures.route ∙ sym c.is_some-is_known.ensures ∙ unknown in
+    let fresh = known_both _ _ c.route.result (get (state_of i).routes name) c.route.ensures.route ∙ sym c.is_some-is_known.ensures ∙ unknown in
     let made = subst (Answers (new_course (state_of i) pieces)) c.in_ok-course.was c.course.ensures in
     let e = err_from_is_err_and c.from_residual-in_err-check_free.result c.from_residual-in_err-check_free.ensures.1 in
     rw (e.1, e.2) (stopped (verb.Route name pieces marks) i (check_free (state_of i) pieces) _ (subst (Answers (check_free (state_of i) pieces)) c.in_err-check_free.was c.check_free.ensures)
@@ -63,7 +58,7 @@ returns-in_err-marks c =
     let marks = c.args.marks.now in
     let course = c.in_ok-course.course in
     let unknown = passed c.is_some-is_known.result cause.RouteKnown c.refuse_if.result _ c.refuse_if.ensures c.in_ok-refuse_if.was in
-    let fresh = some_both _ _ c.route.result (get (state_of i).routes name) c.route.ensures.route ∙ sym c.is_some-is_known.ensures ∙ unknown in
+    let fresh = known_both _ _ c.route.result (get (state_of i).routes name) c.route.ensures.route ∙ sym c.is_some-is_known.ensures ∙ unknown in
     let made = subst (Answers (new_course (state_of i) pieces)) c.in_ok-course.was c.course.ensures in
     let free = subst (Answers (check_free (state_of i) pieces)) c.in_ok-check_free.was c.check_free.ensures in
     let e = err_from_is_err_and c.from_residual-in_err-marks.result c.from_residual-in_err-marks.ensures.1 in
@@ -83,7 +78,7 @@ returns c =
     let marks = c.args.marks.now in
     let course = c.in_ok-course.course in
     let unknown = passed c.is_some-is_known.result cause.RouteKnown c.refuse_if.result _ c.refuse_if.ensures c.in_ok-refuse_if.was in
-    let fresh = some_both _ _ c.route.result (get (state_of i).routes name) c.route.ensures.route ∙ sym c.is_some-is_known.ensures ∙ unknown in
+    let fresh = known_both _ _ c.route.result (get (state_of i).routes name) c.route.ensures.route ∙ sym c.is_some-is_known.ensures ∙ unknown in
     let made = subst (Answers (new_course (state_of i) pieces)) c.in_ok-course.was c.course.ensures in
     let free = subst (Answers (check_free (state_of i) pieces)) c.in_ok-check_free.was c.check_free.ensures in
     let line = subst (λ (n : ℕ). new_marks n marks ≡ Ok c.in_ok-marks.marks) c.len.ensures.len (subst (Answers (new_marks c.len.result marks)) c.in_ok-marks.was c.new_marks.ensures) in
