@@ -9,14 +9,9 @@ use Rattle.lrs_machine.specs.declared.image.Image.{Image}
 use Rattle.lrs_machine.specs.Image.{state_of, asset_entry}
 use Rattle.lrs_machine.specs.Register.{get, contains_key}
 use Rattle.lrs_verbs.proofs.Stopping.{refused, passed}
+use Rattle.lrs_verbs.proofs.Known.{same_known}
 use Rattle.lrs_verbs.proofs.EntryChecks.{refuses_known, refuses_class, refuses_route}
 use Rattle.lrs_verbs.proofs.verbs.enter.plan_enter.Goals as goal
-
-some_both : {X Y Z : Type 0} (f : X → Z) (h : Y → Z) (o : Option X) (p : Option Y) → option_map f o ≡ option_map h p → is_some p ≡ is_some o
-some_both f h None None e = refl
-some_both f h None (Some y) e = absurd (cc e)
-some_both f h (Some x) None e = absurd (cc e)
-some_both f h (Some x) (Some y) e = refl
 
 none_of : {X Y : Type 0} (f : X → Y) (o : Option X) → None ≡ option_map f o → o ≡ None
 none_of f None e = refl
@@ -24,7 +19,7 @@ none_of f (Some x) e = absurd (cc e)
 
 -- whether the asset is known
 known : (i : Image) (n m : ℕ) (o : Option Asset) (b : Bool) → n ≡ m → option_map asset_entry o ≡ option_map (λ a. (n, a)) (get (state_of i).assets n) → b ≡ is_some o → contains_key (state_of i).assets m ≡ b
-known i n m o b same found is = ap (contains_key (state_of i).assets) (sym same) ∙ some_both _ _ o (get (state_of i).assets n) found ∙ sym is
+known i n m o b same found is = ap (contains_key (state_of i).assets) (sym same) ∙ same_known _ _ o (get (state_of i).assets n) found ∙ sym is
 
 pub returns-in_err-refuse_if : goal.returns-in_err-refuse_if
 returns-in_err-refuse_if c =
