@@ -5,6 +5,7 @@ ghost use Rattle.lrs_routes.specs.Standing.{RewritingKeepsState};
 ghost use Rattle.lrs_routes.specs.Running.{RewritingMovesGround};
 ghost use Rattle.lrs_routes.specs.Differences.{DifferenceRewrites};
 ghost use Rattle.lrs_routes.specs.Renaming.{RecalibrateMakes, RenumberMakes};
+ghost use Rattle.lrs_routes.specs.Splitting.{SplitMakes};
 
 /// Routes dropped and written that fit leave an image in order.
 pub fn rewriting_is_orderly()
@@ -34,4 +35,9 @@ pub fn recalibrate_makes()
 /// A route under a new name is what its renumbering makes.
 pub fn renumber_makes()
     ensures { RenumberMakes }
+{}
+
+/// The two parts of a route are what its split makes.
+pub fn split_makes()
+    ensures { SplitMakes }
 {}
