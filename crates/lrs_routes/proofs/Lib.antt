@@ -9,3 +9,4 @@ pub mod Differences
 pub mod Parted
 pub mod Renaming
 pub mod Splitting
+pub mod Joining

@@ -4,3 +4,4 @@ pub mod Running
 pub mod Differences
 pub mod Renaming
 pub mod Splitting
+pub mod Joining

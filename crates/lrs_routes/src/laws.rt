@@ -6,6 +6,7 @@ ghost use Rattle.lrs_routes.specs.Running.{RewritingMovesGround};
 ghost use Rattle.lrs_routes.specs.Differences.{DifferenceRewrites};
 ghost use Rattle.lrs_routes.specs.Renaming.{RecalibrateMakes, RenumberMakes};
 ghost use Rattle.lrs_routes.specs.Splitting.{SplitMakes};
+ghost use Rattle.lrs_routes.specs.Joining.{JoinMakes};
 
 /// Routes dropped and written that fit leave an image in order.
 pub fn rewriting_is_orderly()
@@ -40,4 +41,9 @@ pub fn renumber_makes()
 /// The two parts of a route are what its split makes.
 pub fn split_makes()
     ensures { SplitMakes }
+{}
+
+/// The one route that goes on from another is what their join makes.
+pub fn join_makes()
+    ensures { JoinMakes }
 {}
