@@ -10,3 +10,4 @@ pub mod Parted
 pub mod Renaming
 pub mod Splitting
 pub mod Joining
+pub mod Halved

@@ -1,9 +1,16 @@
 -- What a split makes of a route.
-use Rattle.std.specs.Prelude.{◌≡◌, ℕ, ◌-◌, Bool, true, false, not, nat_lt, [], ◌∷◌, take, drop, map, filter}
+use Rattle.std.specs.Prelude.{◌≡◌, ℕ, ◌-◌, ◌≤◌, Bool, true, false, not, nat_lt, List, [], ◌∷◌, take, drop, map, filter, length}
 use Rattle.std.specs.List.{list_any}
 use Rattle.lrs_measure.specs.Texts.{Name}
+use Rattle.lrs_element.specs.declared.link.Ground.{Ground}
+use Rattle.lrs_element.specs.Course.{is_too_long}
 use Rattle.lrs_element.specs.Marks.{is_inner_mark, marks_to, marks_from}
 use Rattle.lrs_position.specs.declared.route.Referent.{Referent}
+use Rattle.lrs_position.specs.declared.route.Route.{Route}
+use Rattle.lrs_position.specs.Routes.{is_route}
+use Rattle.lrs_events.specs.declared.class.Asset.{Asset}
+use Rattle.lrs_events.specs.declared.span.Span.{Span}
+use Rattle.lrs_events.specs.Spans.{are_rows}
 use Rattle.lrs_canonical.specs.Cuts.{IsCut}
 use Rattle.lrs_machine.specs.declared.command.Command.TheVariants as verb
 use Rattle.lrs_machine.specs.declared.image.RouteEntry.{RouteEntry}
@@ -43,3 +50,15 @@ pub record IsSplit (i : Image) (r front rear : RouteEntry) (at : ℕ) (name : Na
 abbrev pub SplitMakes : Type 0
 SplitMakes = (i : Image) (r front rear : RouteEntry) (at : ℕ) (name : Name) → IsSound i → IsSplit i r front rear at name
     → Makes (verb.Split r.route.name at name) i (with_routes (rewritten (r.route.name ∷ []) (front ∷ rear ∷ []) i.routes) i)
+
+-- Both parts of a route at an inner mark are routes, where neither is too long.
+abbrev pub PartsAreRoutes : Type 0
+PartsAreRoutes = (r : Route) (at : ℕ) → is_inner_mark r.marks at ≡ true → is_too_long (take at r.course) ≡ false → is_too_long (drop at r.course) ≡ false
+    → (at ≤ length r.course) × (is_route (take at r.course) (marks_to at r.marks) (filter (is_ahead at) r.refs) ≡ true)
+    × (is_route (drop at r.course) (marks_from at r.marks) (map (back_by at) (filter (λ q. not (is_ahead at q)) r.refs)) ≡ true)
+
+-- Canonical rows that are those of a route in two parts lie on these, and are of known assets, where those of the route are.
+abbrev pub PartsHaveRows : Type 0
+PartsHaveRows = (assets : List Asset) (course : List Ground) (at : ℕ) (rows front rear : List Span) → at ≤ length course → are_rows front ≡ true → are_rows rear ≡ true → IsCut at rows front rear
+    → are_spans_of assets (record { course = course; rows = rows }) ≡ true
+    → (are_spans_of assets (record { course = take at course; rows = front }) ≡ true) × (are_spans_of assets (record { course = drop at course; rows = rear }) ≡ true)

@@ -5,7 +5,7 @@ ghost use Rattle.lrs_routes.specs.Standing.{RewritingKeepsState};
 ghost use Rattle.lrs_routes.specs.Running.{RewritingMovesGround};
 ghost use Rattle.lrs_routes.specs.Differences.{DifferenceRewrites};
 ghost use Rattle.lrs_routes.specs.Renaming.{RecalibrateMakes, RenumberMakes};
-ghost use Rattle.lrs_routes.specs.Splitting.{SplitMakes};
+ghost use Rattle.lrs_routes.specs.Splitting.{SplitMakes, PartsAreRoutes, PartsHaveRows};
 ghost use Rattle.lrs_routes.specs.Joining.{JoinMakes};
 
 /// Routes dropped and written that fit leave an image in order.
@@ -46,4 +46,14 @@ pub fn split_makes()
 /// The one route that goes on from another is what their join makes.
 pub fn join_makes()
     ensures { JoinMakes }
+{}
+
+/// Both parts of a route at an inner mark are routes.
+pub fn parts_are_routes()
+    ensures { PartsAreRoutes }
+{}
+
+/// The rows of a route in two parts lie on these.
+pub fn parts_have_rows()
+    ensures { PartsHaveRows }
 {}
