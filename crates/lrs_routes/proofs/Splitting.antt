@@ -1,11 +1,12 @@
 -- A split.
-use Rattle.std.proofs.Common.{◌≡◌, ℕ, zero, suc, ◌+◌, ◌-◌, ◌<◌, ◌≤◌, Bool, true, false, ◌⊎◌, inl, inr, List, [], ◌∷◌, ◌++◌, map, filter, take, drop, length, Option, Some, Ok, refl, sym, ap, subst, ◌∙◌, arith}
+use Rattle.std.proofs.Common.{◌≡◌, ℕ, zero, suc, ◌+◌, ◌-◌, ◌<◌, ◌≤◌, Bool, true, false, cond, ◌⊎◌, inl, inr, List, [], ◌∷◌, ◌++◌, map, filter, take, drop, length, Option, Some, None, Ok, refl, sym, ap, subst, ◌∙◌, arith}
 use Rattle.std.proofs.Math.Bool.{or-false}
 use Rattle.std.specs.Prelude.{◌||◌, not, nat_lt, nat_eq, is_some, slice_get}
-use Rattle.std.specs.Option.{option_map, ok_or}
+use Rattle.std.specs.Option.{option_map, option_or, ok_or}
 use Rattle.std.specs.List.{list_any, list_all, flat_map, filter_map}
 use Rattle.std.specs.Cmp.Lexicographic.{bytes_decides}
 use Rattle.std.proofs.lemmas.Bool.{both_ways, not-true, and_parts, and_from, or_left, cases_Bool, cases_lt, ltb-true, lt-ltb, eq-eqb, false≢true}
+use Rattle.std.proofs.lemmas.List.Folds.{list_any-append}
 use Rattle.std.proofs.lemmas.List.{append-nil, take-append-drop}
 use Rattle.lrs_measure.specs.Lists.{each_two, is_nothing}
 use Rattle.lrs_measure.specs.Ordered.{insert_by}
@@ -39,14 +40,17 @@ use Rattle.lrs_keep.proofs.PutBack.{none_goes}
 use Rattle.lrs_keep.proofs.Tables.{routes_in_order}
 use Rattle.lrs_routes.specs.Rewriting.{routes_named, routes_left, rewritten, with_routes, has_referent, runs_at, IsLeft, AreFit}
 use Rattle.lrs_routes.specs.Standing.{SayTheSame}
+use Rattle.lrs_routes.specs.Running.{runs_on, is_run_by}
 use Rattle.lrs_routes.specs.Splitting.{back_by, is_ahead, IsSplit, SplitMakes}
+use Rattle.lrs_routes.proofs.Apart.{meet_at}
 use Rattle.lrs_routes.proofs.Differences.{filter-insert_by}
 use Rattle.lrs_routes.proofs.InOrder.{is_false}
 use Rattle.lrs_routes.proofs.Listed.{In-filter, filter-In, length-parted}
-use Rattle.lrs_routes.proofs.Naming.{same_either, route_chain, only_one, route_found, route_none, put_rewrites, in_order, insert_swap, one_way}
+use Rattle.lrs_routes.proofs.Naming.{same_either, left_in_order, route_chain, only_one, route_found, route_none, put_rewrites, in_order, insert_swap, one_way}
 use Rattle.lrs_routes.proofs.Parted.{cut_rows_hold}
 use Rattle.lrs_routes.proofs.Renaming.{own_names}
 use Rattle.lrs_routes.proofs.Rewriting.{are_unlike, its_course, orderly}
+use Rattle.lrs_routes.proofs.Running.{moves_ground, runs_there}
 use Rattle.lrs_routes.proofs.Standing.{option_found, found_option, keeps_state}
 
 -- a route is not empty
@@ -317,9 +321,49 @@ module _ (i : Image) (r front rear : RouteEntry) (at : ℕ) (name : Name) (s : I
       let b : length (routes_named dropped i.routes) ≡ 1 = ap length ours in
       omega (arith, a, b, room)
 
+  -- ---- whose ground is whose
+
+  runs_split : (m : Millimetre) → runs_over r.route.course m ≡ (runs_over front.route.course m || runs_over rear.route.course m)
+  runs_split m =
+      ap (λ c. runs_over c m) (sym (take-append-drop at r.route.course)) ∙ list_any-append (is_at m) (take at r.route.course) (drop at r.route.course)
+      ∙ sym (λ j. runs_over (is.front_course j) m || runs_over (is.rear_course j) m)
+
+  -- the rear runs under the new name, and the front as before
+  pub moves : (m : Millimetre) → runs_on (rewritten dropped written i.routes) m ≡ cond (runs_over rear.route.course m) (Some name) (runs_on i.routes m)
+  moves m =
+      moves_ground i dropped written s fit m
+      ∙ (λ j. option_or (runs_on written m) (cond (list_any (is_run_by m) (ours j)) None (runs_on i.routes m)))
+      ∙ by (cases_Bool (runs_over front.route.course m)) (cases_Bool (runs_over rear.route.course m))
+    where
+      named : RouteEntry → Name
+      named e = e.route.name
+
+      said : (f b : Bool) → runs_over front.route.course m ≡ f → runs_over rear.route.course m ≡ b → option_or (runs_on written m) (cond (list_any (is_run_by m) (r ∷ [])) None (runs_on i.routes m))
+          ≡ option_or (option_map named (cond f (Some front) (cond b (Some rear) None))) (cond ((f || b) || false) None (runs_on i.routes m))
+      said f b ef eb = (λ j. option_or (option_map named (cond (ef j) (Some front) (cond (eb j) (Some rear) None))) (cond ((runs_split m ∙ (λ k. ef k || eb k)) j || false) None (runs_on i.routes m)))
+
+      by : (runs_over front.route.course m ≡ true) ⊎ (runs_over front.route.course m ≡ false) → (runs_over rear.route.course m ≡ true) ⊎ (runs_over rear.route.course m ≡ false)
+          → option_or (runs_on written m) (cond (list_any (is_run_by m) (r ∷ [])) None (runs_on i.routes m)) ≡ cond (runs_over rear.route.course m) (Some name) (runs_on i.routes m)
+      by (inl f) (inl b) = absurd (both_ways (meets front.route.course rear.route.course) far (meet_at front.route.course rear.route.course m f b))
+      by (inl f) (inr b) = said true false f b ∙ ap Some is.front_name ∙ sym (runs_there i r m s is.route (runs_split m ∙ (λ k. f k || b k))) ∙ sym (ap (λ x. cond x (Some name) (runs_on i.routes m)) b)
+      by (inr f) (inl b) = said false true f b ∙ ap Some is.rear_name ∙ sym (ap (λ x. cond x (Some name) (runs_on i.routes m)) b)
+      by (inr f) (inr b) = said false false f b ∙ sym (ap (λ x. cond x (Some name) (runs_on i.routes m)) b)
+
+  -- the routes are in order before the rear comes
+  pub front_order : each_two route_before (rewritten dropped (front ∷ []) i.routes) ≡ true
+  front_order = in_order (front ∷ []) kept refl (left_in_order dropped i.routes order) (λ w e m n. one w e m (In-filter (λ (e : RouteEntry). not (list_any (same_name e.route.name) dropped)) e i.routes n).1)
+    where
+      one : (w e : RouteEntry) → In w (front ∷ []) → not (list_any (same_name e.route.name) dropped) ≡ true → same_name w.route.name e.route.name ≡ false
+      one w e (inl h) n = ap (λ (w : RouteEntry). same_name w.route.name e.route.name) h ∙ ap (λ n. same_name n e.route.name) is.front_name ∙ same_either r.route.name e.route.name
+          ∙ sym (or-false (same_name e.route.name r.route.name)) ∙ not-true (same_name e.route.name r.route.name || false) n
+      one w e (inr h) n = absurd h
+
+  pub same_state : state_of (with_routes (rewritten dropped written i.routes) i) ≡ record (state_of i) { routes = record { rows = map route_entry (rewritten dropped written i.routes) } }
+  same_state = keeps_state i dropped written s fit same
+
   pub makes : Makes (verb.Split r.route.name at name) i (with_routes (rewritten dropped written i.routes) i)
   makes = record {
-    state = attempts ∙ ap Ok (state_rows ∙ sym (keeps_state i dropped written s fit same));
+    state = attempts ∙ ap Ok (state_rows ∙ sym same_state);
     edits = refl;
     orderly = λ room. orderly i dropped written s fit (few (room.routes refl));
   }
