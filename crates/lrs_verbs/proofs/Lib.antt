@@ -15,4 +15,5 @@ pub mod Indexing
 pub mod Rerouted
 pub mod Recalibrated
 pub mod Renumbered
+pub mod SplitRoute
 pub mod Made

@@ -6,3 +6,4 @@ pub mod Indexes
 pub mod Inventory
 pub mod Plans
 pub mod Checks
+pub mod Splits

@@ -7,6 +7,7 @@ abbrev pub is_planned : Command → Bool
 is_planned (verb.Link l) = true
 is_planned (verb.Class c) = true
 is_planned (verb.Route name pieces marks) = true
+is_planned (verb.Split route at name) = true
 is_planned (verb.Renumber route name) = true
 is_planned (verb.Recalibrate route marks) = true
 is_planned _ = false

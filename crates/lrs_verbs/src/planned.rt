@@ -7,7 +7,7 @@ ghost use Rattle.lrs_verbs.specs.Planned.{is_planned};
 use lrs_machine::Command;
 use std::marker::Model;
 
-/// A command of one of the verbs `link`, `class`, `route`, `renumber` and `recalibrate`.
+/// A command of one of the verbs `link`, `class`, `route`, `split`, `renumber` and `recalibrate`.
 #[derive(Drop)]
 pub struct Planned {
     command: Command,
@@ -34,6 +34,7 @@ impl Planned {
             Command::Link(_)
             | Command::Class(_)
             | Command::Route { .. }
+            | Command::Split { .. }
             | Command::Renumber { .. }
             | Command::Recalibrate { .. } => Some(Planned { command }),
             _ => None,

@@ -9,6 +9,7 @@ mod link;
 mod recalibrate;
 mod renumber;
 mod route;
+mod split;
 
 use crate::inventory::Inventory;
 use crate::plan::{Plan, Stop};
@@ -19,6 +20,7 @@ use lrs_machine::Command;
 use recalibrate::plan_recalibrate;
 use renumber::plan_renumber;
 use route::plan_route;
+use split::plan_split;
 use std::alloc::Global;
 
 /// What a command would change of an inventory.
@@ -36,6 +38,7 @@ pub fn plan_command(alloc: Global, inventory: &Inventory, command: &Planned) -> 
             pieces,
             marks,
         } => plan_route(alloc, inventory, *name, pieces.as_slice(), marks.as_slice()),
+        Command::Split { route, at, name } => plan_split(alloc, inventory, *route, at.get(), *name),
         Command::Renumber { route, name } => plan_renumber(alloc, inventory, *route, *name),
         Command::Recalibrate { route, marks } => plan_recalibrate(
             alloc,
