@@ -58,7 +58,7 @@ module _ {X : Type 0} (before : X → X → Bool) (chain : (a b c : X) → befor
 -- ---- one change, and then a name that goes
 
 -- one name goes after another
-two_left : (a b : Name) (routes : List RouteEntry) → without b (routes_left (a ∷ []) routes) ≡ routes_left (a ∷ b ∷ []) routes
+pub two_left : (a b : Name) (routes : List RouteEntry) → without b (routes_left (a ∷ []) routes) ≡ routes_left (a ∷ b ∷ []) routes
 two_left a b routes = without_one b (routes_left (a ∷ []) routes) ∙ ap (routes_left (b ∷ [])) (sym (without_one a routes)) ∙ others-next name_of a (b ∷ []) routes
 
 module _ (routes : List RouteEntry) (order : each_two route_before routes ≡ true) where

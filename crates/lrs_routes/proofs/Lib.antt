@@ -6,4 +6,8 @@ pub mod Rewriting
 pub mod Standing
 pub mod Running
 pub mod Differences
+pub mod Parted
 pub mod Renaming
+pub mod Splitting
+pub mod Joining
+pub mod Halved

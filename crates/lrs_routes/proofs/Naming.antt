@@ -6,11 +6,11 @@ use Rattle.std.specs.List.{list_any, list_all}
 use Rattle.std.specs.List as list
 use Rattle.std.specs.declared.cmp.Ordering.{Ordering}
 use Rattle.std.specs.declared.cmp.Ordering.TheVariants.{Less, Equal, Greater}
-use Rattle.std.specs.Ordering.{is_eq, is_lt, eq_by_cmp}
+use Rattle.std.specs.Ordering.{is_eq, is_lt, eq_by_cmp, ordering_reverse}
 use Rattle.std.specs.Cmp as cmp
 use Rattle.std.specs.Cmp.Lexicographic.{nat_list_cmp_total, texts_ties, bytes_decides}
 use Rattle.std.specs.FinMap.{find}
-use Rattle.std.proofs.lemmas.Bool.{not-true, and_parts, and_from, or_parts}
+use Rattle.std.proofs.lemmas.Bool.{false≢true, not-true, and_parts, and_from, or_parts}
 use Rattle.lrs_measure.specs.Lists.{each_two}
 use Rattle.lrs_measure.specs.Ordered.{insert_by, insert_all}
 use Rattle.lrs_measure.specs.Texts.{Name, name_cmp, name_before, same_name}
@@ -186,3 +186,39 @@ in_order (x ∷ xs) ys h k w =
     with : (z y : RouteEntry) → In z xs → same_name z.route.name x.route.name ≡ false → (y ≡ x) ⊎ In y ys → same_name z.route.name y.route.name ≡ false
     with z y m t (inl e) = ap (λ (q : RouteEntry). same_name z.route.name q.route.name) e ∙ t
     with z y m t (inr n) = w z y (inr m) n
+
+-- of two names one comes before the other
+pub one_way : (a b : RouteEntry) → same_name a.route.name b.route.name ≡ false → route_before a b ≡ not (route_before b a)
+one_way a b apart = by (name_cmp a.route.name b.route.name) (name_cmp b.route.name a.route.name) (nat_list_cmp_total.antisymm a.route.name b.route.name) (sym (texts_ties a.route.name b.route.name) ∙ apart)
+  where
+    by : (o p : Ordering) → o ≡ ordering_reverse p → is_eq o ≡ false → is_lt o ≡ not (is_lt p)
+    by o Less e h = ap is_lt e
+    by o Equal e h = absurd (false≢true (sym h ∙ ap is_eq e))
+    by o Greater e h = ap is_lt e
+
+-- Two elements are inserted in either order.
+pub insert_swap : {X : Type 0} (before : X → X → Bool) → ((a b c : X) → before a b ≡ true → before b c ≡ true → before a c ≡ true) → (x y : X) → before x y ≡ not (before y x) → (zs : List X)
+    → insert_by before x (insert_by before y zs) ≡ insert_by before y (insert_by before x zs)
+insert_swap before chain x y one [] = by (before x y) (before y x) one
+  where
+    by : (a b : Bool) → a ≡ not b → cond a (x ∷ y ∷ []) (y ∷ x ∷ []) ≡ cond b (y ∷ x ∷ []) (x ∷ y ∷ [])
+    by a true e = ap (λ c. cond c (x ∷ y ∷ []) (y ∷ x ∷ [])) e
+    by a false e = ap (λ c. cond c (x ∷ y ∷ []) (y ∷ x ∷ [])) e
+insert_swap before chain x y one (z ∷ zs) = by (before x z) (before y z) (before x y) (before y x) refl refl refl refl one (insert_swap before chain x y one zs)
+  where
+    by : (a b p q : Bool) → before x z ≡ a → before y z ≡ b → before x y ≡ p → before y x ≡ q → p ≡ not q → insert_by before x (insert_by before y zs) ≡ insert_by before y (insert_by before x zs)
+        → insert_by before x (cond b (y ∷ z ∷ zs) (z ∷ insert_by before y zs)) ≡ insert_by before y (cond a (x ∷ z ∷ zs) (z ∷ insert_by before x zs))
+    by true true true false ea eb ep eq e rest = ap (λ c. cond c (x ∷ y ∷ z ∷ zs) (y ∷ insert_by before x (z ∷ zs))) ep
+        ∙ sym (ap (λ c. cond c (y ∷ x ∷ z ∷ zs) (x ∷ insert_by before y (z ∷ zs))) eq ∙ ap (λ c. x ∷ cond c (y ∷ z ∷ zs) (z ∷ insert_by before y zs)) eb)
+    by true true false true ea eb ep eq e rest = ap (λ c. cond c (x ∷ y ∷ z ∷ zs) (y ∷ insert_by before x (z ∷ zs))) ep ∙ ap (λ c. y ∷ cond c (x ∷ z ∷ zs) (z ∷ insert_by before x zs)) ea
+        ∙ sym (ap (λ c. cond c (y ∷ x ∷ z ∷ zs) (x ∷ insert_by before y (z ∷ zs))) eq)
+    by a b true true ea eb ep eq e rest = absurd (false≢true (sym e))
+    by a b false false ea eb ep eq e rest = absurd (false≢true e)
+    by true false p true ea eb ep eq e rest = absurd (false≢true (sym eb ∙ chain y x z eq ea))
+    by true false true false ea eb ep eq e rest = ap (λ c. cond c (x ∷ z ∷ insert_by before y zs) (z ∷ insert_by before x (insert_by before y zs))) ea
+        ∙ sym (ap (λ c. cond c (y ∷ x ∷ z ∷ zs) (x ∷ insert_by before y (z ∷ zs))) eq ∙ ap (λ c. x ∷ cond c (y ∷ z ∷ zs) (z ∷ insert_by before y zs)) eb)
+    by false true true q ea eb ep eq e rest = absurd (false≢true (sym ea ∙ chain x y z ep eb))
+    by false true false true ea eb ep eq e rest = ap (λ c. cond c (x ∷ y ∷ z ∷ zs) (y ∷ insert_by before x (z ∷ zs))) ep ∙ ap (λ c. y ∷ cond c (x ∷ z ∷ zs) (z ∷ insert_by before x zs)) ea
+        ∙ sym (ap (λ c. cond c (y ∷ z ∷ insert_by before x zs) (z ∷ insert_by before y (insert_by before x zs))) eb)
+    by false false p q ea eb ep eq e rest = ap (λ c. cond c (x ∷ z ∷ insert_by before y zs) (z ∷ insert_by before x (insert_by before y zs))) ea ∙ ap (λ l. z ∷ l) rest
+        ∙ sym (ap (λ c. cond c (y ∷ z ∷ insert_by before x zs) (z ∷ insert_by before y (insert_by before x zs))) eb)

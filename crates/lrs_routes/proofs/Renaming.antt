@@ -46,7 +46,7 @@ use Rattle.lrs_routes.proofs.Running.{moves_ground}
 use Rattle.lrs_routes.proofs.Standing.{keeps_state}
 
 -- the referents of a route have names of their own
-own_names : (r : RouteEntry) → each_two are_unlike r.route.refs ≡ true
+pub own_names : (r : RouteEntry) → each_two are_unlike r.route.refs ≡ true
 own_names r = two_passing referent_before are_unlike (λ a b h. ap not (earlier_name a.name b.name h)) r.route.refs (and_parts (each_two referent_before r.route.refs) _ (fits r).2).0
 
 -- ---- a route in the place of one with the same ground, referents and rows

@@ -3,3 +3,5 @@ pub mod Standing
 pub mod Running
 pub mod Differences
 pub mod Renaming
+pub mod Splitting
+pub mod Joining

@@ -5,6 +5,8 @@ ghost use Rattle.lrs_routes.specs.Standing.{RewritingKeepsState};
 ghost use Rattle.lrs_routes.specs.Running.{RewritingMovesGround};
 ghost use Rattle.lrs_routes.specs.Differences.{DifferenceRewrites};
 ghost use Rattle.lrs_routes.specs.Renaming.{RecalibrateMakes, RenumberMakes};
+ghost use Rattle.lrs_routes.specs.Splitting.{SplitMakes, PartsAreRoutes, PartsHaveRows};
+ghost use Rattle.lrs_routes.specs.Joining.{JoinMakes};
 
 /// Routes dropped and written that fit leave an image in order.
 pub fn rewriting_is_orderly()
@@ -34,4 +36,24 @@ pub fn recalibrate_makes()
 /// A route under a new name is what its renumbering makes.
 pub fn renumber_makes()
     ensures { RenumberMakes }
+{}
+
+/// The two parts of a route are what its split makes.
+pub fn split_makes()
+    ensures { SplitMakes }
+{}
+
+/// The one route that goes on from another is what their join makes.
+pub fn join_makes()
+    ensures { JoinMakes }
+{}
+
+/// Both parts of a route at an inner mark are routes.
+pub fn parts_are_routes()
+    ensures { PartsAreRoutes }
+{}
+
+/// The rows of a route in two parts lie on these.
+pub fn parts_have_rows()
+    ensures { PartsHaveRows }
 {}

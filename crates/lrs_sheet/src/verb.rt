@@ -23,7 +23,15 @@ fn is_done(verb: &[u8]) -> bool
 {
     matches!(
         verb,
-        b"link" | b"class" | b"route" | b"ref" | b"unref" | b"enter" | b"renumber" | b"recalibrate"
+        b"link"
+            | b"class"
+            | b"route"
+            | b"ref"
+            | b"unref"
+            | b"enter"
+            | b"split"
+            | b"renumber"
+            | b"recalibrate"
     )
 }
 

@@ -13,6 +13,7 @@ use Rattle.lrs_machine.specs.State.{State}
 use Rattle.lrs_keep.specs.Change.{no_difference}
 use Rattle.lrs_routes.specs.Differences.{no_change, rerouting}
 use Rattle.lrs_verbs.specs.declared.plan.Plan.{Plan}
+use Rattle.lrs_verbs.specs.declared.verbs.split.Halves.{Halves}
 use Rattle.lrs_verbs.specs.Plans.{plan_of}
 
 -- The course of these pieces.
@@ -47,3 +48,7 @@ recalibrated route marks = plan_of (rerouting (Some (record (no_change route) { 
 -- the plan by which a route gets this name, and its ground, these pieces, passes to it
 abbrev pub renumbered : Name → Name → List Piece → Plan
 renumbered route name passed = record (plan_of (rerouting (Some (record (no_change route) { name = name })) None None)) { ground = Some (record { route = name; gone = []; passed = passed; come = [] }) }
+
+-- the plan by which a route becomes two, and the ground of its rear, these pieces, passes to the new one
+abbrev pub split_plan : Name → Halves → List Piece → Plan
+split_plan name h passed = record (plan_of (rerouting (Some h.front) None (Some h.rear))) { ground = Some (record { route = name; gone = []; passed = passed; come = [] }) }

@@ -9,3 +9,4 @@ pub mod Checks
 pub mod Extents
 pub mod RouteReferents
 pub mod Entering
+pub mod Splits

@@ -2,7 +2,7 @@ use super::*;
 use lrs_element::{Link, Mark, Piece};
 use lrs_events::{Class, ClassName, Kind};
 use lrs_keep::Difference;
-use lrs_machine::{Cause, Command, Image, MarkList, PieceList, RouteEntry};
+use lrs_machine::{Cause, Chainage, Command, Image, MarkList, PieceList, RouteEntry};
 use lrs_measure::{Frac, Rows};
 use lrs_position::{EnteredPosition, Expr, RefName, RouteName};
 use lrs_sound::first_unsound;
@@ -87,6 +87,15 @@ fn recalibrate(rt: &(impl Abort + AllocGlobal), text: &str, length: u64, measure
     Command::Recalibrate {
         route: name(rt, text),
         marks: marks(rt, length, measure),
+    }
+}
+
+/// The route of this name is split at a chainage, and its rear gets a new name.
+fn split(rt: &impl Abort, text: &str, at: u64, new: &str) -> Command {
+    Command::Split {
+        route: name(rt, text),
+        at: Chainage::new(at).expect(rt, "a chainage"),
+        name: name(rt, new),
     }
 }
 
@@ -275,4 +284,51 @@ fn referents_are_refused_by_their_first_check(rt: HostRuntime) {
     let name = referent_name(&rt, "KM1");
     assert!(rt; known.referent(&name).is_none());
     refuses(&rt, &known, Command::Unref { name }, Cause::NoRef);
+}
+
+/// The inventory of the links and the route A1, with marks at 0, at 400 and at its end.
+fn with_marked_route(rt: &(impl Abort + AllocGlobal)) -> Inventory {
+    let pieces = [piece(1, 0, 1_000, true), piece(2, 100, 500, false)];
+    let mut marks = Vec::new(rt.alloc());
+    for (chainage, measure) in [(0, 0), (400, 1_000), (1_400, 2_000)] {
+        let mark = Mark { chainage, measure };
+        marks.push(mark).expect(rt, "memory");
+    }
+    let command = Command::Route {
+        name: name(rt, "A1"),
+        pieces: PieceList::new(Vec::from_slice(rt.alloc(), &pieces).expect(rt, "memory")).expect(
+            rt,
+            "a list of pieces",
+        ),
+        marks: MarkList::new(marks).expect(rt, "a list of marks"),
+    };
+    let plan = planned(rt, &roads(rt, None), command).expect(rt, "a plan");
+    let Plan { difference, .. } = plan;
+    let Difference { made, .. } = difference;
+    roads(rt, made)
+}
+
+#[test]
+fn a_route_is_split_at_an_inner_mark(rt: HostRuntime) {
+    let known = with_marked_route(&rt);
+    let plan = planned(&rt, &known, split(&rt, "A1", 400, "B7")).expect(&rt, "a plan");
+    let rear = plan.difference.made.expect(&rt, "a route that comes");
+    assert!(rt; rear.route.name == name(&rt, "B7"));
+    assert!(rt; rear.route.course.len() == 1_000);
+    assert!(rt; rear.route.marks.list()[0].measure == 1_000);
+    let front = plan.difference.changed.expect(&rt, "a route that changes");
+    let course = front.course.expect(&rt, "a course");
+    assert!(rt; course.len() == 400);
+    let ground = plan.ground.expect(&rt, "ground");
+    let pieces = [piece(1, 400, 1_000, true), piece(2, 100, 500, false)];
+    assert!(rt; ground.passed.as_slice() == pieces.as_slice());
+}
+
+#[test]
+fn splits_are_refused_by_their_first_check(rt: HostRuntime) {
+    let known = with_marked_route(&rt);
+    refuses(&rt, &known, split(&rt, "A2", 400, "A1"), Cause::NoRoute);
+    refuses(&rt, &known, split(&rt, "A1", 401, "A1"), Cause::RouteKnown);
+    refuses(&rt, &known, split(&rt, "A1", 401, "B7"), Cause::NoMark);
+    refuses(&rt, &known, split(&rt, "A1", 1_400, "B7"), Cause::NoMark);
 }

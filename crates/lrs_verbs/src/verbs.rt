@@ -12,6 +12,7 @@ mod recalibrate;
 mod referents;
 mod renumber;
 mod route;
+mod split;
 mod unref;
 
 use crate::inventory::Inventory;
@@ -25,6 +26,7 @@ use new_referent::plan_ref;
 use recalibrate::plan_recalibrate;
 use renumber::plan_renumber;
 use route::plan_route;
+use split::plan_split;
 use std::alloc::Global;
 use unref::plan_unref;
 
@@ -46,6 +48,7 @@ pub fn plan_command(alloc: Global, inventory: &Inventory, command: &Planned) -> 
         Command::Ref { name, route, at } => plan_ref(alloc, inventory, *name, *route, *at),
         Command::Unref { name } => plan_unref(alloc, inventory, *name),
         Command::Enter(entry) => plan_enter(alloc, inventory, entry),
+        Command::Split { route, at, name } => plan_split(alloc, inventory, *route, at.get(), *name),
         Command::Renumber { route, name } => plan_renumber(alloc, inventory, *route, *name),
         Command::Recalibrate { route, marks } => plan_recalibrate(
             alloc,
