@@ -86,3 +86,30 @@ def test_assets():
         ("f9,enter,15,SPEED,B1,R,abs,19,21,x,0", "f9,done,15"),
         ("g1,enter,16,SPEED,B1,R,abs,20,21,x,0", "g1,refused,Overlap:15"),
     )
+
+
+def test_a_route_is_split():
+    """At an inner mark alone; what lies on the rear, and its referents, are then those of the new route."""
+    after_first(
+        ("a1,ref,KM2,A1,abs,3", "a1,done,8"),
+        ("a2,ref,KM6,A1,abs,6003", "a2,done,9"),
+        ("a3,enter,10,SPEED,A1,B,abs,5,8000,80,0", "a3,done,10"),
+        ("b1,split,B1,5000,B2", "b1,refused,NoRoute"),
+        ("b2,split,A1,5000,A1", "b2,refused,RouteKnown"),
+        ("b3,split,A1,4999,B1", "b3,refused,NoMark"),
+        ("b4,split,A1,0,B1", "b4,refused,NoMark"),
+        ("b5,split,A1,8000,B1", "b5,refused,NoMark"),
+        ("b6,split,A1,x,B1", "b6,refused,Malformed:b"),
+        ("b7,split,A1,5000,B1", "b7,done,11"),
+        ("c1,ref,KM7,A1,rel,KM6+0", "c1,refused,NoRef"),
+        ("c2,ref,KM7,B1,rel,KM6+1", "c2,done,12"),
+        ("c3,enter,11,SPEED,B1,L,abs,6001,6002,80,0", "c3,refused,Overlap:10"),
+        ("c4,enter,11,SPEED,A1,R,abs,0,6,80,0", "c4,refused,Overlap:10"),
+        ("c5,enter,11,SPEED,A1,R,abs,0,5,80,0", "c5,done,13"),
+        ("c6,enter,12,SPEED,B1,R,abs,8000,9000,80,0", "c6,done,14"),
+        ("c7,enter,13,SIGN,A1,R,abs,6001,,80,0", "c7,refused,OffRoute"),
+        ("d1,recalibrate,B1,0:0 3000:3000", "d1,done,15"),
+        ("d2,renumber,B1,Z", "d2,done,16"),
+        ("d3,split,Z,1,Z2", "d3,refused,NoMark"),
+        ("d4,route,C1,2:0:1:+,0:0 1:1", "d4,refused,Taken:0"),
+    )
