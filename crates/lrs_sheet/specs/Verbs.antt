@@ -74,7 +74,7 @@ all_verbs = map (λ verb. verb.name) verbs
 
 -- The verbs that the program does today; the others it refuses.
 abbrev pub done_verbs : List Text
-done_verbs = codes "link" ∷ codes "class" ∷ codes "route" ∷ codes "unref" ∷ []
+done_verbs = codes "link" ∷ codes "class" ∷ codes "route" ∷ codes "ref" ∷ codes "unref" ∷ []
 
 abbrev pub IsVerb : Text → Type 0
 IsVerb name = Contains done_verbs name

@@ -24,6 +24,7 @@ fn is_done(verb: &[u8]) -> bool
     verb == b"link".as_slice()
         || verb == b"class".as_slice()
         || verb == b"route".as_slice()
+        || verb == b"ref".as_slice()
         || verb == b"unref".as_slice()
 }
 
