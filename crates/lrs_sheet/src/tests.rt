@@ -135,6 +135,38 @@ fn each_record_has_its_line(rt: HostRuntime) -> Result<(), Fail> {
 }
 
 #[test]
+fn referents_come_and_go(rt: HostRuntime) -> Result<(), Fail> {
+    let alloc = rt.alloc();
+    let mut sheet = String::from_str(alloc, SHEET)?;
+    let mut replies = String::from_str(alloc, REPLIES)?;
+    for (record, reply) in [
+        ("r1,ref,KM2,A1,abs,6000,,,,,", "r1,done,8"),
+        ("k,ref,KM2,A1,abs,7000,,,,,", "k,refused,RefKnown"),
+        ("k,ref,KM3,B1,abs,7000,,,,,", "k,refused,NoRoute"),
+        ("k,ref,KM3,A1,rel,KM9+1,,,,,", "k,refused,NoRef"),
+        ("k,ref,KM3,A1,abs,9001,,,,,", "k,refused,OffRoute"),
+        ("r2,ref,KM3,A1,rel,KM2+498,,,,,", "r2,done,9"),
+        ("r3,unref,KM2,,,,,,,,", "r3,done,10"),
+        ("k,unref,KM2,,,,,,,,", "k,refused,NoRef"),
+        ("r3,unref,KM2,,,,,,,,", "r3,again,10"),
+        ("r4,ref,KM2,A1,rel,KM3-498,,,,,", "r4,done,11"),
+        ("m,unref,KM-2,,,,,,,,", "m,refused,Malformed:a"),
+        ("m,unref,KM2,A1,,,,,,,", "m,refused,Malformed:b"),
+        ("m,ref,KM4,A1,abs,x,,,,,", "m,refused,Malformed:d"),
+    ] {
+        sheet.push_str(record)?;
+        sheet.push('\n')?;
+        replies.push_str(reply)?;
+        replies.push('\n')?;
+    }
+    let mut written = Vec::new(alloc);
+    let result = run(alloc, WIDE, sheet.as_str().as_bytes(), &mut written)?;
+    assert_eq!(rt; result, tally(11, 1, 8));
+    assert_eq!(rt; written.as_slice(), replies.as_str().as_bytes());
+    Ok(())
+}
+
+#[test]
 fn routes_and_their_refusals(rt: HostRuntime) -> Result<(), Fail> {
     let alloc = rt.alloc();
     let mut sheet = String::from_str(alloc, SHEET)?;
