@@ -17,6 +17,3 @@ pub use plan::{GroundChange, Plan, ReferentPlace, ReferentPlaces, Stop, refuse_i
 pub use planned::Planned;
 pub use referents::ReferentIndex;
 pub use verbs::plan_command;
-
-#[cfg(test)]
-mod tests;

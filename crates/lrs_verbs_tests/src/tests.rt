@@ -1,4 +1,5 @@
-use super::*;
+//! What each command would change, and by which check it is refused.
+
 use lrs_element::{Link, Mark, Piece};
 use lrs_events::{Class, ClassName, Kind};
 use lrs_keep::Difference;
@@ -6,6 +7,7 @@ use lrs_machine::{Cause, Chainage, Command, Image, MarkList, PieceList, RouteEnt
 use lrs_measure::{Frac, Rows};
 use lrs_position::{EnteredPosition, Expr, RefName, RouteName};
 use lrs_sound::first_unsound;
+use lrs_verbs::{Inventory, Plan, Planned, Stop, plan_command};
 use std::process::Abort;
 
 /// Two links.
