@@ -2,7 +2,7 @@
 
 use lrs_element::{Link, Mark, Piece};
 use lrs_events::{Class, ClassName, Kind};
-use lrs_keep::Difference;
+use lrs_keep::{Difference, RouteChange};
 use lrs_machine::{Cause, Chainage, Command, Image, MarkList, PieceList, RouteEntry};
 use lrs_measure::{Frac, Rows};
 use lrs_position::{EnteredPosition, Expr, RefName, RouteName};
@@ -221,7 +221,9 @@ fn a_route_gets_other_marks(rt: HostRuntime) {
     let command = recalibrate(&rt, "A1", 1_400, 7_000);
     let plan = planned(&rt, &known, command).expect(&rt, "a plan");
     assert!(rt; plan.ground.is_none());
-    let change = plan.difference.changed.expect(&rt, "a route that changes");
+    let Plan { difference, .. } = plan;
+    let Difference { changed, .. } = difference;
+    let change = changed.expect(&rt, "a route that changes");
     assert!(rt; change.name == name(&rt, "A1"));
     assert!(rt; change.course.is_none());
     let line = change.marks.expect(&rt, "marks");
@@ -244,10 +246,14 @@ fn other_marks_are_refused_by_their_first_check(rt: HostRuntime) {
 fn the_ground_of_a_route_passes_to_its_new_name(rt: HostRuntime) {
     let known = with_route(&rt);
     let plan = planned(&rt, &known, renumber(&rt, "A1", "B7")).expect(&rt, "a plan");
-    let change = plan.difference.changed.expect(&rt, "a route that changes");
+    let Plan {
+        difference, ground, ..
+    } = plan;
+    let Difference { changed, .. } = difference;
+    let change = changed.expect(&rt, "a route that changes");
     assert!(rt; change.name == name(&rt, "B7"));
     assert!(rt; change.marks.is_none());
-    let ground = plan.ground.expect(&rt, "ground");
+    let ground = ground.expect(&rt, "ground");
     let pieces = [piece(1, 0, 1_000, true), piece(2, 100, 500, false)];
     assert!(rt; ground.passed.as_slice() == pieces.as_slice());
     assert!(rt; ground.route == name(&rt, "B7"));
@@ -314,14 +320,19 @@ fn with_marked_route(rt: &(impl Abort + AllocGlobal)) -> Inventory {
 fn a_route_is_split_at_an_inner_mark(rt: HostRuntime) {
     let known = with_marked_route(&rt);
     let plan = planned(&rt, &known, split(&rt, "A1", 400, "B7")).expect(&rt, "a plan");
-    let rear = plan.difference.made.expect(&rt, "a route that comes");
+    let Plan {
+        difference, ground, ..
+    } = plan;
+    let Difference { changed, made, .. } = difference;
+    let rear = made.expect(&rt, "a route that comes");
     assert!(rt; rear.route.name == name(&rt, "B7"));
     assert!(rt; rear.route.course.len() == 1_000);
     assert!(rt; rear.route.marks.list()[0].measure == 1_000);
-    let front = plan.difference.changed.expect(&rt, "a route that changes");
-    let course = front.course.expect(&rt, "a course");
+    let front = changed.expect(&rt, "a route that changes");
+    let RouteChange { course, .. } = front;
+    let course = course.expect(&rt, "a course");
     assert!(rt; course.len() == 400);
-    let ground = plan.ground.expect(&rt, "ground");
+    let ground = ground.expect(&rt, "ground");
     let pieces = [piece(1, 400, 1_000, true), piece(2, 100, 500, false)];
     assert!(rt; ground.passed.as_slice() == pieces.as_slice());
 }
