@@ -72,9 +72,23 @@ verbs =
 abbrev pub all_verbs : List Text
 all_verbs = map (λ verb. verb.name) verbs
 
--- The verbs that the program does today; the others it refuses.
+-- The verbs that the program does today, the others it refuses: those that lay out links, classes, routes and referents,
+abbrev pub laying_verbs : List Text
+laying_verbs = codes "link" ∷ codes "class" ∷ codes "route" ∷ codes "ref" ∷ codes "unref" ∷ []
+
+-- those of assets,
+abbrev pub asset_verbs : List Text
+asset_verbs = codes "enter" ∷ []
+
+-- and those that edit a route.
+abbrev pub editing_verbs : List Text
+editing_verbs = codes "split" ∷ codes "renumber" ∷ codes "recalibrate" ∷ []
+
+abbrev pub working_verbs : List Text
+working_verbs = asset_verbs ++ editing_verbs
+
 abbrev pub done_verbs : List Text
-done_verbs = codes "link" ∷ codes "class" ∷ codes "route" ∷ codes "ref" ∷ codes "unref" ∷ codes "enter" ∷ codes "split" ∷ codes "renumber" ∷ codes "recalibrate" ∷ []
+done_verbs = laying_verbs ++ working_verbs
 
 abbrev pub IsVerb : Text → Type 0
 IsVerb name = Contains done_verbs name

@@ -4,7 +4,7 @@ ghost use Rattle.std.specs.Prelude.{◌≡◌, ◌≤◌, ◌↔◌, Contains, I
 ghost use Rattle.csv.specs.Records.{fields_of};
 ghost use Rattle.lrs_verbs.specs.Planned.{is_planned};
 ghost use Rattle.lrs_sheet.specs.Fields.{ReadsArguments, ReadsCommand};
-ghost use Rattle.lrs_sheet.specs.Verbs.{IsVerb, all_verbs};
+ghost use Rattle.lrs_sheet.specs.Verbs.{IsVerb, all_verbs, asset_verbs, editing_verbs, laying_verbs, working_verbs};
 
 use crate::arguments::{
     class_of, close_of, enter_of, join_of, link_of, realign_of, recalibrate_of, ref_of,
@@ -17,22 +17,45 @@ use lrs_desk::Planned;
 use lrs_machine::{Command, Field};
 use std::alloc::Global;
 
+/// Whether the verb lays out the network: links, classes, routes and referents.
+fn lays_out(verb: &[u8]) -> bool
+    ensures { IsTrue result ↔ Contains laying_verbs verb.now }
+{
+    verb == b"link".as_slice()
+        || verb == b"class".as_slice()
+        || verb == b"route".as_slice()
+        || verb == b"ref".as_slice()
+        || verb == b"unref".as_slice()
+}
+
+/// Whether the verb is one of assets that a desk does.
+fn is_of_assets(verb: &[u8]) -> bool
+    ensures { IsTrue result ↔ Contains asset_verbs verb.now }
+{
+    verb == b"enter".as_slice()
+}
+
+/// Whether the verb edits a route, and a desk does it.
+fn edits_route(verb: &[u8]) -> bool
+    ensures { IsTrue result ↔ Contains editing_verbs verb.now }
+{
+    verb == b"split".as_slice()
+        || verb == b"renumber".as_slice()
+        || verb == b"recalibrate".as_slice()
+}
+
+/// Whether the verb works on the network that is laid out, and a desk does it.
+fn works_on(verb: &[u8]) -> bool
+    ensures { IsTrue result ↔ Contains working_verbs verb.now }
+{
+    is_of_assets(verb) || edits_route(verb)
+}
+
 /// Whether a desk does the verb of this name.
 fn is_done(verb: &[u8]) -> bool
     ensures { IsTrue result ↔ IsVerb verb.now }
 {
-    matches!(
-        verb,
-        b"link"
-            | b"class"
-            | b"route"
-            | b"ref"
-            | b"unref"
-            | b"enter"
-            | b"split"
-            | b"renumber"
-            | b"recalibrate"
-    )
+    lays_out(verb) || works_on(verb)
 }
 
 /// The command that the fields of a verb say.
