@@ -9,7 +9,7 @@ import subprocess
 CRATES = pathlib.Path(__file__).resolve().parent.parent / "crates"
 
 # Above the number of allocations that one of those tests makes.
-MOST_ALLOCATIONS = 100
+MOST_ALLOCATIONS = 200
 
 # How many runs there are side by side.
 RUNS = min(os.cpu_count() or 2, 4)
