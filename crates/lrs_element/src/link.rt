@@ -107,9 +107,15 @@ impl Piece {
         ensures joined { expand result ≡ expand self ++ expand next }
     {
         if self.forward {
-            Piece { to: next.to, ..self }
+            Piece {
+                to: next.to,
+                ..self
+            }
         } else {
-            Piece { from: next.from, ..self }
+            Piece {
+                from: next.from,
+                ..self
+            }
         }
     }
 

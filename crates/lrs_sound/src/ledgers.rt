@@ -28,7 +28,9 @@ fn is_part(links: &[Link], assets: &[Asset], part: &Part) -> bool
     requires assets { each_two asset_before assets.now ≡ true }
     ensures { result ≡ is_part links.now assets.now part.now }
 {
-    part.from < part.to && link_reaches(links, part.link, part.to) && knows_asset(assets, part.asset)
+    part.from < part.to
+        && link_reaches(links, part.link, part.to)
+        && knows_asset(assets, part.asset)
 }
 
 fn are_inside(links: &[Link], assets: &[Asset], parts: &[Part]) -> bool

@@ -95,7 +95,9 @@ fn cuts(rt: &(impl Abort + AllocGlobal), draws: &mut Draws, links: &[Link]) -> V
     for link in links {
         let mut from = 0u32;
         for _ in 0..link.length {
-            let to = link.length.min(from.saturating_add(1 + draws.below(5) as u32));
+            let to = link
+                .length
+                .min(from.saturating_add(1 + draws.below(5) as u32));
             let piece = Piece {
                 link: link.number,
                 from,

@@ -247,7 +247,9 @@ fn the_ground_of_a_route_passes_to_its_new_name(rt: HostRuntime) {
     let known = with_route(&rt);
     let plan = planned(&rt, &known, renumber(&rt, "A1", "B7")).expect(&rt, "a plan");
     let Plan {
-        difference, ground, ..
+        difference,
+        ground,
+        ..
     } = plan;
     let Difference { changed, .. } = difference;
     let change = changed.expect(&rt, "a route that changes");
@@ -321,7 +323,9 @@ fn a_route_is_split_at_an_inner_mark(rt: HostRuntime) {
     let known = with_marked_route(&rt);
     let plan = planned(&rt, &known, split(&rt, "A1", 400, "B7")).expect(&rt, "a plan");
     let Plan {
-        difference, ground, ..
+        difference,
+        ground,
+        ..
     } = plan;
     let Difference { changed, made, .. } = difference;
     let rear = made.expect(&rt, "a route that comes");
