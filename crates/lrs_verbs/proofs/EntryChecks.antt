@@ -1,8 +1,7 @@
 -- The checks of an entry, one after another.
-use Rattle.std.proofs.Common.{◌≡◌, ℕ, zero, suc, ◌+◌, ◌-◌, ◌<◌, ◌≤◌, min, Bool, true, false, cond, List, [], ◌∷◌, take, drop, length, Option, Some, None, Result, Ok, Err, refl, sym, ap, ◌∙◌, arith, ◌⊎◌, inl, inr}
-use Rattle.std.specs.Prelude.{◌||◌, nat_eq, nat_le, slice_range, is_some}
-use Rattle.std.specs.List.{list_any}
-use Rattle.std.specs.Option.{ok_or, option_map}
+use Rattle.std.proofs.Common.{◌≡◌, ℕ, ◌-◌, ◌≤◌, Bool, true, false, cond, List, [], ◌∷◌, drop, length, Option, Some, None, Result, Ok, Err, refl, sym, ap, ◌∙◌, arith, ◌⊎◌, inl, inr}
+use Rattle.std.specs.Prelude.{◌||◌, nat_eq, nat_le}
+use Rattle.std.specs.Option.{ok_or}
 use Rattle.std.proofs.lemmas.Bool.{leb-true, leb-false, ne_eqb, cases_Bool}
 use Rattle.std.proofs.lemmas.List.{length-take, length-drop}
 use Rattle.lrs_measure.specs.Lists.{is_nothing}

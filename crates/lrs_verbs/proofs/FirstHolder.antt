@@ -1,11 +1,11 @@
 -- The least asset of a class that holds a place of a route is told by the route's own rows.
 use Rattle.std.proofs.Common.{◌≡◌, ℕ, zero, suc, ◌+◌, ◌-◌, ◌<◌, ◌≤◌, Bool, true, false, cond, ◌⊎◌, inl, inr, List, [], ◌∷◌, map, take, drop, length, Option, Some, None, refl, sym, ap, ◌∙◌, arith}
-use Rattle.std.specs.Prelude.{◌||◌, ◌&&◌, nat_eq, nat_lt, nat_le, slice_get, slice_range}
+use Rattle.std.specs.Prelude.{◌&&◌, nat_eq, nat_le, slice_get, slice_range}
 use Rattle.std.specs.List.{list_any, list_all}
 use Rattle.std.specs.List as list
 use Rattle.std.specs.Option.{option_map}
 use Rattle.std.specs.Cmp.Lexicographic.{bytes_decides}
-use Rattle.std.proofs.lemmas.Bool.{false≢true, both_ways, and_parts, and_from, cases_Bool, eqb-true, eq-eqb, ltb-true}
+use Rattle.std.proofs.lemmas.Bool.{false≢true, both_ways, and_parts, and_from, cases_Bool, eqb-true, ltb-true}
 use Rattle.lrs_measure.specs.Lists.{each_two}
 use Rattle.lrs_measure.specs.Texts.{Name, same_name}
 use Rattle.lrs_element.specs.declared.link.Ground.{Ground}
@@ -15,7 +15,7 @@ use Rattle.lrs_events.specs.declared.side.Side.TheVariants.{L, R, B}
 use Rattle.lrs_events.specs.declared.side.LinkSide.{LinkSide}
 use Rattle.lrs_events.specs.declared.side.LinkSide.TheVariants.{Left, Right}
 use Rattle.lrs_events.specs.declared.span.Span.{Span}
-use Rattle.lrs_events.specs.Members.{has_side, between, stands_for, has_member, is_member}
+use Rattle.lrs_events.specs.Members.{has_side, between, stands_for, has_member}
 use Rattle.lrs_events.specs.Places.{Place, beside, places_at, places_on}
 use Rattle.lrs_events.specs.Spans.{are_rows}
 use Rattle.lrs_canonical.specs.OnCourse.{is_held}

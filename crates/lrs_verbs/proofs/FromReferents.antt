@@ -1,14 +1,14 @@
 -- The referents that positions on a route count from: those of the route itself.
-use Rattle.std.proofs.Common.{◌≡◌, ℕ, ◌<◌, Bool, true, false, cond, ◌⊎◌, inl, inr, List, [], ◌∷◌, ◌++◌, map, length, Option, Some, None, refl, sym, ap, ◌∙◌, arith, get_or, zero, suc, subst}
-use Rattle.std.specs.Prelude.{◌||◌, ◌&&◌, not, nat_eq, nat_le, nat_lt, slice_get, is_some}
-use Rattle.std.specs.List.{list_any, list_all, flat_map, filter_map, cons_option, position}
+use Rattle.std.proofs.Common.{◌≡◌, ℕ, ◌<◌, Bool, true, false, cond, ◌⊎◌, inl, inr, List, [], ◌∷◌, ◌++◌, length, Option, Some, None, refl, sym, ap, ◌∙◌, arith, get_or, zero, suc, subst}
+use Rattle.std.specs.Prelude.{◌&&◌, not, nat_eq, nat_le, nat_lt, slice_get}
+use Rattle.std.specs.List.{list_any, list_all, flat_map, filter_map, cons_option}
 use Rattle.std.specs.List as list
 use Rattle.std.specs.Option.{option_map, option_and_then}
-use Rattle.std.specs.Ordering.{is_eq, eq_by_cmp}
+use Rattle.std.specs.Ordering.{eq_by_cmp}
 use Rattle.std.specs.Cmp.Lexicographic.{texts_ties, bytes_decides}
 use Rattle.std.specs.FinMap.{find}
-use Rattle.std.proofs.lemmas.Bool.{false≢true, both_ways, not-true, and_parts, and_from, or_parts, or_left, or_right, cases_Bool, eqb-true, eq-eqb, ltb-true}
-use Rattle.std.proofs.lemmas.List.Folds.{list_all-append, list_all-map, flat_map-map}
+use Rattle.std.proofs.lemmas.Bool.{both_ways, not-true, and_parts, and_from, or_parts, or_left, or_right, cases_Bool, eqb-true, eq-eqb, ltb-true}
+use Rattle.std.proofs.lemmas.List.Folds.{list_all-append, flat_map-map}
 use Rattle.std.proofs.lemmas.Option.{slice_get_within, get_or_from_slice_get, slice_get-get_or}
 use Rattle.std.proofs.lemmas.Map.Lookups.{exact_bytes}
 use Rattle.lrs_measure.specs.Lists.{each_two}
@@ -17,7 +17,7 @@ use Rattle.lrs_element.specs.declared.link.Ground.{Ground}
 use Rattle.lrs_element.specs.Course.{Millimetre, ground_at, entry_of, is_at, meets, runs_over}
 use Rattle.lrs_position.proofs.Entries.{position_found, position_none}
 use Rattle.lrs_position.specs.declared.route.Referent.{Referent}
-use Rattle.lrs_position.specs.Routes.{is_route_course, have_marks, are_referents, referent_before}
+use Rattle.lrs_position.specs.Routes.{is_route_course, are_referents, referent_before}
 use Rattle.lrs_position.specs.Translating.{alignment_of, referent_at}
 use Rattle.lrs_machine.specs.declared.image.RouteEntry.{RouteEntry}
 use Rattle.lrs_machine.specs.declared.image.Image.{Image}
@@ -25,13 +25,13 @@ use Rattle.lrs_machine.specs.Bounds.{most_routes}
 use Rattle.lrs_machine.specs.Machine.{entry_of_referent}
 use Rattle.lrs_machine.specs.Image.{state_of, referent_entry, referents_on}
 use Rattle.lrs_events.specs.Places.{differs}
-use Rattle.lrs_machine.specs.Sound.{IsSound, RouteCourse, RouteReferents, are_all_referents, referents_of, are_courses, courses_of, course_before, is_course, is_on_a_link}
+use Rattle.lrs_machine.specs.Sound.{IsSound, RouteCourse, RouteReferents, referents_of, courses_of, course_before, is_course, is_on_a_link}
 use Rattle.lrs_machine.proofs.Members.{In, any_found, any_of, all_at, In-map, In-flat_map, flat_map_found, find_found}
 use Rattle.lrs_machine.proofs.Pairs.{each_two-map}
 use Rattle.lrs_machine.proofs.SoundImages.{and_three}
 use Rattle.lrs_keep.proofs.Tables.{passes}
 use Rattle.lrs_lanes.proofs.Members.{two_pass}
-use Rattle.lrs_verbs.proofs.NewCourse.{at_same, apart_too}
+use Rattle.lrs_verbs.proofs.NewCourse.{apart_too}
 
 -- ---- lists
 

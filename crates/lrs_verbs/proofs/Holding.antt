@@ -12,7 +12,7 @@ use Rattle.lrs_events.specs.declared.side.LinkSide.{LinkSide}
 use Rattle.lrs_events.specs.declared.side.LinkSide.TheVariants.{Left, Right}
 use Rattle.lrs_events.specs.Canonical.{side_of, side_held}
 use Rattle.lrs_events.specs.Members.{Picks, has_side}
-use Rattle.lrs_events.specs.Places.{Place, beside, differs}
+use Rattle.lrs_events.specs.Places.{beside, differs}
 use Rattle.lrs_canonical.specs.OnCourse.{is_held, is_picked, is_once}
 use Rattle.lrs_canonical.proofs.Picked.{rows_hold, sides_picked}
 use Rattle.lrs_machine.specs.declared.image.RouteEntry.{RouteEntry}
@@ -21,7 +21,7 @@ use Rattle.lrs_machine.specs.Bounds.{most_routes}
 use Rattle.lrs_machine.specs.Image.{state_of, holds_on}
 use Rattle.lrs_machine.specs.Sound.{IsSound, RouteCourse, course_before, courses_of, is_course, is_on_a_link}
 use Rattle.lrs_machine.proofs.Members.{In, any_of, all_at, In-map}
-use Rattle.lrs_machine.proofs.Pairs.{IsHeld, held, each_two-map}
+use Rattle.lrs_machine.proofs.Pairs.{held, each_two-map}
 use Rattle.lrs_machine.proofs.SoundImages.{and_three}
 use Rattle.lrs_keep.proofs.Tables.{passes}
 use Rattle.lrs_verbs.proofs.NewCourse.{apart_too}

@@ -1,13 +1,13 @@
 -- What `locate` answers on a route is what the ground machine locates.
 use Rattle.std.proofs.Common.{◌≡◌, ℕ, ◌+◌, ◌-◌, ◌*◌, ◌<◌, ◌≤◌, ◌/◌, min, Bool, true, false, cond, ◌⊎◌, inl, inr, List, [], ◌∷◌, Option, Some, None, Result, Ok, Err, refl, sym, ap, subst, ◌∙◌, arith, ℤ, pos, negsuc, ◌*ℤ◌, unsigned_abs, length}
-use Rattle.std.specs.Prelude.{◌≤ℤ◌, IsTrue, nat_lt}
+use Rattle.std.specs.Prelude.{◌≤ℤ◌, IsTrue}
 use Rattle.std.specs.List as list
 use Rattle.std.specs.Option.{ok_or}
 use Rattle.std.proofs.Math.Nat.{mul-div-mul_left}
 use Rattle.std.proofs.lemmas.Bool.{and_parts, eqb-true, leb-true, le-ltb, cases_Bool}
 use Rattle.std.proofs.lemmas.Int.{ints}
 use Rattle.lrs_measure.specs.Texts.{Name}
-use Rattle.lrs_measure.specs.Fraction.{Fraction, IsLowest, IsQuotient}
+use Rattle.lrs_measure.specs.Fraction.{Fraction, IsLowest}
 use Rattle.lrs_position.specs.declared.expression.Expr.{Expr}
 use Rattle.lrs_position.specs.declared.expression.Expr.TheVariants.{Abs, Rel, Int}
 use Rattle.lrs_position.specs.declared.locating.PlaceFault.{PlaceFault}
@@ -17,7 +17,7 @@ use Rattle.lrs_position.specs.Locating.{Alignment, Locates, located, located_or_
 use Rattle.lrs_position.specs.Translating.{alignment_of, referent_at, number_of, IsAnswer, IsOnRoute}
 use Rattle.lrs_position.proofs.Located.{located-sound}
 use Rattle.lrs_position.proofs.Answering.{IsSound-from_route}
-use Rattle.lrs_position.proofs.Whole.{quotient_limit, rounded_limit}
+use Rattle.lrs_position.proofs.Whole.{rounded_limit}
 use Rattle.lrs_machine.specs.declared.answer.Cause.{Cause}
 use Rattle.lrs_machine.specs.declared.answer.Cause.TheVariants as cause
 use Rattle.lrs_machine.specs.declared.image.RouteEntry.{RouteEntry}
@@ -31,7 +31,7 @@ use Rattle.lrs_keep.specs.Change.{is_named}
 use Rattle.lrs_verbs.specs.declared.plan.Stop.{Stop}
 use Rattle.lrs_verbs.specs.declared.plan.Stop.TheVariants.{Refused, Memory}
 use Rattle.lrs_verbs.specs.Plans.{Answers}
-use Rattle.lrs_verbs.specs.Extents.{cause_of, IsRouteIn, IsLocatedAt, LocatesAs, located_cell, located_end}
+use Rattle.lrs_verbs.specs.Extents.{cause_of, IsRouteIn, IsLocatedAt, located_cell, located_end}
 use Rattle.lrs_verbs.proofs.FromReferents.{referents_found}
 
 -- ---- one chainage in two ways

@@ -1,5 +1,5 @@
 -- What an entry makes: a new asset, a row on its route, and the rows of a ledger for it.
-use Rattle.std.proofs.Common.{◌≡◌, ℕ, ◌+◌, ◌<◌, ◌≤◌, Bool, true, false, cond, List, [], ◌∷◌, ◌++◌, map, filter, length, Option, Some, None, Ok, refl, sym, ap, subst, ◌∙◌, arith, inl, inr, ◌⊎◌}
+use Rattle.std.proofs.Common.{◌≡◌, ℕ, ◌+◌, ◌<◌, ◌≤◌, Bool, true, false, List, [], ◌∷◌, ◌++◌, filter, length, Some, Ok, refl, sym, ap, subst, ◌∙◌, arith, inl, inr, ◌⊎◌}
 use Rattle.std.specs.Prelude.{is_some, ◌||◌, ◌&&◌, not, nat_eq, nat_lt, nat_le, slice_range}
 use Rattle.std.specs.List.{list_any, list_all, flat_map}
 use Rattle.std.specs.List as list
@@ -15,7 +15,6 @@ use Rattle.std.proofs.lemmas.List.Folds.{list_all-map, list_any-append}
 use Rattle.lrs_measure.specs.Lists.{each_two, is_nothing}
 use Rattle.lrs_measure.specs.Ordered.{insert_by, insert_some}
 use Rattle.lrs_measure.specs.Texts.{Name, name_cmp, same_name}
-use Rattle.lrs_element.specs.declared.link.Ground.{Ground}
 use Rattle.lrs_element.specs.Limits.{longest_route, most_pieces}
 use Rattle.lrs_element.specs.Course.{is_too_long, piece_count}
 use Rattle.lrs_position.specs.Routes.{is_route, is_route_course, have_marks, are_referents}
@@ -37,12 +36,12 @@ use Rattle.lrs_machine.specs.Image.{state_of, holds_on, route_entry, referents_o
 use Rattle.lrs_machine.specs.Machine.{Extent, is_empty_extent, enter_asset, attempt}
 use Rattle.lrs_machine.specs.Entered.{is_asset_number, is_lateral_offset}
 use Rattle.lrs_machine.specs.Register.{contains_key}
-use Rattle.lrs_machine.specs.Sound.{route_before, asset_before, is_asset, are_assets, is_span, are_spans_of, spans_of, is_on_a_link, is_part, share_nothing, pairs_of, are_parts, parts_of, is_named_by, are_courses, courses_of, are_all_marks, marks_of, are_all_referents, referents_of, IsSound, RouteCourse, RouteMarks, RouteReferents, RouteSpans}
+use Rattle.lrs_machine.specs.Sound.{route_before, asset_before, is_asset, are_assets, is_span, are_spans_of, spans_of, is_on_a_link, is_part, share_nothing, pairs_of, are_parts, parts_of, is_named_by, are_courses, are_all_marks, are_all_referents, IsSound, RouteCourse, RouteMarks, RouteReferents}
 use Rattle.lrs_machine.proofs.Members.{In, any_found, any_of, all_at, all_weaker}
 use Rattle.lrs_machine.proofs.SoundImages.{and_three}
 use Rattle.lrs_ordered.specs.Laws.{numbers_agree}
 use Rattle.lrs_keep.specs.declared.change.RouteChange.{RouteChange}
-use Rattle.lrs_keep.specs.Change.{is_named, without, entry_after, route_after, fits_after, changed_refs, with_difference, CanBecome, CanDiffer, routes_after}
+use Rattle.lrs_keep.specs.Change.{is_named, without, entry_after, fits_after, with_difference, CanBecome, CanDiffer, routes_after}
 use Rattle.lrs_keep.proofs.Becoming.{has_become}
 use Rattle.lrs_keep.proofs.Tables.{passes, Passes, routes_in_order, links_in_order}
 use Rattle.lrs_orderly.specs.Orderly.{IsOrderly, is_filled, share_nothing_in_an_edit}

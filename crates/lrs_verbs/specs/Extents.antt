@@ -1,5 +1,5 @@
 -- Where positions are on a route of an inventory, and what lies there.
-use Rattle.std.specs.Prelude.{◌≡◌, ℕ, ◌≤◌, List, Some, Result, Ok, Err, unsigned_abs, ⊤}
+use Rattle.std.specs.Prelude.{◌≡◌, ℕ, ◌≤◌, Some, Result, Ok, Err, unsigned_abs, ⊤}
 use Rattle.std.specs.List.{find}
 use Rattle.lrs_measure.specs.Fraction.{Fraction}
 use Rattle.lrs_position.specs.declared.expression.Expr.{Expr}

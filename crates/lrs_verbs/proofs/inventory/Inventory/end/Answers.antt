@@ -1,4 +1,4 @@
-use Rattle.std.proofs.Common.{◌≡◌, ◌≤◌, ℕ, length, subst, sym}
+use Rattle.std.proofs.Common.{◌≤◌, ℕ, length, subst, sym}
 use Rattle.lrs_verbs.proofs.Located.{end_on_route}
 use Rattle.lrs_verbs.proofs.inventory.Inventory.end.Goals as goal
 

@@ -1,11 +1,8 @@
-use Rattle.std.proofs.Common.{◌≡◌, Err, Ok, Result, subst, sym, ap, ◌∙◌}
+use Rattle.std.proofs.Common.{Err, subst, sym, ap, ◌∙◌}
 use Rattle.std.specs.Prelude.{IsTrue}
-use Rattle.lrs_measure.specs.Fraction.{Fraction}
 use Rattle.lrs_position.specs.declared.expression.Expr.{Expr}
-use Rattle.lrs_position.specs.declared.locating.PlaceFault.{PlaceFault}
 use Rattle.lrs_position.specs.Expressions.{is_entered}
-use Rattle.lrs_position.specs.Locating.{located_or_fault}
-use Rattle.lrs_position.specs.Translating.{alignment_of, referent_at, IsAnswer}
+use Rattle.lrs_position.specs.Translating.{alignment_of}
 use Rattle.lrs_machine.specs.Image.{state_of}
 use Rattle.lrs_machine.specs.Machine.{located_chainage}
 use Rattle.lrs_verbs.specs.Extents.{IsLocatedAt}

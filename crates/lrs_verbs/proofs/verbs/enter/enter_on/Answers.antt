@@ -1,14 +1,12 @@
-use Rattle.std.proofs.Common.{◌≡◌, ℕ, ◌+◌, ◌≤◌, Ok, length, rules, sym, ap, subst, ◌∙◌, arith}
+use Rattle.std.proofs.Common.{ℕ, ◌+◌, Ok, length, rules, sym, ap, subst, ◌∙◌}
 use Rattle.std.proofs.lemmas.Result.{err_from_is_err_and}
 use Rattle.lrs_position.specs.Translating.{alignment_of}
 use Rattle.lrs_machine.specs.declared.answer.Cause.TheVariants as cause
 use Rattle.lrs_machine.specs.declared.command.Command.TheVariants as verb
-use Rattle.lrs_machine.specs.Bounds.{most_edits}
 use Rattle.lrs_machine.specs.Image.{state_of}
-use Rattle.lrs_machine.specs.Machine.{Extent, extent_of}
+use Rattle.lrs_machine.specs.Machine.{extent_of}
 use Rattle.lrs_orderly.proofs.Tables.{few_edits}
 use Rattle.lrs_verbs.specs.Entering.{IsEntering}
-use Rattle.lrs_verbs.specs.Plans.{Answers}
 use Rattle.lrs_verbs.proofs.Stopping.{refused, passed, stopped}
 use Rattle.lrs_verbs.proofs.Located.{route_in}
 use Rattle.lrs_verbs.proofs.Holding.{alone}
