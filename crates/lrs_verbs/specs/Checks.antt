@@ -1,4 +1,4 @@
--- What the checks of pieces and marks give where they pass.
+-- What checks of pieces and marks give where they pass, and the plans that verbs of routes make of it.
 use Rattle.std.specs.Prelude.{◌≡◌, ℕ, List, [], Some, None, Result, Ok}
 use Rattle.lrs_measure.specs.Texts.{Name}
 use Rattle.lrs_element.specs.declared.link.Piece.{Piece}

@@ -20,7 +20,7 @@ use std::alloc::Global;
 /// The route of a name, with what lies on it.
 ///
 /// # Errors
-/// There is none.
+/// `NoRoute` where no route has the name.
 pub fn route_named<'a>(inventory: &'a Inventory, name: &RouteName) -> Result<&'a RouteEntry, Stop>
     ensures found { IfOk result (λ row. find (is_named name.now) inventory.now.routes ≡ Some row.now) }
     ensures missing { IfErr result (λ why. (why ≡ stop.Refused cause.NoRoute) × (find (is_named name.now) inventory.now.routes ≡ None)) }
