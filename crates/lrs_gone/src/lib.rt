@@ -1,0 +1,2 @@
+//! What edits take away, as rows of the ledger.
+#![tactic(auto)]
