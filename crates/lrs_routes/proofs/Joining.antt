@@ -1,14 +1,14 @@
 -- A join.
-use Rattle.std.proofs.Common.{◌≡◌, ℕ, zero, suc, ◌+◌, ◌<◌, ◌≤◌, Bool, true, false, ◌⊎◌, inl, inr, List, [], ◌∷◌, ◌++◌, map, filter, length, Option, Some, Ok, refl, sym, ap, subst, ◌∙◌, arith}
+use Rattle.std.proofs.Common.{◌≡◌, ℕ, zero, suc, ◌+◌, ◌<◌, ◌≤◌, Bool, true, false, cond, ◌⊎◌, inl, inr, List, [], ◌∷◌, ◌++◌, map, filter, length, Option, Some, None, Ok, refl, sym, ap, subst, ◌∙◌, arith}
 use Rattle.std.proofs.Math.Bool.{or-false}
 use Rattle.std.specs.Prelude.{◌||◌, not, nat_lt, nat_eq, slice_get}
-use Rattle.std.specs.Option.{option_map}
+use Rattle.std.specs.Option.{option_map, option_or}
 use Rattle.std.specs.List.{list_any, list_all, flat_map, filter_map}
 use Rattle.std.specs.Cmp as cmp
 use Rattle.std.specs.Cmp.Lexicographic.{bytes_decides}
-use Rattle.std.proofs.lemmas.Bool.{both_ways, not-true, and_parts, and_from, or_left, or_right, or_cases, ltb-true, eq-eqb}
+use Rattle.std.proofs.lemmas.Bool.{both_ways, not-true, and_parts, and_from, or_left, or_right, or_cases, ltb-true, eq-eqb, cases_Bool}
 use Rattle.std.proofs.lemmas.List.{append-nil}
-use Rattle.std.proofs.lemmas.List.Folds.{list_all-append}
+use Rattle.std.proofs.lemmas.List.Folds.{list_all-append, list_any-append}
 use Rattle.lrs_measure.specs.Lists.{each_two}
 use Rattle.lrs_measure.specs.Ordered.{insert_by}
 use Rattle.lrs_measure.specs.Texts.{Name, name_cmp, same_name}
@@ -36,6 +36,7 @@ use Rattle.lrs_sound.proofs.Fitting.{fits}
 use Rattle.lrs_keep.proofs.Tables.{routes_in_order}
 use Rattle.lrs_routes.specs.Rewriting.{routes_named, routes_left, rewritten, with_routes, has_referent, runs_at, IsLeft, AreFit}
 use Rattle.lrs_routes.specs.Standing.{SayTheSame}
+use Rattle.lrs_routes.specs.Running.{runs_on, is_run_by}
 use Rattle.lrs_routes.specs.Joining.{on_by, IsJoined, JoinMakes}
 use Rattle.lrs_routes.proofs.Apart.{apart_too}
 use Rattle.lrs_routes.proofs.Differences.{two_left}
@@ -45,6 +46,7 @@ use Rattle.lrs_routes.proofs.Naming.{same_either, earlier_name, later_name, remo
 use Rattle.lrs_routes.proofs.Parted.{join_rows_hold}
 use Rattle.lrs_routes.proofs.Renaming.{own_names}
 use Rattle.lrs_routes.proofs.Rewriting.{are_far, are_unlike, its_course, old_far, old_few, orderly}
+use Rattle.lrs_routes.proofs.Running.{moves_ground, runs_there}
 use Rattle.lrs_routes.proofs.Standing.{option_found, found_option, keeps_state}
 
 -- an entry of the first of two lists, or of the second
@@ -140,12 +142,12 @@ module _ (i : Image) (a b w : RouteEntry) (s : IsSound i) (is : IsJoined i a b w
       both_ways (meets a.route.course b.route.course) (far_routes i a b s is.first is.second is.different)
       (any_of (λ (g : Ground). runs_over b.route.course (g.link, g.mm)) g a.route.course m (any_of (is_at (g.link, g.mm)) h b.route.course k e))))
 
-  runs_there : (g : Ground) (d : List Ground) → In g d → runs_over d (g.link, g.mm) ≡ true
-  runs_there g d m = any_of (is_at (g.link, g.mm)) g d m (and_from (nat_eq g.link g.link) (nat_eq g.mm g.mm) (eq-eqb g.link g.link refl) (eq-eqb g.mm g.mm refl))
+  runs_at_own : (g : Ground) (d : List Ground) → In g d → runs_over d (g.link, g.mm) ≡ true
+  runs_at_own g d m = any_of (is_at (g.link, g.mm)) g d m (and_from (nat_eq g.link g.link) (nat_eq g.mm g.mm) (eq-eqb g.link g.link refl) (eq-eqb g.mm g.mm refl))
 
   ground_left : (g : Ground) → In g a.route.course ⊎ In g b.route.course → IsLeft (runs_at g) dropped i.routes
-  ground_left g (inl m) = left_a (runs_at g) (runs_there g a.route.course m)
-  ground_left g (inr m) = left_b (runs_at g) (runs_there g b.route.course m)
+  ground_left g (inl m) = left_a (runs_at g) (runs_at_own g a.route.course m)
+  ground_left g (inr m) = left_b (runs_at g) (runs_at_own g b.route.course m)
 
   ref_left : (q : Referent) → In q a.route.refs ⊎ In q (map (on_by (length a.route.course)) b.route.refs) → IsLeft (has_referent q.name) dropped i.routes
   ref_left q (inl m) = left_a (has_referent q.name) (any_of (λ (r : Referent). same_name r.name q.name) q a.route.refs m ((bytes_decides q.name q.name).1 refl))
@@ -271,12 +273,41 @@ module _ (i : Image) (a b w : RouteEntry) (s : IsSound i) (is : IsJoined i a b w
       some_there x [] m = absurd m
       some_there x (y ∷ ys) m = omega arith
 
+  -- the state is the one before, with other routes
+  pub same_state : state_of (with_routes (rewritten dropped written i.routes) i) ≡ record (state_of i) { routes = record { rows = map route_entry (rewritten dropped written i.routes) } }
+  same_state = keeps_state i dropped written s fit same
+
   pub makes : Makes (verb.Join a.route.name b.route.name) i (with_routes (rewritten dropped written i.routes) i)
   makes = record {
-    state = attempts ∙ ap Ok (state_rows ∙ sym (keeps_state i dropped written s fit same));
+    state = attempts ∙ ap Ok (state_rows ∙ sym same_state);
     edits = refl;
     orderly = λ room. orderly i dropped written s fit few;
   }
+
+  -- ---- whose ground is whose
+
+  runs_joined : (m : Millimetre) → runs_over w.route.course m ≡ (runs_over a.route.course m || runs_over b.route.course m)
+  runs_joined m = ap (λ c. runs_over c m) is.course ∙ list_any-append (is_at m) a.route.course b.route.course
+
+  -- the ground of the second passes to the first, and all other runs as before
+  pub moves : (m : Millimetre) → runs_on (rewritten dropped written i.routes) m ≡ cond (runs_over b.route.course m) (Some a.route.name) (runs_on i.routes m)
+  moves m =
+      moves_ground i dropped written s fit m
+      ∙ (λ j. option_or (option_map named (cond (runs_joined m j) (Some w) None)) (cond (told_both (is_run_by m) j) None (runs_on i.routes m)))
+      ∙ by (cases_Bool (runs_over a.route.course m)) (cases_Bool (runs_over b.route.course m))
+    where
+      named : RouteEntry → Name
+      named e = e.route.name
+
+      after : Bool → Bool → Option Name
+      after x y = option_or (option_map named (cond (x || y) (Some w) None)) (cond (x || y) None (runs_on i.routes m))
+
+      by : (runs_over a.route.course m ≡ true) ⊎ (runs_over a.route.course m ≡ false) → (runs_over b.route.course m ≡ true) ⊎ (runs_over b.route.course m ≡ false)
+          → after (runs_over a.route.course m) (runs_over b.route.course m) ≡ cond (runs_over b.route.course m) (Some a.route.name) (runs_on i.routes m)
+      by (inl x) (inl y) = (λ j. after (x j) (y j)) ∙ ap Some is.name ∙ sym (ap (λ b. cond b (Some a.route.name) (runs_on i.routes m)) y)
+      by (inr x) (inl y) = (λ j. after (x j) (y j)) ∙ ap Some is.name ∙ sym (ap (λ b. cond b (Some a.route.name) (runs_on i.routes m)) y)
+      by (inl x) (inr y) = (λ j. after (x j) (y j)) ∙ ap Some is.name ∙ sym (runs_there i a m s is.first x) ∙ sym (ap (λ b. cond b (Some a.route.name) (runs_on i.routes m)) y)
+      by (inr x) (inr y) = (λ j. after (x j) (y j)) ∙ sym (ap (λ b. cond b (Some a.route.name) (runs_on i.routes m)) y)
 
 pub join_makes : JoinMakes
 join_makes i a b w s is = makes i a b w s is

@@ -11,3 +11,4 @@ pub mod Renaming
 pub mod Splitting
 pub mod Joining
 pub mod Halved
+pub mod Joined

@@ -25,7 +25,7 @@ use Rattle.lrs_keep.specs.Change.{is_named, without}
 use Rattle.lrs_keep.proofs.PutBack.{none_goes}
 use Rattle.lrs_routes.specs.Rewriting.{routes_named, routes_left, rewritten}
 use Rattle.lrs_routes.proofs.InOrder.{is_false, each_two-insert_by, before-chain, before-comparable}
-use Rattle.lrs_routes.proofs.Listed.{In-insert}
+use Rattle.lrs_routes.proofs.Listed.{In-insert, In-filter}
 
 -- ---- names
 
@@ -166,26 +166,47 @@ put_rewrites e routes h = put_among e routes h ∙ ap (λ l. map route_entry (in
 pub left_in_order : (names : List Name) (routes : List RouteEntry) → each_two route_before routes ≡ true → each_two route_before (routes_left names routes) ≡ true
 left_in_order names routes h = each_two-filter route_before (λ e. not (list_any (same_name e.route.name) names)) routes h
 
-no_ties : (w : RouteEntry) (ys : List RouteEntry) → ((y : RouteEntry) → In y ys → same_name w.route.name y.route.name ≡ false) → list_any (λ (y : RouteEntry). eq_by_cmp name_cmp w.route.name y.route.name) ys ≡ false
-no_ties w [] h = refl
-no_ties w (y ∷ ys) h = λ i. (sym (texts_ties w.route.name y.route.name) ∙ h y (inl refl)) i || no_ties w ys (λ z m. h z (inr m)) i
+-- rows of other names put among rows in the order of their names
+module _ {Row : Type 0} (name : Row → Name) where
+  abbrev pub earlier : Row → Row → Bool
+  earlier a b = name_before (name a) (name b)
 
--- routes of other names put among routes in order
+  abbrev unlike : Row → Row → Bool
+  unlike a b = not (same_name (name a) (name b))
+
+  no_ties : (w : Row) (ys : List Row) → ((y : Row) → In y ys → same_name (name w) (name y) ≡ false) → list_any (λ (y : Row). eq_by_cmp name_cmp (name w) (name y)) ys ≡ false
+  no_ties w [] h = refl
+  no_ties w (y ∷ ys) h = λ i. (sym (texts_ties (name w) (name y)) ∙ h y (inl refl)) i || no_ties w ys (λ z m. h z (inr m)) i
+
+  pub all_in_order : (xs ys : List Row) → each_two unlike xs ≡ true → each_two earlier ys ≡ true → ((w e : Row) → In w xs → In e ys → same_name (name w) (name e) ≡ false)
+      → each_two earlier (insert_all earlier xs ys) ≡ true
+  all_in_order [] ys h k w = k
+  all_in_order (x ∷ xs) ys h k w =
+      let heads = and_parts (list_all (unlike x) xs) (each_two unlike xs) h in
+      all_in_order xs (insert_by earlier x ys) heads.1
+      (each_two-insert_by earlier (before-chain nat_list_cmp_total name) x ys (before-comparable nat_list_cmp_total name x ys (no_ties x ys (λ y m. w x y (inl refl) m))) k)
+      (λ z y m n. with z y m (other x z (all_at (unlike x) z xs heads.0 m)) (In-insert earlier x y ys n))
+    where
+      other : (x z : Row) → unlike x z ≡ true → same_name (name z) (name x) ≡ false
+      other x z t = same_either (name z) (name x) ∙ not-true (same_name (name x) (name z)) t
+
+      with : (z y : Row) → In z xs → same_name (name z) (name x) ≡ false → (y ≡ x) ⊎ In y ys → same_name (name z) (name y) ≡ false
+      with z y m t (inl e) = ap (λ (q : Row). same_name (name z) (name q)) e ∙ t
+      with z y m t (inr n) = w z y (inr m) n
+
 pub in_order : (xs ys : List RouteEntry) → each_two is_other xs ≡ true → each_two route_before ys ≡ true → ((w e : RouteEntry) → In w xs → In e ys → same_name w.route.name e.route.name ≡ false)
     → each_two route_before (insert_all route_before xs ys) ≡ true
-in_order [] ys h k w = k
-in_order (x ∷ xs) ys h k w =
-    let heads = and_parts (list_all (is_other x) xs) (each_two is_other xs) h in
-    in_order xs (insert_by route_before x ys) heads.1
-    (each_two-insert_by route_before route_chain x ys (before-comparable nat_list_cmp_total (λ (f : RouteEntry). f.route.name) x ys (no_ties x ys (λ y m. w x y (inl refl) m))) k)
-    (λ z y m n. with z y m (cmp_other x z (all_at (is_other x) z xs heads.0 m)) (In-insert route_before x y ys n))
-  where
-    cmp_other : (x z : RouteEntry) → is_other x z ≡ true → same_name z.route.name x.route.name ≡ false
-    cmp_other x z t = same_either z.route.name x.route.name ∙ not-true (same_name x.route.name z.route.name) t
+in_order xs ys h k w = all_in_order (λ (e : RouteEntry). e.route.name) xs ys h k w
 
-    with : (z y : RouteEntry) → In z xs → same_name z.route.name x.route.name ≡ false → (y ≡ x) ⊎ In y ys → same_name z.route.name y.route.name ≡ false
-    with z y m t (inl e) = ap (λ (q : RouteEntry). same_name z.route.name q.route.name) e ∙ t
-    with z y m t (inr n) = w z y (inr m) n
+-- a route in the place of the one of its name leaves them in order
+pub order_stays : (w : RouteEntry) (name : Name) (routes : List RouteEntry) → w.route.name ≡ name → each_two route_before routes ≡ true → each_two route_before (rewritten (name ∷ []) (w ∷ []) routes) ≡ true
+order_stays w name routes same order = in_order (w ∷ []) (routes_left (name ∷ []) routes) refl (left_in_order (name ∷ []) routes order)
+    (λ v e m n. one v e m (In-filter (λ (e : RouteEntry). not (list_any (same_name e.route.name) (name ∷ []))) e routes n).1)
+  where
+    one : (v e : RouteEntry) → In v (w ∷ []) → not (same_name e.route.name name || false) ≡ true → same_name v.route.name e.route.name ≡ false
+    one v e (inl h) n = ap (λ (v : RouteEntry). same_name v.route.name e.route.name) h ∙ ap (λ n. same_name n e.route.name) same ∙ same_either name e.route.name
+        ∙ sym (or-false (same_name e.route.name name)) ∙ not-true (same_name e.route.name name || false) n
+    one v e (inr h) n = absurd h
 
 -- of two names one comes before the other
 pub one_way : (a b : RouteEntry) → same_name a.route.name b.route.name ≡ false → route_before a b ≡ not (route_before b a)

@@ -46,7 +46,7 @@ use Rattle.lrs_routes.proofs.Apart.{meet_at}
 use Rattle.lrs_routes.proofs.Differences.{filter-insert_by}
 use Rattle.lrs_routes.proofs.InOrder.{is_false}
 use Rattle.lrs_routes.proofs.Listed.{In-filter, filter-In, length-parted}
-use Rattle.lrs_routes.proofs.Naming.{same_either, left_in_order, route_chain, only_one, route_found, route_none, put_rewrites, in_order, insert_swap, one_way}
+use Rattle.lrs_routes.proofs.Naming.{same_either, route_chain, only_one, route_found, route_none, put_rewrites, in_order, order_stays, insert_swap, one_way}
 use Rattle.lrs_routes.proofs.Parted.{cut_rows_hold}
 use Rattle.lrs_routes.proofs.Renaming.{own_names}
 use Rattle.lrs_routes.proofs.Rewriting.{are_unlike, its_course, orderly}
@@ -351,12 +351,7 @@ module _ (i : Image) (r front rear : RouteEntry) (at : ℕ) (name : Name) (s : I
 
   -- the routes are in order before the rear comes
   pub front_order : each_two route_before (rewritten dropped (front ∷ []) i.routes) ≡ true
-  front_order = in_order (front ∷ []) kept refl (left_in_order dropped i.routes order) (λ w e m n. one w e m (In-filter (λ (e : RouteEntry). not (list_any (same_name e.route.name) dropped)) e i.routes n).1)
-    where
-      one : (w e : RouteEntry) → In w (front ∷ []) → not (list_any (same_name e.route.name) dropped) ≡ true → same_name w.route.name e.route.name ≡ false
-      one w e (inl h) n = ap (λ (w : RouteEntry). same_name w.route.name e.route.name) h ∙ ap (λ n. same_name n e.route.name) is.front_name ∙ same_either r.route.name e.route.name
-          ∙ sym (or-false (same_name e.route.name r.route.name)) ∙ not-true (same_name e.route.name r.route.name || false) n
-      one w e (inr h) n = absurd h
+  front_order = order_stays front r.route.name i.routes is.front_name order
 
   pub same_state : state_of (with_routes (rewritten dropped written i.routes) i) ≡ record (state_of i) { routes = record { rows = map route_entry (rewritten dropped written i.routes) } }
   same_state = keeps_state i dropped written s fit same

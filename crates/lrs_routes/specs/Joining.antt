@@ -1,8 +1,16 @@
 -- What a join makes of two routes.
-use Rattle.std.specs.Prelude.{◌≡◌, ℕ, ◌+◌, false, true, ◌⊎◌, [], ◌∷◌, ◌++◌, map, length, Ok}
+use Rattle.std.specs.Prelude.{◌≡◌, ℕ, ◌+◌, ◌≤◌, false, true, ◌⊎◌, List, [], ◌∷◌, ◌++◌, map, length, Ok}
+use Rattle.lrs_measure.specs.Ordered.{insert_all}
 use Rattle.lrs_measure.specs.Texts.{same_name}
-use Rattle.lrs_element.specs.Marks.{joined_marks}
+use Rattle.lrs_element.specs.declared.link.Ground.{Ground}
+use Rattle.lrs_element.specs.Course.{is_too_long}
+use Rattle.lrs_element.specs.Limits.{most_marks}
+use Rattle.lrs_element.specs.Marks.{joined_marks, is_out_of_range}
 use Rattle.lrs_position.specs.declared.route.Referent.{Referent}
+use Rattle.lrs_position.specs.Routes.{is_route, referent_before}
+use Rattle.lrs_events.specs.declared.class.Asset.{Asset}
+use Rattle.lrs_events.specs.declared.span.Span.{Span}
+use Rattle.lrs_events.specs.Spans.{are_rows}
 use Rattle.lrs_canonical.specs.Joins.{IsJoin}
 use Rattle.lrs_machine.specs.declared.command.Command.TheVariants as verb
 use Rattle.lrs_machine.specs.declared.image.RouteEntry.{RouteEntry}
@@ -17,6 +25,14 @@ use Rattle.lrs_routes.specs.Rewriting.{rewritten, with_routes}
 -- a referent of a course behind so many millimetres
 abbrev pub on_by : ℕ → Referent → Referent
 on_by n q = record q { at = n + q.at }
+
+-- the referents of a course of this length that goes on as another
+abbrev pub joined_refs : ℕ → List Referent → List Referent → List Referent
+joined_refs n first second = insert_all referent_before (map (on_by n) second) first
+
+-- no referent of the first has the name of one of the second
+abbrev pub AreUnlike : List Referent → List Referent → Type 0
+AreUnlike first second = (q p : Referent) → In q first → In p second → same_name q.name p.name ≡ false
 
 -- the route that two become, one behind the other, under the name of the first; the verb's checks pass
 pub record IsJoined (i : Image) (a b w : RouteEntry) : Type 0 where
@@ -37,3 +53,15 @@ pub record IsJoined (i : Image) (a b w : RouteEntry) : Type 0 where
 abbrev pub JoinMakes : Type 0
 JoinMakes = (i : Image) (a b w : RouteEntry) → IsSound i → IsJoined i a b w
     → Makes (verb.Join a.route.name b.route.name) i (with_routes (rewritten (a.route.name ∷ b.route.name ∷ []) (w ∷ []) i.routes) i)
+
+-- Two routes as one are a route, where that is not too long, has not too many marks and none out of range, and where their referents have names of their own.
+abbrev pub JoinsAreRoutes : Type 0
+JoinsAreRoutes = (a b : RouteEntry) → is_too_long (a.route.course ++ b.route.course) ≡ false → length (joined_marks a.route.marks b.route.marks) ≤ most_marks
+    → is_out_of_range (joined_marks a.route.marks b.route.marks) ≡ false → AreUnlike a.route.refs b.route.refs
+    → is_route (a.route.course ++ b.route.course) (joined_marks a.route.marks b.route.marks) (joined_refs (length a.route.course) a.route.refs b.route.refs) ≡ true
+
+-- Canonical rows that are those of two routes as one lie on it, and are of known assets, where those of both are.
+abbrev pub JoinsHaveRows : Type 0
+JoinsHaveRows = (assets : List Asset) (course more : List Ground) (first second rows : List Span) → are_rows rows ≡ true → IsJoin (length course) first second rows
+    → are_spans_of assets (record { course = course; rows = first }) ≡ true → are_spans_of assets (record { course = more; rows = second }) ≡ true
+    → are_spans_of assets (record { course = course ++ more; rows = rows }) ≡ true

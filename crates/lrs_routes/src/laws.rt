@@ -6,7 +6,7 @@ ghost use Rattle.lrs_routes.specs.Running.{RewritingMovesGround};
 ghost use Rattle.lrs_routes.specs.Differences.{DifferenceRewrites};
 ghost use Rattle.lrs_routes.specs.Renaming.{RecalibrateMakes, RenumberMakes};
 ghost use Rattle.lrs_routes.specs.Splitting.{SplitMakes, PartsAreRoutes, PartsHaveRows};
-ghost use Rattle.lrs_routes.specs.Joining.{JoinMakes};
+ghost use Rattle.lrs_routes.specs.Joining.{JoinMakes, JoinsAreRoutes, JoinsHaveRows};
 
 /// Routes dropped and written that fit leave an image in order.
 pub fn rewriting_is_orderly()
@@ -56,4 +56,14 @@ pub fn parts_are_routes()
 /// The rows of a route in two parts lie on these.
 pub fn parts_have_rows()
     ensures { PartsHaveRows }
+{}
+
+/// Two routes as one are a route.
+pub fn joins_are_routes()
+    ensures { JoinsAreRoutes }
+{}
+
+/// The rows of two routes as one lie on it.
+pub fn joins_have_rows()
+    ensures { JoinsHaveRows }
 {}

@@ -10,6 +10,7 @@ use Rattle.lrs_machine.specs.declared.answer.Cause.TheVariants as cause
 use Rattle.lrs_machine.specs.declared.image.RouteEntry.{RouteEntry}
 use Rattle.lrs_machine.specs.Machine.{◌>>◌, refuse_if, check_pieces, check_marks}
 use Rattle.lrs_machine.specs.State.{State}
+use Rattle.lrs_keep.specs.declared.change.RouteChange.{RouteChange}
 use Rattle.lrs_keep.specs.Change.{no_difference}
 use Rattle.lrs_routes.specs.Differences.{no_change, rerouting}
 use Rattle.lrs_verbs.specs.declared.plan.Plan.{Plan}
@@ -52,3 +53,7 @@ renumbered route name passed = record (plan_of (rerouting (Some (record (no_chan
 -- the plan by which a route becomes two, and the ground of its rear, these pieces, passes to the new one
 abbrev pub split_plan : Name → Halves → List Piece → Plan
 split_plan name h passed = record (plan_of (rerouting (Some h.front) None (Some h.rear))) { ground = Some (record { route = name; gone = []; passed = passed; come = [] }) }
+
+-- the plan by which a route changes and the second goes, whose ground, these pieces, passes to it
+abbrev pub join_plan : Name → RouteChange → List Piece → Plan
+join_plan second c passed = record (plan_of (rerouting (Some c) (Some second) None)) { ground = Some (record { route = c.name; gone = []; passed = passed; come = [] }) }

@@ -6,6 +6,7 @@ mod changes;
 mod checks;
 mod class;
 mod enter;
+mod join;
 mod link;
 mod new_referent;
 mod recalibrate;
@@ -20,6 +21,7 @@ use crate::plan::{Plan, Stop};
 use crate::planned::Planned;
 use class::plan_class;
 use enter::plan_enter;
+use join::plan_join;
 use link::plan_link;
 use lrs_machine::Command;
 use new_referent::plan_ref;
@@ -49,6 +51,7 @@ pub fn plan_command(alloc: Global, inventory: &Inventory, command: &Planned) -> 
         Command::Unref { name } => plan_unref(alloc, inventory, *name),
         Command::Enter(entry) => plan_enter(alloc, inventory, entry),
         Command::Split { route, at, name } => plan_split(alloc, inventory, *route, at.get(), *name),
+        Command::Join { first, second } => plan_join(alloc, inventory, *first, *second),
         Command::Renumber { route, name } => plan_renumber(alloc, inventory, *route, *name),
         Command::Recalibrate { route, marks } => plan_recalibrate(
             alloc,
