@@ -80,7 +80,7 @@ picked_at m c j g s once is = by s
 -- ---- all routes
 
 -- a test that only one route passes is that of the route
-only_at : (f : RouteEntry → Bool) (r : RouteEntry) (routes : List RouteEntry) → each_two apart_courses routes ≡ true → In r routes
+pub only_at : (f : RouteEntry → Bool) (r : RouteEntry) (routes : List RouteEntry) → each_two apart_courses routes ≡ true → In r routes
     → ((y : RouteEntry) → meets r.route.course y.route.course ≡ false → f y ≡ false) → list_any f routes ≡ f r
 only_at f r [] apart m w = absurd m
 only_at f r (y ∷ ys) apart (inl e) w =
