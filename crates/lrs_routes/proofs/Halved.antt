@@ -36,26 +36,34 @@ use Rattle.lrs_routes.proofs.Listed.{In-filter}
 
 -- ---- the parts of a route
 
-some : (xs : List Ground) → 0 < length xs → not (is_nothing xs) ≡ true
+pub some : (xs : List Ground) → 0 < length xs → not (is_nothing xs) ≡ true
 some [] h = absurd (omega (arith, h))
 some (x ∷ xs) h = refl
+
+module _ (r : Route) where
+  pub its_parts : (is_route_course r.course ≡ true) × (have_marks r.course r.marks ≡ true) × (are_referents (length r.course) r.refs ≡ true)
+  its_parts = and_three (is_route_course r.course) (have_marks r.course r.marks) (are_referents (length r.course) r.refs) r.fits
+
+  none_bad : bad_mark (length r.course) r.marks ≡ None
+  none_bad = by (bad_mark (length r.course) r.marks) its_parts.1
+    where
+      by : (o : Option ℕ) → is_none o ≡ true → o ≡ None
+      by None h = refl
+      by (Some n) h = absurd (false≢true h)
+
+  -- its marks rise along its course
+  pub its_line : IsLine (length r.course) r.marks
+  its_line = IsLine-from_none (length r.course) r.marks none_bad
 
 module _ (r : Route) (at : ℕ) (inner : is_inner_mark r.marks at ≡ true) where
   abbrev len : ℕ
   len = length r.course
 
   its : (is_route_course r.course ≡ true) × (have_marks r.course r.marks ≡ true) × (are_referents len r.refs ≡ true)
-  its = and_three (is_route_course r.course) (have_marks r.course r.marks) (are_referents len r.refs) r.fits
-
-  none_bad : bad_mark len r.marks ≡ None
-  none_bad = by (bad_mark len r.marks) its.1
-    where
-      by : (o : Option ℕ) → is_none o ≡ true → o ≡ None
-      by None h = refl
-      by (Some n) h = absurd (false≢true h)
+  its = its_parts r
 
   line : IsLine len r.marks
-  line = IsLine-from_none len r.marks none_bad
+  line = its_line r
 
   place : (n : ℕ) × IsInner (last_mark r.marks).chainage r.marks at n
   place = inner_place r.marks at inner
@@ -115,19 +123,19 @@ parts_are_routes r at inner front rear = (inside r at inner, front_fits r at inn
 -- ---- the parts of its rows
 
 -- a side of a row
-side_at : (s : Side) → (t : LinkSide) × (has_side s t ≡ true)
+pub side_at : (s : Side) → (t : LinkSide) × (has_side s t ≡ true)
 side_at L = (Left, refl)
 side_at R = (Right, refl)
 side_at B = (Left, refl)
 
 -- what rows say at the end of a row they say by a row of its class and asset
-record IsOf (q r : Span) (j : ℕ) : Type 0 where
-  class : r.class ≡ q.class
-  asset : r.asset ≡ q.asset
-  high : j < r.to
+pub record IsOf (q r : Span) (j : ℕ) : Type 0 where
+  pub class : r.class ≡ q.class
+  pub asset : r.asset ≡ q.asset
+  pub high : j < r.to
 
 -- a row says what it says at its last millimetre
-its_end : (q : Span) (rows : List Span) → In q rows → q.from < q.to → is_member rows q.class q.asset (q.to - 1) (side_at q.side).0 ≡ true
+pub its_end : (q : Span) (rows : List Span) → In q rows → q.from < q.to → is_member rows q.class q.asset (q.to - 1) (side_at q.side).0 ≡ true
 its_end q rows m filled =
     let s = side_at q.side in
     any_of (λ r. has_member r q.class q.asset (q.to - 1) s.0) q rows m
@@ -136,7 +144,7 @@ its_end q rows m filled =
     (and_from (nat_le q.from (q.to - 1) && nat_lt (q.to - 1) q.to) (has_side q.side s.0)
     (and_from (nat_le q.from (q.to - 1)) (nat_lt (q.to - 1) q.to) (le-leb q.from (q.to - 1) (omega (arith, filled))) (lt-ltb (q.to - 1) q.to (omega (arith, filled)))) s.1)))
 
-found : (q : Span) (rows : List Span) (j : ℕ) (s : LinkSide) → is_member rows q.class q.asset j s ≡ true → (r : Span) × In r rows × IsOf q r j
+pub found : (q : Span) (rows : List Span) (j : ℕ) (s : LinkSide) → is_member rows q.class q.asset j s ≡ true → (r : Span) × In r rows × IsOf q r j
 found q rows j s h =
     let r = any_found (λ r. has_member r q.class q.asset j s) rows h in
     let a = and_parts (same_name r.0.class q.class) (stands_for r.0 q.asset j s) r.2 in
@@ -144,22 +152,23 @@ found q rows j s h =
     let c = and_parts (nat_le r.0.from j && nat_lt j r.0.to) (has_side r.0.side s) b.1 in
     (r.0, r.1, record { class = (bytes_decides r.0.class q.class).0 a.0; asset = eqb-true r.0.asset q.asset b.0; high = ltb-true j r.0.to (and_parts (nat_le r.0.from j) (nat_lt j r.0.to) c.0).1 })
 
-filled_in : (rows : List Span) → are_rows rows ≡ true → (q : Span) → In q rows → q.from < q.to
+pub filled_in : (rows : List Span) → are_rows rows ≡ true → (q : Span) → In q rows → q.from < q.to
 filled_in rows h q m =
     let all = (and_parts (list_all is_row rows) (each_two span_before rows) (and_parts (list_all is_row rows && each_two span_before rows) (each_two are_apart rows) h).0).0 in
     ltb-true q.from q.to (and_parts (nat_lt q.from q.to) _ (all_at is_row q rows all m)).0
 
-module _ (assets : List Asset) (course : List Ground) (at : ℕ) (rows front rear : List Span) (within : at ≤ length course) (cut : IsCut at rows front rear) (spans : are_spans_of assets (record { course = course; rows = rows }) ≡ true) where
+module _ (assets : List Asset) (course : List Ground) (rows : List Span) (spans : are_spans_of assets (record { course = course; rows = rows }) ≡ true) where
   all_spans : list_all (is_span assets (length course)) rows ≡ true
   all_spans = (and_parts (are_rows rows) (list_all (is_span assets (length course)) rows) spans).1
 
   -- a row of the class and asset of one of the route's, that ends there
-  is_theirs : (q r : Span) (j len : ℕ) → In r rows → IsOf q r j → (r.to ≤ length course → q.to ≤ len) → is_span assets len q ≡ true
+  pub is_theirs : (q r : Span) (j len : ℕ) → In r rows → IsOf q r j → (r.to ≤ length course → q.to ≤ len) → is_span assets len q ≡ true
   is_theirs q r j len m of ends =
       let both = and_parts (nat_le r.to (length course)) (list_any (λ a. nat_eq a.number r.asset && same_name a.class r.class) assets) (all_at (is_span assets (length course)) r rows all_spans m) in
       and_from (nat_le q.to len) (list_any (λ a. nat_eq a.number q.asset && same_name a.class q.class) assets) (le-leb q.to len (ends (leb-true r.to (length course) both.0)))
       ((λ k. list_any (λ a. nat_eq a.number (sym of.asset k) && same_name a.class (sym of.class k)) assets) ∙ both.1)
 
+module _ (assets : List Asset) (course : List Ground) (at : ℕ) (rows front rear : List Span) (within : at ≤ length course) (cut : IsCut at rows front rear) (spans : are_spans_of assets (record { course = course; rows = rows }) ≡ true) where
   pub front_spans : are_rows front ≡ true → are_spans_of assets (record { course = take at course; rows = front }) ≡ true
   front_spans canonical = and_from (are_rows front) (list_all (is_span assets (length (take at course))) front) canonical
       (all_of (is_span assets (length (take at course))) front (λ q m.
@@ -169,7 +178,7 @@ module _ (assets : List Asset) (course : List Ground) (at : ℕ) (rows front rea
       let r = found q rows (q.to - 1) s both.0 in
       let low = ltb-true (q.to - 1) at both.1 in
       let e = length-take-le at course within in
-      is_theirs q r.0 (q.to - 1) (length (take at course)) r.1 r.2 (λ h. omega (arith, low, e))))
+      is_theirs assets course rows spans q r.0 (q.to - 1) (length (take at course)) r.1 r.2 (λ h. omega (arith, low, e))))
 
   pub rear_spans : are_rows rear ≡ true → are_spans_of assets (record { course = drop at course; rows = rear }) ≡ true
   rear_spans canonical = and_from (are_rows rear) (list_all (is_span assets (length (drop at course))) rear) canonical
@@ -179,7 +188,7 @@ module _ (assets : List Asset) (course : List Ground) (at : ℕ) (rows front rea
       let r = found q rows ((q.to - 1) + at) s (sym (cut.behind q.class q.asset (q.to - 1) s) ∙ its_end q rear m filled) in
       let high = r.2.high in
       let e = length-drop at course in
-      is_theirs q r.0 ((q.to - 1) + at) (length (drop at course)) r.1 r.2 (λ h. omega (arith, high, e, h, filled))))
+      is_theirs assets course rows spans q r.0 ((q.to - 1) + at) (length (drop at course)) r.1 r.2 (λ h. omega (arith, high, e, h, filled))))
 
 pub parts_have_rows : PartsHaveRows
 parts_have_rows assets course at rows front rear within canonical canonical_too cut spans = (front_spans assets course at rows front rear within cut spans canonical, rear_spans assets course at rows front rear within cut spans canonical_too)

@@ -7,6 +7,7 @@ ghost use Rattle.lrs_routes.specs.Differences.{DifferenceRewrites};
 ghost use Rattle.lrs_routes.specs.Renaming.{RecalibrateMakes, RenumberMakes};
 ghost use Rattle.lrs_routes.specs.Splitting.{SplitMakes, PartsAreRoutes, PartsHaveRows};
 ghost use Rattle.lrs_routes.specs.Joining.{JoinMakes};
+ghost use Rattle.lrs_routes.specs.Turning.{TurnMakes, TurnedIsRoute, TurnedHasRows};
 
 /// Routes dropped and written that fit leave an image in order.
 pub fn rewriting_is_orderly()
@@ -56,4 +57,19 @@ pub fn parts_are_routes()
 /// The rows of a route in two parts lie on these.
 pub fn parts_have_rows()
     ensures { PartsHaveRows }
+{}
+
+/// The route from its other end is what its turn makes.
+pub fn turn_makes()
+    ensures { TurnMakes }
+{}
+
+/// A route from its other end is a route.
+pub fn turned_is_route()
+    ensures { TurnedIsRoute }
+{}
+
+/// The rows of a route from its other end lie on it.
+pub fn turned_has_rows()
+    ensures { TurnedHasRows }
 {}
