@@ -13,6 +13,7 @@ mod referents;
 mod renumber;
 mod route;
 mod split;
+mod turn;
 mod unref;
 
 use crate::inventory::Inventory;
@@ -28,6 +29,7 @@ use renumber::plan_renumber;
 use route::plan_route;
 use split::plan_split;
 use std::alloc::Global;
+use turn::plan_turn;
 use unref::plan_unref;
 
 /// What a command would change of an inventory.
@@ -56,6 +58,7 @@ pub fn plan_command(alloc: Global, inventory: &Inventory, command: &Planned) -> 
             *route,
             marks.as_slice(),
         ),
+        Command::Turn { route } => plan_turn(alloc, inventory, *route),
         _ => unreachable!(),
     }
 }
