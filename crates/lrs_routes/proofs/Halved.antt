@@ -36,26 +36,34 @@ use Rattle.lrs_routes.proofs.Listed.{In-filter}
 
 -- ---- the parts of a route
 
-some : (xs : List Ground) → 0 < length xs → not (is_nothing xs) ≡ true
+pub some : (xs : List Ground) → 0 < length xs → not (is_nothing xs) ≡ true
 some [] h = absurd (omega (arith, h))
 some (x ∷ xs) h = refl
+
+module _ (r : Route) where
+  pub its_parts : (is_route_course r.course ≡ true) × (have_marks r.course r.marks ≡ true) × (are_referents (length r.course) r.refs ≡ true)
+  its_parts = and_three (is_route_course r.course) (have_marks r.course r.marks) (are_referents (length r.course) r.refs) r.fits
+
+  none_bad : bad_mark (length r.course) r.marks ≡ None
+  none_bad = by (bad_mark (length r.course) r.marks) its_parts.1
+    where
+      by : (o : Option ℕ) → is_none o ≡ true → o ≡ None
+      by None h = refl
+      by (Some n) h = absurd (false≢true h)
+
+  -- its marks rise along its course
+  pub its_line : IsLine (length r.course) r.marks
+  its_line = IsLine-from_none (length r.course) r.marks none_bad
 
 module _ (r : Route) (at : ℕ) (inner : is_inner_mark r.marks at ≡ true) where
   abbrev len : ℕ
   len = length r.course
 
   its : (is_route_course r.course ≡ true) × (have_marks r.course r.marks ≡ true) × (are_referents len r.refs ≡ true)
-  its = and_three (is_route_course r.course) (have_marks r.course r.marks) (are_referents len r.refs) r.fits
-
-  none_bad : bad_mark len r.marks ≡ None
-  none_bad = by (bad_mark len r.marks) its.1
-    where
-      by : (o : Option ℕ) → is_none o ≡ true → o ≡ None
-      by None h = refl
-      by (Some n) h = absurd (false≢true h)
+  its = its_parts r
 
   line : IsLine len r.marks
-  line = IsLine-from_none len r.marks none_bad
+  line = its_line r
 
   place : (n : ℕ) × IsInner (last_mark r.marks).chainage r.marks at n
   place = inner_place r.marks at inner

@@ -7,8 +7,11 @@ pub mod Standing
 pub mod Running
 pub mod Differences
 pub mod Parted
+pub mod Alike
 pub mod Renaming
 pub mod Splitting
 pub mod Joining
 pub mod Halved
 pub mod Joined
+pub mod Turned
+pub mod Turning

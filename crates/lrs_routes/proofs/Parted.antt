@@ -33,18 +33,22 @@ module _ (asset j : ℕ) (s : LinkSide) where
       let r = any_found (λ r. stands_for r asset j s) rows h in
       (r.0.class, any_of (λ q. has_member q r.0.class asset j s) r.0 rows r.1 (and_from (same_name r.0.class r.0.class) (stands_for r.0 asset j s) ((bytes_decides r.0.class r.0.class).1 refl) r.2))
 
-pub held_alike : (asset j k : ℕ) (s : LinkSide) (xs ys : List Span) (b : Bool) → ((class : Name) → is_member xs class asset j s ≡ (is_member ys class asset k s && b)) → is_held xs asset j s ≡ (is_held ys asset k s && b)
-held_alike asset j k s xs ys b same = cmp.both_ways (is_held xs asset j s) (is_held ys asset k s && b)
+-- ... where they say the same of every class at two places
+pub held_across : (asset j k : ℕ) (s t : LinkSide) (xs ys : List Span) (b : Bool) → ((class : Name) → is_member xs class asset j s ≡ (is_member ys class asset k t && b)) → is_held xs asset j s ≡ (is_held ys asset k t && b)
+held_across asset j k s t xs ys b same = cmp.both_ways (is_held xs asset j s) (is_held ys asset k t && b)
     (λ h.
     let m = held_member asset j s xs h in
-    let both = and_parts (is_member ys m.0 asset k s) b (sym (same m.0) ∙ m.1) in
-    and_from (is_held ys asset k s) b (member_held asset k s ys m.0 both.0) both.1)
+    let both = and_parts (is_member ys m.0 asset k t) b (sym (same m.0) ∙ m.1) in
+    and_from (is_held ys asset k t) b (member_held asset k t ys m.0 both.0) both.1)
     (λ h.
-    let both = and_parts (is_held ys asset k s) b h in
-    let m = held_member asset k s ys both.0 in
-    member_held asset j s xs m.0 (same m.0 ∙ and_from (is_member ys m.0 asset k s) b m.1 both.1))
+    let both = and_parts (is_held ys asset k t) b h in
+    let m = held_member asset k t ys both.0 in
+    member_held asset j s xs m.0 (same m.0 ∙ and_from (is_member ys m.0 asset k t) b m.1 both.1))
 
-and_true : (b : Bool) → (b && true) ≡ b
+pub held_alike : (asset j k : ℕ) (s : LinkSide) (xs ys : List Span) (b : Bool) → ((class : Name) → is_member xs class asset j s ≡ (is_member ys class asset k s && b)) → is_held xs asset j s ≡ (is_held ys asset k s && b)
+held_alike asset j k s xs ys b same = held_across asset j k s s xs ys b same
+
+pub and_true : (b : Bool) → (b && true) ≡ b
 and_true true = refl
 and_true false = refl
 
@@ -58,7 +62,7 @@ or_assoc true b c = refl
 or_assoc false b c = refl
 
 -- tests that are one along a course pick the same of it
-picked-within : (m n : Picks) (j : ℕ) (c : List Ground) (p : Place) → ((k : ℕ) (s : LinkSide) → j ≤ k → k < j + length c → m k s ≡ n k s) → is_picked m j c p ≡ is_picked n j c p
+pub picked-within : (m n : Picks) (j : ℕ) (c : List Ground) (p : Place) → ((k : ℕ) (s : LinkSide) → j ≤ k → k < j + length c → m k s ≡ n k s) → is_picked m j c p ≡ is_picked n j c p
 picked-within m n j [] p same = refl
 picked-within m n j (g ∷ gs) p same =
     let rest = picked-within m n (j + 1) gs p (λ k s low high. same k s (omega arith) (omega arith)) in

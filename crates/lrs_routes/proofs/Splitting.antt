@@ -53,13 +53,13 @@ use Rattle.lrs_routes.proofs.Rewriting.{are_unlike, its_course, orderly}
 use Rattle.lrs_routes.proofs.Running.{moves_ground, runs_there}
 use Rattle.lrs_routes.proofs.Standing.{option_found, found_option, keeps_state}
 
+pub has_ground : (c : List Ground) → not (is_nothing c) ≡ true → 0 < length c
+has_ground [] h = absurd (false≢true h)
+has_ground (g ∷ gs) h = omega arith
+
 -- a route is not empty
 pub not_empty : (r : RouteEntry) → 0 < length r.route.course
-not_empty r = by r.route.course (and_parts (not (is_nothing r.route.course)) (not (is_too_long r.route.course)) (fits r).0).0
-  where
-    by : (c : List Ground) → not (is_nothing c) ≡ true → 0 < length c
-    by [] h = absurd (false≢true h)
-    by (g ∷ gs) h = omega arith
+not_empty r = has_ground r.route.course (and_parts (not (is_nothing r.route.course)) (not (is_too_long r.route.course)) (fits r).0).0
 
 -- an entry before or behind a place of a list
 pub get_front : {X : Type 0} (n k : ℕ) (c : List X) → k < n → slice_get (take n c) k ≡ slice_get c k

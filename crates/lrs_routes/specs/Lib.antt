@@ -5,3 +5,4 @@ pub mod Differences
 pub mod Renaming
 pub mod Splitting
 pub mod Joining
+pub mod Turning

@@ -7,6 +7,7 @@ ghost use Rattle.lrs_routes.specs.Differences.{DifferenceRewrites};
 ghost use Rattle.lrs_routes.specs.Renaming.{RecalibrateMakes, RenumberMakes};
 ghost use Rattle.lrs_routes.specs.Splitting.{SplitMakes, PartsAreRoutes, PartsHaveRows};
 ghost use Rattle.lrs_routes.specs.Joining.{JoinMakes, JoinsAreRoutes, JoinsHaveRows};
+ghost use Rattle.lrs_routes.specs.Turning.{TurnMakes, TurnedIsRoute, TurnedHasRows};
 
 /// Routes dropped and written that fit leave an image in order.
 pub fn rewriting_is_orderly()
@@ -66,4 +67,19 @@ pub fn joins_are_routes()
 /// The rows of two routes as one lie on it.
 pub fn joins_have_rows()
     ensures { JoinsHaveRows }
+{}
+
+/// The route from its other end is what its turn makes.
+pub fn turn_makes()
+    ensures { TurnMakes }
+{}
+
+/// A route from its other end is a route.
+pub fn turned_is_route()
+    ensures { TurnedIsRoute }
+{}
+
+/// The rows of a route from its other end lie on it.
+pub fn turned_has_rows()
+    ensures { TurnedHasRows }
 {}

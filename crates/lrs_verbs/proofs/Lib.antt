@@ -21,11 +21,13 @@ pub mod Known
 pub mod Grounds
 pub mod Stopping
 pub mod Indexing
+pub mod ChangedRoute
 pub mod Rerouted
 pub mod Recalibrated
 pub mod Renumbered
 pub mod SplitRoute
 pub mod JoinRoutes
+pub mod TurnedRoute
 pub mod Made
 pub mod RouteReferents
 pub mod GoneReferent

@@ -1,11 +1,10 @@
 -- A route with other marks.
-use Rattle.std.proofs.Common.{◌≡◌, ℕ, true, false, cond, List, [], ◌∷◌, length, Option, Some, None, Result, Ok, Err, refl, sym, ap, subst, ◌∙◌}
+use Rattle.std.proofs.Common.{◌≡◌, ℕ, true, List, length, Option, Some, None, Result, Ok, Err, sym, ap, subst, ◌∙◌}
 use Rattle.std.specs.Prelude.{is_none}
 use Rattle.std.specs.List.{find}
 use Rattle.std.specs.Option.{option_map, ok_or}
-use Rattle.lrs_measure.specs.Texts.{Name, same_name}
+use Rattle.lrs_measure.specs.Texts.{Name}
 use Rattle.lrs_element.specs.declared.marks.Mark.{Mark}
-use Rattle.lrs_element.specs.Course.{Millimetre, runs_over}
 use Rattle.lrs_element.specs.Marks.{bad_mark}
 use Rattle.lrs_position.specs.Locating.{Alignment}
 use Rattle.lrs_machine.specs.declared.answer.Cause.{Cause}
@@ -17,18 +16,17 @@ use Rattle.lrs_machine.specs.Image.{state_of, route_entry}
 use Rattle.lrs_machine.specs.State.{State}
 use Rattle.lrs_machine.specs.Machine.{attempt, ◌>>◌, ◌>>=◌, check_marks, set_route}
 use Rattle.lrs_machine.specs.Sound.{IsSound}
-use Rattle.lrs_machine.proofs.Members.{In}
 use Rattle.lrs_orderly.specs.Made.{Makes}
+use Rattle.lrs_keep.specs.declared.change.RouteChange.{RouteChange}
 use Rattle.lrs_keep.specs.Change.{is_named}
-use Rattle.lrs_routes.specs.Rewriting.{rewritten, with_routes}
-use Rattle.lrs_routes.proofs.Renaming.{recalibrate_makes, named_ours, moves}
-use Rattle.lrs_routes.proofs.Running.{runs_there}
-use Rattle.lrs_verbs.specs.Changes.{route_on}
+use Rattle.lrs_routes.specs.Renaming.{HasSame}
+use Rattle.lrs_routes.proofs.Renaming.{recalibrate_makes, alike}
 use Rattle.lrs_verbs.specs.Checks.{new_marks, recalibrated}
 use Rattle.lrs_verbs.specs.Plans.{IsPlanOf}
+use Rattle.lrs_verbs.proofs.ChangedRoute.{new, at, own_name, plans_alike}
 use Rattle.lrs_verbs.proofs.Known.{route_value}
 use Rattle.lrs_verbs.proofs.NewCourse.{marks_of, good_line}
-use Rattle.lrs_verbs.proofs.Rerouted.{after, at, own_name, same, new_name, new_marks_are, image_is, differs_so, stands}
+use Rattle.lrs_verbs.proofs.Rerouted.{relabelled, after, same, new_name, new_marks_are, can_become}
 
 -- ---- what the verb does
 
@@ -55,41 +53,26 @@ module _ (route : Name) (marks line : List Mark) (i : Image) (r : RouteEntry) (s
   good : is_none (bad_mark (length r.route.course) line) ≡ true
   good = ap is_none (good_line (length r.route.course) marks line marked)
 
+  abbrev change : RouteChange
+  change = relabelled route route (Some line)
+
   abbrev w : RouteEntry
   w = after route route (Some line) i r s found good
 
-  abbrev new : Image
-  new = with_routes (rewritten (r.route.name ∷ []) (w ∷ []) i.routes) i
-
   its_name : w.route.name ≡ r.route.name
-  its_name = new_name route route (Some line) i r s found good ∙ sym (own_name route route (Some line) i r s found good)
+  its_name = new_name route route (Some line) i r s found good ∙ sym (own_name change i r s found)
 
   its_marks : w.route.marks ≡ marks
   its_marks = new_marks_are route route (Some line) i r s found good ∙ (marks_of (length r.route.course) marks line marked).1
 
-  there : In r i.routes
-  there = at route route (Some line) i r s found good
+  still : HasSame r w
+  still = same route route (Some line) i r s found good
 
-  own : (e : RouteEntry) → In e i.routes → same_name w.route.name e.route.name ≡ true → same_name e.route.name r.route.name ≡ true
-  own = named_ours i r w s there (same route route (Some line) i r s found good) its_name
-
-  still_there : (m : Millimetre) → cond (runs_over r.route.course m) (Some w.route.name) (route_on i.routes m) ≡ route_on i.routes m
-  still_there m = elim (runs_over r.route.course m) as (λ b. runs_over r.route.course m ≡ b → cond b (Some w.route.name) (route_on i.routes m) ≡ route_on i.routes m) [
-    | true ↦ λ on. ap Some its_name ∙ sym (runs_there i r m s there on)
-    | false ↦ λ off. refl
-  ] refl
+  made : Makes (verb.Recalibrate route marks) i (new change i r s found)
+  made =
+      subst (λ (m : List Mark). Makes (verb.Recalibrate route m) i (new change i r s found)) its_marks
+      (subst (λ (n : Name). Makes (verb.Recalibrate n w.route.marks) i (new change i r s found)) (own_name change i r s found)
+      (recalibrate_makes i r w s (at change i r s found) still its_name))
 
   pub recalibrates : IsPlanOf (verb.Recalibrate route marks) i (recalibrated route line)
-  recalibrates = record {
-    makes = subst (λ (j : Image). Makes (verb.Recalibrate route marks) i j) (sym (image_is route route (Some line) i r s found good))
-        (subst (λ (m : List Mark). Makes (verb.Recalibrate route m) i new) its_marks
-        (subst (λ (n : Name). Makes (verb.Recalibrate n w.route.marks) i new) (own_name route route (Some line) i r s found good)
-        (recalibrate_makes i r w s there (same route route (Some line) i r s found good) its_name)));
-    differ = differs_so route route (Some line) i r s found good own;
-    tells = record {
-      ground = λ m. ap (λ (j : Image). route_on j.routes m) (image_is route route (Some line) i r s found good) ∙ moves i r w s there (same route route (Some line) i r s found good) own m ∙ still_there m;
-      can_ground = tt;
-      referents = stands route route (Some line) i r s found good own;
-      new_referent = tt;
-    };
-  }
+  recalibrates = plans_alike change i r s found its_name (alike i r w s (at change i r s found) still) (can_become route route (Some line) i r s found good) (verb.Recalibrate route marks) made

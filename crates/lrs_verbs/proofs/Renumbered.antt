@@ -1,5 +1,5 @@
 -- A route under another name.
-use Rattle.std.proofs.Common.{◌≡◌, ℕ, true, false, cond, List, [], ◌∷◌, length, Option, Some, None, Result, Ok, Err, refl, sym, ap, subst, ◌∙◌}
+use Rattle.std.proofs.Common.{◌≡◌, ℕ, true, false, cond, List, length, Option, Some, None, Result, Ok, Err, refl, sym, ap, subst, ◌∙◌}
 use Rattle.std.specs.Prelude.{is_none, is_some}
 use Rattle.std.specs.List.{find, list_any, AllByRecursion}
 use Rattle.std.specs.Option.{option_map, ok_or}
@@ -23,16 +23,19 @@ use Rattle.lrs_machine.specs.Sound.{IsSound}
 use Rattle.lrs_machine.proofs.Members.{In}
 use Rattle.lrs_orderly.specs.Made.{Makes}
 use Rattle.lrs_sound.proofs.Fitting.{fits}
+use Rattle.lrs_keep.specs.declared.change.RouteChange.{RouteChange}
 use Rattle.lrs_keep.specs.Change.{is_named}
-use Rattle.lrs_routes.specs.Rewriting.{rewritten, with_routes}
-use Rattle.lrs_routes.proofs.Renaming.{renumber_makes, own_if_new, moves}
+use Rattle.lrs_routes.specs.Renaming.{HasSame}
+use Rattle.lrs_routes.proofs.Alike.{IsAlike, fit, same_state, moves}
+use Rattle.lrs_routes.proofs.Renaming.{renumber_makes, own_if_new, alike}
 use Rattle.lrs_routes.proofs.Running.{runs_there}
 use Rattle.lrs_verbs.specs.Changes.{route_on}
 use Rattle.lrs_verbs.specs.Checks.{renumbered}
 use Rattle.lrs_verbs.specs.Plans.{IsPlanOf}
+use Rattle.lrs_verbs.proofs.ChangedRoute.{new, at, own_name, image_is, differs_so}
 use Rattle.lrs_verbs.proofs.Known.{route_value}
 use Rattle.lrs_verbs.proofs.NewRoute.{knows}
-use Rattle.lrs_verbs.proofs.Rerouted.{after, at, own_name, same, new_name, new_marks_are, image_is, differs_so, stands}
+use Rattle.lrs_verbs.proofs.Rerouted.{relabelled, after, same, new_name, new_marks_are, can_become}
 
 -- ---- what the verb does
 
@@ -55,11 +58,11 @@ module _ (route name : Name) (i : Image) (r : RouteEntry) (s : IsSound i) (found
   good : is_none (bad_mark (length r.route.course) r.route.marks) ≡ true
   good = (fits r).1
 
+  abbrev change : RouteChange
+  change = relabelled route name None
+
   abbrev w : RouteEntry
   w = after route name None i r s found good
-
-  abbrev new : Image
-  new = with_routes (rewritten (r.route.name ∷ []) (w ∷ []) i.routes) i
 
   its_name : w.route.name ≡ name
   its_name = new_name route name None i r s found good
@@ -68,23 +71,32 @@ module _ (route name : Name) (i : Image) (r : RouteEntry) (s : IsSound i) (found
   its_marks = new_marks_are route name None i r s found good
 
   there : In r i.routes
-  there = at route name None i r s found good
+  there = at change i r s found
 
   no_such : list_any (is_named w.route.name) i.routes ≡ false
   no_such = ap (λ n. list_any (is_named n) i.routes) its_name ∙ sym (knows name i) ∙ fresh
 
+  still : HasSame r w
+  still = same route name None i r s found good
+
+  same_there : IsAlike i r w
+  same_there = alike i r w s there still
+
   own : (e : RouteEntry) → In e i.routes → same_name w.route.name e.route.name ≡ true → same_name e.route.name r.route.name ≡ true
-  own = own_if_new i r w s there (same route name None i r s found good) its_marks no_such
+  own = own_if_new i r w s there still its_marks no_such
+
+  made : Makes (verb.Renumber route name) i (new change i r s found)
+  made =
+      subst (λ (n : Name). Makes (verb.Renumber route n) i (new change i r s found)) its_name
+      (subst (λ (n : Name). Makes (verb.Renumber n w.route.name) i (new change i r s found)) (own_name change i r s found)
+      (renumber_makes i r w s there still its_marks no_such))
 
   pub renumbers : (passed : List Piece) → course_of passed ≡ r.route.course → AllByRecursion IsFilled passed → IsPlanOf (verb.Renumber route name) i (renumbered route name passed)
   renumbers passed of filled = record {
-    makes = subst (λ (j : Image). Makes (verb.Renumber route name) i j) (sym (image_is route name None i r s found good))
-        (subst (λ (n : Name). Makes (verb.Renumber route n) i new) its_name
-        (subst (λ (n : Name). Makes (verb.Renumber n w.route.name) i new) (own_name route name None i r s found good)
-        (renumber_makes i r w s there (same route name None i r s found good) its_marks no_such)));
-    differ = differs_so route name None i r s found good own;
+    makes = subst (λ (j : Image). Makes (verb.Renumber route name) i j) (sym (image_is change i r s found)) made;
+    differ = differs_so change i r s found (fit i r w s there same_there own) (can_become route name None i r s found good);
     tells = record {
-      ground = λ m. ap (λ (j : Image). route_on j.routes m) (image_is route name None i r s found good) ∙ moves i r w s there (same route name None i r s found good) own m
+      ground = λ m. ap (λ (j : Image). route_on j.routes m) (image_is change i r s found) ∙ moves i r w s there same_there own m
           ∙ (λ j. cond (runs_over (sym of j) m) (Some (its_name j)) (route_on i.routes m));
       can_ground = record {
         gone_filled = tt;
@@ -96,7 +108,7 @@ module _ (route name : Name) (i : Image) (r : RouteEntry) (s : IsSound i) (found
         come = λ m h. absurd (false≢true h);
         once = refl;
       };
-      referents = stands route name None i r s found good own;
+      referents = λ n. ap (λ (t : State). t.referents n) (ap state_of (image_is change i r s found) ∙ same_state i r w s there same_there own);
       new_referent = tt;
     };
   }

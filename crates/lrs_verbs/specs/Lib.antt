@@ -11,3 +11,4 @@ pub mod RouteReferents
 pub mod Entering
 pub mod Splits
 pub mod Joins
+pub mod Turns

@@ -7,8 +7,7 @@ ghost use Rattle.lrs_verbs.specs.Planned.{is_planned};
 use lrs_machine::Command;
 use std::marker::Model;
 
-/// A command of one of the verbs `link`, `class`, `route`, `ref`, `unref`, `enter`, `split`, `join`, `renumber`
-/// and `recalibrate`.
+/// A command of a verb that has a body.
 #[derive(Drop)]
 pub struct Planned {
     command: Command,
@@ -41,7 +40,8 @@ impl Planned {
             | Command::Split { .. }
             | Command::Join { .. }
             | Command::Renumber { .. }
-            | Command::Recalibrate { .. } => Some(Planned { command }),
+            | Command::Recalibrate { .. }
+            | Command::Turn { .. } => Some(Planned { command }),
             _ => None,
         }
     }

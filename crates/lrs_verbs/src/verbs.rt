@@ -14,6 +14,7 @@ mod referents;
 mod renumber;
 mod route;
 mod split;
+mod turn;
 mod unref;
 
 use crate::inventory::Inventory;
@@ -30,6 +31,7 @@ use renumber::plan_renumber;
 use route::plan_route;
 use split::plan_split;
 use std::alloc::Global;
+use turn::plan_turn;
 use unref::plan_unref;
 
 /// What a command would change of an inventory.
@@ -59,6 +61,7 @@ pub fn plan_command(alloc: Global, inventory: &Inventory, command: &Planned) -> 
             *route,
             marks.as_slice(),
         ),
+        Command::Turn { route } => plan_turn(alloc, inventory, *route),
         _ => unreachable!(),
     }
 }

@@ -1,0 +1,24 @@
+-- A route seen from its other end, as its plan makes it.
+use Rattle.std.specs.Prelude.{◌≡◌, true, false, map, length, Some}
+use Rattle.lrs_measure.specs.Lists.{each_two}
+use Rattle.lrs_element.specs.Course.{turned, is_too_long}
+use Rattle.lrs_element.specs.Marks.{mirrored}
+use Rattle.lrs_events.specs.Spans.{are_rows, span_before}
+use Rattle.lrs_canonical.specs.Turns.{IsTurned}
+use Rattle.lrs_machine.specs.declared.image.RouteEntry.{RouteEntry}
+use Rattle.lrs_keep.specs.declared.change.RouteChange.{RouteChange}
+use Rattle.lrs_keep.specs.Change.{spans_after}
+use Rattle.lrs_routes.specs.Turning.{from_end}
+
+-- What becomes of the route of an entry: all its referents go, and come where they are from its other end.
+pub record IsTurnedBy (e : RouteEntry) (c : RouteChange) : Type 0 where
+  pub route : c.route ≡ e.route.name
+  pub name : c.name ≡ e.route.name
+  pub course : c.course ≡ Some (turned e.route.course)
+  pub short : is_too_long (turned e.route.course) ≡ false
+  pub marks : c.marks ≡ Some (mirrored e.route.marks)
+  pub refs_gone : c.refs.gone ≡ map (λ q. q.name) e.route.refs
+  pub refs_come : c.refs.come ≡ map (from_end (length e.route.course)) e.route.refs
+  pub rows : are_rows (spans_after c e.spans) ≡ true
+  pub spans_gone : each_two span_before c.spans_gone ≡ true
+  pub turned : IsTurned (length e.route.course) e.spans (spans_after c e.spans)
