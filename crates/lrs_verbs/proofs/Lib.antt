@@ -16,6 +16,7 @@ pub mod EntryChecks
 pub mod TakenInPlace
 pub mod RetireChecks
 pub mod RetiredPlaces
+pub mod Retirement
 pub mod Unmoved
 pub mod NewLink
 pub mod NewClass
