@@ -7,7 +7,7 @@ use Rattle.std.proofs.lemmas.Bool.{false≢true, both_ways, not-true, and_parts,
 use Rattle.std.proofs.lemmas.List.{length-take-le, length-drop}
 use Rattle.std.proofs.lemmas.List.Folds.{list_all-map}
 use Rattle.lrs_measure.specs.Lists.{each_two, is_nothing}
-use Rattle.lrs_measure.specs.Texts.{same_name}
+use Rattle.lrs_measure.specs.Texts.{Name, same_name}
 use Rattle.lrs_element.specs.declared.link.Ground.{Ground}
 use Rattle.lrs_element.specs.Course.{is_too_long}
 use Rattle.lrs_element.specs.Marks.{bad_mark, last_mark, is_inner_mark, marks_to, marks_from}
@@ -167,6 +167,17 @@ module _ (assets : List Asset) (course : List Ground) (rows : List Span) (spans 
       let both = and_parts (nat_le r.to (length course)) (list_any (λ a. nat_eq a.number r.asset && same_name a.class r.class) assets) (all_at (is_span assets (length course)) r rows all_spans m) in
       and_from (nat_le q.to len) (list_any (λ a. nat_eq a.number q.asset && same_name a.class q.class) assets) (le-leb q.to len (ends (leb-true r.to (length course) both.0)))
       ((λ k. list_any (λ a. nat_eq a.number (sym of.asset k) && same_name a.class (sym of.class k)) assets) ∙ both.1)
+
+  -- Canonical rows that say nothing that the route's rows do not say are rows of the route.
+  pub fewer_have_rows : (fewer : List Span) → are_rows fewer ≡ true → ((class : Name) (asset j : ℕ) (s : LinkSide) → is_member fewer class asset j s ≡ true → is_member rows class asset j s ≡ true)
+      → are_spans_of assets (record { course = course; rows = fewer }) ≡ true
+  fewer_have_rows fewer canonical said = and_from (are_rows fewer) (list_all (is_span assets (length course)) fewer) canonical
+      (all_of (is_span assets (length course)) fewer (λ q m.
+      let filled = filled_in fewer canonical q m in
+      let s = (side_at q.side).0 in
+      let r = found q rows (q.to - 1) s (said q.class q.asset (q.to - 1) s (its_end q fewer m filled)) in
+      let high = r.2.high in
+      is_theirs q r.0 (q.to - 1) (length course) r.1 r.2 (λ h. omega (arith, high, h, filled))))
 
 module _ (assets : List Asset) (course : List Ground) (at : ℕ) (rows front rear : List Span) (within : at ≤ length course) (cut : IsCut at rows front rear) (spans : are_spans_of assets (record { course = course; rows = rows }) ≡ true) where
   pub front_spans : are_rows front ≡ true → are_spans_of assets (record { course = take at course; rows = front }) ≡ true

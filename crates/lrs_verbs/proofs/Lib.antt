@@ -13,6 +13,10 @@ pub mod NewRow
 pub mod NewParts
 pub mod NewEntry
 pub mod EntryChecks
+pub mod TakenInPlace
+pub mod RetireChecks
+pub mod RetiredPlaces
+pub mod Retirement
 pub mod Unmoved
 pub mod NewLink
 pub mod NewClass

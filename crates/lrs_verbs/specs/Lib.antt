@@ -9,6 +9,7 @@ pub mod Checks
 pub mod Extents
 pub mod RouteReferents
 pub mod Entering
+pub mod Taking
 pub mod Splits
 pub mod Joins
 pub mod Turns

@@ -37,6 +37,7 @@ impl Planned {
             | Command::Ref { .. }
             | Command::Unref { .. }
             | Command::Enter(_)
+            | Command::Retire { .. }
             | Command::Split { .. }
             | Command::Join { .. }
             | Command::Renumber { .. }

@@ -60,7 +60,7 @@ fn enter_on(
 }
 
 /// Whether a location is not one of an asset of this kind: a point has no end, and any other one has.
-fn is_wrong_kind(kind: Kind, location: EventLocation) -> bool
+pub fn is_wrong_kind(kind: Kind, location: EventLocation) -> bool
     ensures { result ≡ is_wrong_kind kind location.to }
 {
     let has_end = location.to().is_some();
