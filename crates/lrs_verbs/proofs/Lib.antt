@@ -25,6 +25,7 @@ pub mod Rerouted
 pub mod Recalibrated
 pub mod Renumbered
 pub mod SplitRoute
+pub mod Closed
 pub mod Made
 pub mod RouteReferents
 pub mod GoneReferent

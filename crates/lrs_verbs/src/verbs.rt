@@ -5,6 +5,7 @@ ghost use Rattle.lrs_verbs.specs.Plans.{Plans};
 mod changes;
 mod checks;
 mod class;
+mod close;
 mod enter;
 mod link;
 mod new_referent;
@@ -19,6 +20,7 @@ use crate::inventory::Inventory;
 use crate::plan::{Plan, Stop};
 use crate::planned::Planned;
 use class::plan_class;
+use close::plan_close;
 use enter::plan_enter;
 use link::plan_link;
 use lrs_machine::Command;
@@ -56,6 +58,7 @@ pub fn plan_command(alloc: Global, inventory: &Inventory, command: &Planned) -> 
             *route,
             marks.as_slice(),
         ),
+        Command::Close { route } => plan_close(alloc, inventory, *route),
         _ => unreachable!(),
     }
 }
