@@ -32,6 +32,7 @@ pub mod Renumbered
 pub mod SplitRoute
 pub mod JoinRoutes
 pub mod TurnedRoute
+pub mod Closed
 pub mod Made
 pub mod RouteReferents
 pub mod GoneReferent

@@ -13,3 +13,4 @@ pub mod Taking
 pub mod Splits
 pub mod Joins
 pub mod Turns
+pub mod Closings

@@ -5,6 +5,7 @@ ghost use Rattle.lrs_verbs.specs.Plans.{Plans};
 mod changes;
 mod checks;
 mod class;
+mod close;
 mod enter;
 mod join;
 mod link;
@@ -22,6 +23,7 @@ use crate::inventory::Inventory;
 use crate::plan::{Plan, Stop};
 use crate::planned::Planned;
 use class::plan_class;
+use close::plan_close;
 use enter::plan_enter;
 use join::plan_join;
 use link::plan_link;
@@ -68,6 +70,7 @@ pub fn plan_command(alloc: Global, inventory: &Inventory, command: &Planned) -> 
             *route,
             marks.as_slice(),
         ),
+        Command::Close { route } => plan_close(alloc, inventory, *route),
         Command::Turn { route } => plan_turn(alloc, inventory, *route),
         _ => unreachable!(),
     }

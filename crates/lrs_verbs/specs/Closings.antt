@@ -1,0 +1,25 @@
+-- What a close changes.
+use Rattle.std.specs.Prelude.{List, [], map, Some, None}
+use Rattle.lrs_measure.specs.Texts.{Name}
+use Rattle.lrs_element.specs.declared.link.Piece.{Piece}
+use Rattle.lrs_position.specs.declared.route.Referent.{Referent}
+use Rattle.lrs_events.specs.declared.part.Gone.{Gone}
+use Rattle.lrs_keep.specs.declared.change.Difference.{Difference}
+use Rattle.lrs_keep.specs.Change.{no_difference}
+use Rattle.lrs_verbs.specs.declared.plan.Plan.{Plan}
+use Rattle.lrs_verbs.specs.Plans.{plan_of}
+
+-- the names of referents
+abbrev pub names_of : List Referent → List Name
+names_of refs = map (λ q. q.name) refs
+
+-- the difference by which the route of this name goes, and what these rows of the ledger say
+abbrev pub without_route : Name → List Gone → Difference
+without_route route gone = record no_difference { dropped = Some route; gone = gone }
+
+-- the plan of it: its ground, these pieces, is free, and its referents, those of these names, stand nowhere any more
+abbrev pub closing : (route : Name) (gone : List Gone) (ground : List Piece) (names : List Name) → Plan
+closing route gone ground names = record (plan_of (without_route route gone)) {
+  ground = Some (record { route = route; gone = ground; passed = []; come = [] });
+  referents = record { come = None; gone = names };
+}

@@ -1,0 +1,64 @@
+//! A route goes, with what lies on it.
+
+ghost use Rattle.std.specs.Prelude.{◌≡◌, IfOk};
+ghost use Rattle.lrs_machine.specs.declared.command.Command.TheVariants as verb;
+ghost use Rattle.lrs_verbs.specs.Closings.{names_of, closing};
+ghost use Rattle.lrs_verbs.specs.Plans.{Plans};
+
+use crate::inventory::Inventory;
+use crate::plan::{GroundChange, Plan, Stop};
+use crate::verbs::changes::pieces_of;
+use crate::verbs::checks::route_named;
+use lrs_element::Piece;
+use lrs_events::Gone;
+use lrs_gone::taken_away;
+use lrs_measure::Rows;
+use lrs_position::{RefName, Referent, RouteName};
+use std::alloc::{AllocError, Global};
+
+pub fn plan_close(alloc: Global, inventory: &Inventory, route: RouteName) -> Result<Plan, Stop>
+    ensures { Plans (verb.Close route) inventory.now result }
+{
+    inventory.prove_sound();
+    let entry = route_named(inventory, &route)?;
+    let edit = inventory.edits() + 1;
+    let course = &entry.route.course;
+    let gone = taken_away(alloc, edit, entry.spans.rows(), course, true)?;
+    let freed = pieces_of(alloc, course)?;
+    let names = names_of(alloc, entry.route.refs.as_slice())?;
+    Ok(closing(alloc, route, gone, freed, names))
+}
+
+/// The names of referents.
+fn names_of(alloc: Global, refs: &[Referent]) -> Result<Rows<RefName>, AllocError>
+    ensures { IfOk result (λ names. names ≡ names_of refs.now) }
+{
+    let mut names = Vec::with_capacity(alloc, refs.len())?;
+    for referent in refs {
+        names.push(referent.name)?;
+    }
+    Ok(Rows::from_vec(names))
+}
+
+/// The plan by which a route goes: its ground is free, and its referents stand nowhere any more.
+fn closing(
+    alloc: Global,
+    route: RouteName,
+    gone: Rows<Gone>,
+    freed: Rows<Piece>,
+    names: Rows<RefName>,
+) -> Plan
+    ensures { result ≡ closing route gone freed names }
+{
+    let mut plan = Plan::none(alloc);
+    plan.difference.dropped = Some(route);
+    plan.difference.gone = gone;
+    plan.ground = Some(GroundChange {
+        route,
+        gone: freed,
+        passed: Rows::new(alloc),
+        come: Rows::new(alloc),
+    });
+    plan.referents.gone = names;
+    plan
+}
