@@ -1,0 +1,4 @@
+pub mod Appended
+pub mod Once
+pub mod GoneInOrder
+pub mod GoneParts

@@ -11,7 +11,6 @@ pub mod FirstHolder
 pub mod InPlace
 pub mod NewRow
 pub mod NewParts
-pub mod Appended
 pub mod NewEntry
 pub mod EntryChecks
 pub mod Unmoved

@@ -30,6 +30,7 @@ use Rattle.lrs_machine.specs.Machine.{◌>>◌, refuse_if, refuse_at}
 use Rattle.lrs_verbs.specs.Checks.{new_course, new_marks}
 use Rattle.lrs_events.specs.Places.{differs}
 use Rattle.lrs_machine.specs.Sound.{is_on_a_link}
+use Rattle.lrs_gone.proofs.Appended.{each_two-append}
 use Rattle.lrs_machine.proofs.Members.{In, any_found, any_of, all_of, flat_map_found}
 use Rattle.lrs_verbs.proofs.Positions.{none_passes}
 use Rattle.lrs_routes.proofs.InOrder.{is_false}
@@ -111,14 +112,6 @@ module _ {X : Type 0} where
       and_from (list_all (test x) xs) (each_two test xs)
       (all_of (test x) xs (λ y m. let at = place_in y x xs m in subst (λ z. test x z ≡ true) at.2 (h 0 (suc at.0) x (omega arith) (omega (arith, at.1)))))
       (each_two-from_places test xs (λ i j d less inside. h (suc i) (suc j) d (omega (arith, less)) (omega (arith, inside))))
-
-  pub each_two-append : (test : X → X → Bool) (xs ys : List X) → each_two test xs ≡ true → each_two test ys ≡ true → ((x y : X) → In x xs → In y ys → test x y ≡ true) → each_two test (xs ++ ys) ≡ true
-  each_two-append test [] ys h k across = k
-  each_two-append test (x ∷ xs) ys h k across =
-      let both = and_parts (list_all (test x) xs) (each_two test xs) h in
-      and_from (list_all (test x) (xs ++ ys)) (each_two test (xs ++ ys))
-      (list_all-append (test x) xs ys ∙ and_from (list_all (test x) xs) (list_all (test x) ys) both.0 (all_of (test x) ys (λ y m. across x y (inl refl) m)))
-      (each_two-append test xs ys both.1 k (λ z y n m. across z y (inr n) m))
 
 -- ---- the millimetres of pieces
 

@@ -58,14 +58,14 @@ use Rattle.lrs_lanes.proofs.Inserted.{length-insert_by}
 use Rattle.lrs_routes.proofs.InOrder.{and_weaker, all-insert_by, any-insert_by, each_two-insert_by, is_comparable}
 use Rattle.lrs_routes.proofs.Apart.{nat_eq-comm}
 use Rattle.lrs_verbs.proofs.NewClass as new_class
-use Rattle.lrs_verbs.proofs.NewCourse.{each_two-append}
+use Rattle.lrs_gone.proofs.Appended.{each_two-append}
 use Rattle.lrs_verbs.proofs.Located.{route_in}
 use Rattle.lrs_verbs.proofs.Holding.{alone}
 use Rattle.lrs_verbs.proofs.FirstHolder.{spans_entry}
 use Rattle.lrs_verbs.proofs.InPlace.{DifferAt, map_same, made_same, any_more, all_still, in_place, names_stay, ground_stays}
 use Rattle.lrs_verbs.proofs.NewRow.{IsNew, still_rows}
 use Rattle.lrs_verbs.proofs.NewParts.{parts_apart, of_edit, of_asset, few}
-use Rattle.lrs_verbs.proofs.Appended.{all-append, later_part, apart_by_edit, no_pairs, pairs-append}
+use Rattle.lrs_gone.proofs.Appended.{all-append, later_part, apart_by_edit, no_pairs, pairs-append}
 
 keep_all : {X : Type 0} (xs : List X) → filter (λ x. true) xs ≡ xs
 keep_all [] = refl
