@@ -1,2 +1,4 @@
 pub mod Leaving
 pub mod Closing
+pub mod Replaced
+pub mod Realigning
