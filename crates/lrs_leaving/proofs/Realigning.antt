@@ -1,12 +1,12 @@
 -- A realignment.
 use Rattle.std.proofs.Common.{◌≡◌, ℕ, zero, suc, ◌+◌, ◌-◌, ◌<◌, ◌≤◌, Bool, true, false, cond, ◌⊎◌, inl, inr, List, [], ◌∷◌, ◌++◌, map, take, drop, length, Option, Some, None, Ok, refl, sym, ap, subst, ◌∙◌, arith, length-append}
 use Rattle.std.proofs.Math.Bool.{or-false}
-use Rattle.std.specs.Prelude.{◌||◌, ◌&&◌, not, nat_lt, nat_le, nat_eq, slice_get, unwrap_or}
+use Rattle.std.specs.Prelude.{◌&&◌, not, nat_lt, nat_le, nat_eq, slice_get, unwrap_or}
 use Rattle.std.specs.Option.{option_map}
 use Rattle.std.specs.List.{list_any, list_all, flat_map, filter_map}
 use Rattle.std.specs.Cmp.Lexicographic.{bytes_decides}
-use Rattle.std.proofs.lemmas.Bool.{both_ways, not-true, and_from, or_left, cases_Bool, cases_lt, ltb-true, lt-ltb, le-ltb, le-leb, lt-leb, eq-eqb}
-use Rattle.std.proofs.lemmas.List.{append-nil}
+use Rattle.std.proofs.lemmas.Bool.{both_ways, and_parts, and_from, leb-true, or_left, cases_Bool, cases_lt, lt-ltb, le-ltb, le-leb, lt-leb, eq-eqb}
+use Rattle.std.proofs.lemmas.List.{append-nil, length-drop}
 use Rattle.std.proofs.lemmas.List.Folds.{list_all-append, list_any-append}
 use Rattle.lrs_measure.specs.Lists.{each_two}
 use Rattle.lrs_measure.specs.Texts.{Name, name_cmp, same_name}
@@ -18,10 +18,17 @@ use Rattle.lrs_element.specs.Course.{Millimetre, course_of, is_at, runs_over, me
 use Rattle.lrs_index.proofs.Pieces.{across, behind}
 use Rattle.lrs_position.specs.declared.route.Referent.{Referent}
 use Rattle.lrs_position.specs.Locating.{Alignment}
+use Rattle.lrs_events.specs.declared.class.Asset.{Asset}
 use Rattle.lrs_events.specs.declared.part.Gone.{Gone}
+use Rattle.lrs_events.specs.declared.side.LinkSide.{LinkSide}
 use Rattle.lrs_events.specs.declared.span.Span.{Span}
+use Rattle.lrs_events.specs.Members.{is_member}
 use Rattle.lrs_events.specs.Places.{Place, differs, lies_on}
-use Rattle.lrs_events.specs.Spans.{holds_by_spans}
+use Rattle.lrs_events.specs.Spans.{are_rows, holds_by_spans}
+use Rattle.lrs_canonical.proofs.Rows.{rows_from}
+use Rattle.lrs_canonical.proofs.Unique.{some_side}
+use Rattle.lrs_realign.specs.Realigning.{IsRealigned}
+use Rattle.lrs_realign.proofs.GoneOn.{its_end, said_by}
 use Rattle.lrs_machine.specs.declared.command.Command.TheVariants as verb
 use Rattle.lrs_machine.specs.declared.image.RouteEntry.{RouteEntry}
 use Rattle.lrs_machine.specs.declared.image.Image.{Image}
@@ -30,8 +37,8 @@ use Rattle.lrs_machine.specs.Register.{put}
 use Rattle.lrs_machine.specs.State.{State, Abandoned}
 use Rattle.lrs_machine.specs.Image.{state_of, holds_on, referents_on, referent_entry, route_entry}
 use Rattle.lrs_machine.specs.Machine.{attempt, abandon, set_route, do_realign}
-use Rattle.lrs_machine.specs.Sound.{is_on_a_link, are_spans_of, route_before, IsSound}
-use Rattle.lrs_machine.proofs.Members.{In, any_found, any_of, all_at, all_of, In-take, In-drop, In-append_left, In-append_right, In-append_cases, In-flat_map, flat_map_found}
+use Rattle.lrs_machine.specs.Sound.{is_on_a_link, is_span, are_spans_of, IsSound}
+use Rattle.lrs_machine.proofs.Members.{In, any_found, any_of, all_at, all_of, In-take, In-drop, In-append_right, In-append_cases, In-flat_map, flat_map_found}
 use Rattle.lrs_orderly.specs.Made.{Makes}
 use Rattle.lrs_sound.proofs.Coursed.{joined, across_of}
 use Rattle.lrs_keep.proofs.Tables.{routes_in_order}
@@ -45,8 +52,9 @@ use Rattle.lrs_routes.proofs.Renaming.{own_names}
 use Rattle.lrs_routes.proofs.Rewriting.{are_unlike, its_course, old_few}
 use Rattle.lrs_routes.proofs.Splitting.{get_front, get_rear}
 use Rattle.lrs_routes.proofs.Standing.{option_found, found_option}
-use Rattle.lrs_leaving.specs.Leaving.{with_left, LeaveGround, LeavingMakesState, LeavingIsOrderly}
-use Rattle.lrs_leaving.specs.Realigning.{replaced, is_off, moved, IsTaken, IsRealignment}
+use Rattle.lrs_leaving.specs.Leaving.{with_left, LeaveGround}
+use Rattle.lrs_leaving.specs.Realigning.{replaced, is_off, moved, IsTaken, IsRealignment, RealignMakes, RealignedHasRows}
+use Rattle.lrs_leaving.proofs.Leaving.{leaving_makes_state, leaving_is_orderly}
 use Rattle.lrs_leaving.proofs.Replaced.{front, part, rear, three_parts, front_length, stretch_holds, realigned_holds}
 
 -- a referent off the stretch stands before or behind it
@@ -343,13 +351,72 @@ module _ (i : Image) (r w : RouteEntry) (from to : ℕ) (come : List Piece) (mar
   unfolding attempt
   attempts pieces e = ap (λ l. do_realign n r.route.name (record { from = from; to = to }) l marks (state_of i)) e ∙ is.done
 
-  module _ (makes_state : LeavingMakesState) (is_orderly : LeavingIsOrderly) where
-    same_state : state_of (with_left dropped written gone i) ≡ record (abandon n stretch (state_of i)) { routes = record { rows = map route_entry (rewritten dropped written i.routes) } }
-    same_state = makes_state i dropped written gone stretch (holds_by_spans c led.rows) s fit led.gone_are leave
+  pub same_state : state_of (with_left dropped written gone i) ≡ record (abandon n stretch (state_of i)) { routes = record { rows = map route_entry (rewritten dropped written i.routes) } }
+  same_state = leaving_makes_state i dropped written gone stretch (holds_by_spans c led.rows) s fit led.gone_are leave
 
-    makes : (pieces : Option (List Piece)) → unwrap_or pieces [] ≡ come → Makes (verb.Realign r.route.name from to pieces marks) i (with_left dropped written gone i)
-    makes pieces e = record {
-      state = attempts pieces e ∙ ap Ok (state_rows ∙ sym same_state);
-      edits = refl;
-      orderly = λ room. is_orderly i dropped written Abandoned (holds_by_spans c led.rows) gone s fit led.gone_are few;
-    }
+  pub makes : (pieces : Option (List Piece)) → unwrap_or pieces [] ≡ come → Makes (verb.Realign r.route.name from to pieces marks) i (with_left dropped written gone i)
+  makes pieces e = record {
+    state = attempts pieces e ∙ ap Ok (state_rows ∙ sym same_state);
+    edits = refl;
+    orderly = λ room. leaving_is_orderly i dropped written Abandoned (holds_by_spans c led.rows) gone s fit led.gone_are few;
+  }
+
+pub realign_makes : RealignMakes
+realign_makes i r w from to pieces marks gone s is led = makes i r w from to (unwrap_or pieces []) marks gone s is led pieces refl
+
+-- ---- rows on a realigned route
+
+module _ (assets : List Asset) (course ground : List Ground) (from to : ℕ) (rows new : List Span) (low : from ≤ to) (high : to ≤ length course) (canonical : are_rows new ≡ true) (is : IsRealigned from to (length ground) rows new)
+    (spans : are_spans_of assets (record { course = course; rows = rows }) ≡ true) where
+  abbrev size : ℕ
+  size = length (replaced from to ground course)
+
+  size_is : size ≡ (from + length ground) + (length course - to)
+  size_is =
+      let a = length-append (take from course ++ ground) (drop to course) in
+      let b = length-append (take from course) ground in
+      let f = front_length course from to low high in
+      let d = length-drop to course in
+      omega (arith, a, b, f, d)
+
+  all_spans : list_all (is_span assets (length course)) rows ≡ true
+  all_spans = (and_parts (are_rows rows) (list_all (is_span assets (length course)) rows) spans).1
+
+  -- a row of the class and asset of one of the old rows
+  is_theirs : (q : Span) (j : ℕ) (s : LinkSide) → is_member rows q.class q.asset j s ≡ true → (j < length course → q.to ≤ size) → is_span assets size q ≡ true
+  is_theirs q j s h ends =
+      let r = said_by rows q.class q.asset j s h in
+      let both = and_parts (nat_le r.0.to (length course)) (list_any (λ a. nat_eq a.number r.0.asset && same_name a.class r.0.class) assets) (all_at (is_span assets (length course)) r.0 rows all_spans r.1) in
+      let short = leb-true r.0.to (length course) both.0 in
+      let over = r.2.high in
+      and_from (nat_le q.to size) (list_any (λ a. nat_eq a.number q.asset && same_name a.class q.class) assets) (le-leb q.to size (ends (omega (arith, over, short))))
+      ((λ k. list_any (λ a. nat_eq a.number (sym r.2.of_asset k) && same_name a.class (sym r.2.of_class k)) assets) ∙ both.1)
+
+  each : (q : Span) → In q new → is_span assets size q ≡ true
+  each q m = by (cases_lt (q.to - 1) from) (cases_lt (q.to - 1) (from + length ground))
+    where
+      some : q.from < q.to
+      some = ((rows_from new canonical).full q m).some
+
+      side : LinkSide
+      side = some_side q.side
+
+      says : is_member new q.class q.asset (q.to - 1) side ≡ true
+      says = its_end q new m some
+
+      by : (q.to - 1 < from) ⊎ (from ≤ q.to - 1) → (q.to - 1 < from + length ground) ⊎ (from + length ground ≤ q.to - 1) → is_span assets size q ≡ true
+      by (inl a) b = let e = size_is in is_theirs q (q.to - 1) side (sym (is.before q.class q.asset (q.to - 1) side a) ∙ says) (λ l. omega (arith, a, e, some))
+      by (inr a) (inl b) =
+          let at : (q.to - 1 - from) + from ≡ q.to - 1 = omega (arith, a) in
+          absurd (both_ways (is_member new q.class q.asset (q.to - 1) side) (ap (λ j. is_member new q.class q.asset j side) (sym at) ∙ is.inside q.class q.asset (q.to - 1 - from) side (omega (arith, a, b))) says)
+      by (inr a) (inr b) =
+          let at : (q.to - 1 - (from + length ground)) + (from + length ground) ≡ q.to - 1 = omega (arith, b) in
+          let e = size_is in
+          is_theirs q ((q.to - 1 - (from + length ground)) + to) side
+          (sym (is.behind q.class q.asset (q.to - 1 - (from + length ground)) side) ∙ ap (λ j. is_member new q.class q.asset j side) at ∙ says) (λ l. omega (arith, l, b, e, some))
+
+  pub on_it : are_spans_of assets (record { course = replaced from to ground course; rows = new }) ≡ true
+  on_it = and_from (are_rows new) (list_all (is_span assets size) new) canonical (all_of (is_span assets size) new each)
+
+pub realigned_has_rows : RealignedHasRows
+realigned_has_rows assets course ground from to rows new low high canonical is spans = on_it assets course ground from to rows new low high canonical is spans

@@ -25,7 +25,7 @@ use Rattle.lrs_leaving.specs.Realigning.{replaced}
 -- what is picked of a course lies on it
 picked_lies : (m : Picks) (j : ℕ) (c : List Ground) (p : Place) → is_picked m j c p ≡ true → lies_on c p ≡ true
 picked_lies m j [] p h = h
-picked_lies m j (g ∷ gs) p h = by (or_cases (m j Left && same_place p (beside g Left)) ((m j Right && same_place p (beside g Right)) || is_picked m (j + 1) gs p) h)
+picked_lies m j (g ∷ gs) p h = by (or_cases (m j Left && same_place p (beside g Left)) ((m j Right && same_place p (beside g Right)) || is_picked m (j + 1) gs p) h) (picked_lies m (j + 1) gs p)
   where
     here : (s : LinkSide) → (m j s && same_place p (beside g s)) ≡ true → lies_on (g ∷ gs) p ≡ true
     here s e =
@@ -35,13 +35,13 @@ picked_lies m j (g ∷ gs) p h = by (or_cases (m j Left && same_place p (beside 
         or_left (is_at (p.link, p.mm) g) (lies_on gs p)
         (and_from (nat_eq g.link p.link) (nat_eq g.mm p.mm) (eq-eqb g.link p.link (sym (eqb-true p.link g.link k.0))) (eq-eqb g.mm p.mm (sym (eqb-true p.mm g.mm k.1))))
 
-    later : ((m j Right && same_place p (beside g Right)) ≡ true) ⊎ (is_picked m (j + 1) gs p ≡ true) → lies_on (g ∷ gs) p ≡ true
-    later (inl e) = here Right e
-    later (inr e) = or_right (is_at (p.link, p.mm) g) (lies_on gs p) (picked_lies m (j + 1) gs p e)
+    later : ((m j Right && same_place p (beside g Right)) ≡ true) ⊎ (is_picked m (j + 1) gs p ≡ true) → (is_picked m (j + 1) gs p ≡ true → lies_on gs p ≡ true) → lies_on (g ∷ gs) p ≡ true
+    later (inl e) rest = here Right e
+    later (inr e) rest = or_right (is_at (p.link, p.mm) g) (lies_on gs p) (rest e)
 
-    by : ((m j Left && same_place p (beside g Left)) ≡ true) ⊎ (((m j Right && same_place p (beside g Right)) || is_picked m (j + 1) gs p) ≡ true) → lies_on (g ∷ gs) p ≡ true
-    by (inl e) = here Left e
-    by (inr e) = later (or_cases (m j Right && same_place p (beside g Right)) (is_picked m (j + 1) gs p) e)
+    by : ((m j Left && same_place p (beside g Left)) ≡ true) ⊎ (((m j Right && same_place p (beside g Right)) || is_picked m (j + 1) gs p) ≡ true) → (is_picked m (j + 1) gs p ≡ true → lies_on gs p ≡ true) → lies_on (g ∷ gs) p ≡ true
+    by (inl e) rest = here Left e
+    by (inr e) rest = later (or_cases (m j Right && same_place p (beside g Right)) (is_picked m (j + 1) gs p) e) rest
 
 -- a test that passes nowhere along a course picks nothing of it
 picked_nowhere : (m : Picks) (j : ℕ) (c : List Ground) (p : Place) → ((k : ℕ) (s : LinkSide) → j ≤ k → k < j + length c → m k s ≡ false) → is_picked m j c p ≡ false
@@ -104,39 +104,36 @@ module _ (c : List Ground) (from to : ℕ) (low : from ≤ to) (high : to ≤ le
     not_part : lies_on part p ≡ false → (m : Picks) → is_picked m from part p ≡ false
     not_part off m = is_false (is_picked m from part p) (λ h. both_ways (lies_on part p) off (picked_lies m from part p h))
 
+    abbrev parts : Bool → Bool → Bool → Bool
+    parts x y z = x || (y || z)
+
     module _ (rows : List Span) (a : ℕ) where
+      abbrev all : Picks
+      all = is_held rows a
+
       -- the rows of the stretch hold what the rows held of it
       pub stretch_holds : (taken : List Span) → IsThat (λ class asset j s. is_within from to j) rows taken → holds_by_spans c taken a p ≡ (holds_by_spans c rows a p && lies_on part p)
       stretch_holds taken is = held_three taken a p ∙ by (cases_Bool (lies_on part p)) ∙ sym (ap (λ b. b && lies_on part p) (held_three rows a p))
         where
-          abbrev all : Picks
-          all = is_held rows a
-
-          abbrev some : Picks
-          some = is_held taken a
-
-          there : (j : ℕ) (s : LinkSide) → some j s ≡ (all j s && is_within from to j)
+          there : (j : ℕ) (s : LinkSide) → is_held taken a j s ≡ (all j s && is_within from to j)
           there j s = held_alike a j j s taken rows (is_within from to j) (λ class. is class a j s)
 
-          before : is_picked some 0 front p ≡ false
-          before = let f = front_length in picked_nowhere some 0 front p (λ j s l g.
+          before : is_picked (is_held taken a) 0 front p ≡ false
+          before = let f = front_length in picked_nowhere (is_held taken a) 0 front p (λ j s l g.
               there j s ∙ ap (λ b. all j s && (b && nat_lt j to)) (lt-leb from j (omega (arith, f, g))) ∙ and_false (all j s))
 
-          behind_it : is_picked some to rear p ≡ false
-          behind_it = picked_nowhere some to rear p (λ j s l g.
+          behind_it : is_picked (is_held taken a) to rear p ≡ false
+          behind_it = picked_nowhere (is_held taken a) to rear p (λ j s l g.
               there j s ∙ ap (λ b. all j s && (nat_le from j && b)) (le-ltb j to l) ∙ ap (λ b. all j s && b) (and_false (nat_le from j)) ∙ and_false (all j s))
 
-          inside : is_picked some from part p ≡ is_picked all from part p
-          inside = let g = part_length in picked-within some all from part p (λ j s l h.
+          inside : is_picked (is_held taken a) from part p ≡ is_picked all from part p
+          inside = let g = part_length in picked-within (is_held taken a) all from part p (λ j s l h.
               there j s ∙ (λ i. all j s && (le-leb from j l i && lt-ltb j to (omega (arith, g, h, low)) i)) ∙ and_true (all j s))
 
-          abbrev parts : Bool → Bool → Bool → Bool
-          parts x y z = x || (y || z)
-
-          by : (lies_on part p ≡ true) ⊎ (lies_on part p ≡ false) → parts (is_picked some 0 front p) (is_picked some from part p) (is_picked some to rear p)
+          by : (lies_on part p ≡ true) ⊎ (lies_on part p ≡ false) → parts (is_picked (is_held taken a) 0 front p) (is_picked (is_held taken a) from part p) (is_picked (is_held taken a) to rear p)
               ≡ (parts (is_picked all 0 front p) (is_picked all from part p) (is_picked all to rear p) && lies_on part p)
           by (inl on) = (λ i. parts (before i) (inside i) (behind_it i)) ∙ sym (and_true (is_picked all from part p || false)) ∙ sym (λ i. parts (not_front on all i) (is_picked all from part p) (not_rear on all i) && on i)
-          by (inr off) = (λ i. parts (before i) (not_part off some i) (behind_it i))
+          by (inr off) = (λ i. parts (before i) (not_part off (is_held taken a) i) (behind_it i))
               ∙ sym (and_false (parts (is_picked all 0 front p) (is_picked all from part p) (is_picked all to rear p)))
               ∙ sym (λ i. parts (is_picked all 0 front p) (is_picked all from part p) (is_picked all to rear p) && off i)
 
@@ -144,37 +141,31 @@ module _ (c : List Ground) (from to : ℕ) (low : from ≤ to) (high : to ≤ le
       pub realigned_holds : (ground : List Ground) (new : List Span) → IsRealigned from to (length ground) rows new → holds_by_spans (replaced from to ground c) new a p ≡ (holds_by_spans c rows a p && not (lies_on part p))
       realigned_holds ground new is =
           rows_hold (replaced from to ground c) new a p
-          ∙ picked-append now 0 (front ++ ground) rear p
-          ∙ ap (λ t. t || is_picked now (0 + length (front ++ ground)) rear p) (picked-append now 0 front ground p)
+          ∙ picked-append (is_held new a) 0 (front ++ ground) rear p
+          ∙ ap (λ t. t || is_picked (is_held new a) (0 + length (front ++ ground)) rear p) (picked-append (is_held new a) 0 front ground p)
           ∙ (λ i. (before i || on_it i) || behind_it i)
           ∙ by (cases_Bool (lies_on part p))
           ∙ sym (ap (λ b. b && not (lies_on part p)) (held_three rows a p))
         where
-          abbrev all : Picks
-          all = is_held rows a
+          before : is_picked (is_held new a) 0 front p ≡ is_picked all 0 front p
+          before = let f = front_length in picked-within (is_held new a) all 0 front p (λ j s l g. held_same a j j s new rows (λ class. is.before class a j s (omega (arith, f, g))))
 
-          abbrev now : Picks
-          now = is_held new a
-
-          before : is_picked now 0 front p ≡ is_picked all 0 front p
-          before = let f = front_length in picked-within now all 0 front p (λ j s l g. held_same a j j s new rows (λ class. is.before class a j s (omega (arith, f, g))))
-
-          none : (j : ℕ) (s : LinkSide) → from ≤ j → j < from + length ground → now j s ≡ false
+          none : (j : ℕ) (s : LinkSide) → from ≤ j → j < from + length ground → is_held new a j s ≡ false
           none j s l g =
               let e : (j - from) + from ≡ j = omega (arith, l) in
-              is_false (now j s) (λ h.
+              is_false (is_held new a j s) (λ h.
               let m = held_member a j s new h in
               both_ways (is_member new m.0 a j s) (ap (λ k. is_member new m.0 a k s) (sym e) ∙ is.inside m.0 a (j - from) s (omega (arith, l, g))) m.1)
 
-          on_it : is_picked now (0 + length front) ground p ≡ false
-          on_it = let f = front_length in picked_nowhere now (0 + length front) ground p (λ j s l g. none j s (omega (arith, f, l)) (omega (arith, f, g)))
+          on_it : is_picked (is_held new a) (0 + length front) ground p ≡ false
+          on_it = let f = front_length in picked_nowhere (is_held new a) (0 + length front) ground p (λ j s l g. none j s (omega (arith, f, l)) (omega (arith, f, g)))
 
-          behind_it : is_picked now (0 + length (front ++ ground)) rear p ≡ is_picked all to rear p
+          behind_it : is_picked (is_held new a) (0 + length (front ++ ground)) rear p ≡ is_picked all to rear p
           behind_it =
               let f = front_length in
               let g = length-append front ground in
-              ap (λ k. is_picked now k rear p) (omega (arith, f, g))
-              ∙ picked-shift now (from + length ground) 0 rear p
+              ap (λ k. is_picked (is_held new a) k rear p) (omega (arith, f, g))
+              ∙ picked-shift (is_held new a) (from + length ground) 0 rear p
               ∙ (λ i. is_picked (λ k s. held_same a (k + (from + length ground)) (k + to) s new rows (λ class. is.behind class a k s) i) 0 rear p)
               ∙ sym (picked-shift all to 0 rear p)
               ∙ ap (λ k. is_picked all k rear p) (omega arith)
