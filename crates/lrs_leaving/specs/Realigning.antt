@@ -28,7 +28,7 @@ use Rattle.lrs_leaving.specs.Leaving.{with_left}
 
 -- a course with other ground for its millimetres from `from` up to `to`
 abbrev pub replaced : ℕ → ℕ → List Ground → List Ground → List Ground
-replaced from to ground course = take from course ++ ground ++ drop to course
+replaced from to come course = take from course ++ come ++ drop to course
 
 -- whether a referent stands off the stretch
 abbrev pub is_off : ℕ → ℕ → Referent → Bool
@@ -70,5 +70,5 @@ RealignMakes = (i : Image) (r w : RouteEntry) (from to : ℕ) (pieces : Option (
 
 -- Canonical rows of a realigned route lie on its course, and are of known assets, where those of the route were.
 abbrev pub RealignedHasRows : Type 0
-RealignedHasRows = (assets : List Asset) (course ground : List Ground) (from to : ℕ) (rows new : List Span) → from ≤ to → to ≤ length course → are_rows new ≡ true → IsRealigned from to (length ground) rows new
-    → are_spans_of assets (record { course = course; rows = rows }) ≡ true → are_spans_of assets (record { course = replaced from to ground course; rows = new }) ≡ true
+RealignedHasRows = (assets : List Asset) (course come : List Ground) (from to : ℕ) (rows new : List Span) → from ≤ to → to ≤ length course → are_rows new ≡ true → IsRealigned from to (length come) rows new
+    → are_spans_of assets (record { course = course; rows = rows }) ≡ true → are_spans_of assets (record { course = replaced from to come course; rows = new }) ≡ true

@@ -25,6 +25,9 @@ pub mod Rerouted
 pub mod Recalibrated
 pub mod Renumbered
 pub mod SplitRoute
+pub mod RealignChecks
+pub mod MovedReferents
+pub mod RealignRoute
 pub mod Made
 pub mod RouteReferents
 pub mod GoneReferent

@@ -10,3 +10,4 @@ pub mod Extents
 pub mod RouteReferents
 pub mod Entering
 pub mod Splits
+pub mod Realignments

@@ -8,6 +8,7 @@ mod class;
 mod enter;
 mod link;
 mod new_referent;
+mod realign;
 mod recalibrate;
 mod referents;
 mod renumber;
@@ -23,6 +24,7 @@ use enter::plan_enter;
 use link::plan_link;
 use lrs_machine::Command;
 use new_referent::plan_ref;
+use realign::plan_realign;
 use recalibrate::plan_recalibrate;
 use renumber::plan_renumber;
 use route::plan_route;
@@ -54,6 +56,21 @@ pub fn plan_command(alloc: Global, inventory: &Inventory, command: &Planned) -> 
             alloc,
             inventory,
             *route,
+            marks.as_slice(),
+        ),
+        Command::Realign {
+            route,
+            from,
+            to,
+            pieces,
+            marks,
+        } => plan_realign(
+            alloc,
+            inventory,
+            *route,
+            from.get(),
+            to.get(),
+            pieces,
             marks.as_slice(),
         ),
         _ => unreachable!(),
