@@ -1,5 +1,5 @@
 -- What the checks of a realignment give, and what it changes.
-use Rattle.std.specs.Prelude.{◌≡◌, ℕ, ◌+◌, ◌-◌, ◌||◌, ◌&&◌, true, false, nat_lt, nat_eq, List, [], map, filter, length, slice_range, Some, None, Result, Ok}
+use Rattle.std.specs.Prelude.{◌≡◌, ℕ, ◌+◌, ◌-◌, ◌||◌, ◌&&◌, true, false, nat_lt, nat_eq, List, [], map, filter, length, slice_range, Option, Some, None, Result, Ok}
 use Rattle.std.specs.List.{AllByRecursion}
 use Rattle.lrs_measure.specs.Lists.{each_two, is_nothing}
 use Rattle.lrs_measure.specs.Texts.{Name}
@@ -18,16 +18,18 @@ use Rattle.lrs_machine.specs.declared.answer.Cause.TheVariants as cause
 use Rattle.lrs_machine.specs.declared.image.RouteEntry.{RouteEntry}
 use Rattle.lrs_machine.specs.Machine.{◌>>=◌, ◌>>◌, refuse_if, check_pieces, check_free}
 use Rattle.lrs_machine.specs.State.{State, Abandoned}
+use Rattle.lrs_keep.specs.declared.change.Difference.{Difference}
 use Rattle.lrs_keep.specs.declared.change.ReferentChange.{ReferentChange}
 use Rattle.lrs_keep.specs.Change.{spans_after}
 use Rattle.lrs_gone.specs.Gone.{AreGone}
 use Rattle.lrs_routes.specs.Differences.{rerouting}
 use Rattle.lrs_leaving.specs.Realigning.{replaced}
+use Rattle.lrs_verbs.specs.declared.plan.GroundChange.{GroundChange}
+use Rattle.lrs_verbs.specs.declared.plan.ReferentPlaces.{ReferentPlaces}
 use Rattle.lrs_verbs.specs.declared.plan.Plan.{Plan}
 use Rattle.lrs_verbs.specs.declared.verbs.realign.NewLine.{NewLine}
 use Rattle.lrs_verbs.specs.declared.verbs.realign.Realigned.{Realigned}
 use Rattle.lrs_verbs.specs.Checks.{new_marks}
-use Rattle.lrs_verbs.specs.Plans.{plan_of}
 use Rattle.lrs_verbs.specs.Splits.{refs_behind}
 
 -- The stretch lies on a course of this length, and something comes for it or something goes.
@@ -90,6 +92,10 @@ pub record IsOnNewLine (edit : ℕ) (e : RouteEntry) (from to : ℕ) (line : New
   pub come_filled : AllByRecursion IsFilled h.come
   pub names : h.names ≡ map (λ q. q.name) (refs_on from to e.route.refs)
 
+-- the plan of a difference, with what it changes of the ground and of referents
+abbrev pub plan_with : (ground : Option GroundChange) (referents : ReferentPlaces) (d : Difference) → Plan
+plan_with ground referents d = record { difference = d; ground = ground; referents = referents }
+
 -- the plan by which a route is realigned: the ground of the stretch is free, and its referents stand nowhere any more
 abbrev pub realigned_plan : Name → Realigned → Plan
-realigned_plan route h = record (plan_of (record (rerouting (Some h.change) None None) { gone = h.abandoned })) { ground = Some (record { route = route; gone = h.freed; passed = []; come = h.come }); referents = record { come = None; gone = h.names } }
+realigned_plan route h = plan_with (Some (record { route = route; gone = h.freed; passed = []; come = h.come })) (record { come = None; gone = h.names }) (record (rerouting (Some h.change) None None) { gone = h.abandoned })

@@ -45,7 +45,15 @@ pub fn plan_realign(
     let entry = route_named(inventory, &route)?;
     let pieces = given(pieces);
     check_stretch(entry.route.course.len(), from, to, pieces)?;
-    let line = new_line(alloc, inventory, &entry.route.course, from, to, pieces, marks)?;
+    let line = new_line(
+        alloc,
+        inventory,
+        &entry.route.course,
+        from,
+        to,
+        pieces,
+        marks,
+    )?;
     let edit = inventory.edits() + 1;
     let realigned = realign_route(alloc, edit, entry, from, to, line)?;
     Ok(realigned_plan(alloc, route, realigned))
@@ -189,12 +197,7 @@ fn realign_route(
 }
 
 /// The pieces of a stretch of a course.
-fn stretch_of(
-    alloc: Global,
-    course: &Course,
-    from: u64,
-    to: u64,
-) -> Result<Rows<Piece>, AllocError>
+fn stretch_of(alloc: Global, course: &Course, from: u64, to: u64) -> Result<Rows<Piece>, AllocError>
     requires order { from ≤ to }
     requires inside { to ≤ length course.now }
     ensures course { IfOk result (λ pieces. course_of pieces ≡ slice_range course.now from to) }
