@@ -28,7 +28,7 @@ module _ (asset j : ℕ) (s : LinkSide) where
       let r = any_found (λ r. has_member r class asset j s) rows h in
       any_of (λ r. stands_for r asset j s) r.0 rows r.1 (and_parts (same_name r.0.class class) (stands_for r.0 asset j s) r.2).1
 
-  held_member : (rows : List Span) → is_held rows asset j s ≡ true → (class : Name) × (is_member rows class asset j s ≡ true)
+  pub held_member : (rows : List Span) → is_held rows asset j s ≡ true → (class : Name) × (is_member rows class asset j s ≡ true)
   held_member rows h =
       let r = any_found (λ r. stands_for r asset j s) rows h in
       (r.0.class, any_of (λ q. has_member q r.0.class asset j s) r.0 rows r.1 (and_from (same_name r.0.class r.0.class) (stands_for r.0 asset j s) ((bytes_decides r.0.class r.0.class).1 refl) r.2))

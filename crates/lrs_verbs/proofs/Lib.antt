@@ -33,6 +33,9 @@ pub mod SplitRoute
 pub mod JoinRoutes
 pub mod TurnedRoute
 pub mod Closed
+pub mod RealignChecks
+pub mod MovedReferents
+pub mod RealignRoute
 pub mod Made
 pub mod RouteReferents
 pub mod GoneReferent

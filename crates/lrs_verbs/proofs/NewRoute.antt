@@ -156,7 +156,7 @@ abbrev are_free : RouteCourse → RouteCourse → Bool
 are_free c d = not (meets c.entries d.entries)
 
 -- no route runs over a millimetre of the pieces
-nothing_taken : (i : Image) (pieces : List Piece) → check_free (state_of i) pieces ≡ Ok tt → position (λ p. is_taken (state_of i) (expand p)) pieces ≡ None
+pub nothing_taken : (i : Image) (pieces : List Piece) → check_free (state_of i) pieces ≡ Ok tt → position (λ p. is_taken (state_of i) (expand p)) pieces ≡ None
 nothing_taken i pieces h = by (position (λ p. is_taken (state_of i) (expand p)) pieces) refl h
   where
     by : (o : Option ℕ) → position (λ p. is_taken (state_of i) (expand p)) pieces ≡ o → refuse_at o cause.Taken ≡ Ok tt → position (λ p. is_taken (state_of i) (expand p)) pieces ≡ None

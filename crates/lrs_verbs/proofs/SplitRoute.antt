@@ -87,7 +87,7 @@ module _ (route name : Name) (at : ℕ) (i : Image) (n : ℕ) where
 
 -- ---- referents that go by their names
 
-filter_alike : {X : Type 0} (p q : X → Bool) (xs : List X) → ((x : X) → In x xs → p x ≡ q x) → filter p xs ≡ filter q xs
+pub filter_alike : {X : Type 0} (p q : X → Bool) (xs : List X) → ((x : X) → In x xs → p x ≡ q x) → filter p xs ≡ filter q xs
 filter_alike p q [] same = refl
 filter_alike p q (x ∷ xs) same = λ j. cond (same x (inl refl) j) (x ∷ filter_alike p q xs (λ y m. same y (inr m)) j) (filter_alike p q xs (λ y m. same y (inr m)) j)
 
@@ -95,11 +95,11 @@ module _ (r : RouteEntry) (at : ℕ) where
   abbrev named : Referent → Name
   named q = q.name
 
-  abbrev names : List Name
+  abbrev pub names : List Name
   names = map named (refs_behind at r.route.refs)
 
   -- a referent of the route goes by its name just where it stands behind
-  goes_behind : (q : Referent) → In q r.route.refs → not (list_any (same_name q.name) names) ≡ is_ahead at q
+  pub goes_behind : (q : Referent) → In q r.route.refs → not (list_any (same_name q.name) names) ≡ is_ahead at q
   goes_behind q m = by (cases_Bool (is_ahead at q)) (cases_Bool (list_any (same_name q.name) names))
     where
       one : (x : Referent) → In x r.route.refs → same_name q.name x.name ≡ true → q ≡ x

@@ -11,7 +11,7 @@ use Rattle.lrs_verbs.specs.declared.plan.Stop.TheVariants.{Refused, Memory}
 use Rattle.lrs_verbs.specs.Plans.{Answers, Plans}
 
 -- what `refuse_if` gives
-abbrev refusal : Bool → Cause → Result (Unit {0}) Stop
+abbrev pub refusal : Bool → Cause → Result (Unit {0}) Stop
 refusal fails c = if fails then Err (Refused c) else Ok tt
 
 pub passed : (fails : Bool) (c : Cause) (r : Result (Unit {0}) Stop) (u : Unit {0}) → r ≡ refusal fails c → r ≡ Ok u → fails ≡ false

@@ -14,3 +14,4 @@ pub mod Splits
 pub mod Joins
 pub mod Turns
 pub mod Closings
+pub mod Realignments

@@ -15,6 +15,7 @@ is_planned (verb.Split route at name) = true
 is_planned (verb.Join first second) = true
 is_planned (verb.Renumber route name) = true
 is_planned (verb.Recalibrate route marks) = true
+is_planned (verb.Realign route from to pieces marks) = true
 is_planned (verb.Close route) = true
 is_planned (verb.Turn route) = true
 is_planned _ = false

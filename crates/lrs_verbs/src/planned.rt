@@ -42,6 +42,7 @@ impl Planned {
             | Command::Join { .. }
             | Command::Renumber { .. }
             | Command::Recalibrate { .. }
+            | Command::Realign { .. }
             | Command::Close { .. }
             | Command::Turn { .. } => Some(Planned { command }),
             _ => None,

@@ -10,6 +10,7 @@ mod enter;
 mod join;
 mod link;
 mod new_referent;
+mod realign;
 mod recalibrate;
 mod referents;
 mod renumber;
@@ -29,6 +30,7 @@ use join::plan_join;
 use link::plan_link;
 use lrs_machine::Command;
 use new_referent::plan_ref;
+use realign::plan_realign;
 use recalibrate::plan_recalibrate;
 use renumber::plan_renumber;
 use retire::plan_retire;
@@ -68,6 +70,21 @@ pub fn plan_command(alloc: Global, inventory: &Inventory, command: &Planned) -> 
             alloc,
             inventory,
             *route,
+            marks.as_slice(),
+        ),
+        Command::Realign {
+            route,
+            from,
+            to,
+            pieces,
+            marks,
+        } => plan_realign(
+            alloc,
+            inventory,
+            *route,
+            from.get(),
+            to.get(),
+            pieces,
             marks.as_slice(),
         ),
         Command::Close { route } => plan_close(alloc, inventory, *route),

@@ -131,7 +131,7 @@ fn refs_behind(alloc: Global, refs: &[Referent], at: u64) -> Result<Rows<Referen
 }
 
 /// The names of the referents behind a place.
-fn names_behind(alloc: Global, refs: &[Referent], at: u64) -> Result<Rows<RefName>, AllocError>
+pub fn names_behind(alloc: Global, refs: &[Referent], at: u64) -> Result<Rows<RefName>, AllocError>
     ensures { IfOk result (λ out. out ≡ map (λ q. q.name) (refs_behind at refs.now)) }
 {
     let mut out = Vec::new(alloc);
