@@ -9,10 +9,11 @@ pub mod Located
 pub mod Holding
 pub mod FirstHolder
 pub mod InPlace
+pub mod RowsInPlace
 pub mod NewRow
 pub mod NewParts
-pub mod NewEntry
 pub mod EntryChecks
+pub mod NewEntry
 pub mod Unmoved
 pub mod NewLink
 pub mod NewClass

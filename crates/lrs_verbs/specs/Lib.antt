@@ -9,4 +9,5 @@ pub mod Checks
 pub mod Extents
 pub mod RouteReferents
 pub mod Entering
+pub mod Wanted
 pub mod Splits

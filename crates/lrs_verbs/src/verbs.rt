@@ -14,6 +14,7 @@ mod renumber;
 mod route;
 mod split;
 mod unref;
+mod wanted;
 
 use crate::inventory::Inventory;
 use crate::plan::{Plan, Stop};
