@@ -7,7 +7,7 @@ use Rattle.std.proofs.lemmas.Bool.{false≢true, both_ways, not-true, and_parts,
 use Rattle.std.proofs.lemmas.List.{length-take-le, length-drop}
 use Rattle.std.proofs.lemmas.List.Folds.{list_all-map}
 use Rattle.lrs_measure.specs.Lists.{each_two, is_nothing}
-use Rattle.lrs_measure.specs.Texts.{same_name}
+use Rattle.lrs_measure.specs.Texts.{Name, same_name}
 use Rattle.lrs_element.specs.declared.link.Ground.{Ground}
 use Rattle.lrs_element.specs.Course.{is_too_long}
 use Rattle.lrs_element.specs.Marks.{bad_mark, last_mark, is_inner_mark, marks_to, marks_from}
@@ -115,7 +115,7 @@ parts_are_routes r at inner front rear = (inside r at inner, front_fits r at inn
 -- ---- the parts of its rows
 
 -- a side of a row
-side_at : (s : Side) → (t : LinkSide) × (has_side s t ≡ true)
+pub side_at : (s : Side) → (t : LinkSide) × (has_side s t ≡ true)
 side_at L = (Left, refl)
 side_at R = (Right, refl)
 side_at B = (Left, refl)
@@ -127,7 +127,7 @@ record IsOf (q r : Span) (j : ℕ) : Type 0 where
   high : j < r.to
 
 -- a row says what it says at its last millimetre
-its_end : (q : Span) (rows : List Span) → In q rows → q.from < q.to → is_member rows q.class q.asset (q.to - 1) (side_at q.side).0 ≡ true
+pub its_end : (q : Span) (rows : List Span) → In q rows → q.from < q.to → is_member rows q.class q.asset (q.to - 1) (side_at q.side).0 ≡ true
 its_end q rows m filled =
     let s = side_at q.side in
     any_of (λ r. has_member r q.class q.asset (q.to - 1) s.0) q rows m
@@ -144,12 +144,12 @@ found q rows j s h =
     let c = and_parts (nat_le r.0.from j && nat_lt j r.0.to) (has_side r.0.side s) b.1 in
     (r.0, r.1, record { class = (bytes_decides r.0.class q.class).0 a.0; asset = eqb-true r.0.asset q.asset b.0; high = ltb-true j r.0.to (and_parts (nat_le r.0.from j) (nat_lt j r.0.to) c.0).1 })
 
-filled_in : (rows : List Span) → are_rows rows ≡ true → (q : Span) → In q rows → q.from < q.to
+pub filled_in : (rows : List Span) → are_rows rows ≡ true → (q : Span) → In q rows → q.from < q.to
 filled_in rows h q m =
     let all = (and_parts (list_all is_row rows) (each_two span_before rows) (and_parts (list_all is_row rows && each_two span_before rows) (each_two are_apart rows) h).0).0 in
     ltb-true q.from q.to (and_parts (nat_lt q.from q.to) _ (all_at is_row q rows all m)).0
 
-module _ (assets : List Asset) (course : List Ground) (at : ℕ) (rows front rear : List Span) (within : at ≤ length course) (cut : IsCut at rows front rear) (spans : are_spans_of assets (record { course = course; rows = rows }) ≡ true) where
+module _ (assets : List Asset) (course : List Ground) (rows : List Span) (spans : are_spans_of assets (record { course = course; rows = rows }) ≡ true) where
   all_spans : list_all (is_span assets (length course)) rows ≡ true
   all_spans = (and_parts (are_rows rows) (list_all (is_span assets (length course)) rows) spans).1
 
@@ -160,6 +160,18 @@ module _ (assets : List Asset) (course : List Ground) (at : ℕ) (rows front rea
       and_from (nat_le q.to len) (list_any (λ a. nat_eq a.number q.asset && same_name a.class q.class) assets) (le-leb q.to len (ends (leb-true r.to (length course) both.0)))
       ((λ k. list_any (λ a. nat_eq a.number (sym of.asset k) && same_name a.class (sym of.class k)) assets) ∙ both.1)
 
+  -- Canonical rows that say nothing that the route's rows do not say are rows of the route.
+  pub fewer_have_rows : (fewer : List Span) → are_rows fewer ≡ true → ((class : Name) (asset j : ℕ) (s : LinkSide) → is_member fewer class asset j s ≡ true → is_member rows class asset j s ≡ true)
+      → are_spans_of assets (record { course = course; rows = fewer }) ≡ true
+  fewer_have_rows fewer canonical said = and_from (are_rows fewer) (list_all (is_span assets (length course)) fewer) canonical
+      (all_of (is_span assets (length course)) fewer (λ q m.
+      let filled = filled_in fewer canonical q m in
+      let s = (side_at q.side).0 in
+      let r = found q rows (q.to - 1) s (said q.class q.asset (q.to - 1) s (its_end q fewer m filled)) in
+      let high = r.2.high in
+      is_theirs q r.0 (q.to - 1) (length course) r.1 r.2 (λ h. omega (arith, high, h, filled))))
+
+module _ (assets : List Asset) (course : List Ground) (at : ℕ) (rows front rear : List Span) (within : at ≤ length course) (cut : IsCut at rows front rear) (spans : are_spans_of assets (record { course = course; rows = rows }) ≡ true) where
   pub front_spans : are_rows front ≡ true → are_spans_of assets (record { course = take at course; rows = front }) ≡ true
   front_spans canonical = and_from (are_rows front) (list_all (is_span assets (length (take at course))) front) canonical
       (all_of (is_span assets (length (take at course))) front (λ q m.
@@ -169,7 +181,7 @@ module _ (assets : List Asset) (course : List Ground) (at : ℕ) (rows front rea
       let r = found q rows (q.to - 1) s both.0 in
       let low = ltb-true (q.to - 1) at both.1 in
       let e = length-take-le at course within in
-      is_theirs q r.0 (q.to - 1) (length (take at course)) r.1 r.2 (λ h. omega (arith, low, e))))
+      is_theirs assets course rows spans q r.0 (q.to - 1) (length (take at course)) r.1 r.2 (λ h. omega (arith, low, e))))
 
   pub rear_spans : are_rows rear ≡ true → are_spans_of assets (record { course = drop at course; rows = rear }) ≡ true
   rear_spans canonical = and_from (are_rows rear) (list_all (is_span assets (length (drop at course))) rear) canonical
@@ -179,7 +191,7 @@ module _ (assets : List Asset) (course : List Ground) (at : ℕ) (rows front rea
       let r = found q rows ((q.to - 1) + at) s (sym (cut.behind q.class q.asset (q.to - 1) s) ∙ its_end q rear m filled) in
       let high = r.2.high in
       let e = length-drop at course in
-      is_theirs q r.0 ((q.to - 1) + at) (length (drop at course)) r.1 r.2 (λ h. omega (arith, high, e, h, filled))))
+      is_theirs assets course rows spans q r.0 ((q.to - 1) + at) (length (drop at course)) r.1 r.2 (λ h. omega (arith, high, e, h, filled))))
 
 pub parts_have_rows : PartsHaveRows
 parts_have_rows assets course at rows front rear within canonical canonical_too cut spans = (front_spans assets course at rows front rear within cut spans canonical, rear_spans assets course at rows front rear within cut spans canonical_too)

@@ -23,7 +23,7 @@ use Rattle.lrs_machine.proofs.Members.{any_found, any_of}
 
 module _ (asset j : ℕ) (s : LinkSide) where
   -- what rows say that an asset holds, they say of some class
-  member_held : (rows : List Span) (class : Name) → is_member rows class asset j s ≡ true → is_held rows asset j s ≡ true
+  pub member_held : (rows : List Span) (class : Name) → is_member rows class asset j s ≡ true → is_held rows asset j s ≡ true
   member_held rows class h =
       let r = any_found (λ r. has_member r class asset j s) rows h in
       any_of (λ r. stands_for r asset j s) r.0 rows r.1 (and_parts (same_name r.0.class class) (stands_for r.0 asset j s) r.2).1

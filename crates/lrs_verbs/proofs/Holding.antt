@@ -10,9 +10,11 @@ use Rattle.lrs_position.specs.Routes.{is_route_course}
 use Rattle.lrs_events.specs.declared.side.Side.{Side}
 use Rattle.lrs_events.specs.declared.side.LinkSide.{LinkSide}
 use Rattle.lrs_events.specs.declared.side.LinkSide.TheVariants.{Left, Right}
+use Rattle.lrs_events.specs.declared.span.Span.{Span}
 use Rattle.lrs_events.specs.Canonical.{side_of, side_held}
 use Rattle.lrs_events.specs.Members.{Picks, has_side}
 use Rattle.lrs_events.specs.Places.{beside, differs}
+use Rattle.lrs_events.specs.Spans.{holds_by_spans}
 use Rattle.lrs_canonical.specs.OnCourse.{is_held, is_picked, is_once}
 use Rattle.lrs_canonical.proofs.Picked.{rows_hold, sides_picked}
 use Rattle.lrs_machine.specs.declared.image.RouteEntry.{RouteEntry}
@@ -129,11 +131,18 @@ alone i r sound m =
     let its = and_three (is_route_course r.route.course) (list_all (is_on_a_link i.links) r.route.course) (each_two differs r.route.course) (all_at (is_course i.links) (course r) (courses_of i) tests.1 (In-map course r i.routes m)) in
     record { once = its.2; on_links = its.1; apart = sym (each_two-map (λ c d. not (meets c.entries d.entries)) course i.routes) ∙ tests.2 }
 
+-- rows say at an entry what they hold beside it
+pub rows_held_at : (c : List Ground) (rows : List Span) (j : ℕ) (g : Ground) (s : LinkSide) → is_once c ≡ true → slice_get c j ≡ Some g → (asset : ℕ) → holds_by_spans c rows asset (beside g s) ≡ is_held rows asset j s
+rows_held_at c rows j g s once h a = rows_hold c rows a (beside g s) ∙ picked_at (is_held rows a) c j g s once h
+
+-- Of routes that do not meet, the rows of the one that runs there tell who holds a place.
+pub held_among : (r : RouteEntry) (routes : List RouteEntry) → each_two apart_courses routes ≡ true → In r routes → each_two differs r.route.course ≡ true → (j : ℕ) (g : Ground) (s : LinkSide) → slice_get r.route.course j ≡ Some g
+    → (asset : ℕ) → list_any (λ e. holds_on e asset (beside g s)) routes ≡ is_held r.spans asset j s
+held_among r routes apart m once j g s h a =
+    only_at (λ e. holds_on e a (beside g s)) r routes apart m (λ y far. not_held_far r y j g s a h far)
+    ∙ rows_held_at r.route.course r.spans j g s once h a
+
 pub held_at : (i : Image) (r : RouteEntry) → IsSound i → In r i.routes → (j : ℕ) (g : Ground) (s : LinkSide) → slice_get r.route.course j ≡ Some g
     → (asset : ℕ) → (state_of i).holds asset (beside g s) ≡ is_held r.spans asset j s
 unfolding state_of
-held_at i r sound m j g s h a =
-    let it = alone i r sound m in
-    only_at (λ e. holds_on e a (beside g s)) r i.routes it.apart m (λ y far. not_held_far r y j g s a h far)
-    ∙ rows_hold r.route.course r.spans a (beside g s)
-    ∙ picked_at (is_held r.spans a) r.route.course j g s it.once h
+held_at i r sound m j g s h a = let it = alone i r sound m in held_among r i.routes it.apart m it.once j g s h a

@@ -14,6 +14,10 @@ pub mod NewRow
 pub mod NewParts
 pub mod EntryChecks
 pub mod NewEntry
+pub mod TakenInPlace
+pub mod RetireChecks
+pub mod RetiredPlaces
+pub mod Superseded
 pub mod Unmoved
 pub mod NewLink
 pub mod NewClass

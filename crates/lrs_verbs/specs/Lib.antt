@@ -10,4 +10,6 @@ pub mod Extents
 pub mod RouteReferents
 pub mod Entering
 pub mod Wanted
+pub mod Taking
+pub mod Superseding
 pub mod Splits

@@ -13,4 +13,5 @@ is_planned (verb.Enter e) = true
 is_planned (verb.Split route at name) = true
 is_planned (verb.Renumber route name) = true
 is_planned (verb.Recalibrate route marks) = true
+is_planned (verb.Supersede e) = true
 is_planned _ = false

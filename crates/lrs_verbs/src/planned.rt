@@ -7,8 +7,8 @@ ghost use Rattle.lrs_verbs.specs.Planned.{is_planned};
 use lrs_machine::Command;
 use std::marker::Model;
 
-/// A command of one of the verbs `link`, `class`, `route`, `ref`, `unref`, `enter`, `split`, `renumber` and
-/// `recalibrate`.
+/// A command of one of the verbs `link`, `class`, `route`, `ref`, `unref`, `enter`, `split`, `renumber`,
+/// `recalibrate` and `supersede`.
 #[derive(Drop)]
 pub struct Planned {
     command: Command,
@@ -40,7 +40,8 @@ impl Planned {
             | Command::Enter(_)
             | Command::Split { .. }
             | Command::Renumber { .. }
-            | Command::Recalibrate { .. } => Some(Planned { command }),
+            | Command::Recalibrate { .. }
+            | Command::Supersede(_) => Some(Planned { command }),
             _ => None,
         }
     }

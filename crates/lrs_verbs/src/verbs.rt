@@ -13,6 +13,7 @@ mod referents;
 mod renumber;
 mod route;
 mod split;
+mod supersede;
 mod unref;
 mod wanted;
 
@@ -29,6 +30,7 @@ use renumber::plan_renumber;
 use route::plan_route;
 use split::plan_split;
 use std::alloc::Global;
+use supersede::plan_supersede;
 use unref::plan_unref;
 
 /// What a command would change of an inventory.
@@ -57,6 +59,7 @@ pub fn plan_command(alloc: Global, inventory: &Inventory, command: &Planned) -> 
             *route,
             marks.as_slice(),
         ),
+        Command::Supersede(entry) => plan_supersede(alloc, inventory, entry),
         _ => unreachable!(),
     }
 }

@@ -1,0 +1,42 @@
+-- What an edit takes away on a route: rows that go and come there, and the rows of a ledger for what is handed back.
+use Rattle.std.specs.Prelude.{◌≡◌, ℕ, List, Some}
+use Rattle.lrs_measure.specs.Texts.{Name}
+use Rattle.lrs_events.specs.declared.change.SpanChange.{SpanChange}
+use Rattle.lrs_events.specs.declared.class.Asset.{Asset}
+use Rattle.lrs_events.specs.declared.class.Kind.{Kind}
+use Rattle.lrs_events.specs.declared.part.Gone.{Gone}
+use Rattle.lrs_events.specs.Spans.{holds_by_spans}
+use Rattle.lrs_canonical.specs.declared.removing.Removal.{Removal}
+use Rattle.lrs_machine.specs.declared.image.Image.{Image}
+use Rattle.lrs_machine.specs.declared.image.RouteEntry.{RouteEntry}
+use Rattle.lrs_machine.specs.Image.{state_of, asset_entry}
+use Rattle.lrs_machine.specs.Register.{get}
+use Rattle.lrs_machine.specs.State.{Reason}
+use Rattle.lrs_keep.specs.declared.change.RouteChange.{RouteChange}
+use Rattle.lrs_keep.specs.declared.change.Difference.{Difference}
+use Rattle.lrs_keep.specs.Change.{no_difference}
+use Rattle.lrs_gone.specs.Gone.{AreGone}
+use Rattle.lrs_routes.specs.Differences.{no_change}
+use Rattle.lrs_verbs.specs.declared.plan.Plan.{Plan}
+use Rattle.lrs_verbs.specs.Extents.{IsRouteIn}
+use Rattle.lrs_verbs.specs.Plans.{plan_of}
+
+-- a route of which these rows go and come
+abbrev pub with_rows : Name → SpanChange → RouteChange
+with_rows route change = record (no_change route) { spans_gone = change.gone.items; spans_come = change.come.items }
+
+-- what an edit changes that takes away: rows of a route, and the ledger of what is gone
+abbrev pub taking : Name → SpanChange → List Gone → Difference
+taking route change gone = record no_difference { changed = Some (with_rows route change); gone = gone }
+
+-- the plan by which an edit takes away, for a reason, what a removal hands back
+pub record IsTaking (edit : ℕ) (why : Reason) (r : RouteEntry) (removal : Removal) (p : Plan) : Type 0 where
+  pub gone : List Gone
+  pub are_gone : AreGone edit why (holds_by_spans r.route.course removal.left.items) gone
+  pub plan_is : p ≡ plan_of (taking r.route.name removal.change gone)
+
+-- The asset is known, its class is of this kind, and the route is one of the inventory's.
+pub record HasAsset (i : Image) (asset : Asset) (kind : Kind) (r : RouteEntry) : Type 0 where
+  pub known : get (state_of i).assets asset.number ≡ Some (asset_entry asset).1
+  pub class : get (state_of i).classes asset.class ≡ Some kind
+  pub route : IsRouteIn i r
