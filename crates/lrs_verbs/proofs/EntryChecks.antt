@@ -1,23 +1,23 @@
 -- The checks of an entry, one after another.
-use Rattle.std.proofs.Common.{◌≡◌, ℕ, zero, suc, ◌+◌, ◌-◌, ◌<◌, ◌≤◌, min, Bool, true, false, cond, List, [], ◌∷◌, take, drop, length, Option, Some, None, Result, Ok, Err, refl, sym, ap, ◌∙◌, arith, ◌⊎◌, inl, inr}
-use Rattle.std.specs.Prelude.{◌||◌, nat_eq, nat_le, slice_range, is_some}
-use Rattle.std.specs.List.{list_any}
-use Rattle.std.specs.Option.{ok_or, option_map}
+use Rattle.std.proofs.Common.{◌≡◌, ℕ, ◌-◌, ◌≤◌, Bool, true, false, cond, List, [], ◌∷◌, drop, length, Option, Some, None, Result, Ok, Err, refl, sym, ap, ◌∙◌, arith, ◌⊎◌, inl, inr}
+use Rattle.std.specs.Prelude.{◌||◌, ◌&&◌, nat_eq, nat_le}
+use Rattle.std.specs.Option.{ok_or}
 use Rattle.std.proofs.lemmas.Bool.{leb-true, leb-false, ne_eqb, cases_Bool}
 use Rattle.std.proofs.lemmas.List.{length-take, length-drop}
 use Rattle.lrs_measure.specs.Lists.{is_nothing}
 use Rattle.lrs_element.specs.declared.link.Ground.{Ground}
 use Rattle.lrs_position.specs.Locating.{Alignment}
 use Rattle.lrs_events.specs.declared.class.Kind.{Kind}
-use Rattle.lrs_events.specs.Places.{places_on}
+use Rattle.lrs_events.specs.Places.{places_on, is_among}
 use Rattle.lrs_report.specs.Segments.{is_exclusive}
 use Rattle.lrs_machine.specs.declared.answer.Cause.{Cause}
 use Rattle.lrs_machine.specs.declared.answer.Cause.TheVariants as cause
 use Rattle.lrs_machine.specs.declared.command.Command.TheVariants as verb
 use Rattle.lrs_machine.specs.declared.command.Entry.{Entry}
 use Rattle.lrs_machine.specs.Register.{get, contains_key}
-use Rattle.lrs_machine.specs.Machine.{◌>>=◌, ◌>>◌, refuse_if, refuse_at, route_named, is_wrong_kind, Extent, extent_of, is_empty_extent, part_of, first_holder, Wanted, enter_asset, attempt}
-use Rattle.lrs_machine.specs.State.{State}
+use Rattle.lrs_machine.specs.Machine.{◌>>=◌, ◌>>◌, refuse_if, refuse_at, route_named, is_wrong_kind, Extent, extent_of, is_empty_extent, part_of, first_holder, Wanted, wanted_of, enter_asset, take_away, is_of_class, attempt}
+use Rattle.lrs_machine.specs.State.{State, Retired}
+use Rattle.lrs_verbs.specs.Wanted.{is_left_out}
 
 -- ---- a part of a course without millimetres
 
@@ -37,15 +37,16 @@ nothing_there c x within = no_length (part_of c x) ∙ ap (λ n. nat_eq n 0) siz
 
 -- ---- the checks in their order
 
-module _ (e : Entry) (n : ℕ) (s : State) where
-  abbrev unless_held : Wanted → Result State Cause
-  unless_held w = refuse_at (cond (is_exclusive w.kind) (first_holder s e.class w.places) None) cause.Overlap >> Ok (enter_asset n e w.places s)
+-- what an entry asks for, where some kinds are not taken
+module _ (e : Entry) (s : State) (is_not_taken : Kind → Bool) where
+  abbrev wanted : Result Wanted Cause
+  wanted = wanted_of is_not_taken e s
 
   abbrev on_extent : Kind → Alignment → Extent → Result Wanted Cause
   on_extent kind a x = refuse_if (is_nothing (part_of a.course x)) cause.Empty >> Ok (record { kind = kind; places = places_on e.side (part_of a.course x) })
 
   abbrev on_route : Kind → Alignment → Result Wanted Cause
-  on_route kind a = refuse_if (is_wrong_kind kind e.location.to || false) cause.WrongKind >> (extent_of s a e.location >>= on_extent kind a)
+  on_route kind a = refuse_if (is_wrong_kind kind e.location.to || is_not_taken kind) cause.WrongKind >> (extent_of s a e.location >>= on_extent kind a)
 
   abbrev of_kind : Kind → Result Wanted Cause
   of_kind kind = route_named s e.route >>= on_route kind
@@ -53,52 +54,77 @@ module _ (e : Entry) (n : ℕ) (s : State) where
   abbrev of_class : Result Wanted Cause
   of_class = ok_or (get s.classes e.class) cause.NoClass >>= of_kind
 
-  attempt-enter : attempt n (verb.Enter e) s ≡ ((refuse_if (contains_key s.assets e.asset) cause.AssetKnown >> of_class) >>= unless_held)
-  unfolding attempt
-  attempt-enter = refl
-
-  pub refuses_known : contains_key s.assets e.asset ≡ true → attempt n (verb.Enter e) s ≡ Err cause.AssetKnown
-  refuses_known known = attempt-enter ∙ ap (λ b. (refuse_if b cause.AssetKnown >> of_class) >>= unless_held) known
+  pub refuses_known : contains_key s.assets e.asset ≡ true → wanted ≡ Err cause.AssetKnown
+  refuses_known known = ap (λ b. refuse_if b cause.AssetKnown >> of_class) known
 
   -- the asset is new
   module _ (fresh : contains_key s.assets e.asset ≡ false) where
-    at_class : (o : Option Kind) → get s.classes e.class ≡ o → attempt n (verb.Enter e) s ≡ ((ok_or o cause.NoClass >>= of_kind) >>= unless_held)
-    at_class o is = attempt-enter ∙ (λ j. (refuse_if (fresh j) cause.AssetKnown >> (ok_or (is j) cause.NoClass >>= of_kind)) >>= unless_held)
+    at_class : (o : Option Kind) → get s.classes e.class ≡ o → wanted ≡ (ok_or o cause.NoClass >>= of_kind)
+    at_class o is = λ j. refuse_if (fresh j) cause.AssetKnown >> (ok_or (is j) cause.NoClass >>= of_kind)
 
-    pub refuses_class : get s.classes e.class ≡ None → attempt n (verb.Enter e) s ≡ Err cause.NoClass
+    pub refuses_class : get s.classes e.class ≡ None → wanted ≡ Err cause.NoClass
     refuses_class none = at_class None none
 
     module _ (kind : Kind) (class : get s.classes e.class ≡ Some kind) where
-      at_route : (o : Option Alignment) → get s.routes e.route ≡ o → attempt n (verb.Enter e) s ≡ ((ok_or o cause.NoRoute >>= on_route kind) >>= unless_held)
-      at_route o is = at_class (Some kind) class ∙ ap (λ o. (ok_or o cause.NoRoute >>= on_route kind) >>= unless_held) is
+      at_route : (o : Option Alignment) → get s.routes e.route ≡ o → wanted ≡ (ok_or o cause.NoRoute >>= on_route kind)
+      at_route o is = at_class (Some kind) class ∙ ap (λ o. ok_or o cause.NoRoute >>= on_route kind) is
 
-      pub refuses_route : get s.routes e.route ≡ None → attempt n (verb.Enter e) s ≡ Err cause.NoRoute
+      pub refuses_route : get s.routes e.route ≡ None → wanted ≡ Err cause.NoRoute
       refuses_route none = at_route None none
 
       module _ (a : Alignment) (route : get s.routes e.route ≡ Some a) where
-        at_kind : (b : Bool) → is_wrong_kind kind e.location.to ≡ b → attempt n (verb.Enter e) s ≡ ((refuse_if (b || false) cause.WrongKind >> (extent_of s a e.location >>= on_extent kind a)) >>= unless_held)
-        at_kind b is = at_route (Some a) route ∙ ap (λ b. (refuse_if (b || false) cause.WrongKind >> (extent_of s a e.location >>= on_extent kind a)) >>= unless_held) is
+        at_kind : (b : Bool) → (is_wrong_kind kind e.location.to || is_not_taken kind) ≡ b → wanted ≡ (refuse_if b cause.WrongKind >> (extent_of s a e.location >>= on_extent kind a))
+        at_kind b is = at_route (Some a) route ∙ ap (λ b. refuse_if b cause.WrongKind >> (extent_of s a e.location >>= on_extent kind a)) is
 
-        pub refuses_kind : is_wrong_kind kind e.location.to ≡ true → attempt n (verb.Enter e) s ≡ Err cause.WrongKind
+        pub refuses_kind : (is_wrong_kind kind e.location.to || is_not_taken kind) ≡ true → wanted ≡ Err cause.WrongKind
         refuses_kind wrong = at_kind true wrong
 
-        module _ (right : is_wrong_kind kind e.location.to ≡ false) where
-          at_extent : (r : Result Extent Cause) → extent_of s a e.location ≡ r → attempt n (verb.Enter e) s ≡ ((r >>= on_extent kind a) >>= unless_held)
-          at_extent r is = at_kind false right ∙ ap (λ r. (r >>= on_extent kind a) >>= unless_held) is
+        module _ (right : (is_wrong_kind kind e.location.to || is_not_taken kind) ≡ false) where
+          at_extent : (r : Result Extent Cause) → extent_of s a e.location ≡ r → wanted ≡ (r >>= on_extent kind a)
+          at_extent r is = at_kind false right ∙ ap (λ r. r >>= on_extent kind a) is
 
-          pub refuses_extent : (c : Cause) → extent_of s a e.location ≡ Err c → attempt n (verb.Enter e) s ≡ Err c
+          pub refuses_extent : (c : Cause) → extent_of s a e.location ≡ Err c → wanted ≡ Err c
           refuses_extent c is = at_extent (Err c) is
 
           module _ (x : Extent) (extent : extent_of s a e.location ≡ Ok x) (within : x.to ≤ length a.course) where
-            at_part : (b : Bool) → is_empty_extent x ≡ b
-                → attempt n (verb.Enter e) s ≡ ((refuse_if b cause.Empty >> Ok (record { kind = kind; places = places_on e.side (part_of a.course x) })) >>= unless_held)
-            at_part b is = at_extent (Ok x) extent ∙ ap (λ b. (refuse_if b cause.Empty >> Ok (record { kind = kind; places = places_on e.side (part_of a.course x) })) >>= unless_held) (nothing_there a.course x within ∙ is)
+            at_part : (b : Bool) → is_empty_extent x ≡ b → wanted ≡ (refuse_if b cause.Empty >> Ok (record { kind = kind; places = places_on e.side (part_of a.course x) }))
+            at_part b is = at_extent (Ok x) extent ∙ ap (λ b. refuse_if b cause.Empty >> Ok (record { kind = kind; places = places_on e.side (part_of a.course x) })) (nothing_there a.course x within ∙ is)
 
-            pub refuses_empty : is_empty_extent x ≡ true → attempt n (verb.Enter e) s ≡ Err cause.Empty
+            pub refuses_empty : is_empty_extent x ≡ true → wanted ≡ Err cause.Empty
             refuses_empty none = at_part true none
 
-            module _ (some : is_empty_extent x ≡ false) where
-              -- whether the places are held is what is left to see
-              pub then_held : (r : Result (Unit {0}) Cause) → refuse_at (cond (is_exclusive kind) (first_holder s e.class (places_on e.side (part_of a.course x))) None) cause.Overlap ≡ r
-                  → attempt n (verb.Enter e) s ≡ (r >> Ok (enter_asset n e (places_on e.side (part_of a.course x)) s))
-              then_held r is = at_part false some ∙ ap (λ r. r >> Ok (enter_asset n e (places_on e.side (part_of a.course x)) s)) is
+            pub wants : is_empty_extent x ≡ false → wanted ≡ Ok (record { kind = kind; places = places_on e.side (part_of a.course x) })
+            wants some = at_part false some
+
+-- ---- what the verbs do with it
+
+module _ (e : Entry) (n : ℕ) (s : State) where
+  -- an asset is entered unless its places are held
+  abbrev unless_held : Wanted → Result State Cause
+  unless_held w = refuse_at (cond (is_exclusive w.kind) (first_holder s e.class w.places) None) cause.Overlap >> Ok (enter_asset n e w.places s)
+
+  attempt-enter : attempt n (verb.Enter e) s ≡ (wanted_of (is_left_out false) e s >>= unless_held)
+  unfolding attempt
+  attempt-enter = refl
+
+  pub enter_refused : (c : Cause) → wanted_of (is_left_out false) e s ≡ Err c → attempt n (verb.Enter e) s ≡ Err c
+  enter_refused c is = attempt-enter ∙ ap (λ w. w >>= unless_held) is
+
+  -- whether the places are held is what is left to see
+  pub then_held : (w : Wanted) → wanted_of (is_left_out false) e s ≡ Ok w → (r : Result (Unit {0}) Cause) → refuse_at (cond (is_exclusive w.kind) (first_holder s e.class w.places) None) cause.Overlap ≡ r
+      → attempt n (verb.Enter e) s ≡ (r >> Ok (enter_asset n e w.places s))
+  then_held w is r held = attempt-enter ∙ ap (λ w. w >>= unless_held) is ∙ ap (λ r. r >> Ok (enter_asset n e w.places s)) held
+
+  -- an asset is entered where what others of its class have of its places is taken away
+  abbrev instead : Wanted → State
+  instead w = enter_asset n e w.places (take_away n Retired (λ a p. is_of_class s e.class a && is_among w.places p) s)
+
+  attempt-supersede : attempt n (verb.Supersede e) s ≡ (wanted_of (is_left_out true) e s >>= (λ w. Ok (instead w)))
+  unfolding attempt
+  attempt-supersede = refl
+
+  pub supersede_refused : (c : Cause) → wanted_of (is_left_out true) e s ≡ Err c → attempt n (verb.Supersede e) s ≡ Err c
+  supersede_refused c is = attempt-supersede ∙ ap (λ w. w >>= (λ w. Ok (instead w))) is
+
+  pub supersede_done : (w : Wanted) → wanted_of (is_left_out true) e s ≡ Ok w → attempt n (verb.Supersede e) s ≡ Ok (instead w)
+  supersede_done w is = attempt-supersede ∙ ap (λ w. w >>= (λ w. Ok (instead w))) is

@@ -9,14 +9,16 @@ pub mod Located
 pub mod Holding
 pub mod FirstHolder
 pub mod InPlace
+pub mod RowsInPlace
 pub mod NewRow
 pub mod NewParts
-pub mod NewEntry
 pub mod EntryChecks
+pub mod NewEntry
 pub mod TakenInPlace
 pub mod RetireChecks
 pub mod RetiredPlaces
 pub mod Retirement
+pub mod Superseded
 pub mod Unmoved
 pub mod NewLink
 pub mod NewClass

@@ -9,7 +9,7 @@ use Rattle.std.specs.Cmp.{unsigned_tied}
 use Rattle.std.specs.FinMap.{find}
 use Rattle.std.proofs.lemmas.Bool.{false≢true, both_ways, and_parts, and_from, or_left, or_parts, eqb-true, lt-ltb, ltb-true, ltb-false, ne_eqb}
 use Rattle.std.proofs.lemmas.List.{append-nil}
-use Rattle.std.proofs.lemmas.List.Folds.{list_all-append, list_any_at}
+use Rattle.std.proofs.lemmas.List.Folds.{list_any_at}
 use Rattle.std.proofs.lemmas.List.Quantifiers.{position-Some}
 use Rattle.lrs_measure.specs.Lists.{each_two, is_nothing}
 use Rattle.lrs_element.specs.declared.link.Link.{Link}

@@ -1,32 +1,33 @@
 -- What an entry makes: a new asset, a row on its route, and the rows of a ledger for it.
-use Rattle.std.proofs.Common.{◌≡◌, ℕ, ◌+◌, ◌<◌, ◌≤◌, Bool, true, false, cond, List, [], ◌∷◌, ◌++◌, map, filter, length, Option, Some, None, Ok, refl, sym, ap, subst, ◌∙◌, arith, inl, inr, ◌⊎◌}
+use Rattle.std.proofs.Common.{◌≡◌, ℕ, ◌+◌, ◌<◌, ◌≤◌, Bool, true, false, cond, List, [], ◌∷◌, ◌++◌, length, Some, None, Ok, refl, sym, ap, subst, ◌∙◌, arith, inl, inr, ◌⊎◌}
 use Rattle.std.specs.Prelude.{is_some, ◌||◌, ◌&&◌, not, nat_eq, nat_lt, nat_le, slice_range}
-use Rattle.std.specs.List.{list_any, list_all, flat_map}
+use Rattle.std.specs.List.{list_any, list_all}
 use Rattle.std.specs.List as list
-use Rattle.std.specs.Option.{option_map}
 use Rattle.std.specs.Ordering.{nat_cmp, eq_by_cmp}
 use Rattle.std.specs.Cmp.{nat_cmp_total, unsigned_tied}
 use Rattle.std.specs.Cmp.Lexicographic.{bytes_decides}
 use Rattle.std.specs.FinMap.{find, nat_cmp-IsAntisymmetric}
-use Rattle.std.proofs.lemmas.Bool.{both_ways, not-true, and_parts, and_from, or_left, or_right, or_parts, eqb-true, eq-eqb, le-leb, leb-true, leb-false, lt-ltb, cases_lt}
+use Rattle.std.proofs.lemmas.Bool.{both_ways, not-true, and_parts, and_from, or_left, or_right, or_parts, eqb-true, eq-eqb, le-leb, leb-true, lt-ltb, cases_lt}
 use Rattle.std.proofs.lemmas.Bool.Decides.{nat_tests}
 use Rattle.std.proofs.lemmas.List.{append-nil}
 use Rattle.std.proofs.lemmas.List.Folds.{list_all-map, list_any-append}
 use Rattle.lrs_measure.specs.Lists.{each_two, is_nothing}
-use Rattle.lrs_measure.specs.Ordered.{insert_by, insert_some}
-use Rattle.lrs_measure.specs.Texts.{Name, name_cmp, same_name}
-use Rattle.lrs_element.specs.declared.link.Ground.{Ground}
+use Rattle.lrs_measure.specs.Ordered.{insert_by}
+use Rattle.lrs_measure.specs.Texts.{name_cmp, same_name}
 use Rattle.lrs_element.specs.Limits.{longest_route, most_pieces}
 use Rattle.lrs_element.specs.Course.{is_too_long, piece_count}
-use Rattle.lrs_position.specs.Routes.{is_route, is_route_course, have_marks, are_referents}
+use Rattle.lrs_position.specs.Routes.{is_route_course, have_marks, are_referents}
 use Rattle.lrs_events.specs.declared.class.Asset.{Asset}
 use Rattle.lrs_events.specs.declared.class.Kind.{Kind}
 use Rattle.lrs_events.specs.declared.part.Part.{Part}
 use Rattle.lrs_events.specs.declared.span.Span.{Span}
 use Rattle.lrs_events.specs.Places.{Place, is_among, places_on}
+use Rattle.lrs_events.specs.Changes.{changed}
 use Rattle.lrs_events.specs.Parts.{has_pair, part_before}
 use Rattle.lrs_events.specs.Spans.{span_before, are_rows, is_row, holds_by_span}
+use Rattle.lrs_report.specs.Segments.{is_exclusive}
 use Rattle.lrs_canonical.proofs.Changing.{any_insert}
+use Rattle.lrs_machine.specs.declared.answer.Cause.TheVariants as cause
 use Rattle.lrs_machine.specs.declared.command.Command.TheVariants as verb
 use Rattle.lrs_machine.specs.declared.command.Entry.{Entry}
 use Rattle.lrs_machine.specs.declared.image.RouteEntry.{RouteEntry}
@@ -34,25 +35,24 @@ use Rattle.lrs_machine.specs.declared.image.Image.{Image}
 use Rattle.lrs_machine.specs.declared.image.Edit.{Edit}
 use Rattle.lrs_machine.specs.Bounds.{most_pairs, most_assets, most_edits}
 use Rattle.lrs_machine.specs.Image.{state_of, holds_on, route_entry, referents_on, asset_entry}
-use Rattle.lrs_machine.specs.Machine.{Extent, is_empty_extent, enter_asset, attempt}
+use Rattle.lrs_machine.specs.Machine.{Extent, part_of, first_holder, refuse_at, enter_asset, attempt}
 use Rattle.lrs_machine.specs.Entered.{is_asset_number, is_lateral_offset}
 use Rattle.lrs_machine.specs.Register.{contains_key}
-use Rattle.lrs_machine.specs.Sound.{route_before, asset_before, is_asset, are_assets, is_span, are_spans_of, spans_of, is_on_a_link, is_part, share_nothing, pairs_of, are_parts, parts_of, is_named_by, are_courses, courses_of, are_all_marks, marks_of, are_all_referents, referents_of, IsSound, RouteCourse, RouteMarks, RouteReferents, RouteSpans}
+use Rattle.lrs_machine.specs.Sound.{route_before, asset_before, is_asset, are_assets, is_span, are_spans_of, spans_of, is_on_a_link, is_part, share_nothing, pairs_of, are_parts, parts_of, is_named_by, are_courses, are_all_marks, are_all_referents, IsSound, RouteCourse, RouteMarks, RouteReferents}
 use Rattle.lrs_machine.proofs.Members.{In, any_found, any_of, all_at, all_weaker, all_of}
 use Rattle.lrs_machine.proofs.SoundImages.{and_three}
 use Rattle.lrs_ordered.specs.Laws.{numbers_agree}
-use Rattle.lrs_keep.specs.declared.change.RouteChange.{RouteChange}
-use Rattle.lrs_keep.specs.Change.{is_named, without, entry_after, route_after, fits_after, changed_refs, with_difference, CanBecome, CanDiffer, routes_after}
-use Rattle.lrs_keep.proofs.Becoming.{has_become}
-use Rattle.lrs_keep.proofs.Tables.{passes, Passes, routes_in_order, links_in_order}
+use Rattle.lrs_keep.specs.Change.{is_named, without, with_difference, routes_after}
+use Rattle.lrs_keep.proofs.Tables.{passes, routes_in_order}
 use Rattle.lrs_orderly.specs.Orderly.{IsOrderly, is_filled, share_nothing_in_an_edit}
 use Rattle.lrs_orderly.proofs.Found.{each_two_from}
 use Rattle.lrs_orderly.proofs.Ordering.{sound_is_orderly}
-use Rattle.lrs_verbs.specs.Changes.{route_on}
-use Rattle.lrs_verbs.specs.Entering.{asset_of, row_of, with_row, entering, AreInLimits, AreEntered, IsEntering, HasBegun}
+use Rattle.lrs_verbs.specs.Entering.{asset_of, row_of, with_row, entering, AreInLimits, AreEntered, IsEntering}
+use Rattle.lrs_verbs.specs.Wanted.{IsWanted}
 use Rattle.lrs_verbs.specs.Extents.{IsRouteIn}
 use Rattle.lrs_verbs.specs.declared.plan.Plan.{Plan}
-use Rattle.lrs_verbs.specs.Plans.{plan_of, TellsGround, IsPlanOf}
+use Rattle.lrs_verbs.specs.Plans.{plan_of, IsPlanOf}
+use Rattle.lrs_verbs.proofs.EntryChecks.{then_held}
 use Rattle.lrs_verbs.proofs.Filed.{is_some-find_row, put-insert_by}
 use Rattle.lrs_lanes.proofs.Inserted.{length-insert_by}
 use Rattle.lrs_routes.proofs.InOrder.{and_weaker, all-insert_by, any-insert_by, each_two-insert_by, is_comparable}
@@ -62,32 +62,12 @@ use Rattle.lrs_gone.proofs.Appended.{each_two-append}
 use Rattle.lrs_verbs.proofs.Located.{route_in}
 use Rattle.lrs_verbs.proofs.Holding.{alone}
 use Rattle.lrs_verbs.proofs.FirstHolder.{spans_entry}
-use Rattle.lrs_verbs.proofs.InPlace.{DifferAt, map_same, made_same, any_more, all_still, in_place, names_stay, ground_stays}
+use Rattle.lrs_verbs.proofs.InPlace.{DifferAt, map_same, made_same, any_more, all_still}
+use Rattle.lrs_verbs.proofs.RowsInPlace.{keep_all, routes_are, differ, can, tells}
 use Rattle.lrs_verbs.proofs.NewRow.{IsNew, still_rows}
 use Rattle.lrs_gone.proofs.Once.{parts_apart}
 use Rattle.lrs_verbs.proofs.NewParts.{of_edit, of_asset, few}
 use Rattle.lrs_gone.proofs.Appended.{all-append, later_part, apart_by_edit, no_pairs, pairs-append}
-
-keep_all : {X : Type 0} (xs : List X) → filter (λ x. true) xs ≡ xs
-keep_all [] = refl
-keep_all (x ∷ xs) = ap (λ t. x ∷ t) (keep_all xs)
-
--- ---- one more row on a route
-
-module _ (name : Name) (row : Span) (r : RouteEntry) (named : r.route.name ≡ name) where
-  abbrev pub held_too : RouteEntry
-  held_too = record r { spans = insert_by span_before row r.spans }
-
-  abbrev change : RouteChange
-  change = with_row name row
-
-  pub fits : fits_after change r.route ≡ true
-  fits = ap (is_route r.route.course r.route.marks) (keep_all r.route.refs) ∙ r.route.fits
-
-  pub entry_is : entry_after change r ≡ held_too
-  entry_is =
-      let same = has_become change r.route r.route fits (record { name = named; course = refl; marks = refl; refs = sym (keep_all r.route.refs) }) in
-      λ j. record { route = sym same j; spans = insert_by span_before row (keep_all r.spans j) }
 
 -- a route is no longer than the longest
 longest : (r : RouteEntry) → length r.route.course ≤ longest_route
@@ -130,9 +110,35 @@ pub record IsEntry (e : Entry) (i : Image) (r : RouteEntry) (x : Extent) : Type 
   pub name : r.route.name ≡ e.route
   pub filled : x.from < x.to
   pub within : x.to ≤ length r.route.course
-  pub done : attempt (length i.edits + 1) (verb.Enter e) (state_of i) ≡ Ok (enter_asset (length i.edits + 1) e (places_on e.side (slice_range r.route.course x.from x.to)) (state_of i))
 
-module _ (e : Entry) (i : Image) (r : RouteEntry) (x : Extent) (parts : List Part) (s : IsSound i) (is : IsEntry e i r x) (led : AreEntered (length i.edits + 1) r.route.course (row_of e x) parts) where
+-- An image in order, whose entered parts are of its edits and assets, and a route over its links.
+pub record IsOpen (i : Image) (r : RouteEntry) : Type 0 where
+  pub orderly : IsOrderly i
+  pub routes : each_two route_before i.routes ≡ true
+  pub on_links : list_all (is_on_a_link i.links) r.route.course ≡ true
+  pub parts : list_all (is_part i.links i.assets) i.entered ≡ true
+  pub edits : list_all (is_named_by i.edits) i.entered ≡ true
+
+-- Each route of a sound image is one.
+pub is_open : (i : Image) (r : RouteEntry) → IsSound i → In r i.routes → IsOpen i r
+is_open i r s m =
+    let p = passes i s in
+    let keys = each_two (λ (d f : Edit). not (same_name d.key f.key)) i.edits in
+    let named = list_all (is_named_by i.edits) i.entered in
+    let gone_named = list_all (is_named_by i.edits) (parts_of i.gone) in
+    let known = list_all (is_part i.links i.assets) i.entered in
+    let few = list_all (λ a. nat_le (pairs_of a.number i.entered) most_pairs) i.assets in
+    record {
+      orderly = sound_is_orderly i s;
+      routes = routes_in_order i s;
+      on_links = (alone i r s m).on_links;
+      parts = (and_three known (each_two share_nothing i.entered) few (and_parts (each_two part_before i.entered) (are_parts i.links i.assets i.entered) p.entered).1).0;
+      edits = (and_three keys named gone_named (and_parts (keys && named && gone_named) (nat_le (length i.edits) most_edits) p.edits).0).1;
+    }
+
+-- ---- the asset, its row and its ledger come
+
+module _ (e : Entry) (i : Image) (r : RouteEntry) (x : Extent) (parts : List Part) (ready : IsOpen i r) (is : IsEntry e i r x) (led : AreEntered (length i.edits + 1) r.route.course (row_of e x) parts) where
   abbrev n : ℕ
   n = length i.edits + 1
 
@@ -145,8 +151,9 @@ module _ (e : Entry) (i : Image) (r : RouteEntry) (x : Extent) (parts : List Par
   abbrev asset : Asset
   asset = asset_of n e
 
+  -- the route with the row
   abbrev more : RouteEntry
-  more = held_too e.route row r is.name
+  more = record r { spans = insert_by span_before row r.spans }
 
   abbrev new_assets : List Asset
   new_assets = insert_by asset_before asset i.assets
@@ -160,24 +167,25 @@ module _ (e : Entry) (i : Image) (r : RouteEntry) (x : Extent) (parts : List Par
   found : list.find (is_named e.route) i.routes ≡ Some r
   found = ap (λ n. list.find (is_named n) i.routes) (sym is.name) ∙ is.route
 
-  routes_are : routes_after (Some (with_row e.route row)) i.routes ≡ new_routes
-  routes_are =
-      ap (λ o. insert_some route_before (option_map (entry_after (with_row e.route row)) o) (without e.route i.routes)) found
-      ∙ ap (λ f. insert_by route_before f (without e.route i.routes)) (entry_is e.route row r is.name)
+  rows_are : changed span_before [] (row ∷ []) r.spans ≡ insert_by span_before row r.spans
+  rows_are = ap (insert_by span_before row) (keep_all r.spans)
+
+  pub becomes : routes_after (Some (with_row e.route row)) i.routes ≡ new_routes
+  becomes = routes_are i ready.routes e.route [] (row ∷ []) r is.name found (insert_by span_before row r.spans) rows_are
 
   is_new : with_difference (entering n e x parts) i ≡ new
-  is_new = λ j. record new { routes = routes_are j; gone = append-nil i.gone j }
+  is_new = λ j. record new { routes = becomes j; gone = append-nil i.gone j }
 
   in_routes : In r i.routes
   in_routes = route_in i r is.route
 
-  differ : DifferAt r more i.routes new_routes
-  differ = in_place e.route r more refl i.routes (routes_in_order i s) found
+  same : DifferAt r more i.routes new_routes
+  same = differ i ready.routes e.route [] (row ∷ []) r is.name found (insert_by span_before row r.spans) rows_are
 
   -- ---- the state
 
   held : (a : ℕ) (p : Place) → list_any (λ f. holds_on f a p) new_routes ≡ (list_any (λ f. holds_on f a p) i.routes || (nat_eq a e.asset && is_among places p))
-  held a p = any_more r more i.routes new_routes differ (λ f. holds_on f a p) (nat_eq a e.asset && is_among places p)
+  held a p = any_more r more i.routes new_routes same (λ f. holds_on f a p) (nat_eq a e.asset && is_among places p)
       (any_insert (λ span. holds_by_span r.route.course span a p) span_before row r.spans
       ∙ swap (holds_by_span r.route.course row a p) (holds_on r a p)
       ∙ ap (λ b. holds_on r a p || (b && is_among places p)) (nat_eq-comm e.asset a))
@@ -202,22 +210,16 @@ module _ (e : Entry) (i : Image) (r : RouteEntry) (x : Extent) (parts : List Par
   unfolding state_of
   state-new = λ j. record (state_of i) {
     assets = record { rows = put-insert_by nat_cmp_total nat_cmp-IsAntisymmetric asset_entry asset_before (λ a b. numbers_agree a.number b.number) asset i.assets (ties e.asset i.assets ∙ is.fresh) j };
-    routes = record { rows = sym (map_same r more i.routes new_routes differ route_entry refl) j };
-    referents = λ name. find name_cmp name (sym (made_same r more i.routes new_routes differ referents_on refl) j);
+    routes = record { rows = sym (map_same r more i.routes new_routes same route_entry refl) j };
+    referents = λ name. find name_cmp name (sym (made_same r more i.routes new_routes same referents_on refl) j);
     holds = λ a p. sym (held a p) j;
     entered = λ m a p. sym (named m a p) j;
   }
 
-  attempts : attempt n (verb.Enter e) (state_of i) ≡ Ok (state_of (with_difference (entering n e x parts) i))
-  attempts = is.done ∙ ap Ok (state-new ∙ ap state_of (sym is_new))
-
   -- ---- the rows are in order
 
-  p : Passes i
-  p = passes i s
-
   o : IsOrderly i
-  o = sound_is_orderly i s
+  o = ready.orderly
 
   asset_tests : (each_two asset_before i.assets ≡ true) × (list_all (is_asset i.classes) i.assets ≡ true) × (nat_le (length i.assets) most_assets ≡ true)
   asset_tests = and_three (each_two asset_before i.assets) (list_all (is_asset i.classes) i.assets) (nat_le (length i.assets) most_assets) o.assets
@@ -259,7 +261,7 @@ module _ (e : Entry) (i : Image) (r : RouteEntry) (x : Extent) (parts : List Par
   good_row : is_row row ≡ true
   good_row = and_from (nat_lt x.from x.to) (nat_le x.to longest_route) (lt-ltb x.from x.to is.filled) (le-leb x.to longest_route short)
 
-  rows_kept : are_rows (insert_by span_before row r.spans) ≡ true
+  pub rows_kept : are_rows (insert_by span_before row r.spans) ≡ true
   rows_kept = still_rows row r.spans no_row good_row row_tests.0
 
   new_span : is_span new_assets (length r.route.course) row ≡ true
@@ -278,30 +280,16 @@ module _ (e : Entry) (i : Image) (r : RouteEntry) (x : Extent) (parts : List Par
   spans : list_all (are_spans_of new_assets) (spans_of new) ≡ true
   spans =
       list_all-map (are_spans_of new_assets) spans_entry new_routes
-      ∙ all_still r more i.routes new_routes differ (λ f. are_spans_of new_assets (spans_entry f)) its_spans
+      ∙ all_still r more i.routes new_routes same (λ f. are_spans_of new_assets (spans_entry f)) its_spans
       (all_weaker (λ f. are_spans_of i.assets (spans_entry f)) (λ f. are_spans_of new_assets (spans_entry f)) i.routes still_spans_of each_route)
 
   -- ---- the ledger
 
-  edit_tests : list_all (is_named_by i.edits) i.entered ≡ true
-  edit_tests =
-      let keys = each_two (λ (d f : Edit). not (same_name d.key f.key)) i.edits in
-      let a = list_all (is_named_by i.edits) i.entered in
-      let b = list_all (is_named_by i.edits) (parts_of i.gone) in
-      (and_three keys a b (and_parts (keys && a && b) (nat_le (length i.edits) most_edits) p.edits).0).1
-
-  on_links : list_all (is_on_a_link i.links) r.route.course ≡ true
-  on_links = (alone i r s in_routes).on_links
-
   earlier : (y z : Part) → In y i.entered → In z parts → y.edit < z.edit
   earlier y z m k =
-      let high = leb-true y.edit (length i.edits) (and_parts (nat_le 1 y.edit) (nat_le y.edit (length i.edits)) (all_at (is_named_by i.edits) y i.entered edit_tests m)).1 in
-      let b = of_edit i.links (links_in_order i s) r.route.course on_links n row short parts led z k in
+      let high = leb-true y.edit (length i.edits) (and_parts (nat_le 1 y.edit) (nat_le y.edit (length i.edits)) (all_at (is_named_by i.edits) y i.entered ready.edits m)).1 in
+      let b = of_edit i.links o.links r.route.course ready.on_links n row short parts led z k in
       omega (arith, high, b)
-
-  part_tests : list_all (is_part i.links i.assets) i.entered ≡ true
-  part_tests = (and_three (list_all (is_part i.links i.assets) i.entered) (each_two share_nothing i.entered) (list_all (λ a. nat_le (pairs_of a.number i.entered) most_pairs) i.assets)
-      (and_parts (each_two part_before i.entered) (are_parts i.links i.assets i.entered) p.entered).1).0
 
   weaker : (y z : Part) → share_nothing y z ≡ true → share_nothing_in_an_edit y z ≡ true
   weaker y z = or_right (not (nat_eq y.edit z.edit)) (share_nothing y z)
@@ -315,26 +303,26 @@ module _ (e : Entry) (i : Image) (r : RouteEntry) (x : Extent) (parts : List Par
   none_before : pairs_of e.asset i.entered ≡ 0
   none_before = no_pairs e.asset i.entered (λ y m same.
       let on = nat_lt y.from y.to && list_any (λ l. nat_eq l.number y.link && nat_le y.to l.length) i.links in
-      let found = any_found (λ (a : Asset). nat_eq a.number y.asset) i.assets (and_parts on (list_any (λ a. nat_eq a.number y.asset) i.assets) (all_at (is_part i.links i.assets) y i.entered part_tests m)).1 in
+      let found = any_found (λ (a : Asset). nat_eq a.number y.asset) i.assets (and_parts on (list_any (λ a. nat_eq a.number y.asset) i.assets) (all_at (is_part i.links i.assets) y i.entered ready.parts m)).1 in
       both_ways (list_any (λ (a : Asset). nat_eq e.asset a.number) i.assets) is.fresh (any_of (λ (a : Asset). nat_eq e.asset a.number) found.0 i.assets found.1 (eq-eqb e.asset found.0.number (sym same ∙ sym (eqb-true found.0.number y.asset found.2)))))
 
   few_pairs : list_all (λ a. nat_le (pairs_of a.number (i.entered ++ parts)) most_pairs) new_assets ≡ true
   few_pairs = all-insert_by (λ a. nat_le (pairs_of a.number (i.entered ++ parts)) most_pairs) asset_before asset i.assets
-      (le-leb (pairs_of e.asset (i.entered ++ parts)) most_pairs (omega (arith, pairs-append e.asset i.entered parts, none_before, few i.links (links_in_order i s) r.route.course on_links n row short parts led)))
+      (le-leb (pairs_of e.asset (i.entered ++ parts)) most_pairs (omega (arith, pairs-append e.asset i.entered parts, none_before, few i.links o.links r.route.course ready.on_links n row short parts led)))
       (all_of (λ a. nat_le (pairs_of a.number (i.entered ++ parts)) most_pairs) i.assets (λ a m.
       let none = no_pairs a.number parts (λ y k same. both_ways (list_any (λ (b : Asset). nat_eq e.asset b.number) i.assets) is.fresh (any_of (λ (b : Asset). nat_eq e.asset b.number) a i.assets m
-      (eq-eqb e.asset a.number (sym (of_asset i.links (links_in_order i s) r.route.course on_links n row short parts led y k) ∙ same)))) in
+      (eq-eqb e.asset a.number (sym (of_asset i.links o.links r.route.course ready.on_links n row short parts led y k) ∙ same)))) in
       let old = leb-true (pairs_of a.number i.entered) most_pairs (all_at (λ a. nat_le (pairs_of a.number i.entered) most_pairs) a i.assets o.entered_few m) in
       le-leb (pairs_of a.number (i.entered ++ parts)) most_pairs (omega (arith, pairs-append a.number i.entered parts, none, old))))
 
-  orderly : length i.assets + 1 ≤ most_assets → IsOrderly new
-  orderly room = record {
+  new_orderly : length i.assets + 1 ≤ most_assets → IsOrderly new
+  new_orderly room = record {
     links = o.links;
     classes = o.classes;
     assets = assets room;
-    courses = ap (are_courses i.links) (map_same r more i.routes new_routes differ (λ f. let c : RouteCourse = record { route = f.route.name; entries = f.route.course } in c) refl) ∙ o.courses;
-    marks = ap are_all_marks (map_same r more i.routes new_routes differ (λ f. let c : RouteMarks = record { course = f.route.course; marks = f.route.marks } in c) refl) ∙ o.marks;
-    referents = ap are_all_referents (map_same r more i.routes new_routes differ (λ f. let c : RouteReferents = record { length = length f.route.course; refs = f.route.refs } in c) refl) ∙ o.referents;
+    courses = ap (are_courses i.links) (map_same r more i.routes new_routes same (λ f. let c : RouteCourse = record { route = f.route.name; entries = f.route.course } in c) refl) ∙ o.courses;
+    marks = ap are_all_marks (map_same r more i.routes new_routes same (λ f. let c : RouteMarks = record { course = f.route.course; marks = f.route.marks } in c) refl) ∙ o.marks;
+    referents = ap are_all_referents (map_same r more i.routes new_routes same (λ f. let c : RouteReferents = record { length = length f.route.course; refs = f.route.refs } in c) refl) ∙ o.referents;
     spans = spans;
     entered_order = each_two-append part_before i.entered parts o.entered_order led.order (λ y z m k. later_part y z (earlier y z m k));
     entered_filled = all-append is_filled i.entered parts o.entered_filled led.filled;
@@ -347,51 +335,56 @@ module _ (e : Entry) (i : Image) (r : RouteEntry) (x : Extent) (parts : List Par
     few_edits = o.few_edits;
   }
 
-  -- ---- the plan
+  -- What is entered is what the machine enters, and leaves the rows in order.
+  pub state : enter_asset n e places (state_of i) ≡ state_of (with_difference (entering n e x parts) i)
+  state = state-new ∙ ap state_of (sym is_new)
 
-  some_is : (a b : RouteEntry) → Some a ≡ Some b → a ≡ b
-  some_is a b h = cc
+  pub orderly : length i.assets + 1 ≤ most_assets → IsOrderly (with_difference (entering n e x parts) i)
+  orderly room = subst IsOrderly (sym is_new) (new_orderly room)
 
-  can : CanDiffer (entering n e x parts) i
-  can = record {
-    route = λ f h. subst (CanBecome (with_row e.route row)) (some_is r f (sym found ∙ h))
-        (record { fits = fits e.route row r is.name; rows = ap (λ rows. are_rows (insert_by span_before row rows)) (keep_all r.spans) ∙ rows_kept; gone = refl });
-    names = ap (each_two route_before) routes_are ∙ names_stay r more i.routes new_routes differ refl (routes_in_order i s);
-  }
+-- ---- the plan
 
-  tells : TellsGround (plan_of (entering n e x parts)) i
-  unfolding state_of
-  tells = record {
-    ground = λ m. ap (λ (rs : List RouteEntry). route_on rs m) routes_are ∙ ground_stays r more i.routes new_routes differ refl refl m;
-    can_ground = tt;
-    referents = λ name. ap (λ (rs : List RouteEntry). find name_cmp name (flat_map referents_on rs)) routes_are ∙ ap (find name_cmp name) (made_same r more i.routes new_routes differ referents_on refl);
-    new_referent = tt;
-  }
+module _ (e : Entry) (i : Image) (r : RouteEntry) (x : Extent) (parts : List Part) (s : IsSound i) (is : IsEntry e i r x) (led : AreEntered (length i.edits + 1) r.route.course (row_of e x) parts) where
+  abbrev edit : ℕ
+  edit = length i.edits + 1
 
-  pub makes : IsPlanOf (verb.Enter e) i (plan_of (entering n e x parts))
-  makes = record {
+  its : IsOpen i r
+  its = is_open i r s (route_in i r is.route)
+
+  found_so : list.find (is_named e.route) i.routes ≡ Some r
+  found_so = found e i r x parts its is led
+
+  kept_so : changed span_before [] (row_of e x ∷ []) r.spans ≡ insert_by span_before (row_of e x) r.spans
+  kept_so = rows_are e i r x parts its is led
+
+  pub makes : attempt edit (verb.Enter e) (state_of i) ≡ Ok (enter_asset edit e (places_on e.side (slice_range r.route.course x.from x.to)) (state_of i)) → IsPlanOf (verb.Enter e) i (plan_of (entering edit e x parts))
+  makes done = record {
     makes = record {
-      state = attempts;
+      state = done ∙ ap Ok (state e i r x parts its is led);
       edits = refl;
-      orderly = λ room. subst IsOrderly (sym is_new) (orderly (room.assets refl));
+      orderly = λ room. orderly e i r x parts its is led (room.assets refl);
     };
-    differ = can;
-    tells = tells;
+    differ = can i its.routes e.route [] (row_of e x ∷ []) r is.name found_so (insert_by span_before (row_of e x) r.spans) kept_so (Some (asset_of edit e)) parts [] (rows_kept e i r x parts its is led) refl;
+    tells = tells i its.routes e.route [] (row_of e x ∷ []) r is.name found_so (insert_by span_before (row_of e x) r.spans) kept_so (Some (asset_of edit e)) parts [];
   }
+
+-- what the checks of an entry have found
+pub is_entry : (e : Entry) (i : Image) (only_exclusive : Bool) (kind : Kind) (r : RouteEntry) (x : Extent) → IsWanted i only_exclusive e kind r x → AreInLimits e → IsEntry e i r x
+is_entry e i only_exclusive kind r x w limits =
+    let known : list_any (λ c. same_name c.name e.class) i.classes ≡ true = sym (new_class.knows e.class i) ∙ ap is_some w.begun.class in
+    record {
+      fresh = sym (knows e.asset i) ∙ w.begun.fresh;
+      asset = and_from (is_asset_number e.asset && is_lateral_offset e.offset) (list_any (λ c. same_name c.name e.class) i.classes) (and_from (is_asset_number e.asset) (is_lateral_offset e.offset) limits.number limits.lateral) known;
+      route = w.begun.route;
+      name = w.begun.name;
+      filled = w.filled;
+      within = w.within;
+    }
 
 -- The verb enters the asset, where its checks have passed.
-pub enters : (e : Entry) (i : Image) (kind : Kind) (r : RouteEntry) (x : Extent) (p : Plan) → IsSound i → HasBegun i e kind r → AreInLimits e → is_empty_extent x ≡ false → x.to ≤ length r.route.course
-    → attempt (length i.edits + 1) (verb.Enter e) (state_of i) ≡ Ok (enter_asset (length i.edits + 1) e (places_on e.side (slice_range r.route.course x.from x.to)) (state_of i))
+pub enters : (e : Entry) (i : Image) (kind : Kind) (r : RouteEntry) (x : Extent) (p : Plan) → IsSound i → IsWanted i false e kind r x → AreInLimits e
+    → refuse_at (cond (is_exclusive kind) (first_holder (state_of i) e.class (places_on e.side (part_of r.route.course x))) None) cause.Overlap ≡ Ok tt
     → IsEntering (length i.edits + 1) e x r.route.course p → IsPlanOf (verb.Enter e) i p
-enters e i kind r x p s begun limits some within done entered =
-    let known : list_any (λ c. same_name c.name e.class) i.classes ≡ true = sym (new_class.knows e.class i) ∙ ap is_some begun.class in
+enters e i kind r x p s w limits free entered =
     subst (IsPlanOf (verb.Enter e) i) (sym entered.plan_is)
-    (makes e i r x entered.parts s (record {
-      fresh = sym (knows e.asset i) ∙ begun.fresh;
-      asset = and_from (is_asset_number e.asset && is_lateral_offset e.offset) (list_any (λ c. same_name c.name e.class) i.classes) (and_from (is_asset_number e.asset) (is_lateral_offset e.offset) limits.number limits.lateral) known;
-      route = begun.route;
-      name = begun.name;
-      filled = leb-false x.to x.from some;
-      within = within;
-      done = done;
-    }) entered.entered)
+    (makes e i r x entered.parts s (is_entry e i false kind r x w limits) entered.entered (then_held e (length i.edits + 1) (state_of i) _ w.wanted (Ok tt) free))

@@ -6,6 +6,7 @@ use Rattle.lrs_machine.specs.declared.command.Command.{Command}
 use Rattle.lrs_machine.specs.declared.image.Image.{Image}
 use Rattle.lrs_machine.specs.Image.{state_of}
 use Rattle.lrs_machine.specs.Machine.{attempt}
+use Rattle.lrs_machine.specs.State.{State}
 use Rattle.lrs_verbs.specs.declared.plan.Stop.{Stop}
 use Rattle.lrs_verbs.specs.declared.plan.Stop.TheVariants.{Refused, Memory}
 use Rattle.lrs_verbs.specs.Plans.{Answers, Plans}
@@ -18,16 +19,31 @@ pub passed : (fails : Bool) (c : Cause) (r : Result (Unit {0}) Stop) (u : Unit {
 passed true c r u is ok = absurd (cc (sym is ∙ ok))
 passed false c r u is ok = refl
 
--- A command is refused where one of its checks fails.
-module _ (command : Command) (i : Image) where
-  pub refused : (fails : Bool) (c : Cause) (r : Result (Unit {0}) Stop) (e : Stop) → r ≡ refusal fails c → r ≡ Err e → (fails ≡ true → attempt (length i.edits + 1) command (state_of i) ≡ Err c) → Plans command i (Err e)
-  refused false c r e is err why = absurd (cc (sym is ∙ err))
-  refused true c r e is err why = by e (sym is ∙ err)
+-- The answer of several checks is that of the first that fails.
+module _ {X : Type 0} (all : Result X Cause) where
+  pub answers_refused : (fails : Bool) (c : Cause) (r : Result (Unit {0}) Stop) (e : Stop) → r ≡ refusal fails c → r ≡ Err e → (fails ≡ true → all ≡ Err c) → Answers all (Err e)
+  answers_refused false c r e is err why = absurd (cc (sym is ∙ err))
+  answers_refused true c r e is err why = by e (sym is ∙ err)
     where
-      by : (e : Stop) → refusal true c ≡ Err e → Plans command i (Err e)
+      by : (e : Stop) → refusal true c ≡ Err e → Answers all (Err e)
       by Memory h = tt
       by (Refused d) h = let same : c ≡ d = cc h in why refl ∙ ap Err same
 
+  pub answers_stopped : {Y : Type 0} (r : Result Y Cause) (e : Stop) → Answers r (Err e) → ((c : Cause) → r ≡ Err c → all ≡ Err c) → Answers all (Err e)
+  answers_stopped r (Refused c) h why = why c h
+  answers_stopped r Memory h why = tt
+
+-- A command is refused where one of its checks fails.
+module _ (command : Command) (i : Image) where
+  abbrev state_made : Result State Cause
+  state_made = attempt (length i.edits + 1) command (state_of i)
+
+  plans : (e : Stop) → Answers state_made (Err e) → Plans command i (Err e)
+  plans (Refused c) h = h
+  plans Memory h = tt
+
+  pub refused : (fails : Bool) (c : Cause) (r : Result (Unit {0}) Stop) (e : Stop) → r ≡ refusal fails c → r ≡ Err e → (fails ≡ true → attempt (length i.edits + 1) command (state_of i) ≡ Err c) → Plans command i (Err e)
+  refused fails c r e is err why = plans e (answers_refused state_made fails c r e is err why)
+
   pub stopped : {X : Type 0} (r : Result X Cause) (e : Stop) → Answers r (Err e) → ((c : Cause) → r ≡ Err c → attempt (length i.edits + 1) command (state_of i) ≡ Err c) → Plans command i (Err e)
-  stopped r (Refused c) h why = why c h
-  stopped r Memory h why = tt
+  stopped r e h why = plans e (answers_stopped state_made r e h why)

@@ -1,9 +1,7 @@
 -- A route's rows change in place to what a removal leaves, and the ledger grows by what the removal hands back.
-use Rattle.std.proofs.Common.{◌≡◌, ℕ, zero, suc, ◌+◌, ◌-◌, Bool, true, false, ◌⊎◌, inl, inr, List, [], ◌∷◌, ◌++◌, map, filter, drop, length, Option, Some, None, Ok, refl, sym, ap, subst, ◌∙◌}
+use Rattle.std.proofs.Common.{◌≡◌, ℕ, zero, suc, ◌+◌, ◌-◌, Bool, true, false, ◌⊎◌, inl, inr, List, [], ◌∷◌, ◌++◌, drop, length, Some, None, Ok, refl, sym, ap, subst, ◌∙◌}
 use Rattle.std.specs.Prelude.{◌||◌, ◌&&◌, not, nat_eq, slice_get, slice_range}
-use Rattle.std.specs.List.{list_any, list_all, flat_map}
-use Rattle.std.specs.List as list
-use Rattle.std.specs.Option.{option_map}
+use Rattle.std.specs.List.{list_any, list_all}
 use Rattle.std.specs.Cmp.Lexicographic.{bytes_decides}
 use Rattle.std.specs.FinMap.{find}
 use Rattle.std.proofs.Math.Bool.{and-true}
@@ -11,24 +9,22 @@ use Rattle.std.proofs.lemmas.Bool.{false≢true, both_ways, and_parts, and_from,
 use Rattle.std.proofs.lemmas.List.{append-nil}
 use Rattle.std.proofs.lemmas.List.Folds.{list_all-map, list_any-append}
 use Rattle.lrs_measure.specs.Lists.{each_two}
-use Rattle.lrs_measure.specs.Ordered.{insert_by, insert_some}
+use Rattle.lrs_measure.specs.Ordered.{insert_by}
 use Rattle.lrs_measure.specs.Texts.{Name, name_cmp, same_name}
 use Rattle.lrs_element.specs.declared.link.Ground.{Ground}
-use Rattle.lrs_element.specs.Course.{is_at, runs_over, meets}
-use Rattle.lrs_position.specs.Routes.{is_route}
+use Rattle.lrs_element.specs.Course.{is_at, meets}
 use Rattle.lrs_events.specs.declared.class.Asset.{Asset}
 use Rattle.lrs_events.specs.declared.part.Gone.{Gone}
 use Rattle.lrs_events.specs.declared.side.Side.{Side}
 use Rattle.lrs_events.specs.declared.side.Side.TheVariants.{B}
 use Rattle.lrs_events.specs.declared.side.LinkSide.{LinkSide}
 use Rattle.lrs_events.specs.declared.side.LinkSide.TheVariants.{Left, Right}
-use Rattle.lrs_events.specs.declared.change.SpanChange.{SpanChange}
 use Rattle.lrs_events.specs.declared.span.Span.{Span}
 use Rattle.lrs_events.specs.Changes.{changed_rows}
 use Rattle.lrs_events.specs.Members.{between, stands_for, has_member, is_member}
 use Rattle.lrs_events.specs.Parts.{has_pair}
 use Rattle.lrs_events.specs.Places.{Place, same_link_side, along_link, beside, places_on, is_among, lies_on, differs}
-use Rattle.lrs_events.specs.Spans.{are_rows, holds_by_spans}
+use Rattle.lrs_events.specs.Spans.{holds_by_spans}
 use Rattle.lrs_canonical.specs.declared.removing.Removal.{Removal}
 use Rattle.lrs_canonical.specs.OnCourse.{is_held}
 use Rattle.lrs_canonical.specs.Removals.{Taken, IsRemoval}
@@ -43,10 +39,7 @@ use Rattle.lrs_machine.specs.Machine.{attempt, take_away}
 use Rattle.lrs_machine.specs.Sound.{route_before, are_spans_of, spans_of, are_courses, are_all_marks, are_all_referents, IsSound, RouteCourse, RouteMarks, RouteReferents}
 use Rattle.lrs_machine.proofs.Members.{In, any_found, any_of, In-append_right, In-take, In-drop}
 use Rattle.lrs_machine.proofs.Pairs.{held, each_two-map}
-use Rattle.lrs_lanes.proofs.Members.{filter_all}
-use Rattle.lrs_keep.specs.declared.change.Difference.{Difference}
-use Rattle.lrs_keep.specs.Change.{is_named, without, entry_after, route_after, fits_after, spans_after, with_difference, CanBecome, CanDiffer, routes_after}
-use Rattle.lrs_keep.proofs.Becoming.{HasBecome, has_become}
+use Rattle.lrs_keep.specs.Change.{without, with_difference}
 use Rattle.lrs_keep.proofs.Tables.{routes_in_order}
 use Rattle.lrs_orderly.specs.Orderly.{IsOrderly}
 use Rattle.lrs_orderly.proofs.Ordering.{sound_is_orderly}
@@ -56,16 +49,15 @@ use Rattle.lrs_routes.proofs.Apart.{nat_eq-comm}
 use Rattle.lrs_routes.proofs.Halved.{fewer_have_rows}
 use Rattle.lrs_routes.proofs.InOrder.{is_false}
 use Rattle.lrs_routes.proofs.Parted.{held_alike}
-use Rattle.lrs_verbs.specs.declared.plan.Plan.{Plan}
-use Rattle.lrs_verbs.specs.Changes.{route_on}
 use Rattle.lrs_verbs.specs.Extents.{IsRouteIn}
-use Rattle.lrs_verbs.specs.Plans.{plan_of, TellsGround, IsPlanOf}
-use Rattle.lrs_verbs.specs.Taking.{with_rows, taking, IsTaking}
+use Rattle.lrs_verbs.specs.Plans.{plan_of, IsPlanOf}
+use Rattle.lrs_verbs.specs.Taking.{taking}
 use Rattle.lrs_verbs.proofs.FirstHolder.{spans_entry, row_tests, asset_of}
 use Rattle.lrs_verbs.proofs.FromReferents.{apart_courses}
 use Rattle.lrs_verbs.proofs.Holding.{IsAlone, alone, picked_at, rows_held_at, held_among}
-use Rattle.lrs_verbs.proofs.InPlace.{DifferAt, map_same, made_same, any_same, all_still, in_place, names_stay, ground_stays}
+use Rattle.lrs_verbs.proofs.InPlace.{DifferAt, map_same, made_same, any_same, all_still, in_place}
 use Rattle.lrs_verbs.proofs.Located.{route_in}
+use Rattle.lrs_verbs.proofs.RowsInPlace.{routes_are, can, tells}
 
 -- ---- places beside a course
 
@@ -241,26 +233,10 @@ module _ (i : Image) (r : RouteEntry) (taken : Taken) (takes : ℕ → Place →
             any_same r rest i.routes routes differ (λ e. holds_on e a p) (none_held rest.spans a p off ∙ sym (none_held r.spans a p off))
             ∙ sym (ap (λ b. list_any (λ e. holds_on e a p) i.routes && not b) (none_off a p off) ∙ and-true (list_any (λ e. holds_on e a p) i.routes))
 
--- ---- the route's change
-
-keep_all : {X : Type 0} (xs : List X) → filter (λ x. true) xs ≡ xs
-keep_all xs = filter_all (λ x. true) xs (λ x m. refl)
-
-pub stays_fit : (r : RouteEntry) (change : SpanChange) → fits_after (with_rows r.route.name change) r.route ≡ true
-stays_fit r change = ap (is_route r.route.course r.route.marks) (keep_all r.route.refs) ∙ r.route.fits
-
--- Only the rows change.
-pub entry_is : (r : RouteEntry) (change : SpanChange) → entry_after (with_rows r.route.name change) r ≡ record r { spans = changed_rows change r.spans }
-entry_is r change =
-    let same = has_become (with_rows r.route.name change) r.route r.route (stays_fit r change) (record { name = refl; course = refl; marks = refl; refs = sym (keep_all r.route.refs) }) in
-    λ j. record { route = sym same j; spans = changed_rows change r.spans }
-
 -- ---- the image
 
-module _ (command : Command) (i : Image) (r : RouteEntry) (why : Reason) (taken : Taken) (takes : ℕ → Place → Bool) (removal : Removal) (gone : List Gone) (s : IsSound i) (route : IsRouteIn i r)
-    (plan : IsPlan r.spans removal.change) (is : IsRemoval taken r.spans removal) (so : IsTakenSo i r.route.course taken takes)
-    (led : AreGone (length i.edits + 1) why (holds_by_spans r.route.course removal.left.items) gone)
-    (done : attempt (length i.edits + 1) command (state_of i) ≡ Ok (take_away (length i.edits + 1) why takes (state_of i))) where
+module _ (i : Image) (r : RouteEntry) (why : Reason) (taken : Taken) (takes : ℕ → Place → Bool) (removal : Removal) (gone : List Gone) (s : IsSound i) (route : IsRouteIn i r)
+    (is : IsRemoval taken r.spans removal) (so : IsTakenSo i r.route.course taken takes) (led : AreGone (length i.edits + 1) why (holds_by_spans r.route.course removal.left.items) gone) where
   abbrev n : ℕ
   n = length i.edits + 1
 
@@ -270,27 +246,17 @@ module _ (command : Command) (i : Image) (r : RouteEntry) (why : Reason) (taken 
   in_routes : In r i.routes
   in_routes = route_in i r route
 
-  abbrev less : RouteEntry
+  -- the route with what the removal leaves
+  abbrev pub less : RouteEntry
   less = record r { spans = changed_rows removal.change r.spans }
 
   abbrev new_routes : List RouteEntry
   new_routes = insert_by route_before less (without name i.routes)
 
-  abbrev new : Image
+  abbrev pub new : Image
   new = record i { routes = new_routes; gone = i.gone ++ gone }
 
-  abbrev d : Difference
-  d = taking name removal.change gone
-
-  routes_are : routes_after d.changed i.routes ≡ new_routes
-  routes_are =
-      ap (λ o. insert_some route_before (option_map (entry_after (with_rows name removal.change)) o) (without name i.routes)) route
-      ∙ ap (λ f. insert_by route_before f (without name i.routes)) (entry_is r removal.change)
-
-  is_new : with_difference d i ≡ new
-  is_new = λ j. record new { routes = routes_are j; entered = append-nil i.entered j }
-
-  differ : DifferAt r less i.routes new_routes
+  pub differ : DifferAt r less i.routes new_routes
   differ = in_place name r less refl i.routes (routes_in_order i s) route
 
   -- ---- the state
@@ -310,9 +276,10 @@ module _ (command : Command) (i : Image) (r : RouteEntry) (why : Reason) (taken 
       regroup true b c = refl
       regroup false b c = refl
 
-  state-new : take_away n why takes (state_of i) ≡ state_of new
+  -- What is taken away leaves the state that the image without it stands for.
+  pub state : take_away n why takes (state_of i) ≡ state_of new
   unfolding state_of
-  state-new = λ j. record (state_of i) {
+  state = λ j. record (state_of i) {
     routes = record { rows = sym (map_same r less i.routes new_routes differ route_entry refl) j };
     referents = λ name. find name_cmp name (sym (made_same r less i.routes new_routes differ referents_on refl) j);
     holds = λ a p. sym (still_held i r taken takes removal s in_routes is so new_routes differ a p) j;
@@ -333,7 +300,7 @@ module _ (command : Command) (i : Image) (r : RouteEntry) (why : Reason) (taken 
       ∙ all_still r less i.routes new_routes differ (λ f. are_spans_of i.assets (spans_entry f)) (rest_rows i r taken takes removal s in_routes is so)
       (sym (list_all-map (are_spans_of i.assets) spans_entry i.routes) ∙ o.spans)
 
-  orderly : IsOrderly new
+  pub orderly : IsOrderly new
   orderly = record {
     links = o.links;
     classes = o.classes;
@@ -353,33 +320,31 @@ module _ (command : Command) (i : Image) (r : RouteEntry) (why : Reason) (taken 
     few_edits = o.few_edits;
   }
 
-  -- ---- the plan
+-- ---- the plan
 
-  some_is : (a b : RouteEntry) → Some a ≡ Some b → a ≡ b
-  some_is a b h = cc
+module _ (command : Command) (i : Image) (r : RouteEntry) (why : Reason) (taken : Taken) (takes : ℕ → Place → Bool) (removal : Removal) (gone : List Gone) (s : IsSound i) (route : IsRouteIn i r)
+    (plan : IsPlan r.spans removal.change) (is : IsRemoval taken r.spans removal) (so : IsTakenSo i r.route.course taken takes)
+    (led : AreGone (length i.edits + 1) why (holds_by_spans r.route.course removal.left.items) gone)
+    (done : attempt (length i.edits + 1) command (state_of i) ≡ Ok (take_away (length i.edits + 1) why takes (state_of i))) where
+  abbrev gone_rows : List Span
+  gone_rows = removal.change.gone.items
 
-  can : CanDiffer d i
-  can = record {
-    route = λ f h. subst (CanBecome (with_rows name removal.change)) (some_is r f (sym route ∙ h)) (record { fits = stays_fit r removal.change; rows = plan.kept; gone = plan.in_order });
-    names = ap (each_two route_before) routes_are ∙ names_stay r less i.routes new_routes differ refl (routes_in_order i s);
-  }
+  abbrev come_rows : List Span
+  come_rows = removal.change.come.items
 
-  tells : TellsGround (plan_of d) i
-  unfolding state_of
-  tells = record {
-    ground = λ m. ap (λ (rs : List RouteEntry). route_on rs m) routes_are ∙ ground_stays r less i.routes new_routes differ refl refl m;
-    can_ground = tt;
-    referents = λ name. ap (λ (rs : List RouteEntry). find name_cmp name (flat_map referents_on rs)) routes_are ∙ ap (find name_cmp name) (made_same r less i.routes new_routes differ referents_on refl);
-    new_referent = tt;
-  }
+  abbrev rows_left : List Span
+  rows_left = changed_rows removal.change r.spans
 
-  pub takes_in_place : IsPlanOf command i (plan_of d)
+  is_new : with_difference (taking r.route.name removal.change gone) i ≡ new i r why taken takes removal gone s route is so led
+  is_new = λ j. record i { routes = routes_are i (routes_in_order i s) r.route.name gone_rows come_rows r refl route rows_left refl j; entered = append-nil i.entered j; gone = i.gone ++ gone }
+
+  pub takes_in_place : IsPlanOf command i (plan_of (taking r.route.name removal.change gone))
   takes_in_place = record {
     makes = record {
-      state = done ∙ ap Ok (state-new ∙ ap state_of (sym is_new));
+      state = done ∙ ap Ok (state i r why taken takes removal gone s route is so led ∙ ap state_of (sym is_new));
       edits = refl;
-      orderly = λ room. subst IsOrderly (sym is_new) orderly;
+      orderly = λ room. subst IsOrderly (sym is_new) (orderly i r why taken takes removal gone s route is so led);
     };
-    differ = can;
-    tells = tells;
+    differ = can i (routes_in_order i s) r.route.name gone_rows come_rows r refl route rows_left refl None [] gone plan.kept plan.in_order;
+    tells = tells i (routes_in_order i s) r.route.name gone_rows come_rows r refl route rows_left refl None [] gone;
   }

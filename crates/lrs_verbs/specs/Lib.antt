@@ -9,7 +9,9 @@ pub mod Checks
 pub mod Extents
 pub mod RouteReferents
 pub mod Entering
+pub mod Wanted
 pub mod Taking
+pub mod Superseding
 pub mod Splits
 pub mod Joins
 pub mod Turns

@@ -18,4 +18,5 @@ is_planned (verb.Recalibrate route marks) = true
 is_planned (verb.Realign route from to pieces marks) = true
 is_planned (verb.Close route) = true
 is_planned (verb.Turn route) = true
+is_planned (verb.Supersede e) = true
 is_planned _ = false

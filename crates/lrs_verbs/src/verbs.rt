@@ -17,12 +17,13 @@ mod renumber;
 mod retire;
 mod route;
 mod split;
+mod supersede;
 mod turn;
 mod unref;
+mod wanted;
 
 use crate::inventory::Inventory;
 use crate::plan::{Plan, Stop};
-use crate::planned::Planned;
 use class::plan_class;
 use close::plan_close;
 use enter::plan_enter;
@@ -37,6 +38,7 @@ use retire::plan_retire;
 use route::plan_route;
 use split::plan_split;
 use std::alloc::Global;
+use supersede::plan_supersede;
 use turn::plan_turn;
 use unref::plan_unref;
 
@@ -44,10 +46,10 @@ use unref::plan_unref;
 ///
 /// # Errors
 /// The first check of its verb that fails, or want of memory.
-pub fn plan_command(alloc: Global, inventory: &Inventory, command: &Planned) -> Result<Plan, Stop>
+pub fn plan_command(alloc: Global, inventory: &Inventory, command: &Command) -> Result<Plan, Stop>
     ensures { Plans command.now inventory.now result }
 {
-    match command.command() {
+    match command {
         Command::Link(link) => plan_link(alloc, inventory, *link),
         Command::Class(class) => plan_class(alloc, inventory, *class),
         Command::Route {
@@ -88,7 +90,7 @@ pub fn plan_command(alloc: Global, inventory: &Inventory, command: &Planned) -> 
             marks.as_slice(),
         ),
         Command::Close { route } => plan_close(alloc, inventory, *route),
+        Command::Supersede(entry) => plan_supersede(alloc, inventory, entry),
         Command::Turn { route } => plan_turn(alloc, inventory, *route),
-        _ => unreachable!(),
     }
 }

@@ -1,6 +1,6 @@
 //! An asset that comes to hold places.
 
-ghost use Rattle.std.specs.Prelude.{◌≡◌, ◌<◌, if◌then◌else◌, IfOk, IsTrue, None, true, length};
+ghost use Rattle.std.specs.Prelude.{◌≡◌, ◌<◌, false, if◌then◌else◌, IfOk, IsTrue, None, true, length};
 ghost use Rattle.lrs_measure.specs.Lists.{each_two};
 ghost use Rattle.lrs_events.specs.Places.{differs, places_on};
 ghost use Rattle.lrs_events.specs.Spans.{is_row};
@@ -8,33 +8,30 @@ ghost use Rattle.lrs_report.specs.Segments.{is_exclusive};
 ghost use Rattle.lrs_machine.specs.declared.answer.Cause.TheVariants as cause;
 ghost use Rattle.lrs_machine.specs.declared.command.Command.TheVariants as verb;
 ghost use Rattle.lrs_machine.specs.Image.{state_of};
-ghost use Rattle.lrs_machine.specs.Machine.{first_holder, is_wrong_kind, part_of, refuse_at};
-ghost use Rattle.lrs_verbs.specs.Entering.{asset_of, row_of, with_row, AreInLimits, AreEntered, IsEntering, HasBegun};
+ghost use Rattle.lrs_machine.specs.Machine.{first_holder, part_of, refuse_at};
+ghost use Rattle.lrs_verbs.specs.Entering.{asset_of, row_of, with_row, AreInLimits, AreEntered, IsEntering};
 ghost use Rattle.lrs_verbs.specs.Extents.{IsRouteIn, EndsBy};
 ghost use Rattle.lrs_verbs.specs.Plans.{Answers, Plans};
+ghost use Rattle.lrs_verbs.specs.Wanted.{IsWanted};
 
 use crate::inventory::{Inventory, Stretch};
-use crate::plan::{Plan, Stop, refuse_if};
+use crate::plan::{Plan, Stop};
+use crate::verbs::wanted::wanted_of;
 use lrs_element::Course;
 use lrs_events::{Asset, Kind, Part, Span};
 use lrs_keep::{ReferentChange, RouteChange};
 use lrs_machine::{Cause, Entry, RouteEntry};
 use lrs_measure::Rows;
 use lrs_parts::parts;
-use lrs_position::{EventLocation, RouteName};
+use lrs_position::RouteName;
 use std::alloc::{AllocError, Global};
 
 pub fn plan_enter(alloc: Global, inventory: &Inventory, entry: &Entry) -> Result<Plan, Stop>
     ensures { Plans (verb.Enter entry.now) inventory.now result }
 {
-    let is_known = inventory.asset(entry.asset.get()).is_some();
-    refuse_if(is_known, Cause::AssetKnown)?;
-    match inventory.class(&entry.class) {
-        None => Err(Stop::Refused(Cause::NoClass)),
-        Some(kind) => match inventory.route(&entry.route) {
-            None => Err(Stop::Refused(Cause::NoRoute)),
-            Some(route) => enter_on(alloc, inventory, entry, kind, route),
-        },
+    match wanted_of(inventory, entry, false) {
+        Ok((kind, route, stretch)) => enter_on(alloc, inventory, entry, kind, route, stretch),
+        Err(why) => Err(why),
     }
 }
 
@@ -45,29 +42,16 @@ fn enter_on(
     entry: &Entry,
     kind: Kind,
     route: &RouteEntry,
+    stretch: Stretch,
 ) -> Result<Plan, Stop>
-    requires begun { HasBegun inventory.now entry.now kind route.now }
+    requires wanted { IsWanted inventory.now false entry.now kind route.now stretch }
     ensures { Plans (verb.Enter entry.now) inventory.now result }
 {
     inventory.prove_sound();
-    refuse_if(is_wrong_kind(kind, entry.location), Cause::WrongKind)?;
-    let stretch = inventory.extent(route, entry.location)?;
-    refuse_if(stretch.is_empty(), Cause::Empty)?;
     check_held(inventory, entry, kind, route, stretch)?;
     let edit = inventory.edits() + 1;
     let plan = entering(alloc, edit, entry, stretch, &route.route.course)?;
     Ok(plan)
-}
-
-/// Whether a location is not one of an asset of this kind: a point has no end, and any other one has.
-pub fn is_wrong_kind(kind: Kind, location: EventLocation) -> bool
-    ensures { result ≡ is_wrong_kind kind location.to }
-{
-    let has_end = location.to().is_some();
-    match kind {
-        Kind::Point => has_end,
-        Kind::Stretch | Kind::Exclusive => !has_end,
-    }
 }
 
 /// Refuses an asset of an exclusive class where others hold its places: the least of them.
@@ -119,7 +103,7 @@ fn entering(
 }
 
 /// The asset that an edit enters.
-fn asset_of(edit: u64, entry: &Entry) -> Asset
+pub fn asset_of(edit: u64, entry: &Entry) -> Asset
     ensures asset { result ≡ asset_of edit entry.now }
     ensures limits { AreInLimits entry.now }
 {
@@ -133,7 +117,7 @@ fn asset_of(edit: u64, entry: &Entry) -> Asset
 }
 
 /// The row that says what it holds.
-fn row_of(entry: &Entry, stretch: Stretch) -> Span
+pub fn row_of(entry: &Entry, stretch: Stretch) -> Span
     ensures { result ≡ row_of entry.now stretch }
 {
     Span {
@@ -146,7 +130,7 @@ fn row_of(entry: &Entry, stretch: Stretch) -> Span
 }
 
 /// The rows of a ledger by which an edit enters what a row holds.
-fn entered_parts(
+pub fn entered_parts(
     alloc: Global,
     edit: u64,
     row: &Span,

@@ -15,7 +15,7 @@ use crate::inventory::{Inventory, Stretch};
 use crate::plan::{Plan, Stop, refuse_if};
 use crate::verbs::changes::no_change;
 use crate::verbs::checks::route_named;
-use crate::verbs::enter::is_wrong_kind;
+use crate::verbs::wanted::is_wrong_kind;
 use lrs_canonical::removing::Removal;
 use lrs_events::{Asset, Kind, Span};
 use lrs_gone::taken_away;

@@ -1,0 +1,106 @@
+//! An asset that takes the places of others of its class.
+
+ghost use Rattle.std.specs.Prelude.{◌≡◌, IfOk, IsTrue, true};
+ghost use Rattle.lrs_measure.specs.Lists.{each_two};
+ghost use Rattle.lrs_events.specs.Places.{differs};
+ghost use Rattle.lrs_events.specs.Spans.{are_rows, is_row};
+ghost use Rattle.lrs_machine.specs.declared.command.Command.TheVariants as verb;
+ghost use Rattle.lrs_verbs.specs.Entering.{row_of, AreInLimits};
+ghost use Rattle.lrs_verbs.specs.Plans.{Plans};
+ghost use Rattle.lrs_verbs.specs.Wanted.{IsWanted};
+ghost use Rattle.lrs_verbs.specs.Superseding.{with_rows_and_one, IsSuperseding};
+
+use crate::inventory::{Inventory, Stretch};
+use crate::plan::{Plan, Stop};
+use crate::verbs::changes::no_change;
+use crate::verbs::enter::{asset_of, entered_parts, row_of};
+use crate::verbs::wanted::wanted_of;
+use lrs_canonical::removing::Removal;
+use lrs_element::Course;
+use lrs_events::{Kind, Span, SpanChange};
+use lrs_gone::taken_away;
+use lrs_keep::RouteChange;
+use lrs_machine::{Entry, RouteEntry};
+use lrs_measure::Rows;
+use lrs_position::RouteName;
+use std::alloc::{AllocError, Global};
+
+pub fn plan_supersede(alloc: Global, inventory: &Inventory, entry: &Entry) -> Result<Plan, Stop>
+    ensures { Plans (verb.Supersede entry.now) inventory.now result }
+{
+    match wanted_of(inventory, entry, true) {
+        Ok((kind, route, stretch)) => supersede_on(alloc, inventory, entry, kind, route, stretch),
+        Err(why) => Err(why),
+    }
+}
+
+/// What a new asset of an exclusive class changes on its route.
+fn supersede_on(
+    alloc: Global,
+    inventory: &Inventory,
+    entry: &Entry,
+    kind: Kind,
+    route: &RouteEntry,
+    stretch: Stretch,
+) -> Result<Plan, Stop>
+    requires wanted { IsWanted inventory.now true entry.now kind route.now stretch }
+    ensures { Plans (verb.Supersede entry.now) inventory.now result }
+{
+    inventory.prove_sound();
+    let removal = route.spans.plan_remove_class_places(
+        alloc,
+        entry.class,
+        stretch.from(),
+        stretch.to(),
+        entry.side,
+    )?;
+    let edit = inventory.edits() + 1;
+    let plan = superseding(alloc, edit, entry, stretch, &route.route.course, removal)?;
+    Ok(plan)
+}
+
+/// The plan by which an edit retires what a removal hands back, and enters an asset.
+fn superseding(
+    alloc: Global,
+    edit: u64,
+    entry: &Entry,
+    stretch: Stretch,
+    course: &Course,
+    removal: Removal,
+) -> Result<Plan, AllocError>
+    requires row { IsTrue (is_row (row_of entry.now stretch)) }
+    requires left { IsTrue (are_rows removal.left.items) }
+    requires once { each_two differs course.now ≡ true }
+    ensures plan { IfOk result (λ plan. IsSuperseding edit entry.now stretch course.now removal plan) }
+    ensures limits { IfOk result (λ _. AreInLimits entry.now) }
+{
+    let row = row_of(entry, stretch);
+    let entered = entered_parts(alloc, edit, &row, course)?;
+    let Removal { left, change } = removal;
+    let gone = taken_away(alloc, edit, &left, course, false)?;
+    let changed = with_rows_and_one(alloc, entry.route, change, row)?;
+    let mut plan = Plan::none(alloc);
+    plan.difference.asset = Some(asset_of(edit, entry));
+    plan.difference.changed = Some(changed);
+    plan.difference.entered = Rows::from_vec(entered);
+    plan.difference.gone = gone;
+    Ok(plan)
+}
+
+/// A route of which these rows go and come, and one more comes. Its asset has no other, so that it merges with
+/// none.
+fn with_rows_and_one(
+    alloc: Global,
+    route: RouteName,
+    change: SpanChange,
+    row: Span,
+) -> Result<RouteChange, AllocError>
+    ensures { IfOk result (λ changed. changed ≡ with_rows_and_one route change row) }
+{
+    let SpanChange { gone, mut come } = change;
+    come.push(row)?;
+    let mut changed = no_change(alloc, route);
+    changed.spans_gone = Rows::from_vec(gone);
+    changed.spans_come = Rows::from_vec(come);
+    Ok(changed)
+}
