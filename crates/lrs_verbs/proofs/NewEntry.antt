@@ -64,7 +64,8 @@ use Rattle.lrs_verbs.proofs.Holding.{alone}
 use Rattle.lrs_verbs.proofs.FirstHolder.{spans_entry}
 use Rattle.lrs_verbs.proofs.InPlace.{DifferAt, map_same, made_same, any_more, all_still, in_place, names_stay, ground_stays}
 use Rattle.lrs_verbs.proofs.NewRow.{IsNew, still_rows}
-use Rattle.lrs_verbs.proofs.NewParts.{parts_apart, of_edit, of_asset, few}
+use Rattle.lrs_gone.proofs.Once.{parts_apart}
+use Rattle.lrs_verbs.proofs.NewParts.{of_edit, of_asset, few}
 use Rattle.lrs_gone.proofs.Appended.{all-append, later_part, apart_by_edit, no_pairs, pairs-append}
 
 keep_all : {X : Type 0} (xs : List X) → filter (λ x. true) xs ≡ xs
