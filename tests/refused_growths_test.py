@@ -30,20 +30,20 @@ def refused_calls(printed):
     return set(re.findall(r"^ +refused: (\S+)$", printed, re.M))
 
 
-def each_refused_call(crate, step=1, start=1, least=1):
+def each_refused_call(crate, step=1, start=1, least=1, most=MOST_ALLOCATIONS):
     """The calls that were refused, with each step-th allocation from the start on refused until none is left to refuse.
 
     Before the least allocation there are some that no test tells of, since they only make what a call is tried on."""
     refused = set()
     with concurrent.futures.ThreadPoolExecutor(RUNS) as pool:
-        for first in range(start, MOST_ALLOCATIONS, RUNS * step):
+        for first in range(start, most, RUNS * step):
             last = first + RUNS * step
             runs = pool.map(lambda n: run_refusing(crate, n), range(first, last, step))
             calls = [refused_calls(printed) for printed in runs]
             refused.update(*calls)
             if first >= least and not all(calls):
                 return refused
-    raise AssertionError(f"{crate}: a test makes {MOST_ALLOCATIONS} allocations or more")
+    raise AssertionError(f"{crate}: a test makes {most} allocations or more")
 
 
 def test_courses_and_marks_bear_a_refused_growth():
@@ -58,6 +58,10 @@ def test_parts_of_a_ledger_bear_a_refused_growth():
 
 def test_a_desk_bears_a_refused_growth():
     assert each_refused_call("lrs_desk_tests", step=4) >= {"Desk::open", "run", "link", "class", "route"}
+
+
+def test_a_sheet_of_all_verbs_bears_a_refused_growth():
+    assert each_refused_call("lrs_sheet_tests", step=97, most=4_000) >= {"run_edits"}
 
 
 def test_deciding_soundness_bears_a_refused_growth():

@@ -6,7 +6,7 @@ ghost use Rattle.lrs_machine.specs.Machine.{answer_known};
 ghost use Rattle.lrs_desk.specs.Decide.{IsDecision, HasRoom, LacksRoom};
 
 use lrs_machine::{Answer, Cause, Command, Edit, Key, Limits, Line, What};
-use lrs_verbs::{Inventory, Plan, Planned, Stop, plan_command};
+use lrs_verbs::{Inventory, Plan, Stop, plan_command};
 use std::alloc::{AllocError, Global};
 
 /// What becomes of a command.
@@ -24,7 +24,7 @@ pub fn decide(
     inventory: &Inventory,
     limits: &Limits,
     key: &Key,
-    command: &Planned,
+    command: &Command,
     line: &Line,
 ) -> Result<Decision, AllocError>
     requires line { line.now ≡ line_of command.now }
@@ -66,11 +66,10 @@ fn known_answer(number: u64, edit: &Edit, line: &Line) -> Answer
     }
 }
 
-fn lacks_room(inventory: &Inventory, limits: &Limits, command: &Planned) -> Option<What>
+fn lacks_room(inventory: &Inventory, limits: &Limits, command: &Command) -> Option<What>
     ensures room { IfNone result (HasRoom limits.now command.now inventory.now) }
     ensures none { IfSome result (λ what. LacksRoom what limits.now command.now inventory.now) }
 {
-    let command = command.command();
     let needs_asset = matches!(command, Command::Enter(_) | Command::Supersede(_));
     let needs_route = matches!(command, Command::Route { .. } | Command::Split { .. });
     if inventory.edits() >= limits.edits {

@@ -14,8 +14,8 @@ ghost use Rattle.lrs_desk.specs.Desk.{IsUnchanged, HasBroken, records_of};
 
 use crate::decide::{Decision, decide};
 use lrs_keep::{CommitFault, Keeper, LoadFault};
-use lrs_machine::{Answer, Edit, Key, Limits, Table};
-use lrs_verbs::{Inventory, Plan, Planned};
+use lrs_machine::{Answer, Command, Edit, Key, Limits, Table};
+use lrs_verbs::{Inventory, Plan};
 use std::alloc::{AllocError, AllocFailed, Global};
 use std::marker::Model;
 
@@ -143,7 +143,7 @@ impl<K: Keeper> Desk<K> {
     }
 
     /// Does a command, unless its key was accepted before or a check fails.
-    pub fn act(&mut self, key: Key, command: &Planned) -> Result<Answer, Fault>
+    pub fn act(&mut self, key: Key, command: &Command) -> Result<Answer, Fault>
         // The answer and the next state are the ground machine's.
         ensures answer { IfOk result (λ answer. answer ≡ (step self.old.limits key command.now (state_of self.old.image)).answer) }
         ensures image { OnOk result (state_of self.new.image ≡ (step self.old.limits key command.now (state_of self.old.image)).state) }
@@ -164,7 +164,7 @@ impl<K: Keeper> Desk<K> {
         if self.must_reopen {
             return Err(Fault::MustReopen);
         }
-        let line = command.command().line(self.alloc)?;
+        let line = command.line(self.alloc)?;
         let decision = decide(
             self.alloc,
             &self.inventory,
@@ -237,7 +237,7 @@ fn commit_fault(fault: CommitFault) -> Fault
 /// is then that of some first commands of the list.
 pub fn run<K: Keeper>(
     desk: &mut Desk<K>,
-    records: &[(Key, Planned)],
+    records: &[(Key, Command)],
     alloc: Global,
 ) -> Result<Vec<Answer>, Fault>
     ensures answers { IfOk result (λ given. given.items ≡ answers desk.old.limits (records_of records.now) (state_of desk.old.image)) }

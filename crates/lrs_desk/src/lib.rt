@@ -7,4 +7,4 @@ mod desk;
 pub use desk::{Desk, Fault, OpenFault, run};
 pub use lrs_keep::{Change, CommitFault, Difference, Keeper, LoadFault, Plain};
 pub use lrs_machine::{Answer, Cause, Command, Image, Key, Limits, Table};
-pub use lrs_verbs::{Inventory, Planned};
+pub use lrs_verbs::Inventory;

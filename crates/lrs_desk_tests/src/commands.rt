@@ -71,7 +71,6 @@ fn a_command_again_does_nothing(rt: HostRuntime) {
         gives(&rt, &mut desk, KEYS[i], &sheet[i], Ok(again));
     }
     let longer = link(
-        &rt,
         Link {
             number: 1,
             length: 5_001,
@@ -95,7 +94,7 @@ fn records_run_one_after_the_other(rt: HostRuntime) {
             length: 5_000,
         };
         records
-            .push((key(&rt, text), link(&rt, road)))
+            .push((key(&rt, text), link(road)))
             .expect(&rt, "memory");
     }
     let given = run(&mut desk, &records, alloc).expect(&rt, "answers");
@@ -132,7 +131,7 @@ fn there_are_no_more_edits_and_routes_than_their_limits(rt: HostRuntime) {
     gives(&rt, &mut desk, "t1", &second, Ok(no_route));
     gives(&rt, &mut desk, "t1", &known, Ok(no_route));
 
-    let eighth = link(&rt, LONGEST);
+    let eighth = link(LONGEST);
     gives(&rt, &mut desk, "t8", &eighth, Ok(Answer::Done(8)));
     let no_edit = Answer::Refused(Cause::TooMany(What::Edits));
     gives(&rt, &mut desk, "t9", &eighth, Ok(no_edit));
@@ -162,7 +161,6 @@ fn a_full_sheet_has_no_more(rt: HostRuntime) {
 fn links_and_classes_are_known_once(rt: HostRuntime) {
     let mut desk = after_first_sheet(&rt, AMPLE);
     let shorter = link(
-        &rt,
         Link {
             number: 1,
             length: 7,
@@ -176,6 +174,6 @@ fn links_and_classes_are_known_once(rt: HostRuntime) {
     assert_eq!(rt; desk.inventory().edits(), 7);
 
     // A refused command leaves its key free.
-    let longest = link(&rt, LONGEST);
+    let longest = link(LONGEST);
     gives(&rt, &mut desk, "t1", &longest, Ok(Answer::Done(8)));
 }

@@ -7,7 +7,7 @@
 ghost use Rattle.std.specs.Prelude.{◌≤◌};
 
 use crate::sheet::{AMPLE, KEYS, ahead, back, class, key, link, mark};
-use lrs_desk::{Answer, Command, Desk, Fault, Keeper, Key, OpenFault, Plain, Planned, run};
+use lrs_desk::{Answer, Command, Desk, Fault, Keeper, Key, OpenFault, Plain, run};
 use lrs_element::{Link, Mark, Piece};
 use lrs_events::Kind;
 use lrs_machine::{MarkList, PieceList};
@@ -31,29 +31,26 @@ fn list_of<T: Copy>(rt: &(impl Abort + Print + AllocGlobal), items: &[T]) -> Vec
 }
 
 /// A route over two links.
-fn new_route(rt: &(impl Abort + Print + AllocGlobal)) -> Planned {
+fn new_route(rt: &(impl Abort + Print + AllocGlobal)) -> Command {
     let pieces: [Piece; 2] = [ahead(1, 0, 5_000), back(2, 0, 3_000)];
     let marks: [Mark; 3] = [mark(0, 0), mark(5_000, 6_000), mark(8_000, 9_000)];
-    Planned::new(Command::Route {
+    Command::Route {
         name: RouteName::new("A1".as_bytes()).expect(rt, "a route name"),
         pieces: PieceList::new(list_of(rt, &pieces)).expect(rt, "a list of pieces"),
         marks: MarkList::new(list_of(rt, &marks)).expect(rt, "a list of marks"),
-    })
-    .expect(rt, "a verb that a desk does")
+    }
 }
 
 /// A command of each verb: two links, a class, and a route over the links.
-fn sheet(rt: &(impl Abort + Print + AllocGlobal)) -> [Planned; 4] {
+fn sheet(rt: &(impl Abort + Print + AllocGlobal)) -> [Command; 4] {
     [
         link(
-            rt,
             Link {
                 number: 1,
                 length: 5_000,
             },
         ),
         link(
-            rt,
             Link {
                 number: 2,
                 length: 3_000,
@@ -136,14 +133,14 @@ fn a_desk_is_opened_again(rt: HostRuntime) {
 }
 
 /// A new link under a key, twice.
-fn records(rt: &(impl Abort + AllocGlobal)) -> Option<Vec<(Key, Planned)>> {
+fn records(rt: &(impl Abort + AllocGlobal)) -> Option<Vec<(Key, Command)>> {
     let mut records = Vec::new(rt.alloc());
     for text in ["s1", "s1"] {
         let road = Link {
             number: 1,
             length: 5_000,
         };
-        let record = (key(rt, text), link(rt, road));
+        let record = (key(rt, text), link(road));
         if records.push(record).is_err() {
             return None;
         }

@@ -3,7 +3,7 @@
 use crate::sheet::{
     AMPLE, after_first_sheet, ahead, back, gives, image_of, key, link, mark, route,
 };
-use lrs_desk::{Answer, Cause, Desk, Plain, Planned};
+use lrs_desk::{Answer, Cause, Command, Desk, Plain};
 use lrs_element::{Link, Piece};
 use std::process::Abort;
 
@@ -23,7 +23,7 @@ fn the_first_route_lies_as_it_was_given(rt: HostRuntime) {
 }
 
 /// A desk after the first sheet refuses a new route for this cause, and nothing changes.
-fn is_refused(rt: &(impl Abort + AllocGlobal), new: &Planned, cause: Cause) {
+fn is_refused(rt: &(impl Abort + AllocGlobal), new: &Command, cause: Cause) {
     let mut desk = after_first_sheet(rt, AMPLE);
     gives(rt, &mut desk, "t1", new, Ok(Answer::Refused(cause)));
     assert_eq!(rt; desk.inventory().routes(), 1);
@@ -31,7 +31,7 @@ fn is_refused(rt: &(impl Abort + AllocGlobal), new: &Planned, cause: Cause) {
 }
 
 /// A route C1 over these pieces, with marks for one millimetre.
-fn over(rt: &(impl Abort + AllocGlobal), pieces: &[Piece]) -> Planned {
+fn over(rt: &(impl Abort + AllocGlobal), pieces: &[Piece]) -> Command {
     route(rt, "C1", pieces, &[mark(0, 0), mark(1, 1)])
 }
 
@@ -92,7 +92,7 @@ fn long_links(rt: &(impl Abort + AllocGlobal)) -> Desk<Plain> {
             number: i as u32 + 11,
             length: 1_000_000_000,
         };
-        desk.act(key(rt, keys[i]), &link(rt, long))
+        desk.act(key(rt, keys[i]), &link(long))
             .expect(rt, "an answer");
     }
     desk

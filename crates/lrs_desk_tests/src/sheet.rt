@@ -1,6 +1,6 @@
 //! The first sheet, and how tests act on a desk.
 
-use lrs_desk::{Answer, Command, Desk, Fault, Image, Keeper, Key, Limits, Plain, Planned};
+use lrs_desk::{Answer, Command, Desk, Fault, Image, Keeper, Key, Limits, Plain};
 use lrs_element::{Link, Mark, Piece};
 use lrs_events::{Class, ClassName, Kind};
 use lrs_machine::{MarkList, PieceList};
@@ -20,14 +20,14 @@ pub fn key(rt: &impl Abort, text: &str) -> Key {
 }
 
 /// A new link.
-pub fn link(rt: &impl Abort, link: Link) -> Planned {
-    Planned::new(Command::Link(link)).expect(rt, "a verb that a desk does")
+pub fn link(link: Link) -> Command {
+    Command::Link(link)
 }
 
 /// A new class.
-pub fn class(rt: &impl Abort, name: &str, kind: Kind) -> Planned {
+pub fn class(rt: &impl Abort, name: &str, kind: Kind) -> Command {
     let name = ClassName::new(name.as_bytes()).expect(rt, "a class name");
-    Planned::new(Command::Class(Class { name, kind })).expect(rt, "a verb that a desk does")
+    Command::Class(Class { name, kind })
 }
 
 /// A new route.
@@ -36,19 +36,18 @@ pub fn route(
     name: &str,
     pieces: &[Piece],
     marks: &[Mark],
-) -> Planned {
+) -> Command {
     let alloc = rt.alloc();
     let name = RouteName::new(name.as_bytes()).expect(rt, "a route name");
     let pieces = Vec::from_slice(alloc, pieces).expect(rt, "memory");
     let marks = Vec::from_slice(alloc, marks).expect(rt, "memory");
     let pieces = PieceList::new(pieces).expect(rt, "a list of pieces");
     let marks = MarkList::new(marks).expect(rt, "a list of marks");
-    Planned::new(Command::Route {
+    Command::Route {
         name,
         pieces,
         marks,
-    })
-    .expect(rt, "a verb that a desk does")
+    }
 }
 
 /// A forward piece.
@@ -77,24 +76,21 @@ pub fn mark(chainage: u64, measure: u64) -> Mark {
 }
 
 /// The commands of the first sheet: three links, three classes, and a route over two of the links.
-pub fn first_sheet(rt: &(impl Abort + AllocGlobal)) -> [Planned; 7] {
+pub fn first_sheet(rt: &(impl Abort + AllocGlobal)) -> [Command; 7] {
     [
         link(
-            rt,
             Link {
                 number: 1,
                 length: 5_000,
             },
         ),
         link(
-            rt,
             Link {
                 number: 2,
                 length: 3_000,
             },
         ),
         link(
-            rt,
             Link {
                 number: 3,
                 length: 2_000,
@@ -132,7 +128,7 @@ pub fn gives<K: Keeper>(
     rt: &(impl Abort + AllocGlobal),
     desk: &mut Desk<K>,
     text: &str,
-    command: &Planned,
+    command: &Command,
     wanted: Result<Answer, Fault>,
 ) {
     assert_eq!(rt; desk.act(key(rt, text), command), wanted);

@@ -17,7 +17,7 @@ use Rattle.lrs_sheet.proofs.OneCommand.{one-command, one-malformed, well-formed}
 use Rattle.lrs_sheet.specs.declared.reply.Reply.{Reply}
 use Rattle.lrs_sheet.specs.Laws.{IsOneReply, Outcome, SheetDeterminesReply}
 use Rattle.lrs_sheet.specs.Records.{text_at, place_of}
-use Rattle.lrs_sheet.specs.Verbs.{done_verbs}
+use Rattle.lrs_sheet.specs.Verbs.{all_verbs}
 use Rattle.lrs_sheet.specs.Replies.{IsAnswered, IsReplied, Replied, lines_of, tally_of}
 use Rattle.lrs_sheet.specs.Sheets.{AnswersAll, AreAll}
 
@@ -47,16 +47,16 @@ one-key (Some x) (Some y) P text h g = ap Some (h.1 ∙ sym g.1)
 -- a record is answered in one way
 one-answer : (limits : Limits) (before after other : State) (fields : List (List ℕ)) (a b : Answer) → IsAnswered limits before fields a after → IsAnswered limits before fields b other → (a ≡ b) × (after ≡ other)
 one-answer limits before after other fields a b (inl (key, command, says, answer, state)) (inl (key', command', says', answer', state')) =
-    let (keys, same) = one-command done_verbs fields key key' command command' says says' in
+    let (keys, same) = one-command all_verbs fields key key' command command' says says' in
     let moved : step limits key command before ≡ step limits key' command' before = λ i. step limits (keys i) (same i) before in
     (answer ∙ ap (λ o. o.answer) moved ∙ sym answer', state ∙ ap (λ o. o.state) moved ∙ sym state')
 one-answer limits before after other fields a b (inr (field, first, answer, state)) (inr (field', first', answer', state')) =
-    let same = one-malformed done_verbs fields field field' first first' in
+    let same = one-malformed all_verbs fields field field' first first' in
     (answer ∙ ap (λ (f : Field). Refused (Malformed f)) same ∙ sym answer', state ∙ sym state')
 one-answer limits before after other fields a b (inl (key, command, says, answer, state)) (inr (field, first, answer', state')) =
-    absurd (first.malformed (well-formed done_verbs fields key command says (place_of field)))
+    absurd (first.malformed (well-formed all_verbs fields key command says (place_of field)))
 one-answer limits before after other fields a b (inr (field, first, answer', state')) (inl (key, command, says, answer, state)) =
-    absurd (first.malformed (well-formed done_verbs fields key command says (place_of field)))
+    absurd (first.malformed (well-formed all_verbs fields key command says (place_of field)))
 
 one-reply : (limits : Limits) (before after other : State) (fields : List (List ℕ)) (a b : Reply) → IsReplied limits before fields a after → IsReplied limits before fields b other → (a ≡ b) × (after ≡ other)
 one-reply limits before after other fields a b (key, answered) (key', answered') =

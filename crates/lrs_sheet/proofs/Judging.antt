@@ -11,14 +11,12 @@ use Rattle.lrs_machine.specs.Keys.{is_key}
 use Rattle.lrs_machine.specs.Lines.{Text}
 use Rattle.lrs_machine.specs.declared.command.Command.{Command}
 use Rattle.lrs_machine.specs.declared.command.Command.TheVariants as verb
-use Rattle.lrs_verbs.specs.Planned.{is_planned}
 use Rattle.lrs_sheet.proofs.Deciding.{argument_in, fits, fits-says, says-fits}
 use Rattle.lrs_sheet.proofs.Misfits.{misfit-malformed}
 use Rattle.lrs_sheet.specs.Fields.{FirstMisfit}
 use Rattle.lrs_sheet.specs.Records.{FirstMalformedAmong, IsWellFormedAmong, SayAll, SaysAmong, text_at, texts_of}
 use Rattle.lrs_sheet.specs.Shapes.{Argument, Shape}
-use Rattle.lrs_sheet.specs.Laws.{DoneVerbsArePlanned}
-use Rattle.lrs_sheet.specs.Verbs.{all_verbs, arguments_of, done_verbs, shapes_of, verb_of}
+use Rattle.lrs_sheet.specs.Verbs.{IsVerb, all_verbs, arguments_of, laying_verbs, shapes_of, verb_of, working_verbs}
 
 -- the place of the first of some fields that is not empty
 abbrev pub first_full : ℕ → List Text → Option ℕ
@@ -176,30 +174,9 @@ within [] others h name (k, below, is) = absurd (omega (arith, below))
 within (other ∷ names) others h name (zero, below, is) = subst (Contains others) is (among others other (and_parts (is_among others other) (list_all (is_among others) names) h).0)
 within (other ∷ names) others h name (suc k, below, is) = within names others (and_parts (is_among others other) (list_all (is_among others) names) h).1 name (k, omega (arith, below), is)
 
--- The verbs that the program does are among all of them.
-pub done-known : (name : Text) → Contains done_verbs name → Contains all_verbs name
-done-known = within done_verbs all_verbs refl
+-- The verbs are those of their families.
+pub known-verb : (name : Text) → Contains (laying_verbs ++ working_verbs) name → IsVerb name
+known-verb = within (laying_verbs ++ working_verbs) all_verbs refl
 
--- The verbs that the program does are those that a desk does.
-planned-done : (command : Command) → is_planned command ≡ is_among done_verbs (verb_of command)
-planned-done (verb.Link l) = refl
-planned-done (verb.Class c) = refl
-planned-done (verb.Route name pieces marks) = refl
-planned-done (verb.Ref name route at) = refl
-planned-done (verb.Unref name) = refl
-planned-done (verb.Enter e) = refl
-planned-done (verb.Retire asset route location) = refl
-planned-done (verb.Split route at name) = refl
-planned-done (verb.Join first second) = refl
-planned-done (verb.Renumber route name) = refl
-planned-done (verb.Recalibrate route marks) = refl
-planned-done (verb.Realign route first end pieces marks) = refl
-planned-done (verb.Close route) = refl
-planned-done (verb.Supersede e) = refl
-planned-done (verb.Turn route) = refl
-
-pub done_verbs_are_planned : DoneVerbsArePlanned
-done_verbs_are_planned command = (
-  (λ planned. among done_verbs (verb_of command) (sym (planned-done command) ∙ planned)),
-  (λ done. planned-done command ∙ among-is done_verbs (verb_of command) done),
-)
+pub verb-known : (name : Text) → IsVerb name → Contains (laying_verbs ++ working_verbs) name
+verb-known = within all_verbs (laying_verbs ++ working_verbs) refl

@@ -5,7 +5,7 @@ use Rattle.std.specs.List.{AllByRecursion}
 use Rattle.csv.specs.Records.{field_at}
 use Rattle.lrs_sheet.specs.Records.{FirstMalformedAmong, IsWellFormedAmong, Refuses, place_of, text_at, texts_of}
 use Rattle.lrs_sheet.specs.Shapes.{Fits, Shape}
-use Rattle.lrs_sheet.specs.Verbs.{IsVerb, done_verbs, shapes_of}
+use Rattle.lrs_sheet.specs.Verbs.{IsVerb, all_verbs, shapes_of}
 use Rattle.lrs_sheet.specs.Fields.{FirstMisfit, ReadsArguments, ReadsCommand}
 use Rattle.lrs_machine.specs.declared.command.Command.{Command}
 use Rattle.lrs_sheet.specs.declared.fault.ReadFault.{ReadFault}
@@ -78,10 +78,10 @@ pub refuses : (fields : List (List ℕ)) (e : ReadFault) → IsTrue (is_key (tex
 refuses fields fault.Memory key reads = tt
 refuses fields (fault.Field at) key (inl (is, unknown)) = rw is (record { malformed = unknown; earlier = λ i below. first i below })
   where
-    first : (i : ℕ) → i < 1 → IsWellFormedAmong done_verbs fields i
+    first : (i : ℕ) → i < 1 → IsWellFormedAmong all_verbs fields i
     first zero below = key
     first (suc i) below = absurd (omega arith)
-refuses fields (fault.Field at) key (inr (known, misfit)) = misfit-malformed done_verbs fields (place_of at) key known misfit
+refuses fields (fault.Field at) key (inr (known, misfit)) = misfit-malformed all_verbs fields (place_of at) key known misfit
 
 -- the fields of a verb that there is
 pub reads-verb : (fields : List (List ℕ)) (verb : List ℕ) (result : Result Command ReadFault) → IsVerb verb → text_at fields 1 ≡ verb → ReadsArguments fields verb result → ReadsCommand fields result

@@ -7,12 +7,11 @@ use Rattle.lrs_machine.specs.WellFormed.{IsWellFormed}
 use Rattle.lrs_machine.specs.declared.command.Command.{Command}
 use Rattle.lrs_machine.specs.State.{State}
 use Rattle.lrs_machine.specs.declared.answer.Limits.{Limits}
-use Rattle.lrs_verbs.specs.Planned.{is_planned}
 use Rattle.lrs_sheet.specs.declared.reply.Tally.{Tally}
 use Rattle.lrs_sheet.specs.CanonicalRecords.{IsInLowestTerms, line_by_table, record_of}
 use Rattle.lrs_sheet.specs.Records.{FirstMalformedAmong, SaysAmong}
 use Rattle.lrs_sheet.specs.Sheets.{RunsEdits}
-use Rattle.lrs_sheet.specs.Verbs.{all_verbs, arguments_of, done_verbs, verb_of}
+use Rattle.lrs_sheet.specs.Verbs.{all_verbs, arguments_of}
 
 -- what a run without a fault leaves, from what a writer had to what it has
 pub record Outcome : Type 0 where
@@ -48,7 +47,3 @@ LinesAreTheTables = (command : Command) → line_of command ≡ line_by_table co
 -- The record that a well formed command is printed as says that command, under its key.
 abbrev pub PrintedRecordsSay : Type 0
 PrintedRecordsSay = (key : Text) (command : Command) → IsTrue (is_key key) → IsWellFormed command → AllByRecursion IsInLowestTerms (arguments_of command) → SaysAmong all_verbs (record_of key command) key command
-
--- The verbs that the program does are those that a desk does.
-abbrev pub DoneVerbsArePlanned : Type 0
-DoneVerbsArePlanned = (command : Command) → IsTrue (is_planned command) ↔ Contains done_verbs (verb_of command)

@@ -9,7 +9,7 @@ use Rattle.lrs_machine.specs.declared.command.Command.{Command}
 use Rattle.lrs_sheet.specs.declared.fault.ReadFault.{ReadFault}
 use Rattle.lrs_sheet.specs.declared.fault.ReadFault.TheVariants as fault
 use Rattle.lrs_sheet.specs.Shapes.{Argument, Fits, Says, Shape}
-use Rattle.lrs_sheet.specs.Verbs.{arguments_of, done_verbs, shapes_of, verb_of}
+use Rattle.lrs_sheet.specs.Verbs.{all_verbs, arguments_of, shapes_of, verb_of}
 
 -- the field at a place, which is empty past the end
 abbrev pub text_at : List Text → ℕ → Text
@@ -59,13 +59,13 @@ pub record FirstMalformedAmong (names : List Text) (fields : List Text) (place :
   pub malformed : IsWellFormedAmong names fields place → ⊥
   pub earlier : (i : ℕ) → i < place → IsWellFormedAmong names fields i
 
--- The fields say this command under this key, and the program does its verb.
+-- The fields say this command under this key.
 abbrev pub SaysCommand : List Text → Text → Command → Type 0
-SaysCommand fields key command = SaysAmong done_verbs fields key command
+SaysCommand fields key command = SaysAmong all_verbs fields key command
 
--- The first field that is malformed; a verb that the program does not do is malformed.
+-- The first field that is malformed.
 abbrev pub FirstMalformed : List Text → ℕ → Type 0
-FirstMalformed fields place = FirstMalformedAmong done_verbs fields place
+FirstMalformed fields place = FirstMalformedAmong all_verbs fields place
 
 -- a fault names the first malformed field, or want of memory
 abbrev pub Refuses : List Text → ReadFault → Type 0

@@ -72,26 +72,30 @@ verbs =
 abbrev pub all_verbs : List Text
 all_verbs = map (λ verb. verb.name) verbs
 
--- The verbs that the program does today, the others it refuses: those that lay out links, classes, routes and referents,
+abbrev pub IsVerb : Text → Type 0
+IsVerb name = Contains all_verbs name
+
+-- The same verbs by families: those that lay out links, classes, routes and referents,
 abbrev pub laying_verbs : List Text
 laying_verbs = codes "link" ∷ codes "class" ∷ codes "route" ∷ codes "ref" ∷ codes "unref" ∷ []
 
 -- those of assets,
 abbrev pub asset_verbs : List Text
-asset_verbs = codes "enter" ∷ []
+asset_verbs = codes "enter" ∷ codes "retire" ∷ codes "supersede" ∷ []
 
--- and those that edit a route.
+-- those that edit routes and leave their ground,
+abbrev pub routing_verbs : List Text
+routing_verbs = codes "split" ∷ codes "join" ∷ codes "renumber" ∷ codes "recalibrate" ∷ codes "turn" ∷ []
+
+-- and those that change it.
+abbrev pub ground_verbs : List Text
+ground_verbs = codes "realign" ∷ codes "close" ∷ []
+
 abbrev pub editing_verbs : List Text
-editing_verbs = codes "split" ∷ codes "renumber" ∷ codes "recalibrate" ∷ []
+editing_verbs = routing_verbs ++ ground_verbs
 
 abbrev pub working_verbs : List Text
 working_verbs = asset_verbs ++ editing_verbs
-
-abbrev pub done_verbs : List Text
-done_verbs = laying_verbs ++ working_verbs
-
-abbrev pub IsVerb : Text → Type 0
-IsVerb name = Contains done_verbs name
 
 -- the shapes of a verb's fields
 abbrev pub shapes_in : List Verb → Text → List Shape

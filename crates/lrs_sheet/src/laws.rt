@@ -1,6 +1,6 @@
 //! Laws of sheets and of the table of verbs.
 
-ghost use Rattle.lrs_sheet.specs.Laws.{SheetDeterminesReply, RecordsAreJudged, LinesAreTheTables, PrintedRecordsSay, DoneVerbsArePlanned};
+ghost use Rattle.lrs_sheet.specs.Laws.{SheetDeterminesReply, RecordsAreJudged, LinesAreTheTables, PrintedRecordsSay};
 
 /// The bytes of a sheet and the state before it determine the bytes of its reply and the state after it.
 pub fn a_sheet_determines_its_reply()
@@ -20,9 +20,4 @@ pub fn lines_are_made_from_the_table()
 /// The record that a well formed command is printed as says that command.
 pub fn a_printed_record_says_its_command()
     ensures { PrintedRecordsSay }
-{}
-
-/// The verbs that records may name are those that a desk does.
-pub fn done_verbs_are_those_of_a_desk()
-    ensures { DoneVerbsArePlanned }
 {}

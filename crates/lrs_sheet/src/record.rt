@@ -8,17 +8,15 @@ use crate::fault::ReadFault;
 use crate::shape::text_at;
 use crate::verb::command_by_verb;
 use csv::ByteRecord;
-use lrs_desk::Planned;
-use lrs_machine::{Field, Key};
+use lrs_machine::{Command, Field, Key};
 use std::alloc::Global;
 
 /// The key and the command that a record of at most eleven fields says.
 ///
 /// # Errors
 ///
-/// `Field` with the first field that is malformed, in the order of key, verb, a to i. A verb that desks do
-/// not do yet is a malformed one.
-pub fn command_of(alloc: Global, row: &ByteRecord) -> Result<(Key, Planned), ReadFault>
+/// `Field` with the first field that is malformed, in the order of key, verb, a to i.
+pub fn command_of(alloc: Global, row: &ByteRecord) -> Result<(Key, Command), ReadFault>
     requires { length (fields_of row.now) ≤ 11 }
     ensures says { IfOk result (λ said. SaysCommand (fields_of row.now) said.0 said.1) }
     ensures refuses { IfErr result (Refuses (fields_of row.now)) }

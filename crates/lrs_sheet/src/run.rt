@@ -20,8 +20,8 @@ use crate::reply::{Reply, Tally};
 use crate::rows::{next_row, open};
 use crate::shape::text_at;
 use csv::{ByteRecord, Reader};
-use lrs_desk::{Desk, Fault, Keeper, Planned};
-use lrs_machine::{Answer, Cause, Key};
+use lrs_desk::{Desk, Fault, Keeper};
+use lrs_machine::{Answer, Cause, Command, Key};
 use std::alloc::Global;
 use std::io::{Read, Write};
 
@@ -29,7 +29,7 @@ use std::io::{Read, Write};
 const MAX_RECORDS: u32 = 100_000_000;
 
 /// Does a command at a desk.
-fn act<K: Keeper>(desk: &mut Desk<K>, key: Key, command: &Planned) -> Result<Answer, SheetFault>
+fn act<K: Keeper>(desk: &mut Desk<K>, key: Key, command: &Command) -> Result<Answer, SheetFault>
     ensures answer { IfOk result (λ answer. answer ≡ (step desk.old.limits key command.now (state_of desk.old.image)).answer) }
     ensures state { OnOk result (state_of desk.new.image ≡ (step desk.old.limits key command.now (state_of desk.old.image)).state) }
     ensures image { OnErr result (desk.new.image ≡ desk.old.image) }

@@ -115,7 +115,7 @@ fn each_record_has_its_line(rt: HostRuntime) -> Result<(), Fail> {
         ("m,class,TREE,point,0,,,,,,", "m,refused,Malformed:c"),
         ("m,lnk,4,1,,,,,,,", "m,refused,Malformed:verb"),
         ("m,LINK,4,1,,,,,,,", "m,refused,Malformed:verb"),
-        ("m,turn,A1,,,,,,,,", "m,refused,Malformed:verb"),
+        ("m,turned,A1,,,,,,,,", "m,refused,Malformed:verb"),
         ("-,lnk,,,,,,,,,", "-,refused,Malformed:key"),
         ("a b,link,4,1,,,,,,,", "-,refused,Malformed:key"),
         (",,,,,,,,,,", "-,refused,Malformed:key"),

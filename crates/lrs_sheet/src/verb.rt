@@ -2,9 +2,8 @@
 
 ghost use Rattle.std.specs.Prelude.{◌≡◌, ◌≤◌, ◌↔◌, Contains, IsTrue, length};
 ghost use Rattle.csv.specs.Records.{fields_of};
-ghost use Rattle.lrs_verbs.specs.Planned.{is_planned};
 ghost use Rattle.lrs_sheet.specs.Fields.{ReadsArguments, ReadsCommand};
-ghost use Rattle.lrs_sheet.specs.Verbs.{IsVerb, all_verbs, asset_verbs, editing_verbs, laying_verbs, working_verbs};
+ghost use Rattle.lrs_sheet.specs.Verbs.{IsVerb, asset_verbs, editing_verbs, ground_verbs, laying_verbs, routing_verbs, working_verbs};
 
 use crate::arguments::{
     class_of, close_of, enter_of, join_of, link_of, realign_of, recalibrate_of, ref_of,
@@ -13,7 +12,6 @@ use crate::arguments::{
 use crate::fault::ReadFault;
 use crate::shape::text_at;
 use csv::ByteRecord;
-use lrs_desk::Planned;
 use lrs_machine::{Command, Field};
 use std::alloc::Global;
 
@@ -28,31 +26,47 @@ fn lays_out(verb: &[u8]) -> bool
         || verb == b"unref".as_slice()
 }
 
-/// Whether the verb is one of assets that a desk does.
+/// Whether the verb is one of assets.
 fn is_of_assets(verb: &[u8]) -> bool
     ensures { IsTrue result ↔ Contains asset_verbs verb.now }
 {
-    verb == b"enter".as_slice()
+    verb == b"enter".as_slice() || verb == b"retire".as_slice() || verb == b"supersede".as_slice()
 }
 
-/// Whether the verb edits a route, and a desk does it.
+/// Whether the verb edits routes and leaves their ground.
 fn edits_route(verb: &[u8]) -> bool
-    ensures { IsTrue result ↔ Contains editing_verbs verb.now }
+    ensures { IsTrue result ↔ Contains routing_verbs verb.now }
 {
     verb == b"split".as_slice()
+        || verb == b"join".as_slice()
         || verb == b"renumber".as_slice()
         || verb == b"recalibrate".as_slice()
+        || verb == b"turn".as_slice()
 }
 
-/// Whether the verb works on the network that is laid out, and a desk does it.
+/// Whether the verb changes the ground of a route.
+fn changes_ground(verb: &[u8]) -> bool
+    ensures { IsTrue result ↔ Contains ground_verbs verb.now }
+{
+    verb == b"realign".as_slice() || verb == b"close".as_slice()
+}
+
+/// Whether the verb edits routes.
+fn edits(verb: &[u8]) -> bool
+    ensures { IsTrue result ↔ Contains editing_verbs verb.now }
+{
+    edits_route(verb) || changes_ground(verb)
+}
+
+/// Whether the verb works on the network that is laid out.
 fn works_on(verb: &[u8]) -> bool
     ensures { IsTrue result ↔ Contains working_verbs verb.now }
 {
-    is_of_assets(verb) || edits_route(verb)
+    is_of_assets(verb) || edits(verb)
 }
 
-/// Whether a desk does the verb of this name.
-fn is_done(verb: &[u8]) -> bool
+/// Whether there is a verb of this name.
+fn is_verb(verb: &[u8]) -> bool
     ensures { IsTrue result ↔ IsVerb verb.now }
 {
     lays_out(verb) || works_on(verb)
@@ -61,7 +75,7 @@ fn is_done(verb: &[u8]) -> bool
 /// The command that the fields of a verb say.
 fn command_of_verb(alloc: Global, row: &ByteRecord, verb: &[u8]) -> Result<Command, ReadFault>
     requires eleven { length (fields_of row.now) ≤ 11 }
-    requires known { Contains all_verbs verb.now }
+    requires known { IsVerb verb.now }
     ensures { ReadsArguments (fields_of row.now) verb.now result }
 {
     if verb == b"link".as_slice() {
@@ -99,28 +113,15 @@ fn command_of_verb(alloc: Global, row: &ByteRecord, verb: &[u8]) -> Result<Comma
     }
 }
 
-/// A command of a verb that a desk does.
-fn planned(command: Command) -> Planned
-    requires { IsTrue (is_planned command) }
-    ensures { result ≡ command }
-{
-    match Planned::new(command) {
-        Some(planned) => planned,
-        None => unreachable!(),
-    }
-}
-
 /// The command that the fields after the key say.
-pub(crate) fn command_by_verb(alloc: Global, row: &ByteRecord) -> Result<Planned, ReadFault>
+pub(crate) fn command_by_verb(alloc: Global, row: &ByteRecord) -> Result<Command, ReadFault>
     requires { length (fields_of row.now) ≤ 11 }
     ensures { ReadsCommand (fields_of row.now) result }
 {
     let verb = text_at(row, 1);
-    if !is_done(verb) {
-        return Err(ReadFault::Field(Field::Verb));
-    }
-    match command_of_verb(alloc, row, verb) {
-        Ok(command) => Ok(planned(command)),
-        Err(fault) => Err(fault),
+    if is_verb(verb) {
+        command_of_verb(alloc, row, verb)
+    } else {
+        Err(ReadFault::Field(Field::Verb))
     }
 }

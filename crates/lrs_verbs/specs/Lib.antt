@@ -1,6 +1,5 @@
 pub mod Keys
 pub mod Places
-pub mod Planned
 pub mod Changes
 pub mod Indexes
 pub mod Inventory

@@ -7,13 +7,11 @@ mod inventory;
 mod keys;
 pub mod laws;
 mod plan;
-mod planned;
 mod referents;
 mod verbs;
 
 pub use inventory::{Inventory, Stretch};
 pub use keys::KeyIndex;
 pub use plan::{GroundChange, Plan, ReferentPlace, ReferentPlaces, Stop, refuse_if};
-pub use planned::Planned;
 pub use referents::ReferentIndex;
 pub use verbs::plan_command;

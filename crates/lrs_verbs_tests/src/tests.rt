@@ -7,7 +7,7 @@ use lrs_machine::{Cause, Chainage, Command, Image, MarkList, PieceList, RouteEnt
 use lrs_measure::{Frac, Rows};
 use lrs_position::{EnteredPosition, Expr, RefName, RouteName};
 use lrs_sound::first_unsound;
-use lrs_verbs::{Inventory, Plan, Planned, Stop, plan_command};
+use lrs_verbs::{Inventory, Plan, Stop, plan_command};
 use std::process::Abort;
 
 /// Two links.
@@ -129,7 +129,6 @@ fn planned(
     inventory: &Inventory,
     command: Command,
 ) -> Result<Plan, Cause> {
-    let command = Planned::new(command).expect(rt, "a verb that has a body");
     match plan_command(rt.alloc(), inventory, &command) {
         Ok(plan) => Ok(plan),
         Err(Stop::Refused(cause)) => Err(cause),

@@ -16,7 +16,7 @@ returns-after-matches-clause-keep g c = λ e.
     let i = c.self.inside.inventory in
     let d = subst (IsDecision c.self.inside.limits c.args.key c.args.command.now i) c.in-Make.is c.in_ok-decision.ensures.decided in
     let edit : Edit = record { key = c.args.key; line = c.in_ok-line.line } in
-    let same = ap (λ line. let e : Edit = record { key = c.args.key; line = line } in e) (c.in_ok-line.ensures ∙ ap line_of c.command.ensures.command) in
+    let same = ap (λ line. let e : Edit = record { key = c.args.key; line = line } in e) c.in_ok-line.ensures in
     record {
       image = subst (λ r. OnErr r (c.make-made.new.inventory ≡ i)) e c.make-made.ensures.err ∙ ap (λ (v : DeskView g.row.K.Denot). v.image) c.self.view_is;
       content = λ found h.

@@ -1,0 +1,5 @@
+//! Tests of whole sheets.
+#![tactic(auto)]
+
+#[cfg(test)]
+mod refused;
