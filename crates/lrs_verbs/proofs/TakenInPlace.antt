@@ -1,8 +1,7 @@
 -- A route's rows change in place to what a removal leaves, and the ledger grows by what the removal hands back.
-use Rattle.std.proofs.Common.{◌≡◌, ℕ, zero, suc, ◌+◌, ◌-◌, Bool, true, false, ◌⊎◌, inl, inr, List, [], ◌∷◌, ◌++◌, map, filter, drop, length, Option, Some, None, Ok, refl, sym, ap, subst, ◌∙◌}
+use Rattle.std.proofs.Common.{◌≡◌, ℕ, zero, suc, ◌+◌, ◌-◌, Bool, true, false, ◌⊎◌, inl, inr, List, [], ◌∷◌, ◌++◌, filter, drop, length, Some, Ok, refl, sym, ap, subst, ◌∙◌}
 use Rattle.std.specs.Prelude.{◌||◌, ◌&&◌, not, nat_eq, slice_get, slice_range}
 use Rattle.std.specs.List.{list_any, list_all, flat_map}
-use Rattle.std.specs.List as list
 use Rattle.std.specs.Option.{option_map}
 use Rattle.std.specs.Cmp.Lexicographic.{bytes_decides}
 use Rattle.std.specs.FinMap.{find}
@@ -14,7 +13,7 @@ use Rattle.lrs_measure.specs.Lists.{each_two}
 use Rattle.lrs_measure.specs.Ordered.{insert_by, insert_some}
 use Rattle.lrs_measure.specs.Texts.{Name, name_cmp, same_name}
 use Rattle.lrs_element.specs.declared.link.Ground.{Ground}
-use Rattle.lrs_element.specs.Course.{is_at, runs_over, meets}
+use Rattle.lrs_element.specs.Course.{is_at, meets}
 use Rattle.lrs_position.specs.Routes.{is_route}
 use Rattle.lrs_events.specs.declared.class.Asset.{Asset}
 use Rattle.lrs_events.specs.declared.part.Gone.{Gone}
@@ -28,7 +27,7 @@ use Rattle.lrs_events.specs.Changes.{changed_rows}
 use Rattle.lrs_events.specs.Members.{between, stands_for, has_member, is_member}
 use Rattle.lrs_events.specs.Parts.{has_pair}
 use Rattle.lrs_events.specs.Places.{Place, same_link_side, along_link, beside, places_on, is_among, lies_on, differs}
-use Rattle.lrs_events.specs.Spans.{are_rows, holds_by_spans}
+use Rattle.lrs_events.specs.Spans.{holds_by_spans}
 use Rattle.lrs_canonical.specs.declared.removing.Removal.{Removal}
 use Rattle.lrs_canonical.specs.OnCourse.{is_held}
 use Rattle.lrs_canonical.specs.Removals.{Taken, IsRemoval}
@@ -45,8 +44,8 @@ use Rattle.lrs_machine.proofs.Members.{In, any_found, any_of, In-append_right, I
 use Rattle.lrs_machine.proofs.Pairs.{held, each_two-map}
 use Rattle.lrs_lanes.proofs.Members.{filter_all}
 use Rattle.lrs_keep.specs.declared.change.Difference.{Difference}
-use Rattle.lrs_keep.specs.Change.{is_named, without, entry_after, route_after, fits_after, spans_after, with_difference, CanBecome, CanDiffer, routes_after}
-use Rattle.lrs_keep.proofs.Becoming.{HasBecome, has_become}
+use Rattle.lrs_keep.specs.Change.{without, entry_after, fits_after, with_difference, CanBecome, CanDiffer, routes_after}
+use Rattle.lrs_keep.proofs.Becoming.{has_become}
 use Rattle.lrs_keep.proofs.Tables.{routes_in_order}
 use Rattle.lrs_orderly.specs.Orderly.{IsOrderly}
 use Rattle.lrs_orderly.proofs.Ordering.{sound_is_orderly}
@@ -56,11 +55,10 @@ use Rattle.lrs_routes.proofs.Apart.{nat_eq-comm}
 use Rattle.lrs_routes.proofs.Halved.{fewer_have_rows}
 use Rattle.lrs_routes.proofs.InOrder.{is_false}
 use Rattle.lrs_routes.proofs.Parted.{held_alike}
-use Rattle.lrs_verbs.specs.declared.plan.Plan.{Plan}
 use Rattle.lrs_verbs.specs.Changes.{route_on}
 use Rattle.lrs_verbs.specs.Extents.{IsRouteIn}
 use Rattle.lrs_verbs.specs.Plans.{plan_of, TellsGround, IsPlanOf}
-use Rattle.lrs_verbs.specs.Taking.{with_rows, taking, IsTaking}
+use Rattle.lrs_verbs.specs.Taking.{with_rows, taking}
 use Rattle.lrs_verbs.proofs.FirstHolder.{spans_entry, row_tests, asset_of}
 use Rattle.lrs_verbs.proofs.FromReferents.{apart_courses}
 use Rattle.lrs_verbs.proofs.Holding.{IsAlone, alone, picked_at, rows_held_at, held_among}

@@ -36,6 +36,7 @@ pub fn plan_retire(
     match inventory.asset(asset.get()) {
         None => Err(Stop::Refused(Cause::NoAsset)),
         Some(known) => match inventory.class(&known.class) {
+            // Each asset's class is known.
             None => Err(Stop::Refused(Cause::NoAsset)),
             Some(kind) => {
                 let entry = route_named(inventory, &route)?;
