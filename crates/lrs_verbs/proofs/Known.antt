@@ -27,6 +27,11 @@ use Rattle.lrs_verbs.specs.Keys.{place_among}
 use Rattle.lrs_verbs.proofs.Positions.{position-map}
 use Rattle.lrs_verbs.proofs.Filed.{find_row, find_entry}
 
+-- nothing is found where what it stands for is nothing
+pub none_found : {X Y : Type 0} (f : X → Y) (o : Option X) → None ≡ option_map f o → o ≡ None
+none_found f None e = refl
+none_found f (Some x) e = absurd (cc e)
+
 -- what is found is known where what it stands for is
 pub same_known : {X Y Z : Type 0} (f : X → Z) (h : Y → Z) (o : Option X) (p : Option Y) → option_map f o ≡ option_map h p → is_some p ≡ is_some o
 same_known f h None None e = refl

@@ -17,6 +17,7 @@ pub mod NewEntry
 pub mod TakenInPlace
 pub mod RetireChecks
 pub mod RetiredPlaces
+pub mod Retirement
 pub mod Superseded
 pub mod Unmoved
 pub mod NewLink

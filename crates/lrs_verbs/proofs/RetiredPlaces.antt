@@ -23,7 +23,6 @@ use Rattle.lrs_canonical.specs.Removals.{Taken, is_within, IsRemoval}
 use Rattle.lrs_machine.specs.declared.image.Image.{Image}
 use Rattle.lrs_machine.specs.declared.image.RouteEntry.{RouteEntry}
 use Rattle.lrs_machine.specs.State as state
-use Rattle.lrs_machine.specs.State.{Retired}
 use Rattle.lrs_machine.specs.Image.{state_of, asset_entry, holds_on}
 use Rattle.lrs_machine.specs.Register.{get}
 use Rattle.lrs_machine.specs.Machine.{Extent, part_of, belongs_to}
@@ -34,6 +33,7 @@ use Rattle.lrs_machine.proofs.Pairs.{beside_ground}
 use Rattle.lrs_keep.proofs.Tables.{assets_in_order}
 use Rattle.lrs_routes.proofs.Halved.{side_at, its_end, filled_in}
 use Rattle.lrs_routes.proofs.Parted.{member_held}
+use Rattle.lrs_verbs.specs.Taking.{of_asset_within}
 use Rattle.lrs_verbs.proofs.FromReferents.{ground_there}
 use Rattle.lrs_verbs.proofs.Holding.{alone, rows_held_at}
 use Rattle.lrs_verbs.proofs.TakenInPlace.{IsTakenSo, among_at, on_both_sides, on_stretch, handed_back}
@@ -46,8 +46,8 @@ module _ (i : Image) (r : RouteEntry) (asset : Asset) (x : Extent) (s : IsSound 
   part = part_of c x
 
   -- what is taken of the rows
-  abbrev pub taken : Taken
-  taken class a j t = same_name class asset.class && nat_eq a asset.number && is_within x.from x.to j
+  abbrev taken : Taken
+  taken = of_asset_within asset x
 
   -- an asset of its number is of its class
   of_its_class : (y : Asset) → In y i.assets → y.number ≡ asset.number → y.class ≡ asset.class

@@ -10,6 +10,7 @@ is_planned (verb.Route name pieces marks) = true
 is_planned (verb.Ref name route at) = true
 is_planned (verb.Unref name) = true
 is_planned (verb.Enter e) = true
+is_planned (verb.Retire asset route location) = true
 is_planned (verb.Split route at name) = true
 is_planned (verb.Renumber route name) = true
 is_planned (verb.Recalibrate route marks) = true

@@ -1,15 +1,17 @@
 -- What an edit takes away on a route: rows that go and come there, and the rows of a ledger for what is handed back.
-use Rattle.std.specs.Prelude.{◌≡◌, ℕ, List, Some}
-use Rattle.lrs_measure.specs.Texts.{Name}
+use Rattle.std.specs.Prelude.{◌≡◌, ℕ, ◌&&◌, nat_eq, List, Some}
+use Rattle.lrs_measure.specs.Texts.{Name, same_name}
 use Rattle.lrs_events.specs.declared.change.SpanChange.{SpanChange}
 use Rattle.lrs_events.specs.declared.class.Asset.{Asset}
 use Rattle.lrs_events.specs.declared.class.Kind.{Kind}
 use Rattle.lrs_events.specs.declared.part.Gone.{Gone}
 use Rattle.lrs_events.specs.Spans.{holds_by_spans}
 use Rattle.lrs_canonical.specs.declared.removing.Removal.{Removal}
+use Rattle.lrs_canonical.specs.Removals.{Taken, is_within}
 use Rattle.lrs_machine.specs.declared.image.Image.{Image}
 use Rattle.lrs_machine.specs.declared.image.RouteEntry.{RouteEntry}
 use Rattle.lrs_machine.specs.Image.{state_of, asset_entry}
+use Rattle.lrs_machine.specs.Machine.{Extent}
 use Rattle.lrs_machine.specs.Register.{get}
 use Rattle.lrs_machine.specs.State.{Reason}
 use Rattle.lrs_keep.specs.declared.change.RouteChange.{RouteChange}
@@ -34,6 +36,10 @@ pub record IsTaking (edit : ℕ) (why : Reason) (r : RouteEntry) (removal : Remo
   pub gone : List Gone
   pub are_gone : AreGone edit why (holds_by_spans r.route.course removal.left.items) gone
   pub plan_is : p ≡ plan_of (taking r.route.name removal.change gone)
+
+-- what of an asset lies within an extent, by class, asset, chainage and side
+abbrev pub of_asset_within : Asset → Extent → Taken
+of_asset_within asset x class a j s = same_name class asset.class && nat_eq a asset.number && is_within x.from x.to j
 
 -- The asset is known, its class is of this kind, and the route is one of the inventory's.
 pub record HasAsset (i : Image) (asset : Asset) (kind : Kind) (r : RouteEntry) : Type 0 where

@@ -7,7 +7,7 @@ ghost use Rattle.lrs_verbs.specs.Planned.{is_planned};
 use lrs_machine::Command;
 use std::marker::Model;
 
-/// A command of one of the verbs `link`, `class`, `route`, `ref`, `unref`, `enter`, `split`, `renumber`,
+/// A command of one of the verbs `link`, `class`, `route`, `ref`, `unref`, `enter`, `retire`, `split`, `renumber`,
 /// `recalibrate` and `supersede`.
 #[derive(Drop)]
 pub struct Planned {
@@ -38,6 +38,7 @@ impl Planned {
             | Command::Ref { .. }
             | Command::Unref { .. }
             | Command::Enter(_)
+            | Command::Retire { .. }
             | Command::Split { .. }
             | Command::Renumber { .. }
             | Command::Recalibrate { .. }

@@ -11,6 +11,7 @@ mod new_referent;
 mod recalibrate;
 mod referents;
 mod renumber;
+mod retire;
 mod route;
 mod split;
 mod supersede;
@@ -27,6 +28,7 @@ use lrs_machine::Command;
 use new_referent::plan_ref;
 use recalibrate::plan_recalibrate;
 use renumber::plan_renumber;
+use retire::plan_retire;
 use route::plan_route;
 use split::plan_split;
 use std::alloc::Global;
@@ -51,6 +53,11 @@ pub fn plan_command(alloc: Global, inventory: &Inventory, command: &Planned) -> 
         Command::Ref { name, route, at } => plan_ref(alloc, inventory, *name, *route, *at),
         Command::Unref { name } => plan_unref(alloc, inventory, *name),
         Command::Enter(entry) => plan_enter(alloc, inventory, entry),
+        Command::Retire {
+            asset,
+            route,
+            location,
+        } => plan_retire(alloc, inventory, *asset, *route, *location),
         Command::Split { route, at, name } => plan_split(alloc, inventory, *route, at.get(), *name),
         Command::Renumber { route, name } => plan_renumber(alloc, inventory, *route, *name),
         Command::Recalibrate { route, marks } => plan_recalibrate(

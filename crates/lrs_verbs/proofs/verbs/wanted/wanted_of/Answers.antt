@@ -1,4 +1,4 @@
-use Rattle.std.proofs.Common.{◌≡◌, ℕ, Bool, Option, Some, None, refl, sym, ap, ◌∙◌}
+use Rattle.std.proofs.Common.{◌≡◌, ℕ, Bool, Option, sym, ap, ◌∙◌}
 use Rattle.std.specs.Prelude.{is_some}
 use Rattle.std.specs.Option.{option_map}
 use Rattle.std.proofs.lemmas.Result.{err_from_is_err_and}
@@ -10,13 +10,9 @@ use Rattle.lrs_machine.specs.Register.{get, contains_key}
 use Rattle.lrs_machine.specs.Machine.{wanted_of}
 use Rattle.lrs_verbs.specs.Wanted.{is_left_out}
 use Rattle.lrs_verbs.proofs.Stopping.{answers_refused, passed}
-use Rattle.lrs_verbs.proofs.Known.{same_known}
+use Rattle.lrs_verbs.proofs.Known.{none_found, same_known}
 use Rattle.lrs_verbs.proofs.EntryChecks.{refuses_known, refuses_class, refuses_route}
 use Rattle.lrs_verbs.proofs.verbs.wanted.wanted_of.Goals as goal
-
-none_of : {X Y : Type 0} (f : X → Y) (o : Option X) → None ≡ option_map f o → o ≡ None
-none_of f None e = refl
-none_of f (Some x) e = absurd (cc e)
 
 -- whether the asset is known
 known : (i : Image) (n m : ℕ) (o : Option Asset) (b : Bool) → n ≡ m → option_map asset_entry o ≡ option_map (λ a. (n, a)) (get (state_of i).assets n) → b ≡ is_some o → contains_key (state_of i).assets m ≡ b
@@ -47,4 +43,4 @@ returns-in-None-route-clause-refused c =
     let fresh =
     known i c.get.result e.asset c.asset.result c.is_some-is_known.result c.get.ensures.number c.asset.ensures c.is_some-is_known.ensures
     ∙ passed c.is_some-is_known.result cause.AssetKnown c.refuse_if.result _ c.refuse_if.ensures c.in_ok-refuse_if.was in
-    refuses_route e (state_of i) (is_left_out c.args.only_exclusive) fresh c.in-Some.kind (sym c.in-Some.ensures) (none_of _ (get (state_of i).routes e.route) c.in-None-route.ensures.route)
+    refuses_route e (state_of i) (is_left_out c.args.only_exclusive) fresh c.in-Some.kind (sym c.in-Some.ensures) (none_found _ (get (state_of i).routes e.route) c.in-None-route.ensures.route)

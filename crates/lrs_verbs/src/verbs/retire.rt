@@ -1,0 +1,117 @@
+//! An asset gives up what it holds on a part of a route.
+
+ghost use Rattle.std.specs.Prelude.{◌≡◌, ◌<◌, IsTrue, IfOk, true};
+ghost use Rattle.lrs_measure.specs.Lists.{each_two, is_nothing};
+ghost use Rattle.lrs_events.specs.Places.{differs};
+ghost use Rattle.lrs_events.specs.Spans.{are_rows};
+ghost use Rattle.lrs_canonical.specs.Removals.{IsRemoval};
+ghost use Rattle.lrs_machine.specs.declared.command.Command.TheVariants as verb;
+ghost use Rattle.lrs_machine.specs.State.{Retired};
+ghost use Rattle.lrs_spans.specs.Plans.{IsPlan};
+ghost use Rattle.lrs_verbs.specs.Plans.{Plans};
+ghost use Rattle.lrs_verbs.specs.Taking.{of_asset_within, HasAsset, IsTaking};
+
+use crate::inventory::{Inventory, Stretch};
+use crate::plan::{Plan, Stop, refuse_if};
+use crate::verbs::changes::no_change;
+use crate::verbs::checks::{is_wrong_kind, route_named};
+use lrs_canonical::removing::Removal;
+use lrs_events::{Asset, Kind, Span};
+use lrs_gone::taken_away;
+use lrs_machine::{AssetNumber, Cause, RouteEntry};
+use lrs_measure::Rows;
+use lrs_position::{EventLocation, RouteName};
+use std::alloc::{AllocError, Global};
+
+pub fn plan_retire(
+    alloc: Global,
+    inventory: &Inventory,
+    asset: AssetNumber,
+    route: RouteName,
+    location: EventLocation,
+) -> Result<Plan, Stop>
+    ensures { Plans (verb.Retire asset route location) inventory.now result }
+{
+    match inventory.asset(asset.get()) {
+        None => Err(Stop::Refused(Cause::NoAsset)),
+        Some(known) => match inventory.class(&known.class) {
+            // Each asset's class is known.
+            None => Err(Stop::Refused(Cause::NoAsset)),
+            Some(kind) => {
+                let entry = route_named(inventory, &route)?;
+                retire_on(alloc, inventory, known, kind, entry, location)
+            }
+        },
+    }
+}
+
+/// What retiring an asset of a class of this kind changes on a route.
+fn retire_on(
+    alloc: Global,
+    inventory: &Inventory,
+    asset: Asset,
+    kind: Kind,
+    entry: &RouteEntry,
+    location: EventLocation,
+) -> Result<Plan, Stop>
+    requires known { HasAsset inventory.now asset kind entry.now }
+    ensures { Plans (verb.Retire asset.number entry.now.route.name location) inventory.now result }
+{
+    inventory.prove_sound();
+    refuse_if(is_wrong_kind(kind, location), Cause::WrongKind)?;
+    let stretch = inventory.extent(entry, location)?;
+    refuse_if(stretch.is_empty(), Cause::Empty)?;
+    let removal = removal_of(alloc, entry, asset, stretch)?;
+    refuse_if(is_nothing(&removal.left), Cause::Empty)?;
+    let edit = inventory.edits() + 1;
+    let plan = retiring(alloc, edit, entry, removal)?;
+    Ok(plan)
+}
+
+/// What of an asset lies on a stretch of a route, and the change that leaves the rest.
+fn removal_of(
+    alloc: Global,
+    entry: &RouteEntry,
+    asset: Asset,
+    stretch: Stretch,
+) -> Result<Removal, AllocError>
+    requires filled { stretch.from < stretch.to }
+    ensures plan { IfOk result (λ removal. IsPlan entry.now.spans removal.change) }
+    ensures removal { IfOk result (λ removal. IsRemoval (of_asset_within asset stretch) entry.now.spans removal) }
+{
+    let from = stretch.from();
+    let to = stretch.to();
+    entry
+        .spans
+        .plan_remove_asset_within(alloc, asset.class, asset.number, from, to)
+}
+
+/// Whether there is no row.
+fn is_nothing(rows: &[Span]) -> bool
+    ensures { result ≡ is_nothing rows.now }
+{
+    rows.is_empty()
+}
+
+/// The plan by which an edit retires what a removal hands back.
+fn retiring(
+    alloc: Global,
+    edit: u64,
+    entry: &RouteEntry,
+    removal: Removal,
+) -> Result<Plan, AllocError>
+    requires rows { IsTrue (are_rows removal.left.items) }
+    requires once { each_two differs entry.now.route.course ≡ true }
+    ensures { IfOk result (λ plan. IsTaking edit Retired entry.now removal plan) }
+{
+    let route = &entry.route;
+    let Removal { left, change } = removal;
+    let gone = taken_away(alloc, edit, &left, &route.course, false)?;
+    let mut changed = no_change(alloc, route.name);
+    changed.spans_gone = Rows::from_vec(change.gone);
+    changed.spans_come = Rows::from_vec(change.come);
+    let mut plan = Plan::none(alloc);
+    plan.difference.changed = Some(changed);
+    plan.difference.gone = gone;
+    Ok(plan)
+}
