@@ -23,7 +23,6 @@ use Rattle.lrs_canonical.specs.Removals.{Taken, is_within, IsRemoval}
 use Rattle.lrs_machine.specs.declared.image.Image.{Image}
 use Rattle.lrs_machine.specs.declared.image.RouteEntry.{RouteEntry}
 use Rattle.lrs_machine.specs.State as state
-use Rattle.lrs_machine.specs.State.{Retired}
 use Rattle.lrs_machine.specs.Image.{state_of, asset_entry, holds_on}
 use Rattle.lrs_machine.specs.Register.{get}
 use Rattle.lrs_machine.specs.Machine.{Extent, part_of, belongs_to}

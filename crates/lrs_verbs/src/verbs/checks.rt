@@ -5,7 +5,7 @@ ghost use Rattle.std.specs.List.{find};
 ghost use Rattle.lrs_keep.specs.Change.{is_named};
 ghost use Rattle.lrs_machine.specs.declared.answer.Cause.TheVariants as cause;
 ghost use Rattle.lrs_machine.specs.Image.{state_of};
-ghost use Rattle.lrs_machine.specs.Machine.{check_free};
+ghost use Rattle.lrs_machine.specs.Machine.{check_free, is_wrong_kind};
 ghost use Rattle.lrs_verbs.specs.Checks.{new_marks};
 ghost use Rattle.lrs_verbs.specs.Plans.{Answers};
 ghost use Rattle.lrs_verbs.specs.declared.plan.Stop.TheVariants as stop;
@@ -13,8 +13,9 @@ ghost use Rattle.lrs_verbs.specs.declared.plan.Stop.TheVariants as stop;
 use crate::inventory::Inventory;
 use crate::plan::Stop;
 use lrs_element::{Mark, MarkFault, Marks, Piece};
+use lrs_events::Kind;
 use lrs_machine::{Cause, RouteEntry};
-use lrs_position::RouteName;
+use lrs_position::{EventLocation, RouteName};
 use std::alloc::Global;
 
 /// The route of a name, with what lies on it.
@@ -49,5 +50,16 @@ pub fn new_marks(alloc: Global, marks: &[Mark], len: u64) -> Result<Marks, Stop>
     match Marks::new(list, len) {
         Ok(marks) => Ok(marks),
         Err(MarkFault(i)) => Err(Stop::Refused(Cause::BadMarks(i as u64))),
+    }
+}
+
+/// Whether a location is not one of an asset of this kind: a point has no end, and any other one has.
+pub fn is_wrong_kind(kind: Kind, location: EventLocation) -> bool
+    ensures { result ≡ is_wrong_kind kind location.to }
+{
+    let has_end = location.to().is_some();
+    match kind {
+        Kind::Point => has_end,
+        Kind::Stretch | Kind::Exclusive => !has_end,
     }
 }

@@ -14,8 +14,7 @@ ghost use Rattle.lrs_verbs.specs.Taking.{of_asset_within, HasAsset, IsTaking};
 use crate::inventory::{Inventory, Stretch};
 use crate::plan::{Plan, Stop, refuse_if};
 use crate::verbs::changes::no_change;
-use crate::verbs::checks::route_named;
-use crate::verbs::wanted::is_wrong_kind;
+use crate::verbs::checks::{is_wrong_kind, route_named};
 use lrs_canonical::removing::Removal;
 use lrs_events::{Asset, Kind, Span};
 use lrs_gone::taken_away;
@@ -36,6 +35,7 @@ pub fn plan_retire(
     match inventory.asset(asset.get()) {
         None => Err(Stop::Refused(Cause::NoAsset)),
         Some(known) => match inventory.class(&known.class) {
+            // Each asset's class is known.
             None => Err(Stop::Refused(Cause::NoAsset)),
             Some(kind) => {
                 let entry = route_named(inventory, &route)?;

@@ -7,6 +7,7 @@ ghost use Rattle.lrs_verbs.specs.Wanted.{is_left_out, IsWanted, IsRefused};
 
 use crate::inventory::{Inventory, Stretch};
 use crate::plan::{Stop, refuse_if};
+use crate::verbs::checks::is_wrong_kind;
 use lrs_events::Kind;
 use lrs_machine::{Cause, Entry, RouteEntry};
 use lrs_position::EventLocation;
@@ -59,17 +60,6 @@ fn is_refused(kind: Kind, location: EventLocation, only_exclusive: bool) -> bool
     ensures { result ≡ (is_wrong_kind kind location.to || is_left_out only_exclusive kind) }
 {
     is_wrong_kind(kind, location) || is_left_out(only_exclusive, kind)
-}
-
-/// Whether a location is not one of an asset of this kind: a point has no end, and any other one has.
-pub fn is_wrong_kind(kind: Kind, location: EventLocation) -> bool
-    ensures { result ≡ is_wrong_kind kind location.to }
-{
-    let has_end = location.to().is_some();
-    match kind {
-        Kind::Point => has_end,
-        Kind::Stretch | Kind::Exclusive => !has_end,
-    }
 }
 
 /// Whether a kind is left out where only exclusive classes are taken.
