@@ -6,7 +6,7 @@ use Rattle.std.specs.Option.{option_map}
 use Rattle.std.specs.List.{list_any, list_all, flat_map, filter_map}
 use Rattle.std.specs.Cmp.Lexicographic.{bytes_decides}
 use Rattle.std.proofs.lemmas.Bool.{both_ways, and_parts, and_from, leb-true, or_left, cases_Bool, cases_lt, lt-ltb, le-ltb, le-leb, lt-leb, eq-eqb}
-use Rattle.std.proofs.lemmas.List.{append-nil, length-drop}
+use Rattle.std.proofs.lemmas.List.{append-nil}
 use Rattle.std.proofs.lemmas.List.Folds.{list_all-append, list_any-append}
 use Rattle.lrs_measure.specs.Lists.{each_two}
 use Rattle.lrs_measure.specs.Texts.{Name, name_cmp, same_name}
@@ -55,7 +55,7 @@ use Rattle.lrs_routes.proofs.Standing.{option_found, found_option}
 use Rattle.lrs_leaving.specs.Leaving.{with_left, LeaveGround}
 use Rattle.lrs_leaving.specs.Realigning.{replaced, is_off, moved, IsTaken, IsRealignment, RealignMakes, RealignedHasRows}
 use Rattle.lrs_leaving.proofs.Leaving.{leaving_makes_state, leaving_is_orderly}
-use Rattle.lrs_leaving.proofs.Replaced.{front, part, rear, three_parts, front_length, stretch_holds, realigned_holds}
+use Rattle.lrs_leaving.proofs.Replaced.{front, part, rear, three_parts, front_length, replaced_length, stretch_holds, realigned_holds}
 
 -- a referent off the stretch stands before or behind it
 pub off_from : (from to : ℕ) (q : Referent) → is_off from to q ≡ true → (q.at < from) ⊎ (to ≤ q.at)
@@ -372,12 +372,7 @@ module _ (assets : List Asset) (course ground : List Ground) (from to : ℕ) (ro
   size = length (replaced from to ground course)
 
   size_is : size ≡ (from + length ground) + (length course - to)
-  size_is =
-      let a = length-append (take from course ++ ground) (drop to course) in
-      let b = length-append (take from course) ground in
-      let f = front_length course from to low high in
-      let d = length-drop to course in
-      omega (arith, a, b, f, d)
+  size_is = replaced_length course from to low high ground
 
   all_spans : list_all (is_span assets (length course)) rows ≡ true
   all_spans = (and_parts (are_rows rows) (list_all (is_span assets (length course)) rows) spans).1

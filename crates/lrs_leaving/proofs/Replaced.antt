@@ -75,6 +75,15 @@ module _ (c : List Ground) (from to : ℕ) (low : from ≤ to) (high : to ≤ le
   part_length : length part ≡ to - from
   part_length = let e = length-drop from c in length-take-le (to - from) (drop from c) (omega (arith, e, low, high))
 
+  -- how long the course is with other ground for the stretch
+  pub replaced_length : (ground : List Ground) → length (replaced from to ground c) ≡ (from + length ground) + (length c - to)
+  replaced_length ground =
+      let a = length-append (front ++ ground) rear in
+      let b = length-append front ground in
+      let f = front_length in
+      let e = length-drop to c in
+      omega (arith, a, b, f, e)
+
   module _ (rows : List Span) (a : ℕ) (p : Place) where
     abbrev held : Picks
     held = is_held rows a

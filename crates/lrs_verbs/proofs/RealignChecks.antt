@@ -4,7 +4,6 @@ use Rattle.std.specs.Prelude.{◌||◌, ◌&&◌, not, nat_lt, nat_le, nat_eq, s
 use Rattle.std.specs.List.{find, list_all}
 use Rattle.std.specs.Option.{option_map, ok_or}
 use Rattle.std.proofs.lemmas.Bool.{not-true, and_parts, or_left, or_right, or_cases, or_parts, ltb-true, ltb-false, lt-ltb, leb-true, le-leb}
-use Rattle.std.proofs.lemmas.List.{length-drop}
 use Rattle.lrs_measure.specs.Lists.{each_two, is_nothing}
 use Rattle.lrs_measure.specs.Texts.{Name}
 use Rattle.lrs_element.specs.declared.link.Ground.{Ground}
@@ -35,7 +34,7 @@ use Rattle.lrs_sound.proofs.Fitting.{fits}
 use Rattle.lrs_keep.specs.Change.{is_named}
 use Rattle.lrs_routes.proofs.Rewriting.{old_spans}
 use Rattle.lrs_leaving.specs.Realigning.{replaced}
-use Rattle.lrs_leaving.proofs.Replaced.{front_length}
+use Rattle.lrs_leaving.proofs.Replaced.{replaced_length}
 use Rattle.lrs_verbs.specs.declared.plan.Stop.{Stop}
 use Rattle.lrs_verbs.specs.declared.plan.Stop.TheVariants.{Refused, Memory}
 use Rattle.lrs_verbs.specs.declared.verbs.realign.NewLine.{NewLine}
@@ -165,12 +164,7 @@ lies len from to pieces h = by (nat_lt len from) (nat_lt len to) (nat_lt to from
 
 module _ (old come new : List Ground) (from to : ℕ) (low : from ≤ to) (high : to ≤ length old) (new_is : new ≡ replaced from to come old) (short : is_too_long new ≡ false) where
   total : length new ≡ (from + length come) + (length old - to)
-  total =
-      let a = length-append (take from old ++ come) (drop to old) in
-      let b = length-append (take from old) come in
-      let f = front_length old from to low high in
-      let e = length-drop to old in
-      ap length new_is ∙ omega (arith, a, b, f, e)
+  total = ap length new_is ∙ replaced_length old from to low high come
 
   longest : length new ≤ longest_route
   longest = ltb-false longest_route (length new) (or_parts (nat_lt most_pieces (piece_count new)) (nat_lt longest_route (length new)) short).1

@@ -1,11 +1,10 @@
 -- A stretch of a route gets other ground.
-use Rattle.std.proofs.Common.{◌≡◌, ℕ, ◌+◌, ◌-◌, ◌≤◌, Bool, true, false, cond, ◌⊎◌, inl, inr, List, [], ◌∷◌, ◌++◌, map, take, drop, length, Option, Some, None, Ok, refl, sym, ap, subst, ◌∙◌, arith, length-append}
+use Rattle.std.proofs.Common.{◌≡◌, ℕ, ◌+◌, ◌-◌, ◌≤◌, Bool, true, false, cond, ◌⊎◌, inl, inr, List, [], ◌∷◌, ◌++◌, map, take, drop, length, Option, Some, None, Ok, refl, sym, ap, subst, ◌∙◌}
 use Rattle.std.specs.Prelude.{◌||◌, ◌&&◌, not, is_some, nat_lt, slice_get, slice_range, unwrap_or}
 use Rattle.std.specs.List.{find, list_any, list_all, cons_option}
 use Rattle.std.specs.Option.{option_map, option_or}
 use Rattle.std.specs.Cmp.Lexicographic.{bytes_decides}
 use Rattle.std.proofs.lemmas.Bool.{false≢true, both_ways, not-true, and_parts, and_from, or_left, or_right, cases_Bool, ltb-true}
-use Rattle.std.proofs.lemmas.List.{length-drop}
 use Rattle.std.proofs.lemmas.List.Folds.{list_any-append}
 use Rattle.lrs_measure.specs.Lists.{each_two}
 use Rattle.lrs_measure.specs.Texts.{Name, same_name}
@@ -52,7 +51,7 @@ use Rattle.lrs_leaving.specs.Leaving.{with_left}
 use Rattle.lrs_leaving.specs.Realigning.{replaced, IsTaken, IsRealignment}
 use Rattle.lrs_leaving.proofs.Named.{AreNamed, named_leave}
 use Rattle.lrs_leaving.proofs.Realigning.{realign_makes, realigned_has_rows, fit, same_state, under, is_on, is_clear}
-use Rattle.lrs_leaving.proofs.Replaced.{three_parts, front_length}
+use Rattle.lrs_leaving.proofs.Replaced.{three_parts, replaced_length}
 use Rattle.lrs_verbs.specs.declared.verbs.realign.NewLine.{NewLine}
 use Rattle.lrs_verbs.specs.declared.verbs.realign.Realigned.{Realigned}
 use Rattle.lrs_verbs.specs.Changes.{route_on}
@@ -128,12 +127,7 @@ module _ (route : Name) (from to : ℕ) (given : Option (List Piece)) (marks : L
   refs_moved = subst (λ (g : List Ground). c.refs ≡ referents_moved from to (length g) r.route.refs) (sym whole.course) is.refs
 
   size_is : length new ≡ (from + length come) + (length old - to)
-  size_is =
-      let a = length-append (take from old ++ come) (drop to old) in
-      let b = length-append (take from old) come in
-      let f = front_length old from to low high in
-      let e = length-drop to old in
-      omega (arith, a, b, f, e)
+  size_is = replaced_length old from to low high come
 
   refs_fit : are_referents (length l.course) (changed_refs c.refs r.route.refs) ≡ true
   refs_fit = (λ j. are_referents (length (new_is j)) (changed_refs (refs_moved j) r.route.refs)) ∙ moved.fit r from to (length come) (length new) low high size_is
