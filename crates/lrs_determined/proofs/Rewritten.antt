@@ -10,6 +10,7 @@ use Rattle.std.specs.FinMap.{find, IsAntisymmetric}
 use Rattle.std.proofs.lemmas.Bool.{false≢true, and_parts}
 use Rattle.lrs_measure.specs.Lists.{each_two}
 use Rattle.lrs_machine.specs.Register.{by_order, put}
+use Rattle.lrs_keep.proofs.PutBack.{none_goes}
 
 module _ {K X : Type 0} {R : K → K → Ordering} (total : IsTotalOrder R) (exact : IsAntisymmetric R) where
   -- whether a row has another key
@@ -66,10 +67,7 @@ module _ {K X : Type 0} {R : K → K → Ordering} (total : IsTotalOrder R) (exa
       by false h rest = rest h
 
   none_dropped : (k : K) (rows : List (K × X)) → list_all (is_another k) rows ≡ true → filter (is_another k) rows ≡ rows
-  none_dropped k [] h = refl
-  none_dropped k (e ∷ rows) h =
-      let both = and_parts (is_another k e) (list_all (is_another k) rows) h in
-      ap (λ b. cond b (e ∷ filter (is_another k) rows) (filter (is_another k) rows)) both.0 ∙ ap (λ l. e ∷ l) (none_dropped k rows both.1)
+  none_dropped k rows h = none_goes row_before (λ e. eq_by_cmp R k e.0) rows h
 
   -- a row that begins a list is dropped
   first_dropped : (k : K) (v : X) (rows : List (K × X)) → filter (is_another k) ((k, v) ∷ rows) ≡ filter (is_another k) rows

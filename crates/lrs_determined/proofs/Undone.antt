@@ -1,5 +1,5 @@
 -- A split and a join, and two turns, leave the state as it was.
-use Rattle.std.proofs.Common.{◌≡◌, ℕ, Bool, true, false, cond, List, [], ◌∷◌, ◌++◌, take, drop, length, map, Option, Some, None, Result, Ok, refl, sym, ap, subst, ◌∙◌}
+use Rattle.std.proofs.Common.{◌≡◌, ℕ, Bool, true, false, cond, List, [], ◌∷◌, ◌++◌, take, drop, length, map, Some, Result, Ok, refl, sym, ap, subst, ◌∙◌}
 use Rattle.std.specs.Prelude.{◌||◌, not, is_some, is_none, nat_lt, IfOk}
 use Rattle.std.specs.Ordering.{eq_by_cmp}
 use Rattle.std.specs.Option.{ok_or}
@@ -16,7 +16,8 @@ use Rattle.lrs_element.specs.declared.marks.Mark.{Mark}
 use Rattle.lrs_element.specs.Limits.{most_marks, greatest_measure}
 use Rattle.lrs_element.specs.Course.{is_too_long, turned}
 use Rattle.lrs_element.specs.Marks.{no_mark, is_inner_mark, marks_to, marks_from, joined_marks, mirrored, are_marks, bad_mark, is_out_of_range}
-use Rattle.lrs_element.proofs.Lining.{are_marks-new, line_from_are_marks}
+use Rattle.lrs_element.proofs.LineLemmas.{KeepRules-from_none, ends_at}
+use Rattle.lrs_element.proofs.Lining.{line_from_are_marks}
 use Rattle.lrs_position.specs.Locating.{Alignment}
 use Rattle.lrs_machine.specs.declared.answer.Cause.{Cause}
 use Rattle.lrs_machine.specs.declared.answer.Cause.TheVariants as cause
@@ -156,12 +157,8 @@ alignment_of (e ∷ es) name a h = by (eq_by_cmp name_cmp name e.route.name) h (
     its : IsFit (route_entry e).1
     its = record {
       short = not-true (is_too_long e.route.course) (and_parts (not (is_nothing e.route.course)) (not (is_too_long e.route.course)) (fits e).0).1;
-      marks = are_marks-new (length e.route.course) e.route.marks (none (bad_mark (length e.route.course) e.route.marks) (fits e).1);
+      marks = ap (λ n. is_none (bad_mark n e.route.marks)) (ends_at (length e.route.course) e.route.marks (KeepRules-from_none (length e.route.course) e.route.marks (fits e).1)) ∙ (fits e).1;
     }
-      where
-        none : (o : Option ℕ) → is_none o ≡ true → o ≡ None
-        none None h = refl
-        none (Some x) h = absurd (cc h)
 
     by : (b : Bool) → cond b (Some (route_entry e).1) (find name_cmp name (map route_entry es)) ≡ Some a → (find name_cmp name (map route_entry es) ≡ Some a → IsFit a) → IsFit a
     by true h rest = let same : (route_entry e).1 ≡ a = cc h in subst IsFit same its
