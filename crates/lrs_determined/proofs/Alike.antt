@@ -1,20 +1,20 @@
 -- Inventories that say the same of the ground have the same rows.
-use Rattle.std.proofs.Common.{◌≡◌, ℕ, true, inl, inr, List, [], ◌∷◌, map, length, refl, sym, ap, ap₂, subst, ◌∙◌}
+use Rattle.std.proofs.Common.{◌≡◌, ℕ, inl, inr, List, [], ◌∷◌, map, length, refl, sym, ap, ap₂, ◌∙◌}
 use Rattle.std.specs.Prelude.{◌&&◌, unwrap_or}
 use Rattle.lrs_measure.specs.Texts.{Name}
 use Rattle.lrs_element.specs.declared.link.Ground.{Ground}
 use Rattle.lrs_events.specs.declared.span.Span.{Span}
-use Rattle.lrs_events.specs.Places.{Place, lies_on}
+use Rattle.lrs_events.specs.Places.{lies_on}
 use Rattle.lrs_events.specs.Spans.{holds_by_spans}
 use Rattle.lrs_canonical.specs.RunLaws.{HoldSame, end_within, are_of_class}
 use Rattle.lrs_canonical.proofs.RunLaws.{held_rows_are_one}
 use Rattle.lrs_machine.specs.declared.image.RouteEntry.{RouteEntry}
 use Rattle.lrs_machine.specs.declared.image.Image.{Image}
-use Rattle.lrs_machine.specs.Image.{state_of, holds_on, route_entry}
+use Rattle.lrs_machine.specs.Image.{state_of, route_entry}
 use Rattle.lrs_machine.specs.Sound.{IsSound}
 use Rattle.lrs_machine.proofs.Members.{In}
 use Rattle.lrs_verbs.proofs.Holding.{alone}
-use Rattle.lrs_determined.specs.Rows.{SayAlike, RowsAreDetermined, courses_by_name, rows_by_name}
+use Rattle.lrs_determined.specs.Rows.{SayAlike, RowsAreDetermined}
 use Rattle.lrs_determined.proofs.Owned.{own, class_at, its_rows, ends, classes}
 
 abbrev course_of_route : RouteEntry → Name × List Ground
@@ -23,10 +23,10 @@ course_of_route e = (e.route.name, e.route.course)
 abbrev rows_of_route : RouteEntry → Name × List Span
 rows_of_route e = (e.route.name, e.spans)
 
-firsts : {X : Type 0} (x y : X) (xs ys : List X) → x ∷ xs ≡ y ∷ ys → x ≡ y
+pub firsts : {X : Type 0} (x y : X) (xs ys : List X) → x ∷ xs ≡ y ∷ ys → x ≡ y
 firsts x y xs ys h = cc
 
-rests : {X : Type 0} (x y : X) (xs ys : List X) → x ∷ xs ≡ y ∷ ys → xs ≡ ys
+pub rests : {X : Type 0} (x y : X) (xs ys : List X) → x ∷ xs ≡ y ∷ ys → xs ≡ ys
 rests x y xs ys h = cc
 
 named_courses : (es : List RouteEntry) → map (λ r. (r.0, r.1.course)) (map route_entry es) ≡ map course_of_route es

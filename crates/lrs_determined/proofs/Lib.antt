@@ -1,2 +1,6 @@
 pub mod Owned
 pub mod Alike
+pub mod Rewritten
+pub mod MarksBack
+pub mod Undone
+pub mod RowsBack

@@ -1,9 +1,9 @@
 -- What the rows of a route hold is what is held on its course.
-use Rattle.std.proofs.Common.{◌≡◌, ℕ, Bool, true, false, ◌⊎◌, inl, inr, List, [], ◌∷◌, map, length, Option, Some, None, refl, sym, ap, ◌∙◌, cond, arith}
+use Rattle.std.proofs.Common.{◌≡◌, ℕ, Bool, true, false, ◌⊎◌, inl, inr, List, [], ◌∷◌, map, length, Some, refl, sym, ap, ◌∙◌, cond, arith}
 use Rattle.std.specs.Prelude.{◌&&◌, nat_eq, nat_le, unwrap_or}
 use Rattle.std.specs.List.{list_any, list_all}
 use Rattle.std.specs.Option.{option_map}
-use Rattle.std.specs.Ordering.{nat_cmp, eq_by_cmp}
+use Rattle.std.specs.Ordering.{nat_cmp}
 use Rattle.std.specs.Cmp.{unsigned_tied}
 use Rattle.std.specs.Cmp.Lexicographic.{bytes_decides}
 use Rattle.std.specs.FinMap.{find}
@@ -21,8 +21,8 @@ use Rattle.lrs_machine.specs.declared.image.RouteEntry.{RouteEntry}
 use Rattle.lrs_machine.specs.declared.image.Image.{Image}
 use Rattle.lrs_machine.specs.Image.{state_of, holds_on, asset_entry}
 use Rattle.lrs_machine.specs.Sound.{is_span, are_spans_of, asset_before, IsSound}
-use Rattle.lrs_machine.proofs.Members.{In, any_found, any_of, all_at, all_of, all_weaker}
-use Rattle.lrs_machine.proofs.Pairs.{IsHeld, held}
+use Rattle.lrs_machine.proofs.Members.{In, any_found, any_of, all_at, all_weaker}
+use Rattle.lrs_machine.proofs.Pairs.{held}
 use Rattle.lrs_keep.proofs.Tables.{assets_in_order}
 use Rattle.lrs_routes.proofs.Apart.{apart_too}
 use Rattle.lrs_routes.proofs.Rewriting.{old_spans}
