@@ -1,0 +1,6 @@
+//! Linear segments of a route by one sweep over the rows of its classes, and the strip that shows them (ISO 19148: linear
+//! segment).
+#![tactic(auto)]
+
+mod columns;
+mod sweeping;
