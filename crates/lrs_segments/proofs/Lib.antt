@@ -1,2 +1,6 @@
 pub mod Passing
 pub mod Swept
+pub mod Found
+pub mod Following
+pub mod Faults
+pub mod Lanes

@@ -41,3 +41,7 @@ value_at (s ∷ ss) j = if nat_lt j s.to then s.value else value_at ss j
 -- one value or none of each column
 abbrev pub values_at : List (List Stretch) → ℕ → Values
 values_at columns j = map (λ c. value_at c j) columns
+
+-- the stretch without a value between two chainages, if there is something between them
+abbrev pub gap : ℕ → ℕ → List Stretch
+gap from to = if nat_lt from to then record { to = to; value = None } ∷ [] else []

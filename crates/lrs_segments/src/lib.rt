@@ -3,4 +3,8 @@
 #![tactic(auto)]
 
 mod columns;
+mod lookups;
+mod segmenting;
 mod sweeping;
+
+pub use segmenting::segments;
