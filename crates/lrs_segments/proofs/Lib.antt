@@ -4,3 +4,4 @@ pub mod Found
 pub mod Following
 pub mod Faults
 pub mod Lanes
+pub mod Writing

@@ -1,3 +1,4 @@
 pub mod Columns
 pub mod Sweep
 pub mod Along
+pub mod Strips

@@ -4,7 +4,9 @@
 
 mod columns;
 mod lookups;
+mod printing;
 mod segmenting;
 mod sweeping;
 
+pub use printing::strip;
 pub use segmenting::segments;
