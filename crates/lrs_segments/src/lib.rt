@@ -10,3 +10,6 @@ mod sweeping;
 
 pub use printing::strip;
 pub use segmenting::segments;
+
+#[cfg(test)]
+mod tests;
