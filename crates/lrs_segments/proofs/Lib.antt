@@ -5,3 +5,4 @@ pub mod Following
 pub mod Faults
 pub mod Lanes
 pub mod Writing
+pub mod States

@@ -1,20 +1,21 @@
 -- What the rows of a route say of each of its millimetres on one side, and what its segments ask of them.
 use Rattle.std.specs.Prelude.{◌≡◌, ℕ, ◌<◌, ◌≤◌, Bool, true, ◌&&◌, nat_le, nat_lt, nat_eq, List, [], ◌∷◌, map, Option, Some, None, Result, Ok, Err}
-use Rattle.std.specs.List.{list_any, find, range_with_len}
+use Rattle.std.specs.List.{find, range_with_len}
 use Rattle.std.specs.Option.{option_map, option_and_then}
 use Rattle.lrs_measure.specs.Texts.{Name}
 use Rattle.lrs_events.specs.declared.class.Asset.{Asset}
 use Rattle.lrs_events.specs.declared.class.Class.{Class}
 use Rattle.lrs_events.specs.declared.side.LinkSide.{LinkSide}
 use Rattle.lrs_events.specs.declared.span.Span.{Span}
-use Rattle.lrs_events.specs.Members.{stands_for, is_member}
+use Rattle.lrs_events.specs.Members.{is_member}
+use Rattle.lrs_canonical.specs.OnCourse.{is_held}
 use Rattle.lrs_report.specs.declared.segments.SegFault.{SegFault}
 use Rattle.lrs_report.specs.declared.segments.SegFault.TheVariants.{Memory}
 use Rattle.lrs_report.specs.Segments.{is_exclusive_class}
 
 -- whether the rows say that the asset holds the millimetre on the side
 abbrev pub is_holder : List Span → LinkSide → ℕ → ℕ → Bool
-is_holder rows side j asset = list_any (λ r. stands_for r asset j side) rows
+is_holder rows side j asset = is_held rows asset j side
 
 -- which assets hold each millimetre of a route of this length
 abbrev pub holders_along : List Span → LinkSide → ℕ → List (ℕ → Bool)

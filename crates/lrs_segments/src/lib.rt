@@ -3,6 +3,7 @@
 #![tactic(auto)]
 
 mod columns;
+pub mod laws;
 mod lookups;
 mod printing;
 mod segmenting;
