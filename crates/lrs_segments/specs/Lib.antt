@@ -1,0 +1,5 @@
+pub mod Columns
+pub mod Sweep
+pub mod Along
+pub mod InState
+pub mod Strips
