@@ -13,4 +13,6 @@ pub use printing::strip;
 pub use segmenting::segments;
 
 #[cfg(test)]
+mod refused;
+#[cfg(test)]
 mod tests;

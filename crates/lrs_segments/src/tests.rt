@@ -44,20 +44,48 @@ fn one_asset(alloc: Global, class: ClassName, value: Value) -> Result<Chunked<As
     Ok(assets)
 }
 
-fn one_class(alloc: Global, class: Class) -> Result<Chunked<Class>, AllocError>
-    ensures { IfOk result (λ classes. classes.rows ≡ class ∷ []) }
+fn one_class(alloc: Global, name: ClassName, kind: Kind) -> Result<Chunked<Class>, AllocError>
+    ensures { IfOk result (λ classes. classes.rows ≡ record { name = name; kind = kind } ∷ []) }
 {
     let mut classes = Chunked::new(alloc);
-    classes.push(class)?;
+    classes.push(Class { name, kind })?;
     Ok(classes)
 }
 
-fn name(rt: &impl Abort, text: &[u8]) -> ClassName {
+/// Those stretches, tried again where memory was refused.
+fn spans_of(rt: &(impl Abort + AllocGlobal), class: ClassName) -> Spans
+    ensures { result ≡ record { asset = 10; class = class; from = 2500; to = 4000; side = Side.R } ∷ record { asset = 10; class = class; from = 6000; to = 8000; side = Side.R } ∷ [] }
+{
+    match two_stretches(rt.alloc(), class) {
+        Ok(spans) => spans,
+        Err(_) => two_stretches(rt.alloc(), class).expect(rt, "memory"),
+    }
+}
+
+fn assets_of(rt: &(impl Abort + AllocGlobal), class: ClassName, value: Value) -> Chunked<Asset>
+    ensures { result.rows ≡ record { number = 10; class = class; value = value; lateral = 0; entry = 1 } ∷ [] }
+{
+    match one_asset(rt.alloc(), class, value) {
+        Ok(assets) => assets,
+        Err(_) => one_asset(rt.alloc(), class, value).expect(rt, "memory"),
+    }
+}
+
+fn classes_of(rt: &(impl Abort + AllocGlobal), name: ClassName, kind: Kind) -> Chunked<Class>
+    ensures { result.rows ≡ record { name = name; kind = kind } ∷ [] }
+{
+    match one_class(rt.alloc(), name, kind) {
+        Ok(classes) => classes,
+        Err(_) => one_class(rt.alloc(), name, kind).expect(rt, "memory"),
+    }
+}
+
+pub(super) fn name(rt: &impl Abort, text: &[u8]) -> ClassName {
     ClassName::new(text).expect(rt, "a class name")
 }
 
 /// The segments of a route of 8 m, along which a speed of 80 holds on two stretches.
-fn segments_of(
+pub(super) fn segments_of(
     rt: &(impl Abort + AllocGlobal),
     kind: Kind,
     wanted: &[ClassName],
@@ -66,9 +94,9 @@ fn segments_of(
     let alloc = rt.alloc();
     let class = name(rt, b"SPEED");
     let value = Value::new(b"80").expect(rt, "a value");
-    let spans = two_stretches(alloc, class).expect(rt, "memory");
-    let assets = one_asset(alloc, class, value).expect(rt, "memory");
-    let classes = one_class(alloc, Class { name: class, kind }).expect(rt, "memory");
+    let spans = spans_of(rt, class);
+    let assets = assets_of(rt, class, value);
+    let classes = classes_of(rt, class, kind);
     segments(alloc, 8000, &spans, &assets, &classes, wanted, side)
 }
 
@@ -117,11 +145,7 @@ fn a_class_can_be_asked_for_twice_or_not_at_all(rt: HostRuntime) {
 #[test]
 fn a_route_without_assets_has_one_segment(rt: HostRuntime) {
     let speed = name(&rt, b"SPEED");
-    let class = Class {
-        name: speed,
-        kind: Kind::Exclusive,
-    };
-    let classes = one_class(rt.alloc(), class).expect(&rt, "memory");
+    let classes = classes_of(&rt, speed, Kind::Exclusive);
     let spans = Spans::empty(rt.alloc());
     let assets = Chunked::new(rt.alloc());
     let found = segments(

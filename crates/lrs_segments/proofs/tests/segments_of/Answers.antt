@@ -18,6 +18,5 @@ its_asset rows n h class a j side m =
 
 pub segments-requires-clause-exclusive : goal.segments-requires-clause-exclusive
 segments-requires-clause-exclusive g c = λ class e a b j side m n.
-    let rows = rw c.expect-spans.ensures at c.two_stretches.ensures in
-    let all = ap (list_all (λ (r : Span). nat_eq r.asset 10)) rows in
-    its_asset c.expect-spans.result 10 all class a j side m ∙ sym (its_asset c.expect-spans.result 10 all class b j side n)
+    let all = ap (list_all (λ (r : Span). nat_eq r.asset 10)) c.spans_of-spans.ensures in
+    its_asset c.spans_of-spans.result 10 all class a j side m ∙ sym (its_asset c.spans_of-spans.result 10 all class b j side n)
