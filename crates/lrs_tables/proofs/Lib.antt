@@ -1,2 +1,14 @@
 pub mod Rows
 pub mod MakeLemmas
+pub mod Only
+pub mod InsertStatements
+pub mod Inserting
+pub mod Inserted
+pub mod Then
+pub mod Answers
+pub mod DeleteLemmas
+pub mod DeleteRows
+pub mod Columns
+pub mod DeleteStatements
+pub mod Deleting
+pub mod Deleted

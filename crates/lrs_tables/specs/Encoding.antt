@@ -17,7 +17,7 @@ use Rattle.lrs_events.specs.declared.span.Span.{Span}
 use Rattle.lrs_events.specs.declared.part.Part.{Part}
 use Rattle.lrs_events.specs.declared.part.Gone.{Gone}
 use Rattle.lrs_machine.specs.declared.image.Edit.{Edit}
-use Rattle.lrs_store.specs.Tables.{LinkRow, ClassRow, AssetRow, PieceRow, MarkRow, RefRow, SpanRow, EnteredRow, GoneRow, EditRow, OriginRow}
+use Rattle.lrs_store.specs.Tables.{LinkRow, ClassRow, AssetRow, PieceRow, MarkRow, RefRow, SpanRow, EnteredRow, GoneRow, EditRow}
 
 -- 0 point, 1 stretch, 2 exclusive
 abbrev pub kind_number : Kind → ℕ
@@ -54,9 +54,6 @@ class_row c = record { name = c.name; kind = pos (kind_number c.kind) }
 
 abbrev pub asset_row : Asset → AssetRow
 asset_row a = record { number = pos a.number; class = a.class; value = a.value; lateral = pos a.lateral }
-
-abbrev pub origin_row : Asset → OriginRow
-origin_row a = record { asset = pos a.number; edit = pos a.entry }
 
 -- the n-th piece of a route
 abbrev pub piece_row : Name → ℕ → Piece → PieceRow

@@ -1,3 +1,6 @@
 pub mod Schema
-pub mod Making
 pub mod Stored
+pub mod Encoding
+pub mod Changing
+pub mod RowLaws
+pub mod Making

@@ -6,7 +6,7 @@ use Rattle.sqlite_value.specs.declared.value.Value.TheVariants.{Null, Int, Real,
 use Rattle.sqlite_value.specs.Order.{Row, column}
 use Rattle.sqlite_trees.specs.Tree.{Trees, IsTable, rowid}
 use Rattle.sqlite_schema.specs.declared.schema.Table.{Table}
-use Rattle.sqlite_schema.specs.declared.schema.Constraint.TheVariants.{Datatype}
+use Rattle.sqlite_schema.specs.declared.schema.Constraint.TheVariants.{Datatype, NotNull}
 use Rattle.sqlite_schema.specs.Rules.{Keeps}
 use Rattle.sqlite_rules.specs.Edit.{id_in}
 use Rattle.sqlite.specs.State.{State, HasCleanDisk}
@@ -151,10 +151,11 @@ pub record AreNumbered (rows : List Row) : Type 0 where
   pub rise : IsTable rows
   pub numbers : AllByRecursion (λ r. Int (id_in (rowid r)) ≡ rowid r) rows
 
--- the trees are those of the tables: their rows have numbers, and their values are of the columns' types
+-- the trees are those of the tables: their rows have numbers, and their values are of the columns' types and none is missing
 pub record HasTables (db : Trees) : Type 0 where
   pub numbered : AllByRecursion (λ (t : Table). AreNumbered (db t.tree)) inventory.tables
   pub typed : Keeps Datatype inventory db
+  pub present : Keeps NotNull inventory db
 
 -- the connection is inside a transaction over the tables
 pub record IsWriting (s : State) : Type 0 where
@@ -165,7 +166,7 @@ pub record IsWriting (s : State) : Type 0 where
 -- a call inside a transaction makes these rows of those that were there
 pub record Makes (made : Tables → Tables) (old new : State) : Type 0 where
   pub writing : IsWriting new
-  pub was_open : IsTrue old.is_open
+  pub was_open : IsTrue new.is_open → IsTrue old.is_open
   pub rows : AreSame (made (stored old.now.trees)) (stored new.now.trees)
 
 -- what a call that answers Ok has made, if the disk is clean
