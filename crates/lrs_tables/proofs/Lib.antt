@@ -12,3 +12,8 @@ pub mod Columns
 pub mod DeleteStatements
 pub mod Deleting
 pub mod Deleted
+pub mod UpdateRows
+pub mod RenameStatements
+pub mod Updating
+pub mod Renamed
+pub mod Steady

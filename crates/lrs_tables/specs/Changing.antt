@@ -12,7 +12,7 @@ use Rattle.lrs_events.specs.declared.span.Span.{Span}
 use Rattle.lrs_events.specs.declared.part.Part.{Part}
 use Rattle.lrs_events.specs.declared.part.Gone.{Gone}
 use Rattle.lrs_machine.specs.declared.image.Edit.{Edit}
-use Rattle.lrs_store.specs.Tables.{Tables, RefRow, SpanRow}
+use Rattle.lrs_store.specs.Tables.{Tables, PieceRow, MarkRow, RefRow, SpanRow}
 use Rattle.lrs_store.specs.Laws.{origin_row}
 use Rattle.lrs_tables.specs.Encoding.{link_row, class_row, asset_row, piece_row, mark_row, ref_row, span_row, entered_row, gone_row, edit_row, numbered}
 
@@ -94,3 +94,33 @@ less_spans route ss t = record t { span = filter (λ r. not (list_any (λ s. has
 -- the rows of some referents, by their names
 abbrev pub less_refs : List Name → Tables → Tables
 less_refs names t = record t { ref = filter (λ r. not (list_any (same_name r.name) names)) t.ref }
+
+-- rows of a route that gets another name
+
+abbrev pub renamed_piece : Name → Name → PieceRow → PieceRow
+renamed_piece old new r = if same_name r.route old then record r { route = new } else r
+
+abbrev pub renamed_pieces : Name → Name → Tables → Tables
+renamed_pieces old new t = record t { piece = map (renamed_piece old new) t.piece }
+
+abbrev pub renamed_mark : Name → Name → MarkRow → MarkRow
+renamed_mark old new r = if same_name r.route old then record r { route = new } else r
+
+abbrev pub renamed_marks : Name → Name → Tables → Tables
+renamed_marks old new t = record t { mark = map (renamed_mark old new) t.mark }
+
+abbrev pub renamed_ref : Name → Name → RefRow → RefRow
+renamed_ref old new r = if same_name r.route old then record r { route = new } else r
+
+abbrev pub renamed_refs : Name → Name → Tables → Tables
+renamed_refs old new t = record t { ref = map (renamed_ref old new) t.ref }
+
+abbrev pub renamed_span : Name → Name → SpanRow → SpanRow
+renamed_span old new r = if same_name r.route old then record r { route = new } else r
+
+abbrev pub renamed_spans : Name → Name → Tables → Tables
+renamed_spans old new t = record t { span = map (renamed_span old new) t.span }
+
+-- a route with all that lies on it
+abbrev pub renamed_route : Name → Name → Tables → Tables
+renamed_route old new t = renamed_spans old new (renamed_refs old new (renamed_marks old new (renamed_pieces old new t)))

@@ -6,4 +6,5 @@ pub mod going;
 pub mod making;
 pub mod number;
 pub mod put;
+pub mod renaming;
 pub mod written;
