@@ -1,5 +1,5 @@
 -- What a DELETE makes of the rows of a store, table by table.
-use Rattle.std.proofs.Common.{◌≡◌, ℕ, ℤ, pos, List, [], ◌∷◌, map, Bool, true, false, not, ◌&&◌, ◌||◌, drop, Some, None, Ok, refl, sym, ap, ap₂, ◌∙◌, codes}
+use Rattle.std.proofs.Common.{◌≡◌, ℕ, pos, [], ◌∷◌, map, Bool, true, false, not, ◌&&◌, ◌||◌, drop, None, Ok, refl, sym, ap, ap₂, ◌∙◌, codes}
 use Rattle.std.specs.Prelude.{filter}
 use Rattle.std.specs.List.{list_any}
 use Rattle.sqlite_value.specs.declared.value.Value.TheVariants.{Int, Text}

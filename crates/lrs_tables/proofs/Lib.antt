@@ -4,7 +4,6 @@ pub mod Only
 pub mod InsertStatements
 pub mod Inserting
 pub mod Inserted
-pub mod Then
 pub mod Answers
 pub mod DeleteLemmas
 pub mod DeleteRows
@@ -17,3 +16,10 @@ pub mod RenameStatements
 pub mod Updating
 pub mod Renamed
 pub mod Steady
+pub mod Then
+pub mod Pieces
+pub mod StartLemmas
+pub mod SameName
+pub mod CommitLemmas
+pub mod SelectStatements
+pub mod ReadLemmas

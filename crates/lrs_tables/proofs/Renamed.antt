@@ -1,5 +1,5 @@
 -- What an UPDATE of the name of a route makes of the rows of a store, table by table.
-use Rattle.std.proofs.Common.{◌≡◌, ℕ, ℤ, List, [], ◌∷◌, map, Bool, true, false, drop, Some, None, Ok, refl, sym, ap, ◌∙◌, codes, if◌then◌else◌}
+use Rattle.std.proofs.Common.{◌≡◌, ℕ, [], ◌∷◌, map, true, drop, None, Ok, refl, ap, codes}
 use Rattle.std.proofs.lemmas.Bool.{and_from}
 use Rattle.sqlite_value.specs.declared.value.Value.TheVariants.{Int, Text}
 use Rattle.sqlite_value.specs.Order.{Row, column}

@@ -1,8 +1,7 @@
 -- What is written of the same rows is the same rows.
-use Rattle.std.proofs.Common.{◌≡◌, ℕ, List, [], ◌∷◌, ◌++◌, map, not, Bool, true, false, if◌then◌else◌}
-use Rattle.std.specs.Prelude.{filter, Option, Some, None}
+use Rattle.std.proofs.Common.{ℕ, List, map, not, pos}
+use Rattle.std.specs.Prelude.{Option, Some, None}
 use Rattle.std.specs.List.{list_any}
-use Rattle.std.specs.List.Sorted.{IsPermutation}
 use Rattle.std.proofs.lemmas.List.Sorted.{IsPermutation-cons, IsPermutation-map, IsPermutation-append_right}
 use Rattle.sqlite_keyed.proofs.ListLemmas.{IsPermutation-filter}
 use Rattle.lrs_measure.specs.Texts.{Name, same_name}
@@ -16,12 +15,19 @@ use Rattle.lrs_events.specs.declared.span.Span.{Span}
 use Rattle.lrs_events.specs.declared.part.Part.{Part}
 use Rattle.lrs_events.specs.declared.part.Gone.{Gone}
 use Rattle.lrs_machine.specs.declared.image.Edit.{Edit}
+use Rattle.lrs_machine.specs.declared.image.RouteEntry.{RouteEntry}
+use Rattle.lrs_keep.specs.declared.change.ReferentChange.{ReferentChange}
+use Rattle.lrs_keep.specs.declared.change.RouteChange.{RouteChange}
+use Rattle.lrs_keep.specs.declared.change.Difference.{Difference}
+use Rattle.lrs_keep.specs.declared.change.Change.{Change}
 use Rattle.lrs_store.specs.Tables.{Tables}
 use Rattle.lrs_store.specs.Laws.{origin_row}
 use Rattle.lrs_tables.specs.Stored.{AreSame}
 use Rattle.lrs_tables.specs.Encoding.{link_row, class_row, asset_row, piece_row, mark_row, ref_row, span_row, entered_row, gone_row, edit_row, numbered}
+use Rattle.lrs_tables.specs.RowLaws.{same_trans}
 use Rattle.lrs_tables.specs.Changing as it
 use Rattle.lrs_tables.specs.Changing.{has_key_of}
+use Rattle.lrs_tables.specs.Writing.{with_some, new_pieces, new_marks, changed_refs, changed_spans, changed_route, new_route, with_ledgers, written, IsWritten}
 
 -- what makes the same rows of the same rows
 abbrev pub IsSteady : (Tables → Tables) → Type 0
@@ -29,6 +35,9 @@ IsSteady f = (a b : Tables) → AreSame a b → AreSame (f a) (f b)
 
 pub steady_both : (f g : Tables → Tables) → IsSteady f → IsSteady g → IsSteady (λ t. g (f t))
 steady_both f g s r a b h = r (f a) (f b) (s a b h)
+
+pub steady-with_version : (v : ℕ) → IsSteady (it.with_version v)
+steady-with_version v a b h = record { version = IsPermutation-cons (pos v) _ _ h.version; link = h.link; class = h.class; asset = h.asset; piece = h.piece; mark = h.mark; ref = h.ref; span = h.span; entered = h.entered; gone = h.gone; edit = h.edit; origin = h.origin }
 
 pub steady-with_link : (l : Link) → IsSteady (it.with_link l)
 steady-with_link l a b h = record { version = h.version; link = IsPermutation-cons (link_row l) _ _ h.link; class = h.class; asset = h.asset; piece = h.piece; mark = h.mark; ref = h.ref; span = h.span; entered = h.entered; gone = h.gone; edit = h.edit; origin = h.origin }
@@ -92,3 +101,60 @@ steady-less_spans route ss a b h = record { version = h.version; link = h.link; 
 
 pub steady-less_refs : (ns : List Name) → IsSteady (it.less_refs ns)
 steady-less_refs ns a b h = record { version = h.version; link = h.link; class = h.class; asset = h.asset; piece = h.piece; mark = h.mark; ref = IsPermutation-filter (λ r. not (list_any (same_name r.name) ns)) _ _ h.ref; span = h.span; entered = h.entered; gone = h.gone; edit = h.edit; origin = h.origin }
+
+-- what is made of something, if there is one
+pub steady_some : {X : Type 0} (made : X → Tables → Tables) → ((x : X) → IsSteady (made x)) → (o : Option X) → IsSteady (with_some made o)
+steady_some made each None a b h = h
+steady_some made each (Some x) a b h = each x a b h
+
+pub steady-with_asset : (x : Asset) → IsSteady (it.with_asset x)
+steady-with_asset x a b h = steady-with_origin x _ _ (steady-with_asset_row x a b h)
+
+pub steady-new_marks : (route : Name) (ms : List Mark) → IsSteady (new_marks route ms)
+steady-new_marks route ms a b h = steady-with_marks route 0 ms _ _ (steady-without_marks route a b h)
+
+pub steady-changed_refs : (route : Name) (c : ReferentChange) → IsSteady (changed_refs route c)
+steady-changed_refs route c a b h = steady-with_refs route c.come _ _ (steady-less_refs c.gone a b h)
+
+pub steady-changed_spans : (c : RouteChange) → IsSteady (changed_spans c)
+steady-changed_spans c a b h = steady-with_spans c.route c.spans_come _ _ (steady-less_spans c.route c.spans_gone a b h)
+
+pub steady-renamed_route : (old new : Name) → IsSteady (it.renamed_route old new)
+steady-renamed_route old new a b h = steady-renamed_spans old new _ _ (steady-renamed_refs old new _ _ (steady-renamed_marks old new _ _ (steady-renamed_pieces old new a b h)))
+
+pub steady-without_route : (route : Name) → IsSteady (it.without_route route)
+steady-without_route route a b h = steady-without_spans route _ _ (steady-without_refs route _ _ (steady-without_marks route _ _ (steady-without_pieces route a b h)))
+
+pub steady-new_pieces : (route : Name) (ps : List Piece) → IsSteady (new_pieces route ps)
+steady-new_pieces route ps a b h = steady-with_pieces route 0 ps _ _ (steady-without_pieces route a b h)
+
+pub steady-changed_route : (c : RouteChange) (pieces : Option (List Piece)) → IsSteady (changed_route c pieces)
+steady-changed_route c pieces a b h =
+    steady-renamed_route c.route c.name _ _ (steady-changed_spans c _ _ (steady-changed_refs c.route c.refs _ _
+    (steady_some (new_marks c.route) (steady-new_marks c.route) c.marks _ _ (steady_some (new_pieces c.route) (steady-new_pieces c.route) pieces a b h))))
+
+pub steady-new_route : (e : RouteEntry) (pieces : Option (List Piece)) → IsSteady (new_route e pieces)
+steady-new_route e pieces a b h =
+    steady-with_spans e.route.name e.spans _ _ (steady-with_refs e.route.name e.route.refs _ _ (steady-with_marks e.route.name 0 e.route.marks _ _
+    (steady_some (it.with_pieces e.route.name 0) (λ ps. steady-with_pieces e.route.name 0 ps) pieces a b h)))
+
+pub steady-with_ledgers : (d : Difference) → IsSteady (with_ledgers d)
+steady-with_ledgers d a b h = steady-with_gone d.gone _ _ (steady-with_entered d.entered a b h)
+
+pub steady-written : (n : ℕ) (c : Change) (changed made : Option (List Piece)) → IsSteady (written n c changed made)
+steady-written n c changed made a b h =
+    let d = c.difference in
+    steady-with_edit n c.edit _ _ (steady-with_ledgers d _ _
+    (steady_some (λ (e : RouteEntry). new_route e made) (λ e. steady-new_route e made) d.made _ _ (steady_some it.without_route steady-without_route d.dropped _ _
+    (steady_some (λ (r : RouteChange). changed_route r changed) (λ r. steady-changed_route r changed) d.changed _ _
+    (steady_some it.with_asset steady-with_asset d.asset _ _ (steady_some it.with_class steady-with_class d.class _ _ (steady_some it.with_link steady-with_link d.link a b h)))))))
+
+-- what is written of rows is written of the same rows
+pub written_from : (n : ℕ) (c : Change) (t before after : Tables) → AreSame t before → IsWritten n c before after → IsWritten n c t after
+written_from n c t before after same it = record {
+  changed = it.changed;
+  changed_are = it.changed_are;
+  made = it.made;
+  made_are = it.made_are;
+  rows = same_trans _ _ _ (steady-written n c it.changed it.made t before same) it.rows;
+}

@@ -1,5 +1,5 @@
 -- What an UPDATE makes of a table, and what stays true of all tables.
-use Rattle.std.proofs.Common.{◌≡◌, ◌≢◌, ℕ, ℤ, List, [], ◌∷◌, ◌++◌, map, Option, Some, None, Ok, Bool, true, false, cond, not, drop, ◌&&◌, slice_get, IsTrue, refl, sym, ap, subst, subst₂, ◌∙◌, if◌then◌else◌}
+use Rattle.std.proofs.Common.{◌≡◌, ℕ, List, [], ◌∷◌, ◌++◌, map, Option, Some, None, Ok, Bool, true, false, cond, not, drop, slice_get, IsTrue, refl, sym, ap, subst, subst₂, ◌∙◌, if◌then◌else◌}
 use Rattle.std.specs.Prelude.{filter}
 use Rattle.std.specs.List.{AllByRecursion}
 use Rattle.std.specs.List.Sorted.{IsPermutation}
@@ -15,7 +15,7 @@ use Rattle.sqlite_schema.specs.declared.schema.Reference.{Reference}
 use Rattle.sqlite_schema.specs.declared.schema.Table.{Table}
 use Rattle.sqlite_schema.specs.declared.command.Command.TheVariants.{Update}
 use Rattle.sqlite_schema.specs.Rules.{are_typed, are_present}
-use Rattle.sqlite_trees.specs.Tree.{Trees, rowid, put_row}
+use Rattle.sqlite_trees.specs.Tree.{rowid, put_row}
 use Rattle.sqlite_trees.specs.View.{is_int}
 use Rattle.sqlite_rules.specs.Cast.{cast_row}
 use Rattle.sqlite_rules.specs.Edit.{id_in, have_rowids, put_all}

@@ -1,5 +1,5 @@
 -- Tables that are being made, one after the other.
-use Rattle.std.specs.Prelude.{◌≡◌, ℕ, List, [], IsTrue}
+use Rattle.std.specs.Prelude.{◌≡◌, [], IsTrue}
 use Rattle.std.specs.List.{AllByRecursion}
 use Rattle.sqlite_schema.specs.declared.schema.Table.{Table}
 use Rattle.sqlite_schema.specs.declared.schema.Schema.{Schema}

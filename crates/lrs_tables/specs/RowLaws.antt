@@ -1,5 +1,5 @@
 -- Why rows come and go one after the other: for the laws of `Written`.
-use Rattle.std.proofs.Common.{◌≡◌, ℕ, ◌+◌, Bool, true, false, cond, not, ◌||◌, List, [], ◌∷◌, ◌++◌, map, length, append_assoc, refl, sym, ap, subst, subst₂, ◌∙◌, arith}
+use Rattle.std.proofs.Common.{◌≡◌, ℕ, ◌+◌, Bool, true, false, cond, not, ◌||◌, List, [], ◌∷◌, ◌++◌, map, length, append_assoc, refl, sym, ap, subst, ◌∙◌, arith}
 use Rattle.std.specs.Prelude.{filter}
 use Rattle.std.specs.List.{list_any}
 use Rattle.std.specs.List.Sorted.{IsPermutation}
@@ -14,7 +14,7 @@ use Rattle.lrs_position.specs.declared.route.Referent.{Referent}
 use Rattle.lrs_events.specs.declared.span.Span.{Span}
 use Rattle.lrs_events.specs.declared.part.Part.{Part}
 use Rattle.lrs_events.specs.declared.part.Gone.{Gone}
-use Rattle.lrs_store.specs.Tables.{Tables, PieceRow, MarkRow, RefRow, SpanRow, EnteredRow, GoneRow}
+use Rattle.lrs_store.specs.Tables.{Tables}
 use Rattle.lrs_tables.specs.Stored.{AreSame}
 use Rattle.lrs_tables.specs.Encoding.{piece_row, mark_row, ref_row, span_row, entered_row, gone_row, numbered}
 use Rattle.lrs_tables.specs.Changing.{with_pieces, with_marks, with_refs, with_spans, with_entered, with_gone, has_key_of, less_spans, less_refs}

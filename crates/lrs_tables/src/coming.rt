@@ -13,11 +13,13 @@ use sqlite::types::ValueRef;
 use sqlite::{Alter, Error, Transaction};
 
 /// The route whose rows come.
+#[derive(Clone, Copy)]
 pub struct Coming {
     pub route: RouteName,
 }
 
 /// Rows that come at the end of a ledger.
+#[derive(Clone, Copy)]
 pub struct Ledger;
 
 impl Written<Coming> for Piece {

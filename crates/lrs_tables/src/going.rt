@@ -59,6 +59,7 @@ pub fn drop_spans<S: Alter>(tx: &mut Transaction<'_, S>, route: &RouteName) -> R
 }
 
 /// The route of which some rows go.
+#[derive(Clone, Copy)]
 pub struct Going {
     pub route: RouteName,
 }

@@ -1,6 +1,6 @@
 //! Rows that come, one at a time.
 
-ghost use Rattle.std.specs.Prelude.{◌≡◌, OnOk};
+ghost use Rattle.std.specs.Prelude.{◌≡◌, OnOk, IsTrue};
 ghost use Rattle.sqlite.specs.State.{HasCleanDisk, Survives};
 ghost use Rattle.sqlite.specs.Held.{state};
 ghost use Rattle.lrs_tables.specs.Stored.{IsWriting, Makes};
@@ -81,6 +81,7 @@ pub fn put_origin<S: Alter>(tx: &mut Transaction<'_, S>, asset: &Asset) -> Resul
 pub fn put_edit<S: Alter>(tx: &mut Transaction<'_, S>, n: u64, edit: &Edit) -> Result<(), Error>
     ensures same_reference { tx.new.conn.ghost_name ≡ tx.old.conn.ghost_name }
     ensures does { HasCleanDisk (state S.Store tx.new.conn.now) → IsWriting (state S.Store tx.old.conn.now) → OnOk result (Makes (with_edit n edit.now) (state S.Store tx.old.conn.now) (state S.Store tx.new.conn.now)) }
+    ensures is_open { HasCleanDisk (state S.Store tx.new.conn.now) → IsWriting (state S.Store tx.old.conn.now) → OnOk result (IsTrue (state S.Store tx.old.conn.now).is_open) }
     ensures survives { Survives (state S.Store tx.old.conn.now) (state S.Store tx.new.conn.now) (λ _. ⊥) }
 {
     let own = number(n)?;

@@ -1,10 +1,9 @@
-use Rattle.std.proofs.Common.{◌≡◌, ◌∙◌, ◌+◌, ◌<◌, ◌++◌, ◌∷◌, [], length, take, sym, ap, subst, arith, rules}
+use Rattle.std.proofs.Common.{◌≡◌, ◌∙◌, ◌+◌, ◌<◌, ◌++◌, ◌∷◌, [], length, take, sym, ap, subst, arith}
 use Rattle.std.proofs.lemmas.List.{take_more, length-take-le}
-use Rattle.sqlite.specs.State.{HasCleanDisk}
 use Rattle.sqlite.specs.Held.{state}
 use Rattle.sqlite.proofs.StateLemmas.{survives_then}
 use Rattle.lrs_tables.specs.Stored.{Makes}
-use Rattle.lrs_tables.proofs.Then.{makes_nothing, makes_then}
+use Rattle.lrs_tables.proofs.Then.{makes_then}
 use Rattle.lrs_tables.proofs.written.write_all.Goals as goal
 
 pub loop-i-preserved : goal.loop-i-preserved
