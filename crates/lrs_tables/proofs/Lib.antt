@@ -23,3 +23,4 @@ pub mod SameName
 pub mod CommitLemmas
 pub mod SelectStatements
 pub mod ReadLemmas
+pub mod SaidRows

@@ -4,6 +4,7 @@
 pub mod change;
 pub mod coming;
 pub mod going;
+pub mod load;
 pub mod making;
 pub mod named;
 pub mod number;
@@ -11,6 +12,7 @@ pub mod put;
 pub mod read;
 pub mod renaming;
 pub mod route;
+pub mod said;
 pub mod start;
 pub mod tables;
 pub mod written;
