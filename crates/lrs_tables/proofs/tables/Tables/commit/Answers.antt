@@ -1,0 +1,35 @@
+use Rattle.std.proofs.Common.{inl, inr, sym, subst, arith, IsTrue}
+use Rattle.sqlite.specs.Effect.{Database}
+use Rattle.sqlite.specs.State.{HasCleanDisk}
+use Rattle.sqlite.specs.Held.{state}
+use Rattle.sqlite_trees.specs.Tree.{Trees}
+use Rattle.lrs_tables.specs.Stored.{stored, AreSame}
+use Rattle.lrs_tables.specs.Writing.{IsWritten}
+use Rattle.lrs_tables.proofs.Steady.{written_from}
+use Rattle.lrs_tables.proofs.tables.Tables.commit.Goals as goal
+
+pub returns-in-Ok-clause-ok : goal.returns-in-Ok-clause-ok
+returns-in-Ok-clause-ok g c t holds clean db left =
+    let old = c.args.self.now.conn in
+    let new = c.write_change.new.conn in
+    let n = c.args.n in
+    let change = c.args.change.now in
+    let opens = c.in-Ok.ensures.is_open clean in
+    let early : HasCleanDisk (state g.S.Store old) = omega (arith, c.write_change.ensures.crash.clean) in
+    let first : AreSame t (stored (state g.S.Store old).committed.trees) = holds early _ (g.met.S.Store.stays old.store opens.0) in
+    let before = subst (λ (d : Database). AreSame t (stored d.trees)) (sym (c.requires.ready.1 early opens.0).settled) first in
+    let is = g.met.S.Store.settled new.store db opens.1 left in
+    subst (λ (d : Trees). IsWritten n change t (stored d)) (sym is) (written_from n change t _ _ before (c.in-Ok.ensures.written clean))
+
+pub returns-in-Err-clause-store : goal.returns-in-Err-clause-store
+returns-in-Err-clause-store g c _ t holds clean db left =
+    let old = c.args.self.now.conn in
+    let n = c.args.n in
+    let change = c.args.change.now in
+    let early : HasCleanDisk (state g.S.Store old) = omega (arith, c.write_change.ensures.crash.clean) in
+    let before = λ (was_open : IsTrue (state g.S.Store old).is_open).
+    subst (λ (d : Database). AreSame t (stored d.trees)) (sym (c.requires.ready.1 early was_open).settled) (holds early _ (g.met.S.Store.stays old.store was_open)) in
+    elim (c.write_change.ensures.crash.crash clean db left) [
+      | inl earlier ↦ inl (holds early db earlier)
+      | inr made ↦ inr (written_from n change t _ _ (before made.0) made.1)
+    ]

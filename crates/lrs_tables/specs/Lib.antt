@@ -1,0 +1,11 @@
+pub mod Schema
+pub mod Stored
+pub mod Encoding
+pub mod Changing
+pub mod Writing
+pub mod RowLaws
+pub mod Making
+pub mod Resting
+pub mod Starting
+pub mod Holding
+pub mod Reading

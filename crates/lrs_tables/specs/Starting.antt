@@ -1,0 +1,27 @@
+-- The tables of a store that was just made.
+use Rattle.std.specs.Prelude.{◌≡◌, pos, [], ◌∷◌, IsTrue, Ok}
+use Rattle.sqlite.specs.State.{State}
+use Rattle.lrs_machine.specs.Image.{nothing}
+use Rattle.lrs_store.specs.Tables.{Tables, no_rows}
+use Rattle.lrs_store.specs.Content.{content_of}
+use Rattle.lrs_tables.specs.Stored.{stored, AreSame, IsWriting}
+use Rattle.lrs_tables.specs.Resting.{IsAtRest}
+
+-- a store of version 2 without entries
+abbrev pub new_rows : Tables
+new_rows = record no_rows { version = pos 2 ∷ [] }
+
+-- Such a store holds the image without entries.
+abbrev pub NewRowsHoldNothing : Type 0
+NewRowsHoldNothing = content_of new_rows ≡ Ok nothing
+
+-- The tables are there, inside a transaction, with the row of the version alone.
+pub record IsStarted (s : State) : Type 0 where
+  pub writing : IsWriting s
+  pub rows : IsTrue s.is_open → AreSame new_rows (stored s.now.trees)
+
+-- The same, and committed.
+pub record IsNew (s : State) : Type 0 where
+  pub is_open : IsTrue s.is_open
+  pub rest : IsAtRest s
+  pub rows : AreSame new_rows (stored s.committed.trees)

@@ -1,0 +1,130 @@
+//! A change is written, as a whole.
+
+ghost use Rattle.std.specs.Prelude.{◌≡◌, OnOk, IsTrue, false};
+ghost use Rattle.sqlite.specs.State.{HasCleanDisk, Survives};
+ghost use Rattle.sqlite.specs.Held.{state};
+ghost use Rattle.lrs_tables.specs.Stored.{IsWriting, Makes, stored};
+ghost use Rattle.lrs_tables.specs.Writing.{MakesOf, Writes, IsWritten, with_some, changed_course, changed_route, new_course, new_route, with_ledgers};
+ghost use Rattle.lrs_tables.specs.Changing.{without_route, with_entered, with_gone};
+ghost use Rattle.lrs_tables.specs.Resting.{IsReady};
+
+use crate::coming::Ledger;
+use crate::named::put_named;
+use crate::put::put_edit;
+use crate::route::{change_route, drop_route, put_route};
+use crate::written::write_all;
+use lrs_events::{Gone, Part};
+use lrs_keep::{Change, Difference, RouteChange};
+use lrs_machine::RouteEntry;
+use lrs_measure::Rows;
+use lrs_position::RouteName;
+use sqlite::{Alter, Connection, Error, Transaction};
+
+/// A route that stays changes, if one does.
+fn change_some<S: Alter>(
+    tx: &mut Transaction<'_, S>,
+    change: &Option<RouteChange>,
+) -> Result<(), Error>
+    ensures same_reference { tx.new.conn.ghost_name ≡ tx.old.conn.ghost_name }
+    ensures does { HasCleanDisk (state S.Store tx.new.conn.now) → IsWriting (state S.Store tx.old.conn.now) → OnOk result (MakesOf (changed_course change.now) (λ pieces. with_some (λ c. changed_route c pieces) change.now) (state S.Store tx.old.conn.now) (state S.Store tx.new.conn.now)) }
+    ensures survives { Survives (state S.Store tx.old.conn.now) (state S.Store tx.new.conn.now) (λ _. ⊥) }
+{
+    match change {
+        Some(change) => change_route(tx, change),
+        None => Ok(()),
+    }
+}
+
+/// A route goes, if one does.
+fn drop_some<S: Alter>(tx: &mut Transaction<'_, S>, route: &Option<RouteName>) -> Result<(), Error>
+    ensures same_reference { tx.new.conn.ghost_name ≡ tx.old.conn.ghost_name }
+    ensures does { HasCleanDisk (state S.Store tx.new.conn.now) → IsWriting (state S.Store tx.old.conn.now) → OnOk result (Makes (with_some without_route route.now) (state S.Store tx.old.conn.now) (state S.Store tx.new.conn.now)) }
+    ensures survives { Survives (state S.Store tx.old.conn.now) (state S.Store tx.new.conn.now) (λ _. ⊥) }
+{
+    match route {
+        Some(route) => drop_route(tx, route),
+        None => Ok(()),
+    }
+}
+
+/// A route comes, if one does.
+fn put_some<S: Alter>(tx: &mut Transaction<'_, S>, entry: &Option<RouteEntry>) -> Result<(), Error>
+    ensures same_reference { tx.new.conn.ghost_name ≡ tx.old.conn.ghost_name }
+    ensures does { HasCleanDisk (state S.Store tx.new.conn.now) → IsWriting (state S.Store tx.old.conn.now) → OnOk result (MakesOf (new_course entry.now) (λ pieces. with_some (λ e. new_route e pieces) entry.now) (state S.Store tx.old.conn.now) (state S.Store tx.new.conn.now)) }
+    ensures survives { Survives (state S.Store tx.old.conn.now) (state S.Store tx.new.conn.now) (λ _. ⊥) }
+{
+    match entry {
+        Some(entry) => put_route(tx, entry),
+        None => Ok(()),
+    }
+}
+
+/// Puts rows of the ledger of what was entered.
+fn put_entered<S: Alter>(tx: &mut Transaction<'_, S>, parts: &Rows<Part>) -> Result<(), Error>
+    ensures same_reference { tx.new.conn.ghost_name ≡ tx.old.conn.ghost_name }
+    ensures does { HasCleanDisk (state S.Store tx.new.conn.now) → IsWriting (state S.Store tx.old.conn.now) → OnOk result (Makes (with_entered parts.now) (state S.Store tx.old.conn.now) (state S.Store tx.new.conn.now)) }
+    ensures survives { Survives (state S.Store tx.old.conn.now) (state S.Store tx.new.conn.now) (λ _. ⊥) }
+{
+    write_all(tx, &Ledger, parts.as_slice())?;
+    Ok(())
+}
+
+/// Puts rows of the ledger of what is gone.
+fn put_gone<S: Alter>(tx: &mut Transaction<'_, S>, gone: &Rows<Gone>) -> Result<(), Error>
+    ensures same_reference { tx.new.conn.ghost_name ≡ tx.old.conn.ghost_name }
+    ensures does { HasCleanDisk (state S.Store tx.new.conn.now) → IsWriting (state S.Store tx.old.conn.now) → OnOk result (Makes (with_gone gone.now) (state S.Store tx.old.conn.now) (state S.Store tx.new.conn.now)) }
+    ensures survives { Survives (state S.Store tx.old.conn.now) (state S.Store tx.new.conn.now) (λ _. ⊥) }
+{
+    write_all(tx, &Ledger, gone.as_slice())?;
+    Ok(())
+}
+
+/// Puts the rows that come into the ledgers.
+fn put_ledgers<S: Alter>(tx: &mut Transaction<'_, S>, difference: &Difference) -> Result<(), Error>
+    ensures same_reference { tx.new.conn.ghost_name ≡ tx.old.conn.ghost_name }
+    ensures does { HasCleanDisk (state S.Store tx.new.conn.now) → IsWriting (state S.Store tx.old.conn.now) → OnOk result (Makes (with_ledgers difference.now) (state S.Store tx.old.conn.now) (state S.Store tx.new.conn.now)) }
+    ensures survives { Survives (state S.Store tx.old.conn.now) (state S.Store tx.new.conn.now) (λ _. ⊥) }
+{
+    put_entered(tx, &difference.entered)?;
+    put_gone(tx, &difference.gone)?;
+    Ok(())
+}
+
+/// Writes the rows of a change, whose edit has this number.
+fn write_rows<S: Alter>(tx: &mut Transaction<'_, S>, n: u64, change: &Change) -> Result<(), Error>
+    ensures same_reference { tx.new.conn.ghost_name ≡ tx.old.conn.ghost_name }
+    ensures does { HasCleanDisk (state S.Store tx.new.conn.now) → IsWriting (state S.Store tx.old.conn.now) → OnOk result (Writes n change.now (state S.Store tx.old.conn.now) (state S.Store tx.new.conn.now)) }
+    ensures survives { Survives (state S.Store tx.old.conn.now) (state S.Store tx.new.conn.now) (λ _. ⊥) }
+{
+    let difference = &change.difference;
+    put_named(tx, difference)?;
+    change_some(tx, &difference.changed)?;
+    drop_some(tx, &difference.dropped)?;
+    put_some(tx, &difference.made)?;
+    put_ledgers(tx, difference)?;
+    put_edit(tx, n, &change.edit)?;
+    Ok(())
+}
+
+/// Writes a change, whose edit has this number, in one transaction. It writes all of it or nothing, and asks
+/// nothing of the store after the commit.
+///
+/// # Errors
+/// When the store fails, or a number is too large for it. What is stored is then as it was, or with the change.
+pub fn write_change<S: Alter>(
+    conn: &mut Connection<S>,
+    n: u64,
+    change: &Change,
+) -> Result<(), Error>
+    requires autocommit { conn.old.in_transaction ≡ false }
+    requires ready { IsReady (state S.Store conn.old) }
+    ensures autocommit { conn.new.in_transaction ≡ false }
+    ensures written { HasCleanDisk (state S.Store conn.new) → OnOk result (IsWritten n change.now (stored (state S.Store conn.old).now.trees) (stored (state S.Store conn.new).committed.trees)) }
+    ensures is_open { HasCleanDisk (state S.Store conn.new) → OnOk result (IsTrue (state S.Store conn.old).is_open × IsTrue (state S.Store conn.new).is_open) }
+    ensures ready { OnOk result (IsReady (state S.Store conn.new)) }
+    ensures crash { Survives (state S.Store conn.old) (state S.Store conn.new) (λ db. IsTrue (state S.Store conn.old).is_open × IsWritten n change.now (stored (state S.Store conn.old).now.trees) (stored db)) }
+{
+    let mut tx = conn.transaction();
+    write_rows(&mut tx, n, change)?;
+    tx.commit()
+}

@@ -1,0 +1,108 @@
+//! Rows that go: all of a route in a table, or some by their keys.
+
+ghost use Rattle.std.specs.Prelude.{◌≡◌, OnOk};
+ghost use Rattle.sqlite.specs.State.{HasCleanDisk, Survives};
+ghost use Rattle.sqlite.specs.Held.{state};
+ghost use Rattle.lrs_tables.specs.Stored.{IsWriting, Makes};
+ghost use Rattle.lrs_tables.specs.Changing.{without_pieces, without_marks, without_refs, without_spans, less_spans, less_refs};
+ghost use Rattle.lrs_tables.specs.RowLaws.{no_less_spans, no_less_refs, less_spans_more, less_refs_more};
+
+use crate::number::number;
+use crate::written::Written;
+use lrs_events::Span;
+use lrs_position::{RefName, RouteName};
+use sqlite::types::ValueRef;
+use sqlite::{Alter, Error, Transaction};
+
+/// The pieces of a route go.
+pub fn drop_pieces<S: Alter>(tx: &mut Transaction<'_, S>, route: &RouteName) -> Result<(), Error>
+    ensures same_reference { tx.new.conn.ghost_name ≡ tx.old.conn.ghost_name }
+    ensures does { HasCleanDisk (state S.Store tx.new.conn.now) → IsWriting (state S.Store tx.old.conn.now) → OnOk result (Makes (without_pieces route.now) (state S.Store tx.old.conn.now) (state S.Store tx.new.conn.now)) }
+    ensures survives { Survives (state S.Store tx.old.conn.now) (state S.Store tx.new.conn.now) (λ _. ⊥) }
+{
+    let name = ValueRef::Text(route.bytes());
+    tx.execute("DELETE FROM piece WHERE route = ?1", &[name])?;
+    Ok(())
+}
+
+/// The marks of a route go.
+pub fn drop_marks<S: Alter>(tx: &mut Transaction<'_, S>, route: &RouteName) -> Result<(), Error>
+    ensures same_reference { tx.new.conn.ghost_name ≡ tx.old.conn.ghost_name }
+    ensures does { HasCleanDisk (state S.Store tx.new.conn.now) → IsWriting (state S.Store tx.old.conn.now) → OnOk result (Makes (without_marks route.now) (state S.Store tx.old.conn.now) (state S.Store tx.new.conn.now)) }
+    ensures survives { Survives (state S.Store tx.old.conn.now) (state S.Store tx.new.conn.now) (λ _. ⊥) }
+{
+    let name = ValueRef::Text(route.bytes());
+    tx.execute("DELETE FROM mark WHERE route = ?1", &[name])?;
+    Ok(())
+}
+
+/// The referents of a route go.
+pub fn drop_refs<S: Alter>(tx: &mut Transaction<'_, S>, route: &RouteName) -> Result<(), Error>
+    ensures same_reference { tx.new.conn.ghost_name ≡ tx.old.conn.ghost_name }
+    ensures does { HasCleanDisk (state S.Store tx.new.conn.now) → IsWriting (state S.Store tx.old.conn.now) → OnOk result (Makes (without_refs route.now) (state S.Store tx.old.conn.now) (state S.Store tx.new.conn.now)) }
+    ensures survives { Survives (state S.Store tx.old.conn.now) (state S.Store tx.new.conn.now) (λ _. ⊥) }
+{
+    let name = ValueRef::Text(route.bytes());
+    tx.execute("DELETE FROM ref WHERE route = ?1", &[name])?;
+    Ok(())
+}
+
+/// The spans of a route go.
+pub fn drop_spans<S: Alter>(tx: &mut Transaction<'_, S>, route: &RouteName) -> Result<(), Error>
+    ensures same_reference { tx.new.conn.ghost_name ≡ tx.old.conn.ghost_name }
+    ensures does { HasCleanDisk (state S.Store tx.new.conn.now) → IsWriting (state S.Store tx.old.conn.now) → OnOk result (Makes (without_spans route.now) (state S.Store tx.old.conn.now) (state S.Store tx.new.conn.now)) }
+    ensures survives { Survives (state S.Store tx.old.conn.now) (state S.Store tx.new.conn.now) (λ _. ⊥) }
+{
+    let name = ValueRef::Text(route.bytes());
+    tx.execute("DELETE FROM span WHERE route = ?1", &[name])?;
+    Ok(())
+}
+
+/// The route of which some rows go.
+#[derive(Clone, Copy)]
+pub struct Going {
+    pub route: RouteName,
+}
+
+impl Written<Going> for Span {
+    ghost all = { λ of n spans. less_spans of.route spans };
+
+    fn write<S: Alter>(
+        &self,
+        tx: &mut Transaction<'_, S>,
+        of: &Going,
+        _n: u64,
+    ) -> Result<(), Error> {
+        let asset = number(self.asset)?;
+        let route = ValueRef::Text(of.route.bytes());
+        let from = number(self.from)?;
+        tx.execute(
+            "DELETE FROM span WHERE asset = ?1 AND route = ?2 AND lo = ?3",
+            &[asset, route, from],
+        )?;
+        Ok(())
+    }
+
+    ghost none = { λ of n t. no_less_spans of.route t };
+
+    ghost more = { λ of n k xs x t u at same. less_spans_more of.route xs x t u same };
+}
+
+impl Written<Going> for RefName {
+    ghost all = { λ of n names. less_refs names };
+
+    fn write<S: Alter>(
+        &self,
+        tx: &mut Transaction<'_, S>,
+        _of: &Going,
+        _n: u64,
+    ) -> Result<(), Error> {
+        let name = ValueRef::Text(self.bytes());
+        tx.execute("DELETE FROM ref WHERE name = ?1", &[name])?;
+        Ok(())
+    }
+
+    ghost none = { λ of n t. no_less_refs t };
+
+    ghost more = { λ of n k xs x t u at same. less_refs_more xs x t u same };
+}

@@ -1,0 +1,75 @@
+//! A store of an inventory's tables.
+
+ghost use Rattle.std.specs.Prelude.{◌≡◌, ◌⊎◌, false, IfOk, OnOk, OnErr, Err};
+ghost use Rattle.sqlite.specs.Held.{state};
+ghost use Rattle.sqlite.specs.Steps.{over_memory};
+ghost use Rattle.lrs_keep.specs.Keeping.{HasRisen};
+ghost use Rattle.lrs_store.specs.Tables.{Tables as Stored};
+ghost use Rattle.lrs_tables.specs.Resting.{IsReady};
+ghost use Rattle.lrs_tables.specs.Holding.{HoldsOnly, HoldsChanged, HoldsEither};
+ghost use Rattle.lrs_tables.specs.Starting.{new_rows};
+
+use crate::change::write_change;
+use crate::start::make_store;
+use lrs_keep::{Change, CommitFault};
+use sqlite::{Alter, Connection, Error, ErrorCode, MemStore};
+use std::alloc::Global;
+
+/// The tables of an inventory in a store.
+pub struct Tables<S: Alter> {
+    conn: Connection<S>,
+    failures: u64,
+}
+
+impl<S: Alter> Tables<S> {
+    /// Writes a change, whose edit has this number, as a whole. After Ok an opening finds what the change makes
+    /// of the rows, and after a fault of the store that or the rows as they were.
+    ///
+    /// # Errors
+    /// When the store fails.
+    pub fn commit(&mut self, n: u64, change: &Change) -> Result<(), CommitFault>
+        requires ready { (self.old.conn.in_transaction ≡ false) × IsReady (state S.Store self.old.conn) }
+        ensures ready { OnOk result ((self.new.conn.in_transaction ≡ false) × IsReady (state S.Store self.new.conn)) }
+        ensures ok { OnOk result ((t : Stored) → HoldsOnly (state S.Store self.old.conn) t → HoldsChanged n change.now (state S.Store self.new.conn) t) }
+        ensures store { result ≡ Err CommitFault.Store → (t : Stored) → HoldsOnly (state S.Store self.old.conn) t → HoldsEither n change.now (state S.Store self.new.conn) t }
+        ensures only { OnErr result (result ≡ Err CommitFault.Store) }
+        ensures cause { result ≡ Err CommitFault.Store → HasRisen self.old.failures self.new.failures }
+    {
+        match write_change(&mut self.conn, n, change) {
+            Ok(()) => Ok(()),
+            Err(_) => {
+                self.failures = self.failures.saturating_add(1);
+                Err(CommitFault::Store)
+            }
+        }
+    }
+}
+
+/// Why a store is not opened.
+#[derive(Clone, Copy, Debug, PartialEq, Eq)]
+pub enum OpenFault {
+    /// There is too little memory.
+    Memory,
+    /// The store failed.
+    Store,
+}
+
+impl Tables<MemStore> {
+    /// A new store in memory, without entries.
+    ///
+    /// # Errors
+    /// When memory runs out.
+    pub fn in_memory(alloc: Global) -> Result<Tables<MemStore>, OpenFault>
+        ensures ready { IfOk result (λ t. (t.conn.in_transaction ≡ false) × IsReady (state over_memory t.conn)) }
+        ensures empty { IfOk result (λ t. HoldsOnly (state over_memory t.conn) new_rows) }
+    {
+        let Ok(mut conn) = Connection::open_in_memory(alloc) else {
+            return Err(OpenFault::Memory);
+        };
+        match make_store(&mut conn) {
+            Ok(()) => Ok(Tables { conn, failures: 0 }),
+            Err(Error::SqliteFailure(ErrorCode::OutOfMemory)) => Err(OpenFault::Memory),
+            Err(_) => Err(OpenFault::Store),
+        }
+    }
+}
