@@ -3,8 +3,8 @@
     python3 bench/verbs.py [MANY]
 
 A sheet lays 1,000 routes of 1,000 mm with three assets each, which the measured commands edit, and 1,000 other routes with
-1,000 assets or with MANY (300,000) on them together. A figure is the processor time of the sheet with 500 commands of a verb,
-less that of the sheet without them, for one command: the least of three runs beside few, and one run beside many. Nothing
+1,000 assets or with MANY (300,000) on them together. A figure is the processor time of the sheet with 1,000 commands of a verb,
+less that of the sheet without them, for one command: the least of three runs. Nothing
 but Python is needed; ROADLRS in the environment names the program.
 """
 
@@ -15,7 +15,7 @@ import tempfile
 
 from sheets import BUILT, HEADER, seconds_of
 
-COMMANDS = 500
+COMMANDS = 1_000
 
 
 def row(*fields):
@@ -93,7 +93,7 @@ def main():
     program = os.environ.get("ROADLRS", str(BUILT))
     with tempfile.TemporaryDirectory() as folder:
         few_costs = costs(program, folder, 1_000, 3)
-        many_costs = costs(program, folder, many, 1)
+        many_costs = costs(program, folder, many, 3)
     print(f"one command, in microseconds     beside 1,000 assets   beside {many:,}")
     for verb in VERBS:
         print(f"{verb:30} {few_costs[verb]:21.1f} {many_costs[verb]:16.1f}")
