@@ -3,7 +3,7 @@
     python3 bench/verbs.py [MANY]
 
 A sheet lays 1,000 routes of 1,000 mm with three assets each, which the measured commands edit, and 1,000 other routes with
-1,000 assets or with MANY (300,000) on them together. A figure is the processor time of the sheet with 1,000 commands of a verb,
+1,000 assets or with MANY (200,000) on them together. A figure is the processor time of the sheet with 1,000 commands of a verb,
 less that of the sheet without them, for one command: the least of three runs. Nothing
 but Python is needed; ROADLRS in the environment names the program.
 """
@@ -89,7 +89,7 @@ def costs(program, folder, count, runs):
 
 
 def main():
-    many = int(sys.argv[1]) if len(sys.argv) > 1 else 300_000
+    many = int(sys.argv[1]) if len(sys.argv) > 1 else 200_000
     program = os.environ.get("ROADLRS", str(BUILT))
     with tempfile.TemporaryDirectory() as folder:
         few_costs = costs(program, folder, 1_000, 3)
