@@ -70,12 +70,10 @@ fn a_command_again_does_nothing(rt: HostRuntime) {
         let again = Answer::Again(i as u64 + 1);
         gives(&rt, &mut desk, KEYS[i], &sheet[i], Ok(again));
     }
-    let longer = link(
-        Link {
-            number: 1,
-            length: 5_001,
-        },
-    );
+    let longer = link(Link {
+        number: 1,
+        length: 5_001,
+    });
     let used = Answer::Refused(Cause::KeyUsed(1));
     gives(&rt, &mut desk, "s1", &longer, Ok(used));
     let image = image_of(&rt, &desk);
@@ -160,12 +158,10 @@ fn a_full_sheet_has_no_more(rt: HostRuntime) {
 #[test]
 fn links_and_classes_are_known_once(rt: HostRuntime) {
     let mut desk = after_first_sheet(&rt, AMPLE);
-    let shorter = link(
-        Link {
-            number: 1,
-            length: 7,
-        },
-    );
+    let shorter = link(Link {
+        number: 1,
+        length: 7,
+    });
     let known = Answer::Refused(Cause::LinkKnown);
     gives(&rt, &mut desk, "t1", &shorter, Ok(known));
     let known = Answer::Refused(Cause::ClassKnown);

@@ -44,18 +44,14 @@ fn new_route(rt: &(impl Abort + Print + AllocGlobal)) -> Command {
 /// A command of each verb: two links, a class, and a route over the links.
 fn sheet(rt: &(impl Abort + Print + AllocGlobal)) -> [Command; 4] {
     [
-        link(
-            Link {
-                number: 1,
-                length: 5_000,
-            },
-        ),
-        link(
-            Link {
-                number: 2,
-                length: 3_000,
-            },
-        ),
+        link(Link {
+            number: 1,
+            length: 5_000,
+        }),
+        link(Link {
+            number: 2,
+            length: 3_000,
+        }),
         class(rt, "RAIL", Kind::Stretch),
         new_route(rt),
     ]

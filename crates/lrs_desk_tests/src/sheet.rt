@@ -78,24 +78,18 @@ pub fn mark(chainage: u64, measure: u64) -> Mark {
 /// The commands of the first sheet: three links, three classes, and a route over two of the links.
 pub fn first_sheet(rt: &(impl Abort + AllocGlobal)) -> [Command; 7] {
     [
-        link(
-            Link {
-                number: 1,
-                length: 5_000,
-            },
-        ),
-        link(
-            Link {
-                number: 2,
-                length: 3_000,
-            },
-        ),
-        link(
-            Link {
-                number: 3,
-                length: 2_000,
-            },
-        ),
+        link(Link {
+            number: 1,
+            length: 5_000,
+        }),
+        link(Link {
+            number: 2,
+            length: 3_000,
+        }),
+        link(Link {
+            number: 3,
+            length: 2_000,
+        }),
         class(rt, "SPEED", Kind::Exclusive),
         class(rt, "RAIL", Kind::Stretch),
         class(rt, "SIGN", Kind::Point),
