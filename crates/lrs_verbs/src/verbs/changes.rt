@@ -1,6 +1,6 @@
 //! What verbs of routes make their plans of.
 
-ghost use Rattle.std.specs.Prelude.{◌≡◌, IfOk};
+ghost use Rattle.std.specs.Prelude.{◌≡◌, IfOk, map};
 ghost use Rattle.std.specs.List.{AllByRecursion};
 ghost use Rattle.lrs_element.specs.Course.{course_of};
 ghost use Rattle.lrs_element.specs.Pieces.{IsFilled};
@@ -9,7 +9,7 @@ ghost use Rattle.lrs_routes.specs.Differences.{no_change};
 use lrs_element::{Course, Piece};
 use lrs_keep::{ReferentChange, RouteChange};
 use lrs_measure::Rows;
-use lrs_position::RouteName;
+use lrs_position::{RefName, Referent, RouteName};
 use std::alloc::{AllocError, Global};
 
 /// The change of a route that leaves it as it is. It takes no memory.
@@ -37,4 +37,15 @@ pub fn pieces_of(alloc: Global, course: &Course) -> Result<Rows<Piece>, AllocErr
 {
     let pieces = Vec::from_slice(alloc, course.pieces())?;
     Ok(Rows::from_vec(pieces))
+}
+
+/// The names of referents.
+pub fn names_of(alloc: Global, refs: &[Referent]) -> Result<Rows<RefName>, AllocError>
+    ensures { IfOk result (λ out. out ≡ map (λ q. q.name) refs.now) }
+{
+    let mut out = Vec::new(alloc);
+    for referent in refs {
+        out.push(referent.name)?;
+    }
+    Ok(Rows::from_vec(out))
 }

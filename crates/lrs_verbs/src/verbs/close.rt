@@ -1,19 +1,19 @@
 //! A route goes, with what lies on it.
 
-ghost use Rattle.std.specs.Prelude.{◌≡◌, IfOk};
+ghost use Rattle.std.specs.Prelude.{◌≡◌};
 ghost use Rattle.lrs_machine.specs.declared.command.Command.TheVariants as verb;
-ghost use Rattle.lrs_verbs.specs.Closings.{names_of, closing};
+ghost use Rattle.lrs_verbs.specs.Closings.{closing};
 ghost use Rattle.lrs_verbs.specs.Plans.{Plans};
 
 use crate::inventory::Inventory;
 use crate::plan::{GroundChange, Plan, Stop};
-use crate::verbs::changes::pieces_of;
+use crate::verbs::changes::{names_of, pieces_of};
 use crate::verbs::checks::route_named;
 use lrs_element::Piece;
 use lrs_events::Gone;
 use lrs_gone::taken_away;
 use lrs_measure::Rows;
-use lrs_position::{RefName, Referent, RouteName};
+use lrs_position::{RefName, RouteName};
 use std::alloc::{AllocError, Global};
 
 pub fn plan_close(alloc: Global, inventory: &Inventory, route: RouteName) -> Result<Plan, Stop>
@@ -27,17 +27,6 @@ pub fn plan_close(alloc: Global, inventory: &Inventory, route: RouteName) -> Res
     let freed = pieces_of(alloc, course)?;
     let names = names_of(alloc, entry.route.refs.as_slice())?;
     Ok(closing(alloc, route, gone, freed, names))
-}
-
-/// The names of referents.
-fn names_of(alloc: Global, refs: &[Referent]) -> Result<Rows<RefName>, AllocError>
-    ensures { IfOk result (λ names. names ≡ names_of refs.now) }
-{
-    let mut names = Vec::with_capacity(alloc, refs.len())?;
-    for referent in refs {
-        names.push(referent.name)?;
-    }
-    Ok(Rows::from_vec(names))
 }
 
 /// The plan by which a route goes: its ground is free, and its referents stand nowhere any more.

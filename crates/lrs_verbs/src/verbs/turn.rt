@@ -14,7 +14,7 @@ ghost use Rattle.lrs_verbs.specs.Plans.{plan_of, Plans};
 
 use crate::inventory::Inventory;
 use crate::plan::{Plan, Stop};
-use crate::verbs::changes::no_change;
+use crate::verbs::changes::{names_of, no_change};
 use crate::verbs::checks::route_named;
 use lrs_canonical::change::difference;
 use lrs_canonical::turning::turned;
@@ -22,7 +22,7 @@ use lrs_events::SpanChange;
 use lrs_keep::{ReferentChange, RouteChange};
 use lrs_machine::RouteEntry;
 use lrs_measure::Rows;
-use lrs_position::{RefName, Referent, RouteName};
+use lrs_position::{Referent, RouteName};
 use lrs_spans::Spans;
 use std::alloc::{AllocError, Global};
 
@@ -79,17 +79,6 @@ fn turn_refs(alloc: Global, refs: &[Referent], len: u64) -> Result<ReferentChang
         gone: names_of(alloc, refs)?,
         come: refs_from_end(alloc, refs, len)?,
     })
-}
-
-/// The names of referents.
-fn names_of(alloc: Global, refs: &[Referent]) -> Result<Rows<RefName>, AllocError>
-    ensures { IfOk result (λ out. out ≡ map (λ q. q.name) refs.now) }
-{
-    let mut out = Vec::new(alloc);
-    for referent in refs {
-        out.push(referent.name)?;
-    }
-    Ok(Rows::from_vec(out))
 }
 
 /// The referents of a course of this length, counted from its other end.
