@@ -1,5 +1,5 @@
 -- The rows of a store as they lie in its trees, and what a connection over them knows.
-use Rattle.std.specs.Prelude.{◌≡◌, ℕ, ℤ, negsuc, List, [], ◌∷◌, map, IsPermutation, IsTrue}
+use Rattle.std.specs.Prelude.{◌≡◌, ℕ, ℤ, negsuc, List, [], ◌∷◌, map, IsPermutation, IsTrue, Result, OnOk}
 use Rattle.std.specs.List.{AllByRecursion}
 use Rattle.sqlite_value.specs.declared.value.Value.{Value}
 use Rattle.sqlite_value.specs.declared.value.Value.TheVariants.{Null, Int, Real, Text, Blob}
@@ -9,7 +9,7 @@ use Rattle.sqlite_schema.specs.declared.schema.Table.{Table}
 use Rattle.sqlite_schema.specs.declared.schema.Constraint.TheVariants.{Datatype, NotNull}
 use Rattle.sqlite_schema.specs.Rules.{Keeps}
 use Rattle.sqlite_rules.specs.Edit.{id_in}
-use Rattle.sqlite.specs.State.{State, HasCleanDisk}
+use Rattle.sqlite.specs.State.{State, HasCleanDisk, Survives}
 use Rattle.lrs_measure.specs.Texts.{Name}
 use Rattle.lrs_store.specs.Tables.{Tables, LinkRow, ClassRow, AssetRow, PieceRow, MarkRow, RefRow, SpanRow, EnteredRow, GoneRow, EditRow, OriginRow}
 use Rattle.lrs_tables.specs.Schema.{inventory}
@@ -172,3 +172,11 @@ pub record Makes (made : Tables → Tables) (old new : State) : Type 0 where
 -- what a call that answers Ok has made, if the disk is clean
 abbrev pub Does : (Tables → Tables) → State → State → Type 0
 Does made old new = HasCleanDisk new → IsWriting old → Makes made old new
+
+-- inside a transaction over a clean disk, a call that answers Ok does this
+abbrev pub OkDoes : {A E : Type 0} → Result A E → State → State → (State → State → Type 0) → Type 0
+OkDoes result old new done = HasCleanDisk new → IsWriting old → OnOk result (done old new)
+
+-- a crash leaves what it would have left before the call
+abbrev pub LeavesStore : State → State → Type 0
+LeavesStore old new = Survives old new (λ _. ⊥)

@@ -3,7 +3,7 @@
 ghost use Rattle.std.specs.Prelude.{◌≡◌, OnOk, IsTrue, false};
 ghost use Rattle.sqlite.specs.State.{HasCleanDisk, Survives};
 ghost use Rattle.sqlite.specs.Held.{state};
-ghost use Rattle.lrs_tables.specs.Stored.{IsWriting, Makes, stored};
+ghost use Rattle.lrs_tables.specs.Stored.{Makes, stored, OkDoes, LeavesStore};
 ghost use Rattle.lrs_tables.specs.Writing.{MakesOf, Writes, IsWritten, with_some, changed_course, changed_route, new_course, new_route, with_ledgers};
 ghost use Rattle.lrs_tables.specs.Changing.{without_route, with_entered, with_gone};
 ghost use Rattle.lrs_tables.specs.Resting.{IsReady};
@@ -26,8 +26,8 @@ fn change_some<S: Alter>(
     change: &Option<RouteChange>,
 ) -> Result<(), Error>
     ensures same_reference { tx.new.conn.ghost_name ≡ tx.old.conn.ghost_name }
-    ensures does { HasCleanDisk (state S.Store tx.new.conn.now) → IsWriting (state S.Store tx.old.conn.now) → OnOk result (MakesOf (changed_course change.now) (λ pieces. with_some (λ c. changed_route c pieces) change.now) (state S.Store tx.old.conn.now) (state S.Store tx.new.conn.now)) }
-    ensures survives { Survives (state S.Store tx.old.conn.now) (state S.Store tx.new.conn.now) (λ _. ⊥) }
+    ensures does { OkDoes result (state S.Store tx.old.conn.now) (state S.Store tx.new.conn.now) (MakesOf (changed_course change.now) (λ pieces. with_some (λ c. changed_route c pieces) change.now)) }
+    ensures survives { LeavesStore (state S.Store tx.old.conn.now) (state S.Store tx.new.conn.now) }
 {
     match change {
         Some(change) => change_route(tx, change),
@@ -38,8 +38,8 @@ fn change_some<S: Alter>(
 /// A route goes, if one does.
 fn drop_some<S: Alter>(tx: &mut Transaction<'_, S>, route: &Option<RouteName>) -> Result<(), Error>
     ensures same_reference { tx.new.conn.ghost_name ≡ tx.old.conn.ghost_name }
-    ensures does { HasCleanDisk (state S.Store tx.new.conn.now) → IsWriting (state S.Store tx.old.conn.now) → OnOk result (Makes (with_some without_route route.now) (state S.Store tx.old.conn.now) (state S.Store tx.new.conn.now)) }
-    ensures survives { Survives (state S.Store tx.old.conn.now) (state S.Store tx.new.conn.now) (λ _. ⊥) }
+    ensures does { OkDoes result (state S.Store tx.old.conn.now) (state S.Store tx.new.conn.now) (Makes (with_some without_route route.now)) }
+    ensures survives { LeavesStore (state S.Store tx.old.conn.now) (state S.Store tx.new.conn.now) }
 {
     match route {
         Some(route) => drop_route(tx, route),
@@ -50,8 +50,8 @@ fn drop_some<S: Alter>(tx: &mut Transaction<'_, S>, route: &Option<RouteName>) -
 /// A route comes, if one does.
 fn put_some<S: Alter>(tx: &mut Transaction<'_, S>, entry: &Option<RouteEntry>) -> Result<(), Error>
     ensures same_reference { tx.new.conn.ghost_name ≡ tx.old.conn.ghost_name }
-    ensures does { HasCleanDisk (state S.Store tx.new.conn.now) → IsWriting (state S.Store tx.old.conn.now) → OnOk result (MakesOf (new_course entry.now) (λ pieces. with_some (λ e. new_route e pieces) entry.now) (state S.Store tx.old.conn.now) (state S.Store tx.new.conn.now)) }
-    ensures survives { Survives (state S.Store tx.old.conn.now) (state S.Store tx.new.conn.now) (λ _. ⊥) }
+    ensures does { OkDoes result (state S.Store tx.old.conn.now) (state S.Store tx.new.conn.now) (MakesOf (new_course entry.now) (λ pieces. with_some (λ e. new_route e pieces) entry.now)) }
+    ensures survives { LeavesStore (state S.Store tx.old.conn.now) (state S.Store tx.new.conn.now) }
 {
     match entry {
         Some(entry) => put_route(tx, entry),
@@ -62,8 +62,8 @@ fn put_some<S: Alter>(tx: &mut Transaction<'_, S>, entry: &Option<RouteEntry>) -
 /// Puts rows of the ledger of what was entered.
 fn put_entered<S: Alter>(tx: &mut Transaction<'_, S>, parts: &Rows<Part>) -> Result<(), Error>
     ensures same_reference { tx.new.conn.ghost_name ≡ tx.old.conn.ghost_name }
-    ensures does { HasCleanDisk (state S.Store tx.new.conn.now) → IsWriting (state S.Store tx.old.conn.now) → OnOk result (Makes (with_entered parts.now) (state S.Store tx.old.conn.now) (state S.Store tx.new.conn.now)) }
-    ensures survives { Survives (state S.Store tx.old.conn.now) (state S.Store tx.new.conn.now) (λ _. ⊥) }
+    ensures does { OkDoes result (state S.Store tx.old.conn.now) (state S.Store tx.new.conn.now) (Makes (with_entered parts.now)) }
+    ensures survives { LeavesStore (state S.Store tx.old.conn.now) (state S.Store tx.new.conn.now) }
 {
     write_all(tx, &Ledger, parts.as_slice())?;
     Ok(())
@@ -72,8 +72,8 @@ fn put_entered<S: Alter>(tx: &mut Transaction<'_, S>, parts: &Rows<Part>) -> Res
 /// Puts rows of the ledger of what is gone.
 fn put_gone<S: Alter>(tx: &mut Transaction<'_, S>, gone: &Rows<Gone>) -> Result<(), Error>
     ensures same_reference { tx.new.conn.ghost_name ≡ tx.old.conn.ghost_name }
-    ensures does { HasCleanDisk (state S.Store tx.new.conn.now) → IsWriting (state S.Store tx.old.conn.now) → OnOk result (Makes (with_gone gone.now) (state S.Store tx.old.conn.now) (state S.Store tx.new.conn.now)) }
-    ensures survives { Survives (state S.Store tx.old.conn.now) (state S.Store tx.new.conn.now) (λ _. ⊥) }
+    ensures does { OkDoes result (state S.Store tx.old.conn.now) (state S.Store tx.new.conn.now) (Makes (with_gone gone.now)) }
+    ensures survives { LeavesStore (state S.Store tx.old.conn.now) (state S.Store tx.new.conn.now) }
 {
     write_all(tx, &Ledger, gone.as_slice())?;
     Ok(())
@@ -82,8 +82,8 @@ fn put_gone<S: Alter>(tx: &mut Transaction<'_, S>, gone: &Rows<Gone>) -> Result<
 /// Puts the rows that come into the ledgers.
 fn put_ledgers<S: Alter>(tx: &mut Transaction<'_, S>, difference: &Difference) -> Result<(), Error>
     ensures same_reference { tx.new.conn.ghost_name ≡ tx.old.conn.ghost_name }
-    ensures does { HasCleanDisk (state S.Store tx.new.conn.now) → IsWriting (state S.Store tx.old.conn.now) → OnOk result (Makes (with_ledgers difference.now) (state S.Store tx.old.conn.now) (state S.Store tx.new.conn.now)) }
-    ensures survives { Survives (state S.Store tx.old.conn.now) (state S.Store tx.new.conn.now) (λ _. ⊥) }
+    ensures does { OkDoes result (state S.Store tx.old.conn.now) (state S.Store tx.new.conn.now) (Makes (with_ledgers difference.now)) }
+    ensures survives { LeavesStore (state S.Store tx.old.conn.now) (state S.Store tx.new.conn.now) }
 {
     put_entered(tx, &difference.entered)?;
     put_gone(tx, &difference.gone)?;
@@ -93,8 +93,8 @@ fn put_ledgers<S: Alter>(tx: &mut Transaction<'_, S>, difference: &Difference) -
 /// Writes the rows of a change, whose edit has this number.
 fn write_rows<S: Alter>(tx: &mut Transaction<'_, S>, n: u64, change: &Change) -> Result<(), Error>
     ensures same_reference { tx.new.conn.ghost_name ≡ tx.old.conn.ghost_name }
-    ensures does { HasCleanDisk (state S.Store tx.new.conn.now) → IsWriting (state S.Store tx.old.conn.now) → OnOk result (Writes n change.now (state S.Store tx.old.conn.now) (state S.Store tx.new.conn.now)) }
-    ensures survives { Survives (state S.Store tx.old.conn.now) (state S.Store tx.new.conn.now) (λ _. ⊥) }
+    ensures does { OkDoes result (state S.Store tx.old.conn.now) (state S.Store tx.new.conn.now) (Writes n change.now) }
+    ensures survives { LeavesStore (state S.Store tx.old.conn.now) (state S.Store tx.new.conn.now) }
 {
     let difference = &change.difference;
     put_named(tx, difference)?;

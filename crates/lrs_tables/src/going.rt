@@ -1,9 +1,8 @@
 //! Rows that go: all of a route in a table, or some by their keys.
 
-ghost use Rattle.std.specs.Prelude.{◌≡◌, OnOk};
-ghost use Rattle.sqlite.specs.State.{HasCleanDisk, Survives};
+ghost use Rattle.std.specs.Prelude.{◌≡◌};
 ghost use Rattle.sqlite.specs.Held.{state};
-ghost use Rattle.lrs_tables.specs.Stored.{IsWriting, Makes};
+ghost use Rattle.lrs_tables.specs.Stored.{Makes, OkDoes, LeavesStore};
 ghost use Rattle.lrs_tables.specs.Changing.{without_pieces, without_marks, without_refs, without_spans, less_spans, less_refs};
 ghost use Rattle.lrs_tables.specs.RowLaws.{no_less_spans, no_less_refs, less_spans_more, less_refs_more};
 
@@ -17,8 +16,8 @@ use sqlite::{Alter, Error, Transaction};
 /// The pieces of a route go.
 pub fn drop_pieces<S: Alter>(tx: &mut Transaction<'_, S>, route: &RouteName) -> Result<(), Error>
     ensures same_reference { tx.new.conn.ghost_name ≡ tx.old.conn.ghost_name }
-    ensures does { HasCleanDisk (state S.Store tx.new.conn.now) → IsWriting (state S.Store tx.old.conn.now) → OnOk result (Makes (without_pieces route.now) (state S.Store tx.old.conn.now) (state S.Store tx.new.conn.now)) }
-    ensures survives { Survives (state S.Store tx.old.conn.now) (state S.Store tx.new.conn.now) (λ _. ⊥) }
+    ensures does { OkDoes result (state S.Store tx.old.conn.now) (state S.Store tx.new.conn.now) (Makes (without_pieces route.now)) }
+    ensures survives { LeavesStore (state S.Store tx.old.conn.now) (state S.Store tx.new.conn.now) }
 {
     let name = ValueRef::Text(route.bytes());
     tx.execute("DELETE FROM piece WHERE route = ?1", &[name])?;
@@ -28,8 +27,8 @@ pub fn drop_pieces<S: Alter>(tx: &mut Transaction<'_, S>, route: &RouteName) -> 
 /// The marks of a route go.
 pub fn drop_marks<S: Alter>(tx: &mut Transaction<'_, S>, route: &RouteName) -> Result<(), Error>
     ensures same_reference { tx.new.conn.ghost_name ≡ tx.old.conn.ghost_name }
-    ensures does { HasCleanDisk (state S.Store tx.new.conn.now) → IsWriting (state S.Store tx.old.conn.now) → OnOk result (Makes (without_marks route.now) (state S.Store tx.old.conn.now) (state S.Store tx.new.conn.now)) }
-    ensures survives { Survives (state S.Store tx.old.conn.now) (state S.Store tx.new.conn.now) (λ _. ⊥) }
+    ensures does { OkDoes result (state S.Store tx.old.conn.now) (state S.Store tx.new.conn.now) (Makes (without_marks route.now)) }
+    ensures survives { LeavesStore (state S.Store tx.old.conn.now) (state S.Store tx.new.conn.now) }
 {
     let name = ValueRef::Text(route.bytes());
     tx.execute("DELETE FROM mark WHERE route = ?1", &[name])?;
@@ -39,8 +38,8 @@ pub fn drop_marks<S: Alter>(tx: &mut Transaction<'_, S>, route: &RouteName) -> R
 /// The referents of a route go.
 pub fn drop_refs<S: Alter>(tx: &mut Transaction<'_, S>, route: &RouteName) -> Result<(), Error>
     ensures same_reference { tx.new.conn.ghost_name ≡ tx.old.conn.ghost_name }
-    ensures does { HasCleanDisk (state S.Store tx.new.conn.now) → IsWriting (state S.Store tx.old.conn.now) → OnOk result (Makes (without_refs route.now) (state S.Store tx.old.conn.now) (state S.Store tx.new.conn.now)) }
-    ensures survives { Survives (state S.Store tx.old.conn.now) (state S.Store tx.new.conn.now) (λ _. ⊥) }
+    ensures does { OkDoes result (state S.Store tx.old.conn.now) (state S.Store tx.new.conn.now) (Makes (without_refs route.now)) }
+    ensures survives { LeavesStore (state S.Store tx.old.conn.now) (state S.Store tx.new.conn.now) }
 {
     let name = ValueRef::Text(route.bytes());
     tx.execute("DELETE FROM ref WHERE route = ?1", &[name])?;
@@ -50,8 +49,8 @@ pub fn drop_refs<S: Alter>(tx: &mut Transaction<'_, S>, route: &RouteName) -> Re
 /// The spans of a route go.
 pub fn drop_spans<S: Alter>(tx: &mut Transaction<'_, S>, route: &RouteName) -> Result<(), Error>
     ensures same_reference { tx.new.conn.ghost_name ≡ tx.old.conn.ghost_name }
-    ensures does { HasCleanDisk (state S.Store tx.new.conn.now) → IsWriting (state S.Store tx.old.conn.now) → OnOk result (Makes (without_spans route.now) (state S.Store tx.old.conn.now) (state S.Store tx.new.conn.now)) }
-    ensures survives { Survives (state S.Store tx.old.conn.now) (state S.Store tx.new.conn.now) (λ _. ⊥) }
+    ensures does { OkDoes result (state S.Store tx.old.conn.now) (state S.Store tx.new.conn.now) (Makes (without_spans route.now)) }
+    ensures survives { LeavesStore (state S.Store tx.old.conn.now) (state S.Store tx.new.conn.now) }
 {
     let name = ValueRef::Text(route.bytes());
     tx.execute("DELETE FROM span WHERE route = ?1", &[name])?;

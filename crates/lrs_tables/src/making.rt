@@ -1,8 +1,9 @@
 //! The tables of a store are made.
 
 ghost use Rattle.std.specs.Prelude.{◌≡◌, OnOk};
-ghost use Rattle.sqlite.specs.State.{HasCleanDisk, Survives};
+ghost use Rattle.sqlite.specs.State.{HasCleanDisk};
 ghost use Rattle.sqlite.specs.Held.{state};
+ghost use Rattle.lrs_tables.specs.Stored.{LeavesStore};
 ghost use Rattle.lrs_tables.specs.Making.{IsMaking, no_schema, up_to_version, up_to_link, up_to_class, up_to_asset, up_to_piece, up_to_mark, up_to_ref, up_to_span, up_to_entered, up_to_gone, up_to_edit, up_to_origin};
 
 use sqlite::{Alter, Error, Transaction};
@@ -10,7 +11,7 @@ use sqlite::{Alter, Error, Transaction};
 fn make_version<S: Alter>(tx: &mut Transaction<'_, S>) -> Result<(), Error>
     ensures same_reference { tx.new.conn.ghost_name ≡ tx.old.conn.ghost_name }
     ensures made { HasCleanDisk (state S.Store tx.new.conn.now) → IsMaking no_schema (state S.Store tx.old.conn.now) → OnOk result (IsMaking up_to_version (state S.Store tx.new.conn.now)) }
-    ensures survives { Survives (state S.Store tx.old.conn.now) (state S.Store tx.new.conn.now) (λ _. ⊥) }
+    ensures survives { LeavesStore (state S.Store tx.old.conn.now) (state S.Store tx.new.conn.now) }
 {
     tx.execute(
         "CREATE TABLE version (v INTEGER NOT NULL, PRIMARY KEY (v)) STRICT",
@@ -22,7 +23,7 @@ fn make_version<S: Alter>(tx: &mut Transaction<'_, S>) -> Result<(), Error>
 fn make_link<S: Alter>(tx: &mut Transaction<'_, S>) -> Result<(), Error>
     ensures same_reference { tx.new.conn.ghost_name ≡ tx.old.conn.ghost_name }
     ensures made { HasCleanDisk (state S.Store tx.new.conn.now) → IsMaking up_to_version (state S.Store tx.old.conn.now) → OnOk result (IsMaking up_to_link (state S.Store tx.new.conn.now)) }
-    ensures survives { Survives (state S.Store tx.old.conn.now) (state S.Store tx.new.conn.now) (λ _. ⊥) }
+    ensures survives { LeavesStore (state S.Store tx.old.conn.now) (state S.Store tx.new.conn.now) }
 {
     tx.execute(
         "CREATE TABLE link (number INTEGER NOT NULL, length INTEGER NOT NULL, PRIMARY KEY (number)) STRICT",
@@ -34,7 +35,7 @@ fn make_link<S: Alter>(tx: &mut Transaction<'_, S>) -> Result<(), Error>
 fn make_class<S: Alter>(tx: &mut Transaction<'_, S>) -> Result<(), Error>
     ensures same_reference { tx.new.conn.ghost_name ≡ tx.old.conn.ghost_name }
     ensures made { HasCleanDisk (state S.Store tx.new.conn.now) → IsMaking up_to_link (state S.Store tx.old.conn.now) → OnOk result (IsMaking up_to_class (state S.Store tx.new.conn.now)) }
-    ensures survives { Survives (state S.Store tx.old.conn.now) (state S.Store tx.new.conn.now) (λ _. ⊥) }
+    ensures survives { LeavesStore (state S.Store tx.old.conn.now) (state S.Store tx.new.conn.now) }
 {
     tx.execute(
         "CREATE TABLE class (name TEXT NOT NULL, kind INTEGER NOT NULL, PRIMARY KEY (name)) STRICT",
@@ -46,7 +47,7 @@ fn make_class<S: Alter>(tx: &mut Transaction<'_, S>) -> Result<(), Error>
 fn make_asset<S: Alter>(tx: &mut Transaction<'_, S>) -> Result<(), Error>
     ensures same_reference { tx.new.conn.ghost_name ≡ tx.old.conn.ghost_name }
     ensures made { HasCleanDisk (state S.Store tx.new.conn.now) → IsMaking up_to_class (state S.Store tx.old.conn.now) → OnOk result (IsMaking up_to_asset (state S.Store tx.new.conn.now)) }
-    ensures survives { Survives (state S.Store tx.old.conn.now) (state S.Store tx.new.conn.now) (λ _. ⊥) }
+    ensures survives { LeavesStore (state S.Store tx.old.conn.now) (state S.Store tx.new.conn.now) }
 {
     tx.execute(
         "CREATE TABLE asset (number INTEGER NOT NULL, class TEXT NOT NULL REFERENCES class, value TEXT NOT NULL, lateral INTEGER NOT NULL, PRIMARY KEY (number)) STRICT",
@@ -59,7 +60,7 @@ fn make_asset<S: Alter>(tx: &mut Transaction<'_, S>) -> Result<(), Error>
 fn make_assets<S: Alter>(tx: &mut Transaction<'_, S>) -> Result<(), Error>
     ensures same_reference { tx.new.conn.ghost_name ≡ tx.old.conn.ghost_name }
     ensures made { HasCleanDisk (state S.Store tx.new.conn.now) → IsMaking no_schema (state S.Store tx.old.conn.now) → OnOk result (IsMaking up_to_asset (state S.Store tx.new.conn.now)) }
-    ensures survives { Survives (state S.Store tx.old.conn.now) (state S.Store tx.new.conn.now) (λ _. ⊥) }
+    ensures survives { LeavesStore (state S.Store tx.old.conn.now) (state S.Store tx.new.conn.now) }
 {
     make_version(tx)?;
     make_link(tx)?;
@@ -70,7 +71,7 @@ fn make_assets<S: Alter>(tx: &mut Transaction<'_, S>) -> Result<(), Error>
 fn make_piece<S: Alter>(tx: &mut Transaction<'_, S>) -> Result<(), Error>
     ensures same_reference { tx.new.conn.ghost_name ≡ tx.old.conn.ghost_name }
     ensures made { HasCleanDisk (state S.Store tx.new.conn.now) → IsMaking up_to_asset (state S.Store tx.old.conn.now) → OnOk result (IsMaking up_to_piece (state S.Store tx.new.conn.now)) }
-    ensures survives { Survives (state S.Store tx.old.conn.now) (state S.Store tx.new.conn.now) (λ _. ⊥) }
+    ensures survives { LeavesStore (state S.Store tx.old.conn.now) (state S.Store tx.new.conn.now) }
 {
     tx.execute(
         "CREATE TABLE piece (route TEXT NOT NULL, n INTEGER NOT NULL, link INTEGER NOT NULL REFERENCES link, a INTEGER NOT NULL, b INTEGER NOT NULL, dir INTEGER NOT NULL, PRIMARY KEY (route, n)) STRICT",
@@ -82,7 +83,7 @@ fn make_piece<S: Alter>(tx: &mut Transaction<'_, S>) -> Result<(), Error>
 fn make_mark<S: Alter>(tx: &mut Transaction<'_, S>) -> Result<(), Error>
     ensures same_reference { tx.new.conn.ghost_name ≡ tx.old.conn.ghost_name }
     ensures made { HasCleanDisk (state S.Store tx.new.conn.now) → IsMaking up_to_piece (state S.Store tx.old.conn.now) → OnOk result (IsMaking up_to_mark (state S.Store tx.new.conn.now)) }
-    ensures survives { Survives (state S.Store tx.old.conn.now) (state S.Store tx.new.conn.now) (λ _. ⊥) }
+    ensures survives { LeavesStore (state S.Store tx.old.conn.now) (state S.Store tx.new.conn.now) }
 {
     tx.execute(
         "CREATE TABLE mark (route TEXT NOT NULL, n INTEGER NOT NULL, chainage INTEGER NOT NULL, measure INTEGER NOT NULL, PRIMARY KEY (route, n)) STRICT",
@@ -94,7 +95,7 @@ fn make_mark<S: Alter>(tx: &mut Transaction<'_, S>) -> Result<(), Error>
 fn make_ref<S: Alter>(tx: &mut Transaction<'_, S>) -> Result<(), Error>
     ensures same_reference { tx.new.conn.ghost_name ≡ tx.old.conn.ghost_name }
     ensures made { HasCleanDisk (state S.Store tx.new.conn.now) → IsMaking up_to_mark (state S.Store tx.old.conn.now) → OnOk result (IsMaking up_to_ref (state S.Store tx.new.conn.now)) }
-    ensures survives { Survives (state S.Store tx.old.conn.now) (state S.Store tx.new.conn.now) (λ _. ⊥) }
+    ensures survives { LeavesStore (state S.Store tx.old.conn.now) (state S.Store tx.new.conn.now) }
 {
     tx.execute(
         "CREATE TABLE ref (name TEXT NOT NULL, route TEXT NOT NULL, place INTEGER NOT NULL, PRIMARY KEY (name)) STRICT",
@@ -106,7 +107,7 @@ fn make_ref<S: Alter>(tx: &mut Transaction<'_, S>) -> Result<(), Error>
 fn make_span<S: Alter>(tx: &mut Transaction<'_, S>) -> Result<(), Error>
     ensures same_reference { tx.new.conn.ghost_name ≡ tx.old.conn.ghost_name }
     ensures made { HasCleanDisk (state S.Store tx.new.conn.now) → IsMaking up_to_ref (state S.Store tx.old.conn.now) → OnOk result (IsMaking up_to_span (state S.Store tx.new.conn.now)) }
-    ensures survives { Survives (state S.Store tx.old.conn.now) (state S.Store tx.new.conn.now) (λ _. ⊥) }
+    ensures survives { LeavesStore (state S.Store tx.old.conn.now) (state S.Store tx.new.conn.now) }
 {
     tx.execute(
         "CREATE TABLE span (asset INTEGER NOT NULL REFERENCES asset, route TEXT NOT NULL, lo INTEGER NOT NULL, hi INTEGER NOT NULL, side INTEGER NOT NULL, PRIMARY KEY (asset, route, lo)) STRICT",
@@ -119,7 +120,7 @@ fn make_span<S: Alter>(tx: &mut Transaction<'_, S>) -> Result<(), Error>
 fn make_routes<S: Alter>(tx: &mut Transaction<'_, S>) -> Result<(), Error>
     ensures same_reference { tx.new.conn.ghost_name ≡ tx.old.conn.ghost_name }
     ensures made { HasCleanDisk (state S.Store tx.new.conn.now) → IsMaking up_to_asset (state S.Store tx.old.conn.now) → OnOk result (IsMaking up_to_span (state S.Store tx.new.conn.now)) }
-    ensures survives { Survives (state S.Store tx.old.conn.now) (state S.Store tx.new.conn.now) (λ _. ⊥) }
+    ensures survives { LeavesStore (state S.Store tx.old.conn.now) (state S.Store tx.new.conn.now) }
 {
     make_piece(tx)?;
     make_mark(tx)?;
@@ -130,7 +131,7 @@ fn make_routes<S: Alter>(tx: &mut Transaction<'_, S>) -> Result<(), Error>
 fn make_entered<S: Alter>(tx: &mut Transaction<'_, S>) -> Result<(), Error>
     ensures same_reference { tx.new.conn.ghost_name ≡ tx.old.conn.ghost_name }
     ensures made { HasCleanDisk (state S.Store tx.new.conn.now) → IsMaking up_to_span (state S.Store tx.old.conn.now) → OnOk result (IsMaking up_to_entered (state S.Store tx.new.conn.now)) }
-    ensures survives { Survives (state S.Store tx.old.conn.now) (state S.Store tx.new.conn.now) (λ _. ⊥) }
+    ensures survives { LeavesStore (state S.Store tx.old.conn.now) (state S.Store tx.new.conn.now) }
 {
     tx.execute(
         "CREATE TABLE entered (edit INTEGER NOT NULL, asset INTEGER NOT NULL, link INTEGER NOT NULL, lo INTEGER NOT NULL, hi INTEGER NOT NULL, side INTEGER NOT NULL, PRIMARY KEY (edit, asset, link, lo, side)) STRICT",
@@ -142,7 +143,7 @@ fn make_entered<S: Alter>(tx: &mut Transaction<'_, S>) -> Result<(), Error>
 fn make_gone<S: Alter>(tx: &mut Transaction<'_, S>) -> Result<(), Error>
     ensures same_reference { tx.new.conn.ghost_name ≡ tx.old.conn.ghost_name }
     ensures made { HasCleanDisk (state S.Store tx.new.conn.now) → IsMaking up_to_entered (state S.Store tx.old.conn.now) → OnOk result (IsMaking up_to_gone (state S.Store tx.new.conn.now)) }
-    ensures survives { Survives (state S.Store tx.old.conn.now) (state S.Store tx.new.conn.now) (λ _. ⊥) }
+    ensures survives { LeavesStore (state S.Store tx.old.conn.now) (state S.Store tx.new.conn.now) }
 {
     tx.execute(
         "CREATE TABLE gone (edit INTEGER NOT NULL, cause INTEGER NOT NULL, asset INTEGER NOT NULL, link INTEGER NOT NULL, lo INTEGER NOT NULL, hi INTEGER NOT NULL, side INTEGER NOT NULL, PRIMARY KEY (edit, cause, asset, link, lo, side)) STRICT",
@@ -154,7 +155,7 @@ fn make_gone<S: Alter>(tx: &mut Transaction<'_, S>) -> Result<(), Error>
 fn make_edit<S: Alter>(tx: &mut Transaction<'_, S>) -> Result<(), Error>
     ensures same_reference { tx.new.conn.ghost_name ≡ tx.old.conn.ghost_name }
     ensures made { HasCleanDisk (state S.Store tx.new.conn.now) → IsMaking up_to_gone (state S.Store tx.old.conn.now) → OnOk result (IsMaking up_to_edit (state S.Store tx.new.conn.now)) }
-    ensures survives { Survives (state S.Store tx.old.conn.now) (state S.Store tx.new.conn.now) (λ _. ⊥) }
+    ensures survives { LeavesStore (state S.Store tx.old.conn.now) (state S.Store tx.new.conn.now) }
 {
     tx.execute(
         "CREATE TABLE edit (number INTEGER NOT NULL, token TEXT NOT NULL UNIQUE, line TEXT NOT NULL, PRIMARY KEY (number)) STRICT",
@@ -166,7 +167,7 @@ fn make_edit<S: Alter>(tx: &mut Transaction<'_, S>) -> Result<(), Error>
 fn make_origin<S: Alter>(tx: &mut Transaction<'_, S>) -> Result<(), Error>
     ensures same_reference { tx.new.conn.ghost_name ≡ tx.old.conn.ghost_name }
     ensures made { HasCleanDisk (state S.Store tx.new.conn.now) → IsMaking up_to_edit (state S.Store tx.old.conn.now) → OnOk result (IsMaking up_to_origin (state S.Store tx.new.conn.now)) }
-    ensures survives { Survives (state S.Store tx.old.conn.now) (state S.Store tx.new.conn.now) (λ _. ⊥) }
+    ensures survives { LeavesStore (state S.Store tx.old.conn.now) (state S.Store tx.new.conn.now) }
 {
     tx.execute(
         "CREATE TABLE origin (asset INTEGER NOT NULL REFERENCES asset, edit INTEGER NOT NULL, PRIMARY KEY (asset)) STRICT",
@@ -179,7 +180,7 @@ fn make_origin<S: Alter>(tx: &mut Transaction<'_, S>) -> Result<(), Error>
 fn make_edits<S: Alter>(tx: &mut Transaction<'_, S>) -> Result<(), Error>
     ensures same_reference { tx.new.conn.ghost_name ≡ tx.old.conn.ghost_name }
     ensures made { HasCleanDisk (state S.Store tx.new.conn.now) → IsMaking up_to_span (state S.Store tx.old.conn.now) → OnOk result (IsMaking up_to_origin (state S.Store tx.new.conn.now)) }
-    ensures survives { Survives (state S.Store tx.old.conn.now) (state S.Store tx.new.conn.now) (λ _. ⊥) }
+    ensures survives { LeavesStore (state S.Store tx.old.conn.now) (state S.Store tx.new.conn.now) }
 {
     make_entered(tx)?;
     make_gone(tx)?;
@@ -191,7 +192,7 @@ fn make_edits<S: Alter>(tx: &mut Transaction<'_, S>) -> Result<(), Error>
 pub fn make_tables<S: Alter>(tx: &mut Transaction<'_, S>) -> Result<(), Error>
     ensures same_reference { tx.new.conn.ghost_name ≡ tx.old.conn.ghost_name }
     ensures made { HasCleanDisk (state S.Store tx.new.conn.now) → IsMaking no_schema (state S.Store tx.old.conn.now) → OnOk result (IsMaking up_to_origin (state S.Store tx.new.conn.now)) }
-    ensures survives { Survives (state S.Store tx.old.conn.now) (state S.Store tx.new.conn.now) (λ _. ⊥) }
+    ensures survives { LeavesStore (state S.Store tx.old.conn.now) (state S.Store tx.new.conn.now) }
 {
     make_assets(tx)?;
     make_routes(tx)?;

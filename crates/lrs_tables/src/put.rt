@@ -1,9 +1,9 @@
 //! Rows that come, one at a time.
 
 ghost use Rattle.std.specs.Prelude.{◌≡◌, OnOk, IsTrue};
-ghost use Rattle.sqlite.specs.State.{HasCleanDisk, Survives};
+ghost use Rattle.sqlite.specs.State.{HasCleanDisk};
 ghost use Rattle.sqlite.specs.Held.{state};
-ghost use Rattle.lrs_tables.specs.Stored.{IsWriting, Makes};
+ghost use Rattle.lrs_tables.specs.Stored.{IsWriting, Makes, OkDoes, LeavesStore};
 ghost use Rattle.lrs_tables.specs.Changing.{with_version, with_link, with_class, with_asset_row, with_origin, with_edit};
 
 use crate::number::{kind_number, number};
@@ -16,8 +16,8 @@ use sqlite::{Alter, Error, Transaction};
 /// Puts the row of the version.
 pub fn put_version<S: Alter>(tx: &mut Transaction<'_, S>, version: u64) -> Result<(), Error>
     ensures same_reference { tx.new.conn.ghost_name ≡ tx.old.conn.ghost_name }
-    ensures does { HasCleanDisk (state S.Store tx.new.conn.now) → IsWriting (state S.Store tx.old.conn.now) → OnOk result (Makes (with_version version) (state S.Store tx.old.conn.now) (state S.Store tx.new.conn.now)) }
-    ensures survives { Survives (state S.Store tx.old.conn.now) (state S.Store tx.new.conn.now) (λ _. ⊥) }
+    ensures does { OkDoes result (state S.Store tx.old.conn.now) (state S.Store tx.new.conn.now) (Makes (with_version version)) }
+    ensures survives { LeavesStore (state S.Store tx.old.conn.now) (state S.Store tx.new.conn.now) }
 {
     let version = number(version)?;
     tx.execute("INSERT INTO version VALUES (?1)", &[version])?;
@@ -27,8 +27,8 @@ pub fn put_version<S: Alter>(tx: &mut Transaction<'_, S>, version: u64) -> Resul
 /// Puts the row of a link.
 pub fn put_link<S: Alter>(tx: &mut Transaction<'_, S>, link: &Link) -> Result<(), Error>
     ensures same_reference { tx.new.conn.ghost_name ≡ tx.old.conn.ghost_name }
-    ensures does { HasCleanDisk (state S.Store tx.new.conn.now) → IsWriting (state S.Store tx.old.conn.now) → OnOk result (Makes (with_link link.now) (state S.Store tx.old.conn.now) (state S.Store tx.new.conn.now)) }
-    ensures survives { Survives (state S.Store tx.old.conn.now) (state S.Store tx.new.conn.now) (λ _. ⊥) }
+    ensures does { OkDoes result (state S.Store tx.old.conn.now) (state S.Store tx.new.conn.now) (Makes (with_link link.now)) }
+    ensures survives { LeavesStore (state S.Store tx.old.conn.now) (state S.Store tx.new.conn.now) }
 {
     let own = number(link.number as u64)?;
     let length = number(link.length as u64)?;
@@ -39,8 +39,8 @@ pub fn put_link<S: Alter>(tx: &mut Transaction<'_, S>, link: &Link) -> Result<()
 /// Puts the row of a class.
 pub fn put_class<S: Alter>(tx: &mut Transaction<'_, S>, class: &Class) -> Result<(), Error>
     ensures same_reference { tx.new.conn.ghost_name ≡ tx.old.conn.ghost_name }
-    ensures does { HasCleanDisk (state S.Store tx.new.conn.now) → IsWriting (state S.Store tx.old.conn.now) → OnOk result (Makes (with_class class.now) (state S.Store tx.old.conn.now) (state S.Store tx.new.conn.now)) }
-    ensures survives { Survives (state S.Store tx.old.conn.now) (state S.Store tx.new.conn.now) (λ _. ⊥) }
+    ensures does { OkDoes result (state S.Store tx.old.conn.now) (state S.Store tx.new.conn.now) (Makes (with_class class.now)) }
+    ensures survives { LeavesStore (state S.Store tx.old.conn.now) (state S.Store tx.new.conn.now) }
 {
     let name = ValueRef::Text(class.name.bytes());
     let kind = number(kind_number(class.kind))?;
@@ -51,8 +51,8 @@ pub fn put_class<S: Alter>(tx: &mut Transaction<'_, S>, class: &Class) -> Result
 /// Puts the row of an asset.
 pub fn put_asset<S: Alter>(tx: &mut Transaction<'_, S>, asset: &Asset) -> Result<(), Error>
     ensures same_reference { tx.new.conn.ghost_name ≡ tx.old.conn.ghost_name }
-    ensures does { HasCleanDisk (state S.Store tx.new.conn.now) → IsWriting (state S.Store tx.old.conn.now) → OnOk result (Makes (with_asset_row asset.now) (state S.Store tx.old.conn.now) (state S.Store tx.new.conn.now)) }
-    ensures survives { Survives (state S.Store tx.old.conn.now) (state S.Store tx.new.conn.now) (λ _. ⊥) }
+    ensures does { OkDoes result (state S.Store tx.old.conn.now) (state S.Store tx.new.conn.now) (Makes (with_asset_row asset.now)) }
+    ensures survives { LeavesStore (state S.Store tx.old.conn.now) (state S.Store tx.new.conn.now) }
 {
     let own = number(asset.number)?;
     let class = ValueRef::Text(asset.class.bytes());
@@ -68,8 +68,8 @@ pub fn put_asset<S: Alter>(tx: &mut Transaction<'_, S>, asset: &Asset) -> Result
 /// Puts the row that tells which edit entered an asset.
 pub fn put_origin<S: Alter>(tx: &mut Transaction<'_, S>, asset: &Asset) -> Result<(), Error>
     ensures same_reference { tx.new.conn.ghost_name ≡ tx.old.conn.ghost_name }
-    ensures does { HasCleanDisk (state S.Store tx.new.conn.now) → IsWriting (state S.Store tx.old.conn.now) → OnOk result (Makes (with_origin asset.now) (state S.Store tx.old.conn.now) (state S.Store tx.new.conn.now)) }
-    ensures survives { Survives (state S.Store tx.old.conn.now) (state S.Store tx.new.conn.now) (λ _. ⊥) }
+    ensures does { OkDoes result (state S.Store tx.old.conn.now) (state S.Store tx.new.conn.now) (Makes (with_origin asset.now)) }
+    ensures survives { LeavesStore (state S.Store tx.old.conn.now) (state S.Store tx.new.conn.now) }
 {
     let own = number(asset.number)?;
     let entry = number(asset.entry)?;
@@ -80,9 +80,9 @@ pub fn put_origin<S: Alter>(tx: &mut Transaction<'_, S>, asset: &Asset) -> Resul
 /// Puts the row of an edit under its number.
 pub fn put_edit<S: Alter>(tx: &mut Transaction<'_, S>, n: u64, edit: &Edit) -> Result<(), Error>
     ensures same_reference { tx.new.conn.ghost_name ≡ tx.old.conn.ghost_name }
-    ensures does { HasCleanDisk (state S.Store tx.new.conn.now) → IsWriting (state S.Store tx.old.conn.now) → OnOk result (Makes (with_edit n edit.now) (state S.Store tx.old.conn.now) (state S.Store tx.new.conn.now)) }
+    ensures does { OkDoes result (state S.Store tx.old.conn.now) (state S.Store tx.new.conn.now) (Makes (with_edit n edit.now)) }
     ensures is_open { HasCleanDisk (state S.Store tx.new.conn.now) → IsWriting (state S.Store tx.old.conn.now) → OnOk result (IsTrue (state S.Store tx.old.conn.now).is_open) }
-    ensures survives { Survives (state S.Store tx.old.conn.now) (state S.Store tx.new.conn.now) (λ _. ⊥) }
+    ensures survives { LeavesStore (state S.Store tx.old.conn.now) (state S.Store tx.new.conn.now) }
 {
     let own = number(n)?;
     let token = ValueRef::Text(edit.key.bytes());

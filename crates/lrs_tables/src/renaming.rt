@@ -1,9 +1,8 @@
 //! Rows of a route that gets another name.
 
-ghost use Rattle.std.specs.Prelude.{◌≡◌, OnOk};
-ghost use Rattle.sqlite.specs.State.{HasCleanDisk, Survives};
+ghost use Rattle.std.specs.Prelude.{◌≡◌};
 ghost use Rattle.sqlite.specs.Held.{state};
-ghost use Rattle.lrs_tables.specs.Stored.{IsWriting, Makes};
+ghost use Rattle.lrs_tables.specs.Stored.{Makes, OkDoes, LeavesStore};
 ghost use Rattle.lrs_tables.specs.Changing.{renamed_pieces, renamed_marks, renamed_refs, renamed_spans};
 
 use lrs_position::RouteName;
@@ -17,8 +16,8 @@ pub fn rename_pieces<S: Alter>(
     name: &RouteName,
 ) -> Result<(), Error>
     ensures same_reference { tx.new.conn.ghost_name ≡ tx.old.conn.ghost_name }
-    ensures does { HasCleanDisk (state S.Store tx.new.conn.now) → IsWriting (state S.Store tx.old.conn.now) → OnOk result (Makes (renamed_pieces route.now name.now) (state S.Store tx.old.conn.now) (state S.Store tx.new.conn.now)) }
-    ensures survives { Survives (state S.Store tx.old.conn.now) (state S.Store tx.new.conn.now) (λ _. ⊥) }
+    ensures does { OkDoes result (state S.Store tx.old.conn.now) (state S.Store tx.new.conn.now) (Makes (renamed_pieces route.now name.now)) }
+    ensures survives { LeavesStore (state S.Store tx.old.conn.now) (state S.Store tx.new.conn.now) }
 {
     let old = ValueRef::Text(route.bytes());
     let new = ValueRef::Text(name.bytes());
@@ -33,8 +32,8 @@ pub fn rename_marks<S: Alter>(
     name: &RouteName,
 ) -> Result<(), Error>
     ensures same_reference { tx.new.conn.ghost_name ≡ tx.old.conn.ghost_name }
-    ensures does { HasCleanDisk (state S.Store tx.new.conn.now) → IsWriting (state S.Store tx.old.conn.now) → OnOk result (Makes (renamed_marks route.now name.now) (state S.Store tx.old.conn.now) (state S.Store tx.new.conn.now)) }
-    ensures survives { Survives (state S.Store tx.old.conn.now) (state S.Store tx.new.conn.now) (λ _. ⊥) }
+    ensures does { OkDoes result (state S.Store tx.old.conn.now) (state S.Store tx.new.conn.now) (Makes (renamed_marks route.now name.now)) }
+    ensures survives { LeavesStore (state S.Store tx.old.conn.now) (state S.Store tx.new.conn.now) }
 {
     let old = ValueRef::Text(route.bytes());
     let new = ValueRef::Text(name.bytes());
@@ -49,8 +48,8 @@ pub fn rename_refs<S: Alter>(
     name: &RouteName,
 ) -> Result<(), Error>
     ensures same_reference { tx.new.conn.ghost_name ≡ tx.old.conn.ghost_name }
-    ensures does { HasCleanDisk (state S.Store tx.new.conn.now) → IsWriting (state S.Store tx.old.conn.now) → OnOk result (Makes (renamed_refs route.now name.now) (state S.Store tx.old.conn.now) (state S.Store tx.new.conn.now)) }
-    ensures survives { Survives (state S.Store tx.old.conn.now) (state S.Store tx.new.conn.now) (λ _. ⊥) }
+    ensures does { OkDoes result (state S.Store tx.old.conn.now) (state S.Store tx.new.conn.now) (Makes (renamed_refs route.now name.now)) }
+    ensures survives { LeavesStore (state S.Store tx.old.conn.now) (state S.Store tx.new.conn.now) }
 {
     let old = ValueRef::Text(route.bytes());
     let new = ValueRef::Text(name.bytes());
@@ -65,8 +64,8 @@ pub fn rename_spans<S: Alter>(
     name: &RouteName,
 ) -> Result<(), Error>
     ensures same_reference { tx.new.conn.ghost_name ≡ tx.old.conn.ghost_name }
-    ensures does { HasCleanDisk (state S.Store tx.new.conn.now) → IsWriting (state S.Store tx.old.conn.now) → OnOk result (Makes (renamed_spans route.now name.now) (state S.Store tx.old.conn.now) (state S.Store tx.new.conn.now)) }
-    ensures survives { Survives (state S.Store tx.old.conn.now) (state S.Store tx.new.conn.now) (λ _. ⊥) }
+    ensures does { OkDoes result (state S.Store tx.old.conn.now) (state S.Store tx.new.conn.now) (Makes (renamed_spans route.now name.now)) }
+    ensures survives { LeavesStore (state S.Store tx.old.conn.now) (state S.Store tx.new.conn.now) }
 {
     let old = ValueRef::Text(route.bytes());
     let new = ValueRef::Text(name.bytes());

@@ -1,8 +1,9 @@
 //! A new store: its tables and the row of its version.
 
 ghost use Rattle.std.specs.Prelude.{◌≡◌, OnOk, IsTrue, false};
-ghost use Rattle.sqlite.specs.State.{HasCleanDisk, Survives};
+ghost use Rattle.sqlite.specs.State.{HasCleanDisk};
 ghost use Rattle.sqlite.specs.Held.{state};
+ghost use Rattle.lrs_tables.specs.Stored.{LeavesStore};
 ghost use Rattle.lrs_tables.specs.Making.{IsMaking, no_schema};
 ghost use Rattle.lrs_tables.specs.Starting.{IsStarted, IsNew, NewRowsHoldNothing};
 
@@ -14,7 +15,7 @@ use sqlite::{Alter, Connection, Error, Transaction};
 fn start<S: Alter>(tx: &mut Transaction<'_, S>) -> Result<(), Error>
     ensures same_reference { tx.new.conn.ghost_name ≡ tx.old.conn.ghost_name }
     ensures started { HasCleanDisk (state S.Store tx.new.conn.now) → IsMaking no_schema (state S.Store tx.old.conn.now) → OnOk result (IsStarted (state S.Store tx.new.conn.now)) }
-    ensures survives { Survives (state S.Store tx.old.conn.now) (state S.Store tx.new.conn.now) (λ _. ⊥) }
+    ensures survives { LeavesStore (state S.Store tx.old.conn.now) (state S.Store tx.new.conn.now) }
 {
     make_tables(tx)?;
     put_version(tx, 2)?;

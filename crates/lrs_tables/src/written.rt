@@ -1,9 +1,8 @@
 //! Lists of values whose rows come or go.
 
-ghost use Rattle.std.specs.Prelude.{◌≡◌, ℕ, List, [], ◌∷◌, OnOk};
-ghost use Rattle.sqlite.specs.State.{HasCleanDisk, Survives};
+ghost use Rattle.std.specs.Prelude.{◌≡◌, ℕ, List, [], ◌∷◌};
 ghost use Rattle.sqlite.specs.Held.{state};
-ghost use Rattle.lrs_tables.specs.Stored.{IsWriting, Makes};
+ghost use Rattle.lrs_tables.specs.Stored.{Makes, OkDoes, LeavesStore};
 
 use sqlite::{Alter, Error, Transaction};
 
@@ -19,8 +18,8 @@ pub trait Written<C> {
     /// Writes the row of the value, which has this number in its list.
     fn write<S: Alter>(&self, tx: &mut Transaction<'_, S>, of: &C, n: u64) -> Result<(), Error>
         ensures same_reference { tx.new.conn.ghost_name ≡ tx.old.conn.ghost_name }
-        ensures does { HasCleanDisk (state S.Store tx.new.conn.now) → IsWriting (state S.Store tx.old.conn.now) → OnOk result (Makes (all of.now n (self.now ∷ [])) (state S.Store tx.old.conn.now) (state S.Store tx.new.conn.now)) }
-        ensures survives { Survives (state S.Store tx.old.conn.now) (state S.Store tx.new.conn.now) (λ _. ⊥) };
+        ensures does { OkDoes result (state S.Store tx.old.conn.now) (state S.Store tx.new.conn.now) (Makes (all of.now n (self.now ∷ []))) }
+        ensures survives { LeavesStore (state S.Store tx.old.conn.now) (state S.Store tx.new.conn.now) };
 
     // No value changes nothing, and one more value makes its change of what the others made.
     ghost none: { (c : C) (n : ℕ) (t : Tables) → AreSame (all c n [] t) t };
@@ -35,8 +34,8 @@ pub fn write_all<C, R: Written<C>, S: Alter>(
     rows: &[R],
 ) -> Result<(), Error>
     ensures same_reference { tx.new.conn.ghost_name ≡ tx.old.conn.ghost_name }
-    ensures does { HasCleanDisk (state S.Store tx.new.conn.now) → IsWriting (state S.Store tx.old.conn.now) → OnOk result (Makes (R.all of.now 0 rows.now) (state S.Store tx.old.conn.now) (state S.Store tx.new.conn.now)) }
-    ensures survives { Survives (state S.Store tx.old.conn.now) (state S.Store tx.new.conn.now) (λ _. ⊥) }
+    ensures does { OkDoes result (state S.Store tx.old.conn.now) (state S.Store tx.new.conn.now) (Makes (R.all of.now 0 rows.now)) }
+    ensures survives { LeavesStore (state S.Store tx.old.conn.now) (state S.Store tx.new.conn.now) }
 {
     for i in 0..rows.len() {
         rows[i].write(tx, of, i as u64)?;
