@@ -15,4 +15,6 @@ pub mod route;
 pub mod said;
 pub mod start;
 pub mod tables;
+#[cfg(test)]
+mod tests;
 pub mod written;

@@ -16,6 +16,7 @@ use sqlite::{Alter, Connection, Error, ErrorCode, MemStore};
 use std::alloc::Global;
 
 /// The tables of an inventory in a store.
+#[derive(Drop)]
 pub struct Tables<S: Alter> {
     conn: Connection<S>,
     failures: u64,
