@@ -17,6 +17,7 @@ use Rattle.lrs_report.specs.Segments.{Values, segments_of}
 use Rattle.lrs_machine.specs.Register.{get, entries}
 use Rattle.lrs_machine.specs.State.{State, Reason}
 use Rattle.lrs_machine.specs.State as state
+use Rattle.lrs_machine.specs.declared.hit.Hit.{Hit}
 use Rattle.lrs_machine.specs.Machine.{entry_of_referent}
 
 -- all places of the known links
@@ -57,11 +58,7 @@ places_of s asset = filter (s.holds asset) (all_places s)
 abbrev pub asset_of : ℕ × state.Asset → Asset
 asset_of a = record { number = a.0; class = a.1.class; value = a.1.value; lateral = a.1.lateral; entry = a.1.entry }
 
--- an asset and the side on which it holds a millimetre, seen along the route
-pub record Hit : Type 0 where
-  pub asset : Asset
-  pub side : Side
-
+-- an asset, and the side on which it holds a millimetre, seen along the route
 abbrev pub hit_of : State → Ground → Asset → Option Hit
 hit_of s g asset = option_map (λ side. record { asset = asset; side = side }) (side_held (s.holds asset.number) g)
 

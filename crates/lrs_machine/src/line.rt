@@ -33,6 +33,13 @@ impl Model for Line {
 }
 
 impl Line {
+    /// The line of this text, as it was kept.
+    pub fn from_text(text: String) -> Line
+        ensures { result ≡ string_bytes text }
+    {
+        Line { text }
+    }
+
     /// Its text.
     pub fn as_str(&self) -> &str
         ensures { result.now ≡ self.now }

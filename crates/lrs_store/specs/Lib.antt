@@ -1,4 +1,6 @@
 pub mod Tables
 pub mod Decoding
 pub mod Content
+pub mod Encoding
+pub mod Encoded
 pub mod Laws

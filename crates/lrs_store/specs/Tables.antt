@@ -1,5 +1,5 @@
 -- The tables of a store as their rows stand there, in any order.
-use Rattle.std.specs.Prelude.{ℕ, ℤ, List, []}
+use Rattle.std.specs.Prelude.{ℕ, ℤ, List, [], IsPermutation}
 use Rattle.lrs_measure.specs.Texts.{Name}
 
 pub record LinkRow : Type 0 where
@@ -83,3 +83,18 @@ pub record Tables : Type 0 where
 -- a store without any row
 abbrev pub no_rows : Tables
 no_rows = record { version = []; link = []; class = []; asset = []; piece = []; mark = []; ref = []; span = []; entered = []; gone = []; edit = []; origin = [] }
+
+-- the same rows, in any order
+pub record AreSame (a b : Tables) : Type 0 where
+  pub version : IsPermutation a.version b.version
+  pub link : IsPermutation a.link b.link
+  pub class : IsPermutation a.class b.class
+  pub asset : IsPermutation a.asset b.asset
+  pub piece : IsPermutation a.piece b.piece
+  pub mark : IsPermutation a.mark b.mark
+  pub ref : IsPermutation a.ref b.ref
+  pub span : IsPermutation a.span b.span
+  pub entered : IsPermutation a.entered b.entered
+  pub gone : IsPermutation a.gone b.gone
+  pub edit : IsPermutation a.edit b.edit
+  pub origin : IsPermutation a.origin b.origin

@@ -9,7 +9,8 @@ use Rattle.sqlite_schema.specs.declared.schema.Table.{Table}
 use Rattle.lrs_store.specs.Tables.{LinkRow, ClassRow, AssetRow, PieceRow, MarkRow, RefRow, SpanRow, EnteredRow, GoneRow, EditRow, OriginRow}
 use Rattle.lrs_tables.specs.Schema.{inventory}
 use Rattle.lrs_tables.specs.Stored as it
-use Rattle.lrs_tables.specs.Stored.{rows_of, stored, AreSame}
+use Rattle.lrs_store.specs.Tables.{AreSame}
+use Rattle.lrs_tables.specs.Stored.{rows_of, stored}
 
 -- each table but this one is as it was
 abbrev pub SparesOthers : ℕ → Trees → Trees → Type 0

@@ -4,7 +4,7 @@ use Rattle.std.proofs.lemmas.List.Sorted.{IsPermutation-refl}
 use Rattle.std.proofs.lemmas.Slice.Eq.{bytes_eq-Decides}
 use Rattle.lrs_measure.specs.Texts.{Name, same_name}
 use Rattle.lrs_store.specs.Tables.{Tables, PieceRow, MarkRow, RefRow, SpanRow}
-use Rattle.lrs_tables.specs.Stored.{AreSame}
+use Rattle.lrs_store.specs.Tables.{AreSame}
 use Rattle.lrs_tables.specs.Changing.{renamed_piece, renamed_mark, renamed_ref, renamed_span, renamed_route}
 use Rattle.lrs_tables.proofs.Only.{same_rows}
 

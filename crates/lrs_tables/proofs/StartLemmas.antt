@@ -14,7 +14,8 @@ use Rattle.sqlite.specs.State.{State}
 use Rattle.lrs_store.specs.Tables.{no_rows}
 use Rattle.lrs_tables.specs.Schema.{inventory}
 use Rattle.lrs_tables.specs.Stored as it
-use Rattle.lrs_tables.specs.Stored.{rows_of, stored, AreSame, AreNumbered, HasTables, IsWriting, Makes}
+use Rattle.lrs_store.specs.Tables.{AreSame}
+use Rattle.lrs_tables.specs.Stored.{rows_of, stored, AreNumbered, HasTables, IsWriting, Makes}
 use Rattle.lrs_tables.specs.RowLaws.{same_trans}
 use Rattle.lrs_tables.specs.Changing.{with_version}
 use Rattle.lrs_tables.specs.Making.{IsMaking, up_to_origin}

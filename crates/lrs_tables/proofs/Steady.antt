@@ -22,8 +22,8 @@ use Rattle.lrs_keep.specs.declared.change.Difference.{Difference}
 use Rattle.lrs_keep.specs.declared.change.Change.{Change}
 use Rattle.lrs_store.specs.Tables.{Tables}
 use Rattle.lrs_store.specs.Laws.{origin_row}
-use Rattle.lrs_tables.specs.Stored.{AreSame}
-use Rattle.lrs_tables.specs.Encoding.{link_row, class_row, asset_row, piece_row, mark_row, ref_row, span_row, entered_row, gone_row, edit_row, numbered}
+use Rattle.lrs_store.specs.Tables.{AreSame}
+use Rattle.lrs_store.specs.Encoding.{link_row, class_row, asset_row, piece_row, mark_row, ref_row, span_row, entered_row, gone_row, edit_row, numbered}
 use Rattle.lrs_tables.specs.RowLaws.{same_trans}
 use Rattle.lrs_tables.specs.Changing as it
 use Rattle.lrs_tables.specs.Changing.{has_key_of}

@@ -2,7 +2,8 @@
 
 use Rattle.sqlite.specs.State.{State}
 use Rattle.lrs_store.specs.Tables.{Tables}
-use Rattle.lrs_tables.specs.Stored.{stored, AreSame, IsWriting, Makes}
+use Rattle.lrs_store.specs.Tables.{AreSame}
+use Rattle.lrs_tables.specs.Stored.{stored, IsWriting, Makes}
 use Rattle.lrs_tables.specs.RowLaws.{same_trans}
 use Rattle.lrs_tables.proofs.Steady.{IsSteady}
 

@@ -4,7 +4,8 @@ use Rattle.sqlite_trees.specs.Tree.{Trees}
 use Rattle.sqlite.specs.State.{State, HasCleanDisk}
 use Rattle.lrs_keep.specs.declared.change.Change.{Change}
 use Rattle.lrs_store.specs.Tables.{Tables}
-use Rattle.lrs_tables.specs.Stored.{stored, AreSame}
+use Rattle.lrs_store.specs.Tables.{AreSame}
+use Rattle.lrs_tables.specs.Stored.{stored}
 use Rattle.lrs_tables.specs.Writing.{IsWritten}
 
 -- nothing but these rows, in any order

@@ -1,6 +1,5 @@
 pub mod Schema
 pub mod Stored
-pub mod Encoding
 pub mod Changing
 pub mod Writing
 pub mod RowLaws

@@ -15,8 +15,8 @@ use Rattle.lrs_events.specs.declared.span.Span.{Span}
 use Rattle.lrs_events.specs.declared.part.Part.{Part}
 use Rattle.lrs_events.specs.declared.part.Gone.{Gone}
 use Rattle.lrs_store.specs.Tables.{Tables}
-use Rattle.lrs_tables.specs.Stored.{AreSame}
-use Rattle.lrs_tables.specs.Encoding.{piece_row, mark_row, ref_row, span_row, entered_row, gone_row, numbered}
+use Rattle.lrs_store.specs.Tables.{AreSame}
+use Rattle.lrs_store.specs.Encoding.{piece_row, mark_row, ref_row, span_row, entered_row, gone_row, numbered}
 use Rattle.lrs_tables.specs.Changing.{with_pieces, with_marks, with_refs, with_spans, with_entered, with_gone, has_key_of, less_spans, less_refs}
 
 -- the same rows, as a relation

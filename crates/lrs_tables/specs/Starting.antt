@@ -4,7 +4,8 @@ use Rattle.sqlite.specs.State.{State}
 use Rattle.lrs_machine.specs.Image.{nothing}
 use Rattle.lrs_store.specs.Tables.{Tables, no_rows}
 use Rattle.lrs_store.specs.Content.{content_of}
-use Rattle.lrs_tables.specs.Stored.{stored, AreSame, IsWriting}
+use Rattle.lrs_store.specs.Tables.{AreSame}
+use Rattle.lrs_tables.specs.Stored.{stored, IsWriting}
 use Rattle.lrs_tables.specs.Resting.{IsAtRest}
 
 -- a store of version 2 without entries

@@ -1,5 +1,5 @@
 -- The rows of a store as they lie in its trees, and what a connection over them knows.
-use Rattle.std.specs.Prelude.{◌≡◌, ℕ, ℤ, negsuc, List, [], ◌∷◌, map, IsPermutation, IsTrue, Result, OnOk}
+use Rattle.std.specs.Prelude.{◌≡◌, ℕ, ℤ, negsuc, List, [], ◌∷◌, map, IsTrue, Result, OnOk}
 use Rattle.std.specs.List.{AllByRecursion}
 use Rattle.sqlite_value.specs.declared.value.Value.{Value}
 use Rattle.sqlite_value.specs.declared.value.Value.TheVariants.{Null, Int, Real, Text, Blob}
@@ -11,7 +11,7 @@ use Rattle.sqlite_schema.specs.Rules.{Keeps}
 use Rattle.sqlite_rules.specs.Edit.{id_in}
 use Rattle.sqlite.specs.State.{State, HasCleanDisk, Survives}
 use Rattle.lrs_measure.specs.Texts.{Name}
-use Rattle.lrs_store.specs.Tables.{Tables, LinkRow, ClassRow, AssetRow, PieceRow, MarkRow, RefRow, SpanRow, EnteredRow, GoneRow, EditRow, OriginRow}
+use Rattle.lrs_store.specs.Tables.{Tables, AreSame, LinkRow, ClassRow, AssetRow, PieceRow, MarkRow, RefRow, SpanRow, EnteredRow, GoneRow, EditRow, OriginRow}
 use Rattle.lrs_tables.specs.Schema.{inventory}
 
 -- the rows of a table, as its columns at these places show them
@@ -130,21 +130,6 @@ stored db = record {
   edit = map edit_in (rows_of db 17 edit_places);
   origin = map origin_in (rows_of db 19 origin_places);
 }
-
--- the same rows, in any order
-pub record AreSame (a b : Tables) : Type 0 where
-  pub version : IsPermutation a.version b.version
-  pub link : IsPermutation a.link b.link
-  pub class : IsPermutation a.class b.class
-  pub asset : IsPermutation a.asset b.asset
-  pub piece : IsPermutation a.piece b.piece
-  pub mark : IsPermutation a.mark b.mark
-  pub ref : IsPermutation a.ref b.ref
-  pub span : IsPermutation a.span b.span
-  pub entered : IsPermutation a.entered b.entered
-  pub gone : IsPermutation a.gone b.gone
-  pub edit : IsPermutation a.edit b.edit
-  pub origin : IsPermutation a.origin b.origin
 
 -- rows of a table, each under a number of its own
 pub record AreNumbered (rows : List Row) : Type 0 where

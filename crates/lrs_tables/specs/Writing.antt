@@ -4,26 +4,22 @@ use Rattle.lrs_measure.specs.Texts.{Name}
 use Rattle.lrs_element.specs.declared.link.Ground.{Ground}
 use Rattle.lrs_element.specs.declared.link.Piece.{Piece}
 use Rattle.lrs_element.specs.declared.marks.Mark.{Mark}
-use Rattle.lrs_element.specs.Course.{course_of, IsFewest}
 use Rattle.lrs_machine.specs.declared.image.RouteEntry.{RouteEntry}
 use Rattle.lrs_keep.specs.declared.change.ReferentChange.{ReferentChange}
 use Rattle.lrs_keep.specs.declared.change.RouteChange.{RouteChange}
 use Rattle.lrs_keep.specs.declared.change.Difference.{Difference}
 use Rattle.lrs_keep.specs.declared.change.Change.{Change}
 use Rattle.sqlite.specs.State.{State}
+use Rattle.lrs_store.specs.Encoding.{ArePiecesOf}
 use Rattle.lrs_store.specs.Tables.{Tables}
-use Rattle.lrs_tables.specs.Stored.{stored, AreSame, IsWriting, Makes}
+use Rattle.lrs_store.specs.Tables.{AreSame}
+use Rattle.lrs_tables.specs.Stored.{stored, IsWriting, Makes}
 use Rattle.lrs_tables.specs.Changing.{with_link, with_class, with_asset, with_pieces, with_marks, with_refs, with_spans, with_entered, with_gone, with_edit, without_pieces, without_marks, without_route, less_spans, less_refs, renamed_route}
 
 -- what is made of something, if there is one
 abbrev pub with_some : {X : Type 0} → (X → Tables → Tables) → Option X → Tables → Tables
 with_some made None t = t
 with_some made (Some x) t = made x t
-
--- the fewest pieces of a course
-pub record ArePiecesOf (course : List Ground) (pieces : List Piece) : Type 0 where
-  pub course_is : course_of pieces ≡ course
-  pub fewest : IsFewest pieces
 
 -- those of a course, if there is one
 abbrev pub ArePieces : Option (List Ground) → Option (List Piece) → Type 0

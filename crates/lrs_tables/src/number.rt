@@ -3,7 +3,7 @@
 ghost use Rattle.std.specs.Prelude.{◌≡◌, pos, IfOk};
 ghost use Rattle.sqlite_value.specs.declared.value.Value.TheVariants.{Int};
 ghost use Rattle.sqlite_value.specs.Value.{owned};
-ghost use Rattle.lrs_tables.specs.Encoding as encoding;
+ghost use Rattle.lrs_store.specs.Encoding as encoding;
 
 use lrs_events::{Kind, LinkSide, Side};
 use sqlite::types::ValueRef;

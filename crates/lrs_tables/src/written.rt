@@ -10,7 +10,7 @@ use sqlite::{Alter, Error, Transaction};
 pub trait Written<C> {
     ghost use Rattle.std.specs.Prelude.{◌+◌, ◌++◌, length};
     ghost use Rattle.lrs_store.specs.Tables.{Tables};
-    ghost use Rattle.lrs_tables.specs.Stored.{AreSame};
+    ghost use Rattle.lrs_store.specs.Tables.{AreSame};
 
     // What these values, of which the first has this number, make of the rows of a store.
     ghost all: { C → ℕ → List Self → Tables → Tables };

@@ -6,6 +6,7 @@ ghost use Rattle.lrs_machine.specs.declared.table.Table.{Table};
 ghost use Rattle.lrs_machine.specs.Sound.{IsSound};
 ghost use Rattle.lrs_keep.specs.Change.{apply, CanMake};
 ghost use Rattle.lrs_keep.specs.Keeping.{HasRisen, HoldsOnly, HoldsOldOrNew};
+ghost use Rattle.lrs_keep.specs.Kept.{image_of};
 ghost use Rattle.lrs_verbs.specs.Keys.{place_among};
 ghost use Rattle.lrs_verbs.specs.Plans.{change_of, TellsGround};
 
@@ -63,6 +64,14 @@ impl Inventory {
         ensures sound { IsSound self.now }
     {
         self.kept.image(alloc)
+    }
+
+    /// The lists of the image, for those who read them.
+    pub fn kept(&self) -> &KeptImage
+        ensures image { image_of result.now ≡ self.now }
+        ensures sound { IsSound self.now }
+    {
+        &self.kept
     }
 
     /// The image is sound: a fact for proofs, which takes no time.

@@ -1,5 +1,5 @@
 use Rattle.sqlite.specs.Held.{state}
-use Rattle.lrs_tables.specs.Encoding.{asset_row}
+use Rattle.lrs_store.specs.Encoding.{asset_row}
 use Rattle.lrs_tables.proofs.Inserted.{asset_added}
 use Rattle.lrs_tables.proofs.put.put_asset.Goals as goal
 

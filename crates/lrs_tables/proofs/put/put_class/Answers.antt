@@ -1,5 +1,5 @@
 use Rattle.sqlite.specs.Held.{state}
-use Rattle.lrs_tables.specs.Encoding.{class_row}
+use Rattle.lrs_store.specs.Encoding.{class_row}
 use Rattle.lrs_tables.proofs.Inserted.{class_added}
 use Rattle.lrs_tables.proofs.put.put_class.Goals as goal
 

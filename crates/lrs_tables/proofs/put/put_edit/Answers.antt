@@ -1,5 +1,5 @@
 use Rattle.sqlite.specs.Held.{state}
-use Rattle.lrs_tables.specs.Encoding.{edit_row}
+use Rattle.lrs_store.specs.Encoding.{edit_row}
 use Rattle.lrs_tables.proofs.Inserted.{edit_added}
 use Rattle.lrs_tables.proofs.put.put_edit.Goals as goal
 

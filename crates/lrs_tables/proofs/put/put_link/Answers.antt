@@ -1,5 +1,5 @@
 use Rattle.sqlite.specs.Held.{state}
-use Rattle.lrs_tables.specs.Encoding.{link_row}
+use Rattle.lrs_store.specs.Encoding.{link_row}
 use Rattle.lrs_tables.proofs.Inserted.{link_added}
 use Rattle.lrs_tables.proofs.put.put_link.Goals as goal
 

@@ -1,5 +1,5 @@
 use Rattle.sqlite.specs.Held.{state}
-use Rattle.lrs_tables.specs.Encoding.{gone_row}
+use Rattle.lrs_store.specs.Encoding.{gone_row}
 use Rattle.lrs_tables.proofs.Inserted.{gone_added}
 use Rattle.lrs_tables.proofs.coming.GoneWrittenLedger.write.Goals as goal
 

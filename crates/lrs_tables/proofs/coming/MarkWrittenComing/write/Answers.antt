@@ -1,5 +1,5 @@
 use Rattle.sqlite.specs.Held.{state}
-use Rattle.lrs_tables.specs.Encoding.{mark_row}
+use Rattle.lrs_store.specs.Encoding.{mark_row}
 use Rattle.lrs_tables.proofs.Inserted.{mark_added}
 use Rattle.lrs_tables.proofs.coming.MarkWrittenComing.write.Goals as goal
 

@@ -1,5 +1,5 @@
 use Rattle.sqlite.specs.Held.{state}
-use Rattle.lrs_tables.specs.Encoding.{entered_row}
+use Rattle.lrs_store.specs.Encoding.{entered_row}
 use Rattle.lrs_tables.proofs.Inserted.{entered_added}
 use Rattle.lrs_tables.proofs.coming.PartWrittenLedger.write.Goals as goal
 

@@ -1,5 +1,5 @@
 use Rattle.sqlite.specs.Held.{state}
-use Rattle.lrs_tables.specs.Encoding.{piece_row}
+use Rattle.lrs_store.specs.Encoding.{piece_row}
 use Rattle.lrs_tables.proofs.Inserted.{piece_added}
 use Rattle.lrs_tables.proofs.coming.PieceWrittenComing.write.Goals as goal
 

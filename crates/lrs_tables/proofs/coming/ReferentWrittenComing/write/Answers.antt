@@ -1,5 +1,5 @@
 use Rattle.sqlite.specs.Held.{state}
-use Rattle.lrs_tables.specs.Encoding.{ref_row}
+use Rattle.lrs_store.specs.Encoding.{ref_row}
 use Rattle.lrs_tables.proofs.Inserted.{ref_added}
 use Rattle.lrs_tables.proofs.coming.ReferentWrittenComing.write.Goals as goal
 

@@ -1,5 +1,5 @@
 use Rattle.sqlite.specs.Held.{state}
-use Rattle.lrs_tables.specs.Encoding.{span_row}
+use Rattle.lrs_store.specs.Encoding.{span_row}
 use Rattle.lrs_tables.proofs.Inserted.{span_added}
 use Rattle.lrs_tables.proofs.coming.SpanWrittenComing.write.Goals as goal
 

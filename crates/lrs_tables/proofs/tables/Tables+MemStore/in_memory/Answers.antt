@@ -1,6 +1,7 @@
 use Rattle.std.proofs.Common.{sym, subst}
 use Rattle.sqlite_trees.specs.Tree.{Trees}
-use Rattle.lrs_tables.specs.Stored.{stored, AreSame}
+use Rattle.lrs_store.specs.Tables.{AreSame}
+use Rattle.lrs_tables.specs.Stored.{stored}
 use Rattle.lrs_tables.specs.Starting.{new_rows}
 use Rattle.lrs_tables.proofs.tables.«Tables+MemStore».in_memory.Goals as goal
 

@@ -3,7 +3,8 @@ use Rattle.sqlite.specs.Effect.{Database}
 use Rattle.sqlite.specs.State.{HasCleanDisk}
 use Rattle.sqlite.specs.Held.{state}
 use Rattle.sqlite_trees.specs.Tree.{Trees}
-use Rattle.lrs_tables.specs.Stored.{stored, AreSame}
+use Rattle.lrs_store.specs.Tables.{AreSame}
+use Rattle.lrs_tables.specs.Stored.{stored}
 use Rattle.lrs_tables.specs.Writing.{IsWritten}
 use Rattle.lrs_tables.proofs.Steady.{written_from}
 use Rattle.lrs_tables.proofs.tables.Tables.commit.Goals as goal

@@ -1,9 +1,11 @@
 -- The rows that stand for what is kept.
-use Rattle.std.specs.Prelude.{ℕ, ◌+◌, pos, Bool, true, false, List, [], ◌∷◌}
+use Rattle.std.specs.Prelude.{◌≡◌, ℕ, ◌+◌, pos, Bool, true, false, List, [], ◌∷◌}
 use Rattle.lrs_measure.specs.Texts.{Name}
 use Rattle.lrs_element.specs.declared.link.Link.{Link}
 use Rattle.lrs_element.specs.declared.link.Piece.{Piece}
+use Rattle.lrs_element.specs.declared.link.Ground.{Ground}
 use Rattle.lrs_element.specs.declared.marks.Mark.{Mark}
+use Rattle.lrs_element.specs.Course.{course_of, IsFewest}
 use Rattle.lrs_position.specs.declared.route.Referent.{Referent}
 use Rattle.lrs_events.specs.declared.class.Kind.{Kind}
 use Rattle.lrs_events.specs.declared.class.Kind.TheVariants.{Point, Stretch, Exclusive}
@@ -83,3 +85,8 @@ edit_row n e = record { number = pos n; token = e.key; line = e.line }
 abbrev pub numbered : {X Row : Type 0} → (ℕ → X → Row) → ℕ → List X → List Row
 numbered row n [] = []
 numbered row n (x ∷ xs) = row n x ∷ numbered row (n + 1) xs
+
+-- the fewest pieces of a course
+pub record ArePiecesOf (course : List Ground) (pieces : List Piece) : Type 0 where
+  pub course_is : course_of pieces ≡ course
+  pub fewest : IsFewest pieces
