@@ -1,0 +1,2 @@
+//! What a store holds does not hang on the order of its rows.
+#![tactic(auto)]
