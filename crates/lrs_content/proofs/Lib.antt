@@ -1,1 +1,4 @@
 pub mod Unordered
+pub mod Orders
+pub mod Reading
+pub mod Stored
