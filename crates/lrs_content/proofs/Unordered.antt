@@ -122,16 +122,16 @@ module _ {X : Type 0} (before : X → X → Bool) (o : IsStrictWeakOrder before)
           ∙ sym (ap (insert_by before y) (later x z zs l) ∙ later y z (insert_by before x zs) k)
 
   -- one of both comes before the other
-  abbrev differs : X → X → Bool
+  abbrev pub differs : X → X → Bool
   differs x y = before x y || before y x
 
-  or-comm : (b c : Bool) → (b || c) ≡ (c || b)
+  pub or-comm : (b c : Bool) → (b || c) ≡ (c || b)
   or-comm true true = refl
   or-comm true false = refl
   or-comm false true = refl
   or-comm false false = refl
 
-  in_order_differ : (xs : List X) → each_two before xs ≡ true → each_two differs xs ≡ true
+  pub in_order_differ : (xs : List X) → each_two before xs ≡ true → each_two differs xs ≡ true
   in_order_differ [] h = refl
   in_order_differ (x ∷ xs) h =
       let both = and_parts (list_all (before x) xs) (each_two before xs) h in
@@ -196,7 +196,7 @@ module _ {X : Type 0} (before : X → X → Bool) (o : IsStrictWeakOrder before)
 
   -- ---- a table
 
-  failed : (t : Table) (test : List X → Bool) → ((xs : List X) → test xs ≡ true → each_two before xs ≡ true) → (xs : List X) → each_two before xs ≡ false → read t (Some xs) test ≡ Err t
+  pub failed : (t : Table) (test : List X → Bool) → ((xs : List X) → test xs ≡ true → each_two before xs ≡ true) → (xs : List X) → each_two before xs ≡ false → read t (Some xs) test ≡ Err t
   failed t test asks xs f = ap (λ b. cond b (Ok xs) (Err t)) (false_from_ne_true (test xs) (λ k. both_ways (each_two before xs) f (asks xs k)))
 
   read_sorted : (t : Table) (test : List X → Bool) → ((xs : List X) → test xs ≡ true → each_two before xs ≡ true) → (a b : Option (List X)) → AreAlike a b
