@@ -33,7 +33,7 @@ module _ {X : Type 0} (before : X → X → Bool) where
   IsPermutation-sorted [] = IsPermutation-refl []
   IsPermutation-sorted (x ∷ xs) = IsPermutation-trans _ _ _ (IsPermutation-cons x _ _ (IsPermutation-sorted xs)) (IsPermutation-insert_by x (sorted before xs))
 
-  In-insert : (z x : X) (ys : List X) → In z (insert_by before x ys) → In z (x ∷ ys)
+  pub In-insert : (z x : X) (ys : List X) → In z (insert_by before x ys) → In z (x ∷ ys)
   In-insert z x [] m = m
   In-insert z x (y ∷ ys) m =
       elim (before x y) as (λ b. In z (cond b (x ∷ y ∷ ys) (y ∷ insert_by before x ys)) → In z (x ∷ y ∷ ys)) [

@@ -43,13 +43,13 @@ use Rattle.lrs_encoded.proofs.Grouped.{In-sorted, sorted_back, table_back, count
 
 -- ---- what was read of each table
 
-record WasRead {A B : Type 0} (o : Option A) (test : A → Bool) (f : A → Result B Table) (y : B) : Type 0 where
-  value : A
-  decoded : o ≡ Some value
-  passes : test value ≡ true
-  next : f value ≡ Ok y
+pub record WasRead {A B : Type 0} (o : Option A) (test : A → Bool) (f : A → Result B Table) (y : B) : Type 0 where
+  pub value : A
+  pub decoded : o ≡ Some value
+  pub passes : test value ≡ true
+  pub next : f value ≡ Ok y
 
-was_read : {A B : Type 0} (t : Table) (o : Option A) (test : A → Bool) (f : A → Result B Table) (y : B) → content.◌>>=◌ (read t o test) f ≡ Ok y → WasRead o test f y
+pub was_read : {A B : Type 0} (t : Table) (o : Option A) (test : A → Bool) (f : A → Result B Table) (y : B) → content.◌>>=◌ (read t o test) f ≡ Ok y → WasRead o test f y
 was_read t None test f y h = absurd (cc)
 was_read t (Some x) test f y h =
     elim (test x) as (λ b. test x ≡ b → content.◌>>=◌ (cond b (Ok x) (Err t)) f ≡ Ok y → WasRead (Some x) test f y) [
@@ -58,28 +58,28 @@ was_read t (Some x) test f y h =
     ] refl h
 
 -- the tables beside version and origin were read to this image
-record IsRead (t : Tables) (i : Image) : Type 0 where
-  assets_read : List Asset
-  courses : List RouteCourse
-  measured : List Measured
-  routes : List Route
-  link : each_sorted link_before link_of t.link ≡ Some i.links
-  class : each_sorted class_before class_of t.class ≡ Some i.classes
-  asset : each_sorted asset_before asset_of t.asset ≡ Some assets_read
-  with_entries : i.assets ≡ map (with_entry i.entered) assets_read
-  piece : courses_of t.piece ≡ Some courses
-  courses_pass : are_courses i.links courses ≡ true
-  mark : measured_of t.mark courses ≡ Some measured
-  ref : routes_of t.ref measured ≡ Some routes
-  span : entries_of assets_read t.span routes ≡ Some i.routes
-  entered : each_sorted part_before part_of t.entered ≡ Some i.entered
-  gone : each_sorted gone_before gone_of t.gone ≡ Some i.gone
-  edit : edits_of t.edit ≡ Some i.edits
+pub record IsRead (t : Tables) (i : Image) : Type 0 where
+  pub assets_read : List Asset
+  pub courses : List RouteCourse
+  pub measured : List Measured
+  pub routes : List Route
+  pub link : each_sorted link_before link_of t.link ≡ Some i.links
+  pub class : each_sorted class_before class_of t.class ≡ Some i.classes
+  pub asset : each_sorted asset_before asset_of t.asset ≡ Some assets_read
+  pub with_entries : i.assets ≡ map (with_entry i.entered) assets_read
+  pub piece : courses_of t.piece ≡ Some courses
+  pub courses_pass : are_courses i.links courses ≡ true
+  pub mark : measured_of t.mark courses ≡ Some measured
+  pub ref : routes_of t.ref measured ≡ Some routes
+  pub span : entries_of assets_read t.span routes ≡ Some i.routes
+  pub entered : each_sorted part_before part_of t.entered ≡ Some i.entered
+  pub gone : each_sorted gone_before gone_of t.gone ≡ Some i.gone
+  pub edit : edits_of t.edit ≡ Some i.edits
 
-ok_is : {A : Type 0} (x y : A) → (let r : Result A Table = Ok x in r) ≡ Ok y → x ≡ y
+pub ok_is : {A : Type 0} (x y : A) → (let r : Result A Table = Ok x in r) ≡ Ok y → x ≡ y
 ok_is x y h = cc
 
-is_read : (t : Tables) (i : Image) → inventory_of t ≡ Ok i → IsRead t i
+pub is_read : (t : Tables) (i : Image) → inventory_of t ≡ Ok i → IsRead t i
 is_read t i h =
     let links = was_read table.Link (each_sorted link_before link_of t.link) are_links _ i h in
     let classes = was_read table.Class (each_sorted class_before class_of t.class) are_classes _ i links.next in
@@ -144,11 +144,11 @@ In-routes_named r (s ∷ said) (inr m) = In-with_name r.route s.route (routes_na
 
 -- ---- what is said of known routes
 
-record AreKnown {Row X : Type 0} (decoded : Row → Option (OfRoute X)) (is_known : Name → Bool) (rows : List Row) (said : List (OfRoute X)) : Type 0 where
-  each : each_of decoded rows ≡ Some said
-  known : (r : OfRoute X) → In r said → is_known r.route ≡ true
+pub record AreKnown {Row X : Type 0} (decoded : Row → Option (OfRoute X)) (is_known : Name → Bool) (rows : List Row) (said : List (OfRoute X)) : Type 0 where
+  pub each : each_of decoded rows ≡ Some said
+  pub known : (r : OfRoute X) → In r said → is_known r.route ≡ true
 
-are_known : {Row X : Type 0} (decoded : Row → Option (OfRoute X)) (is_known : Name → Bool) (rows : List Row) (said : List (OfRoute X)) → each_of_known decoded is_known rows ≡ Some said → AreKnown decoded is_known rows said
+pub are_known : {Row X : Type 0} (decoded : Row → Option (OfRoute X)) (is_known : Name → Bool) (rows : List Row) (said : List (OfRoute X)) → each_of_known decoded is_known rows ≡ Some said → AreKnown decoded is_known rows said
 are_known decoded is_known rows said h =
     let first = bind_some (each_of decoded rows) _ said h in
     let test = only_some (list_all (λ r. is_known r.route) first.0) first.0 said first.2 in
@@ -162,11 +162,11 @@ named_in name n es h =
 
 -- ---- what a route is made of
 
-abbrev name_of : RouteEntry → Name
+abbrev pub name_of : RouteEntry → Name
 name_of e = e.route.name
 
 -- the fewest pieces that were read of a route
-record HasPieces (said : List (OfRoute (Numbered Piece))) (c : RouteCourse) : Type 0 where
+pub record HasPieces (said : List (OfRoute (Numbered Piece))) (c : RouteCourse) : Type 0 where
   pieces : List Piece
   counts : counted 0 (sorted number_before (said_of c.route said)) ≡ Some pieces
   course_is : course_of pieces ≡ c.entries
@@ -218,22 +218,22 @@ pieces_in said n = or_nothing (counted 0 (sorted number_before (said_of n said))
 -- ---- all routes of the image
 
 module _ (t : Tables) (i : Image) (r : IsRead t i) where
-  piece_read : (said : List (OfRoute (Numbered Piece))) × (each_of piece_of t.piece ≡ Some said) × (each_of (course_of_route said) (routes_named said) ≡ Some r.courses)
+  pub piece_read : (said : List (OfRoute (Numbered Piece))) × (each_of piece_of t.piece ≡ Some said) × (each_of (course_of_route said) (routes_named said) ≡ Some r.courses)
   piece_read = bind_some (each_of piece_of t.piece) _ r.courses r.piece
 
-  mark_read : (said : List (OfRoute (Numbered Mark))) × (each_of_known mark_of (is_one_of r.courses) t.mark ≡ Some said) × (each_of (measured_with said) r.courses ≡ Some r.measured)
+  pub mark_read : (said : List (OfRoute (Numbered Mark))) × (each_of_known mark_of (is_one_of r.courses) t.mark ≡ Some said) × (each_of (measured_with said) r.courses ≡ Some r.measured)
   mark_read = bind_some (each_of_known mark_of (is_one_of r.courses) t.mark) _ r.measured r.mark
 
-  abbrev is_measured : Name → Bool
+  abbrev pub is_measured : Name → Bool
   is_measured route = list_any (λ (m : Measured). same_name m.course.route route) r.measured
 
-  ref_read : (said : List (OfRoute Referent)) × (each_of_known referent_of is_measured t.ref ≡ Some said) × (each_of (route_with said) r.measured ≡ Some r.routes)
+  pub ref_read : (said : List (OfRoute Referent)) × (each_of_known referent_of is_measured t.ref ≡ Some said) × (each_of (route_with said) r.measured ≡ Some r.routes)
   ref_read = bind_some (each_of_known referent_of is_measured t.ref) _ r.routes r.ref
 
-  abbrev is_a_route : Name → Bool
+  abbrev pub is_a_route : Name → Bool
   is_a_route name = list_any (λ (route : Route). same_name route.name name) r.routes
 
-  span_read : (said : List (OfRoute Span)) × (each_of_known (span_of r.assets_read) is_a_route t.span ≡ Some said) × (Some (map (entry_with said) r.routes) ≡ Some i.routes)
+  pub span_read : (said : List (OfRoute Span)) × (each_of_known (span_of r.assets_read) is_a_route t.span ≡ Some said) × (Some (map (entry_with said) r.routes) ≡ Some i.routes)
   span_read = bind_some (each_of_known (span_of r.assets_read) is_a_route t.span) _ i.routes r.span
 
   entries_are : map (entry_with span_read.0) r.routes ≡ i.routes
@@ -241,7 +241,7 @@ module _ (t : Tables) (i : Image) (r : IsRead t i) where
 
   -- the names are the same in each table
 
-  course_names : map (λ (c : RouteCourse). c.route) r.courses ≡ routes_named piece_read.0
+  pub course_names : map (λ (c : RouteCourse). c.route) r.courses ≡ routes_named piece_read.0
   course_names =
       each_map (course_of_route piece_read.0) (λ (c : RouteCourse). c.route) (λ (n : Name). n) (λ n c h. sym (has_pieces piece_read.0 n c h).0) (routes_named piece_read.0) r.courses piece_read.2
       ∙ map_id (routes_named piece_read.0)
@@ -276,7 +276,7 @@ module _ (t : Tables) (i : Image) (r : IsRead t i) where
   entry_names : map name_of i.routes ≡ map (λ (route : Route). route.name) r.routes
   entry_names = sym (ap (map name_of) entries_are) ∙ map-map name_of (entry_with span_read.0) r.routes
 
-  to_courses : map name_of i.routes ≡ map (λ (c : RouteCourse). c.route) r.courses
+  pub to_courses : map name_of i.routes ≡ map (λ (c : RouteCourse). c.route) r.courses
   to_courses = entry_names ∙ route_names ∙ measured_names
 
   in_order : each_two name_before (map name_of i.routes) ≡ true
@@ -316,13 +316,13 @@ module _ (t : Tables) (i : Image) (r : IsRead t i) where
       (has_pieces piece_read.0 named.0 c named.2).1
 
   -- the pieces of a route of the image
-  record HasOwn (e : RouteEntry) : Type 0 where
-    pieces : HasPieces piece_read.0 (let c : RouteCourse = record { route = e.route.name; entries = e.route.course } in c)
-    marks : counted 0 (sorted number_before (said_of e.route.name mark_read.0)) ≡ Some e.route.marks
-    refs : e.route.refs ≡ sorted referent_before (said_of e.route.name ref_read.0)
-    spans : e.spans ≡ sorted span_before (said_of e.route.name span_read.0)
+  pub record HasOwn (e : RouteEntry) : Type 0 where
+    pub pieces : HasPieces piece_read.0 (let c : RouteCourse = record { route = e.route.name; entries = e.route.course } in c)
+    pub marks : counted 0 (sorted number_before (said_of e.route.name mark_read.0)) ≡ Some e.route.marks
+    pub refs : e.route.refs ≡ sorted referent_before (said_of e.route.name ref_read.0)
+    pub spans : e.spans ≡ sorted span_before (said_of e.route.name span_read.0)
 
-  has_own : (e : RouteEntry) → In e i.routes → HasOwn e
+  pub has_own : (e : RouteEntry) → In e i.routes → HasOwn e
   has_own e m =
       let from = comes_from e m in
       let here : RouteEntry = entry_with span_read.0 from.route in

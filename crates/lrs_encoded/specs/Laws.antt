@@ -29,3 +29,7 @@ EncodedHolds = (pieces : Name → List Piece) (i : Image) → HasTexts i → IsS
 -- A store of version 2 has the rows that the image it holds is written as.
 abbrev pub ContentIsEncoded : Type 0
 ContentIsEncoded = (t : Tables) (i : Image) → t.version ≡ pos 2 ∷ [] → content_of t ≡ Ok i → Encodes i t
+
+-- Each text of an image that a store holds is of its kind.
+abbrev pub ContentHasTexts : Type 0
+ContentHasTexts = (t : Tables) (i : Image) → content_of t ≡ Ok i → HasTexts i
