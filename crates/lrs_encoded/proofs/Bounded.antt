@@ -1,12 +1,11 @@
 -- The numbers of a sound image can be stored.
-use Rattle.std.proofs.Common.{◌≡◌, ℕ, ◌+◌, ◌++◌, ◌-◌, ◌<◌, ◌≤◌, Bool, true, false, cond, ◌⊎◌, inl, inr, List, [], ◌∷◌, map, reverse, length, Option, Some, None, refl, sym, ap, subst, ◌∙◌, arith, flat_map}
-use Rattle.std.specs.Prelude.{◌||◌, ◌&&◌, ◌^◌, not, is_none, nat_eq, nat_le, nat_lt}
-use Rattle.std.specs.List.{AllByRecursion, list_any, list_all, range_with_len}
-use Rattle.std.specs.Cmp.Lexicographic.{bytes_decides}
+use Rattle.std.proofs.Common.{◌≡◌, ℕ, ◌++◌, ◌-◌, ◌<◌, ◌≤◌, Bool, true, false, cond, inl, inr, List, [], ◌∷◌, map, reverse, length, Option, Some, None, refl, sym, ap, subst, ◌∙◌, arith}
+use Rattle.std.specs.Prelude.{◌||◌, ◌&&◌, not, is_none, nat_eq, nat_le, nat_lt}
+use Rattle.std.specs.List.{list_any, list_all, range_with_len}
 use mathlib.Core.List.{reverse-cons}
-use Rattle.std.proofs.lemmas.Bool.{false≢true, both_ways, not-true, not-false, and_parts, or_parts, leb-true, ltb-true, ltb-false, eqb-true, eq-eqb, ne_eqb}
+use Rattle.std.proofs.lemmas.Bool.{false≢true, not-true, not-false, and_parts, or_parts, leb-true, ltb-true, ltb-false, eqb-true, eq-eqb, ne_eqb}
 use Rattle.lrs_measure.specs.Lists.{each_two, is_from_to, is_nothing}
-use Rattle.lrs_measure.specs.Texts.{Name, same_name}
+use Rattle.lrs_measure.specs.Texts.{same_name}
 use Rattle.lrs_element.specs.declared.link.Link.{Link}
 use Rattle.lrs_element.specs.declared.link.Piece.{Piece}
 use Rattle.lrs_element.specs.declared.link.Ground.{Ground}
@@ -14,7 +13,7 @@ use Rattle.lrs_element.specs.declared.marks.Mark.{Mark}
 use Rattle.lrs_element.specs.Limits.{longest_link, longest_route, most_marks, most_pieces}
 use Rattle.lrs_element.specs.Course.{expand, millimetres, course_of, piece_count, is_too_long}
 use Rattle.lrs_element.specs.Marks.{bad_mark, first_bad_mark}
-use Rattle.lrs_element.proofs.LineLemmas.{Follow, KeepRules, KeepRules-from_none, rises_next}
+use Rattle.lrs_element.proofs.LineLemmas.{Follow, KeepRules-from_none, rises_next}
 use Rattle.lrs_position.specs.Routes.{is_route_course}
 use Rattle.lrs_events.specs.declared.class.Asset.{Asset}
 use Rattle.lrs_events.specs.declared.part.Part.{Part}
@@ -56,7 +55,7 @@ pub entered_back : (a : Asset) (ps : List Part) → list_any (λ p. nat_eq p.ass
 entered_back a [] h k = absurd (false≢true h)
 entered_back a (p ∷ ps) h k =
     elim (nat_eq p.asset a.number) as (λ b. (b || list_any (λ p. nat_eq p.asset a.number) ps) ≡ true → ((not b || nat_eq p.edit a.entry) && list_all (λ p. not (nat_eq p.asset a.number) || nat_eq p.edit a.entry) ps) ≡ true
-      → cond b p.edit (edit_entering ps a.number) ≡ a.entry) [
+    → cond b p.edit (edit_entering ps a.number) ≡ a.entry) [
       | true ↦ λ _ all. eqb-true p.edit a.entry (and_parts (nat_eq p.edit a.entry) _ all).0
       | false ↦ λ some all. entered_back a ps some all
     ] h k

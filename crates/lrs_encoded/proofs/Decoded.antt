@@ -1,9 +1,8 @@
 -- What was decoded stands in its row: each row is the row of what it says.
-use Rattle.std.proofs.Common.{◌≡◌, ℕ, ℤ, pos, negsuc, Bool, true, false, cond, inl, inr, List, [], ◌∷◌, map, Option, Some, None, refl, sym, ap, subst, ◌∙◌}
+use Rattle.std.proofs.Common.{◌≡◌, ℕ, ◌<◌, ℤ, pos, negsuc, Bool, true, false, cond, inl, inr, List, [], ◌∷◌, map, Option, Some, None, refl, sym, ap, subst, ◌∙◌}
 use Rattle.std.specs.Prelude.{◌&&◌, ◌^◌, nat_eq, nat_lt, IsTrue}
-use Rattle.std.proofs.lemmas.Bool.{eqb-true}
+use Rattle.std.proofs.lemmas.Bool.{and_parts, eqb-true, ltb-true}
 use Rattle.std.specs.Str.{is_utf8}
-use Rattle.lrs_measure.specs.Texts.{Name}
 use Rattle.lrs_element.specs.declared.link.Link.{Link}
 use Rattle.lrs_element.specs.declared.link.Piece.{Piece}
 use Rattle.lrs_element.specs.declared.marks.Mark.{Mark}
@@ -133,8 +132,14 @@ edit_said s = edit_row s.n s.said
 abbrev pub origin_said : Origin → OriginRow
 origin_said o = record { asset = pos o.asset; edit = pos o.edit }
 
-pub piece_back : (r : PieceRow) (s : OfRoute (Numbered Piece)) → piece_of r ≡ Some s → piece_said s ≡ r
-piece_back r s h =
+-- a row that says a piece is the row of it; the piece has a millimetre, and its route is named
+pub record SaysPiece (r : PieceRow) (s : OfRoute (Numbered Piece)) : Type 0 where
+  pub row_is : piece_said s ≡ r
+  pub filled : s.said.said.from < s.said.said.to
+  pub named : is_route_name s.route ≡ true
+
+pub says_piece : (r : PieceRow) (s : OfRoute (Numbered Piece)) → piece_of r ≡ Some s → SaysPiece r s
+says_piece r s h =
     let number = bind_some (whole r.n) _ s h in
     let link = bind_some (short r.link) _ s number.2 in
     let a = bind_some (short r.a) _ s link.2 in
@@ -147,8 +152,13 @@ piece_back r s h =
     let from : r.a ≡ pos s.said.said.from = below_is (2 ^ 32) r.a a.0 a.1 ∙ ap (λ (s : OfRoute (Numbered Piece)). pos s.said.said.from) made.1 in
     let to : r.b ≡ pos s.said.said.to = below_is (2 ^ 32) r.b b.0 b.1 ∙ ap (λ (s : OfRoute (Numbered Piece)). pos s.said.said.to) made.1 in
     let d : r.dir ≡ pos (direction_number s.said.said.forward) =
-        few_is is_forward_numbered direction_number direction_is r.dir forward.0 forward.1 ∙ ap (λ (s : OfRoute (Numbered Piece)). pos (direction_number s.said.said.forward)) made.1 in
-    sym (λ i. record { route = on i; n = n i; link = l i; a = from i; b = to i; dir = d i })
+    few_is is_forward_numbered direction_number direction_is r.dir forward.0 forward.1 ∙ ap (λ (s : OfRoute (Numbered Piece)). pos (direction_number s.said.said.forward)) made.1 in
+    let test = and_parts (is_route_name r.route) (nat_lt a.0 b.0) made.0 in
+    record {
+      row_is = sym (λ i. record { route = on i; n = n i; link = l i; a = from i; b = to i; dir = d i });
+      filled = subst (λ (s : OfRoute (Numbered Piece)). s.said.said.from < s.said.said.to) made.1 (ltb-true a.0 b.0 test.1);
+      named = subst (λ (s : OfRoute (Numbered Piece)). is_route_name s.route ≡ true) made.1 test.0;
+    }
 
 pub mark_back : (r : MarkRow) (s : OfRoute (Numbered Mark)) → mark_of r ≡ Some s → mark_said s ≡ r
 mark_back r s h =

@@ -1,7 +1,7 @@
 -- What is said in any order is what is said in order, and what is said route by route.
-use Rattle.std.proofs.Common.{◌≡◌, ℕ, ◌+◌, Bool, true, false, cond, ◌⊎◌, inl, inr, List, [], ◌∷◌, ◌++◌, map, filter, Option, Some, None, refl, sym, ap, subst, ◌∙◌, IsPermutation, flat_map}
+use Rattle.std.proofs.Common.{◌≡◌, ℕ, ◌+◌, Bool, true, false, cond, inl, inr, List, [], ◌∷◌, ◌++◌, map, filter, Option, Some, refl, sym, ap, subst, ◌∙◌, IsPermutation, flat_map}
 use Rattle.std.specs.Prelude.{nat_eq}
-use Rattle.std.specs.List.{AllByRecursion, list_all}
+use Rattle.std.specs.List.{list_all}
 use Rattle.std.specs.Ordering.{is_lt}
 use Rattle.std.specs.Cmp.{tied_itself}
 use Rattle.std.specs.Cmp.Lexicographic.{bytes_decides, nat_list_cmp_total}
@@ -10,9 +10,8 @@ use Rattle.std.proofs.lemmas.List.Sorted.{IsPermutation-refl, IsPermutation-sym,
 use Rattle.lrs_measure.specs.Lists.{each_two}
 use Rattle.lrs_measure.specs.Ordered.{insert_by}
 use Rattle.lrs_measure.specs.Texts.{Name, name_cmp, name_before, same_name}
-use Rattle.lrs_machine.proofs.Members.{In, In-map, all_at}
+use Rattle.lrs_machine.proofs.Members.{In, all_at}
 use Rattle.lrs_store.specs.Decoding.{only_if, each_of, each_sorted, sorted, OfRoute, said_of, Numbered, number_before, counted}
-use Rattle.lrs_store.specs.Decoding as option
 use Rattle.lrs_store.specs.Encoding.{numbered}
 use Rattle.lrs_encoded.proofs.Decoded.{some_is, bind_some, only_some, rows_back}
 
@@ -23,7 +22,7 @@ module _ {X : Type 0} (before : X → X → Bool) where
   IsPermutation-insert_by x [] = IsPermutation-refl (x ∷ [])
   IsPermutation-insert_by x (y ∷ ys) =
       let later : IsPermutation (x ∷ y ∷ ys) (y ∷ insert_by before x ys) =
-        IsPermutation-trans _ _ _ (IsPermutation-sym _ _ (IsPermutation-middle (y ∷ []) x ys)) (IsPermutation-cons y _ _ (IsPermutation-insert_by x ys)) in
+      IsPermutation-trans _ _ _ (IsPermutation-sym _ _ (IsPermutation-middle (y ∷ []) x ys)) (IsPermutation-cons y _ _ (IsPermutation-insert_by x ys)) in
       elim (before x y) as (λ b. IsPermutation (x ∷ y ∷ ys) (cond b (x ∷ y ∷ ys) (y ∷ insert_by before x ys))) [
         | true ↦ IsPermutation-refl (x ∷ y ∷ ys)
         | false ↦ later
@@ -144,11 +143,11 @@ module _ {X Row : Type 0} (row : Name → X → Row) where
   present r said (n ∷ names) order m = by m (present r said names (and_parts _ _ order).1)
     where
       by : In r.route (n ∷ names) → (In r.route names → IsPermutation (flat_map (rows_of (r ∷ said)) names) (row_said r ∷ flat_map (rows_of said) names))
-        → IsPermutation (flat_map (rows_of (r ∷ said)) (n ∷ names)) (row_said r ∷ flat_map (rows_of said) (n ∷ names))
+          → IsPermutation (flat_map (rows_of (r ∷ said)) (n ∷ names)) (row_said r ∷ flat_map (rows_of said) (n ∷ names))
       by (inl e) later =
           let none = absent r said names (λ m k same. differs_before n m (all_at (name_before n) m names (and_parts (list_all (name_before n) names) _ order).0 k) (sym e ∙ same)) in
           let same : flat_map (rows_of (r ∷ said)) (n ∷ names) ≡ row_said r ∷ flat_map (rows_of said) (n ∷ names) =
-            ap (λ xs. xs ++ flat_map (rows_of (r ∷ said)) names) (one_more r said n e) ∙ ap (λ ys. row_said r ∷ (rows_of said n ++ ys)) none in
+          ap (λ xs. xs ++ flat_map (rows_of (r ∷ said)) names) (one_more r said n e) ∙ ap (λ ys. row_said r ∷ (rows_of said n ++ ys)) none in
           subst (λ xs. IsPermutation xs (row_said r ∷ flat_map (rows_of said) (n ∷ names))) (sym same) (IsPermutation-refl _)
       by (inr k) later =
           let other : r.route ≡ n → ⊥ = λ e. differs_before n r.route (all_at (name_before n) r.route names (and_parts (list_all (name_before n) names) _ order).0 k) (sym e) in

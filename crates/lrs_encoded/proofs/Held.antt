@@ -1,44 +1,39 @@
 -- A store of version 2 has the rows that the image it holds is written as.
-use Rattle.std.proofs.Common.{◌≡◌, ℕ, ◌<◌, Bool, true, false, cond, inl, inr, List, [], ◌∷◌, map, length, pos, Option, Some, None, Ok, Err, refl, sym, ap, subst, ◌∙◌, IsPermutation, flat_map}
-use Rattle.std.specs.Prelude.{◌&&◌, nat_eq, nat_lt, Result, IsTrue}
+use Rattle.std.proofs.Common.{◌≡◌, ◌<◌, Bool, true, false, cond, inl, inr, List, [], ◌∷◌, map, length, pos, Option, Some, None, Ok, Err, refl, sym, ap, subst, ◌∙◌, IsPermutation, flat_map}
+use Rattle.std.specs.Prelude.{◌&&◌, nat_eq, Result}
 use Rattle.std.specs.List.{AllByRecursion, list_all, list_any}
-use Rattle.std.proofs.lemmas.Bool.{and_parts, eqb-true, ltb-true}
+use Rattle.std.proofs.lemmas.Bool.{and_parts, eqb-true}
 use Rattle.std.proofs.lemmas.List.Sorted.{IsPermutation-refl}
 use Rattle.std.specs.Cmp.Lexicographic.{bytes_decides}
 use Rattle.lrs_measure.specs.Lists.{each_two}
 use Rattle.lrs_measure.specs.Ordered.{insert_by}
 use Rattle.lrs_measure.specs.Texts.{Name, same_name, name_before}
 use Rattle.lrs_element.specs.declared.link.Piece.{Piece}
-use Rattle.lrs_element.specs.declared.link.Ground.{Ground}
 use Rattle.lrs_element.specs.declared.marks.Mark.{Mark}
-use Rattle.lrs_element.specs.Course.{course_of, piece_count, IsFewest}
+use Rattle.lrs_element.specs.Course.{course_of, piece_count}
 use Rattle.lrs_position.specs.declared.route.Referent.{Referent}
 use Rattle.lrs_position.specs.declared.route.Route.{Route}
-use Rattle.lrs_position.specs.Names.{is_route_name}
 use Rattle.lrs_position.specs.Routes.{is_route}
 use Rattle.lrs_events.specs.declared.class.Asset.{Asset}
-use Rattle.lrs_events.specs.declared.part.Part.{Part}
 use Rattle.lrs_events.specs.declared.span.Span.{Span}
 use Rattle.lrs_events.specs.Parts.{part_before}
 use Rattle.lrs_events.specs.Spans.{span_before}
 use Rattle.lrs_machine.specs.declared.image.RouteEntry.{RouteEntry}
-use Rattle.lrs_machine.specs.declared.image.Edit.{Edit}
 use Rattle.lrs_machine.specs.declared.image.Image.{Image}
 use Rattle.lrs_machine.specs.declared.table.Table.{Table}
 use Rattle.lrs_machine.specs.declared.table.Table.TheVariants as table
 use Rattle.lrs_machine.specs.Sound.{RouteCourse, link_before, are_links, class_before, are_classes, asset_before, are_assets, course_before, is_course, are_courses, are_all_marks, are_all_referents, are_spans, are_entered, gone_before, are_gone, are_edits, are_origins}
 use Rattle.lrs_machine.proofs.Members.{In, In-map, map_found, any_found, all_at}
 use Rattle.lrs_machine.proofs.Pairs.{each_two-map}
-use Rattle.lrs_store.specs.Tables.{Tables, PieceRow, OriginRow, AreSame}
-use Rattle.lrs_store.specs.Decoding.{only_if, if_true, whole, short, each_of, each_sorted, sorted, OfRoute, said_of, Numbered, number_before, counted, is_forward_numbered, link_of, class_of, asset_of, piece_of, mark_of, referent_of, span_of, part_of, gone_of, edit_of, Origin, origin_of}
-use Rattle.lrs_store.specs.Decoding as option
+use Rattle.lrs_store.specs.Tables.{Tables, PieceRow, OriginRow}
+use Rattle.lrs_store.specs.Decoding.{each_of, each_sorted, sorted, OfRoute, said_of, Numbered, number_before, counted, link_of, class_of, asset_of, piece_of, mark_of, referent_of, span_of, part_of, gone_of, edit_of, Origin, origin_of}
 use Rattle.lrs_store.specs.Content.{read, with_name, routes_named, course_in_fewest, course_of_route, courses_of, each_of_known, Measured, is_one_of, measured_with, measured_of, referent_before, route_with, routes_of, entry_with, entries_of, edits_of, marks_of, referents_of, spans_of, with_entry, inventory_of, version_of, origin_before, are_origins_of, has_origins, has_no_rows, image_of, content_of}
 use Rattle.lrs_store.specs.Content as content
 use Rattle.lrs_store.specs.Encoding.{link_row, class_row, asset_row, piece_row, mark_row, ref_row, span_row, entered_row, gone_row, edit_row, numbered, ArePiecesOf}
-use Rattle.lrs_store.specs.Encoded.{encoded, ArePiecesOfAll, Encodes}
+use Rattle.lrs_store.specs.Encoded.{Encodes}
 use Rattle.lrs_store.specs.Laws.{origin_row}
 use Rattle.lrs_encoded.specs.Laws.{ContentIsEncoded}
-use Rattle.lrs_encoded.proofs.Decoded.{some_is, bind_some, only_some, true_some, link_back, class_back, asset_back, piece_said, piece_back, mark_said, mark_back, referent_said, referent_back, span_said, span_back, part_back, gone_back, edit_said, edit_back, origin_said, origin_back, each_map, map_id, map-map, rows_back, each_member}
+use Rattle.lrs_encoded.proofs.Decoded.{some_is, bind_some, only_some, true_some, link_back, class_back, asset_back, piece_said, says_piece, mark_said, mark_back, referent_said, referent_back, span_said, span_back, part_back, gone_back, edit_said, edit_back, origin_said, origin_back, each_map, map_id, map-map, rows_back, each_member}
 use Rattle.lrs_encoded.proofs.Grouped.{In-sorted, sorted_back, table_back, counted_member, numbered_back, rows_of_routes, said_member}
 
 -- ---- what was read of each table
@@ -177,22 +172,10 @@ has_pieces said n c h =
     let pieces = bind_some (counted 0 (sorted number_before (said_of n said))) _ c h in
     let course = bind_some (course_in_fewest pieces.0) _ c pieces.2 in
     let made : record { route = n; entries = course.0 } ≡ c = some_is _ c course.2 in
-    let test = only_some (nat_eq (length pieces.0) (piece_count (course_of pieces.0))) (course_of pieces.0) course.0 course.1 in
-    (
+    let test = only_some (nat_eq (length pieces.0) (piece_count (course_of pieces.0))) (course_of pieces.0) course.0 course.1 in (
       ap (λ (c : RouteCourse). c.route) made,
       subst (HasPieces said) made (record { pieces = pieces.0; counts = pieces.1; course_is = test.1; few = eqb-true _ _ test.0 }),
     )
-
--- a piece that was read has a millimetre
-filled : (r : PieceRow) (s : OfRoute (Numbered Piece)) → piece_of r ≡ Some s → s.said.said.from < s.said.said.to
-filled r s h =
-    let number = bind_some (whole r.n) _ s h in
-    let link = bind_some (short r.link) _ s number.2 in
-    let a = bind_some (short r.a) _ s link.2 in
-    let b = bind_some (short r.b) _ s a.2 in
-    let forward = bind_some (option.◌>>=◌ (whole r.dir) is_forward_numbered) _ s b.2 in
-    let made = only_some (is_route_name r.route && nat_lt a.0 b.0) _ s forward.2 in
-    subst (λ (s : OfRoute (Numbered Piece)). s.said.said.from < s.said.said.to) made.1 (ltb-true a.0 b.0 (and_parts (is_route_name r.route) (nat_lt a.0 b.0) made.0).1)
 
 all_by : {X : Type 0} (P : X → Type 0) (xs : List X) → ((x : X) → In x xs → P x) → AllByRecursion P xs
 all_by P [] h = tt
@@ -204,7 +187,7 @@ all_filled rows said n pieces h counts = all_by (λ p. p.from < p.to) pieces (λ
     let s = counted_member 0 (sorted number_before (said_of n said)) pieces p counts m in
     let r = said_member n said s.0 (In-sorted number_before s.0 (said_of n said) s.1) in
     let row = each_member piece_of rows said r.0 h r.1 in
-    subst (λ (p : Piece). p.from < p.to) (ap (λ (s : Numbered Piece). s.said) r.2 ∙ s.2) (filled row.0 r.0 row.2))
+    subst (λ (p : Piece). p.from < p.to) (ap (λ (s : Numbered Piece). s.said) r.2 ∙ s.2) (says_piece row.0 r.0 row.2).filled)
 
 -- what was counted, or nothing
 abbrev or_nothing : {X : Type 0} → Option (List X) → List X
@@ -327,7 +310,7 @@ module _ (t : Tables) (i : Image) (r : IsRead t i) where
       let from = comes_from e m in
       let here : RouteEntry = entry_with span_read.0 from.route in
       let same_course : from.course ≡ record { route = from.route.name; entries = from.route.course } =
-        sym (λ i. record { route = (from.made.name ∙ ap (λ (c : RouteCourse). c.route) from.has_marks.course) i; entries = (from.made.course ∙ ap (λ (c : RouteCourse). c.entries) from.has_marks.course) i }) in
+      sym (λ i. record { route = (from.made.name ∙ ap (λ (c : RouteCourse). c.route) from.has_marks.course) i; entries = (from.made.course ∙ ap (λ (c : RouteCourse). c.entries) from.has_marks.course) i }) in
       let name : from.route.name ≡ from.measured.course.route = from.made.name in
       let to_course : from.course.route ≡ from.route.name = ap (λ (c : RouteCourse). c.route) same_course in
       subst HasOwn (sym from.entry) (record {
@@ -351,7 +334,7 @@ module _ (t : Tables) (i : Image) (r : IsRead t i) where
   pieces_back : IsPermutation (flat_map (λ e. numbered (piece_row e.route.name) 0 (pieces e.route.name)) i.routes) t.piece
   pieces_back =
       rows_of_routes (λ n (s : Numbered Piece). piece_row n s.n s.said) name_of (λ e. numbered (piece_row e.route.name) 0 (pieces e.route.name)) piece_read.0 t.piece i.routes
-      (rows_back piece_of piece_said piece_back t.piece piece_read.0 piece_read.1)
+      (rows_back piece_of piece_said (λ r s h. (says_piece r s h).row_is) t.piece piece_read.0 piece_read.1)
       in_order
       (λ s m. subst (In s.route) (sym (to_courses ∙ course_names)) (In-routes_named s piece_read.0 m))
       (λ e m.

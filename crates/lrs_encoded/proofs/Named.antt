@@ -1,12 +1,11 @@
 -- Each text of an image that a store holds is of its kind.
-use Rattle.std.proofs.Common.{◌≡◌, ℕ, ◌+◌, Bool, true, false, cond, inl, inr, List, [], ◌∷◌, map, Option, Some, None, Ok, Err, refl, sym, ap, subst, ◌∙◌}
-use Rattle.std.specs.Prelude.{◌&&◌, nat_eq, nat_lt, Result}
+use Rattle.std.proofs.Common.{◌≡◌, ℕ, Bool, true, false, cond, inl, inr, List, [], ◌∷◌, Option, Some, Ok, Err, refl, sym, subst, ◌∙◌}
+use Rattle.std.specs.Prelude.{◌&&◌, Result}
 use Rattle.std.specs.List.{list_all, list_any}
 use Rattle.std.specs.Str.{is_utf8}
 use Rattle.std.proofs.lemmas.Bool.{and_parts}
 use Rattle.lrs_measure.specs.Ordered.{insert_by}
 use Rattle.lrs_measure.specs.Texts.{Name, same_name, name_before}
-use Rattle.lrs_element.specs.declared.link.Piece.{Piece}
 use Rattle.lrs_position.specs.declared.route.Referent.{Referent}
 use Rattle.lrs_position.specs.Names.{is_route_name, is_referent_name}
 use Rattle.lrs_events.specs.declared.class.Class.{Class}
@@ -21,15 +20,15 @@ use Rattle.lrs_machine.specs.Image.{nothing}
 use Rattle.lrs_machine.specs.Keys.{is_key}
 use Rattle.lrs_machine.specs.Sound.{asset_before, class_before, are_origins}
 use Rattle.lrs_machine.proofs.Members.{In, In-map, map_found, all_of}
-use Rattle.lrs_store.specs.Tables.{Tables, ClassRow, AssetRow, PieceRow, RefRow, EditRow}
+use Rattle.lrs_store.specs.Tables.{Tables, ClassRow, AssetRow, RefRow, EditRow}
 use Rattle.lrs_store.specs.Decoding.{only_if, whole, short, each_of, each_sorted, sorted, OfRoute, said_of, Numbered, number_before, counted, kind_numbered, is_forward_numbered, class_of, asset_of, piece_of, referent_of, edit_of, origin_of}
 use Rattle.lrs_store.specs.Decoding as option
 use Rattle.lrs_store.specs.Content.{read, with_name, routes_named, referent_before, with_entry, inventory_of, version_of, origin_before, has_origins, has_no_rows, image_of, content_of}
 use Rattle.lrs_store.specs.Content as content
 use Rattle.lrs_encoded.specs.Laws.{HasTexts, ContentHasTexts}
-use Rattle.lrs_encoded.proofs.Decoded.{some_is, bind_some, only_some, each_member}
+use Rattle.lrs_encoded.proofs.Decoded.{some_is, bind_some, only_some, says_piece, each_member}
 use Rattle.lrs_encoded.proofs.Grouped.{In-insert, In-sorted, counted_member, said_member}
-use Rattle.lrs_encoded.proofs.Held.{was_read, IsRead, is_read, ok_is, AreKnown, are_known, piece_read, ref_read, is_measured, has_own, to_courses, course_names, name_of}
+use Rattle.lrs_encoded.proofs.Held.{was_read, IsRead, is_read, ok_is, are_known, piece_read, ref_read, is_measured, has_own, to_courses, course_names, name_of}
 
 -- ---- what a row needs to say something
 
@@ -45,16 +44,6 @@ value_known r a h =
     let lateral = bind_some (short r.lateral) _ a number.2 in
     let made = only_some (is_class_name r.class && is_value r.value) _ a lateral.2 in
     subst (λ (a : Asset). is_value a.value ≡ true) made.1 (and_parts (is_class_name r.class) (is_value r.value) made.0).1
-
-route_named : (r : PieceRow) (s : OfRoute (Numbered Piece)) → piece_of r ≡ Some s → is_route_name s.route ≡ true
-route_named r s h =
-    let number = bind_some (whole r.n) _ s h in
-    let link = bind_some (short r.link) _ s number.2 in
-    let a = bind_some (short r.a) _ s link.2 in
-    let b = bind_some (short r.b) _ s a.2 in
-    let forward = bind_some (option.◌>>=◌ (whole r.dir) is_forward_numbered) _ s b.2 in
-    let made = only_some (is_route_name r.route && nat_lt a.0 b.0) _ s forward.2 in
-    subst (λ (s : OfRoute (Numbered Piece)). is_route_name s.route ≡ true) made.1 (and_parts (is_route_name r.route) (nat_lt a.0 b.0) made.0).0
 
 referent_named : (r : RefRow) (s : OfRoute Referent) → referent_of r ≡ Some s → is_referent_name s.said.name ≡ true
 referent_named r s h =
@@ -105,7 +94,7 @@ module _ (t : Tables) (i : Image) (r : IsRead t i) where
   route_of e m =
       let s = named_member e.route.name (piece_read t i r).0 (subst (In e.route.name) (to_courses t i r ∙ course_names t i r) (In-map name_of e i.routes m)) in
       let row = each_member piece_of t.piece (piece_read t i r).0 s.0 (piece_read t i r).1 s.1 in
-      subst (λ n. is_route_name n ≡ true) s.2 (route_named row.0 s.0 row.2)
+      subst (λ n. is_route_name n ≡ true) s.2 (says_piece row.0 s.0 row.2).named
 
   referents_of_entry : (e : RouteEntry) → In e i.routes → (x : Referent) → In x e.route.refs → is_referent_name x.name ≡ true
   referents_of_entry e m x k =

@@ -1,6 +1,6 @@
 -- A store with the rows that a sound image is written as holds this image.
-use Rattle.std.proofs.Common.{◌≡◌, ℕ, ◌+◌, ◌<◌, ◌≤◌, Bool, true, false, cond, inl, inr, List, [], ◌∷◌, map, length, pos, Option, Some, None, Ok, Err, refl, sym, ap, subst, ◌∙◌, arith, flat_map}
-use Rattle.std.specs.Prelude.{◌||◌, ◌&&◌, ◌^◌, not, nat_eq, nat_le, nat_lt, Result, IsTrue}
+use Rattle.std.proofs.Common.{◌≡◌, ℕ, ◌<◌, ◌≤◌, Bool, true, false, cond, inl, inr, List, [], ◌∷◌, map, length, pos, Option, Some, Ok, Err, refl, sym, ap, subst, ◌∙◌, arith, flat_map}
+use Rattle.std.specs.Prelude.{◌&&◌, not, nat_eq, nat_le, nat_lt, Result}
 use Rattle.std.specs.List.{AllByRecursion, list_all, list_any}
 use Rattle.std.specs.Str.{is_utf8}
 use Rattle.std.specs.Cmp.Lexicographic.{bytes_decides}
@@ -8,7 +8,6 @@ use Rattle.std.proofs.lemmas.Bool.{and_parts, and_from, leb-true, ltb-true, eqb-
 use Rattle.lrs_measure.specs.Lists.{each_two, is_nothing}
 use Rattle.lrs_measure.specs.Texts.{Name, same_name, name_before}
 use Rattle.lrs_element.specs.declared.link.Piece.{Piece}
-use Rattle.lrs_element.specs.declared.link.Ground.{Ground}
 use Rattle.lrs_element.specs.declared.marks.Mark.{Mark}
 use Rattle.lrs_element.specs.Course.{course_of, piece_count, meets}
 use Rattle.lrs_position.specs.declared.route.Referent.{Referent}
@@ -17,7 +16,6 @@ use Rattle.lrs_position.specs.Names.{is_route_name, is_referent_name}
 use Rattle.lrs_position.specs.Routes.{is_route, is_route_course, have_marks, are_referents}
 use Rattle.lrs_events.specs.declared.class.Class.{Class}
 use Rattle.lrs_events.specs.declared.class.Asset.{Asset}
-use Rattle.lrs_events.specs.declared.part.Part.{Part}
 use Rattle.lrs_events.specs.declared.part.Gone.{Gone}
 use Rattle.lrs_events.specs.declared.span.Span.{Span}
 use Rattle.lrs_events.specs.Names.{is_class_name, is_value}
@@ -46,7 +44,7 @@ use Rattle.lrs_store.proofs.BroughtUp.{brought_up_holds_the_same}
 use Rattle.lrs_store.proofs.Entries.{assets-same, spans-same, entered-same, gone-same}
 use Rattle.lrs_encoded.specs.Laws.{HasTexts, EncodedHolds}
 use Rattle.lrs_encoded.proofs.Decoded.{map_id, map-map}
-use Rattle.lrs_encoded.proofs.Written.{bind_is, only_is, true_is, told, link_there, class_there, asset_there, piece_told, piece_there, mark_told, mark_there, referent_there, span_there, PartFits, part_there, gone_there, edit_told, edit_there}
+use Rattle.lrs_encoded.proofs.Written.{bind_is, only_is, true_is, told, link_there, class_there, asset_there, piece_told, piece_there, mark_told, mark_there, referent_there, span_there, part_there, gone_there, edit_told, edit_there}
 use Rattle.lrs_encoded.proofs.Told.{each_there, each_numbered, each_flat, sorted-same, under, numbers_counted, numbered-told, all_told, said_back, told_known, names_told}
 use Rattle.lrs_encoded.proofs.Bounded.{link_bounds, class_found, class_of-entered, entered_back, piece_bounds, CourseFits, course_fits, some_pieces, MarksFit, marks_fit, asset_bounds, asset_class, few_edits, part_fits}
 
@@ -182,7 +180,7 @@ module _ (pieces : Name → List Piece) (i : Image) (texts : HasTexts i) (is_sou
   edits_there =
       let few = few_edits i t in
       let each = each_numbered edit_of edit_row edit_told 1 i.edits (λ n e l m.
-        edit_there n e (omega (arith, l, few)) (all_at (λ (e : Edit). is_key e.key) e i.edits texts.keys m) (all_at (λ (e : Edit). is_utf8 e.line) e i.edits texts.lines m)) in
+      edit_there n e (omega (arith, l, few)) (all_at (λ (e : Edit). is_key e.key) e i.edits texts.keys m) (all_at (λ (e : Edit). is_utf8 e.line) e i.edits texts.lines m)) in
       bind_is (each_sorted number_before edit_of (numbered edit_row 1 i.edits)) _ (sorted number_before (numbered under 1 i.edits)) _
       (bind_is (each_of edit_of (numbered edit_row 1 i.edits)) _ (numbered under 1 i.edits) _ each refl)
       (numbers_counted 1 i.edits)
@@ -355,7 +353,7 @@ module _ (pieces : Name → List Piece) (i : Image) (texts : HasTexts i) (is_sou
       let number = eqb-true a.0.number s.asset same.0 in
       let least = (asset_bounds i t a.0 a.1).0 in
       let class : class_of_asset bare s.asset ≡ Some s.class =
-        class_of-entered [] i.assets s.asset ∙ ap (class_of_asset i.assets) (sym number) ∙ class_found a.0 i.assets t.asset_order a.1 ∙ ap Some ((bytes_decides a.0.class s.class).0 same.1) in
+      class_of-entered [] i.assets s.asset ∙ ap (class_of_asset i.assets) (sym number) ∙ class_found a.0 i.assets t.asset_order a.1 ∙ ap Some ((bytes_decides a.0.class s.class).0 same.1) in
       span_there bare e.route.name s (omega (arith, number, least)) class filled (omega (arith, within, short))
 
   abbrev is_a_route : Name → Bool

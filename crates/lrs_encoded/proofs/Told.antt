@@ -1,6 +1,6 @@
 -- What rows say that were made list by list and route by route.
-use Rattle.std.proofs.Common.{◌≡◌, ℕ, ◌+◌, ◌<◌, ◌≤◌, Bool, true, false, cond, ◌⊎◌, inl, inr, List, [], ◌∷◌, ◌++◌, map, filter, length, Option, Some, None, refl, sym, ap, ap₂, subst, ◌∙◌, flat_map, arith}
-use Rattle.std.specs.Prelude.{nat_eq, nat_lt, ◌||◌, ◌&&◌}
+use Rattle.std.proofs.Common.{◌≡◌, ℕ, ◌+◌, ◌<◌, Bool, true, false, cond, inl, inr, List, [], ◌∷◌, ◌++◌, map, filter, length, Option, Some, refl, sym, ap, ap₂, ◌∙◌, flat_map, arith}
+use Rattle.std.specs.Prelude.{nat_eq, ◌||◌}
 use Rattle.std.specs.List.{list_all, list_any}
 use Rattle.std.proofs.lemmas.Bool.{true≢false, and_parts, and_from, eq-eqb, lt-ltb, false_from_ne_true}
 use Rattle.std.proofs.lemmas.List.{map-append, append-nil}
@@ -10,8 +10,7 @@ use Rattle.lrs_measure.specs.Lists.{each_two, is_nothing}
 use Rattle.lrs_measure.specs.Ordered.{insert_by}
 use Rattle.lrs_measure.specs.Texts.{Name, name_before, same_name}
 use Rattle.lrs_machine.proofs.Members.{In, In-map, all_at, all_of, any_found, flat_map_found, map_found}
-use Rattle.lrs_store.specs.Decoding.{only_if, each_of, each_sorted, sorted, OfRoute, said_of, Numbered, number_before, counted}
-use Rattle.lrs_store.specs.Decoding as option
+use Rattle.lrs_store.specs.Decoding.{only_if, each_of, sorted, OfRoute, said_of, Numbered, number_before, counted}
 use Rattle.lrs_store.specs.Content.{with_name, routes_named}
 use Rattle.lrs_store.specs.Encoding.{numbered}
 use Rattle.lrs_encoded.proofs.Decoded.{some_is, bind_some}
