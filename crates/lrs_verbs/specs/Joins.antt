@@ -6,7 +6,9 @@ use Rattle.lrs_element.specs.declared.marks.Mark.{Mark}
 use Rattle.lrs_element.specs.Course.{is_too_long}
 use Rattle.lrs_element.specs.Limits.{most_marks}
 use Rattle.lrs_element.specs.Marks.{joined_marks, is_out_of_range}
+use Rattle.lrs_events.specs.declared.span.Span.{Span}
 use Rattle.lrs_events.specs.Spans.{are_rows, span_before}
+use Rattle.lrs_canonical.specs.Order.{In}
 use Rattle.lrs_canonical.specs.Joins.{end_by, have_room, are_of_one_class, IsJoin}
 use Rattle.lrs_machine.specs.declared.answer.Cause.{Cause}
 use Rattle.lrs_machine.specs.declared.answer.Cause.TheVariants as cause
@@ -45,4 +47,5 @@ pub record GoesOn (a b : RouteEntry) (c : RouteChange) : Type 0 where
   pub refs_come : c.refs.come ≡ map (on_by (length a.route.course)) b.route.refs
   pub rows : are_rows (spans_after c a.spans) ≡ true
   pub spans_gone : each_two span_before c.spans_gone ≡ true
+  pub spans_were : (r : Span) → In r c.spans_gone → In r a.spans
   pub join : IsJoin (length a.route.course) a.spans b.spans (spans_after c a.spans)

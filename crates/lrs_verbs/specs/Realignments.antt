@@ -11,6 +11,7 @@ use Rattle.lrs_element.specs.Pieces.{IsFilled}
 use Rattle.lrs_position.specs.declared.route.Referent.{Referent}
 use Rattle.lrs_events.specs.declared.span.Span.{Span}
 use Rattle.lrs_events.specs.Spans.{are_rows, span_before, holds_by_spans}
+use Rattle.lrs_canonical.specs.Order.{In}
 use Rattle.lrs_canonical.specs.Removals.{is_within, IsThat}
 use Rattle.lrs_realign.specs.Realigning.{IsRealigned}
 use Rattle.lrs_machine.specs.declared.answer.Cause.{Cause}
@@ -82,6 +83,7 @@ pub record IsOnNewLine (edit : ℕ) (e : RouteEntry) (from to : ℕ) (line : New
   pub refs : h.change.refs ≡ referents_moved from to (length line.come) e.route.refs
   pub rows : are_rows (spans_after h.change e.spans) ≡ true
   pub spans_gone : each_two span_before h.change.spans_gone ≡ true
+  pub spans_were : (r : Span) → In r h.change.spans_gone → In r e.spans
   pub realigned : IsRealigned from to (length line.come) e.spans (spans_after h.change e.spans)
   pub left : List Span
   pub left_are : IsThat (λ class asset j s. is_within from to j) e.spans left

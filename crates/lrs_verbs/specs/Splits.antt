@@ -7,7 +7,9 @@ use Rattle.lrs_element.specs.declared.marks.Mark.{Mark}
 use Rattle.lrs_element.specs.Course.{is_too_long}
 use Rattle.lrs_element.specs.Marks.{marks_to, marks_from}
 use Rattle.lrs_position.specs.declared.route.Referent.{Referent}
+use Rattle.lrs_events.specs.declared.span.Span.{Span}
 use Rattle.lrs_events.specs.Spans.{are_rows, span_before}
+use Rattle.lrs_canonical.specs.Order.{In}
 use Rattle.lrs_canonical.specs.Cuts.{IsCut}
 use Rattle.lrs_machine.specs.declared.image.RouteEntry.{RouteEntry}
 use Rattle.lrs_keep.specs.Change.{spans_after}
@@ -33,6 +35,7 @@ pub record IsHalved (e : RouteEntry) (at : ℕ) (name : Name) (h : Halves) : Typ
   pub refs_come : h.front.refs.come ≡ []
   pub front_rows : are_rows (spans_after h.front e.spans) ≡ true
   pub spans_gone : each_two span_before h.front.spans_gone ≡ true
+  pub spans_were : (r : Span) → In r h.front.spans_gone → In r e.spans
   pub rear_name : h.rear.route.name ≡ name
   pub rear_course : h.rear.route.course ≡ drop at e.route.course
   pub rear_short : is_too_long (drop at e.route.course) ≡ false
