@@ -1,5 +1,5 @@
 -- A route's rows change in place, and nothing else of it.
-use Rattle.std.proofs.Common.{◌≡◌, true, List, filter, Option, Some, refl, sym, ap, subst, ◌∙◌}
+use Rattle.std.proofs.Common.{◌≡◌, true, List, filter, Option, Some, refl, sym, ap, ◌∙◌}
 use Rattle.std.specs.List.{flat_map}
 use Rattle.std.specs.List as list
 use Rattle.std.specs.Option.{option_map}
@@ -21,7 +21,7 @@ use Rattle.lrs_machine.specs.Image.{state_of, referents_on}
 use Rattle.lrs_machine.specs.Sound.{route_before}
 use Rattle.lrs_keep.specs.declared.change.RouteChange.{RouteChange}
 use Rattle.lrs_keep.specs.declared.change.Difference.{Difference}
-use Rattle.lrs_keep.specs.Change.{no_difference, is_named, without, entry_after, fits_after, routes_after, CanBecome, CanDiffer, are_rows_of}
+use Rattle.lrs_keep.specs.Change.{no_difference, is_named, without, entry_after, fits_after, routes_after, CanDiffer, are_rows_of}
 use Rattle.lrs_keep.proofs.Becoming.{has_become}
 use Rattle.lrs_routes.specs.Differences.{no_change}
 use Rattle.lrs_verbs.specs.Changes.{route_on}
