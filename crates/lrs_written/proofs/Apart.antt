@@ -1,10 +1,10 @@
 -- The routes that stay, apart from the one that changes and the one that comes.
-use Rattle.std.proofs.Common.{◌≡◌, ◌⊎◌, inl, inr, Bool, true, false, cond, not, List, [], ◌∷◌, ◌++◌, map, filter, flat_map, find, refl, sym, ap, subst, ◌∙◌, IsPermutation}
+use Rattle.std.proofs.Common.{◌≡◌, Bool, true, false, cond, not, List, [], ◌∷◌, ◌++◌, flat_map, find, refl, sym, ap, subst, ◌∙◌, IsPermutation}
 use Rattle.std.specs.Prelude.{Option, Some, None, ⊤}
 use Rattle.std.specs.List.{AllByRecursion, list_any, list_all}
 use Rattle.std.proofs.lemmas.Bool.{and_parts, both_ways}
-use Rattle.std.proofs.lemmas.List.Sorted.{IsPermutation-sym, IsPermutation-trans}
-use Rattle.sqlite_keyed.proofs.ListLemmas.{all_from_test, all_weaker, all-filter, IsPermutation-filter, IsPermutation-flat_map, IsPermutation-same}
+use Rattle.std.proofs.lemmas.List.Sorted.{IsPermutation-sym}
+use Rattle.sqlite_keyed.proofs.ListLemmas.{all_from_test, all_weaker, all-filter, IsPermutation-filter, IsPermutation-flat_map}
 use Rattle.lrs_measure.specs.Lists.{each_two}
 use Rattle.lrs_measure.specs.Ordered.{insert_by, insert_some}
 use Rattle.lrs_measure.specs.Texts.{Name, same_name}

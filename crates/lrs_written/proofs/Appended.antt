@@ -1,27 +1,23 @@
 -- What comes besides routes: a link, a class, an asset, rows of the ledgers, and the edit.
-use Rattle.std.proofs.Common.{◌≡◌, ℕ, ◌+◌, Bool, List, [], ◌∷◌, ◌++◌, map, length, refl, sym, ap, subst, ◌∙◌, arith, IsPermutation}
+use Rattle.std.proofs.Common.{◌+◌, Bool, List, [], ◌∷◌, ◌++◌, map, length, sym, subst, arith, IsPermutation}
 use Rattle.std.specs.Prelude.{Option, Some, None}
 use Rattle.std.proofs.lemmas.List.{map-append}
-use Rattle.std.proofs.lemmas.List.Sorted.{IsPermutation-refl, IsPermutation-sym, IsPermutation-map, IsPermutation-append_comm}
+use Rattle.std.proofs.lemmas.List.Sorted.{IsPermutation-sym, IsPermutation-map, IsPermutation-append_comm}
 use Rattle.lrs_measure.specs.Ordered.{insert_by, insert_some}
-use Rattle.lrs_measure.specs.Texts.{Name}
 use Rattle.lrs_element.specs.declared.link.Link.{Link}
-use Rattle.lrs_element.specs.declared.link.Piece.{Piece}
 use Rattle.lrs_events.specs.declared.class.Class.{Class}
 use Rattle.lrs_events.specs.declared.class.Asset.{Asset}
-use Rattle.lrs_events.specs.declared.part.Part.{Part}
-use Rattle.lrs_events.specs.declared.part.Gone.{Gone}
 use Rattle.lrs_lanes.proofs.Inserted.{IsPermutation-insert_by}
 use Rattle.lrs_machine.specs.declared.image.Edit.{Edit}
 use Rattle.lrs_machine.specs.declared.image.Image.{Image}
 use Rattle.lrs_machine.specs.Sound.{link_before, class_before, asset_before}
 use Rattle.lrs_keep.specs.declared.change.Difference.{Difference}
 use Rattle.lrs_keep.specs.Change as change
-use Rattle.lrs_store.specs.Tables.{Tables, AreSame}
+use Rattle.lrs_store.specs.Tables.{Tables}
 use Rattle.lrs_store.specs.Laws.{origin_row}
 use Rattle.lrs_store.specs.Encoding.{link_row, class_row, asset_row, entered_row, gone_row, edit_row, numbered}
 use Rattle.lrs_store.specs.Encoded.{encoded, Encodes}
-use Rattle.lrs_tables.specs.Changing.{with_link, with_class, with_asset, with_entered, with_gone, with_edit}
+use Rattle.lrs_tables.specs.Changing.{with_link, with_class, with_asset, with_edit}
 use Rattle.lrs_tables.specs.Writing.{with_some, with_named, with_ledgers}
 use Rattle.lrs_tables.specs.RowLaws.{same_refl}
 use Rattle.lrs_tables.proofs.Steady.{steady-with_link, steady-with_class, steady-with_asset, steady-with_ledgers, steady-with_edit}

@@ -1,27 +1,24 @@
 -- What a change makes of the rows of the route that stays, beside those of the others.
-use Rattle.std.proofs.Common.{◌≡◌, ℕ, ◌+◌, Bool, true, false, cond, not, List, [], ◌∷◌, ◌++◌, map, filter, flat_map, refl, sym, ap, ap₂, subst, ◌∙◌, IsPermutation}
-use Rattle.std.specs.Prelude.{Option, Some, None, unwrap_or}
-use Rattle.std.specs.List.{AllByRecursion, list_any}
+use Rattle.std.proofs.Common.{◌≡◌, ℕ, false, cond, List, ◌++◌, map, sym, ap, ap₂, subst, ◌∙◌, IsPermutation}
+use Rattle.std.specs.Prelude.{Option, unwrap_or}
 use Rattle.std.proofs.lemmas.List.{map-append}
 use Rattle.std.proofs.lemmas.List.Sorted.{IsPermutation-refl, IsPermutation-map, IsPermutation-sym, IsPermutation-append_left}
 use Rattle.sqlite_keyed.proofs.ListLemmas.{map-map, map_same, all_weaker}
 use Rattle.lrs_measure.specs.Texts.{Name, same_name}
 use Rattle.lrs_measure.specs.Ordered.{insert_all}
 use Rattle.lrs_element.specs.declared.link.Piece.{Piece}
-use Rattle.lrs_element.specs.declared.link.Ground.{Ground}
 use Rattle.lrs_element.specs.declared.marks.Mark.{Mark}
 use Rattle.lrs_position.specs.declared.route.Referent.{Referent}
 use Rattle.lrs_position.specs.Routes.{referent_before}
 use Rattle.lrs_events.specs.declared.span.Span.{Span}
 use Rattle.lrs_events.specs.Spans.{span_before}
-use Rattle.lrs_events.specs.Changes.{has_row, without_rows}
+use Rattle.lrs_events.specs.Changes.{without_rows}
 use Rattle.lrs_lanes.proofs.Inserted.{IsPermutation-insert_all}
 use Rattle.lrs_keep.specs.declared.change.RouteChange.{RouteChange}
 use Rattle.lrs_store.specs.Tables.{Tables, AreSame, PieceRow, MarkRow, RefRow, SpanRow}
 use Rattle.lrs_store.specs.Encoding.{piece_row, mark_row, ref_row, span_row, numbered}
 use Rattle.lrs_tables.specs.Changing.{renamed_piece, renamed_mark, renamed_ref, renamed_span, renamed_route}
 use Rattle.lrs_tables.specs.Writing.{changed_route}
-use Rattle.lrs_tables.specs.RowLaws.{same_trans}
 use Rattle.lrs_written.proofs.Lists.{map-numbered, map_kept}
 use Rattle.lrs_written.proofs.Naming.{same_itself}
 use Rattle.lrs_written.proofs.Beside.{beside, IsClearOf, kept_refs, AreKeyedAs, changed_beside}

@@ -1,6 +1,6 @@
 -- A row of a route is told from the others of it by its key, which is its asset and its start.
-use Rattle.std.proofs.Common.{◌≡◌, ◌⊎◌, inl, inr, ℕ, ◌<◌, Bool, true, false, not, List, map, filter, refl, sym, ap, ap₂, subst, ◌∙◌, arith, nat_eq}
-use Rattle.std.specs.Prelude.{◌&&◌, ◌||◌, nat_lt, nat_le}
+use Rattle.std.proofs.Common.{◌≡◌, ◌⊎◌, inl, inr, ℕ, ◌<◌, Bool, true, false, not, List, refl, sym, ap, subst, arith, nat_eq}
+use Rattle.std.specs.Prelude.{◌&&◌, ◌||◌, nat_lt}
 use Rattle.std.specs.List.{AllByRecursion, list_any, list_all}
 use Rattle.std.proofs.lemmas.Bool.{and_parts, and_from, or_cases, both_ways, eq-eqb, eqb-true, ltb-true}
 use Rattle.sqlite_keyed.proofs.ListLemmas.{all_from_test, all_weaker}

@@ -1,6 +1,6 @@
 -- A route that changes or comes, beside the routes that stay: the rows of the image after it.
-use Rattle.std.proofs.Common.{◌≡◌, ℕ, ◌+◌, Bool, true, false, cond, not, List, [], ◌∷◌, ◌++◌, map, filter, flat_map, refl, sym, ap, ap₂, subst, ◌∙◌, IsPermutation}
-use Rattle.std.specs.Prelude.{Option, Some, None, unwrap_or, ⊤}
+use Rattle.std.proofs.Common.{◌≡◌, true, false, cond, List, ◌∷◌, sym, ap, ap₂, subst, ◌∙◌}
+use Rattle.std.specs.Prelude.{Option, Some, None, unwrap_or}
 use Rattle.std.specs.List.{AllByRecursion, list_any}
 use Rattle.sqlite_keyed.proofs.ListLemmas.{all_weaker, all_both, all-map, all-flat_map, all_map}
 use Rattle.lrs_measure.specs.Ordered.{insert_all}
@@ -9,14 +9,13 @@ use Rattle.lrs_element.specs.declared.link.Piece.{Piece}
 use Rattle.lrs_element.specs.declared.link.Ground.{Ground}
 use Rattle.lrs_position.specs.declared.route.Referent.{Referent}
 use Rattle.lrs_position.specs.Routes.{referent_before}
-use Rattle.lrs_events.specs.declared.span.Span.{Span}
 use Rattle.lrs_events.specs.Spans.{span_before}
 use Rattle.lrs_events.specs.Changes.{without_rows}
 use Rattle.lrs_machine.specs.declared.image.RouteEntry.{RouteEntry}
 use Rattle.lrs_machine.specs.declared.image.Image.{Image}
 use Rattle.lrs_keep.specs.declared.change.RouteChange.{RouteChange}
 use Rattle.lrs_keep.specs.Change.{fits_after, route_after, entry_after, course_after}
-use Rattle.lrs_keep.proofs.Becoming.{HasBecome, becomes}
+use Rattle.lrs_keep.proofs.Becoming.{becomes}
 use Rattle.lrs_store.specs.Tables.{Tables, AreSame, PieceRow, MarkRow, RefRow, SpanRow}
 use Rattle.lrs_store.specs.Encoding.{piece_row, mark_row, ref_row, span_row, numbered, ArePiecesOf}
 use Rattle.lrs_store.specs.Encoded.{encoded, ArePiecesOfAll, Encodes}
@@ -64,7 +63,7 @@ comes e (Some own) are i others t apart h =
     let name = e.route.name in
     let pieces = with_own name own h.pieces in
     let same : encoded pieces (over i (e ∷ others)) ≡ new_route e (Some own) (encoded h.pieces (over i others)) =
-        ap₂ (λ ps u. beside name ps e.route.marks e.route.refs e.spans u) (own_is name own h.pieces) (others_alike name own h.pieces i others apart) in
+    ap₂ (λ ps u. beside name ps e.route.marks e.route.refs e.spans u) (own_is name own h.pieces) (others_alike name own h.pieces i others apart) in
     encodes_by (new_route e (Some own)) (steady-new_route e (Some own)) (over i others) (over i (e ∷ others)) t h pieces
     (subst (ArePiecesOf e.route.course) (sym (own_is name own h.pieces)) are, others_are name own h.pieces others apart h.are)
     (subst (AreSame (encoded pieces (over i (e ∷ others)))) same (same_refl _))
@@ -109,12 +108,12 @@ changes c changed are e i others t it h =
     let spans = insert_all span_before c.spans_come (without_rows c.spans_gone e.spans) in
     let rest = encoded h.pieces (over i others) in
     let old : encoded h.pieces (over i (e ∷ others)) ≡ beside c.route (h.pieces c.route) e.route.marks e.route.refs e.spans rest =
-        ap (λ name. beside name (h.pieces name) e.route.marks e.route.refs e.spans rest) it.named in
+    ap (λ name. beside name (h.pieces name) e.route.marks e.route.refs e.spans rest) it.named in
     let alike = others_alike c.name own h.pieces i others it.new in
     let changed_one : encoded pieces (over i (entry_after c e ∷ others)) ≡ beside c.name (pieces c.name) (unwrap_or c.marks e.route.marks) refs spans rest =
-        λ j. beside (after.name j) (pieces (after.name j)) (after.marks j) (after.refs j) spans (alike j) in
+    λ j. beside (after.name j) (pieces (after.name j)) (after.marks j) (after.refs j) spans (alike j) in
     let new : encoded pieces (over i (entry_after c e ∷ others)) ≡ beside c.name own (unwrap_or c.marks e.route.marks) refs spans rest =
-        changed_one ∙ ap (λ ps. beside c.name ps (unwrap_or c.marks e.route.marks) refs spans rest) (own_is c.name own h.pieces) in
+    changed_one ∙ ap (λ ps. beside c.name ps (unwrap_or c.marks e.route.marks) refs spans rest) (own_is c.name own h.pieces) in
     let clear = clear_of c e others it h.pieces i in
     let rows = becomes_beside c changed rest clear (h.pieces c.route) e.route.marks e.route.refs e.spans it.spans in
     let own_are : ArePiecesOf (course_after c e.route) own = pieces_after c.course changed are e.route.course (h.pieces c.route) (subst (λ name. ArePiecesOf e.route.course (h.pieces name)) it.named h.are.0) in

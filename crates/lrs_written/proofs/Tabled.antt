@@ -1,10 +1,10 @@
 -- The rows of an image whose routes are given.
-use Rattle.std.proofs.Common.{◌≡◌, ℕ, ◌+◌, Bool, true, false, not, List, [], ◌∷◌, ◌++◌, map, filter, flat_map, length, append_assoc, refl, sym, ap, subst, ◌∙◌, IsPermutation}
+use Rattle.std.proofs.Common.{◌≡◌, not, List, map, refl, sym, IsPermutation}
 use Rattle.std.specs.Prelude.{Option, Some, None}
 use Rattle.std.specs.List.{AllByRecursion}
 use Rattle.std.proofs.lemmas.List.Sorted.{IsPermutation-refl, IsPermutation-sym, All-permutation}
 use Rattle.std.proofs.lemmas.List.Elements.{All-from_recursion, recursion_from_All}
-use Rattle.sqlite_keyed.proofs.ListLemmas.{IsPermutation-flat_map, IsPermutation-same, all_of, all-map, all-filter}
+use Rattle.sqlite_keyed.proofs.ListLemmas.{IsPermutation-flat_map, IsPermutation-same, all-map, all-filter}
 use Rattle.lrs_measure.specs.Texts.{Name, same_name}
 use Rattle.lrs_element.specs.declared.link.Piece.{Piece}
 use Rattle.lrs_machine.specs.declared.image.RouteEntry.{RouteEntry}
@@ -16,7 +16,7 @@ use Rattle.lrs_store.specs.Encoded.{encoded, ArePiecesOfAll, Encodes}
 use Rattle.lrs_tables.specs.Changing.{without_route}
 use Rattle.lrs_tables.specs.Writing.{with_some}
 use Rattle.lrs_tables.specs.RowLaws.{same_trans}
-use Rattle.lrs_tables.proofs.Steady.{IsSteady, steady_some, steady-without_route}
+use Rattle.lrs_tables.proofs.Steady.{IsSteady, steady-without_route}
 use Rattle.lrs_written.proofs.Lists.{numbered_all, filter-flat_map}
 
 -- an image with these routes

@@ -1,6 +1,6 @@
 -- Rows that stand for an image stand for the changed one, after the change is written.
-use Rattle.std.proofs.Common.{◌≡◌, ℕ, ◌+◌, Bool, true, false, List, ◌∷◌, map, find, length, refl, sym, ap, subst, ◌∙◌, IsPermutation}
-use Rattle.std.specs.Prelude.{◌&&◌, Option, Some, None}
+use Rattle.std.proofs.Common.{◌≡◌, true, false, List, ◌∷◌, length, sym, ap, subst, ◌∙◌, IsPermutation}
+use Rattle.std.specs.Prelude.{Option, Some, None}
 use Rattle.std.specs.List.{AllByRecursion, list_any, list_all, flat_map}
 use Rattle.std.specs.Option.{option_map}
 use Rattle.std.proofs.lemmas.Bool.{and_parts}
@@ -17,14 +17,13 @@ use Rattle.lrs_machine.specs.declared.image.Image.{Image}
 use Rattle.lrs_machine.specs.declared.image.RouteEntry.{RouteEntry}
 use Rattle.lrs_machine.specs.Sound.{RouteReferents, RouteSpans, route_before, IsSound, spans_of, referents_of, are_spans_of, is_span, keeps_exclusive}
 use Rattle.lrs_keep.specs.declared.change.RouteChange.{RouteChange}
-use Rattle.lrs_keep.specs.declared.change.Change.{Change}
-use Rattle.lrs_keep.specs.Change.{apply, without, without_some, routes_after, entry_after, CanChangeRoute, CanMake, GoesApart}
+use Rattle.lrs_keep.specs.Change.{apply, without, without_some, routes_after, entry_after, CanChangeRoute, GoesApart}
 use Rattle.lrs_keep.proofs.Becoming.{becomes}
 use Rattle.lrs_keep.proofs.Tables.{passes, routes_in_order}
 use Rattle.lrs_store.specs.Tables.{Tables}
 use Rattle.lrs_store.specs.Encoded.{Encodes}
 use Rattle.lrs_tables.specs.Changing.{without_route}
-use Rattle.lrs_tables.specs.Writing.{with_some, with_named, with_routes, with_ledgers, ArePieces, changed_course, changed_route, new_course, new_route, IsWritten}
+use Rattle.lrs_tables.specs.Writing.{with_some, with_named, with_routes, with_ledgers, ArePieces, changed_course, changed_route, new_course, new_route}
 use Rattle.lrs_tables.specs.RowLaws.{same_trans}
 use Rattle.lrs_written.specs.Laws.{WrittenIsEncoded}
 use Rattle.lrs_written.proofs.Keys.{keys_are_rows}
