@@ -1,6 +1,6 @@
 //! What is asked of a desk. Each question is answered from the image, and changes nothing.
 
-ghost use Rattle.std.specs.Prelude.{◌≡◌, ◌↔◌, ◌×◌, IsTrue, Err, false};
+ghost use Rattle.std.specs.Prelude.{◌≡◌, ◌↔◌, IsTrue, Err, false};
 ghost use Rattle.lrs_answers.specs.Answers.{AsksRoute, IsAt};
 ghost use Rattle.lrs_answers.specs.Finding.{IsFound};
 ghost use Rattle.lrs_answers.specs.Segmented.{IsSegmented};
