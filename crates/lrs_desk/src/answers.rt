@@ -80,11 +80,7 @@ impl<K: Keeper> Desk<K> {
     /// # Errors
     ///
     /// `NoRoute`, and then what the position expression is refused for.
-    pub fn to_link(
-        &self,
-        route: &RouteName,
-        expression: Expr,
-    ) -> Result<(u32, Frac), AskFault>
+    pub fn to_link(&self, route: &RouteName, expression: Expr) -> Result<(u32, Frac), AskFault>
         ensures { AsksRoute (state_of self.now.image) route.now (λ a entry_of answer. IsLinkPosition a entry_of expression answer) result }
     {
         lrs_answers::to_link(self.inventory().kept(), route, expression)
