@@ -1,5 +1,5 @@
 -- Where `clap` finds no fault with the words, they name a job, and each of its words is there.
-use Rattle.std.proofs.Common.{◌≡◌, ◌∙◌, ◌||◌, Bool, true, false, true≢false, not, cond, List, [], ◌∷◌, Option, Some, None, is_some, option_map, refl, sym, ap, subst, codes}
+use Rattle.std.proofs.Common.{◌≡◌, ◌∙◌, ◌||◌, Bool, true, false, true≢false, not, cond, List, [], ◌∷◌, Option, Some, None, is_some, option_map, refl, sym, ap, subst, codes, inl, inr}
 use Rattle.std.specs.List.{slice_index_or}
 use Rattle.std.specs.Option.{option_map_or}
 use Rattle.std.specs.Str.{bytes_eq}
@@ -20,16 +20,29 @@ program = built line_of_program
 abbrev edit_shape : Shape
 edit_shape = slice_index_or program.subs 0 help_shape
 
-abbrev help_flag : Rule
-help_flag = slice_index_or edit_shape.rules 2 help_rule
+abbrev survey_shape : Shape
+survey_shape = slice_index_or program.subs 1 help_shape
+
+abbrev help_flag : Shape → Rule
+help_flag shape = slice_index_or shape.rules 2 help_rule
 
 edit_flag : HasFlag edit_shape.rules
 edit_flag = record {
-  flag = help_flag;
+  flag = help_flag edit_shape;
   is = record { takes_none = refl; leaves = λ rows. refl };
-  is_long = λ name. has_long help_flag name;
+  is_long = λ name. has_long (help_flag edit_shape) name;
   long = λ name. refl;
-  is_short = λ x. has_short help_flag x;
+  is_short = λ x. has_short (help_flag edit_shape) x;
+  short = λ x. refl;
+}
+
+survey_flag : HasFlag survey_shape.rules
+survey_flag = record {
+  flag = help_flag survey_shape;
+  is = record { takes_none = refl; leaves = λ rows. refl };
+  is_long = λ name. has_long (help_flag survey_shape) name;
+  long = λ name. refl;
+  is_short = λ x. has_short (help_flag survey_shape) x;
   short = λ x. refl;
 }
 
@@ -48,17 +61,29 @@ edit_words words e =
     let checked : check_fault edit_shape rows false ≡ [] = second_none (defaults_fault _ edit_shape.rules) _ after_settling in
     let given = both_given (is_given (codes "DB") rows) (is_given (codes "SHEET") rows) checked in
     let filled = rows-filled edit_shape.rules [] (walk_from nothing_held) words edit_flag (record { rows = refl; pending = refl }) in
-    (refl, given_first (codes "DB") rows filled given.0, given_first (codes "SHEET") rows filled given.1)
+    (inl refl, given_first (codes "DB") rows filled given.0, given_first (codes "SHEET") rows filled given.1)
 
-abbrev picked : Bool → Bool → Option Shape
-picked e h = cond e (Some edit_shape) (cond h (Some (slice_index_or program.subs 1 help_shape)) None)
+survey_words : (words : List Text) → level_fault survey_shape [] nothing_held words false [] ≡ [] → HasJobWords (Some (rows_at survey_shape words))
+survey_words words e =
+    let end = (walk survey_shape.rules [] nothing_held words).held in
+    let rows = finished survey_shape.rules end in
+    let after_walk = second_none (walk_fault survey_shape [] (walk_from nothing_held) words) _ e in
+    let after_settling = second_none (settle_fault survey_shape.rules survey_shape.args_override_self end) _ after_walk in
+    let checked : check_fault survey_shape rows false ≡ [] = second_none (defaults_fault _ survey_shape.rules) _ after_settling in
+    let given = both_given (is_given (codes "DB") rows) (is_given (codes "SHEET") rows) checked in
+    let filled = rows-filled survey_shape.rules [] (walk_from nothing_held) words survey_flag (record { rows = refl; pending = refl }) in
+    (inr refl, given_first (codes "DB") rows filled given.0, given_first (codes "SHEET") rows filled given.1)
 
-pick : (e h : Bool) (words : List Text) (rows : List Row) → (h ≡ true → ⊥)
-    → (e ≡ true → level_fault edit_shape [] nothing_held words false [] ≡ [])
-    → check_fault program.top rows (is_some (option_map (λ s. rows_at s words) (picked e h))) ≡ [] → HasJobWords (option_map (λ s. rows_at s words) (picked e h))
-pick true h words rows other below checked = edit_words words (below refl)
-pick false true words rows other below checked = absurd (other refl)
-pick false false words rows other below checked = no_kinds kind.MissingSubcommand [] checked
+abbrev picked : Bool → Bool → Bool → Option Shape
+picked e v h = cond e (Some edit_shape) (cond v (Some survey_shape) (cond h (Some (slice_index_or program.subs 2 help_shape)) None))
+
+pick : (e v h : Bool) (words : List Text) (rows : List Row) → (h ≡ true → ⊥)
+    → option_map_or (λ s. level_fault s [] nothing_held words false []) (picked e v h) [] ≡ []
+    → check_fault program.top rows (is_some (option_map (λ s. rows_at s words) (picked e v h))) ≡ [] → HasJobWords (option_map (λ s. rows_at s words) (picked e v h))
+pick true v h words rows other below checked = edit_words words below
+pick false true h words rows other below checked = survey_words words below
+pick false false true words rows other below checked = absurd (other refl)
+pick false false false words rows other below checked = no_kinds kind.MissingSubcommand [] checked
 
 or_false : (b : Bool) → (b || false) ≡ true → b ≡ true
 or_false true e = e
@@ -71,10 +96,8 @@ at_stop : (stop : Option (Text × List Text)) (rows : List Row) → names_help s
     → check_fault program.top rows (is_some (entered program stop)) ≡ [] → HasJobWords (entered program stop)
 at_stop None rows other below checked = no_kinds kind.MissingSubcommand [] checked
 at_stop (Some p) rows other below checked =
-    let help = answers_to p.0 (label_of (slice_index_or program.subs 1 help_shape)) in
-    pick (answers_to p.0 (label_of edit_shape)) help p.1 rows
-    (λ h. true≢false (sym (help_met p.0 h) ∙ other))
-    (λ e. subst (λ b. option_map_or (λ s. level_fault s [] nothing_held p.1 false []) (picked b help) [] ≡ []) e below) checked
+    pick (answers_to p.0 (label_of edit_shape)) (answers_to p.0 (label_of survey_shape)) (answers_to p.0 (label_of (slice_index_or program.subs 2 help_shape))) p.1 rows
+    (λ h. true≢false (sym (help_met p.0 h) ∙ other)) below checked
 
 pub has_job_words : (words : List Text) → fault_of line_of_program words ≡ [] → HasJobWords (subcommand_of line_of_program words)
 has_job_words words none =

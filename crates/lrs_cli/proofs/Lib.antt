@@ -1,3 +1,4 @@
+pub mod Between
 pub mod CommandLine
 pub mod JobNames
 pub mod JobThere

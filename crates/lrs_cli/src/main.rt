@@ -4,13 +4,15 @@
 ghost use Rattle.std.specs.Prelude.{◌≡◌};
 ghost use Rattle.lrs_cli.specs.Endings.{status_of};
 
-mod edit;
 mod fault;
 mod progress;
+mod sheets;
 mod words;
 
 use fault::ProgramFault;
+use lrs_sheet::Sheet;
 use progress::Shown;
+use sheets::do_sheet;
 use std::alloc::Global;
 use std::env;
 use std::io::{ErrorKind, IsTerminal};
@@ -41,12 +43,14 @@ fn status(ending: Ending) -> u8
 }
 
 fn do_job<R: Runtime<A = Global>>(rt: &R, job: Job<'_>, shown: Shown) -> Ending {
-    match job {
-        Job::Edit { db, sheet } => match edit::edit(rt, db, sheet, shown) {
-            Ok(tally) if tally.refused == 0 => Ending::Done,
-            Ok(_) => Ending::Refused,
-            Err(fault) => Ending::Stopped(fault),
-        },
+    let replied = match job {
+        Job::Edit { db, sheet } => do_sheet(rt, Sheet::Edits, db, sheet, shown),
+        Job::Survey { db, sheet } => do_sheet(rt, Sheet::Survey, db, sheet, shown),
+    };
+    match replied {
+        Ok(tally) if tally.refused == 0 => Ending::Done,
+        Ok(_) => Ending::Refused,
+        Err(fault) => Ending::Stopped(fault),
     }
 }
 

@@ -13,6 +13,13 @@ fn words_are_read(rt: HostRuntime) {
         sheet: "stdin",
     };
     assert!(rt; matches!(job_of(alloc, &["edit", ":memory:", "stdin"]), Ok(job) if job == asked));
+    let surveyed = Job::Survey {
+        db: ":memory:",
+        sheet: "found.csv",
+    };
+    assert!(rt;
+        matches!(job_of(alloc, &["survey", ":memory:", "found.csv"]), Ok(job) if job == surveyed)
+    );
     let dashes = Job::Edit {
         db: "-",
         sheet: "--help",

@@ -3,7 +3,7 @@
 ghost use Rattle.std.specs.Prelude.{◌≡◌, ◌≢◌, IfOk, Err, IfSome, IfNone, IsSome, Some, None, codes, is_some, map, false, true};
 ghost use Rattle.clap.specs.Words.{app_of, first_of, found_of, kind_of, rows_of, rule_of, subcommand_rows_of};
 ghost use Rattle.clap.specs.declared.builder.command.Command.TheViews.{out-Command};
-ghost use Rattle.lrs_cli.specs.Words.{AsksForHelp, HasJobWords, HasWords, IsJobOf, IsMet, IsMisused, edit_line, line_of_program, name_of, required};
+ghost use Rattle.lrs_cli.specs.Words.{AsksForHelp, HasJobWords, HasWords, IsJobOf, IsMet, IsMisused, line_of_program, name_of, required, sheet_line};
 
 use clap::error::ErrorKind;
 use clap::{Arg, ArgMatches, Command, Error};
@@ -14,6 +14,8 @@ use std::alloc::{AllocError, Global};
 pub enum Job<'a> {
     /// Does the edit sheet `sheet` over the inventory `db`.
     Edit { db: &'a str, sheet: &'a str },
+    /// Does the survey `sheet` over the inventory `db`.
+    Survey { db: &'a str, sheet: &'a str },
 }
 
 /// Why the words are no job.
@@ -36,8 +38,10 @@ impl From<AllocError> for WordsFault {
     }
 }
 
-// The help of `edit` and of its words.
+// The help of the jobs and of their words.
 static EDIT: &str = "Does an edit sheet, and prints a reply line for each record";
+
+static SURVEY: &str = "Enters the assets of a survey, and prints a reply line for each record";
 
 static DB: &str = "The inventory's file, or :memory: for a fresh one in memory";
 
@@ -50,25 +54,32 @@ fn required<'a>(alloc: Global, id: &'a str, help: &'a str) -> Arg<'a>
     Arg::new(alloc, id).required(true).help(help)
 }
 
-fn edit_command<'a>(alloc: Global) -> Result<Command<'a>, AllocError>
-    ensures app { IfOk result (λ c. app_of c ≡ edit_line) }
+// A job over an inventory and a sheet.
+fn sheet_command<'a>(
+    alloc: Global,
+    name: &'a str,
+    about: &'a str,
+) -> Result<Command<'a>, AllocError>
+    ensures app { IfOk result (λ c. app_of c ≡ sheet_line name.entry.now) }
     ensures local { IfOk result (λ c. (out-Command c).has_globals ≡ false) }
 {
     let db = required(alloc, "DB", DB);
     let sheet = required(alloc, "SHEET", SHEET);
-    Command::new(alloc, "edit").about(EDIT).arg(db)?.arg(sheet)
+    Command::new(alloc, name).about(about).arg(db)?.arg(sheet)
 }
 
 fn program<'a>(alloc: Global) -> Result<Command<'a>, AllocError>
     ensures { IfOk result (λ c. app_of c ≡ line_of_program) }
 {
-    let edit = edit_command(alloc)?;
+    let edit = sheet_command(alloc, "edit", EDIT)?;
+    let survey = sheet_command(alloc, "survey", SURVEY)?;
     Command::new(alloc, "roadlrs")
         .bin_name("roadlrs")?
         .about("A road asset inventory by linear referencing")
         .no_binary_name(true)
         .subcommand_required(true)
-        .subcommand(edit)
+        .subcommand(edit)?
+        .subcommand(survey)
 }
 
 // Why `clap` gave no matches. Its texts are for the user.
@@ -96,13 +107,30 @@ fn word_in<'a>(given: &ArgMatches<'a>, id: &str) -> Option<&'a str>
     given.get_str(id)
 }
 
-fn edit_job<'a>(given: &ArgMatches<'a>) -> Option<Job<'a>>
-    ensures job { IfSome result (λ job. (name_of job ≡ codes "edit") × HasWords job (rows_of (found_of given.now))) }
+// The inventory and the sheet that a job is given.
+fn sheet_words<'a>(given: &ArgMatches<'a>) -> Option<(&'a str, &'a str)>
+    ensures words { IfSome result (λ words. (first_of (codes "DB") (rows_of (found_of given.now)) ≡ Some words.0.now) × (first_of (codes "SHEET") (rows_of (found_of given.now)) ≡ Some words.1.now)) }
     ensures there { is_some (first_of (codes "DB") (rows_of (found_of given.now))) ≡ true → is_some (first_of (codes "SHEET") (rows_of (found_of given.now))) ≡ true → IsSome result }
 {
     let db = word_in(given, "DB")?;
     let sheet = word_in(given, "SHEET")?;
+    Some((db, sheet))
+}
+
+fn edit_job<'a>(given: &ArgMatches<'a>) -> Option<Job<'a>>
+    ensures job { IfSome result (λ job. (name_of job ≡ codes "edit") × HasWords job (rows_of (found_of given.now))) }
+    ensures there { is_some (first_of (codes "DB") (rows_of (found_of given.now))) ≡ true → is_some (first_of (codes "SHEET") (rows_of (found_of given.now))) ≡ true → IsSome result }
+{
+    let (db, sheet) = sheet_words(given)?;
     Some(Job::Edit { db, sheet })
+}
+
+fn survey_job<'a>(given: &ArgMatches<'a>) -> Option<Job<'a>>
+    ensures job { IfSome result (λ job. (name_of job ≡ codes "survey") × HasWords job (rows_of (found_of given.now))) }
+    ensures there { is_some (first_of (codes "DB") (rows_of (found_of given.now))) ≡ true → is_some (first_of (codes "SHEET") (rows_of (found_of given.now))) ≡ true → IsSome result }
+{
+    let (db, sheet) = sheet_words(given)?;
+    Some(Job::Survey { db, sheet })
 }
 
 fn job_in<'a>(matches: &ArgMatches<'a>) -> Option<Job<'a>>
@@ -111,6 +139,7 @@ fn job_in<'a>(matches: &ArgMatches<'a>) -> Option<Job<'a>>
 {
     match matches.subcommand() {
         Some(("edit", given)) => edit_job(given),
+        Some(("survey", given)) => survey_job(given),
         _ => None,
     }
 }

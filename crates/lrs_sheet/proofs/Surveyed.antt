@@ -1,5 +1,5 @@
 -- Records of a survey, as records of the verb `enter`.
-use Rattle.std.proofs.Common.{◌≡◌, ℕ, zero, List, [], ◌∷◌, Err, refl, arith}
+use Rattle.std.proofs.Common.{◌≡◌, ℕ, List, [], ◌∷◌, Err, refl, arith}
 use Rattle.std.specs.Prelude.{Contains, IsTrue, codes}
 use Rattle.csv.specs.Records.{field_at}
 use Rattle.lrs_machine.specs.Keys.{is_key}

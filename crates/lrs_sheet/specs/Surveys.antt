@@ -1,5 +1,5 @@
 -- What a record of a survey says: an entry under a key, or which of its fields is the first malformed one.
-use Rattle.std.specs.Prelude.{ℕ, List, [], ◌∷◌, codes, map, ⊤}
+use Rattle.std.specs.Prelude.{ℕ, List, [], ◌∷◌, codes, map}
 use Rattle.lrs_machine.specs.Lines.{Text}
 use Rattle.lrs_machine.specs.declared.command.Entry.{Entry}
 use Rattle.lrs_machine.specs.declared.command.Command.TheVariants as verb

@@ -6,7 +6,7 @@ use Rattle.std.specs.Cmp.Lexicographic.{bytes_decides}
 use Rattle.lrs_machine.specs.declared.image.Image.{Image}
 use Rattle.lrs_machine.specs.declared.table.Table.{Table}
 use Rattle.lrs_machine.specs.Image.{nothing}
-use Rattle.lrs_cli.proofs.edit.open_inventory.Goals as goal
+use Rattle.lrs_cli.proofs.sheets.open_inventory.Goals as goal
 
 same_text : (xs ys : List ℕ) (differ : Bool) → differ ≡ not (bytes_eq xs ys) → differ ≡ false → xs ≡ ys
 same_text xs ys differ is none = (bytes_decides xs ys).0 (not-false (bytes_eq xs ys) (sym is ∙ none))
