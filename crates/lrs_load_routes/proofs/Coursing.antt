@@ -1,17 +1,16 @@
 -- When the pieces of a route make a course that a route can have.
-use Rattle.std.proofs.Common.{◌≡◌, ◌↔◌, ℕ, ◌+◌, ◌<◌, ◌≤◌, Bool, true, false, cond, not, ◌⊎◌, inl, inr, List, [], ◌∷◌, ◌++◌, length, get_or, Option, Some, None, refl, sym, ap, subst, ◌∙◌, arith, append-nil}
-use Rattle.std.specs.Prelude.{◌&&◌, ◌||◌, nat_eq, nat_le, nat_lt, is_some, is_none, find, position}
+use Rattle.std.proofs.Common.{◌≡◌, ℕ, ◌<◌, ◌≤◌, Bool, true, false, cond, not, ◌⊎◌, inl, inr, List, [], ◌∷◌, length, get_or, Option, Some, None, refl, sym, ap, subst, ◌∙◌, arith, append-nil}
+use Rattle.std.specs.Prelude.{◌&&◌, ◌||◌, nat_eq, nat_le, nat_lt, is_some, find, position}
 use Rattle.std.specs.List.{AllByRecursion, list_any, list_all, flat_map, position_or_len}
 use Rattle.std.specs.Option.{option_map_or}
-use Rattle.std.proofs.lemmas.Bool.{false≢true, both_ways, and_parts, and_from, or_parts, or_from, not-true, true_from_ne_false, false_from_ne_true, eqb-true, leb-true, le-leb, ltb-true, ltb-false, le-ltb}
+use Rattle.std.proofs.lemmas.Bool.{false≢true, both_ways, and_parts, and_from, or_parts, or_from, not-true, false_from_ne_true, eqb-true, leb-true, le-leb, ltb-true, ltb-false, le-ltb}
 use Rattle.std.proofs.lemmas.List.Sums.{fails_before_first, passes_at_first}
 use Rattle.lrs_measure.specs.Lists.{each_two, is_nothing}
 use Rattle.lrs_element.specs.declared.link.Link.{Link}
 use Rattle.lrs_element.specs.declared.link.Piece.{Piece}
 use Rattle.lrs_element.specs.declared.link.Ground.{Ground}
-use Rattle.lrs_element.specs.Course.{expand, course_of, meets, lacks_link, is_bad_piece, length_of, first_repeated, is_too_long, AreGood}
-use Rattle.lrs_element.specs.Pieces.{piece_len, IsFilled}
-use Rattle.lrs_element.proofs.Expanding.{length-expand}
+use Rattle.lrs_element.specs.Course.{course_of, lacks_link, is_bad_piece, length_of, first_repeated, is_too_long, AreGood}
+use Rattle.lrs_element.specs.Pieces.{IsFilled}
 use Rattle.lrs_position.specs.Routes.{is_route_course}
 use Rattle.lrs_events.specs.Places.{differs}
 use Rattle.lrs_machine.specs.Sound.{link_before, are_links, is_on_a_link}
@@ -20,7 +19,6 @@ use Rattle.lrs_sound.specs.Coursing.{ends_on_a_link}
 use Rattle.lrs_sound.proofs.Coursed.{courses_are_apart}
 use Rattle.lrs_sound.proofs.Keyed.{place_in, member_at}
 use Rattle.lrs_sound.proofs.Laid.{pieces_are}
-use Rattle.lrs_store.specs.Decoding.{only_if}
 use Rattle.lrs_load_routes.specs.Courses.{is_good_course}
 
 some_same : {A : Type 0} {a b : A} → ◌≡◌ {A = Option A} (Some a) (Some b) → a ≡ b

@@ -1,6 +1,6 @@
 -- Pieces without a millimetre are more than their course needs.
-use Rattle.std.proofs.Common.{◌≡◌, ℕ, ◌+◌, ◌-◌, ◌<◌, ◌≤◌, Bool, true, false, cond, ◌⊎◌, inl, inr, List, [], ◌∷◌, ◌++◌, length, get_or, Option, Some, None, refl, sym, ap, subst, ◌∙◌, arith, append-nil, length-append}
-use Rattle.std.specs.Prelude.{◌&&◌, nat_lt, nat_eq, if◌then◌else◌}
+use Rattle.std.proofs.Common.{◌≡◌, ◌+◌, ◌-◌, ◌<◌, ◌≤◌, Bool, true, false, ◌⊎◌, inl, inr, List, [], ◌∷◌, ◌++◌, length, get_or, Option, Some, None, refl, sym, ap, ◌∙◌, arith, append-nil, length-append}
+use Rattle.std.specs.Prelude.{◌&&◌, nat_eq, if◌then◌else◌}
 use Rattle.std.specs.List.{AllByRecursion, list_all}
 use Rattle.std.proofs.lemmas.Bool.{false≢true, and_parts, cases_lt, cases_Bool, ltb-true, ltb-false, ne_eqb}
 use Rattle.lrs_measure.specs.Lists.{is_nothing}
@@ -8,7 +8,7 @@ use Rattle.lrs_element.specs.declared.link.Link.{Link}
 use Rattle.lrs_element.specs.declared.link.Piece.{Piece}
 use Rattle.lrs_element.specs.declared.link.Ground.{Ground}
 use Rattle.lrs_element.specs.Course.{expand, course_of, continues, piece_count}
-use Rattle.lrs_element.specs.Pieces.{piece_len, ground_of, IsFilled}
+use Rattle.lrs_element.specs.Pieces.{piece_len, IsFilled}
 use Rattle.lrs_element.proofs.Counting.{breaks, piece_count-append, piece_count-expand}
 use Rattle.lrs_element.proofs.Expanding.{length-expand}
 use Rattle.lrs_store.specs.Decoding.{only_if}

@@ -1,9 +1,8 @@
 -- The names of the routes of which rows say something, whatever the order of the rows.
-use Rattle.std.proofs.Common.{◌≡◌, ℕ, zero, suc, ◌+◌, ◌-◌, ◌<◌, ◌≤◌, Bool, true, false, cond, not, ◌⊎◌, inl, inr, List, [], ◌∷◌, ◌++◌, take, length, get_or, refl, sym, ap, subst, ◌∙◌, arith, length-take-le, get_or-take, IsPermutation}
-use Rattle.std.specs.Prelude.{◌||◌, ◌&&◌, nat_lt}
+use Rattle.std.proofs.Common.{◌≡◌, ℕ, suc, ◌+◌, ◌-◌, ◌<◌, ◌≤◌, Bool, true, false, cond, not, ◌⊎◌, inl, inr, List, [], ◌∷◌, ◌++◌, take, length, get_or, refl, sym, ap, subst, ◌∙◌, arith, length-take-le, get_or-take, IsPermutation}
+use Rattle.std.specs.Prelude.{◌||◌, nat_lt}
 use Rattle.std.specs.List.{list_any, list_all}
 use Rattle.std.specs.List.Sorted.{IsSortedBy}
-use Rattle.std.specs.Cmp.{IsStrictWeakOrder}
 use Rattle.std.specs.Cmp.Lexicographic.{bytes_decides}
 use Rattle.std.proofs.lemmas.Bool.{both_ways, and_parts, and_from, or_left, or_right, not-true, cases_lt, cases_Bool, false_from_ne_true, true_from_ne_false, ltb-true, lt-ltb}
 use Rattle.std.proofs.lemmas.List.{get_or_default}

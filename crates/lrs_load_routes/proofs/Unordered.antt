@@ -1,8 +1,7 @@
 -- What rows say in any order, and what a sort makes of it.
-use Rattle.std.proofs.Common.{◌≡◌, Bool, true, false, cond, ◌⊎◌, inl, inr, List, [], ◌∷◌, map, filter, Option, Some, None, Ok, Err, refl, sym, ap, ap₂, subst, ◌∙◌, IsPermutation}
-use Rattle.std.specs.Prelude.{◌||◌, ◌&&◌, Result}
+use Rattle.std.proofs.Common.{◌≡◌, Bool, true, false, cond, ◌⊎◌, inl, inr, List, [], ◌∷◌, filter, Option, Some, None, Ok, Err, refl, sym, ap, ◌∙◌, IsPermutation}
+use Rattle.std.specs.Prelude.{◌||◌}
 use Rattle.std.specs.List.{list_all}
-use Rattle.std.specs.List.Sorted.{IsSortedBy}
 use Rattle.std.specs.Cmp.{IsStrictWeakOrder}
 use Rattle.std.proofs.lemmas.Bool.{both_ways, and_parts, and_from, or_from, or_left, cases_Bool, false_from_ne_true}
 use Rattle.std.proofs.lemmas.List.Sorted.{IsPermutation-refl, IsPermutation-cons, IsPermutation-trans, IsPermutation-middle}

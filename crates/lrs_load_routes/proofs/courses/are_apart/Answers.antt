@@ -1,4 +1,4 @@
-use Rattle.std.proofs.Common.{ap, sym, ◌∙◌}
+use Rattle.std.proofs.Common.{ap, ◌∙◌}
 use Rattle.std.specs.Prelude.{is_some, []}
 use Rattle.lrs_element.specs.Course.{first_repeated}
 use Rattle.lrs_load_routes.proofs.Reading.{apart_answer}

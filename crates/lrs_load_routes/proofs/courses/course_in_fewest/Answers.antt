@@ -1,4 +1,4 @@
-use Rattle.std.proofs.Common.{◌≡◌, ◌∙◌, ◌<◌, length, sym, rules}
+use Rattle.std.proofs.Common.{◌∙◌, ◌<◌, length, sym, rules}
 use Rattle.lrs_load_routes.proofs.Fewest.{filled_all, some_ground, none_where_unfilled, none_where_other, some_where_fewest}
 use Rattle.lrs_load_routes.proofs.courses.course_in_fewest.Goals as goal
 

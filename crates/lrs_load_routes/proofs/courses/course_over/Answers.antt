@@ -1,4 +1,4 @@
-use Rattle.std.proofs.Common.{◌≡◌, ◌∙◌, Bool, Some, sym, ap, refl}
+use Rattle.std.proofs.Common.{◌∙◌, Some, sym, ap}
 use Rattle.lrs_element.specs.Course.{course_of}
 use Rattle.lrs_store.specs.Decoding.{only_if}
 use Rattle.lrs_load_routes.proofs.Coursing.{good, not_linked, not_inside, not_once}

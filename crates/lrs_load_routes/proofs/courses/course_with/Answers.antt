@@ -1,4 +1,4 @@
-use Rattle.std.proofs.Common.{◌≡◌, ◌∙◌, List, Option, Some, sym, ap}
+use Rattle.std.proofs.Common.{◌∙◌, List, Option, Some, sym, ap}
 use Rattle.lrs_element.specs.declared.link.Ground.{Ground}
 use Rattle.lrs_machine.specs.Sound.{RouteCourse}
 use Rattle.lrs_store.specs.Decoding as option

@@ -1,5 +1,4 @@
-use Rattle.std.proofs.Common.{◌≡◌, ◌∙◌, List, sym, ap, subst}
-use Rattle.std.specs.List.Sorted.{IsSortedBy}
+use Rattle.std.proofs.Common.{◌≡◌, ◌∙◌, List, sym, ap}
 use Rattle.std.specs.Option.{option_map}
 use Rattle.std.proofs.lemmas.Result.{IfOk-weaker}
 use Rattle.lrs_element.specs.declared.link.Piece.{Piece}
@@ -7,7 +6,6 @@ use Rattle.lrs_machine.specs.Sound.{are_courses}
 use Rattle.lrs_store.specs.Decoding.{each_of, OfRoute, Numbered}
 use Rattle.lrs_store.specs.Content.{routes_named, course_of_route, courses_of}
 use Rattle.lrs_load_routes.specs.Courses.{passing}
-use Rattle.lrs_load_routes.specs.Grouping.{route_before}
 use Rattle.lrs_load_routes.proofs.Reading.{none_said, courses_said}
 use Rattle.lrs_load_routes.proofs.courses.courses_said.Goals as goal
 

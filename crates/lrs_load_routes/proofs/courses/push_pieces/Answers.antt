@@ -1,4 +1,4 @@
-use Rattle.std.proofs.Common.{◌≡◌, ◌∙◌, ◌++◌, ap, sym, subst}
+use Rattle.std.proofs.Common.{◌∙◌, ◌++◌, ap, sym, subst}
 use Rattle.std.specs.List.{AllByRecursion}
 use Rattle.lrs_element.specs.Course.{course_of}
 use Rattle.lrs_element.specs.Pieces.{IsFilled}

@@ -1,4 +1,4 @@
-use Rattle.std.proofs.Common.{◌≡◌, ◌∙◌, Err, sym, ap}
+use Rattle.std.proofs.Common.{◌∙◌, Err, sym, ap}
 use Rattle.std.specs.Option.{option_map}
 use Rattle.lrs_machine.specs.declared.table.Table.TheVariants as table
 use Rattle.lrs_machine.specs.Sound.{are_courses}

@@ -1,4 +1,4 @@
-use Rattle.std.proofs.Common.{◌≡◌, ◌<◌, ◌+◌, ◌∙◌, ◌++◌, ◌∷◌, [], ℕ, suc, length, take, Some, sym, ap, subst, rules, arith}
+use Rattle.std.proofs.Common.{◌≡◌, ◌<◌, ◌+◌, ◌∙◌, ◌++◌, ◌∷◌, [], suc, length, take, Some, sym, ap, subst, rules, arith}
 use Rattle.lrs_store.specs.Decoding.{Numbered, counted}
 use Rattle.lrs_load_routes.proofs.Grouped.{counted_fails, counted_more}
 use Rattle.lrs_load_routes.proofs.groups.counted.Goals as goal

@@ -1,7 +1,7 @@
-use Rattle.std.proofs.Common.{◌≡◌, ◌∙◌, ap, subst, List, IsPermutation}
+use Rattle.std.proofs.Common.{◌≡◌, ◌∙◌, ap}
 use Rattle.std.proofs.lemmas.Result.{IfOk-weaker}
 use Rattle.std.specs.Option.{option_map}
-use Rattle.lrs_store.specs.Decoding.{Numbered, number_before, sorted, counted, said_of}
+use Rattle.lrs_store.specs.Decoding.{number_before, sorted, counted, said_of}
 use Rattle.lrs_load_routes.proofs.Grouped.{counted_sorted}
 use Rattle.lrs_load_routes.proofs.groups.counted_of.Goals as goal
 

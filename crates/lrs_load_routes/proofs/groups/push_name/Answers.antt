@@ -1,4 +1,4 @@
-use Rattle.std.proofs.Common.{◌≡◌, ◌∙◌, ap, sym}
+use Rattle.std.proofs.Common.{◌∙◌, ap, sym}
 use Rattle.lrs_load_routes.specs.Grouping.{ends_with}
 use Rattle.lrs_load_routes.proofs.Naming.{named_again, named_next}
 use Rattle.lrs_load_routes.proofs.groups.push_name.Goals as goal

@@ -1,4 +1,4 @@
-use Rattle.std.proofs.Common.{◌≡◌, ◌<◌, ◌≤◌, ◌∙◌, length, arith, sym}
+use Rattle.std.proofs.Common.{arith}
 use Rattle.lrs_load_routes.proofs.Grouped.{of_route, of_none}
 use Rattle.lrs_load_routes.proofs.groups.rows_of.Goals as goal
 
