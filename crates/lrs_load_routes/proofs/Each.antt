@@ -1,5 +1,5 @@
 -- What each of the rows says, one row after the other.
-use Rattle.std.proofs.Common.{◌≡◌, ℕ, ◌+◌, ◌<◌, ◌++◌, take, drop, get_or, suc, List, [], ◌∷◌, length, Option, Some, None, refl, sym, ap, subst, ◌∙◌, arith}
+use Rattle.std.proofs.Common.{◌≡◌, ℕ, ◌+◌, ◌<◌, ◌++◌, take, drop, get_or, suc, append_assoc, List, [], ◌∷◌, length, Option, Some, None, refl, sym, ap, subst, ◌∙◌, arith}
 use Rattle.std.proofs.Math.Seq.{take-suc, split_at}
 use Rattle.lrs_store.specs.Decoding.{each_of}
 use Rattle.lrs_store.specs.Decoding as option
@@ -52,3 +52,20 @@ module _ {Row X : Type 0} (said : Row → Option X) where
   pub each_of-at : (xs : List Row) (i : ℕ) (d : Row) → i < length xs → said (get_or xs i d) ≡ None → each_of said xs ≡ None
   each_of-at xs i d bound f =
       subst (λ l. each_of said l ≡ None) (sym (split_at xs i d bound)) (each_of-fails (take i xs) (get_or xs i d) (drop (suc i) xs) f)
+
+-- ---- what those say that are left, behind what others said
+
+abbrev pub and_then : {X : Type 0} → List X → Option (List X) → Option (List X)
+and_then xs None = None
+and_then xs (Some ys) = Some (xs ++ ys)
+
+module _ {Row X : Type 0} (said : Row → Option X) where
+  pub left_more : (zs : List X) (r : Row) (rs : List Row) (z : X) → said r ≡ Some z → and_then zs (each_of said (r ∷ rs)) ≡ and_then (zs ++ z ∷ []) (each_of said rs)
+  left_more zs r rs z e = ap (and_then zs) (each-one said r rs ∙ ap (λ o. one said o (each_of said rs)) e) ∙ go (each_of said rs)
+    where
+      go : (o : Option (List X)) → and_then zs (one said (Some z) o) ≡ and_then (zs ++ z ∷ []) o
+      go None = refl
+      go (Some xs) = ap Some (sym (append_assoc zs (z ∷ []) xs))
+
+  pub left_fails : (zs : List X) (r : Row) (rs : List Row) → said r ≡ None → and_then zs (each_of said (r ∷ rs)) ≡ None
+  left_fails zs r rs e = ap (and_then zs) (each-one said r rs ∙ ap (λ o. one said o (each_of said rs)) e)

@@ -5,3 +5,5 @@ pub mod Coursing
 pub mod Naming
 pub mod Fewest
 pub mod Reading
+pub mod Searching
+pub mod Measuring

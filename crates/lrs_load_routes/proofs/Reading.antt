@@ -90,7 +90,7 @@ module _ {Row X : Type 0} (f : Row → Option X) (t : X → Bool) where
   each_of-passing [] = refl
   each_of-passing (x ∷ xs) = glue (f x) (each_of f xs) (each_of (λ x. option.◌>>=◌ (f x) (λ y. only_if (t y) y)) xs) (each_of-passing xs)
 
-each_of-same : {Row X : Type 0} (f g : Row → Option X) → ((r : Row) → f r ≡ g r) → (rs : List Row) → each_of f rs ≡ each_of g rs
+pub each_of-same : {Row X : Type 0} (f g : Row → Option X) → ((r : Row) → f r ≡ g r) → (rs : List Row) → each_of f rs ≡ each_of g rs
 each_of-same f g h [] = refl
 each_of-same f g h (r ∷ rs) = λ j. option.◌>>=◌ (h r j) (λ x. option.◌>>=◌ (each_of-same f g h rs j) (λ xs. Some (x ∷ xs)))
 

@@ -1,2 +1,3 @@
 pub mod Grouping
 pub mod Courses
+pub mod Measuring

@@ -6,8 +6,11 @@ mod courses;
 mod decoding;
 mod fault;
 mod groups;
+mod known;
+mod marks;
 mod said;
 
 pub use cells::{MarkCells, PieceCells, RefCells, SpanCells};
 pub use courses::{RouteCourse, read_courses};
 pub use fault::ReadFault;
+pub use marks::{Measured, read_marks};
