@@ -7,3 +7,4 @@ pub mod Fewest
 pub mod Reading
 pub mod Searching
 pub mod Measuring
+pub mod Referring

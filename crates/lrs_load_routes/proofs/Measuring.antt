@@ -1,17 +1,21 @@
 -- The marks that rows say of known routes, and whether they fit.
 use Rattle.std.proofs.Common.{◌≡◌, ℕ, Bool, true, false, cond, List, [], ◌∷◌, map, filter, length, Option, Some, None, refl, sym, ap, subst, ◌∙◌, IsPermutation}
-use Rattle.std.specs.Prelude.{◌&&◌, is_none}
+use Rattle.std.specs.Prelude.{◌&&◌, not, nat_le, is_none}
 use Rattle.std.specs.List.{list_any, list_all}
 use Rattle.std.specs.List.Sorted.{IsSortedBy}
-use Rattle.std.proofs.lemmas.Bool.{and_parts}
+use Rattle.std.proofs.lemmas.Bool.{and_parts, and_from}
 use Rattle.std.proofs.lemmas.List.Sorted.{IsPermutation-map}
 use Rattle.lrs_measure.specs.Lists.{each_two}
 use Rattle.lrs_measure.specs.Texts.{Name, same_name, name_before}
+use Rattle.lrs_element.specs.declared.link.Link.{Link}
 use Rattle.lrs_element.specs.declared.marks.Mark.{Mark}
+use Rattle.lrs_element.specs.Course.{meets}
 use Rattle.lrs_element.specs.Marks.{bad_mark}
 use Rattle.lrs_position.specs.Routes.{is_route_course, have_marks}
-use Rattle.lrs_machine.specs.Sound.{RouteCourse, course_before}
-use Rattle.lrs_machine.proofs.Members.{list_any-map}
+use Rattle.lrs_events.specs.Places.{differs}
+use Rattle.lrs_machine.specs.Bounds.{most_routes}
+use Rattle.lrs_machine.specs.Sound.{RouteCourse, course_before, is_course, is_on_a_link, are_courses}
+use Rattle.lrs_machine.proofs.Members.{all_weaker, list_any-map}
 use Rattle.lrs_machine.proofs.Pairs.{each_two-map}
 use Rattle.lrs_store.specs.Tables.{MarkRow}
 use Rattle.lrs_store.specs.Decoding.{each_of, only_if, OfRoute, Numbered, number_before, said_of, sorted, counted, mark_of}
@@ -71,6 +75,16 @@ pub names_rise : (cs : List RouteCourse) → are_route_courses cs ≡ true → I
 names_rise cs h =
     names_sorted (map (λ (c : RouteCourse). c.route) cs)
     (each_two-map name_before (λ (c : RouteCourse). c.route) cs ∙ (and_parts (each_two course_before cs) (list_all (λ c. is_route_course c.entries) cs) h).0)
+
+-- sound courses are those of routes in the order of their names
+pub route_courses : (links : List Link) (cs : List RouteCourse) → are_courses links cs ≡ true → are_route_courses cs ≡ true
+route_courses links cs t =
+    let apart = each_two (λ (c d : RouteCourse). not (meets c.entries d.entries)) cs in
+    let most = and_parts (each_two course_before cs && list_all (is_course links) cs && apart) (nat_le (length cs) most_routes) t in
+    let three = and_parts (each_two course_before cs && list_all (is_course links) cs) apart most.0 in
+    let two = and_parts (each_two course_before cs) (list_all (is_course links) cs) three.0 in
+    and_from (each_two course_before cs) (list_all (λ c. is_route_course c.entries) cs) two.0
+    (all_weaker (is_course links) (λ c. is_route_course c.entries) cs (λ c k. (and_parts (is_route_course c.entries) (list_all (is_on_a_link links) c.entries) (and_parts (is_route_course c.entries && list_all (is_on_a_link links) c.entries) (each_two differs c.entries) k).0).0) two.1)
 
 -- ---- the marks of one route
 

@@ -14,6 +14,7 @@ ghost use Rattle.lrs_machine.specs.Sound.{are_links, are_courses};
 ghost use Rattle.lrs_store.specs.Decoding.{each_of, only_if};
 ghost use Rattle.lrs_store.specs.Content.{read, routes_named, course_of_route, courses_of};
 ghost use Rattle.lrs_load_routes.specs.Courses.{is_filled, is_good_course, good_course, good_route, good_route_over, fit_together, passing};
+ghost use Rattle.lrs_load_routes.specs.Measuring.{are_route_courses};
 ghost use Rattle.lrs_machine.specs.Bounds.{most_routes};
 ghost use Rattle.lrs_load_routes.specs.declared.fault.ReadFault.TheVariants as ReadFault;
 ghost use Rattle.lrs_load_routes.specs.Grouping.{route_before};
@@ -279,6 +280,7 @@ pub fn read_courses(
     rows: &[PieceCells<'_>],
 ) -> Result<Vec<RouteCourse>, ReadFault>
     requires { are_links links.now ≡ true }
+    ensures fit { IfOk result (λ courses. are_route_courses courses.items ≡ true) }
     ensures courses { IfOk result (λ courses. read table.Piece (courses_of rows.now) (are_courses links.now) ≡ Ok courses.items) }
     ensures unsound { (t : DeclaredTable) → result ≡ Err (ReadFault.Unsound t) → read table.Piece (courses_of rows.now) (are_courses links.now) ≡ Err t }
 {

@@ -8,9 +8,11 @@ mod fault;
 mod groups;
 mod known;
 mod marks;
+mod referents;
 mod said;
 
 pub use cells::{MarkCells, PieceCells, RefCells, SpanCells};
 pub use courses::{RouteCourse, read_courses};
 pub use fault::ReadFault;
 pub use marks::{Measured, read_marks};
+pub use referents::read_referents;

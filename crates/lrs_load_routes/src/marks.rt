@@ -41,6 +41,15 @@ impl Model for Measured {
     ghost view = { λ m. record { course = m.course; marks = m.marks } };
 }
 
+impl Measured {
+    /// The name of the route.
+    pub(crate) fn route(&self) -> RouteName
+        ensures { result ≡ self.now.course.route }
+    {
+        self.course.route
+    }
+}
+
 /// What a row of a mark says, if that is of a route of these names.
 fn known_mark(names: &[RouteName], row: &MarkCells<'_>) -> Option<OfRoute<Numbered<Mark>>>
     requires { IsSortedBy name_before names.now }
