@@ -1,5 +1,5 @@
 -- The marks that rows say of known routes, and whether they fit.
-use Rattle.std.proofs.Common.{◌≡◌, ℕ, Bool, true, false, cond, List, [], ◌∷◌, map, filter, length, Option, Some, None, refl, sym, ap, subst, ◌∙◌, IsPermutation}
+use Rattle.std.proofs.Common.{◌≡◌, ℕ, Bool, true, false, List, [], ◌∷◌, map, filter, length, Option, Some, None, refl, sym, ap, ◌∙◌, IsPermutation}
 use Rattle.std.specs.Prelude.{◌&&◌, not, nat_le, is_none}
 use Rattle.std.specs.List.{list_any, list_all}
 use Rattle.std.specs.List.Sorted.{IsSortedBy}
@@ -20,7 +20,7 @@ use Rattle.lrs_machine.proofs.Pairs.{each_two-map}
 use Rattle.lrs_store.specs.Tables.{MarkRow}
 use Rattle.lrs_store.specs.Decoding.{each_of, only_if, OfRoute, Numbered, number_before, said_of, sorted, counted, mark_of}
 use Rattle.lrs_store.specs.Decoding as option
-use Rattle.lrs_store.specs.Content.{each_of_known, Measured, is_one_of, measured_with, measured_of, marks_of}
+use Rattle.lrs_store.specs.Content.{each_of_known, Measured, is_one_of, measured_with, measured_of}
 use Rattle.lrs_load_routes.specs.Courses.{passing}
 use Rattle.lrs_load_routes.specs.Measuring.{is_name_of, known, are_route_courses, courses_of_measured, good_measured, are_all_measured}
 use Rattle.lrs_load_routes.proofs.Unordered.{IsPermutation-filter}

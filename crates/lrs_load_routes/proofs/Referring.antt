@@ -1,5 +1,5 @@
 -- The referents that rows say of known routes, and whether they stand there.
-use Rattle.std.proofs.Common.{◌≡◌, Bool, true, false, ◌⊎◌, inl, inr, IsTrue, List, [], ◌∷◌, ◌++◌, map, filter, length, Option, Some, None, refl, sym, ap, subst, ◌∙◌, IsPermutation}
+use Rattle.std.proofs.Common.{◌≡◌, Bool, true, false, ◌⊎◌, inl, inr, IsTrue, List, [], ◌∷◌, ◌++◌, map, length, Option, Some, None, refl, sym, ap, subst, ◌∙◌, IsPermutation}
 use Rattle.std.specs.Prelude.{◌&&◌, not, nat_lt}
 use Rattle.std.specs.List.{list_any, list_all, flat_map}
 use Rattle.std.specs.List.Sorted.{IsSortedBy}
@@ -14,7 +14,7 @@ use Rattle.lrs_measure.specs.Texts.{Name, same_name, name_before}
 use Rattle.lrs_position.specs.declared.route.Referent.{Referent}
 use Rattle.lrs_position.specs.declared.route.Route.{Route}
 use Rattle.lrs_position.specs.Routes.{is_route, is_route_course, have_marks, are_referents}
-use Rattle.lrs_machine.specs.Sound.{RouteCourse, are_all_referents}
+use Rattle.lrs_machine.specs.Sound.{RouteCourse}
 use Rattle.lrs_machine.proofs.Pairs.{each_two-map}
 use Rattle.lrs_store.specs.Tables.{RefRow}
 use Rattle.lrs_store.specs.Decoding.{if_true, each_of, OfRoute, said_of, sorted, referent_of}
@@ -22,7 +22,7 @@ use Rattle.lrs_store.specs.Decoding as option
 use Rattle.lrs_store.specs.Content.{each_of_known, Measured, referent_before, referents_of, route_with, routes_of}
 use Rattle.lrs_load_routes.specs.Courses.{passing}
 use Rattle.lrs_load_routes.specs.Measuring.{is_name_of, known, are_route_courses, courses_of_measured, are_all_measured}
-use Rattle.lrs_load_routes.specs.Referring.{is_measured, route_if, have_own_names, are_all_referred, courses_of_routes}
+use Rattle.lrs_load_routes.specs.Referring.{is_measured, route_if, are_all_referred, courses_of_routes}
 use Rattle.lrs_load_routes.proofs.Unordered.{sort_alike, sorted_in_order}
 use Rattle.lrs_load_routes.proofs.Grouped.{sorted_strict}
 use Rattle.lrs_load_routes.proofs.Reading.{each_of-same}

@@ -1,4 +1,3 @@
-use Rattle.std.proofs.Common.{◌∙◌}
 use Rattle.lrs_load_routes.proofs.Referring.{own_names}
 use Rattle.lrs_load_routes.proofs.referents.have_own_names.Goals as goal
 
