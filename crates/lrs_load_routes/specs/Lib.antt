@@ -1,0 +1,4 @@
+pub mod Grouping
+pub mod Courses
+pub mod Measuring
+pub mod Referring
