@@ -10,4 +10,7 @@ mod said;
 
 pub use cells::{MarkCells, PieceCells, RefCells, SpanCells};
 pub use courses::{RouteCourse, read_courses};
+pub use decoding::whole;
 pub use fault::ReadFault;
+pub use groups::{said_of, sort_by_route};
+pub use said::OfRoute;
