@@ -1,23 +1,25 @@
 -- Routes with their spans, and whether the table of spans is sound.
-use Rattle.std.proofs.Common.{◌≡◌, ℕ, Bool, true, false, cond, not, List, [], ◌∷◌, map, filter, Option, Some, None, refl, sym, ap, ◌∙◌, IsPermutation}
+use Rattle.std.proofs.Common.{◌≡◌, ℕ, Bool, true, false, cond, not, List, [], ◌∷◌, map, filter, length, Option, Some, None, refl, sym, ap, ◌∙◌, IsPermutation}
 use Rattle.std.specs.Prelude.{◌&&◌, ◌||◌, nat_eq, nat_le}
-use Rattle.std.specs.List.{list_any, list_all}
+use Rattle.std.specs.List.{list_all}
 use Rattle.std.specs.Cmp.{both_ways}
 use Rattle.std.specs.Cmp.Lexicographic.{bytes_decides}
-use Rattle.std.proofs.lemmas.Bool.{and_parts, eqb-true, eq-eqb, false_from_ne_true}
+use Rattle.std.proofs.lemmas.Bool.{both_ways as clash, and_parts, eqb-true, eq-eqb, false_from_ne_true}
 use Rattle.std.proofs.lemmas.List.Folds.{list_all-map}
 use Rattle.std.proofs.lemmas.List.Sorted.{IsPermutation-map}
 use Rattle.lrs_measure.specs.Lists.{each_two}
 use Rattle.lrs_measure.specs.Texts.{Name, same_name}
 use Rattle.lrs_element.specs.declared.link.Link.{Link}
+use Rattle.lrs_element.specs.Course.{meets}
 use Rattle.lrs_position.specs.declared.route.Route.{Route}
 use Rattle.lrs_events.specs.declared.class.Class.{Class}
 use Rattle.lrs_events.specs.declared.class.Asset.{Asset}
 use Rattle.lrs_events.specs.declared.span.Span.{Span}
-use Rattle.lrs_events.specs.Spans.{are_rows, span_before}
+use Rattle.lrs_events.specs.Spans.{are_rows}
 use Rattle.lrs_lanes.proofs.Members.{each_two-filter}
 use Rattle.lrs_machine.specs.declared.image.RouteEntry.{RouteEntry}
-use Rattle.lrs_machine.specs.Sound.{RouteCourse, RouteSpans, are_courses, are_spans_of, is_span, keeps_exclusive}
+use Rattle.lrs_machine.specs.Sound.{RouteCourse, course_before, is_course, are_courses, are_spans_of, is_span, keeps_exclusive}
+use Rattle.lrs_machine.specs.Bounds.{most_routes}
 use Rattle.lrs_machine.proofs.Members.{all_weaker}
 use Rattle.lrs_machine.proofs.Pairs.{each_two-map}
 use Rattle.lrs_sound.specs.Tables.{route_courses}
@@ -29,7 +31,7 @@ use Rattle.lrs_store.specs.Content.{each_of_known, entry_with, entries_of, spans
 use Rattle.lrs_load_routes.specs.Courses.{passing}
 use Rattle.lrs_load_routes.proofs.Unordered.{IsPermutation-filter}
 use Rattle.lrs_load_routes.proofs.Reading.{each_of-passing}
-use Rattle.lrs_load_spans.specs.Spans.{is_one_of, agree, agree_said, canonical, canonical_entry, courses_over, are_sound}
+use Rattle.lrs_load_spans.specs.Spans.{named_before, is_one_of, agree, agree_said, canonical_entry, courses_over, are_sound}
 use Rattle.lrs_load_spans.proofs.Fitting.{canonical-permutation}
 
 some_alike : {A : Type 0} {a b : A} → ◌≡◌ {A = Option A} (Some a) (Some b) → a ≡ b
@@ -133,7 +135,7 @@ module _ (test : List RouteEntry → Bool) where
     where
       by : (b : Bool) → list_all own es ≡ b → passing (only_if b es) test ≡ only_if (test es) es
       by true e = refl
-      by false e = ap (λ b. cond b (Some es) None) (sym (false_from_ne_true (test es) (λ t. Rattle.std.proofs.lemmas.Bool.both_ways (list_all own es) e (asks t))))
+      by false e = ap (λ b. cond b (Some es) None) (sym (false_from_ne_true (test es) (λ t. clash (list_all own es) e (asks t))))
 
 module _ (links : List Link) (classes : List Class) (assets : List Asset) where
   abbrev sound : List RouteEntry → Bool
@@ -141,7 +143,7 @@ module _ (links : List Link) (classes : List Class) (assets : List Asset) where
 
   asks_rows : (es : List RouteEntry) → sound es ≡ true → list_all own es ≡ true
   asks_rows es h =
-      all_weaker (λ e. are_spans_of assets (spans_of e)) own es (λ e t. (and_parts (are_rows e.spans) (list_all (is_span assets (Rattle.std.proofs.Common.length e.route.course)) e.spans) t).0)
+      all_weaker (λ e. are_spans_of assets (spans_of e)) own es (λ e t. (and_parts (are_rows e.spans) (list_all (is_span assets (length e.route.course)) e.spans) t).0)
       (sym (list_all-map (are_spans_of assets) spans_of es) ∙ (and_parts (list_all (are_spans_of assets) (map spans_of es)) (list_all (keeps_exclusive links assets (map spans_of es)) classes) h).0)
 
   pub nothing_said : (rows : List SpanRow) (routes : List Route) → None ≡ each_of_known (span_of assets) (is_one_of routes) rows → None ≡ passing (entries_of assets rows routes) sound
@@ -154,3 +156,14 @@ module _ (links : List Link) (classes : List Class) (assets : List Asset) where
       ap (λ (o : Option (List RouteEntry)). passing o sound) (each_of-same (canonical_entry ys) (canonical_entry xs) (λ r. sym (entry-permutation r xs ys same)) routes ∙ entries_are xs routes)
       ∙ asked_again sound (map (entry_with xs) routes) (asks_rows (map (entry_with xs) routes))
       ∙ ap (λ (o : Option (List (OfRoute Span))). passing (option.◌>>=◌ o (λ said. Some (map (entry_with said) routes))) sound) h
+
+-- Routes whose courses are sound are in the order of their names.
+pub courses_rise : (links : List Link) (routes : List Route) → are_courses links (courses_over routes) ≡ true → each_two named_before routes ≡ true
+courses_rise links routes h =
+    let courses = courses_over routes in
+    let few = and_parts (each_two course_before courses && list_all (is_course links) courses && each_two (λ c d. not (meets c.entries d.entries)) courses) (nat_le (length courses) most_routes) h in
+    let apart = and_parts (each_two course_before courses && list_all (is_course links) courses) (each_two (λ c d. not (meets c.entries d.entries)) courses) few.0 in
+    sym (each_two-map course_before of_route routes) ∙ (and_parts (each_two course_before courses) (list_all (is_course links) courses) apart.0).0
+  where
+    of_route : Route → RouteCourse
+    of_route r = record { route = r.name; entries = r.course }

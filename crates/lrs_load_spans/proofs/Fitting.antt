@@ -1,27 +1,26 @@
 -- Rows of one route: sorted and told by neighbours, they are canonical as the definitions test each two.
-use Rattle.std.proofs.Common.{◌≡◌, ℕ, suc, ◌+◌, ◌<◌, ◌≤◌, Bool, true, false, cond, not, ◌⊎◌, inl, inr, List, [], ◌∷◌, map, filter, length, get_or, Option, Some, None, refl, sym, ap, ◌∙◌, arith, IsPermutation}
+use Rattle.std.proofs.Common.{◌≡◌, ℕ, suc, ◌+◌, ◌<◌, ◌≤◌, Bool, true, false, cond, not, ◌⊎◌, inl, inr, List, [], ◌∷◌, length, get_or, Option, Some, None, refl, sym, ap, ◌∙◌, arith, add-one, IsPermutation}
 use Rattle.std.specs.Prelude.{◌&&◌, ◌||◌, nat_eq, nat_lt, nat_le}
 use Rattle.std.specs.List.{list_all, IsAllAdjacentAnswer}
 use Rattle.std.specs.List.Sorted.{IsSortedBy}
 use Rattle.std.specs.Cmp.{IsStrictWeakOrder}
 use Rattle.std.specs.Cmp.Lexicographic.{bytes_decides}
-use Rattle.std.proofs.lemmas.Bool.{false≢true, both_ways, and_parts, and_from, and_left, and_right, or_cases, or_left, or_right, cases_Bool, eqb-true, eq-eqb, lt-ltb, ltb-true, false_from_ne_true}
+use Rattle.std.proofs.lemmas.Bool.{false≢true, both_ways, and_parts, and_from, or_cases, or_left, or_right, cases_Bool, eqb-true, eq-eqb, lt-ltb, ltb-true, false_from_ne_true}
+use Rattle.std.proofs.lemmas.List.Sorted.{IsPermutation-sym}
 use Rattle.lrs_measure.specs.Lists.{each_two}
-use Rattle.lrs_measure.specs.Texts.{Name, same_name, name_before}
+use Rattle.lrs_measure.specs.Texts.{same_name, name_before}
 use Rattle.lrs_element.specs.Limits.{longest_route}
-use Rattle.lrs_events.specs.declared.side.Side.{Side}
 use Rattle.lrs_events.specs.declared.span.Span.{Span}
 use Rattle.lrs_events.specs.Spans.{are_rows, are_apart, is_row, same_side, span_before}
 use Rattle.lrs_lanes.specs.declared.order.RowOrder.TheVariants.{ByAsset}
 use Rattle.lrs_lanes.proofs.Ranks.{before_trans, of_one_class, row_ranks}
-use Rattle.lrs_machine.proofs.Members.{In, all_at, all_of}
+use Rattle.lrs_machine.proofs.Members.{all_at, all_of}
 use Rattle.lrs_sound.proofs.Keyed.{two_pass}
 use Rattle.lrs_sound.proofs.Rising.{rises}
 use Rattle.lrs_store.specs.Decoding.{sorted, only_if}
-use Rattle.lrs_load_routes.proofs.Unordered.{sort_alike, both_in_order, sorted_is}
+use Rattle.lrs_load_routes.proofs.Unordered.{sort_alike, sorted_is}
 use Rattle.lrs_load_routes.proofs.Grouped.{sorted_strict, names_rank}
 use Rattle.lrs_load_spans.specs.Spans.{agree, follows, canonical}
-use Rattle.std.proofs.lemmas.List.Sorted.{IsPermutation-sym}
 
 pub rows_rank : IsStrictWeakOrder span_before
 rows_rank = row_ranks ByAsset
@@ -150,7 +149,7 @@ apart (x ∷ y ∷ ys) f g h n =
     let rows = and_parts (is_row x) (list_all is_row (y ∷ ys)) f in
     let ones = and_parts (list_all (agree x) (y ∷ ys)) (each_two agree (y ∷ ys)) g in
     let order = and_parts (list_all (span_before x) (y ∷ ys)) (each_two span_before (y ∷ ys)) h in
-    let more = apart (y ∷ ys) rows.1 ones.1 order.1 (λ k d lt. rw Rattle.std.proofs.Common.add-one (rw Rattle.std.proofs.Common.add-one at (n (suc k) d (omega (arith, lt))))) in
+    let more = apart (y ∷ ys) rows.1 ones.1 order.1 (λ k d lt. rw add-one (rw add-one at (n (suc k) d (omega (arith, lt))))) in
     let first : follows x y ≡ true = n 0 x (omega arith) in
     let two = and_parts (span_before x y) (are_apart x y) first in
     let others = (and_parts (list_all (are_apart y) ys) (each_two are_apart ys) more).0 in

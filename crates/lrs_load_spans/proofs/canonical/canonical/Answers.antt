@@ -1,4 +1,4 @@
-use Rattle.std.proofs.Common.{◌≡◌, ◌∙◌, ap, sym}
+use Rattle.std.proofs.Common.{◌∙◌, ap, sym}
 use Rattle.lrs_measure.specs.Lists.{each_two}
 use Rattle.lrs_events.specs.Spans.{are_rows}
 use Rattle.lrs_load_spans.specs.Spans.{agree}

@@ -1,4 +1,4 @@
-use Rattle.std.proofs.Common.{◌≡◌, ◌∙◌, Some, ap, sym, rules}
+use Rattle.std.proofs.Common.{◌∙◌, Some, ap, sym, rules}
 use Rattle.std.proofs.lemmas.Fn.{always_returns_same}
 use Rattle.lrs_measure.specs.Texts.{name_cmp}
 use Rattle.lrs_position.specs.declared.route.Route.{Route}

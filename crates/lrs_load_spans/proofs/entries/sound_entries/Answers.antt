@@ -1,11 +1,10 @@
-use Rattle.std.proofs.Common.{◌≡◌, ◌∙◌, List, Some, Bool, true, sym, ap}
+use Rattle.std.proofs.Common.{◌≡◌, ◌∙◌, List, Some, sym, ap}
 use Rattle.std.specs.Option.{option_map}
-use Rattle.lrs_element.specs.declared.link.Link.{Link}
 use Rattle.lrs_machine.specs.declared.image.RouteEntry.{RouteEntry}
 use Rattle.lrs_machine.specs.Sound.{are_courses, are_spans}
 use Rattle.lrs_sound.specs.Tables.{route_courses, route_spans}
 use Rattle.lrs_store.specs.Decoding.{each_of}
-use Rattle.lrs_load_spans.specs.Spans.{canonical_entry, courses_over, are_sound}
+use Rattle.lrs_load_spans.specs.Spans.{canonical_entry, are_sound}
 use Rattle.lrs_load_spans.proofs.Entering.{courses_stay, refused, passed}
 use Rattle.lrs_load_spans.proofs.entries.sound_entries.Goals as goal
 
