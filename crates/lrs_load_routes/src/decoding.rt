@@ -13,7 +13,7 @@ use lrs_position::RouteName;
 use std::alloc::{AllocError, Global};
 
 /// A number that is not negative.
-pub(crate) fn whole(n: i64) -> Option<u64>
+pub fn whole(n: i64) -> Option<u64>
     ensures { result ≡ decoding.whole n }
 {
     if n < 0 { None } else { Some(n as u64) }

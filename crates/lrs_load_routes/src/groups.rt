@@ -15,7 +15,7 @@ use lrs_position::RouteName;
 use std::alloc::{AllocError, Global};
 
 /// Sorts what rows say by the names of their routes. It takes no memory.
-pub(crate) fn sort_by_route<T>(rows: &mut Vec<OfRoute<T>>)
+pub fn sort_by_route<T>(rows: &mut Vec<OfRoute<T>>)
     ensures same { IsPermutation rows.old.items rows.new.items }
     ensures sorted { IsSortedBy route_before rows.new.items }
 {
@@ -58,7 +58,7 @@ fn rows_of<'a, T>(rows: &'a [OfRoute<T>], route: &RouteName) -> &'a [OfRoute<T>]
 ///
 /// # Errors
 /// When memory runs out.
-pub(crate) fn said_of<T: Copy>(
+pub fn said_of<T: Copy>(
     alloc: Global,
     rows: &[OfRoute<T>],
     route: &RouteName,

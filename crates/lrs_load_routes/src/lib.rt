@@ -13,6 +13,9 @@ mod said;
 
 pub use cells::{MarkCells, PieceCells, RefCells, SpanCells};
 pub use courses::{RouteCourse, read_courses};
+pub use decoding::whole;
 pub use fault::ReadFault;
+pub use groups::{said_of, sort_by_route};
 pub use marks::{Measured, read_marks};
 pub use referents::read_referents;
+pub use said::OfRoute;
