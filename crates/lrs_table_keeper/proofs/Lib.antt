@@ -1,0 +1,5 @@
+pub mod TextLemmas
+pub mod Next
+pub mod ReadLemmas
+pub mod CommitLemmas
+pub mod Sound

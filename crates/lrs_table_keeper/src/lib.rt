@@ -1,0 +1,10 @@
+//! The tables of a store as a keeper of an image.
+#![tactic(auto)]
+
+mod committing;
+mod keeper;
+mod reading;
+mod texts;
+
+pub use keeper::TableKeeper;
+pub use reading::ReadImage;
