@@ -3,3 +3,4 @@ pub mod Next
 pub mod ReadLemmas
 pub mod CommitLemmas
 pub mod Sound
+pub mod NewLemmas

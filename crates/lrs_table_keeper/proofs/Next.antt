@@ -1,17 +1,14 @@
 -- The rows that a commit writes hold the changed image.
-use Rattle.std.proofs.Common.{◌≡◌, ℕ, ◌+◌, ℤ, pos, List, [], ◌∷◌, length, Ok, refl, sym, ap, subst, ◌∙◌, IsPermutation, arith}
-use Rattle.std.specs.Prelude.{All}
+use Rattle.std.proofs.Common.{◌≡◌, ℕ, ◌+◌, pos, List, [], ◌∷◌, length, refl, sym, ap, ◌∙◌, IsPermutation, arith}
 use Rattle.std.specs.List.{AllByRecursion}
 use Rattle.std.proofs.lemmas.List.{length-append}
 use Rattle.std.proofs.lemmas.List.Elements.{All-nil, All-cons, recursion_from_All}
 use Rattle.std.proofs.lemmas.List.Sorted.{All-permutation, length_permutation}
 use Rattle.lrs_machine.specs.declared.image.Image.{Image}
-use Rattle.lrs_machine.specs.Sound.{IsSound}
 use Rattle.lrs_keep.specs.declared.change.Change.{Change}
 use Rattle.lrs_keep.specs.Change.{apply, CanMake}
 use Rattle.lrs_store.specs.Tables.{Tables}
 use Rattle.lrs_store.specs.Encoded.{encoded}
-use Rattle.lrs_store.specs.Content.{content_of}
 use Rattle.lrs_store.proofs.Contents.{content_is_sound}
 use Rattle.lrs_content.proofs.Stored.{content_is_of_rows}
 use Rattle.lrs_encoded.proofs.Held.{content_is_encoded}
@@ -20,7 +17,7 @@ use Rattle.lrs_encoded.proofs.Restored.{encoded_holds}
 use Rattle.lrs_tables.specs.Writing.{IsWritten}
 use Rattle.lrs_written.proofs.Written.{written_is_encoded}
 use Rattle.lrs_table_keeper.specs.Texts.{HasTexts}
-use Rattle.lrs_table_keeper.specs.Holding.{AreRowsOf, HoldEdits}
+use Rattle.lrs_table_keeper.specs.Holding.{AreRowsOf}
 use Rattle.lrs_table_keeper.proofs.TextLemmas.{texts_after}
 
 -- a list of one element in any order
@@ -29,7 +26,7 @@ alone x [] one are = absurd (omega (arith, one))
 alone x (y ∷ []) one are = ap (λ z. z ∷ []) are.0
 alone x (y ∷ z ∷ zs) one are = absurd (omega (arith, one))
 
-alone_again : {X : Type 0} (x : X) (ys : List X) → IsPermutation (x ∷ []) ys → ys ≡ x ∷ []
+pub alone_again : {X : Type 0} (x : X) (ys : List X) → IsPermutation (x ∷ []) ys → ys ≡ x ∷ []
 alone_again {X} x ys same =
     let P : X → Type 0 = λ y. y ≡ x in
     alone x ys (length_permutation (x ∷ []) ys same) (recursion_from_All P ys (All-permutation P (x ∷ []) ys same (All-cons P x [] refl (All-nil P))))

@@ -9,12 +9,12 @@ ghost use Rattle.lrs_tables.specs.Resting.{IsReady};
 ghost use Rattle.lrs_table_keeper.specs.Holding.{MayHold, IsSafe};
 
 use crate::committing::write_next;
+use crate::memory::new_store;
 use crate::reading::{ReadImage, read_alone};
 use lrs_keep::{Change, CommitFault, Keeper, LoadFault};
 use lrs_machine::{Image, Table};
-use lrs_tables::start::make_store;
 use lrs_tables::tables::OpenFault;
-use sqlite::{Alter, Connection, Error, ErrorCode, MemStore};
+use sqlite::{Alter, Connection, MemStore};
 use std::alloc::Global;
 use std::marker::Model;
 
@@ -71,6 +71,29 @@ impl<S: Alter, R: ReadImage> TableKeeper<S, R> {
             is_broken: false,
             failures: 0,
         }
+    }
+}
+
+impl<R: ReadImage + Drop> TableKeeper<MemStore, R> {
+    /// Keeps the image without entries in a new store in memory. Nothing has to be loaded before the first commit.
+    ///
+    /// # Errors
+    /// When memory runs out.
+    pub fn in_memory(alloc: Global, reader: R) -> Result<TableKeeper<MemStore, R>, OpenFault>
+        ensures empty { IfOk result (λ k. HoldsOnly (MayHold (state over_memory k.conn)) nothing) }
+        ensures safe { IfOk result (λ k. IsSafe (state over_memory k.conn)) }
+        ensures loaded { IfOk result (λ k. k.is_loaded ≡ true) }
+        ensures usable { IfOk result (λ k. k.is_broken ≡ false) }
+    {
+        let conn = new_store(alloc)?;
+        Ok(TableKeeper {
+            conn,
+            reader,
+            edits: 0,
+            is_loaded: true,
+            is_broken: false,
+            failures: 0,
+        })
     }
 }
 

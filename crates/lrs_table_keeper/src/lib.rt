@@ -3,7 +3,10 @@
 
 mod committing;
 mod keeper;
+mod memory;
 mod reading;
+#[cfg(test)]
+mod tests;
 mod texts;
 
 pub use keeper::TableKeeper;
