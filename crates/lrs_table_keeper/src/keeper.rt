@@ -140,7 +140,7 @@ impl<S: Alter, R: ReadImage> Keeper for TableKeeper<S, R> {
                 Ok(())
             }
             Err(fault) => {
-                self.is_broken = true;
+                self.is_broken = true; // what is kept is either
                 self.failures = self.failures.saturating_add(1);
                 Err(fault)
             }
