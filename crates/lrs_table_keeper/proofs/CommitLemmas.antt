@@ -1,0 +1,73 @@
+-- What a written change makes of what an opening may find.
+use Rattle.std.proofs.Common.{◌≡◌, ◌⊎◌, inl, inr, ℕ, ◌+◌, IsTrue, IfOk, Ok, Result, sym, ap, subst, ◌∙◌}
+use Rattle.sqlite_trees.specs.declared.store.Store.{Ghosts}
+use Rattle.sqlite_trees.specs.Tree.{Trees}
+use Rattle.sqlite.specs.Effect.{Database}
+use Rattle.sqlite.specs.Held.{Held, state}
+use Rattle.sqlite.specs.State.{State, HasCleanDisk}
+use Rattle.lrs_machine.specs.declared.image.Image.{Image}
+use Rattle.lrs_machine.specs.declared.table.Table.{Table}
+use Rattle.lrs_keep.specs.declared.change.Change.{Change}
+use Rattle.lrs_keep.specs.Change.{apply, CanMake}
+use Rattle.lrs_keep.specs.Keeping.{IsChanged}
+use Rattle.lrs_store.specs.Tables.{Tables}
+use Rattle.lrs_store.specs.Content.{content_of}
+use Rattle.lrs_tables.specs.Stored.{stored}
+use Rattle.lrs_tables.specs.Writing.{IsWritten}
+use Rattle.lrs_tables.specs.Resting.{IsReady}
+use Rattle.lrs_table_keeper.specs.Texts.{HasTexts}
+use Rattle.lrs_table_keeper.specs.Holding.{MayHold, HoldEdits, HasEdits, IsOldOrChanged}
+use Rattle.lrs_table_keeper.proofs.Next.{next_rows, one_more}
+use Rattle.lrs_table_keeper.proofs.ReadLemmas.{IsSettled}
+
+abbrev pub Stays : {S : Type 0} → Ghosts S → Type 0
+Stays {S} g = (s : S) → IsTrue (g.view s).is_open → g.recovers s (g.view s).committed
+
+-- what is found of rows after the change
+pub record IsNext (s : State) (n : ℕ) (c : Change) (after : Tables) : Type 0 where
+  pub edits : HoldEdits n after
+  pub changed : IsChanged (MayHold s) c (content_of after)
+
+module _ {S : Type 0} (g : Ghosts S) (stays : Stays g) (settled : IsSettled g) (old : Held S) (n edits : ℕ) (c : Change)
+    (ready : IsReady (state g old)) (next : n ≡ edits + 1) (kept : HasEdits edits (state g old))
+    (can : (x : Result Image Table) → MayHold (state g old) x → IfOk x (CanMake c)) (texts : HasTexts c) where
+  abbrev s : State
+  s = state g old
+
+  written_next : HasCleanDisk s → IsTrue s.is_open → (after : Tables) → IsWritten n c (stored s.now.trees) after → IsNext s n c after
+  written_next clean opened after written =
+      let db = s.committed.trees in
+      let left = stays old.store opened in
+      let held = kept clean db left in
+      let found : MayHold s (Ok held.image) = (clean, (db, left, held.rows.holds)) in
+      let from : IsWritten n c (stored db) after = subst (λ (d : Database). IsWritten n c (stored d.trees) after) (ready clean opened).settled written in
+      let rows = next_rows c held.image (stored db) after texts (can (Ok held.image) found) held.rows (subst (λ k. IsWritten k c (stored db) after) (next ∙ ap (λ k. k + 1) (sym held.edits)) from) in
+      record {
+        edits = record { image = apply c held.image; rows = rows; edits = one_more c held.image edits held.edits ∙ sym next };
+        changed = (Ok held.image, found, rows.holds);
+      }
+
+  module _ (new : Held S) (early : HasCleanDisk (state g new) → HasCleanDisk s) where
+    abbrev s1 : State
+    s1 = state g new
+
+    -- after Ok
+    module _ (opens : HasCleanDisk s1 → IsTrue s.is_open × IsTrue s1.is_open) (written : HasCleanDisk s1 → IsWritten n c (stored s.now.trees) (stored s1.committed.trees)) where
+      is_next : HasCleanDisk s1 → (db : Trees) → s1.may_leave db → IsNext s n c (stored db)
+      is_next clean db left =
+          subst (λ (d : Trees). IsNext s n c (stored d)) (sym (settled new.store db (opens clean).1 left))
+          (written_next (early clean) (opens clean).0 (stored s1.committed.trees) (written clean))
+
+      pub counted : HasEdits n s1
+      counted clean db left = (is_next clean db left).edits
+
+      pub changed : (x : Result Image Table) → MayHold s1 x → IsChanged (MayHold s) c x
+      changed x h = subst (IsChanged (MayHold s) c) h.1.2 (is_next h.0 h.1.0 h.1.1).changed
+
+    -- after a fault
+    pub old_or_changed : (HasCleanDisk s1 → (db : Trees) → s1.may_leave db → s.may_leave db ⊎ (IsTrue s.is_open × IsWritten n c (stored s.now.trees) (stored db))) → (x : Result Image Table) → MayHold s1 x → IsOldOrChanged (MayHold s) c x
+    old_or_changed crash x h =
+        elim (crash h.0 h.1.0 h.1.1) [
+          | inl earlier ↦ inl (early h.0, (h.1.0, earlier, h.1.2))
+          | inr made ↦ inr (subst (IsChanged (MayHold s) c) h.1.2 (written_next (early h.0) made.0 (stored h.1.0) made.1).changed)
+        ]

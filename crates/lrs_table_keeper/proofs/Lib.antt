@@ -1,0 +1,6 @@
+pub mod TextLemmas
+pub mod Next
+pub mod ReadLemmas
+pub mod CommitLemmas
+pub mod Sound
+pub mod NewLemmas

@@ -1,0 +1,44 @@
+-- The rows that a commit writes hold the changed image.
+use Rattle.std.proofs.Common.{◌≡◌, ℕ, ◌+◌, pos, List, [], ◌∷◌, length, refl, sym, ap, ◌∙◌, IsPermutation, arith}
+use Rattle.std.specs.List.{AllByRecursion}
+use Rattle.std.proofs.lemmas.List.{length-append}
+use Rattle.std.proofs.lemmas.List.Elements.{All-nil, All-cons, recursion_from_All}
+use Rattle.std.proofs.lemmas.List.Sorted.{All-permutation, length_permutation}
+use Rattle.lrs_machine.specs.declared.image.Image.{Image}
+use Rattle.lrs_keep.specs.declared.change.Change.{Change}
+use Rattle.lrs_keep.specs.Change.{apply, CanMake}
+use Rattle.lrs_store.specs.Tables.{Tables}
+use Rattle.lrs_store.specs.Encoded.{encoded}
+use Rattle.lrs_store.proofs.Contents.{content_is_sound}
+use Rattle.lrs_content.proofs.Stored.{content_is_of_rows}
+use Rattle.lrs_encoded.proofs.Held.{content_is_encoded}
+use Rattle.lrs_encoded.proofs.Named.{content_has_texts}
+use Rattle.lrs_encoded.proofs.Restored.{encoded_holds}
+use Rattle.lrs_tables.specs.Writing.{IsWritten}
+use Rattle.lrs_written.proofs.Written.{written_is_encoded}
+use Rattle.lrs_table_keeper.specs.Texts.{HasTexts}
+use Rattle.lrs_table_keeper.specs.Holding.{AreRowsOf}
+use Rattle.lrs_table_keeper.proofs.TextLemmas.{texts_after}
+
+-- a list of one element in any order
+alone : {X : Type 0} (x : X) (ys : List X) → length ys ≡ 1 → AllByRecursion (λ y. y ≡ x) ys → ys ≡ x ∷ []
+alone x [] one are = absurd (omega (arith, one))
+alone x (y ∷ []) one are = ap (λ z. z ∷ []) are.0
+alone x (y ∷ z ∷ zs) one are = absurd (omega (arith, one))
+
+pub alone_again : {X : Type 0} (x : X) (ys : List X) → IsPermutation (x ∷ []) ys → ys ≡ x ∷ []
+alone_again {X} x ys same =
+    let P : X → Type 0 = λ y. y ≡ x in
+    alone x ys (length_permutation (x ∷ []) ys same) (recursion_from_All P ys (All-permutation P (x ∷ []) ys same (All-cons P x [] refl (All-nil P))))
+
+pub next_rows : (c : Change) (i : Image) (t after : Tables) → HasTexts c → CanMake c i → AreRowsOf i t → IsWritten (length i.edits + 1) c t after → AreRowsOf (apply c i) after
+next_rows c i t after come can rows written =
+    let e = written_is_encoded i c t after (content_is_sound t i rows.holds) can (content_is_encoded t i rows.version rows.holds) written in
+    let held = encoded_holds e.pieces (apply c i) (texts_after c i come (content_has_texts t i rows.holds)) can.sound e.are in
+    record {
+      version = alone_again (pos 2) after.version e.rows.version;
+      holds = sym (content_is_of_rows (encoded e.pieces (apply c i)) after e.rows) ∙ held;
+    }
+
+pub one_more : (c : Change) (i : Image) (n : ℕ) → length i.edits ≡ n → length (apply c i).edits ≡ n + 1
+one_more c i n is = length-append i.edits (c.edit ∷ []) ∙ ap (λ k. k + 1) is

@@ -1,0 +1,163 @@
+//! The tables of a store as a keeper.
+
+ghost use Rattle.std.specs.Prelude.{◌≡◌, ◌≤◌, IfOk, true, false, Ok};
+ghost use Rattle.sqlite.specs.Held.{state};
+ghost use Rattle.sqlite.specs.Steps.{over_memory};
+ghost use Rattle.lrs_machine.specs.Image.{nothing};
+ghost use Rattle.lrs_keep.specs.Keeping.{HasRisen, HoldsOnly};
+ghost use Rattle.lrs_tables.specs.Resting.{IsReady};
+ghost use Rattle.lrs_table_keeper.specs.Holding.{MayHold, IsSafe};
+
+use crate::committing::write_next;
+use crate::memory::new_store;
+use crate::reading::{ReadImage, read_alone};
+use lrs_keep::{Change, CommitFault, Keeper, LoadFault};
+use lrs_machine::{Image, Table};
+use lrs_tables::tables::OpenFault;
+use sqlite::{Alter, Connection, MemStore};
+use std::alloc::Global;
+use std::marker::Model;
+
+/// Keeps an image in the tables of a store. A commit is one transaction; loading reads all tables.
+///
+/// After a commit or a load that failed the connection is not used again: each call answers `Store` from then
+/// on, until the store is opened anew.
+#[derive(Drop)]
+pub struct TableKeeper<S: Alter, R: ReadImage> {
+    conn: Connection<S>,
+    reader: R,
+    edits: u64,
+    is_loaded: bool,
+    is_broken: bool,
+    failures: u64,
+}
+
+impl<S: Alter, R: ReadImage> Model for TableKeeper<S, R> {
+    ghost use Rattle.std.specs.Prelude.{◌≡◌, false};
+    ghost use Rattle.sqlite.specs.Held.{state};
+    ghost use Rattle.lrs_table_keeper.specs.KeeperView.{KeeperView, view_code};
+    ghost use Rattle.lrs_table_keeper.specs.Holding.{IsUsable};
+
+    ghost Value = { KeeperView S R };
+
+    ghost coded = { view_code S.code R.code };
+
+    ghost view = { λ k. record {
+      conn = k.conn;
+      reader = k.reader;
+      edits = k.edits;
+      is_loaded = k.is_loaded;
+      is_broken = k.is_broken;
+      failures = k.failures;
+    } };
+
+    ghost invariant = { λ k. k.is_broken ≡ false → IsUsable (state S.Store k.conn) k.conn.in_transaction k.is_loaded k.edits };
+}
+
+impl<S: Alter, R: ReadImage> TableKeeper<S, R> {
+    /// Keeps what the tables of a store hold, of which nothing is loaded yet.
+    pub fn over(conn: Connection<S>, reader: R) -> TableKeeper<S, R>
+        requires autocommit { conn.in_transaction ≡ false }
+        requires ready { IsReady (state S.Store conn) }
+        ensures same { result.conn ≡ conn }
+        ensures unloaded { result.is_loaded ≡ false }
+        ensures usable { result.is_broken ≡ false }
+    {
+        TableKeeper {
+            conn,
+            reader,
+            edits: 0,
+            is_loaded: false,
+            is_broken: false,
+            failures: 0,
+        }
+    }
+}
+
+impl<R: ReadImage + Drop> TableKeeper<MemStore, R> {
+    /// Keeps the image without entries in a new store in memory. Nothing has to be loaded before the first commit.
+    ///
+    /// # Errors
+    /// When memory runs out.
+    pub fn in_memory(alloc: Global, reader: R) -> Result<TableKeeper<MemStore, R>, OpenFault>
+        ensures empty { IfOk result (λ k. HoldsOnly (MayHold (state over_memory k.conn)) nothing) }
+        ensures safe { IfOk result (λ k. IsSafe (state over_memory k.conn)) }
+        ensures loaded { IfOk result (λ k. k.is_loaded ≡ true) }
+        ensures usable { IfOk result (λ k. k.is_broken ≡ false) }
+    {
+        let conn = new_store(alloc)?;
+        Ok(TableKeeper {
+            conn,
+            reader,
+            edits: 0,
+            is_loaded: true,
+            is_broken: false,
+            failures: 0,
+        })
+    }
+}
+
+impl<S: Alter, R: ReadImage> Keeper for TableKeeper<S, R> {
+    ghost use Rattle.sqlite.specs.Held.{state};
+    ghost use Rattle.lrs_table_keeper.specs.Holding.{MayHold, IsSafe, finds_left};
+
+    ghost may_hold = { λ k c. MayHold (state S.Store k.conn) c };
+
+    ghost is_clean = { λ k. IsSafe (state S.Store k.conn) };
+
+    ghost is_loaded = { λ k. k.is_loaded };
+
+    ghost failures = { λ k. k.failures };
+
+    fn load(&mut self, alloc: Global) -> Result<Image, LoadFault> {
+        if self.is_broken {
+            self.failures = self.failures.saturating_add(1);
+            return Err(LoadFault::Store);
+        }
+        match read_alone(&self.reader, alloc, &mut self.conn) {
+            Ok(image) => {
+                self.edits = image.edits.len() as u64;
+                self.is_loaded = true;
+                Ok(image)
+            }
+            Err(fault) => {
+                self.is_loaded = false;
+                self.is_broken = true;
+                self.failures = failures_after(self.failures, &fault);
+                Err(fault)
+            }
+        }
+    }
+
+    fn commit(&mut self, change: &Change) -> Result<(), CommitFault> {
+        if self.is_broken {
+            self.failures = self.failures.saturating_add(1);
+            return Err(CommitFault::Store);
+        }
+        match write_next(&mut self.conn, self.edits, change) {
+            Ok(edits) => {
+                self.edits = edits;
+                Ok(())
+            }
+            Err(fault) => {
+                self.is_broken = true; // what is kept is either
+                self.failures = self.failures.saturating_add(1);
+                Err(fault)
+            }
+        }
+    }
+
+    ghost finds = { λ k safe. finds_left safe (S.Store.stays k.conn.store safe.is_open) };
+}
+
+/// The count of failures after a fault of loading.
+fn failures_after(failures: u64, fault: &LoadFault) -> u64
+    ensures store { fault.now ≡ LoadFault.Store → HasRisen failures result }
+    ensures quiet { (fault.now ≡ LoadFault.Store → ⊥) → result ≡ failures }
+    ensures counts { failures ≤ result }
+{
+    match fault {
+        LoadFault::Store => failures.saturating_add(1),
+        LoadFault::Memory | LoadFault::Unsound(_) => failures,
+    }
+}

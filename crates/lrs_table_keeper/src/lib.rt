@@ -1,0 +1,13 @@
+//! The tables of a store as a keeper of an image.
+#![tactic(auto)]
+
+mod committing;
+mod keeper;
+mod memory;
+mod reading;
+#[cfg(test)]
+mod tests;
+mod texts;
+
+pub use keeper::TableKeeper;
+pub use reading::ReadImage;
