@@ -28,7 +28,8 @@ use Rattle.lrs_tables.specs.Making.{no_schema, up_to_edit, up_to_origin}
 use Rattle.lrs_tables.specs.Starting.{new_rows}
 use Rattle.lrs_tables.specs.Holding.{HoldsOnly}
 use Rattle.lrs_tables.proofs.MakeLemmas.{creates, all_made}
-use Rattle.lrs_files.specs.Opening.{IsTaken, HasNumbers, HasOrigins, without_origins}
+use Rattle.lrs_tables.specs.Changing.{without_origins}
+use Rattle.lrs_files.specs.Opening.{IsTaken, HasNumbers, HasOrigins}
 use Rattle.lrs_files.proofs.PlainTables.{first_tables}
 
 -- a database of the tables is at rest where it is committed

@@ -11,7 +11,8 @@ use Rattle.lrs_tables.specs.Stored.{stored}
 use Rattle.lrs_tables.specs.Making.{no_schema, up_to_edit}
 use Rattle.lrs_tables.specs.Starting.{new_rows}
 use Rattle.lrs_tables.specs.Holding.{HoldsOnly}
-use Rattle.lrs_files.specs.Opening.{IsKnown, without_origins}
+use Rattle.lrs_tables.specs.Changing.{without_origins}
+use Rattle.lrs_files.specs.Opening.{IsKnown}
 
 -- The files held these trees, of tables that are known. A store without tables was made new, and all rows of one with tables stay.
 pub record HasFound (image : Image) (s : State) : Type 0 where

@@ -6,9 +6,9 @@ use Rattle.sqlite_schema.specs.declared.schema.Schema.{Schema}
 use Rattle.sqlite_catalog.specs.Change.{KeepsRows}
 use Rattle.sqlite.specs.Effect.{Database}
 use Rattle.sqlite.specs.State.{State, HasCleanDisk, Opens}
-use Rattle.lrs_store.specs.Tables.{Tables}
 use Rattle.lrs_tables.specs.Schema.{inventory}
 use Rattle.lrs_tables.specs.Stored.{stored, AreNumbered}
+use Rattle.lrs_tables.specs.Changing.{without_origins}
 use Rattle.lrs_tables.specs.Making.{no_schema, up_to_edit}
 use Rattle.lrs_tables.specs.Starting.{new_rows}
 use Rattle.lrs_tables.specs.Holding.{HoldsOnly}
@@ -16,10 +16,6 @@ use Rattle.lrs_tables.specs.Holding.{HoldsOnly}
 -- no table, the tables of version 1, or those of version 2
 abbrev pub IsKnown : Schema → Type 0
 IsKnown s = (s ≡ no_schema) ⊎ ((s ≡ up_to_edit) ⊎ (s ≡ inventory))
-
--- the rows of a store of version 1, which tell no origins
-abbrev pub without_origins : Tables → Tables
-without_origins t = record t { origin = [] }
 
 -- What an opening makes of a store: one without tables is made new, and in one that has tables of an inventory all rows stay.
 pub record IsTaken (old new : State) : Type 0 where

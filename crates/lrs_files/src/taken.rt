@@ -6,9 +6,10 @@ ghost use Rattle.sqlite.specs.Held.{state};
 ghost use Rattle.lrs_store.specs.Tables.{AreSame};
 ghost use Rattle.lrs_tables.specs.Schema.{inventory};
 ghost use Rattle.lrs_tables.specs.Stored.{stored, LeavesStore};
+ghost use Rattle.lrs_tables.specs.Changing.{without_origins};
 ghost use Rattle.lrs_tables.specs.Making.{no_schema, up_to_edit};
 ghost use Rattle.lrs_tables.specs.Resting.{IsReady};
-ghost use Rattle.lrs_files.specs.Opening.{IsTaken, IsFound, HasOrigins, IsGrown, without_origins};
+ghost use Rattle.lrs_files.specs.Opening.{IsTaken, IsFound, HasOrigins, IsGrown};
 
 use crate::known::{Known, wanted, which};
 use lrs_tables::start::make_store;

@@ -11,6 +11,8 @@ pub mod Columns
 pub mod DeleteStatements
 pub mod Deleting
 pub mod Deleted
+pub mod Clearing
+pub mod BringLemmas
 pub mod UpdateRows
 pub mod RenameStatements
 pub mod Updating

@@ -1,5 +1,5 @@
 -- What is written of a change: rows that come, rows that go, and rows of a route that gets another name.
-use Rattle.std.specs.Prelude.{ℕ, ℤ, pos, negsuc, Bool, false, not, ◌&&◌, nat_eq, List, ◌∷◌, ◌++◌, map, filter, if◌then◌else◌}
+use Rattle.std.specs.Prelude.{ℕ, ℤ, pos, negsuc, Bool, false, not, ◌&&◌, nat_eq, List, [], ◌∷◌, ◌++◌, map, filter, if◌then◌else◌}
 use Rattle.std.specs.List.{list_any}
 use Rattle.lrs_measure.specs.Texts.{Name, same_name}
 use Rattle.lrs_element.specs.declared.link.Link.{Link}
@@ -33,6 +33,10 @@ with_asset_row a t = record t { asset = asset_row a ∷ t.asset }
 abbrev pub with_origin : Asset → Tables → Tables
 with_origin a t = record t { origin = origin_row a ∷ t.origin }
 
+-- the edits that entered these assets
+abbrev pub with_origins : List Asset → Tables → Tables
+with_origins as_ t = record t { origin = map origin_row as_ ++ t.origin }
+
 -- an asset, and the edit that entered it
 abbrev pub with_asset : Asset → Tables → Tables
 with_asset a t = with_origin a (with_asset_row a t)
@@ -61,6 +65,14 @@ abbrev pub with_edit : ℕ → Edit → Tables → Tables
 with_edit n e t = record t { edit = edit_row n e ∷ t.edit }
 
 -- rows that go
+
+-- the row of the version
+abbrev pub without_version : Tables → Tables
+without_version t = record t { version = [] }
+
+-- the rows that tell which edit entered an asset
+abbrev pub without_origins : Tables → Tables
+without_origins t = record t { origin = [] }
 
 -- the rows of a route
 abbrev pub without_pieces : Name → Tables → Tables

@@ -12,6 +12,10 @@ use Rattle.lrs_tables.specs.Writing.{IsWritten}
 abbrev pub HoldsOnly : State → Tables → Type 0
 HoldsOnly s t = HasCleanDisk s → (db : Trees) → s.may_leave db → AreSame t (stored db)
 
+-- nothing but the first rows, or nothing but the second
+abbrev pub HoldsOneOf : State → Tables → Tables → Type 0
+HoldsOneOf s t u = HasCleanDisk s → (db : Trees) → s.may_leave db → AreSame t (stored db) ⊎ AreSame u (stored db)
+
 -- nothing but what the change, whose edit has this number, makes of these rows
 abbrev pub HoldsChanged : ℕ → Change → State → Tables → Type 0
 HoldsChanged n c s t = HasCleanDisk s → (db : Trees) → s.may_leave db → IsWritten n c t (stored db)

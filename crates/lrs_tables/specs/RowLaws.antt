@@ -11,13 +11,15 @@ use Rattle.lrs_measure.specs.Texts.{Name, same_name}
 use Rattle.lrs_element.specs.declared.link.Piece.{Piece}
 use Rattle.lrs_element.specs.declared.marks.Mark.{Mark}
 use Rattle.lrs_position.specs.declared.route.Referent.{Referent}
+use Rattle.lrs_events.specs.declared.class.Asset.{Asset}
 use Rattle.lrs_events.specs.declared.span.Span.{Span}
 use Rattle.lrs_events.specs.declared.part.Part.{Part}
 use Rattle.lrs_events.specs.declared.part.Gone.{Gone}
 use Rattle.lrs_store.specs.Tables.{Tables}
 use Rattle.lrs_store.specs.Tables.{AreSame}
+use Rattle.lrs_store.specs.Laws.{origin_row}
 use Rattle.lrs_store.specs.Encoding.{piece_row, mark_row, ref_row, span_row, entered_row, gone_row, numbered}
-use Rattle.lrs_tables.specs.Changing.{with_pieces, with_marks, with_refs, with_spans, with_entered, with_gone, has_key_of, less_spans, less_refs}
+use Rattle.lrs_tables.specs.Changing.{with_pieces, with_marks, with_refs, with_spans, with_entered, with_gone, with_origins, has_key_of, less_spans, less_refs}
 
 -- the same rows, as a relation
 pub same_refl : (a : Tables) → AreSame a a
@@ -61,6 +63,10 @@ entered_more xs x t u h =
 pub gone_more : (xs : List Gone) (x : Gone) (t u : Tables) → AreSame (with_gone xs t) u → AreSame (with_gone (xs ++ x ∷ []) t) (with_gone (x ∷ []) u)
 gone_more xs x t u h =
     record { version = h.version; link = h.link; class = h.class; asset = h.asset; piece = h.piece; mark = h.mark; ref = h.ref; span = h.span; entered = h.entered; gone = behind (map gone_row xs) (gone_row x) t.gone u.gone (map_push gone_row xs x) h.gone; edit = h.edit; origin = h.origin }
+
+pub origins_more : (xs : List Asset) (x : Asset) (t u : Tables) → AreSame (with_origins xs t) u → AreSame (with_origins (xs ++ x ∷ []) t) (with_origins (x ∷ []) u)
+origins_more xs x t u h =
+    record { version = h.version; link = h.link; class = h.class; asset = h.asset; piece = h.piece; mark = h.mark; ref = h.ref; span = h.span; entered = h.entered; gone = h.gone; edit = h.edit; origin = behind (map origin_row xs) (origin_row x) t.origin u.origin (map_push origin_row xs x) h.origin }
 
 -- ---- rows that go
 

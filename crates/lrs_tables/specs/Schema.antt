@@ -211,6 +211,14 @@ drop_span = codes "DELETE FROM span WHERE route = ?1"
 abbrev pub rename_span : List ℕ
 rename_span = codes "UPDATE span SET route = ?2 WHERE route = ?1"
 
+-- all rows of a table go
+
+abbrev pub clear_version : List ℕ
+clear_version = codes "DELETE FROM version"
+
+abbrev pub clear_origin : List ℕ
+clear_origin = codes "DELETE FROM origin"
+
 -- one row goes, by its key
 
 abbrev pub take_ref : List ℕ

@@ -1,5 +1,5 @@
 -- What a change makes of the rows of a store.
-use Rattle.std.specs.Prelude.{◌≡◌, ℕ, List, Option, Some, None, IsTrue, ⊤}
+use Rattle.std.specs.Prelude.{ℕ, List, Option, Some, None, IsTrue, ⊤}
 use Rattle.lrs_measure.specs.Texts.{Name}
 use Rattle.lrs_element.specs.declared.link.Ground.{Ground}
 use Rattle.lrs_element.specs.declared.link.Piece.{Piece}

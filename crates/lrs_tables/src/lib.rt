@@ -1,6 +1,7 @@
 //! The tables of a store: rows that are read, put, taken and renamed, and changes that are kept as a whole.
 #![tactic(auto)]
 
+pub mod bringing_up;
 pub mod change;
 pub mod coming;
 pub mod going;

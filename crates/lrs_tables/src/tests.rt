@@ -2,6 +2,7 @@
 
 use crate::tables::Tables;
 use lrs_element::{Course, Link, Mark, Marks, Piece};
+use lrs_events::{Asset, Class, ClassName, Kind, Value};
 use lrs_keep::{Change, Difference, ReferentChange, RouteChange};
 use lrs_machine::{Command, Edit, Key, RouteEntry};
 use lrs_measure::Rows;
@@ -133,4 +134,31 @@ fn a_route_gets_the_referent_of_one_that_goes(rt: HostRuntime) {
         spans_come: Rows::new(alloc),
     });
     keeps(&rt, &mut tables, 3, "s3", third);
+}
+
+/// An asset of a class, which this edit entered.
+fn asset(rt: &impl Abort, class: ClassName, entry: u64) -> Asset {
+    Asset {
+        number: 1,
+        class,
+        value: Value::new(b"50").expect(rt, "a value"),
+        lateral: 0,
+        entry,
+    }
+}
+
+#[test]
+fn a_store_is_brought_up(rt: HostRuntime) {
+    let mut tables = new_store(&rt);
+    let name = ClassName::new(b"SPEED").expect(&rt, "a class name");
+    let kind = Kind::Stretch;
+    let mut difference = Difference::none(rt.alloc());
+    difference.class = Some(Class { name, kind });
+    difference.asset = Some(asset(&rt, name, 1));
+    keeps(&rt, &mut tables, 1, "s1", difference);
+    let assets = [asset(&rt, name, 1)];
+    assert!(rt; tables.bring_up(&assets).is_ok());
+    let mut later = Difference::none(rt.alloc());
+    later.link = Some(LINKS[0]);
+    keeps(&rt, &mut tables, 2, "s2", later);
 }

@@ -5,7 +5,7 @@ use Rattle.sqlite.specs.Held.{state}
 use Rattle.sqlite.specs.State.{HasCleanDisk}
 use Rattle.lrs_store.specs.Tables.{AreSame}
 use Rattle.lrs_tables.specs.Stored.{stored}
-use Rattle.lrs_files.specs.Opening.{without_origins}
+use Rattle.lrs_tables.specs.Changing.{without_origins}
 use Rattle.lrs_files.proofs.OpenLemmas.{taken_first, at_rest, grown_rows, grown_numbers}
 use Rattle.lrs_files.proofs.taken.grown.Goals as goal
 
