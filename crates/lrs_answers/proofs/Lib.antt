@@ -1,0 +1,9 @@
+pub mod FromReferents
+pub mod Holding
+pub mod Asked
+pub mod Located
+pub mod Joined
+pub mod HeldBy
+pub mod OfState
+pub mod AllRows
+pub mod AskedAt

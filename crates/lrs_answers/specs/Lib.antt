@@ -1,0 +1,4 @@
+pub mod Answers
+pub mod Hits
+pub mod Finding
+pub mod Segmented

@@ -1,0 +1,42 @@
+//! Why a question is refused.
+
+use lrs_position::PlaceFault;
+use lrs_report::SegFault;
+use std::alloc::AllocError;
+
+/// Why a question is refused.
+#[derive(Clone, Copy, Debug, PartialEq, Eq)]
+pub enum AskFault {
+    /// No route has this name.
+    NoRoute,
+    /// No asset has this number.
+    NoAsset,
+    /// The position expression locates nothing on the route.
+    Place(PlaceFault),
+    /// Segments of these classes on this side are refused; want of memory is `Memory`, never this.
+    Seg(SegFault),
+    /// Memory ran out.
+    Memory,
+}
+
+impl From<AllocError> for AskFault {
+    ghost use Rattle.std.specs.Prelude.{◌≡◌};
+    ghost use Rattle.lrs_answers.specs.declared.fault.AskFault.TheVariants.{Memory};
+
+    ghost from_gives = { λ _ e. e ≡ Memory };
+
+    fn from(_: AllocError) -> Self {
+        AskFault::Memory
+    }
+}
+
+impl From<PlaceFault> for AskFault {
+    ghost use Rattle.std.specs.Prelude.{◌≡◌};
+    ghost use Rattle.lrs_answers.specs.declared.fault.AskFault.TheVariants.{Place};
+
+    ghost from_gives = { λ fault e. e ≡ Place fault };
+
+    fn from(fault: PlaceFault) -> Self {
+        AskFault::Place(fault)
+    }
+}

@@ -1,0 +1,15 @@
+//! What a road authority asks of an inventory, over the lists that are kept of it.
+#![tactic(auto)]
+
+mod fault;
+mod finding;
+mod hits;
+mod routes;
+mod segmenting;
+mod standing;
+
+pub use fault::AskFault;
+pub use finding::{FoundRow, find};
+pub use hits::{AtAnswer, at};
+pub use segmenting::segments;
+pub use standing::{to_link, translate};
