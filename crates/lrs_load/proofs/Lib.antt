@@ -1,0 +1,3 @@
+pub mod Sorted
+pub mod Asks
+pub mod Said
