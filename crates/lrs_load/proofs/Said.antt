@@ -1,7 +1,5 @@
 -- What the rows of a table say, and what is read of them.
-use Rattle.std.proofs.Common.{◌≡◌, Bool, true, List, [], ◌∷◌, map, Option, Some, None, Result, Ok, Err, refl, sym, ap, subst, ◌∙◌, IsPermutation}
-use Rattle.lrs_measure.specs.Lists.{each_two}
-use Rattle.std.specs.Cmp.{IsStrictWeakOrder}
+use Rattle.std.proofs.Common.{◌≡◌, Bool, List, map, Option, Some, None, Result, Ok, Err, sym, ap, subst, ◌∙◌}
 use Rattle.lrs_machine.specs.declared.table.Table.{Table}
 use Rattle.lrs_keep.specs.declared.keeper.LoadFault.{LoadFault}
 use Rattle.lrs_keep.specs.declared.keeper.LoadFault.TheVariants.{Memory, Store, Unsound}
@@ -9,7 +7,6 @@ use Rattle.lrs_store.specs.Decoding.{each_of, each_sorted, sorted}
 use Rattle.lrs_store.specs.Decoding as option
 use Rattle.lrs_store.specs.Content.{read}
 use Rattle.lrs_tables.proofs.SaidRows.{each_of-map}
-use Rattle.lrs_content.proofs.Unordered.{read_alike}
 use Rattle.lrs_load.specs.Loading.{Reads, Loads, IsOfStore}
 
 module _ {A : Type 0} where

@@ -1,7 +1,5 @@
-use Rattle.std.proofs.Common.{◌≡◌, Ok, Some, map, ap, sym, ◌∙◌, rules}
-use Rattle.std.proofs.lemmas.Bool.{and_parts}
+use Rattle.std.proofs.Common.{map, ap, ◌∙◌}
 use Rattle.std.proofs.lemmas.List.Sorted.{IsPermutation-sym}
-use Rattle.lrs_measure.specs.Lists.{each_two}
 use Rattle.lrs_machine.specs.Sound.{class_before}
 use Rattle.lrs_machine.specs.Sound.{are_classes}
 use Rattle.lrs_machine.specs.declared.table.Table.TheVariants as table

@@ -1,12 +1,8 @@
-use Rattle.std.proofs.Common.{◌≡◌, Ok, Some, map, ap, sym, ◌∙◌, rules}
-use Rattle.std.proofs.lemmas.Bool.{and_parts}
-use Rattle.std.proofs.lemmas.List.Sorted.{IsPermutation-sym}
-use Rattle.lrs_measure.specs.Lists.{each_two}
+use Rattle.std.proofs.Common.{◌∙◌, rules}
 use Rattle.lrs_machine.specs.Sound.{asset_before}
 use Rattle.lrs_machine.specs.Sound.{are_assets}
 use Rattle.lrs_machine.specs.declared.table.Table.TheVariants as table
-use Rattle.lrs_store.specs.Decoding.{sorted, asset_of}
-use Rattle.lrs_store.specs.Content.{read}
+use Rattle.lrs_store.specs.Decoding.{asset_of}
 use Rattle.lrs_tables.specs.Stored.{asset_in}
 use Rattle.lrs_load.proofs.Said.{nothing_said, all_said, reads_along}
 use Rattle.lrs_load.proofs.rows.assets.Goals as goal

@@ -1,7 +1,4 @@
-use Rattle.std.proofs.Common.{◌≡◌, Ok, Some, map, ap, sym, ◌∙◌, rules}
-use Rattle.std.proofs.lemmas.Bool.{and_parts}
-use Rattle.std.proofs.lemmas.List.Sorted.{IsPermutation-sym}
-use Rattle.lrs_measure.specs.Lists.{each_two}
+use Rattle.std.proofs.Common.{Some, rules}
 use Rattle.lrs_machine.specs.Sound.{gone_before}
 use Rattle.lrs_machine.specs.Sound.{are_gone}
 use Rattle.lrs_sound.specs.Tables.{route_spans}

@@ -1,6 +1,4 @@
-use Rattle.std.proofs.Common.{◌≡◌, Ok, ap, sym, ◌∙◌, rules}
-use Rattle.std.proofs.lemmas.Bool.{and_parts}
-use Rattle.lrs_measure.specs.Lists.{each_two}
+use Rattle.std.proofs.Common.{Ok, ap, ◌∙◌, rules}
 use Rattle.lrs_machine.specs.Sound.{link_before}
 use Rattle.lrs_machine.specs.Sound.{are_links}
 use Rattle.lrs_machine.specs.declared.table.Table.TheVariants as table
