@@ -1,27 +1,31 @@
 //! Tables of a store, loaded inside a transaction, each by one statement.
 
-ghost use Rattle.std.specs.Prelude.{◌≡◌, true};
+ghost use Rattle.std.specs.Prelude.{◌≡◌, ◌&&◌, true};
 ghost use Rattle.std.specs.List.{list_all};
 ghost use Rattle.sqlite.specs.State.{HasCleanDisk, IsUnchanged};
 ghost use Rattle.sqlite.specs.Held.{state};
 ghost use Rattle.lrs_measure.specs.Lists.{each_two};
 ghost use Rattle.lrs_events.specs.Parts.{part_before};
-ghost use Rattle.lrs_machine.specs.Sound.{link_before, are_links, class_before, are_classes, asset_before, are_assets, are_courses, are_entered, gone_before, are_gone};
+ghost use Rattle.lrs_machine.specs.Sound.{link_before, are_links, class_before, are_classes, asset_before, are_assets, are_courses, are_entered, gone_before, are_gone, are_origins};
 ghost use Rattle.lrs_machine.specs.declared.table.Table.TheVariants as table;
 ghost use Rattle.lrs_sound.specs.Tables.{fits_route, route_courses, route_spans};
-ghost use Rattle.lrs_store.specs.Decoding.{each_sorted, link_of, class_of, asset_of, part_of, gone_of};
-ghost use Rattle.lrs_store.specs.Content.{read};
+ghost use Rattle.lrs_store.specs.Decoding.{each_sorted, link_of, class_of, asset_of, part_of, gone_of, origin_of};
+ghost use Rattle.lrs_store.specs.Content.{read, version_of, origin_before, has_origins};
 ghost use Rattle.lrs_tables.specs.Stored.{IsWriting, stored, OkDoes, LeavesStore};
 ghost use Rattle.lrs_load.specs.Loading.{Loads};
 
-use crate::fault::store_fault;
+use crate::fault::{as_read, store_fault};
+use crate::origins::Origin;
 use crate::rows;
 use lrs_element::Link;
 use lrs_events::{Asset, Class, Gone, Part};
 use lrs_keep::LoadFault;
 use lrs_machine::RouteEntry;
 use lrs_measure::Rows;
-use lrs_tables::read::{read_assets, read_classes, read_entered, read_gone, read_links};
+use lrs_tables::read::{
+    read_assets, read_classes, read_entered, read_gone, read_links, read_origins,
+    read_versions,
+};
 use sqlite::{Alter, Transaction};
 use std::alloc::Global;
 
@@ -131,6 +135,45 @@ pub fn load_gone<S: Alter>(
 {
     match read_gone(tx) {
         Ok(stored) => rows::gone(alloc, links, assets, routes, entered, stored.as_slice()),
+        Err(error) => Err(store_fault(error)),
+    }
+}
+
+/// The version of the store, which is 1 or 2.
+///
+/// # Errors
+/// When the table is unsound, the store fails, or memory runs out.
+pub fn load_version<S: Alter>(tx: &mut Transaction<'_, S>) -> Result<u64, LoadFault>
+    ensures same_reference { tx.new.conn.ghost_name ≡ tx.old.conn.ghost_name }
+    ensures version { HasCleanDisk (state S.Store tx.new.conn.now) → IsWriting (state S.Store tx.old.conn.now) → Loads (read table.Version (version_of (stored (state S.Store tx.old.conn.now).now.trees).version) (λ v. true)) result }
+    ensures same { OkDoes result (state S.Store tx.old.conn.now) (state S.Store tx.new.conn.now) (IsUnchanged) }
+    ensures survives { LeavesStore (state S.Store tx.old.conn.now) (state S.Store tx.new.conn.now) }
+{
+    match read_versions(tx) {
+        Ok(stored) => as_read(rows::version(stored.as_slice())),
+        Err(error) => Err(store_fault(error)),
+    }
+}
+
+/// The origins, in order, in a store of this version.
+///
+/// # Errors
+/// When the table is unsound, the store fails, or memory runs out.
+pub fn load_origins<S: Alter>(
+    alloc: Global,
+    version: u64,
+    assets: &[Asset],
+    entered: &[Part],
+    tx: &mut Transaction<'_, S>,
+) -> Result<Rows<Origin>, LoadFault>
+    requires assets { each_two asset_before assets.now ≡ true }
+    ensures same_reference { tx.new.conn.ghost_name ≡ tx.old.conn.ghost_name }
+    ensures origins { HasCleanDisk (state S.Store tx.new.conn.now) → IsWriting (state S.Store tx.old.conn.now) → Loads (read table.Origin (each_sorted origin_before origin_of (stored (state S.Store tx.old.conn.now).now.trees).origin) (λ os. are_origins entered.now assets.now && has_origins version assets.now os)) result }
+    ensures same { OkDoes result (state S.Store tx.old.conn.now) (state S.Store tx.new.conn.now) (IsUnchanged) }
+    ensures survives { LeavesStore (state S.Store tx.old.conn.now) (state S.Store tx.new.conn.now) }
+{
+    match read_origins(tx) {
+        Ok(stored) => rows::origins(alloc, version, assets, entered, stored.as_slice()),
         Err(error) => Err(store_fault(error)),
     }
 }

@@ -4,7 +4,9 @@ ghost use Rattle.std.specs.Prelude.{◌≡◌, IsPermutation};
 ghost use Rattle.std.specs.List.Sorted.{IsSortedBy};
 ghost use Rattle.lrs_events.specs.Parts.{part_key, side_number, part_before};
 ghost use Rattle.lrs_machine.specs.Sound.{link_before, class_before, asset_before, gone_key, gone_before};
+ghost use Rattle.lrs_store.specs.Content.{origin_before};
 
+use crate::origins::Origin;
 use lrs_element::Link;
 use lrs_events::{Asset, Class, Gone, LinkSide, Part};
 
@@ -86,4 +88,13 @@ pub(crate) fn sorted_gone(mut gone: Vec<Gone>) -> Vec<Gone>
 {
     gone.sort_unstable_by(|x, y| gone_key(x).cmp(&gone_key(y)));
     gone
+}
+
+/// Origins by asset.
+pub(crate) fn sorted_origins(mut origins: Vec<Origin>) -> Vec<Origin>
+    ensures permutation { IsPermutation origins.items result.items }
+    ensures sorted { IsSortedBy origin_before result.items }
+{
+    origins.sort_unstable_by(|a, b| a.asset.cmp(&b.asset));
+    origins
 }

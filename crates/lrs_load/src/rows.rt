@@ -1,25 +1,26 @@
 //! What the stored rows of a table give: each says something, and together they pass the table's test.
 
-ghost use Rattle.std.specs.Prelude.{◌≡◌, map, true};
+ghost use Rattle.std.specs.Prelude.{◌≡◌, [], ◌∷◌, ◌&&◌, map, length, nat_eq, true};
 ghost use Rattle.std.specs.List.{list_all};
-ghost use Rattle.lrs_measure.specs.Lists.{each_two};
+ghost use Rattle.lrs_measure.specs.Lists.{each_two, is_from_to};
 ghost use Rattle.lrs_events.specs.Parts.{part_before};
-ghost use Rattle.lrs_machine.specs.Sound.{link_before, are_links, class_before, are_classes, asset_before, are_assets, are_courses, are_entered, gone_before, are_gone};
+ghost use Rattle.lrs_machine.specs.Sound.{link_before, are_links, class_before, are_classes, asset_before, are_assets, are_courses, are_entered, gone_before, are_gone, are_origins};
 ghost use Rattle.lrs_machine.specs.declared.table.Table.TheVariants as table;
 ghost use Rattle.lrs_sound.specs.Tables.{fits_route, route_courses, route_spans};
-ghost use Rattle.lrs_store.specs.Decoding.{each_sorted, link_of, class_of, asset_of, part_of, gone_of};
-ghost use Rattle.lrs_store.specs.Content.{read};
-ghost use Rattle.lrs_tables.specs.Stored.{link_in, class_in, asset_in, entered_in, gone_in};
+ghost use Rattle.lrs_store.specs.Decoding.{each_sorted, link_of, class_of, asset_of, part_of, gone_of, origin_of};
+ghost use Rattle.lrs_store.specs.Content.{read, version_of, origin_before, has_origins};
+ghost use Rattle.lrs_tables.specs.Stored.{link_in, class_in, asset_in, entered_in, gone_in, version_in, origin_in};
 ghost use Rattle.lrs_load.specs.Loading.{Reads};
 
 use crate::fault::as_read;
+use crate::origins::Origin;
 use crate::tested;
 use lrs_element::Link;
 use lrs_events::{Asset, Class, Gone, Part};
 use lrs_keep::LoadFault;
 use lrs_machine::{RouteEntry, Table};
 use lrs_measure::Rows;
-use lrs_tables::said::said_all;
+use lrs_tables::said::{number_at, said_all};
 use sqlite::Row;
 use std::alloc::Global;
 
@@ -106,4 +107,63 @@ pub fn gone(
         return Err(LoadFault::Unsound(Table::Gone));
     };
     tested::gone(alloc, links, assets, routes, entered, found)
+}
+
+fn is_version(version: u64) -> bool
+    ensures { result ≡ is_from_to 1 2 version }
+{
+    1 <= version && version <= 2
+}
+
+/// The version that a row says.
+fn version_in(row: &Row) -> Option<u64>
+    ensures { result ≡ version_of (version_in row.now ∷ []) }
+{
+    let version = number_at(row, 0)?;
+    if !is_version(version) {
+        return None;
+    }
+    Some(version)
+}
+
+fn is_one(rows: &[Row]) -> bool
+    ensures { result ≡ nat_eq (length rows.now) 1 }
+{
+    rows.len() == 1
+}
+
+/// The version that the rows of its table say.
+///
+/// # Errors
+/// When the table is unsound.
+pub fn version(rows: &[Row]) -> Result<u64, Table>
+    ensures { result ≡ read table.Version (version_of (map version_in rows.now)) (λ v. true) }
+{
+    if !is_one(rows) {
+        return Err(Table::Version);
+    }
+    match version_in(&rows[0]) {
+        Some(version) => Ok(version),
+        None => Err(Table::Version),
+    }
+}
+
+/// The origins of rows, in order.
+///
+/// # Errors
+/// When the table is unsound, or memory runs out.
+pub fn origins(
+    alloc: Global,
+    version: u64,
+    assets: &[Asset],
+    entered: &[Part],
+    rows: &[Row],
+) -> Result<Rows<Origin>, LoadFault>
+    requires { each_two asset_before assets.now ≡ true }
+    ensures { Reads (read table.Origin (each_sorted origin_before origin_of (map origin_in rows.now)) (λ os. are_origins entered.now assets.now && has_origins version assets.now os)) result }
+{
+    let Some(found) = said_all::<Origin>(alloc, rows)? else {
+        return Err(LoadFault::Unsound(Table::Origin));
+    };
+    tested::origins(alloc, version, assets, entered, found)
 }

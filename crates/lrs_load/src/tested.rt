@@ -1,18 +1,22 @@
 //! What the rows of a table say, in whatever order they were read: put in order, and tested beside the tables
 //! before it.
 
-ghost use Rattle.std.specs.Prelude.{◌≡◌, Some, true, IfOk};
+ghost use Rattle.std.specs.Prelude.{◌≡◌, ◌&&◌, Some, true, IfOk};
 ghost use Rattle.std.specs.List.{list_all};
 ghost use Rattle.lrs_measure.specs.Lists.{each_two};
 ghost use Rattle.lrs_events.specs.Parts.{part_before};
-ghost use Rattle.lrs_machine.specs.Sound.{link_before, are_links, class_before, are_classes, asset_before, are_assets, are_courses, are_entered, gone_before, are_gone};
+ghost use Rattle.lrs_machine.specs.Sound.{link_before, are_links, class_before, are_classes, asset_before, are_assets, are_courses, are_entered, gone_before, are_gone, are_origins};
 ghost use Rattle.lrs_machine.specs.declared.table.Table.TheVariants as table;
 ghost use Rattle.lrs_sound.specs.Tables.{fits_route, route_courses, route_spans};
 ghost use Rattle.lrs_store.specs.Decoding.{sorted};
-ghost use Rattle.lrs_store.specs.Content.{read};
+ghost use Rattle.lrs_store.specs.Content.{read, origin_before, has_origins};
 ghost use Rattle.lrs_load.specs.Loading.{Reads};
 
-use crate::order::{sorted_assets, sorted_classes, sorted_gone, sorted_links, sorted_parts};
+use crate::order::{
+    sorted_assets, sorted_classes, sorted_gone, sorted_links, sorted_origins,
+    sorted_parts,
+};
+use crate::origins::{Origin, are_sound};
 use lrs_element::Link;
 use lrs_events::{Asset, Class, Gone, Part};
 use lrs_keep::LoadFault;
@@ -110,4 +114,27 @@ pub fn gone(
         return Err(LoadFault::Unsound(Table::Gone));
     }
     Ok(Rows::from_vec(gone))
+}
+
+/// The origins in order, if the table of origins is sound in a store of this version beside these assets and
+/// what was entered.
+///
+/// # Errors
+/// When it is unsound, or memory runs out.
+pub fn origins(
+    alloc: Global,
+    version: u64,
+    assets: &[Asset],
+    entered: &[Part],
+    found: Vec<Origin>,
+) -> Result<Rows<Origin>, LoadFault>
+    requires assets { each_two asset_before assets.now ≡ true }
+    ensures { Reads (read table.Origin (Some (sorted origin_before found.items)) (λ os. are_origins entered.now assets.now && has_origins version assets.now os)) result }
+{
+    let origins = sorted_origins(found);
+    let sound = are_sound(alloc, version, assets, entered, &origins)?;
+    if !sound {
+        return Err(LoadFault::Unsound(Table::Origin));
+    }
+    Ok(Rows::from_vec(origins))
 }
