@@ -1,6 +1,7 @@
 //! The tables of a store, loaded one by one.
 #![tactic(auto)]
 
+pub mod edits;
 pub mod entry;
 mod fault;
 pub mod load;

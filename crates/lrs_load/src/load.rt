@@ -6,11 +6,11 @@ ghost use Rattle.sqlite.specs.State.{HasCleanDisk, IsUnchanged};
 ghost use Rattle.sqlite.specs.Held.{state};
 ghost use Rattle.lrs_measure.specs.Lists.{each_two};
 ghost use Rattle.lrs_events.specs.Parts.{part_before};
-ghost use Rattle.lrs_machine.specs.Sound.{link_before, are_links, class_before, are_classes, asset_before, are_assets, are_courses, are_entered, gone_before, are_gone, are_origins};
+ghost use Rattle.lrs_machine.specs.Sound.{link_before, are_links, class_before, are_classes, asset_before, are_assets, are_courses, are_entered, gone_before, are_gone, are_edits, are_origins};
 ghost use Rattle.lrs_machine.specs.declared.table.Table.TheVariants as table;
 ghost use Rattle.lrs_sound.specs.Tables.{fits_route, route_courses, route_spans};
 ghost use Rattle.lrs_store.specs.Decoding.{each_sorted, link_of, class_of, asset_of, part_of, gone_of, origin_of};
-ghost use Rattle.lrs_store.specs.Content.{read, version_of, origin_before, has_origins};
+ghost use Rattle.lrs_store.specs.Content.{read, edits_of, version_of, origin_before, has_origins};
 ghost use Rattle.lrs_tables.specs.Stored.{IsWriting, stored, OkDoes, LeavesStore};
 ghost use Rattle.lrs_load.specs.Loading.{Loads};
 
@@ -20,10 +20,10 @@ use crate::rows;
 use lrs_element::Link;
 use lrs_events::{Asset, Class, Gone, Part};
 use lrs_keep::LoadFault;
-use lrs_machine::RouteEntry;
+use lrs_machine::{Edit, RouteEntry};
 use lrs_measure::Rows;
 use lrs_tables::read::{
-    read_assets, read_classes, read_entered, read_gone, read_links, read_origins,
+    read_assets, read_classes, read_edits, read_entered, read_gone, read_links, read_origins,
     read_versions,
 };
 use sqlite::{Alter, Transaction};
@@ -135,6 +135,27 @@ pub fn load_gone<S: Alter>(
 {
     match read_gone(tx) {
         Ok(stored) => rows::gone(alloc, links, assets, routes, entered, stored.as_slice()),
+        Err(error) => Err(store_fault(error)),
+    }
+}
+
+/// The edits, in order.
+///
+/// # Errors
+/// When the table is unsound, the store fails, or memory runs out.
+pub fn load_edits<S: Alter>(
+    alloc: Global,
+    entered: &[Part],
+    gone: &[Gone],
+    tx: &mut Transaction<'_, S>,
+) -> Result<Rows<Edit>, LoadFault>
+    ensures same_reference { tx.new.conn.ghost_name ≡ tx.old.conn.ghost_name }
+    ensures edits { HasCleanDisk (state S.Store tx.new.conn.now) → IsWriting (state S.Store tx.old.conn.now) → Loads (read table.Edit (edits_of (stored (state S.Store tx.old.conn.now).now.trees).edit) (are_edits entered.now gone.now)) result }
+    ensures same { OkDoes result (state S.Store tx.old.conn.now) (state S.Store tx.new.conn.now) (IsUnchanged) }
+    ensures survives { LeavesStore (state S.Store tx.old.conn.now) (state S.Store tx.new.conn.now) }
+{
+    match read_edits(tx) {
+        Ok(stored) => rows::edits(alloc, entered, gone, stored.as_slice()),
         Err(error) => Err(store_fault(error)),
     }
 }

@@ -4,8 +4,10 @@ ghost use Rattle.std.specs.Prelude.{◌≡◌, IsPermutation};
 ghost use Rattle.std.specs.List.Sorted.{IsSortedBy};
 ghost use Rattle.lrs_events.specs.Parts.{part_key, side_number, part_before};
 ghost use Rattle.lrs_machine.specs.Sound.{link_before, class_before, asset_before, gone_key, gone_before};
+ghost use Rattle.lrs_store.specs.Decoding.{number_before};
 ghost use Rattle.lrs_store.specs.Content.{origin_before};
 
+use crate::edits::NumberedEdit;
 use crate::origins::Origin;
 use lrs_element::Link;
 use lrs_events::{Asset, Class, Gone, LinkSide, Part};
@@ -88,6 +90,15 @@ pub(crate) fn sorted_gone(mut gone: Vec<Gone>) -> Vec<Gone>
 {
     gone.sort_unstable_by(|x, y| gone_key(x).cmp(&gone_key(y)));
     gone
+}
+
+/// Edits by number.
+pub(crate) fn sorted_edits(mut edits: Vec<NumberedEdit>) -> Vec<NumberedEdit>
+    ensures permutation { IsPermutation edits.items result.items }
+    ensures sorted { IsSortedBy number_before result.items }
+{
+    edits.sort_unstable_by(|a, b| a.n.cmp(&b.n));
+    edits
 }
 
 /// Origins by asset.

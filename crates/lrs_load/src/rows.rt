@@ -4,21 +4,22 @@ ghost use Rattle.std.specs.Prelude.{◌≡◌, [], ◌∷◌, ◌&&◌, map, len
 ghost use Rattle.std.specs.List.{list_all};
 ghost use Rattle.lrs_measure.specs.Lists.{each_two, is_from_to};
 ghost use Rattle.lrs_events.specs.Parts.{part_before};
-ghost use Rattle.lrs_machine.specs.Sound.{link_before, are_links, class_before, are_classes, asset_before, are_assets, are_courses, are_entered, gone_before, are_gone, are_origins};
+ghost use Rattle.lrs_machine.specs.Sound.{link_before, are_links, class_before, are_classes, asset_before, are_assets, are_courses, are_entered, gone_before, are_gone, are_edits, are_origins};
 ghost use Rattle.lrs_machine.specs.declared.table.Table.TheVariants as table;
 ghost use Rattle.lrs_sound.specs.Tables.{fits_route, route_courses, route_spans};
 ghost use Rattle.lrs_store.specs.Decoding.{each_sorted, link_of, class_of, asset_of, part_of, gone_of, origin_of};
-ghost use Rattle.lrs_store.specs.Content.{read, version_of, origin_before, has_origins};
-ghost use Rattle.lrs_tables.specs.Stored.{link_in, class_in, asset_in, entered_in, gone_in, version_in, origin_in};
+ghost use Rattle.lrs_store.specs.Content.{read, edits_of, version_of, origin_before, has_origins};
+ghost use Rattle.lrs_tables.specs.Stored.{link_in, class_in, asset_in, entered_in, gone_in, edit_in, version_in, origin_in};
 ghost use Rattle.lrs_load.specs.Loading.{Reads};
 
+use crate::edits::all_said;
 use crate::fault::as_read;
 use crate::origins::Origin;
 use crate::tested;
 use lrs_element::Link;
 use lrs_events::{Asset, Class, Gone, Part};
 use lrs_keep::LoadFault;
-use lrs_machine::{RouteEntry, Table};
+use lrs_machine::{Edit, RouteEntry, Table};
 use lrs_measure::Rows;
 use lrs_tables::said::{number_at, said_all};
 use sqlite::Row;
@@ -107,6 +108,24 @@ pub fn gone(
         return Err(LoadFault::Unsound(Table::Gone));
     };
     tested::gone(alloc, links, assets, routes, entered, found)
+}
+
+/// The edits of rows, in order.
+///
+/// # Errors
+/// When the table is unsound, or memory runs out.
+pub fn edits(
+    alloc: Global,
+    entered: &[Part],
+    gone: &[Gone],
+    rows: &[Row],
+) -> Result<Rows<Edit>, LoadFault>
+    ensures { Reads (read table.Edit (edits_of (map edit_in rows.now)) (are_edits entered.now gone.now)) result }
+{
+    let Some(found) = all_said(alloc, rows)? else {
+        return Err(LoadFault::Unsound(Table::Edit));
+    };
+    tested::edits(alloc, entered, gone, found)
 }
 
 fn is_version(version: u64) -> bool

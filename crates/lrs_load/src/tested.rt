@@ -5,22 +5,23 @@ ghost use Rattle.std.specs.Prelude.{◌≡◌, ◌&&◌, Some, true, IfOk};
 ghost use Rattle.std.specs.List.{list_all};
 ghost use Rattle.lrs_measure.specs.Lists.{each_two};
 ghost use Rattle.lrs_events.specs.Parts.{part_before};
-ghost use Rattle.lrs_machine.specs.Sound.{link_before, are_links, class_before, are_classes, asset_before, are_assets, are_courses, are_entered, gone_before, are_gone, are_origins};
+ghost use Rattle.lrs_machine.specs.Sound.{link_before, are_links, class_before, are_classes, asset_before, are_assets, are_courses, are_entered, gone_before, are_gone, are_edits, are_origins};
 ghost use Rattle.lrs_machine.specs.declared.table.Table.TheVariants as table;
 ghost use Rattle.lrs_sound.specs.Tables.{fits_route, route_courses, route_spans};
-ghost use Rattle.lrs_store.specs.Decoding.{sorted};
+ghost use Rattle.lrs_store.specs.Decoding.{sorted, number_before, counted};
 ghost use Rattle.lrs_store.specs.Content.{read, origin_before, has_origins};
 ghost use Rattle.lrs_load.specs.Loading.{Reads};
 
+use crate::edits::{NumberedEdit, counted};
 use crate::order::{
-    sorted_assets, sorted_classes, sorted_gone, sorted_links, sorted_origins,
+    sorted_assets, sorted_classes, sorted_edits, sorted_gone, sorted_links, sorted_origins,
     sorted_parts,
 };
 use crate::origins::{Origin, are_sound};
 use lrs_element::Link;
 use lrs_events::{Asset, Class, Gone, Part};
 use lrs_keep::LoadFault;
-use lrs_machine::{RouteEntry, Table};
+use lrs_machine::{Edit, RouteEntry, Table};
 use lrs_measure::Rows;
 use std::alloc::Global;
 
@@ -114,6 +115,29 @@ pub fn gone(
         return Err(LoadFault::Unsound(Table::Gone));
     }
     Ok(Rows::from_vec(gone))
+}
+
+/// The edits in order, if the table of edits is sound beside both ledgers.
+///
+/// # Errors
+/// When it is unsound, or memory runs out.
+pub fn edits(
+    alloc: Global,
+    entered: &[Part],
+    gone: &[Gone],
+    found: Vec<NumberedEdit>,
+) -> Result<Rows<Edit>, LoadFault>
+    ensures { Reads (read table.Edit (counted 1 (sorted number_before found.items)) (are_edits entered.now gone.now)) result }
+{
+    let sorted = sorted_edits(found);
+    let Some(edits) = counted(alloc, sorted)? else {
+        return Err(LoadFault::Unsound(Table::Edit));
+    };
+    let sound = lrs_sound::are_edits(alloc, entered, gone, &edits)?;
+    if !sound {
+        return Err(LoadFault::Unsound(Table::Edit));
+    }
+    Ok(Rows::from_vec(edits))
 }
 
 /// The origins in order, if the table of origins is sound in a store of this version beside these assets and

@@ -1,4 +1,4 @@
-use Rattle.std.proofs.Common.{[], ap, sym, ◌∙◌, rules}
+use Rattle.std.proofs.Common.{[], ◌∙◌, rules}
 use Rattle.lrs_events.specs.declared.class.Asset.{Asset}
 use Rattle.lrs_load.proofs.Entered.{entered_at, entered_none}
 use Rattle.lrs_load.proofs.entry.enter.Goals as goal
