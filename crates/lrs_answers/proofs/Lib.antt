@@ -7,3 +7,4 @@ pub mod HeldBy
 pub mod OfState
 pub mod AllRows
 pub mod AskedAt
+pub mod Ledgers

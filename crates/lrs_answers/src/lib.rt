@@ -4,6 +4,7 @@
 mod fault;
 mod finding;
 mod hits;
+pub mod laws;
 mod routes;
 mod segmenting;
 mod standing;
