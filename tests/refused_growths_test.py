@@ -69,6 +69,11 @@ def test_deciding_soundness_bears_a_refused_growth():
     assert each_refused_call("lrs_sound_tests", start=19) == {"image_of", "first_unsound"}
 
 
+def test_segments_bear_a_refused_growth():
+    # The route, its rows and the classes take the allocations before these.
+    assert each_refused_call("lrs_segments", start=13) == {"segments"}
+
+
 def test_spans_bear_a_refused_growth():
     changes = ("add", "remove_within", "remove_asset_within", "remove_class_places", "cut", "concat", "turned")
     calls = (*changes, "of_rows", "copy", "at", "met")

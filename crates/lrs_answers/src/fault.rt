@@ -15,6 +15,8 @@ pub enum AskFault {
     Place(PlaceFault),
     /// Segments of these classes on this side are refused; want of memory is `Memory`, never this.
     Seg(SegFault),
+    /// What is kept has to be opened again. Only a desk answers so, once a commit has failed.
+    MustReopen,
     /// Memory ran out.
     Memory,
 }

@@ -134,6 +134,17 @@ impl<K: Keeper> Desk<K> {
         &self.inventory
     }
 
+    /// Whether a commit has failed, so that the keeper has to be opened again.
+    pub fn must_reopen(&self) -> bool
+        ensures { result ≡ self.now.must_reopen }
+    {
+        self.must_reopen
+    }
+
+    pub(crate) fn alloc(&self) -> Global {
+        self.alloc
+    }
+
     /// Gives the keeper back.
     pub fn into_keeper(self) -> K
         ensures keeper { result ≡ self.keeper }

@@ -1,6 +1,6 @@
 -- Rows in the order of their names: a row of a name that is taken out and put back, and rows of names that go.
-use Rattle.std.proofs.Common.{◌≡◌, ℕ, ◌+◌, ◌<◌, ◌≤◌, Bool, true, false, cond, List, [], ◌∷◌, filter, drop, get_or, length, refl, sym, ap, ◌∙◌}
-use Rattle.std.specs.Prelude.{not, ◌||◌}
+use Rattle.std.proofs.Common.{◌≡◌, ℕ, ◌+◌, ◌<◌, ◌≤◌, Bool, true, false, cond, List, [], ◌∷◌, Some, filter, drop, get_or, length, refl, sym, ap, ◌∙◌}
+use Rattle.std.specs.Prelude.{not, ◌||◌, unwrap_or}
 use Rattle.std.specs.List.{find, list_any}
 use Rattle.std.specs.declared.cmp.Ordering.{Ordering}
 use Rattle.std.specs.declared.cmp.Ordering.TheVariants.{Less, Equal, Greater}
@@ -15,6 +15,9 @@ use Rattle.lrs_measure.specs.Ordered.{insert_some}
 use Rattle.lrs_measure.specs.Texts.{Name, name_cmp, name_before, same_name}
 use Rattle.lrs_ordered.specs.Laws.{name_after}
 use Rattle.lrs_keep.proofs.PutBack.{put_back}
+
+pub same_some : {A : Type 0} (x y : A) → Some x ≡ Some y → x ≡ y
+same_some x y h = ap (λ o. unwrap_or o x) h
 
 less_reversed : (r s : Ordering) → s ≡ ordering_reverse r → is_lt r ≡ true → is_lt s ≡ false
 less_reversed Less s e h = ap is_lt e

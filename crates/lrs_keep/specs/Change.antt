@@ -1,6 +1,6 @@
 -- What a change makes of an image: rows that go and rows that come, table by table.
 use Rattle.std.specs.Prelude.{◌≡◌, Bool, true, false, not, List, [], ◌∷◌, ◌++◌, filter, Option, Some, None, unwrap_or, ⊤}
-use Rattle.std.specs.List.{list_any, find}
+use Rattle.std.specs.List.{list_any, list_all, find}
 use Rattle.std.specs.Option.{option_map}
 use Rattle.lrs_measure.specs.Lists.{each_two}
 use Rattle.lrs_measure.specs.Ordered.{insert_some, insert_all}
@@ -11,7 +11,7 @@ use Rattle.lrs_position.specs.declared.route.Referent.{Referent}
 use Rattle.lrs_position.specs.declared.route.Route.{Route}
 use Rattle.lrs_position.specs.Routes.{is_route, referent_before}
 use Rattle.lrs_events.specs.declared.span.Span.{Span}
-use Rattle.lrs_events.specs.Changes.{changed}
+use Rattle.lrs_events.specs.Changes.{has_row, changed}
 use Rattle.lrs_events.specs.Spans.{are_rows, span_before}
 use Rattle.lrs_machine.specs.declared.image.RouteEntry.{RouteEntry}
 use Rattle.lrs_machine.specs.declared.image.Edit.{Edit}
@@ -96,19 +96,46 @@ apply c i = with_edit c.edit (with_difference c.difference i)
 
 -- which changes can be made
 
--- The rows that go are told apart, and course, marks, referents and rows after the change are those of a route.
+-- a referent has the name
+abbrev pub refers_to : Name → Referent → Bool
+refers_to name r = same_name r.name name
+
+-- the rows that go are rows of the route
+abbrev pub are_rows_of : RouteEntry → List Span → Bool
+are_rows_of e gone = list_all (has_row e.spans) gone
+
+-- the names that go are those of referents of the route
+abbrev pub are_names_of : RouteEntry → List Name → Bool
+are_names_of e gone = list_all (λ name. list_any (refers_to name) e.route.refs) gone
+
+-- The rows that go are of the route and told apart, the referents that go are of the route, and course, marks, referents and rows after the change are those of a route.
 pub record CanBecome (c : RouteChange) (e : RouteEntry) : Type 0 where
   pub fits : fits_after c e.route ≡ true
   pub rows : are_rows (spans_after c e.spans) ≡ true
   pub gone : each_two span_before c.spans_gone ≡ true
+  pub there : are_rows_of e c.spans_gone ≡ true
+  pub named : are_names_of e c.refs.gone ≡ true
+
+-- The route that changes is there, and can become what the change says.
+pub record CanChange (c : RouteChange) (routes : List RouteEntry) : Type 0 where
+  pub entry : RouteEntry
+  pub found : find (is_named c.route) routes ≡ Some entry
+  pub becomes : CanBecome c entry
 
 abbrev pub CanChangeRoute : Option RouteChange → List RouteEntry → Type 0
 CanChangeRoute None routes = ⊤
-CanChangeRoute (Some c) routes = (e : RouteEntry) → find (is_named c.route) routes ≡ Some e → CanBecome c e
+CanChangeRoute (Some c) routes = CanChange c routes
 
--- The difference can be made: what a route becomes is a route, and the names of the routes stay in order.
+-- The route that goes is another than the one that changes, under its old name and under its new one.
+abbrev pub GoesApart : Option RouteChange → Option Name → Type 0
+GoesApart None dropped = ⊤
+GoesApart (Some c) None = ⊤
+GoesApart (Some c) (Some name) = (same_name c.route name ≡ false) × (same_name c.name name ≡ false)
+
+-- The difference can be made: what a route becomes is a route, another one goes, and the names of the routes stay in order.
 pub record CanDiffer (d : Difference) (i : Image) : Type 0 where
   pub route : CanChangeRoute d.changed i.routes
+  pub apart : GoesApart d.changed d.dropped
   pub names : each_two route_before (routes_after d.changed i.routes) ≡ true
 
 -- The change can be made, and leaves the image sound.

@@ -18,6 +18,8 @@ use Rattle.lrs_sheet.specs.declared.reply.Reply.{Reply}
 use Rattle.lrs_sheet.specs.Laws.{IsOneReply, Outcome, SheetDeterminesReply}
 use Rattle.lrs_sheet.specs.Records.{text_at, place_of}
 use Rattle.lrs_sheet.specs.Verbs.{all_verbs}
+use Rattle.lrs_sheet.specs.declared.sheet.Sheet.{Sheet}
+use Rattle.lrs_sheet.specs.Kinds.{edit_record}
 use Rattle.lrs_sheet.specs.Replies.{IsAnswered, IsReplied, Replied, lines_of, tally_of}
 use Rattle.lrs_sheet.specs.Sheets.{AnswersAll, AreAll}
 
@@ -65,16 +67,16 @@ one-reply limits before after other fields a b (key, answered) (key', answered')
     ((λ i. record { key = keys i; answer = answers i }), states)
 
 -- records are answered in one way
-one-run : (limits : Limits) (before after other : State) (records : List (List (List ℕ))) (a b : List Reply) → Replied limits before records a after → Replied limits before records b other → (a ≡ b) × (after ≡ other)
+one-run : (sheet : Sheet) (limits : Limits) (before after other : State) (records : List (List (List ℕ))) (a b : List Reply) → Replied sheet limits before records a after → Replied sheet limits before records b other → (a ≡ b) × (after ≡ other)
 unfolding Replied
-one-run limits before after other [] [] [] h g = (refl, h ∙ sym g)
-one-run limits before after other [] [] (b ∷ bs) h g = absurd g
-one-run limits before after other [] (a ∷ rest) bs h g = absurd h
-one-run limits before after other (r ∷ rs) [] bs h g = absurd h
-one-run limits before after other (r ∷ rs) (a ∷ rest) [] h g = absurd g
-one-run limits before after other (r ∷ rs) (a ∷ rest) (b ∷ bs) (middle, first, more) (middle', first', more') =
-    let (same, state) = one-reply limits before middle middle' r a b first first' in
-    let (others, end) = one-run limits middle after other rs rest bs more (rw (sym state) at more') in
+one-run sheet limits before after other [] [] [] h g = (refl, h ∙ sym g)
+one-run sheet limits before after other [] [] (b ∷ bs) h g = absurd g
+one-run sheet limits before after other [] (a ∷ rest) bs h g = absurd h
+one-run sheet limits before after other (r ∷ rs) [] bs h g = absurd h
+one-run sheet limits before after other (r ∷ rs) (a ∷ rest) [] h g = absurd g
+one-run sheet limits before after other (r ∷ rs) (a ∷ rest) (b ∷ bs) (middle, first, more) (middle', first', more') =
+    let (same, state) = one-reply limits before middle middle' (edit_record sheet r) a b first first' in
+    let (others, end) = one-run sheet limits middle after other rs rest bs more (rw (sym state) at more') in
     (rw (same, others) refl, end)
 
 -- from one reply
@@ -86,20 +88,20 @@ of-one old earlier one other a b same wrote wrote' state counts counts' = record
   tally = counts ∙ ap tally_of same ∙ sym counts';
 }
 
-by-records : (limits : Limits) (input : List ℕ) (before : State) (old earlier : List ℕ) (one other : Outcome)
-    → AnswersAll limits input before one.state (Some old) (Some one.written) one.tally
-    → AnswersAll limits input before other.state (Some earlier) (Some other.written) other.tally
+by-records : (sheet : Sheet) (limits : Limits) (input : List ℕ) (before : State) (old earlier : List ℕ) (one other : Outcome)
+    → AnswersAll sheet limits input before one.state (Some old) (Some one.written) one.tally
+    → AnswersAll sheet limits input before other.state (Some earlier) (Some other.written) other.tally
     → IsOneReply old one earlier other
-by-records limits input before old earlier one other (inl (all, state, wrote, counts)) (inl (all', state', wrote', counts')) =
+by-records sheet limits input before old earlier one other (inl (all, state, wrote, counts)) (inl (all', state', wrote', counts')) =
     of-one old earlier one other [] [] refl (wrote ∙ sym (append-nil old)) (wrote' ∙ sym (append-nil earlier)) (state ∙ sym state') counts counts'
-by-records limits input before old earlier one other (inl (all, state, wrote, counts)) (inr (header, records, replies, is, all', answered, tallied, few)) =
+by-records sheet limits input before old earlier one other (inl (all, state, wrote, counts)) (inr (header, records, replies, is, all', answered, tallied, few)) =
     let e = all-one input [] (header ∷ records) all all' in cc e
-by-records limits input before old earlier one other (inr (header, records, replies, is, all', answered, tallied, few)) (inl (all, state, wrote, counts)) =
+by-records sheet limits input before old earlier one other (inr (header, records, replies, is, all', answered, tallied, few)) (inl (all, state, wrote, counts)) =
     let e = all-one input [] (header ∷ records) all all' in cc e
-by-records limits input before old earlier one other (inr (header, records, replies, is, all, answered, counts, few)) (inr (header', records', replies', is', all', answered', counts', few')) =
+by-records sheet limits input before old earlier one other (inr (header, records, replies, is, all, answered, counts, few)) (inr (header', records', replies', is', all', answered', counts', few')) =
     let e = all-one input (header ∷ records) (header' ∷ records') all all' in
     let same : records' ≡ records = cc e in
-    let (one-list, state) = one-run limits before one.state other.state records replies replies' answered.replied (rw same at answered'.replied) in
+    let (one-list, state) = one-run sheet limits before one.state other.state records replies replies' answered.replied (rw same at answered'.replied) in
     of-one old earlier one other replies replies' one-list answered.written answered'.written state counts counts'
 
 pub sheet_determines_reply : SheetDeterminesReply

@@ -21,25 +21,27 @@ use Rattle.lrs_sheet.specs.declared.reply.Reply.{Reply}
 use Rattle.lrs_sheet.specs.declared.reply.Tally.{Tally}
 use Rattle.lrs_sheet.specs.declared.fault.SheetFault.{SheetFault}
 use Rattle.lrs_sheet.specs.declared.fault.SheetFault.TheVariants as fault
+use Rattle.lrs_sheet.specs.declared.sheet.Sheet.{Sheet}
+use Rattle.lrs_sheet.specs.Kinds.{edit_record, width_of}
 use Rattle.lrs_sheet.specs.Replies.{IsReplied, Replied, answer_count, counted, is_again, is_done, is_refused, lines_of, reply_text, tally_of}
-use Rattle.lrs_sheet.specs.Sheets.{GoesAlong, HaveEleven, max_records, LeavesDesk}
+use Rattle.lrs_sheet.specs.Sheets.{GoesAlong, HaveWidth, max_records, LeavesDesk}
 use Rattle.lrs_sheet.specs.Rows.{Begins, BreaksAfter, BreaksAtRow, DoesRow, DoesRows, DoesUpTo, EndsAfter, Gave, HasDone, IsPlain, IsReadFault, NextDiffers, Stops, StopsAtRow, AnswersSome}
 
 -- one more record, answered
-pub Replied-more : (limits : Limits) (before middle after : State) (records : List (List (List ℕ))) (replies : List Reply) (fields : List (List ℕ)) (reply : Reply)
-    → Replied limits before records replies middle → IsReplied limits middle fields reply after → Replied limits before (records ++ fields ∷ []) (replies ++ reply ∷ []) after
+pub Replied-more : (sheet : Sheet) (limits : Limits) (before middle after : State) (records : List (List (List ℕ))) (replies : List Reply) (fields : List (List ℕ)) (reply : Reply)
+    → Replied sheet limits before records replies middle → IsReplied limits middle (edit_record sheet fields) reply after → Replied sheet limits before (records ++ fields ∷ []) (replies ++ reply ∷ []) after
 unfolding Replied
-Replied-more limits before middle after [] [] fields reply done next = (after, rw done at next, refl)
-Replied-more limits before middle after [] (other ∷ replies) fields reply done next = absurd done
-Replied-more limits before middle after (first ∷ records) [] fields reply done next = absurd done
-Replied-more limits before middle after (first ∷ records) (other ∷ replies) fields reply done next =
-    (done.0, done.1, Replied-more limits done.0 middle after records replies fields reply done.2 next)
+Replied-more sheet limits before middle after [] [] fields reply done next = (after, rw done at next, refl)
+Replied-more sheet limits before middle after [] (other ∷ replies) fields reply done next = absurd done
+Replied-more sheet limits before middle after (first ∷ records) [] fields reply done next = absurd done
+Replied-more sheet limits before middle after (first ∷ records) (other ∷ replies) fields reply done next =
+    (done.0, done.1, Replied-more sheet limits done.0 middle after records replies fields reply done.2 next)
 
--- one more record of eleven fields
-pub eleven-more : (records : List (List (List ℕ))) (fields : List (List ℕ)) → HaveEleven records → length fields ≡ 11
-    → HaveEleven (records ++ fields ∷ [])
-eleven-more [] fields h e = (e, tt)
-eleven-more (first ∷ records) fields h e = (h.0, eleven-more records fields h.1 e)
+-- one more record of the right length
+pub width-more : (sheet : Sheet) (records : List (List (List ℕ))) (fields : List (List ℕ)) → HaveWidth sheet records → length fields ≡ width_of sheet
+    → HaveWidth sheet (records ++ fields ∷ [])
+width-more sheet [] fields h e = (e, tt)
+width-more sheet (first ∷ records) fields h e = (h.0, width-more sheet records fields h.1 e)
 
 -- one more line
 pub lines-more : (replies : List Reply) (reply : Reply) → lines_of (replies ++ reply ∷ []) ≡ lines_of replies ++ (reply_text reply ++ 10 ∷ [])
@@ -85,16 +87,16 @@ along : {K : Type 0} {holds : K → Result Image Table → Type 0} (a b c : Desk
 along a b c first next = record { limits = next.limits ∙ first.limits; kept = λ kept. next.kept (first.kept kept); reopen = next.reopen ∙ first.reopen }
 
 -- before the first turn
-pub start-done : {K : Type 0} {holds : K → Result Image Table → Type 0} {R : Type 0} (rem : R → Option (List ℕ)) (rows : Reader R) (desk : DeskView K) (contents : Option (List ℕ)) (tally : Tally)
-    → IsPlain rows → expected_len rows ≡ Some 11 → tally ≡ tally_of [] → HasDone holds rem rows rows desk desk contents contents tally 0
+pub start-done : {K : Type 0} {holds : K → Result Image Table → Type 0} {R : Type 0} (sheet : Sheet) (rem : R → Option (List ℕ)) (rows : Reader R) (desk : DeskView K) (contents : Option (List ℕ)) (tally : Tally)
+    → IsPlain rows → expected_len rows ≡ Some (width_of sheet) → tally ≡ tally_of [] → HasDone sheet holds rem rows rows desk desk contents contents tally 0
 unfolding Replied
-start-done rem rows desk contents tally plain width none = record {
+start-done sheet rem rows desk contents tally plain width none = record {
   records = [];
   replies = [];
   plain = plain;
   width = width;
   gave = λ input before h. rw (append-nil before) h;
-  answered = record { eleven = tt; replied = refl; written = appends-none contents };
+  answered = record { width = tt; replied = refl; written = appends-none contents };
   desk = stays desk;
   counts = none;
   few = rw none refl;
@@ -106,19 +108,19 @@ pub gave-more : {R : Type 0} (rem : R → Option (List ℕ)) (a b c : Reader R) 
 gave-more rem a b c records more first second = λ input before h. rw (← append_assoc before records more) (second input (before ++ records) (first input before h))
 
 -- one more turn
-pub more-done : {K : Type 0} {holds : K → Result Image Table → Type 0} {R : Type 0} (rem : R → Option (List ℕ)) (rows now next : Reader R) (before middle after : DeskView K) (old mid new : Option (List ℕ)) (tally counts : Tally) (turns : ℕ) (fields : List (List ℕ))
-    → HasDone holds rem rows now before middle old mid tally turns → IsPlain next → expected_len next ≡ Some (length fields) → length fields ≡ 11 → Gave rem now next (fields ∷ [])
-    → DoesRow middle.limits (state_of middle.image) fields (state_of after.image) mid new tally counts → GoesAlong holds middle after
-    → HasDone holds rem rows next before after old new counts (turns + 1)
-more-done rem rows now next before middle after old mid new tally counts turns fields done plain width eleven gave (reply, replied, written, counted') desk = record {
+pub more-done : {K : Type 0} {holds : K → Result Image Table → Type 0} {R : Type 0} (sheet : Sheet) (rem : R → Option (List ℕ)) (rows now next : Reader R) (before middle after : DeskView K) (old mid new : Option (List ℕ)) (tally counts : Tally) (turns : ℕ) (fields : List (List ℕ))
+    → HasDone sheet holds rem rows now before middle old mid tally turns → IsPlain next → expected_len next ≡ Some (length fields) → length fields ≡ width_of sheet → Gave rem now next (fields ∷ [])
+    → DoesRow middle.limits (state_of middle.image) (edit_record sheet fields) (state_of after.image) mid new tally counts → GoesAlong holds middle after
+    → HasDone sheet holds rem rows next before after old new counts (turns + 1)
+more-done sheet rem rows now next before middle after old mid new tally counts turns fields done plain width wide gave (reply, replied, written, counted') desk = record {
   records = done.records ++ fields ∷ [];
   replies = done.replies ++ reply ∷ [];
   plain = plain;
-  width = width ∙ ap Some eleven;
+  width = width ∙ ap Some wide;
   gave = gave-more rem rows now next done.records (fields ∷ []) done.gave gave;
   answered = record {
-    eleven = eleven-more done.records fields done.answered.eleven eleven;
-    replied = Replied-more before.limits (state_of before.image) (state_of middle.image) (state_of after.image) done.records done.replies fields reply done.answered.replied (rw done.desk.limits at replied);
+    width = width-more sheet done.records fields done.answered.width wide;
+    replied = Replied-more sheet before.limits (state_of before.image) (state_of middle.image) (state_of after.image) done.records done.replies fields reply done.answered.replied (rw done.desk.limits at replied);
     written = rw (lines-more done.replies reply) (appends-more old mid new (lines_of done.replies) (reply_text reply ++ 10 ∷ []) done.answered.written written);
   };
   desk = along before middle after done.desk desk;
@@ -134,9 +136,9 @@ begins rem a b records gave = λ input before h.
     (b.state, rest, reached)
 
 -- the turns so far are answered
-pub some-answered : {K : Type 0} {holds : K → Result Image Table → Type 0} {R : Type 0} (rem : R → Option (List ℕ)) (rows now : Reader R) (before after : DeskView K) (old new : Option (List ℕ)) (tally : Tally) (turns : ℕ)
-    → HasDone holds rem rows now before after old new tally turns → AnswersSome rem rows before.limits (state_of before.image) (state_of after.image) old new
-some-answered rem rows now before after old new tally turns done =
+pub some-answered : {K : Type 0} {holds : K → Result Image Table → Type 0} {R : Type 0} (sheet : Sheet) (rem : R → Option (List ℕ)) (rows now : Reader R) (before after : DeskView K) (old new : Option (List ℕ)) (tally : Tally) (turns : ℕ)
+    → HasDone sheet holds rem rows now before after old new tally turns → AnswersSome sheet rem rows before.limits (state_of before.image) (state_of after.image) old new
+some-answered sheet rem rows now before after old new tally turns done =
     (done.records, done.replies, done.answered, begins rem rows now done.records done.gave)
 
 -- the next record has another length
@@ -146,72 +148,72 @@ differs rem a b records wanted gave next = λ input before h.
     (fields, rw (append-nil (before ++ records)) at begins, bad)
 
 -- a read failed
-pub stop-read : {K : Type 0} {holds : K → Result Image Table → Type 0} {R : Type 0} (rem : R → Option (List ℕ)) (rows now : Reader R) (before after : DeskView K) (old new : Option (List ℕ)) (tally : Tally) (turns : ℕ) (e : SheetFault)
-    → HasDone holds rem rows now before after old new tally turns → IsReadFault rem now e → DoesRows rem rows before.limits (state_of before.image) (state_of after.image) old new (Err e)
-stop-read rem rows now before after old new tally turns fault.Read done why = some-answered rem rows now before after old new tally turns done
-stop-read rem rows now before after old new tally turns fault.Memory done why = some-answered rem rows now before after old new tally turns done
-stop-read rem rows now before after old new tally turns fault.Write done why = absurd why
-stop-read rem rows now before after old new tally turns fault.BadHeader done why = absurd why
-stop-read rem rows now before after old new tally turns (fault.Desk m) done why = absurd why
-stop-read rem rows now before after old new tally turns fault.BadCsv done (wanted, expected, next) =
-    let is : wanted ≡ 11 = cc (done.width, expected) in
-    (done.records, done.replies, done.answered, differs rem rows now done.records 11 done.gave (rw is at next))
+pub stop-read : {K : Type 0} {holds : K → Result Image Table → Type 0} {R : Type 0} (sheet : Sheet) (rem : R → Option (List ℕ)) (rows now : Reader R) (before after : DeskView K) (old new : Option (List ℕ)) (tally : Tally) (turns : ℕ) (e : SheetFault)
+    → HasDone sheet holds rem rows now before after old new tally turns → IsReadFault rem now e → DoesRows sheet rem rows before.limits (state_of before.image) (state_of after.image) old new (Err e)
+stop-read sheet rem rows now before after old new tally turns fault.Read done why = some-answered sheet rem rows now before after old new tally turns done
+stop-read sheet rem rows now before after old new tally turns fault.Memory done why = some-answered sheet rem rows now before after old new tally turns done
+stop-read sheet rem rows now before after old new tally turns fault.Write done why = absurd why
+stop-read sheet rem rows now before after old new tally turns fault.BadHeader done why = absurd why
+stop-read sheet rem rows now before after old new tally turns (fault.Desk m) done why = absurd why
+stop-read sheet rem rows now before after old new tally turns fault.BadCsv done (wanted, expected, next) =
+    let is : wanted ≡ width_of sheet = cc (done.width, expected) in
+    (done.records, done.replies, done.answered, differs rem rows now done.records (width_of sheet) done.gave (rw is at next))
 
 -- the records are at their end
-pub all-done : {K : Type 0} {holds : K → Result Image Table → Type 0} {R : Type 0} (rem : R → Option (List ℕ)) (rows now : Reader R) (before after : DeskView K) (old new : Option (List ℕ)) (tally : Tally) (turns : ℕ)
-    → HasDone holds rem rows now before after old new tally turns → EndsAfter rem now [] → turns ≤ max_records
-    → DoesRows rem rows before.limits (state_of before.image) (state_of after.image) old new (Ok tally)
-all-done rem rows now before after old new tally turns done ends few =
+pub all-done : {K : Type 0} {holds : K → Result Image Table → Type 0} {R : Type 0} (sheet : Sheet) (rem : R → Option (List ℕ)) (rows now : Reader R) (before after : DeskView K) (old new : Option (List ℕ)) (tally : Tally) (turns : ℕ)
+    → HasDone sheet holds rem rows now before after old new tally turns → EndsAfter rem now [] → turns ≤ max_records
+    → DoesRows sheet rem rows before.limits (state_of before.image) (state_of after.image) old new (Ok tally)
+all-done sheet rem rows now before after old new tally turns done ends few =
     (done.records, done.replies, done.answered, done.counts, λ input start h. rw (append-nil (start ++ done.records)) at (ends input (start ++ done.records) (done.gave input start h)), rw done.in_turn few)
 
 -- a record was not done
-stop-before : {K : Type 0} {holds : K → Result Image Table → Type 0} {R : Type 0} (rem : R → Option (List ℕ)) (rows now next : Reader R) (before middle after : DeskView K) (old mid new : Option (List ℕ)) (tally : Tally) (turns : ℕ) (fields : List (List ℕ))
-    → HasDone holds rem rows now before middle old mid tally turns → length fields ≡ 11 → Gave rem now next (fields ∷ []) → (state_of after.image ≡ state_of middle.image) × (new ≡ mid)
-    → Stops rem rows before.limits (state_of before.image) (state_of after.image) old new
-stop-before rem rows now next before middle after old mid new tally turns fields done eleven gave (state, written) =
+stop-before : {K : Type 0} {holds : K → Result Image Table → Type 0} {R : Type 0} (sheet : Sheet) (rem : R → Option (List ℕ)) (rows now next : Reader R) (before middle after : DeskView K) (old mid new : Option (List ℕ)) (tally : Tally) (turns : ℕ) (fields : List (List ℕ))
+    → HasDone sheet holds rem rows now before middle old mid tally turns → length fields ≡ width_of sheet → Gave rem now next (fields ∷ []) → (state_of after.image ≡ state_of middle.image) × (new ≡ mid)
+    → Stops sheet rem rows before.limits (state_of before.image) (state_of after.image) old new
+stop-before sheet rem rows now next before middle after old mid new tally turns fields done wide gave (state, written) =
     rw (state, written) (
       done.records,
       fields,
       done.replies,
-      eleven,
+      wide,
       done.answered,
       begins rem rows next (done.records ++ fields ∷ []) (gave-more rem rows now next done.records (fields ∷ []) done.gave gave),
     )
 
 -- a record was done, and its line not written whole
-stop-after : {K : Type 0} {holds : K → Result Image Table → Type 0} {R : Type 0} (rem : R → Option (List ℕ)) (rows now next : Reader R) (before middle after : DeskView K) (old mid new : Option (List ℕ)) (tally : Tally) (turns : ℕ) (fields : List (List ℕ))
-    → HasDone holds rem rows now before middle old mid tally turns → length fields ≡ 11 → Gave rem now next (fields ∷ []) → (reply : Reply) × IsReplied middle.limits (state_of middle.image) fields reply (state_of after.image)
-    → DoesUpTo rem rows before.limits (state_of before.image) (state_of after.image)
-stop-after rem rows now next before middle after old mid new tally turns fields done eleven gave (reply, replied) = (
+stop-after : {K : Type 0} {holds : K → Result Image Table → Type 0} {R : Type 0} (sheet : Sheet) (rem : R → Option (List ℕ)) (rows now next : Reader R) (before middle after : DeskView K) (old mid new : Option (List ℕ)) (tally : Tally) (turns : ℕ) (fields : List (List ℕ))
+    → HasDone sheet holds rem rows now before middle old mid tally turns → length fields ≡ width_of sheet → Gave rem now next (fields ∷ []) → (reply : Reply) × IsReplied middle.limits (state_of middle.image) (edit_record sheet fields) reply (state_of after.image)
+    → DoesUpTo sheet rem rows before.limits (state_of before.image) (state_of after.image)
+stop-after sheet rem rows now next before middle after old mid new tally turns fields done wide gave (reply, replied) = (
   done.records,
   fields,
   done.replies ++ reply ∷ [],
-  eleven-more done.records fields done.answered.eleven eleven,
-  Replied-more before.limits (state_of before.image) (state_of middle.image) (state_of after.image) done.records done.replies fields reply done.answered.replied (rw done.desk.limits at replied),
+  width-more sheet done.records fields done.answered.width wide,
+  Replied-more sheet before.limits (state_of before.image) (state_of middle.image) (state_of after.image) done.records done.replies fields reply done.answered.replied (rw done.desk.limits at replied),
   begins rem rows next (done.records ++ fields ∷ []) (gave-more rem rows now next done.records (fields ∷ []) done.gave gave),
 )
 
 -- a record stopped the run
-pub stop-row : {K : Type 0} {holds : K → Result Image Table → Type 0} {R : Type 0} (rem : R → Option (List ℕ)) (rows now next : Reader R) (before middle after : DeskView K) (old mid new : Option (List ℕ)) (tally : Tally) (turns : ℕ) (fields : List (List ℕ)) (e : SheetFault)
-    → HasDone holds rem rows now before middle old mid tally turns → length fields ≡ 11 → Gave rem now next (fields ∷ []) → StopsAtRow middle.limits (state_of middle.image) fields (state_of after.image) mid new e
-    → DoesRows rem rows before.limits (state_of before.image) (state_of after.image) old new (Err e)
-stop-row rem rows now next before middle after old mid new tally turns fields fault.Write done eleven gave stops = stop-after rem rows now next before middle after old mid new tally turns fields done eleven gave stops
-stop-row rem rows now next before middle after old mid new tally turns fields fault.Memory done eleven gave (state, written) = rw (state, written) (some-answered rem rows now before middle old mid tally turns done)
-stop-row rem rows now next before middle after old mid new tally turns fields (fault.Desk m) done eleven gave stops = stop-before rem rows now next before middle after old mid new tally turns fields done eleven gave stops
-stop-row rem rows now next before middle after old mid new tally turns fields fault.Read done eleven gave stops = absurd stops
-stop-row rem rows now next before middle after old mid new tally turns fields fault.BadHeader done eleven gave stops = absurd stops
-stop-row rem rows now next before middle after old mid new tally turns fields fault.BadCsv done eleven gave stops = absurd stops
+pub stop-row : {K : Type 0} {holds : K → Result Image Table → Type 0} {R : Type 0} (sheet : Sheet) (rem : R → Option (List ℕ)) (rows now next : Reader R) (before middle after : DeskView K) (old mid new : Option (List ℕ)) (tally : Tally) (turns : ℕ) (fields : List (List ℕ)) (e : SheetFault)
+    → HasDone sheet holds rem rows now before middle old mid tally turns → length fields ≡ width_of sheet → Gave rem now next (fields ∷ []) → StopsAtRow middle.limits (state_of middle.image) (edit_record sheet fields) (state_of after.image) mid new e
+    → DoesRows sheet rem rows before.limits (state_of before.image) (state_of after.image) old new (Err e)
+stop-row sheet rem rows now next before middle after old mid new tally turns fields fault.Write done wide gave stops = stop-after sheet rem rows now next before middle after old mid new tally turns fields done wide gave stops
+stop-row sheet rem rows now next before middle after old mid new tally turns fields fault.Memory done wide gave (state, written) = rw (state, written) (some-answered sheet rem rows now before middle old mid tally turns done)
+stop-row sheet rem rows now next before middle after old mid new tally turns fields (fault.Desk m) done wide gave stops = stop-before sheet rem rows now next before middle after old mid new tally turns fields done wide gave stops
+stop-row sheet rem rows now next before middle after old mid new tally turns fields fault.Read done wide gave stops = absurd stops
+stop-row sheet rem rows now next before middle after old mid new tally turns fields fault.BadHeader done wide gave stops = absurd stops
+stop-row sheet rem rows now next before middle after old mid new tally turns fields fault.BadCsv done wide gave stops = absurd stops
 
 -- the commit of a record failed
-pub broke : {K : Type 0} {holds : K → Result Image Table → Type 0} {R : Type 0} (rem : R → Option (List ℕ)) (rows now next : Reader R) (before middle after : DeskView K) (old mid : Option (List ℕ)) (tally : Tally) (turns : ℕ) (fields : List (List ℕ))
-    → HasDone holds rem rows now before middle old mid tally turns → Gave rem now next (fields ∷ []) → BreaksAtRow holds middle fields after
-    → (c : Result Image Table) → holds after.keeper c → BreaksAfter rem rows before.limits (state_of before.image) (state_of after.image) c
-broke rem rows now next before middle after old mid tally turns fields done gave (same, kept) c found =
+pub broke : {K : Type 0} {holds : K → Result Image Table → Type 0} {R : Type 0} (sheet : Sheet) (rem : R → Option (List ℕ)) (rows now next : Reader R) (before middle after : DeskView K) (old mid : Option (List ℕ)) (tally : Tally) (turns : ℕ) (fields : List (List ℕ))
+    → HasDone sheet holds rem rows now before middle old mid tally turns → Gave rem now next (fields ∷ []) → BreaksAtRow holds middle (edit_record sheet fields) after
+    → (c : Result Image Table) → holds after.keeper c → BreaksAfter sheet rem rows before.limits (state_of before.image) (state_of after.image) c
+broke sheet rem rows now next before middle after old mid tally turns fields done gave (same, kept) c found =
     rw same (
       done.records,
       fields,
       done.replies,
-      done.answered.eleven,
+      done.answered.width,
       done.answered.replied,
       begins rem rows next (done.records ++ fields ∷ []) (gave-more rem rows now next done.records (fields ∷ []) done.gave gave),
       rw done.desk.limits at (kept c found),

@@ -1,5 +1,6 @@
 pub mod Wording
 pub mod Misfits
+pub mod Surveyed
 pub mod Said
 pub mod OneArgument
 pub mod TableLines

@@ -10,7 +10,8 @@ use Rattle.lrs_machine.specs.declared.answer.Limits.{Limits}
 use Rattle.lrs_sheet.specs.declared.reply.Tally.{Tally}
 use Rattle.lrs_sheet.specs.CanonicalRecords.{IsInLowestTerms, line_by_table, record_of}
 use Rattle.lrs_sheet.specs.Records.{FirstMalformedAmong, SaysAmong}
-use Rattle.lrs_sheet.specs.Sheets.{RunsEdits}
+use Rattle.lrs_sheet.specs.declared.sheet.Sheet.{Sheet}
+use Rattle.lrs_sheet.specs.Sheets.{Runs}
 use Rattle.lrs_sheet.specs.Verbs.{all_verbs, arguments_of}
 
 -- what a run without a fault leaves, from what a writer had to what it has
@@ -25,11 +26,11 @@ pub record IsOneReply (old : Text) (one : Outcome) (earlier : Text) (other : Out
   pub state : one.state ≡ other.state
   pub tally : one.tally ≡ other.tally
 
--- Two runs over the same bytes, from the same state, that end without a fault write the same bytes and leave the same state.
+-- Two runs of a sheet of one kind over the same bytes, from the same state, that end without a fault write the same bytes and leave the same state.
 abbrev pub SheetDeterminesReply : Type 0
-SheetDeterminesReply = (limits : Limits) (input : Text) (before : State) (old earlier : Text) (one other : Outcome)
-    → RunsEdits limits input before one.state (Some old) (Some one.written) (Ok one.tally)
-    → RunsEdits limits input before other.state (Some earlier) (Some other.written) (Ok other.tally)
+SheetDeterminesReply = (sheet : Sheet) (limits : Limits) (input : Text) (before : State) (old earlier : Text) (one other : Outcome)
+    → Runs sheet limits input before one.state (Some old) (Some one.written) (Ok one.tally)
+    → Runs sheet limits input before other.state (Some earlier) (Some other.written) (Ok other.tally)
     → IsOneReply old one earlier other
 
 -- A record says one command under one key, or it has one first malformed field, and not both; whichever verbs of the table there are.

@@ -3,6 +3,7 @@ pub mod Shapes
 pub mod Verbs
 pub mod Records
 pub mod Surveys
+pub mod Kinds
 pub mod CanonicalRecords
 pub mod Fields
 pub mod Replies

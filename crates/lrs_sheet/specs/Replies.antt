@@ -15,6 +15,8 @@ use Rattle.lrs_machine.specs.declared.answer.Limits.{Limits}
 use Rattle.lrs_machine.specs.declared.command.Command.{Command}
 use Rattle.lrs_sheet.specs.declared.reply.Reply.{Reply}
 use Rattle.lrs_sheet.specs.declared.reply.Tally.{Tally}
+use Rattle.lrs_sheet.specs.declared.sheet.Sheet.{Sheet}
+use Rattle.lrs_sheet.specs.Kinds.{edit_record}
 use Rattle.lrs_sheet.specs.Records.{SaysCommand, FirstMalformed, place_of, text_at}
 
 -- a key, or a dash where the key itself is malformed
@@ -40,12 +42,12 @@ IsAnswered limits before fields answer after =
 abbrev pub IsReplied : Limits → State → List Text → Reply → State → Type 0
 IsReplied limits before fields reply after = SomeIff reply.key (IsTrue (is_key (text_at fields 0))) (text_at fields 0) × IsAnswered limits before fields reply.answer after
 
--- The records are answered in order, from one state to the other.
-unfoldable pub Replied : Limits → State → List (List Text) → List Reply → State → Type 0
-Replied limits before [] [] after = after ≡ before
-Replied limits before (fields ∷ records) (reply ∷ replies) after = (middle : State) × IsReplied limits before fields reply middle × Replied limits middle records replies after
-Replied limits before [] (reply ∷ replies) after = ⊥
-Replied limits before (fields ∷ records) [] after = ⊥
+-- The records of a sheet are answered in order, from one state to the other, each as the record of an edit sheet that says the same.
+unfoldable pub Replied : Sheet → Limits → State → List (List Text) → List Reply → State → Type 0
+Replied sheet limits before [] [] after = after ≡ before
+Replied sheet limits before (fields ∷ records) (reply ∷ replies) after = (middle : State) × IsReplied limits before (edit_record sheet fields) reply middle × Replied sheet limits middle records replies after
+Replied sheet limits before [] (reply ∷ replies) after = ⊥
+Replied sheet limits before (fields ∷ records) [] after = ⊥
 
 abbrev pub is_done : Answer → Bool
 is_done (Done n) = true

@@ -18,8 +18,10 @@ use Rattle.lrs_sheet.specs.declared.reply.Reply.{Reply}
 use Rattle.lrs_sheet.specs.declared.reply.Tally.{Tally}
 use Rattle.lrs_sheet.specs.declared.fault.SheetFault.{SheetFault}
 use Rattle.lrs_sheet.specs.declared.fault.SheetFault.TheVariants as fault
+use Rattle.lrs_sheet.specs.declared.sheet.Sheet.{Sheet}
+use Rattle.lrs_sheet.specs.Kinds.{edit_record, width_of}
 use Rattle.lrs_sheet.specs.Replies.{IsReplied, Replied, answer_count, counted, reply_text, tally_of}
-use Rattle.lrs_sheet.specs.Sheets.{AreAll, AreAnswered, BeginsWith, GoesAlong, HasOldOrNext, HaveEleven, max_records}
+use Rattle.lrs_sheet.specs.Sheets.{AreAll, AreAnswered, BeginsWith, GoesAlong, HasOldOrNext, HaveWidth, max_records}
 
 -- the reader gives the records of a text as `csv` does by default, with no header handling and no trimming
 pub record IsPlain {R : Type 0} (reader : Reader R) : Type 0 where
@@ -69,45 +71,45 @@ IsReadFault remaining reader fault.BadHeader = ⊥
 IsReadFault remaining reader (fault.Desk e) = ⊥
 
 -- some of the records that come next are done and answered
-abbrev pub AnswersSome : {R : Type 0} → (R → Option Text) → Reader R → Limits → State → State → Option Text → Option Text → Type 0
-AnswersSome remaining reader limits before after old new =
-    (records : List (List Text)) × (replies : List Reply) × AreAnswered limits before records replies after old new × Begins remaining reader records
+abbrev pub AnswersSome : {R : Type 0} → Sheet → (R → Option Text) → Reader R → Limits → State → State → Option Text → Option Text → Type 0
+AnswersSome sheet remaining reader limits before after old new =
+    (records : List (List Text)) × (replies : List Reply) × AreAnswered sheet limits before records replies after old new × Begins remaining reader records
 
 -- ... and the next one, of the right length, is not
-abbrev pub Stops : {R : Type 0} → (R → Option Text) → Reader R → Limits → State → State → Option Text → Option Text → Type 0
-Stops remaining reader limits before after old new =
-    (records : List (List Text)) × (fields : List Text) × (replies : List Reply) × (length fields ≡ 11) × AreAnswered limits before records replies after old new
+abbrev pub Stops : {R : Type 0} → Sheet → (R → Option Text) → Reader R → Limits → State → State → Option Text → Option Text → Type 0
+Stops sheet remaining reader limits before after old new =
+    (records : List (List Text)) × (fields : List Text) × (replies : List Reply) × (length fields ≡ width_of sheet) × AreAnswered sheet limits before records replies after old new
     × Begins remaining reader (records ++ fields ∷ [])
 
 -- the records that come next are done up to this one
-abbrev pub DoesUpTo : {R : Type 0} → (R → Option Text) → Reader R → Limits → State → State → Type 0
-DoesUpTo remaining reader limits before after =
-    (records : List (List Text)) × (fields : List Text) × (replies : List Reply) × HaveEleven (records ++ fields ∷ []) × Replied limits before (records ++ fields ∷ []) replies after
+abbrev pub DoesUpTo : {R : Type 0} → Sheet → (R → Option Text) → Reader R → Limits → State → State → Type 0
+DoesUpTo sheet remaining reader limits before after =
+    (records : List (List Text)) × (fields : List Text) × (replies : List Reply) × HaveWidth sheet (records ++ fields ∷ []) × Replied sheet limits before (records ++ fields ∷ []) replies after
     × Begins remaining reader (records ++ fields ∷ [])
 
 -- what doing the records under a header gives
-abbrev pub DoesRows : {R : Type 0} → (R → Option Text) → Reader R → Limits → State → State → Option Text → Option Text → Result Tally SheetFault → Type 0
-DoesRows remaining reader limits before after old new (Ok tally) =
-    (records : List (List Text)) × (replies : List Reply) × AreAnswered limits before records replies after old new
+abbrev pub DoesRows : {R : Type 0} → Sheet → (R → Option Text) → Reader R → Limits → State → State → Option Text → Option Text → Result Tally SheetFault → Type 0
+DoesRows sheet remaining reader limits before after old new (Ok tally) =
+    (records : List (List Text)) × (replies : List Reply) × AreAnswered sheet limits before records replies after old new
     × (tally ≡ tally_of replies) × EndsAfter remaining reader records × (length records ≤ max_records)
-DoesRows remaining reader limits before after old new (Err fault.BadCsv) =
-    (records : List (List Text)) × (replies : List Reply) × AreAnswered limits before records replies after old new
-    × NextDiffers remaining reader records 11
-DoesRows remaining reader limits before after old new (Err fault.BadHeader) = ⊥
-DoesRows remaining reader limits before after old new (Err fault.Read) = AnswersSome remaining reader limits before after old new
-DoesRows remaining reader limits before after old new (Err fault.Write) = DoesUpTo remaining reader limits before after
-DoesRows remaining reader limits before after old new (Err (fault.Desk e)) = Stops remaining reader limits before after old new
-DoesRows remaining reader limits before after old new (Err fault.Memory) = AnswersSome remaining reader limits before after old new
+DoesRows sheet remaining reader limits before after old new (Err fault.BadCsv) =
+    (records : List (List Text)) × (replies : List Reply) × AreAnswered sheet limits before records replies after old new
+    × NextDiffers remaining reader records (width_of sheet)
+DoesRows sheet remaining reader limits before after old new (Err fault.BadHeader) = ⊥
+DoesRows sheet remaining reader limits before after old new (Err fault.Read) = AnswersSome sheet remaining reader limits before after old new
+DoesRows sheet remaining reader limits before after old new (Err fault.Write) = DoesUpTo sheet remaining reader limits before after
+DoesRows sheet remaining reader limits before after old new (Err (fault.Desk e)) = Stops sheet remaining reader limits before after old new
+DoesRows sheet remaining reader limits before after old new (Err fault.Memory) = AnswersSome sheet remaining reader limits before after old new
 
 -- the commit of a record failed: the desk's image stays, and what its keeper has stands for the state before it, or for the one after it
 abbrev pub BreaksAtRow : {K : Type 0} → (K → Result Image Table → Type 0) → DeskView K → List Text → DeskView K → Type 0
 BreaksAtRow holds old fields new = (new.image ≡ old.image) × ((c : Result Image Table) → holds new.keeper c → HasOldOrNext old.limits (state_of old.image) fields c)
 
 -- the same after some of the records that come next are done
-abbrev pub BreaksAfter : {R : Type 0} → (R → Option Text) → Reader R → Limits → State → State → Result Image Table → Type 0
-BreaksAfter remaining reader limits before after content =
-    (records : List (List Text)) × (fields : List Text) × (replies : List Reply) × HaveEleven records × Replied limits before records replies after
-    × Begins remaining reader (records ++ fields ∷ []) × HasOldOrNext limits after fields content
+abbrev pub BreaksAfter : {R : Type 0} → Sheet → (R → Option Text) → Reader R → Limits → State → State → Result Image Table → Type 0
+BreaksAfter sheet remaining reader limits before after content =
+    (records : List (List Text)) × (fields : List Text) × (replies : List Reply) × HaveWidth sheet records × Replied sheet limits before records replies after
+    × Begins remaining reader (records ++ fields ∷ []) × HasOldOrNext limits after (edit_record sheet fields) content
 
 -- a fault at a record that was read, before its line is written
 abbrev pub IsRowFault : SheetFault → Type 0
@@ -133,13 +135,13 @@ StopsAtRow limits before fields after old new fault.BadHeader = ⊥
 StopsAtRow limits before fields after old new fault.BadCsv = ⊥
 
 -- after some turns of the loop over the records
-pub record HasDone {R K : Type 0} (holds : K → Result Image Table → Type 0) (remaining : R → Option Text) (first now : Reader R) (before after : DeskView K) (old new : Option Text) (tally : Tally) (turns : ℕ) : Type 0 where
+pub record HasDone {R K : Type 0} (sheet : Sheet) (holds : K → Result Image Table → Type 0) (remaining : R → Option Text) (first now : Reader R) (before after : DeskView K) (old new : Option Text) (tally : Tally) (turns : ℕ) : Type 0 where
   pub records : List (List Text)
   pub replies : List Reply
   pub plain : IsPlain now
-  pub width : expected_len now ≡ Some 11
+  pub width : expected_len now ≡ Some (width_of sheet)
   pub gave : Gave remaining first now records
-  pub answered : AreAnswered before.limits (state_of before.image) records replies (state_of after.image) old new
+  pub answered : AreAnswered sheet before.limits (state_of before.image) records replies (state_of after.image) old new
   pub desk : GoesAlong holds before after
   pub counts : tally ≡ tally_of replies
   pub few : answer_count tally ≡ turns

@@ -1,5 +1,5 @@
--- What an edit sheet is answered: the reply to its bytes, from a state, and each fault where it is due.
-use Rattle.std.specs.Prelude.{◌≤◌, ◌≡◌, ◌⊎◌, ℕ, List, [], ◌∷◌, ◌++◌, Option, true, codes, length, Result, Ok, Err}
+-- What a sheet is answered, an edit sheet or a survey: the reply to its bytes, from a state, and each fault where it is due.
+use Rattle.std.specs.Prelude.{◌≤◌, ◌≡◌, ◌⊎◌, ℕ, List, [], ◌∷◌, ◌++◌, Option, true, length, Result, Ok, Err}
 use Rattle.std.specs.List.{AllByRecursion}
 use Rattle.std.specs.Io.KnownBytes.{Appends, Keeps}
 use Rattle.csv.specs.Reading.{AreRecords, Reached, default_config, strip_bom}
@@ -18,19 +18,10 @@ use Rattle.lrs_sheet.specs.declared.reply.Reply.{Reply}
 use Rattle.lrs_sheet.specs.declared.reply.Tally.{Tally}
 use Rattle.lrs_sheet.specs.declared.fault.SheetFault.{SheetFault}
 use Rattle.lrs_sheet.specs.declared.fault.SheetFault.TheVariants as fault
+use Rattle.lrs_sheet.specs.declared.sheet.Sheet.{Sheet}
+use Rattle.lrs_sheet.specs.declared.sheet.Sheet.TheVariants.{Edits, Survey}
+use Rattle.lrs_sheet.specs.Kinds.{IsHeader, edit_record, width_of}
 use Rattle.lrs_sheet.specs.Replies.{IsReplied, Replied, lines_of, tally_of}
-
--- the fields of a header, where a byte order mark before the first one is left out once
-abbrev pub without_mark : List Text → List Text
-without_mark [] = []
-without_mark (first ∷ others) = strip_bom first ∷ others
-
--- the header of an edit sheet
-abbrev pub edit_header : List Text
-edit_header = codes "key" ∷ codes "verb" ∷ codes "a" ∷ codes "b" ∷ codes "c" ∷ codes "d" ∷ codes "e" ∷ codes "f" ∷ codes "g" ∷ codes "h" ∷ codes "i" ∷ []
-
-abbrev pub IsEditHeader : List Text → Type 0
-IsEditHeader fields = without_mark fields ≡ edit_header
 
 -- The records of the input begin with these, by the rules of `csv`.
 abbrev pub BeginsWith : Text → List (List Text) → Type 0
@@ -41,65 +32,73 @@ abbrev pub AreAll : Text → List (List Text) → Type 0
 AreAll input records = AreRecords default_config st.StartRecord (strip_bom input) records
 
 -- each record has as many fields as the header
-abbrev pub HaveEleven : List (List Text) → Type 0
-HaveEleven records = AllByRecursion (λ fields. length fields ≡ 11) records
+abbrev pub HaveWidth : Sheet → List (List Text) → Type 0
+HaveWidth sheet records = AllByRecursion (λ fields. length fields ≡ width_of sheet) records
 
 -- the most records of a sheet after its header
 abbrev pub max_records : ℕ
 max_records = 100_000_000
 
 -- The records are answered in order, and the lines of their replies are written.
-pub record AreAnswered (limits : Limits) (before : State) (records : List (List Text)) (replies : List Reply) (after : State) (old new : Option Text) : Type 0 where
-  pub eleven : HaveEleven records
-  pub replied : Replied limits before records replies after
+pub record AreAnswered (sheet : Sheet) (limits : Limits) (before : State) (records : List (List Text)) (replies : List Reply) (after : State) (old new : Option Text) : Type 0 where
+  pub width : HaveWidth sheet records
+  pub replied : Replied sheet limits before records replies after
   pub written : Appends old new (lines_of replies)
 
--- The reply to the whole sheet: to an empty one, or to the records under the header of an edit sheet.
-abbrev pub AnswersAll : Limits → Text → State → State → Option Text → Option Text → Tally → Type 0
-AnswersAll limits input before after old new tally =
+-- The reply to the whole sheet: to an empty one, or to the records under its header.
+abbrev pub AnswersAll : Sheet → Limits → Text → State → State → Option Text → Option Text → Tally → Type 0
+AnswersAll sheet limits input before after old new tally =
     (AreAll input [] × (after ≡ before) × Keeps old new × (tally ≡ tally_of []))
-    ⊎ ((header : List Text) × (records : List (List Text)) × (replies : List Reply) × IsEditHeader header × AreAll input (header ∷ records)
-    × AreAnswered limits before records replies after old new × (tally ≡ tally_of replies) × (length records ≤ max_records))
+    ⊎ ((header : List Text) × (records : List (List Text)) × (replies : List Reply) × IsHeader sheet header × AreAll input (header ∷ records)
+    × AreAnswered sheet limits before records replies after old new × (tally ≡ tally_of replies) × (length records ≤ max_records))
 
--- The first record is no header of an edit sheet, and nothing is done.
-abbrev pub HasBadHeader : Text → State → State → Option Text → Option Text → Type 0
-HasBadHeader input before after old new =
-    (header : List Text) × BeginsWith input (header ∷ []) × (IsEditHeader header → ⊥) × (after ≡ before) × Keeps old new
+-- The first record is not the header of the sheet, and nothing is done.
+abbrev pub HasBadHeader : Sheet → Text → State → State → Option Text → Option Text → Type 0
+HasBadHeader sheet input before after old new =
+    (header : List Text) × BeginsWith input (header ∷ []) × (IsHeader sheet header → ⊥) × (after ≡ before) × Keeps old new
 
--- A record has not eleven fields, and those before it are done and answered.
-abbrev pub HasBadRecord : Limits → Text → State → State → Option Text → Option Text → Type 0
-HasBadRecord limits input before after old new =
-    (header : List Text) × (records : List (List Text)) × (fields : List Text) × (replies : List Reply) × IsEditHeader header
-    × BeginsWith input ((header ∷ records) ++ fields ∷ []) × (length fields ≡ 11 → ⊥) × AreAnswered limits before records replies after old new
+-- A record has not as many fields as the header, and those before it are done and answered.
+abbrev pub HasBadRecord : Sheet → Limits → Text → State → State → Option Text → Option Text → Type 0
+HasBadRecord sheet limits input before after old new =
+    (header : List Text) × (records : List (List Text)) × (fields : List Text) × (replies : List Reply) × IsHeader sheet header
+    × BeginsWith input ((header ∷ records) ++ fields ∷ []) × (length fields ≡ width_of sheet → ⊥) × AreAnswered sheet limits before records replies after old new
 
 -- Some records at the front of the sheet are done, and each has its line; nothing else is written.
-abbrev pub HasAnsweredSome : Limits → Text → State → State → Option Text → Option Text → Type 0
-HasAnsweredSome limits input before after old new =
+abbrev pub HasAnsweredSome : Sheet → Limits → Text → State → State → Option Text → Option Text → Type 0
+HasAnsweredSome sheet limits input before after old new =
     ((after ≡ before) × Keeps old new)
-    ⊎ ((header : List Text) × (records : List (List Text)) × (replies : List Reply) × IsEditHeader header × BeginsWith input (header ∷ records)
-    × AreAnswered limits before records replies after old new)
+    ⊎ ((header : List Text) × (records : List (List Text)) × (replies : List Reply) × IsHeader sheet header × BeginsWith input (header ∷ records)
+    × AreAnswered sheet limits before records replies after old new)
 
 -- Some records at the front of the sheet are done, and each has its line; a further one of the right length is not done.
-abbrev pub HasStopped : Limits → Text → State → State → Option Text → Option Text → Type 0
-HasStopped limits input before after old new =
-    (header : List Text) × (records : List (List Text)) × (fields : List Text) × (replies : List Reply) × IsEditHeader header
-    × BeginsWith input ((header ∷ records) ++ fields ∷ []) × (length fields ≡ 11) × AreAnswered limits before records replies after old new
+abbrev pub HasStopped : Sheet → Limits → Text → State → State → Option Text → Option Text → Type 0
+HasStopped sheet limits input before after old new =
+    (header : List Text) × (records : List (List Text)) × (fields : List Text) × (replies : List Reply) × IsHeader sheet header
+    × BeginsWith input ((header ∷ records) ++ fields ∷ []) × (length fields ≡ width_of sheet) × AreAnswered sheet limits before records replies after old new
 
 -- Some records at the front of the sheet are done, one at least; the line of the last was not written whole.
-abbrev pub HasDoneUpTo : Limits → Text → State → State → Type 0
-HasDoneUpTo limits input before after =
-    (header : List Text) × (records : List (List Text)) × (fields : List Text) × (replies : List Reply) × IsEditHeader header
-    × BeginsWith input (header ∷ (records ++ fields ∷ [])) × HaveEleven (records ++ fields ∷ []) × Replied limits before (records ++ fields ∷ []) replies after
+abbrev pub HasDoneUpTo : Sheet → Limits → Text → State → State → Type 0
+HasDoneUpTo sheet limits input before after =
+    (header : List Text) × (records : List (List Text)) × (fields : List Text) × (replies : List Reply) × IsHeader sheet header
+    × BeginsWith input (header ∷ (records ++ fields ∷ [])) × HaveWidth sheet (records ++ fields ∷ []) × Replied sheet limits before (records ++ fields ∷ []) replies after
+
+-- What a run of a sheet gives.
+abbrev pub Runs : Sheet → Limits → Text → State → State → Option Text → Option Text → Result Tally SheetFault → Type 0
+Runs sheet limits input before after old new (Ok tally) = AnswersAll sheet limits input before after old new tally
+Runs sheet limits input before after old new (Err fault.BadHeader) = HasBadHeader sheet input before after old new
+Runs sheet limits input before after old new (Err fault.BadCsv) = HasBadRecord sheet limits input before after old new
+Runs sheet limits input before after old new (Err fault.Read) = HasAnsweredSome sheet limits input before after old new
+Runs sheet limits input before after old new (Err fault.Write) = HasDoneUpTo sheet limits input before after
+Runs sheet limits input before after old new (Err (fault.Desk e)) = HasStopped sheet limits input before after old new
+Runs sheet limits input before after old new (Err fault.Memory) = HasAnsweredSome sheet limits input before after old new
 
 -- What a run of an edit sheet gives.
 abbrev pub RunsEdits : Limits → Text → State → State → Option Text → Option Text → Result Tally SheetFault → Type 0
-RunsEdits limits input before after old new (Ok tally) = AnswersAll limits input before after old new tally
-RunsEdits limits input before after old new (Err fault.BadHeader) = HasBadHeader input before after old new
-RunsEdits limits input before after old new (Err fault.BadCsv) = HasBadRecord limits input before after old new
-RunsEdits limits input before after old new (Err fault.Read) = HasAnsweredSome limits input before after old new
-RunsEdits limits input before after old new (Err fault.Write) = HasDoneUpTo limits input before after
-RunsEdits limits input before after old new (Err (fault.Desk e)) = HasStopped limits input before after old new
-RunsEdits limits input before after old new (Err fault.Memory) = HasAnsweredSome limits input before after old new
+RunsEdits = Runs Edits
+
+-- What a run of a survey gives.
+abbrev pub RunsSurvey : Limits → Text → State → State → Option Text → Option Text → Result Tally SheetFault → Type 0
+RunsSurvey = Runs Survey
 
 -- the desk goes along with its keeper
 pub record GoesAlong {K : Type 0} (holds : K → Result Image Table → Type 0) (old new : DeskView K) : Type 0 where
@@ -135,8 +134,16 @@ HasOldOrNext limits state fields content =
     ⊎ ((reply : Reply) × (next : State) × IsReplied limits state fields reply next × StandsFor content next)
 
 -- The commit of a record failed: those before it are done.
+abbrev pub BreaksOff : Sheet → Limits → Text → State → State → Result Image Table → Type 0
+BreaksOff sheet limits input before after content =
+    (header : List Text) × (records : List (List Text)) × (fields : List Text) × (replies : List Reply) × IsHeader sheet header
+    × BeginsWith input ((header ∷ records) ++ fields ∷ []) × HaveWidth sheet records × Replied sheet limits before records replies after
+    × HasOldOrNext limits after (edit_record sheet fields) content
+
+-- the same of an edit sheet
 abbrev pub HasBrokenOff : Limits → Text → State → State → Result Image Table → Type 0
-HasBrokenOff limits input before after content =
-    (header : List Text) × (records : List (List Text)) × (fields : List Text) × (replies : List Reply) × IsEditHeader header
-    × BeginsWith input ((header ∷ records) ++ fields ∷ []) × HaveEleven records × Replied limits before records replies after
-    × HasOldOrNext limits after fields content
+HasBrokenOff = BreaksOff Edits
+
+-- the same of a survey
+abbrev pub SurveyHasBrokenOff : Limits → Text → State → State → Result Image Table → Type 0
+SurveyHasBrokenOff = BreaksOff Survey

@@ -1,7 +1,7 @@
 //! The fields of each verb.
 
 ghost use Rattle.std.specs.Prelude.{◌≡◌, ◌≤◌, length, codes};
-ghost use Rattle.csv.specs.Records.{fields_of};
+ghost use Rattle.lrs_sheet.specs.Kinds.{edit_fields};
 ghost use Rattle.lrs_sheet.specs.Records as spec;
 ghost use Rattle.lrs_sheet.specs.Fields.{NothingFrom, ReadsArguments, ReadsEntry};
 
@@ -11,9 +11,9 @@ use crate::place::{
     side_at, some_pieces_at, value_at,
 };
 use crate::shape::{
-    class_name_at, kind_at, marks_at, pieces_at, place_of, route_name_at, text_at, whole_at,
+    class_name_at, kind_at, marks_at, pieces_at, place_of, route_name_at, whole_at,
 };
-use csv::ByteRecord;
+use crate::sheet::{SheetRecord, text_at};
 use lrs_element::Link;
 use lrs_events::Class;
 use lrs_machine::{Command, Entry, Field};
@@ -39,10 +39,10 @@ fn argument_at(place: usize) -> Field
 }
 
 /// The fields that a verb does not use are empty.
-fn nothing_from(row: &ByteRecord, first: Field) -> Result<(), ReadFault>
-    requires eleven { length (fields_of row.now) ≤ 11 }
+fn nothing_from(row: &SheetRecord<'_>, first: Field) -> Result<(), ReadFault>
+    requires eleven { length (edit_fields row.now) ≤ 11 }
     requires argument { 2 ≤ spec.place_of first }
-    ensures { NothingFrom (fields_of row.now) (spec.place_of first) result }
+    ensures { NothingFrom (edit_fields row.now) (spec.place_of first) result }
 {
     for i in place_of(first)..11 {
         if !text_at(row, i).is_empty() {
@@ -52,9 +52,9 @@ fn nothing_from(row: &ByteRecord, first: Field) -> Result<(), ReadFault>
     Ok(())
 }
 
-pub(crate) fn link_of(row: &ByteRecord) -> Result<Command, ReadFault>
-    requires { length (fields_of row.now) ≤ 11 }
-    ensures { ReadsArguments (fields_of row.now) (codes "link") result }
+pub(crate) fn link_of(row: &SheetRecord<'_>) -> Result<Command, ReadFault>
+    requires { length (edit_fields row.now) ≤ 11 }
+    ensures { ReadsArguments (edit_fields row.now) (codes "link") result }
 {
     let number = whole_at(row, Field::A, 1, 999_999)? as u32;
     let length = whole_at(row, Field::B, 1, 1_000_000_000)? as u32;
@@ -62,9 +62,9 @@ pub(crate) fn link_of(row: &ByteRecord) -> Result<Command, ReadFault>
     Ok(Command::Link(Link { number, length }))
 }
 
-pub(crate) fn class_of(row: &ByteRecord) -> Result<Command, ReadFault>
-    requires { length (fields_of row.now) ≤ 11 }
-    ensures { ReadsArguments (fields_of row.now) (codes "class") result }
+pub(crate) fn class_of(row: &SheetRecord<'_>) -> Result<Command, ReadFault>
+    requires { length (edit_fields row.now) ≤ 11 }
+    ensures { ReadsArguments (edit_fields row.now) (codes "class") result }
 {
     let name = class_name_at(row, Field::A)?;
     let kind = kind_at(row, Field::B)?;
@@ -72,9 +72,9 @@ pub(crate) fn class_of(row: &ByteRecord) -> Result<Command, ReadFault>
     Ok(Command::Class(Class { name, kind }))
 }
 
-pub(crate) fn route_of(alloc: Global, row: &ByteRecord) -> Result<Command, ReadFault>
-    requires { length (fields_of row.now) ≤ 11 }
-    ensures { ReadsArguments (fields_of row.now) (codes "route") result }
+pub(crate) fn route_of(alloc: Global, row: &SheetRecord<'_>) -> Result<Command, ReadFault>
+    requires { length (edit_fields row.now) ≤ 11 }
+    ensures { ReadsArguments (edit_fields row.now) (codes "route") result }
 {
     let name = route_name_at(row, Field::A)?;
     let pieces = pieces_at(alloc, row, Field::B)?;
@@ -87,9 +87,9 @@ pub(crate) fn route_of(alloc: Global, row: &ByteRecord) -> Result<Command, ReadF
     })
 }
 
-pub(crate) fn ref_of(row: &ByteRecord) -> Result<Command, ReadFault>
-    requires { length (fields_of row.now) ≤ 11 }
-    ensures { ReadsArguments (fields_of row.now) (codes "ref") result }
+pub(crate) fn ref_of(row: &SheetRecord<'_>) -> Result<Command, ReadFault>
+    requires { length (edit_fields row.now) ≤ 11 }
+    ensures { ReadsArguments (edit_fields row.now) (codes "ref") result }
 {
     let name = referent_name_at(row, Field::A)?;
     let route = route_name_at(row, Field::B)?;
@@ -99,9 +99,9 @@ pub(crate) fn ref_of(row: &ByteRecord) -> Result<Command, ReadFault>
     Ok(Command::Ref { name, route, at })
 }
 
-pub(crate) fn unref_of(row: &ByteRecord) -> Result<Command, ReadFault>
-    requires { length (fields_of row.now) ≤ 11 }
-    ensures { ReadsArguments (fields_of row.now) (codes "unref") result }
+pub(crate) fn unref_of(row: &SheetRecord<'_>) -> Result<Command, ReadFault>
+    requires { length (edit_fields row.now) ≤ 11 }
+    ensures { ReadsArguments (edit_fields row.now) (codes "unref") result }
 {
     let name = referent_name_at(row, Field::A)?;
     nothing_from(row, Field::B)?;
@@ -109,9 +109,9 @@ pub(crate) fn unref_of(row: &ByteRecord) -> Result<Command, ReadFault>
 }
 
 /// The fields of an entry.
-fn entry_of(row: &ByteRecord) -> Result<Entry, ReadFault>
-    requires { length (fields_of row.now) ≤ 11 }
-    ensures { ReadsEntry (fields_of row.now) result }
+pub(crate) fn entry_of(row: &SheetRecord<'_>) -> Result<Entry, ReadFault>
+    requires { length (edit_fields row.now) ≤ 11 }
+    ensures { ReadsEntry (edit_fields row.now) result }
 {
     let asset = asset_at(row, Field::A)?;
     let class = class_name_at(row, Field::B)?;
@@ -133,9 +133,9 @@ fn entry_of(row: &ByteRecord) -> Result<Entry, ReadFault>
     })
 }
 
-pub(crate) fn enter_of(row: &ByteRecord) -> Result<Command, ReadFault>
-    requires { length (fields_of row.now) ≤ 11 }
-    ensures { ReadsArguments (fields_of row.now) (codes "enter") result }
+pub(crate) fn enter_of(row: &SheetRecord<'_>) -> Result<Command, ReadFault>
+    requires { length (edit_fields row.now) ≤ 11 }
+    ensures { ReadsArguments (edit_fields row.now) (codes "enter") result }
 {
     match entry_of(row) {
         Ok(entry) => Ok(Command::Enter(entry)),
@@ -143,9 +143,9 @@ pub(crate) fn enter_of(row: &ByteRecord) -> Result<Command, ReadFault>
     }
 }
 
-pub(crate) fn supersede_of(row: &ByteRecord) -> Result<Command, ReadFault>
-    requires { length (fields_of row.now) ≤ 11 }
-    ensures { ReadsArguments (fields_of row.now) (codes "supersede") result }
+pub(crate) fn supersede_of(row: &SheetRecord<'_>) -> Result<Command, ReadFault>
+    requires { length (edit_fields row.now) ≤ 11 }
+    ensures { ReadsArguments (edit_fields row.now) (codes "supersede") result }
 {
     match entry_of(row) {
         Ok(entry) => Ok(Command::Supersede(entry)),
@@ -153,9 +153,9 @@ pub(crate) fn supersede_of(row: &ByteRecord) -> Result<Command, ReadFault>
     }
 }
 
-pub(crate) fn retire_of(row: &ByteRecord) -> Result<Command, ReadFault>
-    requires { length (fields_of row.now) ≤ 11 }
-    ensures { ReadsArguments (fields_of row.now) (codes "retire") result }
+pub(crate) fn retire_of(row: &SheetRecord<'_>) -> Result<Command, ReadFault>
+    requires { length (edit_fields row.now) ≤ 11 }
+    ensures { ReadsArguments (edit_fields row.now) (codes "retire") result }
 {
     let asset = asset_at(row, Field::A)?;
     let route = route_name_at(row, Field::B)?;
@@ -170,9 +170,9 @@ pub(crate) fn retire_of(row: &ByteRecord) -> Result<Command, ReadFault>
     })
 }
 
-pub(crate) fn split_of(row: &ByteRecord) -> Result<Command, ReadFault>
-    requires { length (fields_of row.now) ≤ 11 }
-    ensures { ReadsArguments (fields_of row.now) (codes "split") result }
+pub(crate) fn split_of(row: &SheetRecord<'_>) -> Result<Command, ReadFault>
+    requires { length (edit_fields row.now) ≤ 11 }
+    ensures { ReadsArguments (edit_fields row.now) (codes "split") result }
 {
     let route = route_name_at(row, Field::A)?;
     let at = chainage_at(row, Field::B)?;
@@ -181,9 +181,9 @@ pub(crate) fn split_of(row: &ByteRecord) -> Result<Command, ReadFault>
     Ok(Command::Split { route, at, name })
 }
 
-pub(crate) fn join_of(row: &ByteRecord) -> Result<Command, ReadFault>
-    requires { length (fields_of row.now) ≤ 11 }
-    ensures { ReadsArguments (fields_of row.now) (codes "join") result }
+pub(crate) fn join_of(row: &SheetRecord<'_>) -> Result<Command, ReadFault>
+    requires { length (edit_fields row.now) ≤ 11 }
+    ensures { ReadsArguments (edit_fields row.now) (codes "join") result }
 {
     let first = route_name_at(row, Field::A)?;
     let second = route_name_at(row, Field::B)?;
@@ -191,9 +191,9 @@ pub(crate) fn join_of(row: &ByteRecord) -> Result<Command, ReadFault>
     Ok(Command::Join { first, second })
 }
 
-pub(crate) fn renumber_of(row: &ByteRecord) -> Result<Command, ReadFault>
-    requires { length (fields_of row.now) ≤ 11 }
-    ensures { ReadsArguments (fields_of row.now) (codes "renumber") result }
+pub(crate) fn renumber_of(row: &SheetRecord<'_>) -> Result<Command, ReadFault>
+    requires { length (edit_fields row.now) ≤ 11 }
+    ensures { ReadsArguments (edit_fields row.now) (codes "renumber") result }
 {
     let route = route_name_at(row, Field::A)?;
     let name = route_name_at(row, Field::B)?;
@@ -201,9 +201,9 @@ pub(crate) fn renumber_of(row: &ByteRecord) -> Result<Command, ReadFault>
     Ok(Command::Renumber { route, name })
 }
 
-pub(crate) fn recalibrate_of(alloc: Global, row: &ByteRecord) -> Result<Command, ReadFault>
-    requires { length (fields_of row.now) ≤ 11 }
-    ensures { ReadsArguments (fields_of row.now) (codes "recalibrate") result }
+pub(crate) fn recalibrate_of(alloc: Global, row: &SheetRecord<'_>) -> Result<Command, ReadFault>
+    requires { length (edit_fields row.now) ≤ 11 }
+    ensures { ReadsArguments (edit_fields row.now) (codes "recalibrate") result }
 {
     let route = route_name_at(row, Field::A)?;
     let marks = marks_at(alloc, row, Field::B)?;
@@ -211,9 +211,9 @@ pub(crate) fn recalibrate_of(alloc: Global, row: &ByteRecord) -> Result<Command,
     Ok(Command::Recalibrate { route, marks })
 }
 
-pub(crate) fn realign_of(alloc: Global, row: &ByteRecord) -> Result<Command, ReadFault>
-    requires { length (fields_of row.now) ≤ 11 }
-    ensures { ReadsArguments (fields_of row.now) (codes "realign") result }
+pub(crate) fn realign_of(alloc: Global, row: &SheetRecord<'_>) -> Result<Command, ReadFault>
+    requires { length (edit_fields row.now) ≤ 11 }
+    ensures { ReadsArguments (edit_fields row.now) (codes "realign") result }
 {
     let route = route_name_at(row, Field::A)?;
     let from = chainage_at(row, Field::B)?;
@@ -230,18 +230,18 @@ pub(crate) fn realign_of(alloc: Global, row: &ByteRecord) -> Result<Command, Rea
     })
 }
 
-pub(crate) fn close_of(row: &ByteRecord) -> Result<Command, ReadFault>
-    requires { length (fields_of row.now) ≤ 11 }
-    ensures { ReadsArguments (fields_of row.now) (codes "close") result }
+pub(crate) fn close_of(row: &SheetRecord<'_>) -> Result<Command, ReadFault>
+    requires { length (edit_fields row.now) ≤ 11 }
+    ensures { ReadsArguments (edit_fields row.now) (codes "close") result }
 {
     let route = route_name_at(row, Field::A)?;
     nothing_from(row, Field::B)?;
     Ok(Command::Close { route })
 }
 
-pub(crate) fn turn_of(row: &ByteRecord) -> Result<Command, ReadFault>
-    requires { length (fields_of row.now) ≤ 11 }
-    ensures { ReadsArguments (fields_of row.now) (codes "turn") result }
+pub(crate) fn turn_of(row: &SheetRecord<'_>) -> Result<Command, ReadFault>
+    requires { length (edit_fields row.now) ≤ 11 }
+    ensures { ReadsArguments (edit_fields row.now) (codes "turn") result }
 {
     let route = route_name_at(row, Field::A)?;
     nothing_from(row, Field::B)?;

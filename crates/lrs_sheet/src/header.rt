@@ -1,13 +1,14 @@
-//! The header of a sheet.
+//! The headers of sheets.
 
 ghost use Rattle.std.specs.Prelude.{◌≡◌, ◌↔◌, ◌<◌, IsTrue, [], ◌∷◌, nat_eq};
 ghost use Rattle.std.specs.List.{starts_with};
 ghost use Rattle.csv.specs.Reading.{strip_bom};
 ghost use Rattle.csv.specs.Records.{fields_of};
 ghost use Rattle.lrs_sheet.specs.Records as spec;
-ghost use Rattle.lrs_sheet.specs.Sheets.{IsEditHeader, edit_header};
+ghost use Rattle.lrs_sheet.specs.Kinds.{IsHeader, edit_header, header_of, width_of};
+ghost use Rattle.lrs_sheet.specs.Surveys.{survey_header};
 
-use crate::shape::text_at;
+use crate::sheet::{Sheet, field_text};
 use csv::ByteRecord;
 
 /// Whether a text begins with a byte order mark.
@@ -26,7 +27,7 @@ fn without_mark(text: &[u8]) -> &[u8]
 
 #[tactic(auto, unfolding(csv::specs::Records::field_at))]
 /// The name of a field of an edit sheet.
-fn edit_field(place: usize) -> &'static [u8]
+fn edit_column(place: usize) -> &'static [u8]
     requires { place < 11 }
     ensures { result.now ≡ spec.text_at edit_header place }
 {
@@ -45,18 +46,50 @@ fn edit_field(place: usize) -> &'static [u8]
     }
 }
 
-/// Whether a record is the header of an edit sheet.
-pub(crate) fn is_edit_header(row: &ByteRecord) -> bool
-    ensures { IsTrue result ↔ IsEditHeader (fields_of row.now) }
+#[tactic(auto, unfolding(csv::specs::Records::field_at))]
+/// The name of a field of a survey.
+fn survey_column(place: usize) -> &'static [u8]
+    requires { place < 10 }
+    ensures { result.now ≡ spec.text_at survey_header place }
 {
-    if row.len() != 11 {
+    match place {
+        0 => b"key",
+        1 => b"asset",
+        2 => b"class",
+        3 => b"route",
+        4 => b"side",
+        5 => b"method",
+        6 => b"from",
+        7 => b"to",
+        8 => b"value",
+        _ => b"offset",
+    }
+}
+
+/// The name of a field of a sheet.
+fn column(sheet: Sheet, place: usize) -> &'static [u8]
+    requires { place < width_of sheet }
+    ensures { result.now ≡ spec.text_at (header_of sheet) place }
+{
+    match sheet {
+        Sheet::Edits => edit_column(place),
+        Sheet::Survey => survey_column(place),
+    }
+}
+
+/// Whether a record is the header of a sheet.
+pub(crate) fn is_header(sheet: Sheet, row: &ByteRecord) -> bool
+    ensures { IsTrue result ↔ IsHeader sheet (fields_of row.now) }
+{
+    let width = sheet.width();
+    if row.len() != width {
         return false;
     }
-    if without_mark(text_at(row, 0)) != edit_field(0) {
+    if without_mark(field_text(row, 0)) != column(sheet, 0) {
         return false;
     }
-    for place in 1..11 {
-        if text_at(row, place) != edit_field(place) {
+    for place in 1..width {
+        if field_text(row, place) != column(sheet, place) {
             return false;
         }
     }

@@ -1,4 +1,4 @@
-//! Sheets of commands: bytes in, bytes out. Each record is read, done by a desk and answered by a line
+//! Sheets of commands, and surveys: bytes in, bytes out. Each record is read, done by a desk and answered by a line
 //! before the next one is read, so that nothing grows with the number of records.
 #![tactic(auto)]
 
@@ -13,12 +13,14 @@ mod reply;
 mod rows;
 mod run;
 mod shape;
+mod sheet;
 mod verb;
 
 pub use fault::{ReadFault, SheetFault};
-pub use record::command_of;
+pub use record::{command_of, survey_of};
 pub use reply::{Reply, Tally};
-pub use run::run_edits;
+pub use run::{run_edits, run_sheet, run_survey};
+pub use sheet::Sheet;
 
 #[cfg(test)]
 mod tests;

@@ -2,7 +2,7 @@
 
 ghost use Rattle.std.specs.Prelude.{◌≡◌, IsTrue};
 ghost use Rattle.lrs_position.specs.Expressions.{are_alike};
-ghost use Rattle.csv.specs.Records.{fields_of};
+ghost use Rattle.lrs_sheet.specs.Kinds.{edit_fields};
 ghost use Rattle.lrs_position.specs.Readings.{method_text};
 ghost use Rattle.lrs_sheet.specs.Records as spec;
 ghost use Rattle.lrs_sheet.specs.Shapes;
@@ -11,16 +11,16 @@ ghost use Rattle.lrs_sheet.specs.Verbs.{asset_number, chainage, or_nothing};
 ghost use Rattle.lrs_sheet.specs.Fields.{ReadsField, ReadsList};
 
 use crate::fault::ReadFault;
-use crate::shape::{pieces_at, place_of, text_at, whole_at};
-use csv::ByteRecord;
+use crate::shape::{pieces_at, place_of, whole_at};
+use crate::sheet::{SheetRecord, text_at};
 use lrs_events::{Side, Value, read_side};
 use lrs_machine::{AssetNumber, Chainage, Field, LateralOffset, PieceList};
 use lrs_position::{EnteredPosition, EventLocation, Method, RefName, read_expr, read_method};
 use std::alloc::Global;
 
 /// The name of a referent.
-pub(crate) fn referent_name_at(row: &ByteRecord, field: Field) -> Result<RefName, ReadFault>
-    ensures { ReadsField Shapes.ReferentName Word (fields_of row.now) field result }
+pub(crate) fn referent_name_at(row: &SheetRecord<'_>, field: Field) -> Result<RefName, ReadFault>
+    ensures { ReadsField Shapes.ReferentName Word (edit_fields row.now) field result }
 {
     match RefName::new(text_at(row, place_of(field))) {
         Some(name) => Ok(name),
@@ -29,8 +29,8 @@ pub(crate) fn referent_name_at(row: &ByteRecord, field: Field) -> Result<RefName
 }
 
 /// A value.
-pub(crate) fn value_at(row: &ByteRecord, field: Field) -> Result<Value, ReadFault>
-    ensures { ReadsField Shapes.AssetValue Word (fields_of row.now) field result }
+pub(crate) fn value_at(row: &SheetRecord<'_>, field: Field) -> Result<Value, ReadFault>
+    ensures { ReadsField Shapes.AssetValue Word (edit_fields row.now) field result }
 {
     match Value::new(text_at(row, place_of(field))) {
         Some(value) => Ok(value),
@@ -39,8 +39,8 @@ pub(crate) fn value_at(row: &ByteRecord, field: Field) -> Result<Value, ReadFaul
 }
 
 /// A side of a route.
-pub(crate) fn side_at(row: &ByteRecord, field: Field) -> Result<Side, ReadFault>
-    ensures { ReadsField Shapes.RouteSide SideOf (fields_of row.now) field result }
+pub(crate) fn side_at(row: &SheetRecord<'_>, field: Field) -> Result<Side, ReadFault>
+    ensures { ReadsField Shapes.RouteSide SideOf (edit_fields row.now) field result }
 {
     match read_side(text_at(row, place_of(field))) {
         Some(side) => Ok(side),
@@ -49,8 +49,8 @@ pub(crate) fn side_at(row: &ByteRecord, field: Field) -> Result<Side, ReadFault>
 }
 
 /// The number of an asset.
-pub(crate) fn asset_at(row: &ByteRecord, field: Field) -> Result<AssetNumber, ReadFault>
-    ensures { ReadsField asset_number Number (fields_of row.now) field result }
+pub(crate) fn asset_at(row: &SheetRecord<'_>, field: Field) -> Result<AssetNumber, ReadFault>
+    ensures { ReadsField asset_number Number (edit_fields row.now) field result }
 {
     match AssetNumber::new(whole_at(row, field, 1, 1_000_000_000_000)?) {
         Some(asset) => Ok(asset),
@@ -59,8 +59,8 @@ pub(crate) fn asset_at(row: &ByteRecord, field: Field) -> Result<AssetNumber, Re
 }
 
 /// A chainage.
-pub(crate) fn chainage_at(row: &ByteRecord, field: Field) -> Result<Chainage, ReadFault>
-    ensures { ReadsField chainage Number (fields_of row.now) field result }
+pub(crate) fn chainage_at(row: &SheetRecord<'_>, field: Field) -> Result<Chainage, ReadFault>
+    ensures { ReadsField chainage Number (edit_fields row.now) field result }
 {
     match Chainage::new(whole_at(row, field, 0, 10_000_000_000)?) {
         Some(at) => Ok(at),
@@ -69,8 +69,8 @@ pub(crate) fn chainage_at(row: &ByteRecord, field: Field) -> Result<Chainage, Re
 }
 
 /// A lateral offset.
-pub(crate) fn offset_at(row: &ByteRecord, field: Field) -> Result<LateralOffset, ReadFault>
-    ensures { ReadsField (Shapes.Whole 0 100_000) Number (fields_of row.now) field result }
+pub(crate) fn offset_at(row: &SheetRecord<'_>, field: Field) -> Result<LateralOffset, ReadFault>
+    ensures { ReadsField (Shapes.Whole 0 100_000) Number (edit_fields row.now) field result }
 {
     match LateralOffset::new(whole_at(row, field, 0, 100_000)? as u32) {
         Some(offset) => Ok(offset),
@@ -79,8 +79,8 @@ pub(crate) fn offset_at(row: &ByteRecord, field: Field) -> Result<LateralOffset,
 }
 
 /// A method.
-pub(crate) fn method_at(row: &ByteRecord, field: Field) -> Result<Method, ReadFault>
-    ensures { ReadsField Shapes.MethodName MethodOf (fields_of row.now) field result }
+pub(crate) fn method_at(row: &SheetRecord<'_>, field: Field) -> Result<Method, ReadFault>
+    ensures { ReadsField Shapes.MethodName MethodOf (edit_fields row.now) field result }
 {
     match read_method(text_at(row, place_of(field))) {
         Some(method) => Ok(method),
@@ -90,13 +90,13 @@ pub(crate) fn method_at(row: &ByteRecord, field: Field) -> Result<Method, ReadFa
 
 /// A position by the method that the field `by` names.
 pub(crate) fn position_at(
-    row: &ByteRecord,
+    row: &SheetRecord<'_>,
     by: Field,
     method: Method,
     field: Field,
 ) -> Result<EnteredPosition, ReadFault>
-    requires { spec.texts_of (fields_of row.now) by ≡ method_text method }
-    ensures { ReadsField (PositionBy by) At (fields_of row.now) field result }
+    requires { spec.texts_of (edit_fields row.now) by ≡ method_text method }
+    ensures { ReadsField (PositionBy by) At (edit_fields row.now) field result }
 {
     match read_expr(method, text_at(row, place_of(field))) {
         Some(expression) => match EnteredPosition::new(expression) {
@@ -109,13 +109,13 @@ pub(crate) fn position_at(
 
 /// The same, or none where the field is empty.
 pub(crate) fn end_at(
-    row: &ByteRecord,
+    row: &SheetRecord<'_>,
     by: Field,
     method: Method,
     field: Field,
 ) -> Result<Option<EnteredPosition>, ReadFault>
-    requires { spec.texts_of (fields_of row.now) by ≡ method_text method }
-    ensures { ReadsField (OrNothing (PositionBy by)) (or_nothing At) (fields_of row.now) field result }
+    requires { spec.texts_of (edit_fields row.now) by ≡ method_text method }
+    ensures { ReadsField (OrNothing (PositionBy by)) (or_nothing At) (edit_fields row.now) field result }
 {
     if text_at(row, place_of(field)).is_empty() {
         return Ok(None);
@@ -129,10 +129,10 @@ pub(crate) fn end_at(
 /// A list of pieces, or none where the field is empty.
 pub(crate) fn some_pieces_at(
     alloc: Global,
-    row: &ByteRecord,
+    row: &SheetRecord<'_>,
     field: Field,
 ) -> Result<Option<PieceList>, ReadFault>
-    ensures { ReadsList (OrNothing Shapes.Pieces) (or_nothing PiecesOf) (fields_of row.now) field result }
+    ensures { ReadsList (OrNothing Shapes.Pieces) (or_nothing PiecesOf) (edit_fields row.now) field result }
 {
     if text_at(row, place_of(field)).is_empty() {
         return Ok(None);

@@ -1,7 +1,7 @@
 //! What one field of a record says.
 
 ghost use Rattle.std.specs.Prelude.{◌≡◌};
-ghost use Rattle.csv.specs.Records.{fields_of};
+ghost use Rattle.lrs_sheet.specs.Kinds.{edit_fields};
 ghost use Rattle.lrs_sheet.specs.Records as spec;
 ghost use Rattle.lrs_sheet.specs.Shapes;
 ghost use Rattle.lrs_sheet.specs.Shapes.{Number, Word, KindOf, PiecesOf, MarksOf, Whole};
@@ -9,21 +9,11 @@ ghost use Rattle.lrs_sheet.specs.Fields.{ReadsField, ReadsList};
 
 use crate::fault::ReadFault;
 use crate::list::{number, read_list};
-use csv::ByteRecord;
+use crate::sheet::{SheetRecord, text_at};
 use lrs_events::{ClassName, Kind};
 use lrs_machine::{Field, MarkList, PieceList};
 use lrs_position::RouteName;
 use std::alloc::Global;
-
-/// The field at a place, which is empty past the end.
-pub(crate) fn text_at(row: &ByteRecord, place: usize) -> &[u8]
-    ensures { result.now ≡ spec.text_at (fields_of row.now) place }
-{
-    match row.get(place) {
-        Some(text) => text,
-        None => b"",
-    }
-}
 
 /// Where a field stands in a record.
 pub(crate) fn place_of(field: Field) -> usize
@@ -46,12 +36,12 @@ pub(crate) fn place_of(field: Field) -> usize
 
 /// A number from `low` to `high`.
 pub(crate) fn whole_at(
-    row: &ByteRecord,
+    row: &SheetRecord<'_>,
     field: Field,
     low: u64,
     high: u64,
 ) -> Result<u64, ReadFault>
-    ensures { ReadsField (Whole low high) Number (fields_of row.now) field result }
+    ensures { ReadsField (Whole low high) Number (edit_fields row.now) field result }
 {
     match number(text_at(row, place_of(field)), low, high) {
         Some(number) => Ok(number),
@@ -60,8 +50,8 @@ pub(crate) fn whole_at(
 }
 
 /// The name of a class.
-pub(crate) fn class_name_at(row: &ByteRecord, field: Field) -> Result<ClassName, ReadFault>
-    ensures { ReadsField Shapes.ClassName Word (fields_of row.now) field result }
+pub(crate) fn class_name_at(row: &SheetRecord<'_>, field: Field) -> Result<ClassName, ReadFault>
+    ensures { ReadsField Shapes.ClassName Word (edit_fields row.now) field result }
 {
     match ClassName::new(text_at(row, place_of(field))) {
         Some(name) => Ok(name),
@@ -70,8 +60,8 @@ pub(crate) fn class_name_at(row: &ByteRecord, field: Field) -> Result<ClassName,
 }
 
 /// The kind of a class.
-pub(crate) fn kind_at(row: &ByteRecord, field: Field) -> Result<Kind, ReadFault>
-    ensures { ReadsField Shapes.ClassKind KindOf (fields_of row.now) field result }
+pub(crate) fn kind_at(row: &SheetRecord<'_>, field: Field) -> Result<Kind, ReadFault>
+    ensures { ReadsField Shapes.ClassKind KindOf (edit_fields row.now) field result }
 {
     let text = text_at(row, place_of(field));
     if text == b"point".as_slice() {
@@ -86,8 +76,8 @@ pub(crate) fn kind_at(row: &ByteRecord, field: Field) -> Result<Kind, ReadFault>
 }
 
 /// The name of a route.
-pub(crate) fn route_name_at(row: &ByteRecord, field: Field) -> Result<RouteName, ReadFault>
-    ensures { ReadsField Shapes.RouteName Word (fields_of row.now) field result }
+pub(crate) fn route_name_at(row: &SheetRecord<'_>, field: Field) -> Result<RouteName, ReadFault>
+    ensures { ReadsField Shapes.RouteName Word (edit_fields row.now) field result }
 {
     match RouteName::new(text_at(row, place_of(field))) {
         Some(name) => Ok(name),
@@ -98,10 +88,10 @@ pub(crate) fn route_name_at(row: &ByteRecord, field: Field) -> Result<RouteName,
 /// A list of pieces.
 pub(crate) fn pieces_at(
     alloc: Global,
-    row: &ByteRecord,
+    row: &SheetRecord<'_>,
     field: Field,
 ) -> Result<PieceList, ReadFault>
-    ensures { ReadsList Shapes.Pieces PiecesOf (fields_of row.now) field result }
+    ensures { ReadsList Shapes.Pieces PiecesOf (edit_fields row.now) field result }
 {
     match read_list(alloc, text_at(row, place_of(field))) {
         Ok(Some(pieces)) => match PieceList::new(pieces) {
@@ -114,8 +104,12 @@ pub(crate) fn pieces_at(
 }
 
 /// A list of marks.
-pub(crate) fn marks_at(alloc: Global, row: &ByteRecord, field: Field) -> Result<MarkList, ReadFault>
-    ensures { ReadsList Shapes.Marks MarksOf (fields_of row.now) field result }
+pub(crate) fn marks_at(
+    alloc: Global,
+    row: &SheetRecord<'_>,
+    field: Field,
+) -> Result<MarkList, ReadFault>
+    ensures { ReadsList Shapes.Marks MarksOf (edit_fields row.now) field result }
 {
     match read_list(alloc, text_at(row, place_of(field))) {
         Ok(Some(marks)) => match MarkList::new(marks) {

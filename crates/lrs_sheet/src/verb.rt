@@ -1,7 +1,7 @@
 //! Which verb a record has.
 
 ghost use Rattle.std.specs.Prelude.{◌≡◌, ◌≤◌, ◌↔◌, Contains, IsTrue, length};
-ghost use Rattle.csv.specs.Records.{fields_of};
+ghost use Rattle.lrs_sheet.specs.Kinds.{edit_fields};
 ghost use Rattle.lrs_sheet.specs.Fields.{ReadsArguments, ReadsCommand};
 ghost use Rattle.lrs_sheet.specs.Verbs.{IsVerb, asset_verbs, editing_verbs, ground_verbs, laying_verbs, routing_verbs, working_verbs};
 
@@ -10,8 +10,7 @@ use crate::arguments::{
     renumber_of, retire_of, route_of, split_of, supersede_of, turn_of, unref_of,
 };
 use crate::fault::ReadFault;
-use crate::shape::text_at;
-use csv::ByteRecord;
+use crate::sheet::{SheetRecord, text_at};
 use lrs_machine::{Command, Field};
 use std::alloc::Global;
 
@@ -73,10 +72,10 @@ fn is_verb(verb: &[u8]) -> bool
 }
 
 /// The command that the fields of a verb say.
-fn command_of_verb(alloc: Global, row: &ByteRecord, verb: &[u8]) -> Result<Command, ReadFault>
-    requires eleven { length (fields_of row.now) ≤ 11 }
+fn command_of_verb(alloc: Global, row: &SheetRecord<'_>, verb: &[u8]) -> Result<Command, ReadFault>
+    requires eleven { length (edit_fields row.now) ≤ 11 }
     requires known { IsVerb verb.now }
-    ensures { ReadsArguments (fields_of row.now) verb.now result }
+    ensures { ReadsArguments (edit_fields row.now) verb.now result }
 {
     if verb == b"link".as_slice() {
         link_of(row)
@@ -114,9 +113,9 @@ fn command_of_verb(alloc: Global, row: &ByteRecord, verb: &[u8]) -> Result<Comma
 }
 
 /// The command that the fields after the key say.
-pub(crate) fn command_by_verb(alloc: Global, row: &ByteRecord) -> Result<Command, ReadFault>
-    requires { length (fields_of row.now) ≤ 11 }
-    ensures { ReadsCommand (fields_of row.now) result }
+pub(crate) fn command_by_verb(alloc: Global, row: &SheetRecord<'_>) -> Result<Command, ReadFault>
+    requires { length (edit_fields row.now) ≤ 11 }
+    ensures { ReadsCommand (edit_fields row.now) result }
 {
     let verb = text_at(row, 1);
     if is_verb(verb) {

@@ -3,3 +3,5 @@
 
 #[cfg(test)]
 mod refused;
+#[cfg(test)]
+mod surveys;

@@ -145,8 +145,8 @@ pub steady-written : (n : ℕ) (c : Change) (changed made : Option (List Piece))
 steady-written n c changed made a b h =
     let d = c.difference in
     steady-with_edit n c.edit _ _ (steady-with_ledgers d _ _
-    (steady_some (λ (e : RouteEntry). new_route e made) (λ e. steady-new_route e made) d.made _ _ (steady_some it.without_route steady-without_route d.dropped _ _
-    (steady_some (λ (r : RouteChange). changed_route r changed) (λ r. steady-changed_route r changed) d.changed _ _
+    (steady_some (λ (e : RouteEntry). new_route e made) (λ e. steady-new_route e made) d.made _ _
+    (steady_some (λ (r : RouteChange). changed_route r changed) (λ r. steady-changed_route r changed) d.changed _ _ (steady_some it.without_route steady-without_route d.dropped _ _
     (steady_some it.with_asset steady-with_asset d.asset _ _ (steady_some it.with_class steady-with_class d.class _ _ (steady_some it.with_link steady-with_link d.link a b h)))))))
 
 -- what is written of rows is written of the same rows

@@ -64,9 +64,9 @@ abbrev pub new_course : Option RouteEntry → Option (List Ground)
 new_course None = None
 new_course (Some e) = Some e.route.course
 
--- At most one route stays and changes, one goes, and one comes, in this order.
+-- At most one route goes, another one stays and changes, and one comes, in this order: a route may get referents of the one that goes.
 abbrev pub with_routes : Difference → Option (List Piece) → Option (List Piece) → Tables → Tables
-with_routes d changed made t = with_some (λ e. new_route e made) d.made (with_some without_route d.dropped (with_some (λ c. changed_route c changed) d.changed t))
+with_routes d changed made t = with_some (λ e. new_route e made) d.made (with_some (λ c. changed_route c changed) d.changed (with_some without_route d.dropped t))
 
 -- a link, a class or an asset that comes
 abbrev pub with_named : Difference → Tables → Tables

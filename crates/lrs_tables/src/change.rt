@@ -20,6 +20,18 @@ use lrs_measure::Rows;
 use lrs_position::RouteName;
 use sqlite::{Alter, Connection, Error, Transaction};
 
+/// A route goes, if one does.
+fn drop_some<S: Alter>(tx: &mut Transaction<'_, S>, route: &Option<RouteName>) -> Result<(), Error>
+    ensures same_reference { tx.new.conn.ghost_name ≡ tx.old.conn.ghost_name }
+    ensures does { OkDoes result (state S.Store tx.old.conn.now) (state S.Store tx.new.conn.now) (Makes (with_some without_route route.now)) }
+    ensures survives { LeavesStore (state S.Store tx.old.conn.now) (state S.Store tx.new.conn.now) }
+{
+    match route {
+        Some(route) => drop_route(tx, route),
+        None => Ok(()),
+    }
+}
+
 /// A route that stays changes, if one does.
 fn change_some<S: Alter>(
     tx: &mut Transaction<'_, S>,
@@ -31,18 +43,6 @@ fn change_some<S: Alter>(
 {
     match change {
         Some(change) => change_route(tx, change),
-        None => Ok(()),
-    }
-}
-
-/// A route goes, if one does.
-fn drop_some<S: Alter>(tx: &mut Transaction<'_, S>, route: &Option<RouteName>) -> Result<(), Error>
-    ensures same_reference { tx.new.conn.ghost_name ≡ tx.old.conn.ghost_name }
-    ensures does { OkDoes result (state S.Store tx.old.conn.now) (state S.Store tx.new.conn.now) (Makes (with_some without_route route.now)) }
-    ensures survives { LeavesStore (state S.Store tx.old.conn.now) (state S.Store tx.new.conn.now) }
-{
-    match route {
-        Some(route) => drop_route(tx, route),
         None => Ok(()),
     }
 }
@@ -90,7 +90,8 @@ fn put_ledgers<S: Alter>(tx: &mut Transaction<'_, S>, difference: &Difference) -
     Ok(())
 }
 
-/// Writes the rows of a change, whose edit has this number.
+/// Writes the rows of a change, whose edit has this number. The route that goes does so first: the route that
+/// changes may get its referents, and a name is in the table once.
 fn write_rows<S: Alter>(tx: &mut Transaction<'_, S>, n: u64, change: &Change) -> Result<(), Error>
     ensures same_reference { tx.new.conn.ghost_name ≡ tx.old.conn.ghost_name }
     ensures does { OkDoes result (state S.Store tx.old.conn.now) (state S.Store tx.new.conn.now) (Writes n change.now) }
@@ -98,8 +99,8 @@ fn write_rows<S: Alter>(tx: &mut Transaction<'_, S>, n: u64, change: &Change) ->
 {
     let difference = &change.difference;
     put_named(tx, difference)?;
-    change_some(tx, &difference.changed)?;
     drop_some(tx, &difference.dropped)?;
+    change_some(tx, &difference.changed)?;
     put_some(tx, &difference.made)?;
     put_ledgers(tx, difference)?;
     put_edit(tx, n, &change.edit)?;

@@ -31,6 +31,7 @@ pub fn make_store<S: Alter>(conn: &mut Connection<S>) -> Result<(), Error>
     requires blank { HasCleanDisk (state S.Store conn.old) → IsTrue (state S.Store conn.old).is_open → (state S.Store conn.old).now.schema ≡ no_schema }
     ensures autocommit { conn.new.in_transaction ≡ false }
     ensures made { HasCleanDisk (state S.Store conn.new) → OnOk result (IsNew (state S.Store conn.new)) }
+    ensures clean { HasCleanDisk (state S.Store conn.new) → HasCleanDisk (state S.Store conn.old) }
 {
     let mut tx = conn.transaction();
     start(&mut tx)?;

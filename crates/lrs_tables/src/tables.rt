@@ -18,8 +18,9 @@ use std::alloc::Global;
 /// The tables of an inventory in a store.
 #[derive(Drop)]
 pub struct Tables<S: Alter> {
-    conn: Connection<S>,
-    failures: u64,
+    pub conn: Connection<S>,
+    /// How often the store has failed.
+    pub failures: u64,
 }
 
 impl<S: Alter> Tables<S> {

@@ -50,7 +50,8 @@ module _ (c : RouteChange) (i : Image) (r : RouteEntry) (s : IsSound i) (found :
 
   pub differs_so : AreFit i (r.route.name ∷ []) (after ∷ []) → CanBecome c r → CanDiffer d i
   differs_so fits can = record {
-    route = λ e is. let one : r ≡ e = cc (sym found ∙ is) in subst (CanBecome c) one can;
+    route = record { entry = r; found = found; becomes = can };
+    apart = tt;
     names = ap (each_two route_before) (difference_rewrites d i s none_drops ∙ one_written) ∙ new_order i (r.route.name ∷ []) (after ∷ []) s fits;
   }
 

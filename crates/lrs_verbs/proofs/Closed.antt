@@ -120,7 +120,7 @@ module _ (route : Name) (i : Image) (r : RouteEntry) (gone : List Gone) (s : IsS
   pub closes : (freed : List Piece) → course_of freed ≡ r.route.course → AllByRecursion IsFilled freed → IsPlanOf (verb.Close route) i (closing route gone freed (names_of r.route.refs))
   closes freed of filled = record {
     makes = subst (λ (j : Image). Makes (verb.Close route) i j) (sym image_is) (subst (λ (n : Name). Makes (verb.Close n) i new) own_name (close_makes i r gone s there led));
-    differ = record { route = tt; names = routes_in_order i s };
+    differ = record { route = tt; apart = tt; names = routes_in_order i s };
     tells = record {
       ground = λ m. ap (λ (j : Image). route_on j.routes m) image_is ∙ now_free m ∙ (λ j. cond (runs_over (sym of j) m) None (route_on i.routes m));
       can_ground = record {

@@ -26,7 +26,7 @@ use Rattle.lrs_machine.specs.Sound.{IsSound}
 use Rattle.lrs_machine.proofs.Members.{In, any_found, any_of, all_at, In-append_left, In-flat_map, flat_map_found, find_found}
 use Rattle.lrs_machine.proofs.SoundImages.{and_three}
 use Rattle.lrs_lanes.proofs.Members.{all-filter, each_two-filter}
-use Rattle.lrs_keep.specs.Change.{changed_refs}
+use Rattle.lrs_keep.specs.Change.{changed_refs, refers_to}
 use Rattle.lrs_verbs.specs.Changes.{route_on}
 use Rattle.lrs_verbs.specs.Plans.{IsPlanOf}
 use Rattle.lrs_verbs.specs.RouteReferents.{plan_of_referents, without_one, nowhere}
@@ -208,6 +208,6 @@ module _ (name : Name) (place : Millimetre) (i : Image) (s : IsSound i) (h : (st
 
   -- The referent goes from its route, and stands nowhere.
   pub makes : IsPlanOf (verb.Unref name) i (plan_of_referents r.route.name (without_one name) (nowhere name))
-  makes = is_plan i r (without_one name) s on.known fits (verb.Unref name) (nowhere name) stands (acts (length i.edits + 1)) stands_after
+  makes = is_plan i r (without_one name) s on.known fits (and_from (list_any (refers_to name) r.route.refs) true (any_of (refers_to name) on.ref r.route.refs on.own ((bytes_decides on.ref.name name).1 on.named)) refl) (verb.Unref name) (nowhere name) stands (acts (length i.edits + 1)) stands_after
       (λ q. ap (λ b. cond b None ((state_of i).referents q)) (gone_alike name q)) tt
       (ap (each_two other_names) refs_left ∙ each_two-filter other_names (is_kept name) (flat_map refs_of i.routes) (names_once i s))

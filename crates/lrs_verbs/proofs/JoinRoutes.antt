@@ -39,7 +39,7 @@ use Rattle.lrs_orderly.specs.Made.{Makes}
 use Rattle.lrs_sound.proofs.Fitting.{fits}
 use Rattle.lrs_keep.specs.declared.change.RouteChange.{RouteChange}
 use Rattle.lrs_keep.specs.declared.change.Difference.{Difference}
-use Rattle.lrs_keep.specs.Change.{is_named, changed_refs, fits_after, route_after, entry_after, with_difference, CanBecome, CanDiffer}
+use Rattle.lrs_keep.specs.Change.{is_named, changed_refs, fits_after, route_after, entry_after, with_difference, CanDiffer, are_names_of}
 use Rattle.lrs_keep.proofs.Becoming.{HasBecome, becomes}
 use Rattle.lrs_keep.proofs.Tables.{assets_in_order, routes_in_order}
 use Rattle.lrs_routes.specs.Differences.{rerouting, changed_route, KeepsFromDropped}
@@ -320,7 +320,8 @@ module _ (first second : Name) (i : Image) (a b : RouteEntry) (c : RouteChange) 
 
   changes_so : CanDiffer d i
   changes_so = record {
-    route = λ e was. let one : a ≡ e = cc (sym found_by ∙ was) in subst (CanBecome c) one (record { fits = stays_fit; rows = is.rows; gone = is.spans_gone });
+    route = record { entry = a; found = found_by; becomes = record { fits = stays_fit; rows = is.rows; gone = is.spans_gone; there = is.spans_there; named = ap (are_names_of a) is.refs_gone } };
+    apart = (ap (λ n. same_name n second) (is.route ∙ at_first.1) ∙ apart, ap (λ n. same_name n second) (is.name ∙ at_first.1) ∙ apart);
     names = ap (each_two route_before) (difference_rewrites (rerouting (Some c) None None) i s (λ w n is e. absurd (cc e)) ∙ (λ j. rewritten (is.route j ∷ []) (cons_option (option_map (entry_after c) (found_by j)) []) i.routes))
         ∙ order_stays w a.route.name i.routes joined.name (routes_in_order i s);
   }

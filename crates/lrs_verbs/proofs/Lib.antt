@@ -9,6 +9,7 @@ pub mod Located
 pub mod Holding
 pub mod FirstHolder
 pub mod InPlace
+pub mod Going
 pub mod RowsInPlace
 pub mod NewRow
 pub mod NewParts

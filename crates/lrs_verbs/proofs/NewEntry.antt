@@ -364,7 +364,7 @@ module _ (e : Entry) (i : Image) (r : RouteEntry) (x : Extent) (parts : List Par
       edits = refl;
       orderly = λ room. orderly e i r x parts its is led (room.assets refl);
     };
-    differ = can i its.routes e.route [] (row_of e x ∷ []) r is.name found_so (insert_by span_before (row_of e x) r.spans) kept_so (Some (asset_of edit e)) parts [] (rows_kept e i r x parts its is led) refl;
+    differ = can i its.routes e.route [] (row_of e x ∷ []) r is.name found_so (insert_by span_before (row_of e x) r.spans) kept_so (Some (asset_of edit e)) parts [] (rows_kept e i r x parts its is led) refl refl;
     tells = tells i its.routes e.route [] (row_of e x ∷ []) r is.name found_so (insert_by span_before (row_of e x) r.spans) kept_so (Some (asset_of edit e)) parts [];
   }
 

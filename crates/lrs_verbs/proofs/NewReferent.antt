@@ -309,5 +309,5 @@ module _ (name : Name) (at : ℕ) (place : Millimetre) (i : Image) (r : RouteEnt
 
   pub makes : (e : Expr) → attempt (length i.edits + 1) (verb.Ref name r.route.name e) (state_of i) ≡ Ok (set_referent name (ground_at r.route.course at) (state_of i))
       → IsPlanOf (verb.Ref name r.route.name e) i (plan_of_referents r.route.name (with_one own) (standing_at name place))
-  makes e acts = is_plan i r (with_one own) s m fits (verb.Ref name r.route.name e) (standing_at name place) stands acts stands_after
+  makes e acts = is_plan i r (with_one own) s m fits refl (verb.Ref name r.route.name e) (standing_at name place) stands acts stands_after
       (λ q. ap (λ o. cond (same_name q name) o ((state_of i).referents q)) there) fresh once

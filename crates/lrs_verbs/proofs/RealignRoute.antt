@@ -32,7 +32,7 @@ use Rattle.lrs_sound.proofs.Fitting.{fits}
 use Rattle.lrs_keep.specs.declared.change.RouteChange.{RouteChange}
 use Rattle.lrs_keep.specs.declared.change.ReferentChange.{ReferentChange}
 use Rattle.lrs_keep.specs.declared.change.Difference.{Difference}
-use Rattle.lrs_keep.specs.Change.{is_named, changed_refs, fits_after, route_after, entry_after, with_difference, CanBecome, CanDiffer}
+use Rattle.lrs_keep.specs.Change.{is_named, changed_refs, fits_after, route_after, entry_after, with_difference, CanDiffer, are_names_of}
 use Rattle.lrs_keep.proofs.Becoming.{HasBecome, becomes}
 use Rattle.lrs_keep.proofs.Tables.{routes_in_order}
 use Rattle.lrs_routes.specs.Differences.{rerouting, KeepsFromDropped}
@@ -62,6 +62,8 @@ use Rattle.lrs_verbs.proofs.MovedReferents as moved
 use Rattle.lrs_verbs.proofs.NewCourse.{no_place, fails_at, once, on_links, apart_from, IsMade, made_of, marks_of, good_line, fits_alone}
 use Rattle.lrs_verbs.proofs.NewRoute.{nothing_taken, taken_is}
 use Rattle.lrs_verbs.proofs.RealignChecks.{IsLine, line_is, lies, free_is, writes}
+use Rattle.lrs_verbs.proofs.Going.{names_kept}
+use Rattle.lrs_routes.specs.Splitting.{is_ahead}
 
 module _ (route : Name) (from to : ℕ) (given : Option (List Piece)) (marks : List Mark) (i : Image) (r : RouteEntry) (l : NewLine) (h : Realigned) (s : IsSound i) (found : find (is_named route) i.routes ≡ Some r)
     (good : check_stretch (length r.route.course) from to (unwrap_or given []) ≡ Ok tt) (made : new_line (state_of i) r.route.course from to (unwrap_or given []) marks ≡ Ok l) (is : IsOnNewLine (length i.edits + 1) r from to l h) where
@@ -203,7 +205,8 @@ module _ (route : Name) (from to : ℕ) (given : Option (List Piece)) (marks : L
 
   differs_so : CanDiffer d i
   differs_so = record {
-    route = λ e was. let one : r ≡ e = cc (sym found_by ∙ was) in subst (CanBecome c) one (record { fits = stays_fit; rows = is.rows; gone = is.spans_gone });
+    route = record { entry = r; found = found_by; becomes = record { fits = stays_fit; rows = is.rows; gone = is.spans_gone; there = is.spans_there; named = ap (λ (refs : ReferentChange). are_names_of r refs.gone) is.refs ∙ names_kept (λ q. not (is_ahead from q)) r.route.refs } };
+    apart = tt;
     names = ap (each_two route_before) (difference_rewrites (rerouting (Some c) None None) i s none_drops ∙ (λ j. rewritten (is.route j ∷ []) (cons_option (option_map (entry_after c) (found_by j)) []) i.routes))
         ∙ new_order i dropped (w ∷ []) s fits_in;
   }

@@ -61,7 +61,7 @@ module _ (route name : Name) (marks : Option (List Mark)) (i : Image) (r : Route
   new_marks_are = become.marks
 
   pub can_become : CanBecome c r
-  can_become = record { fits = stays_fit; rows = ap are_rows same_spans ∙ its_rows; gone = refl }
+  can_become = record { fits = stays_fit; rows = ap are_rows same_spans ∙ its_rows; gone = refl; there = refl; named = refl }
     where
       its_rows : are_rows r.spans ≡ true
       its_rows = (and_parts (are_rows r.spans) (list_all (is_span i.assets (length r.route.course)) r.spans) (all_at (λ (e : RouteEntry). are_spans_of i.assets (record { course = e.route.course; rows = e.spans })) r i.routes (old_spans i s) (at c i r s found))).0

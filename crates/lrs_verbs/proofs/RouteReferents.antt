@@ -24,7 +24,7 @@ use Rattle.lrs_machine.proofs.SoundImages.{and_three}
 use Rattle.lrs_lanes.proofs.Members.{filter_all}
 use Rattle.lrs_keep.specs.declared.change.ReferentChange.{ReferentChange}
 use Rattle.lrs_keep.specs.declared.change.RouteChange.{RouteChange}
-use Rattle.lrs_keep.specs.Change.{changed_refs, entry_after, is_named, without, with_difference, CanBecome, CanDiffer}
+use Rattle.lrs_keep.specs.Change.{changed_refs, entry_after, is_named, without, with_difference, CanBecome, CanDiffer, are_names_of}
 use Rattle.lrs_keep.proofs.Becoming.{HasBecome, becomes}
 use Rattle.lrs_keep.proofs.Tables.{routes_in_order}
 use Rattle.lrs_orderly.specs.Orderly.{IsOrderly}
@@ -142,12 +142,13 @@ module _ (i : Image) (r : RouteEntry) (c : ReferentChange) (s : IsSound i) (m : 
   names_in_order : each_two route_before after ≡ true
   names_in_order = names_stay r new i.routes after in_its_place became.name order
 
-  can_become : CanBecome change r
-  can_become = record { fits = fits; rows = ap are_rows same_rows ∙ own_rows; gone = refl }
+  can_become : are_names_of r c.gone ≡ true → CanBecome change r
+  can_become own = record { fits = fits; rows = ap are_rows same_rows ∙ own_rows; gone = refl; there = refl; named = own }
 
-  can_differ : CanDiffer (difference_of_referents r.route.name c) i
-  can_differ = record {
-    route = λ e is. subst (CanBecome change) (some_is r e (sym found_there ∙ is)) can_become;
+  can_differ : are_names_of r c.gone ≡ true → CanDiffer (difference_of_referents r.route.name c) i
+  can_differ own = record {
+    route = record { entry = r; found = found_there; becomes = can_become own };
+    apart = tt;
     names = ap (λ o. each_two route_before (insert_some route_before (option_map (entry_after change) o) (without r.route.name i.routes))) found_there ∙ names_in_order;
   }
 
@@ -164,16 +165,16 @@ module _ (i : Image) (r : RouteEntry) (c : ReferentChange) (s : IsSound i) (m : 
   }
 
   -- Where the command makes referents stand as the plan tells, and no two of one name, the plan is one of the command.
-  pub is_plan : (command : Command) (places : ReferentPlaces) (stands : Name → Option Millimetre)
+  pub is_plan : are_names_of r c.gone ≡ true → (command : Command) (places : ReferentPlaces) (stands : Name → Option Millimetre)
       → attempt (length i.edits + 1) command (state_of i) ≡ Ok (record (state_of i) { referents = stands })
       → ((q : Name) → entries.find name_cmp q (flat_map referents_on after) ≡ stands q) → ((q : Name) → stands q ≡ referents_after places (state_of i).referents q)
       → IsNewReferent places.come (state_of i).referents → each_two other_names (flat_map refs_of after) ≡ true → IsPlanOf command i (plan_of_referents r.route.name c places)
-  is_plan command places stands acts found told fresh once = record {
+  is_plan own command places stands acts found told fresh once = record {
     makes = record {
       state = acts ∙ ap Ok (state-with stands found ∙ ap state_of (sym is_next));
       edits = refl;
       orderly = λ room. subst IsOrderly (sym is_next) (stays_orderly once (sound_is_orderly i s));
     };
-    differ = can_differ;
+    differ = can_differ own;
     tells = tells places (λ q. found q ∙ told q) fresh;
   }

@@ -1,5 +1,5 @@
 -- A route's rows change in place, and nothing else of it.
-use Rattle.std.proofs.Common.{◌≡◌, true, List, filter, Option, Some, refl, sym, ap, subst, ◌∙◌}
+use Rattle.std.proofs.Common.{◌≡◌, true, List, filter, Option, Some, refl, sym, ap, ◌∙◌}
 use Rattle.std.specs.List.{flat_map}
 use Rattle.std.specs.List as list
 use Rattle.std.specs.Option.{option_map}
@@ -21,7 +21,7 @@ use Rattle.lrs_machine.specs.Image.{state_of, referents_on}
 use Rattle.lrs_machine.specs.Sound.{route_before}
 use Rattle.lrs_keep.specs.declared.change.RouteChange.{RouteChange}
 use Rattle.lrs_keep.specs.declared.change.Difference.{Difference}
-use Rattle.lrs_keep.specs.Change.{no_difference, is_named, without, entry_after, fits_after, routes_after, CanBecome, CanDiffer}
+use Rattle.lrs_keep.specs.Change.{no_difference, is_named, without, entry_after, fits_after, routes_after, CanDiffer, are_rows_of}
 use Rattle.lrs_keep.proofs.Becoming.{has_become}
 use Rattle.lrs_routes.specs.Differences.{no_change}
 use Rattle.lrs_verbs.specs.Changes.{route_on}
@@ -73,9 +73,10 @@ module _ (i : Image) (order : each_two route_before i.routes ≡ true) (name : N
 
   -- the plan of such a change
   module _ (asset : Option Asset) (entered : List Part) (went : List Gone) where
-    pub can : are_rows spans ≡ true → each_two span_before gone ≡ true → CanDiffer (with_ledgers asset change entered went) i
-    can canonical in_order = record {
-      route = λ f h. subst (CanBecome change) (some_is r f (sym found ∙ h)) (record { fits = stays_fit name gone come r named; rows = ap are_rows rows_are ∙ canonical; gone = in_order });
+    pub can : are_rows spans ≡ true → each_two span_before gone ≡ true → are_rows_of r gone ≡ true → CanDiffer (with_ledgers asset change entered went) i
+    can canonical in_order there = record {
+      route = record { entry = r; found = found; becomes = record { fits = stays_fit name gone come r named; rows = ap are_rows rows_are ∙ canonical; gone = in_order; there = there; named = refl } };
+      apart = tt;
       names = ap (each_two route_before) routes_are ∙ names_stay r new i.routes new_routes differ refl order;
     }
 

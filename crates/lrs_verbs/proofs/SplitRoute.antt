@@ -33,7 +33,7 @@ use Rattle.lrs_orderly.specs.Made.{Makes}
 use Rattle.lrs_sound.proofs.Fitting.{fits}
 use Rattle.lrs_keep.specs.declared.change.RouteChange.{RouteChange}
 use Rattle.lrs_keep.specs.declared.change.Difference.{Difference}
-use Rattle.lrs_keep.specs.Change.{is_named, changed_refs, fits_after, route_after, entry_after, with_difference, CanBecome, CanDiffer}
+use Rattle.lrs_keep.specs.Change.{is_named, changed_refs, fits_after, route_after, entry_after, with_difference, CanDiffer, are_names_of}
 use Rattle.lrs_keep.proofs.Becoming.{HasBecome, becomes}
 use Rattle.lrs_routes.specs.Differences.{rerouting, KeepsFromDropped}
 use Rattle.lrs_routes.specs.Rewriting.{rewritten, with_routes}
@@ -53,6 +53,7 @@ use Rattle.lrs_verbs.specs.Checks.{split_plan}
 use Rattle.lrs_verbs.specs.Splits.{is_inside, refs_behind, IsHalved}
 use Rattle.lrs_verbs.proofs.Known.{route_value}
 use Rattle.lrs_verbs.proofs.NewRoute.{knows}
+use Rattle.lrs_verbs.proofs.Going.{names_kept}
 
 -- ---- what the verb does
 
@@ -196,7 +197,8 @@ module _ (route name : Name) (at : ℕ) (i : Image) (r : RouteEntry) (h : Halves
 
   changes_so : CanDiffer d i
   changes_so = record {
-    route = λ e was. let one : r ≡ e = cc (sym found_by ∙ was) in subst (CanBecome c) one (record { fits = stays_fit; rows = is.front_rows; gone = is.spans_gone });
+    route = record { entry = r; found = found_by; becomes = record { fits = stays_fit; rows = is.front_rows; gone = is.spans_gone; there = is.spans_there; named = ap (are_names_of r) is.refs_gone ∙ names_kept (λ q. not (is_ahead at q)) r.route.refs } };
+    apart = tt;
     names = ap (each_two route_before) (difference_rewrites (rerouting (Some c) None None) i s (λ w n is e. absurd (cc e)) ∙ (λ j. rewritten (is.route j ∷ []) (cons_option (option_map (entry_after c) (found_by j)) []) i.routes))
         ∙ front_order i r front h.rear at name s split;
   }

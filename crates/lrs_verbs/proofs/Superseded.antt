@@ -50,6 +50,7 @@ use Rattle.lrs_verbs.proofs.NewEntry.{IsEntry, IsOpen, is_entry, is_open}
 use Rattle.lrs_verbs.proofs.RowsInPlace as rows
 use Rattle.lrs_verbs.proofs.TakenInPlace.{IsTakenSo, among_at, held_lies}
 use Rattle.lrs_verbs.proofs.TakenInPlace as taken
+use Rattle.lrs_verbs.proofs.Going.{rows_there}
 
 -- ---- lists
 
@@ -197,7 +198,7 @@ module _ (e : Entry) (i : Image) (kind : Kind) (r : RouteEntry) (x : Extent) (re
       edits = refl;
       orderly = λ room. subst IsOrderly (sym both) (entry.orderly e mid left x parts ready its_entry led (room.assets refl));
     };
-    differ = rows.can i (routes_in_order i s) e.route gone_rows come_rows r w.begun.name found more rows_are (Some (asset_of n e)) parts gone (entry.rows_kept e mid left x parts ready its_entry led) plan.in_order;
+    differ = rows.can i (routes_in_order i s) e.route gone_rows come_rows r w.begun.name found more rows_are (Some (asset_of n e)) parts gone (entry.rows_kept e mid left x parts ready its_entry led) plan.in_order (rows_there r.spans gone_rows plan.change.were);
     tells = rows.tells i (routes_in_order i s) e.route gone_rows come_rows r w.begun.name found more rows_are (Some (asset_of n e)) parts gone;
   }
 

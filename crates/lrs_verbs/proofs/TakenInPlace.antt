@@ -58,6 +58,7 @@ use Rattle.lrs_verbs.proofs.Holding.{IsAlone, alone, picked_at, rows_held_at, he
 use Rattle.lrs_verbs.proofs.InPlace.{DifferAt, map_same, made_same, any_same, all_still, in_place}
 use Rattle.lrs_verbs.proofs.Located.{route_in}
 use Rattle.lrs_verbs.proofs.RowsInPlace.{routes_are, can, tells}
+use Rattle.lrs_verbs.proofs.Going.{rows_there}
 
 -- ---- places beside a course
 
@@ -345,6 +346,6 @@ module _ (command : Command) (i : Image) (r : RouteEntry) (why : Reason) (taken 
       edits = refl;
       orderly = λ room. subst IsOrderly (sym is_new) (orderly i r why taken takes removal gone s route is so led);
     };
-    differ = can i (routes_in_order i s) r.route.name gone_rows come_rows r refl route rows_left refl None [] gone plan.kept plan.in_order;
+    differ = can i (routes_in_order i s) r.route.name gone_rows come_rows r refl route rows_left refl None [] gone plan.kept plan.in_order (rows_there r.spans gone_rows plan.change.were);
     tells = tells i (routes_in_order i s) r.route.name gone_rows come_rows r refl route rows_left refl None [] gone;
   }

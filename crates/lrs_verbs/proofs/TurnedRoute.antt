@@ -35,7 +35,7 @@ use Rattle.lrs_machine.proofs.Members.{In, any_of, all_at, all_of, all_weaker, I
 use Rattle.lrs_orderly.specs.Made.{Makes}
 use Rattle.lrs_sound.proofs.Fitting.{fits}
 use Rattle.lrs_keep.specs.declared.change.RouteChange.{RouteChange}
-use Rattle.lrs_keep.specs.Change.{is_named, changed_refs, fits_after, route_after}
+use Rattle.lrs_keep.specs.Change.{is_named, changed_refs, fits_after, route_after, are_names_of}
 use Rattle.lrs_keep.proofs.Becoming.{HasBecome, becomes}
 use Rattle.lrs_routes.specs.Differences.{rerouting}
 use Rattle.lrs_routes.specs.Turning.{from_end, IsTurnedRoute}
@@ -49,6 +49,7 @@ use Rattle.lrs_verbs.specs.Plans.{plan_of, IsPlanOf}
 use Rattle.lrs_verbs.specs.Turns.{IsTurnedBy}
 use Rattle.lrs_verbs.proofs.ChangedRoute.{after, new, at, plans_alike}
 use Rattle.lrs_verbs.proofs.Known.{route_value}
+use Rattle.lrs_verbs.proofs.Going.{names_there}
 
 -- ---- what the verb does
 
@@ -150,5 +151,5 @@ module _ (route : Name) (i : Image) (r : RouteEntry) (c : RouteChange) (s : IsSo
   }
 
   pub turns : IsPlanOf (verb.Turn route) i (plan_of (rerouting (Some c) None None))
-  turns = plans_alike c i r s found_by turn.name (alike i r w s turn) (record { fits = stays_fit; rows = is.rows; gone = is.spans_gone }) (verb.Turn route)
+  turns = plans_alike c i r s found_by turn.name (alike i r w s turn) (record { fits = stays_fit; rows = is.rows; gone = is.spans_gone; there = is.spans_there; named = ap (are_names_of r) is.refs_gone ∙ names_there r.route.refs r.route.refs (λ q m. m) }) (verb.Turn route)
       (subst (λ (n : Name). Makes (verb.Turn n) i (new c i r s found_by)) own (turn_makes i r w s turn))

@@ -9,7 +9,7 @@ use Rattle.lrs_machine.specs.Image.{state_of}
 use Rattle.lrs_machine.specs.Sound.{route_before, IsSound}
 use Rattle.lrs_keep.specs.declared.change.RouteChange.{RouteChange}
 use Rattle.lrs_keep.specs.declared.change.Difference.{Difference}
-use Rattle.lrs_keep.specs.Change.{no_difference, routes_after, CanChangeRoute, CanDiffer}
+use Rattle.lrs_keep.specs.Change.{no_difference, routes_after, CanChangeRoute, GoesApart, CanDiffer}
 use Rattle.lrs_keep.proofs.Tables.{routes_in_order}
 use Rattle.lrs_verbs.specs.Plans.{plan_of, TellsGround}
 
@@ -21,6 +21,7 @@ adding link class = record no_difference { link = link; class = class }
 pub can_differ : (d : Difference) (i : Image) → d.changed ≡ None → IsSound i → CanDiffer d i
 can_differ d i none s = record {
   route = subst (λ (c : Option RouteChange). CanChangeRoute c i.routes) (sym none) tt;
+  apart = subst (λ (c : Option RouteChange). GoesApart c d.dropped) (sym none) tt;
   names = ap (λ (c : Option RouteChange). each_two route_before (routes_after c i.routes)) none ∙ routes_in_order i s;
 }
 

@@ -1,11 +1,13 @@
 -- A route that goes on as another.
 use Rattle.std.specs.Prelude.{◌≡◌, true, nat_lt, List, [], ◌++◌, map, length, Some, Result, Ok}
+use Rattle.std.specs.List.{list_all}
 use Rattle.lrs_measure.specs.Lists.{each_two}
 use Rattle.lrs_element.specs.declared.link.Ground.{Ground}
 use Rattle.lrs_element.specs.declared.marks.Mark.{Mark}
 use Rattle.lrs_element.specs.Course.{is_too_long}
 use Rattle.lrs_element.specs.Limits.{most_marks}
 use Rattle.lrs_element.specs.Marks.{joined_marks, is_out_of_range}
+use Rattle.lrs_events.specs.Changes.{has_row}
 use Rattle.lrs_events.specs.Spans.{are_rows, span_before}
 use Rattle.lrs_canonical.specs.Joins.{end_by, have_room, are_of_one_class, IsJoin}
 use Rattle.lrs_machine.specs.declared.answer.Cause.{Cause}
@@ -45,4 +47,5 @@ pub record GoesOn (a b : RouteEntry) (c : RouteChange) : Type 0 where
   pub refs_come : c.refs.come ≡ map (on_by (length a.route.course)) b.route.refs
   pub rows : are_rows (spans_after c a.spans) ≡ true
   pub spans_gone : each_two span_before c.spans_gone ≡ true
+  pub spans_there : list_all (has_row a.spans) c.spans_gone ≡ true
   pub join : IsJoin (length a.route.course) a.spans b.spans (spans_after c a.spans)

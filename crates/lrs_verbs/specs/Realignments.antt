@@ -1,6 +1,6 @@
 -- What the checks of a realignment give, and what it changes.
 use Rattle.std.specs.Prelude.{◌≡◌, ℕ, ◌+◌, ◌-◌, ◌||◌, ◌&&◌, true, false, nat_lt, nat_eq, List, [], map, filter, length, slice_range, Option, Some, None, Result, Ok}
-use Rattle.std.specs.List.{AllByRecursion}
+use Rattle.std.specs.List.{AllByRecursion, list_all}
 use Rattle.lrs_measure.specs.Lists.{each_two, is_nothing}
 use Rattle.lrs_measure.specs.Texts.{Name}
 use Rattle.lrs_element.specs.declared.link.Ground.{Ground}
@@ -9,6 +9,7 @@ use Rattle.lrs_element.specs.declared.marks.Mark.{Mark}
 use Rattle.lrs_element.specs.Course.{course_of, is_too_long}
 use Rattle.lrs_element.specs.Pieces.{IsFilled}
 use Rattle.lrs_position.specs.declared.route.Referent.{Referent}
+use Rattle.lrs_events.specs.Changes.{has_row}
 use Rattle.lrs_events.specs.declared.span.Span.{Span}
 use Rattle.lrs_events.specs.Spans.{are_rows, span_before, holds_by_spans}
 use Rattle.lrs_canonical.specs.Removals.{is_within, IsThat}
@@ -82,6 +83,7 @@ pub record IsOnNewLine (edit : ℕ) (e : RouteEntry) (from to : ℕ) (line : New
   pub refs : h.change.refs ≡ referents_moved from to (length line.come) e.route.refs
   pub rows : are_rows (spans_after h.change e.spans) ≡ true
   pub spans_gone : each_two span_before h.change.spans_gone ≡ true
+  pub spans_there : list_all (has_row e.spans) h.change.spans_gone ≡ true
   pub realigned : IsRealigned from to (length line.come) e.spans (spans_after h.change e.spans)
   pub left : List Span
   pub left_are : IsThat (λ class asset j s. is_within from to j) e.spans left

@@ -1,12 +1,13 @@
 -- A route in two parts.
 use Rattle.std.specs.Prelude.{◌≡◌, ℕ, Bool, true, false, ◌&&◌, not, nat_lt, nat_eq, List, [], map, filter, take, drop, Some}
-use Rattle.std.specs.List.{list_any}
+use Rattle.std.specs.List.{list_any, list_all}
 use Rattle.lrs_measure.specs.Lists.{each_two}
 use Rattle.lrs_measure.specs.Texts.{Name}
 use Rattle.lrs_element.specs.declared.marks.Mark.{Mark}
 use Rattle.lrs_element.specs.Course.{is_too_long}
 use Rattle.lrs_element.specs.Marks.{marks_to, marks_from}
 use Rattle.lrs_position.specs.declared.route.Referent.{Referent}
+use Rattle.lrs_events.specs.Changes.{has_row}
 use Rattle.lrs_events.specs.Spans.{are_rows, span_before}
 use Rattle.lrs_canonical.specs.Cuts.{IsCut}
 use Rattle.lrs_machine.specs.declared.image.RouteEntry.{RouteEntry}
@@ -33,6 +34,7 @@ pub record IsHalved (e : RouteEntry) (at : ℕ) (name : Name) (h : Halves) : Typ
   pub refs_come : h.front.refs.come ≡ []
   pub front_rows : are_rows (spans_after h.front e.spans) ≡ true
   pub spans_gone : each_two span_before h.front.spans_gone ≡ true
+  pub spans_there : list_all (has_row e.spans) h.front.spans_gone ≡ true
   pub rear_name : h.rear.route.name ≡ name
   pub rear_course : h.rear.route.course ≡ drop at e.route.course
   pub rear_short : is_too_long (drop at e.route.course) ≡ false

@@ -1,8 +1,10 @@
 -- A route seen from its other end, as its plan makes it.
 use Rattle.std.specs.Prelude.{◌≡◌, true, false, map, length, Some}
+use Rattle.std.specs.List.{list_all}
 use Rattle.lrs_measure.specs.Lists.{each_two}
 use Rattle.lrs_element.specs.Course.{turned, is_too_long}
 use Rattle.lrs_element.specs.Marks.{mirrored}
+use Rattle.lrs_events.specs.Changes.{has_row}
 use Rattle.lrs_events.specs.Spans.{are_rows, span_before}
 use Rattle.lrs_canonical.specs.Turns.{IsTurned}
 use Rattle.lrs_machine.specs.declared.image.RouteEntry.{RouteEntry}
@@ -21,4 +23,5 @@ pub record IsTurnedBy (e : RouteEntry) (c : RouteChange) : Type 0 where
   pub refs_come : c.refs.come ≡ map (from_end (length e.route.course)) e.route.refs
   pub rows : are_rows (spans_after c e.spans) ≡ true
   pub spans_gone : each_two span_before c.spans_gone ≡ true
+  pub spans_there : list_all (has_row e.spans) c.spans_gone ≡ true
   pub turned : IsTurned (length e.route.course) e.spans (spans_after c e.spans)

@@ -74,6 +74,7 @@ fn joined_marks(first: &Route, second: &Route) -> Result<Marks, Stop>
 }
 
 /// What becomes of a route that goes on as another, over this course and with these marks.
+#[tactic(auto, using(crate::proofs::Going::plan_there))]
 fn lengthened(
     alloc: Global,
     front: &RouteEntry,

@@ -152,6 +152,7 @@ struct Realigned {
 }
 
 /// What becomes of a route on a new line, by an edit.
+#[tactic(auto, using(crate::proofs::Going::plan_there))]
 fn realign_route(
     alloc: Global,
     edit: u64,

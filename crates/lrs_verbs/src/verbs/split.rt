@@ -66,6 +66,7 @@ struct Halves {
 }
 
 /// The parts of a route at an inner mark.
+#[tactic(auto, using(crate::proofs::Going::plan_there))]
 fn cut_route(
     alloc: Global,
     entry: &RouteEntry,

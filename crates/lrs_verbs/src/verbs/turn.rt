@@ -36,6 +36,7 @@ pub fn plan_turn(alloc: Global, inventory: &Inventory, route: RouteName) -> Resu
 }
 
 /// What becomes of a route that is seen from its other end.
+#[tactic(auto, using(crate::proofs::Going::plan_there))]
 fn turn_route(alloc: Global, entry: &RouteEntry) -> Result<RouteChange, AllocError>
     requires { IsTrue (end_by (length entry.now.route.course) entry.now.spans) }
     ensures { IfOk result (λ change. IsTurnedBy entry.now change) }

@@ -5,7 +5,7 @@ use Rattle.lrs_ordered.proofs.Keys.{finds_name, other_names}
 use Rattle.lrs_machine.specs.declared.image.RouteEntry.{RouteEntry}
 use Rattle.lrs_machine.specs.Sound.{route_before}
 use Rattle.lrs_keep.specs.Change.{CanBecome, without}
-use Rattle.lrs_keep.proofs.Named.{back_in_place}
+use Rattle.lrs_keep.proofs.Named.{back_in_place, same_some}
 use Rattle.lrs_keep.proofs.routes.open_route.Goals as goal
 
 pub returns-in_default-clause-found : goal.returns-in_default-clause-found
@@ -17,7 +17,8 @@ returns-in_default-clause-others c = c.remove.ensures.rows ∙ other_names (λ (
 pub make_room-requires : goal.make_room-requires
 make_room-requires c =
     let found = sym c.in-Some.is ∙ c.remove.ensures.row ∙ finds_name (λ (e : RouteEntry). e.route.name) c.args.change.now.route c.args.routes.now.rows in
-    subst (λ (e : RouteEntry). CanBecome c.args.change.now e) (sym c.open-opened.ensures) (c.requires.can c.in-Some.entry (sym found))
+    let becomes = subst (CanBecome c.args.change.now) (same_some c.requires.can.entry c.in-Some.entry (sym c.requires.can.found ∙ sym found)) c.requires.can.becomes in
+    subst (CanBecome c.args.change.now) (sym c.open-opened.ensures) becomes
 
 pub insert_ordered-requires-clause-order : goal.insert_ordered-requires-clause-order
 insert_ordered-requires-clause-order c =

@@ -1,13 +1,13 @@
 use Rattle.std.proofs.Common.{length, arith, inl, inr, ap}
 use Rattle.std.proofs.lemmas.Bool.{cases_lt}
-use Rattle.csv.specs.Records.{fields_of}
+use Rattle.lrs_sheet.specs.Kinds.{edit_fields}
 use Rattle.lrs_sheet.proofs.Misfits.{text_at-past}
 use Rattle.lrs_sheet.proofs.arguments.nothing_from.Goals as goal
 
 pub returns : goal.returns
 returns c i h = elim (cases_lt i c.loop-i.i) [
   | inl below ↦ c.loop-i.invariant i h below
-  | inr above ↦ text_at-past (fields_of c.args.row.now) i (omega arith)
+  | inr above ↦ text_at-past (edit_fields c.args.row.now) i (omega arith)
 ]
 
 pub returns-then-not-is_empty : goal.returns-then-not-is_empty

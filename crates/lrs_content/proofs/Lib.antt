@@ -1,0 +1,5 @@
+pub mod Unordered
+pub mod Sorts
+pub mod Orders
+pub mod Reading
+pub mod Stored

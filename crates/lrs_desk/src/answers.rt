@@ -1,0 +1,92 @@
+//! What is asked of a desk. Each question is answered from the image, and changes nothing.
+
+ghost use Rattle.std.specs.Prelude.{◌≡◌, ◌↔◌, IsTrue, Err, false};
+ghost use Rattle.lrs_answers.specs.Answers.{AsksRoute, IsAt};
+ghost use Rattle.lrs_answers.specs.Finding.{IsFound};
+ghost use Rattle.lrs_answers.specs.Segmented.{IsSegmented};
+ghost use Rattle.lrs_machine.specs.Image.{state_of};
+ghost use Rattle.lrs_position.specs.LinkPositions.{IsLinkPosition};
+ghost use Rattle.lrs_position.specs.Translating.{RoundTrip, Translates};
+
+use crate::desk::Desk;
+use lrs_answers::{AskFault, AtAnswer, FoundRow};
+use lrs_events::{ClassName, Side};
+use lrs_keep::Keeper;
+use lrs_measure::{Frac, Rows};
+use lrs_position::{Expr, RouteName, Target};
+use lrs_report::Segment;
+
+impl<K: Keeper> Desk<K> {
+    /// The millimetre of a route in which a position stands, and who holds it, by asset number (ISO 19148: located event).
+    ///
+    /// # Errors
+    ///
+    /// `MustReopen` once a commit has failed; then `NoRoute`, and then what the position expression is refused for.
+    pub fn at(&self, route: &RouteName, expression: Expr) -> Result<AtAnswer, AskFault>
+        ensures reopen { (result ≡ Err AskFault.MustReopen) ↔ IsTrue self.now.must_reopen }
+        ensures answer { self.now.must_reopen ≡ false → IsAt (state_of self.now.image) route.now expression result }
+    {
+        if self.must_reopen() {
+            return Err(AskFault::MustReopen);
+        }
+        lrs_answers::at(self.alloc(), self.inventory().kept(), route, expression)
+    }
+
+    /// Where an asset lies: its rows by route name and start.
+    ///
+    /// # Errors
+    ///
+    /// `NoAsset` where no asset has this number.
+    pub fn find(&self, asset: u64) -> Result<Rows<FoundRow>, AskFault>
+        ensures { IsFound (state_of self.now.image) asset result }
+    {
+        lrs_answers::find(self.alloc(), self.inventory().kept(), asset)
+    }
+
+    /// The segments of a route by these exclusive classes, on one side of it (ISO 19148: linear segment).
+    ///
+    /// # Errors
+    ///
+    /// `NoRoute`, and then those of the classes and of the side.
+    pub fn segments(
+        &self,
+        route: &RouteName,
+        wanted: &[ClassName],
+        side: Side,
+    ) -> Result<Rows<Segment>, AskFault>
+        ensures { IsSegmented (state_of self.now.image) route.now wanted.now side result }
+    {
+        lrs_answers::segments(self.alloc(), self.inventory().kept(), route, wanted, side)
+    }
+
+    /// A position on a route by another method (ISO 19148: translation of a position expression).
+    ///
+    /// # Errors
+    ///
+    /// `NoRoute`, and then what the position expression or its translation is refused for.
+    pub fn translate(
+        &self,
+        route: &RouteName,
+        expression: Expr,
+        target: Target,
+    ) -> Result<Expr, AskFault>
+        ensures { AsksRoute (state_of self.now.image) route.now (λ a entry_of answer. Translates a entry_of expression target answer × RoundTrip a entry_of expression target answer) result }
+    {
+        lrs_answers::translate(self.inventory().kept(), route, expression, target)
+    }
+
+    /// The link under a position on a route, and how far along the link it is, in millimetres.
+    ///
+    /// # Errors
+    ///
+    /// `NoRoute`, and then what the position expression is refused for.
+    pub fn to_link(
+        &self,
+        route: &RouteName,
+        expression: Expr,
+    ) -> Result<(u32, Frac), AskFault>
+        ensures { AsksRoute (state_of self.now.image) route.now (λ a entry_of answer. IsLinkPosition a entry_of expression answer) result }
+    {
+        lrs_answers::to_link(self.inventory().kept(), route, expression)
+    }
+}

@@ -1,0 +1,3 @@
+pub mod PlainTables
+pub mod OpenLemmas
+pub mod FoundLemmas

@@ -1,0 +1,3 @@
+pub mod Plain
+pub mod Opening
+pub mod Found

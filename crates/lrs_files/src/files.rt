@@ -1,0 +1,98 @@
+//! Stores of tables in files.
+
+ghost use Rattle.std.specs.Prelude.{◌≡◌, IfOk, IsTrue, false};
+ghost use Rattle.sqlite_wal.specs.Reads.{AreClean};
+ghost use Rattle.sqlite_wal.specs.Files.{image_at};
+ghost use Rattle.sqlite.specs.State.{HasCleanDisk};
+ghost use Rattle.sqlite.specs.Files.{file_state, image_of};
+ghost use Rattle.sqlite.specs.Closing.{IsCopied};
+ghost use Rattle.lrs_tables.specs.Resting.{IsReady};
+ghost use Rattle.lrs_files.specs.Found.{HasFound};
+
+use crate::taken::{fault_of, over};
+use lrs_tables::tables::{OpenFault, Tables};
+use sqlite::{Connection, Error, ErrorCode, FileFrom, FileStore, Files, Options, Start};
+use sqlite_disk::Disk;
+use std::alloc::Global;
+use std::rt::HostRuntime;
+
+/// Opens the store in these files, or makes one where they hold none.
+///
+/// # Errors
+/// When memory runs out, a file fails, or the files hold no store of an inventory.
+pub fn open_files<D: Disk + Drop>(
+    alloc: Global,
+    files: Files<D>,
+    options: Options,
+) -> Result<Tables<FileStore<D>>, OpenFault>
+    requires log { IsTrue (D.Disk.is_usable files.log) }
+    requires db { IsTrue (D.Disk.is_usable files.db) }
+    ensures autocommit { IfOk result (λ t. t.conn.in_transaction ≡ false) }
+    ensures ready { IfOk result (λ t. IsReady (file_state t.conn)) }
+    ensures found { IfOk result (λ t. HasCleanDisk (file_state t.conn) → HasFound (image_of D.Disk files) (file_state t.conn)) }
+{
+    let conn = match Connection::open_files(alloc, files, options) {
+        Ok(conn) => conn,
+        Err((error, _)) => return Err(fault_of(error)),
+    };
+    match over(alloc, conn) {
+        Ok(tables) => Ok(tables),
+        Err((fault, _)) => Err(fault),
+    }
+}
+
+/// Opens the store at a path, or makes one where there is none. `start` stands for what the files hold.
+///
+/// # Errors
+/// When memory runs out, a file fails, another program has it, or it holds no store of an inventory.
+pub fn open_file<S: Start>(
+    rt: &HostRuntime,
+    path: &str,
+    start: S,
+) -> Result<Tables<FileStore<FileFrom<S>>>, OpenFault>
+    ensures autocommit { IfOk result (λ t. t.conn.in_transaction ≡ false) }
+    ensures ready { IfOk result (λ t. IsReady (file_state t.conn)) }
+    ensures found { IfOk result (λ t. HasCleanDisk (file_state t.conn) → HasFound (image_at S.Start) (file_state t.conn)) }
+{
+    let conn = match Connection::open_from(rt, path, false, start) {
+        Ok(conn) => conn,
+        Err((error, _)) => return Err(fault_of(error)),
+    };
+    match over(rt.alloc(), conn) {
+        Ok(tables) => Ok(tables),
+        Err((fault, _)) => Err(fault),
+    }
+}
+
+/// Why a store is not closed.
+#[derive(Clone, Copy, Debug, PartialEq, Eq)]
+pub enum CloseFault {
+    /// There is too little memory.
+    Memory,
+    /// The store failed.
+    Store,
+}
+
+fn close_fault_of(error: Error) -> CloseFault {
+    match error {
+        Error::SqliteFailure(ErrorCode::OutOfMemory) => CloseFault::Memory,
+        _ => CloseFault::Store,
+    }
+}
+
+/// Closes a store and gives its files back. What was committed last is in the database file.
+///
+/// # Errors
+/// When memory runs out, or the store fails.
+pub fn close_files<D: Disk + Drop>(tables: Tables<FileStore<D>>) -> Result<Files<D>, CloseFault>
+    ensures usable { IfOk result (λ files. IsTrue (D.Disk.is_usable files.log) × IsTrue (D.Disk.is_usable files.db)) }
+    ensures copied { IfOk result (λ files. AreClean D.Disk files.log files.db → IsCopied tables.conn files) }
+{
+    match tables.conn.close_files() {
+        Ok(files) => Ok(files),
+        Err((error, store)) => {
+            drop(store.close());
+            Err(close_fault_of(error))
+        }
+    }
+}

@@ -1,0 +1,6 @@
+pub mod HeadLemmas
+pub mod KnownLemmas
+pub mod BodyLemmas
+pub mod LengthLemmas
+pub mod LiteralLemmas
+pub mod WriteLemmas

@@ -1,0 +1,26 @@
+-- The parameters of a query (the URL Standard, section 5).
+use Rattle.std.specs.Prelude.{ℕ, List, [], ◌∷◌, Option, None, Some, if◌then◌else◌, bytes_eq}
+use Rattle.std.specs.Str.Lossy.{utf8_lossy}
+use Rattle.form_urlencoded.specs.Form.{decode, raw_pairs}
+
+-- the text that a name or a value stands for
+abbrev pub text_of : List ℕ → List ℕ
+text_of bytes = utf8_lossy (decode bytes)
+
+-- the value of the first pair of this name
+abbrev pub first_value : List ℕ → List (List ℕ × List ℕ) → Option (List ℕ)
+first_value name [] = None
+first_value name (pair ∷ pairs) = if bytes_eq (text_of pair.0) name then Some (text_of pair.1) else first_value name pairs
+
+-- the value of a parameter of the query
+abbrev pub parameter : List ℕ → List ℕ → Option (List ℕ)
+parameter name query = first_value name (raw_pairs query)
+
+-- the values of all pairs of this name
+abbrev pub all_values : List ℕ → List (List ℕ × List ℕ) → List (List ℕ)
+all_values name [] = []
+all_values name (pair ∷ pairs) = if bytes_eq (text_of pair.0) name then text_of pair.1 ∷ all_values name pairs else all_values name pairs
+
+-- the values of a parameter that may be given more than once
+abbrev pub parameters : List ℕ → List ℕ → List (List ℕ)
+parameters name query = all_values name (raw_pairs query)

@@ -1,0 +1,18 @@
+//! The lower half of HTTP: what a request asks for, and how a reply is written (RFC 9110, RFC 9112).
+//!
+//! Nothing here knows of an inventory. Heads are read by `httparse`, paths by `matchit`, queries by `form_urlencoded`.
+#![tactic(auto)]
+
+mod body;
+mod framing;
+mod head;
+mod paths;
+mod query;
+mod reply;
+mod task;
+
+pub use body::BodyFault;
+pub use paths::{Resource, routes};
+pub use query::{value_of, values_of};
+pub use reply::{Content, ContentType, Reply, Verb, write_reply, write_unavailable};
+pub use task::{Task, receive};

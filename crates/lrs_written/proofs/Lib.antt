@@ -1,0 +1,10 @@
+pub mod Lists
+pub mod Naming
+pub mod Keys
+pub mod Tabled
+pub mod Appended
+pub mod Beside
+pub mod Changed
+pub mod Routes
+pub mod Apart
+pub mod Written
