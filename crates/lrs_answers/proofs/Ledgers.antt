@@ -40,14 +40,14 @@ use Rattle.lrs_answers.proofs.Joined.{is_false}
 
 -- ---- sums
 
-sum-same : {X : Type 0} (f g : X → ℕ) (xs : List X) → ((x : X) → In x xs → f x ≡ g x) → sum_by f xs ≡ sum_by g xs
+pub sum-same : {X : Type 0} (f g : X → ℕ) (xs : List X) → ((x : X) → In x xs → f x ≡ g x) → sum_by f xs ≡ sum_by g xs
 sum-same f g [] same = refl
 sum-same f g (x ∷ xs) same = sum_by-cons f x xs ∙ (λ i. same x (inl refl) i + sum-same f g xs (λ y m. same y (inr m)) i) ∙ sym (sum_by-cons g x xs)
 
-sum-all : {X : Type 0} (f g : X → ℕ) (xs : List X) → ((x : X) → f x ≡ g x) → sum_by f xs ≡ sum_by g xs
+pub sum-all : {X : Type 0} (f g : X → ℕ) (xs : List X) → ((x : X) → f x ≡ g x) → sum_by f xs ≡ sum_by g xs
 sum-all f g xs same = ap (λ (h : _ → ℕ). sum_by h xs) (λ i x. same x i)
 
-sum-none : {X : Type 0} (xs : List X) → sum_by (λ x. 0) xs ≡ 0
+pub sum-none : {X : Type 0} (xs : List X) → sum_by (λ x. 0) xs ≡ 0
 sum-none [] = refl
 sum-none (x ∷ xs) = sum-none xs
 
@@ -55,7 +55,7 @@ sum-plus : {X : Type 0} (f g : X → ℕ) (xs : List X) → sum_by (λ x. f x + 
 sum-plus f g [] = refl
 sum-plus f g (x ∷ xs) = omega (arith, sum_by-cons (λ x. f x + g x) x xs, sum_by-cons f x xs, sum_by-cons g x xs, sum-plus f g xs)
 
-exchange : {X Y : Type 0} (f : X → Y → ℕ) (xs : List X) (ys : List Y) → sum_by (λ x. sum_by (f x) ys) xs ≡ sum_by (λ y. sum_by (λ x. f x y) xs) ys
+pub exchange : {X Y : Type 0} (f : X → Y → ℕ) (xs : List X) (ys : List Y) → sum_by (λ x. sum_by (f x) ys) xs ≡ sum_by (λ y. sum_by (λ x. f x y) xs) ys
 exchange f [] ys = sym (sum-none ys)
 exchange f (x ∷ xs) ys =
     sum_by-cons (λ x. sum_by (f x) ys) x xs ∙ ap (λ n. sum_by (f x) ys + n) (exchange f xs ys) ∙ sym (sum-plus (f x) (λ y. sum_by (λ x. f x y) xs) ys)
@@ -264,14 +264,15 @@ in-filtered q view y (x ∷ xs) m = by (q x) m (in-filtered q view y xs)
     by true (inr m) rest = inr (rest m)
     by false m rest = inr (rest m)
 
-record AreParts (links : List Link) (assets : List Asset) (parts : List Part) : Type 0 where
-  each : list_all (is_part links assets) parts ≡ true
-  apart : each_two share_nothing parts ≡ true
+pub record AreParts (links : List Link) (assets : List Asset) (parts : List Part) : Type 0 where
+  pub each : list_all (is_part links assets) parts ≡ true
+  pub apart : each_two share_nothing parts ≡ true
+  pub few : list_all (λ a. nat_le (pairs_of a.number parts) most_pairs) assets ≡ true
 
-parts_are : (links : List Link) (assets : List Asset) (parts : List Part) → are_parts links assets parts ≡ true → AreParts links assets parts
+pub parts_are : (links : List Link) (assets : List Asset) (parts : List Part) → are_parts links assets parts ≡ true → AreParts links assets parts
 parts_are links assets parts h =
     let t = and_three (list_all (is_part links assets) parts) (each_two share_nothing parts) (list_all (λ a. nat_le (pairs_of a.number parts) most_pairs) assets) h in
-    record { each = t.0; apart = t.1 }
+    record { each = t.0; apart = t.1; few = t.2 }
 
 had_once : (links : List Link) (assets : List Asset) (parts : List Part) → AreParts links assets parts → IsHadOnce parts
 had_once links assets parts h = (apart_is_once parts (filled links assets parts h.each)).0 h.apart
@@ -281,7 +282,7 @@ has_length links assets parts h part m =
     let t = and_three (nat_lt part.from part.to) (list_any (λ (l : Link). nat_eq l.number part.link && nat_le part.to l.length) links) (list_any (λ (a : Asset). nat_eq a.number part.asset) assets) (all_at (is_part links assets) part parts h.each m) in
     ltb-true part.from part.to t.0
 
-entered_parts : (i : Image) → IsSound i → AreParts i.links i.assets i.entered
+pub entered_parts : (i : Image) → IsSound i → AreParts i.links i.assets i.entered
 entered_parts i s = parts_are i.links i.assets i.entered (and_parts (each_two part_before i.entered) (are_parts i.links i.assets i.entered) (passes i s).entered).1
 
 gone_parts : (i : Image) → IsSound i → AreParts i.links i.assets (parts_of i.gone)

@@ -8,3 +8,5 @@ pub mod OfState
 pub mod AllRows
 pub mod AskedAt
 pub mod Ledgers
+pub mod Counted
+pub mod Summed

@@ -1,4 +1,4 @@
--- Totals of a class by the rows of the ledgers.
+-- What there is of each class, and totals of a class by the rows of the ledgers.
 use Rattle.std.specs.Prelude.{◌≡◌, ℕ, ◌+◌, ◌-◌, Bool, false, if◌then◌else◌, List, map, filter, sum_by}
 use Rattle.std.specs.Option.{option_map_or}
 use Rattle.lrs_measure.specs.Texts.{Name, same_name}
@@ -6,10 +6,27 @@ use Rattle.lrs_events.specs.declared.part.Part.{Part}
 use Rattle.lrs_events.specs.declared.part.Gone.{Gone}
 use Rattle.lrs_machine.specs.declared.image.Image.{Image}
 use Rattle.lrs_machine.specs.Image.{state_of, reason_of}
+use Rattle.lrs_report.specs.declared.totals.Total.{Total}
 use Rattle.lrs_machine.specs.Readings.{total_entered, total_gone, total_present}
-use Rattle.lrs_machine.specs.Register.{get}
+use Rattle.lrs_machine.specs.Register.{get, entries}
 use Rattle.lrs_machine.specs.Sound.{IsSound}
 use Rattle.lrs_machine.specs.State.{State, Reason, Retired, Abandoned, same_reason}
+
+-- what the state has of a class, in side millimetres
+abbrev pub total_of_class : State → Name → Total
+total_of_class s class = record {
+  class = class;
+  entered = total_entered class s;
+  retired = total_gone Retired class s;
+  abandoned = total_gone Abandoned class s;
+  present = total_present class s;
+}
+
+-- the total of every class, by name
+abbrev pub totals_of : State → List Total
+totals_of s = map (λ c. total_of_class s c.0) (entries s.classes)
+
+-- the law that they are counted by
 
 -- whether the asset is known, and of the class
 abbrev pub is_of_class : State → Name → ℕ → Bool

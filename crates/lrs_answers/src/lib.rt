@@ -1,6 +1,7 @@
 //! What a road authority asks of an inventory, over the lists that are kept of it.
 #![tactic(auto)]
 
+mod counting;
 mod fault;
 mod finding;
 mod hits;
@@ -9,6 +10,7 @@ mod routes;
 mod segmenting;
 mod standing;
 
+pub use counting::totals;
 pub use fault::AskFault;
 pub use finding::{FoundRow, find};
 pub use hits::{AtAnswer, at};
