@@ -125,10 +125,10 @@ module _ (i : Image) (sound : IsSound i) (a : Asset) (known : In a i.assets) whe
 
 module _ (i : Image) (n : ℕ) where
   -- the assets of the number, as a search finds it
-  abbrev sought : Option Asset
+  abbrev pub sought : Option Asset
   sought = list.find (λ a. is_eq (nat_cmp a.number n)) i.assets
 
-  asset_is : get (state_of i).assets n ≡ option_map (λ a. (asset_entry a).1) sought
+  pub asset_is : get (state_of i).assets n ≡ option_map (λ a. (asset_entry a).1) sought
   unfolding state_of
   asset_is = values_found nat_cmp_total asset_entry i.assets n
 

@@ -7,3 +7,6 @@ pub mod HeldBy
 pub mod OfState
 pub mod AllRows
 pub mod AskedAt
+pub mod Ledgers
+pub mod Counted
+pub mod Summed

@@ -2,3 +2,5 @@ pub mod Answers
 pub mod Hits
 pub mod Finding
 pub mod Segmented
+pub mod Totals
+pub mod Counts

@@ -1,13 +1,16 @@
 //! What a road authority asks of an inventory, over the lists that are kept of it.
 #![tactic(auto)]
 
+mod counting;
 mod fault;
 mod finding;
 mod hits;
+pub mod laws;
 mod routes;
 mod segmenting;
 mod standing;
 
+pub use counting::totals;
 pub use fault::AskFault;
 pub use finding::{FoundRow, find};
 pub use hits::{AtAnswer, at};
