@@ -1,9 +1,10 @@
 //! What is asked of a desk. Each question is answered from the image, and changes nothing.
 
 ghost use Rattle.std.specs.Prelude.{◌≡◌, ◌↔◌, IsTrue, Err, false};
-ghost use Rattle.lrs_answers.specs.Answers.{AsksRoute, IsAt};
+ghost use Rattle.lrs_answers.specs.Answers.{AsksRoute, IsAt, UnlessMemory};
 ghost use Rattle.lrs_answers.specs.Finding.{IsFound};
 ghost use Rattle.lrs_answers.specs.Segmented.{IsSegmented};
+ghost use Rattle.lrs_answers.specs.Totals.{totals_of};
 ghost use Rattle.lrs_machine.specs.Image.{state_of};
 ghost use Rattle.lrs_position.specs.LinkPositions.{IsLinkPosition};
 ghost use Rattle.lrs_position.specs.Translating.{RoundTrip, Translates};
@@ -14,7 +15,7 @@ use lrs_events::{ClassName, Side};
 use lrs_keep::Keeper;
 use lrs_measure::{Frac, Rows};
 use lrs_position::{Expr, RouteName, Target};
-use lrs_report::Segment;
+use lrs_report::{Segment, Total};
 
 impl<K: Keeper> Desk<K> {
     /// The millimetre of a route in which a position stands, and who holds it, by asset number (ISO 19148: located event).
@@ -57,6 +58,18 @@ impl<K: Keeper> Desk<K> {
         ensures { IsSegmented (state_of self.now.image) route.now wanted.now side result }
     {
         lrs_answers::segments(self.alloc(), self.inventory().kept(), route, wanted, side)
+    }
+
+    /// What was entered, retired and abandoned of each class, and what of it is present, by class name, in side
+    /// millimetres.
+    ///
+    /// # Errors
+    ///
+    /// When memory runs out.
+    pub fn totals(&self) -> Result<Rows<Total>, AskFault>
+        ensures { UnlessMemory (λ totals. totals ≡ totals_of (state_of self.now.image)) result }
+    {
+        lrs_answers::totals(self.alloc(), self.inventory().kept())
     }
 
     /// A position on a route by another method (ISO 19148: translation of a position expression).
