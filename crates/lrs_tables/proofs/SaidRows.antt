@@ -3,7 +3,13 @@ use Rattle.std.proofs.Common.{◌≡◌, ℕ, ◌+◌, ◌<◌, ◌++◌, take, 
 use Rattle.std.proofs.lemmas.List.Sorted.{IsPermutation-refl, IsPermutation-cons, IsPermutation-trans, IsPermutation-middle}
 use Rattle.std.proofs.Math.Seq.{take-suc, split_at}
 use Rattle.sqlite_keyed.proofs.ListLemmas.{along_permutation}
-use Rattle.lrs_store.specs.Decoding.{each_of, only_if}
+use Rattle.std.specs.Prelude.{IsTrue}
+use Rattle.std.proofs.Math.Bool.{Bool-set}
+use Rattle.lrs_element.specs.declared.link.Link.{Link}
+use Rattle.lrs_element.specs.Limits.{is_link}
+use Rattle.lrs_store.specs.Tables.{LinkRow}
+use Rattle.lrs_store.specs.Decoding.{each_of, only_if, if_true, whole, link_of}
+use Rattle.lrs_store.specs.Decoding as option
 use Rattle.lrs_tables.specs.Reading.{SaySame}
 
 module _ {Row X : Type 0} (said : Row → Option X) where
@@ -106,3 +112,14 @@ pub both_only : {A B X : Type 0} (p q : Bool) (a x : A) (b y : B) (make : A → 
 both_only true true a x b y make e f = ap₂ (λ v w. Some (make v w)) (same_some e) (same_some f)
 both_only true false a x b y make e f = absurd (cc f)
 both_only false q a x b y make e f = absurd (cc e)
+
+if_true_at : {A : Type 0} (b : Bool) (make : IsTrue b → A) (h : IsTrue b) → if_true b make ≡ Some (make h)
+if_true_at true make h = ap (λ k. Some (make k)) (Bool-set true true refl h)
+if_true_at false make h = absurd (cc h)
+
+-- a link is said where both numbers are, and are within its limits
+pub link_said : (r : LinkRow) (number length : ℕ) → Some number ≡ whole r.number → Some length ≡ whole r.length → (limits : IsTrue (is_link number length))
+    → Some (record { number = number; length = length; limits = limits }) ≡ link_of r
+link_said r number length e f limits =
+    sym (if_true_at (is_link number length) (λ h. record { number = number; length = length; limits = h }) limits)
+    ∙ ap₂ (λ n l. option.◌>>=◌ n (λ m. option.◌>>=◌ l (λ k. if_true (is_link m k) (λ h. record { number = m; length = k; limits = h })))) e f

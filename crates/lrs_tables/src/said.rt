@@ -3,11 +3,13 @@
 ghost use Rattle.std.specs.Prelude.{◌≡◌, ◌&&◌, IfOk};
 ghost use Rattle.std.specs.Option.{option_map};
 ghost use Rattle.sqlite_value.specs.Order.{column};
+ghost use Rattle.lrs_element.specs.Limits.{is_link};
 ghost use Rattle.lrs_events.specs.Names.{is_class_name, is_value};
 ghost use Rattle.lrs_store.specs.Decoding.{each_of, only_if, kind_numbered, link_side_numbered, is_abandoned_numbered};
 ghost use Rattle.lrs_store.specs.Decoding as decoding;
 ghost use Rattle.lrs_tables.specs.Stored.{whole_at, text_at};
 
+use lrs_element::Link;
 use lrs_events::{Asset, Class, ClassName, Gone, Kind, LinkSide, Part, Value};
 use sqlite::Row;
 use sqlite::types::ValueRef;
@@ -24,7 +26,7 @@ fn whole_at(row: &Row, at: usize) -> i64
 }
 
 /// The text in a column; what is none reads as a byte that is no UTF-8.
-fn text_at(row: &Row, at: usize) -> &[u8]
+pub fn text_at(row: &Row, at: usize) -> &[u8]
     ensures { result.now ≡ text_at at row.now }
 {
     match row.get_ref(at) {
@@ -38,6 +40,13 @@ fn whole(n: i64) -> Option<u64>
     ensures { result ≡ decoding.whole n }
 {
     if n < 0 { None } else { Some(n as u64) }
+}
+
+/// The number in a column, if it is whole and not negative.
+pub fn number_at(row: &Row, at: usize) -> Option<u64>
+    ensures { result ≡ decoding.whole (whole_at at row.now) }
+{
+    whole(whole_at(row, at))
 }
 
 /// A number of 32 bits.
@@ -132,6 +141,32 @@ pub fn said_all<T: Said>(alloc: Global, rows: &[Row]) -> Result<Option<Vec<T>>, 
         found.push(value)?;
     }
     Ok(Some(found))
+}
+
+/// Whether a link has its number and its length within their limits.
+fn is_link(number: u64, length: u64) -> bool
+    ensures { result ≡ is_link number length }
+{
+    1 <= number && number <= 999_999 && 1 <= length && length <= 1_000_000_000
+}
+
+impl Said for Link {
+    ghost use Rattle.lrs_store.specs.Decoding.{link_of};
+    ghost use Rattle.lrs_tables.specs.Stored.{link_in};
+
+    ghost said = { λ r. link_of (link_in r) };
+
+    fn said(row: &Row) -> Option<Link> {
+        let number = number_at(row, 0)?;
+        let length = number_at(row, 1)?;
+        if !is_link(number, length) {
+            return None;
+        }
+        Some(Link {
+            number: number as u32,
+            length: length as u32,
+        })
+    }
 }
 
 impl Said for Class {

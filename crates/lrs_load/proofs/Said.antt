@@ -1,0 +1,41 @@
+-- What the rows of a table say, and what is read of them.
+use Rattle.std.proofs.Common.{◌≡◌, Bool, List, map, Option, Some, None, Result, Ok, Err, sym, ap, subst, ◌∙◌}
+use Rattle.lrs_machine.specs.declared.table.Table.{Table}
+use Rattle.lrs_keep.specs.declared.keeper.LoadFault.{LoadFault}
+use Rattle.lrs_keep.specs.declared.keeper.LoadFault.TheVariants.{Memory, Store, Unsound}
+use Rattle.lrs_store.specs.Decoding.{each_of, each_sorted, sorted}
+use Rattle.lrs_store.specs.Decoding as option
+use Rattle.lrs_store.specs.Content.{read}
+use Rattle.lrs_tables.proofs.SaidRows.{each_of-map}
+use Rattle.lrs_load.specs.Loading.{Reads, Loads, IsOfStore}
+
+module _ {A : Type 0} where
+  pub reads_along : (v w : Result A Table) (r : Result A LoadFault) → v ≡ w → Reads v r → Reads w r
+  reads_along v w r e h = subst (λ x. Reads x r) e h
+
+  pub reads_memory : (w : Result A Table) (f : LoadFault) → f ≡ Memory → Reads w (Err f)
+  reads_memory w f e = subst (λ x. Reads w (Err x)) (sym e) tt
+
+  pub loads_read : (v w : Result A Table) (r : Result A LoadFault) → v ≡ w → Reads v r → Loads w r
+  loads_read v w r e h = subst (λ x. Loads x r) e (by r h)
+    where
+      by : (r : Result A LoadFault) → Reads v r → Loads v r
+      by (Ok x) h = h
+      by (Err Memory) h = tt
+      by (Err Store) h = tt
+      by (Err (Unsound t)) h = h
+
+  pub loads_store : (w : Result A Table) (f : LoadFault) → IsOfStore f → Loads w (Err f)
+  loads_store w Memory h = tt
+  loads_store w Store h = tt
+  loads_store w (Unsound t) h = absurd h
+
+module _ {Cells Row X : Type 0} (before : X → X → Bool) (of : Row → Option X) (cells : Cells → Row) (t : Table) (test : List X → Bool) where
+  abbrev reading : Option (List X) → Result (List X) Table
+  reading o = read t (option.◌>>=◌ o (λ xs. Some (sorted before xs))) test
+
+  pub nothing_said : (rows : List Cells) → None ≡ each_of (λ r. of (cells r)) rows → read t (each_sorted before of (map cells rows)) test ≡ Err t
+  nothing_said rows e = ap reading (each_of-map of cells rows ∙ sym e)
+
+  pub all_said : (rows : List Cells) (xs : List X) → Some xs ≡ each_of (λ r. of (cells r)) rows → read t (Some (sorted before xs)) test ≡ read t (each_sorted before of (map cells rows)) test
+  all_said rows xs e = sym (ap reading (each_of-map of cells rows ∙ sym e))

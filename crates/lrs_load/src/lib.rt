@@ -1,0 +1,11 @@
+//! The tables of a store, loaded one by one.
+#![tactic(auto)]
+
+pub mod edits;
+pub mod entry;
+mod fault;
+pub mod load;
+mod order;
+pub mod origins;
+pub mod rows;
+pub mod tested;
