@@ -4,6 +4,7 @@ use std::marker::Model;
 
 /// The n-th piece of a route, run over the millimetres `a <= k < b` of a link: forwards where `dir` is 0,
 /// backwards where it is 1.
+#[derive(Drop)]
 pub struct PieceCells<'a> {
     pub route: &'a [u8],
     pub n: i64,
@@ -22,6 +23,7 @@ impl<'a> Model for PieceCells<'a> {
 }
 
 /// The n-th mark of a route.
+#[derive(Drop)]
 pub struct MarkCells<'a> {
     pub route: &'a [u8],
     pub n: i64,
@@ -38,6 +40,7 @@ impl<'a> Model for MarkCells<'a> {
 }
 
 /// A referent of a route.
+#[derive(Drop)]
 pub struct RefCells<'a> {
     pub name: &'a [u8],
     pub route: &'a [u8],
@@ -53,6 +56,7 @@ impl<'a> Model for RefCells<'a> {
 }
 
 /// A span of a route: side 0 is left, 1 is right, 2 is both.
+#[derive(Drop)]
 pub struct SpanCells<'a> {
     pub asset: i64,
     pub route: &'a [u8],
