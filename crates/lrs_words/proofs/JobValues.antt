@@ -1,0 +1,248 @@
+-- Each row that `clap` makes of the words of a job has a value.
+use Rattle.std.proofs.Common.{◌≡◌, ◌&&◌, ℕ, Bool, true, false, true≢false, cond, zero, suc, List, [], ◌∷◌, ◌++◌, Option, Some, None, is_some, refl, sym, subst, length, drop}
+use Rattle.std.specs.List.{fold, find, list_all, slice_get}
+use Rattle.std.specs.Option.{option_map_or, option_and_then}
+use Rattle.std.specs.Str.{bytes_eq, chars}
+use Rattle.std.specs.Prelude.{encode_utf8}
+use Rattle.clap.specs.Lexer.{long_of, short_of}
+use Rattle.clap.specs.Walk.{Held, Names, Outcome, done, waits, plain, refused, Row, Rule, Step, next, trailing, subcommand, value, Text, Waiting, idle, option, positional, Walk, action_of, after_flag, after_step, arg_by_id, arg_by_index, arg_by_long, arg_by_short, at_row, bundle, bundle_met, bundle_step, default_rows, finished, first_of, flag_met, has_row, is_pending, long_met, long_or_other, more_values, option_word, plain_word, positional_held, pushed, reacted, reading_by, settled, settled_rows, short_met, short_or_plain, subcommand_met, subcommand_or_other, takes_several, takes_values, to_positional, used, used_as, used_by_id, walked, walked_from, with_default, with_values, word_met}
+use Rattle.clap.specs.Takes.{is_given}
+use Rattle.clap.specs.Facts.{explicit_source}
+use Rattle.clap.specs.declared.builder.ArgAction.{ArgAction}
+use Rattle.clap.specs.declared.builder.ArgAction.TheVariants as action
+use Rattle.clap.specs.declared.builder.value_parser.Reading.{Reading}
+use Rattle.clap.specs.declared.parser.matches.ValueSource.{ValueSource}
+use Rattle.clap.specs.declared.parser.matches.ValueSource.TheVariants.{CommandLine, DefaultValue}
+
+abbrev has_text : List Text → Bool
+has_text values = is_some (slice_get values 0)
+
+abbrev has_value : Row → Bool
+has_value r = has_text r.values
+
+abbrev pub Filled : List Row → Type 0
+Filled rows = list_all has_value rows ≡ true
+
+first_true : (a b : Bool) → (a && b) ≡ true → a ≡ true
+first_true true b e = refl
+first_true false b e = e
+
+second_true : (a b : Bool) → (a && b) ≡ true → b ≡ true
+second_true true b e = e
+second_true false b e = absurd (true≢false (sym e))
+
+both_true : (a b : Bool) → a ≡ true → b ≡ true → (a && b) ≡ true
+both_true true b e f = f
+both_true false b e f = e
+
+more_text : (values : List Text) (v : Text) (vs : List Text) → has_text (values ++ v ∷ vs) ≡ true
+more_text [] v vs = refl
+more_text (x ∷ xs) v vs = refl
+
+-- ---- rows
+
+with_values-row : (id : Text) (how : Reading) (s : ValueSource) (v : Text) (vs : List Text) (r : Row) (rs : List Row) (b : Bool) → Filled (r ∷ rs)
+    → Filled (with_values id how s (v ∷ vs) rs) → Filled (cond b (more_values s (v ∷ vs) r ++ rs) (r ∷ with_values id how s (v ∷ vs) rs))
+with_values-row id how s v vs r rs true e below =
+    both_true (has_text (r.values ++ v ∷ vs)) _ (more_text r.values v vs) (second_true (has_value r) (list_all has_value rs) e)
+with_values-row id how s v vs r rs false e below = both_true (has_value r) _ (first_true (has_value r) (list_all has_value rs) e) below
+
+with_values-filled : (id : Text) (how : Reading) (s : ValueSource) (v : Text) (vs : List Text) (rows : List Row) → Filled rows → Filled (with_values id how s (v ∷ vs) rows)
+with_values-filled id how s v vs [] e = refl
+with_values-filled id how s v vs (r ∷ rs) e =
+    with_values-row id how s v vs r rs (bytes_eq r.id id) e (with_values-filled id how s v vs rs (second_true (has_value r) (list_all has_value rs) e))
+
+without-row : (id : Text) (r : Row) (rs : List Row) (b : Bool) → Filled (r ∷ rs) → Filled (at_row id (λ _. []) [] rs) → Filled (cond b rs (r ∷ at_row id (λ _. []) [] rs))
+without-row id r rs true e below = second_true (has_value r) (list_all has_value rs) e
+without-row id r rs false e below = both_true (has_value r) _ (first_true (has_value r) (list_all has_value rs) e) below
+
+without-filled : (id : Text) (rows : List Row) → Filled rows → Filled (at_row id (λ _. []) [] rows)
+without-filled id [] e = refl
+without-filled id (r ∷ rs) e = without-row id r rs (bytes_eq r.id id) e (without-filled id rs (second_true (has_value r) (list_all has_value rs) e))
+
+used-filled : (x : ArgAction) (id : Text) (how : Reading) (v : Text) (vs : List Text) (rows : List Row) → Filled rows → Filled (used_as x id how (v ∷ vs) rows)
+used-filled action.Set id how v vs rows e = with_values-filled id how CommandLine v vs _ (without-filled id rows e)
+used-filled action.SetTrue id how v vs rows e = with_values-filled id how CommandLine v vs _ (without-filled id rows e)
+used-filled action.SetFalse id how v vs rows e = with_values-filled id how CommandLine v vs _ (without-filled id rows e)
+used-filled action.Append id how v vs rows e = with_values-filled id how CommandLine v vs rows e
+used-filled action.Count id how v vs rows e = with_values-filled id how CommandLine v vs _ (without-filled id rows e)
+used-filled action.Help id how v vs rows e = e
+used-filled action.HelpShort id how v vs rows e = e
+used-filled action.HelpLong id how v vs rows e = e
+used-filled action.Version id how v vs rows e = e
+
+-- ---- what is held
+
+abbrev waits_filled : Option (Text × List Text) → Bool
+waits_filled pending = option_map_or (λ p. has_text p.1) pending true
+
+-- each row has a value, and so has what is pending
+pub record IsFilled (h : Held) : Type 0 where
+  pub rows : Filled h.rows
+  pub pending : waits_filled h.pending ≡ true
+
+by_id-filled : (a : Option Rule) (values : List Text) (rows : List Row) → has_text values ≡ true → Filled rows → Filled (used_by_id a values rows)
+by_id-filled None values rows h e = e
+by_id-filled (Some a) [] rows h e = absurd (true≢false (sym h))
+by_id-filled (Some a) (v ∷ vs) rows h e = used-filled (action_of a) a.id _ v vs rows e
+
+settled-filled : (c : List Rule) (p : Option (Text × List Text)) (rows : List Row) → waits_filled p ≡ true → Filled rows → Filled (settled_rows c p rows)
+settled-filled c None rows h e = e
+settled-filled c (Some p) rows h e = by_id-filled (arg_by_id c p.0) p.1 rows h e
+
+pub settle : (c : List Rule) (h : Held) → IsFilled h → IsFilled (settled c h)
+settle c h f = record { rows = settled-filled c h.pending h.rows f.pending f.rows; pending = refl }
+
+push : (id word : Text) (h : Held) → IsFilled h → IsFilled (pushed id word h)
+push id word h f = record { rows = f.rows; pending = more_text _ word [] }
+
+placed-filled : (c : List Rule) (a : Rule) (word : Text) (h : Held) → IsFilled h → IsFilled (positional_held c a word h)
+placed-filled c a word h f = push a.id word _ (go (is_pending a h.pending && takes_several a))
+  where
+    go : (b : Bool) → IsFilled (cond b h (settled c h))
+    go true = f
+    go false = settle c h f
+
+-- ---- flags that take no value and leave no row
+
+-- the flag of these rules that a word may name, if it is one
+abbrev pub flag_if : Rule → Bool → Option Rule
+flag_if a b = cond b (Some a) None
+
+pub record IsFlag (a : Rule) : Type 0 where
+  pub takes_none : takes_values a ≡ false
+  pub leaves : (rows : List Row) → used a [] rows ≡ rows
+
+react : (c : List Rule) (a : Rule) (h : Held) → IsFlag a → IsFilled h → IsFilled (reacted c a [] h)
+react c a h is f = record { rows = subst Filled (sym (is.leaves _)) (settle c h f).rows; pending = refl }
+
+flagged : (c : List Rule) (a : Rule) (v : Option Text) (h : Held) → IsFlag a → IsFilled h → IsFilled (flag_met c a v h).0
+flagged c a None h is f = react c a h is f
+flagged c a (Some v) h is f = f
+
+long-filled : (c : List Rule) (a : Rule) (b : Bool) (v : Option Text) (h : Held) → IsFlag a → IsFilled h → IsFilled (long_met c (flag_if a b) v h).0
+long-filled c a false v h is f = f
+long-filled c a true v h is f = rw is.takes_none (flagged c a v h is f)
+
+short-filled : (c : List Rule) (a : Rule) (b : Bool) (rest : Text) (h : Held) (others : Held → Held × Outcome) → IsFlag a → IsFilled h
+    → ((g : Held) → IsFilled g → IsFilled (others g).0) → IsFilled (short_met c (flag_if a b) rest h others).0
+short-filled c a false rest h others is f go = f
+short-filled c a true rest h others is f go = rw is.takes_none (go (reacted c a [] h) (react c a h is f))
+
+-- a word of flags names this one or none
+pub record HasFlag (c : List Rule) : Type 0 where
+  pub flag : Rule
+  pub is : IsFlag flag
+  pub is_long : Text → Bool
+  pub long : (name : Text) → arg_by_long c name ≡ flag_if flag (is_long name)
+  pub is_short : ℕ → Bool
+  pub short : (x : ℕ) → arg_by_short c x ≡ flag_if flag (is_short x)
+
+bundle_step-filled : (c : List Rule) (o : Option ℕ) (flags : Text) (skip : ℕ) (so_far : Outcome) (h : Held) (others : Text → ℕ → Outcome → Held → Held × Outcome) → HasFlag c → IsFilled h
+    → ((rest : Text) (n : ℕ) (p : Outcome) (g : Held) → IsFilled g → IsFilled (others rest n p g).0) → IsFilled (bundle_step c o flags skip so_far h others).0
+bundle_step-filled c None flags skip so_far h others has f go = f
+bundle_step-filled c (Some x) flags zero so_far h others has f go =
+    let rest = drop (length (encode_utf8 x)) flags in
+    subst (λ o. IsFilled (short_met c o rest h (others rest 0 done)).0) (sym (has.short x))
+    (short-filled c has.flag (has.is_short x) rest h (others rest 0 done) has.is f (go rest 0 done))
+bundle_step-filled c (Some x) flags (suc skip) so_far h others has f go = go (drop (length (encode_utf8 x)) flags) skip so_far h f
+
+bundle-filled : (c : List Rule) (k : ℕ) (flags : Text) (skip : ℕ) (so_far : Outcome) (h : Held) → HasFlag c → IsFilled h → IsFilled (bundle_met c k flags skip so_far h).0
+unfolding bundle_met
+bundle-filled c zero flags skip so_far h has f = f
+bundle-filled c (suc k) flags skip so_far h has f =
+    bundle_step-filled c (slice_get (chars flags) 0) flags skip so_far h (bundle_met c k) has f (λ rest n p g good. bundle-filled c k rest n p g has good)
+
+-- ---- one word
+
+option-filled : (a : Option Rule) (id word : Text) (h : Held) → IsFilled h → IsFilled (option_word a id word h).0
+option-filled None id word h f = f
+option-filled (Some a) id word h f = push id word h f
+
+plain-filled : (c : List Rule) (waiting : Waiting) (word : Text) (h : Held) → IsFilled h → IsFilled (plain_word c waiting word h).0
+plain-filled c idle word h f = f
+plain-filled c (option id) word h f = option-filled (arg_by_id c id) id word h f
+plain-filled c positional word h f = f
+
+after-filled : (c : List Rule) (waiting : Waiting) (word : Text) (h : Held) (o : Outcome) → IsFilled h → IsFilled (after_flag c waiting word h o).0
+after-filled c waiting word h done f = f
+after-filled c waiting word h (waits id) f = f
+after-filled c waiting word h plain f = plain-filled c waiting word h f
+after-filled c waiting word h refused f = plain-filled c waiting word h f
+
+shorts-filled : (c : List Rule) (waiting : Waiting) (word : Text) (o : Option Text) (h : Held) → HasFlag c → IsFilled h → IsFilled (short_or_plain c waiting word o h).0
+shorts-filled c waiting word None h has f = plain-filled c waiting word h f
+shorts-filled c waiting word (Some flags) h has f =
+    after-filled c waiting word (bundle c flags h).0 (bundle c flags h).1
+    (bundle-filled c (length flags) flags h.skip plain (record h { skip = 0 }) has (record { rows = f.rows; pending = f.pending }))
+
+longs-filled : (c : List Rule) (waiting : Waiting) (word : Text) (l : Option (Text × Option Text)) (h : Held) → HasFlag c → IsFilled h → IsFilled (long_or_other c waiting word l h).0
+longs-filled c waiting word None h has f = shorts-filled c waiting word (short_of word) h has f
+longs-filled c waiting word (Some p) h has f =
+    after-filled c waiting word (long_met c (arg_by_long c p.0) p.1 h).0 (long_met c (arg_by_long c p.0) p.1 h).1
+    (subst (λ o. IsFilled (long_met c o p.1 h).0) (sym (has.long p.0)) (long-filled c has.flag (has.is_long p.0) p.1 h has.is f))
+
+subs-filled : (c : List Rule) (met : Option Text) (waiting : Waiting) (position : ℕ) (word : Text) (h : Held) → HasFlag c → IsFilled h
+    → IsFilled (subcommand_or_other c met waiting position word h).0
+subs-filled c (Some name) waiting position word h has f = f
+subs-filled c None waiting position word h has f = go (bytes_eq word (45 ∷ 45 ∷ []))
+  where
+    go : (b : Bool) → IsFilled (cond {A = Held × Step} b (h, trailing position) (long_or_other c waiting word (long_of word) h)).0
+    go true = f
+    go false = longs-filled c waiting word (long_of word) h has f
+
+word-filled : (c : List Rule) (names : Names) (is_trailing : Bool) (waiting : Waiting) (position : ℕ) (word : Text) (h : Held) → HasFlag c → IsFilled h
+    → IsFilled (word_met c names is_trailing waiting position word h).0
+word-filled c names true waiting position word h has f = f
+word-filled c names false waiting position word h has f = subs-filled c (subcommand_met names waiting word) waiting position word h has f
+
+to-filled : (c : List Rule) (o : Option Rule) (word : Text) (w : Walk) (h : Held) → IsFilled h → IsFilled (to_positional c o word w h).held
+to-filled c None word w h f = f
+to-filled c (Some a) word w h f = placed-filled c a word h f
+
+step-filled : (c : List Rule) (word : Text) (w : Walk) (h : Held) (step : Step) → IsFilled h → IsFilled (after_step c word w h step).held
+step-filled c word w h (next waiting) f = f
+step-filled c word w h (trailing position) f = f
+step-filled c word w h (subcommand name) f = f
+step-filled c word w h value f = to-filled c (arg_by_index c w.position) word w h f
+
+turn-filled : (c : List Rule) (names : Names) (stop : Option (Text × List Text)) (w : Walk) (word : Text) → HasFlag c → IsFilled w.held → IsFilled (walked_from c names stop w word).held
+turn-filled c names (Some p) w word has f = f
+turn-filled c names None w word has f =
+    let met = word_met c names w.is_trailing w.waiting w.position word w.held in
+    step-filled c word w met.0 met.1 (word-filled c names w.is_trailing w.waiting w.position word w.held has f)
+
+walk-filled : (c : List Rule) (names : Names) (w : Walk) (words : List Text) → HasFlag c → IsFilled w.held → IsFilled (fold (walked c names) w words).held
+unfolding walked
+walk-filled c names w [] has f = f
+walk-filled c names w (word ∷ rest) has f = walk-filled c names (walked c names w word) rest has (turn-filled c names w.stopped w word has f)
+
+-- ---- defaults
+
+default-filled : (id : Text) (how : Reading) (values : List Text) (rows : List Row) → Filled rows → Filled (default_rows id how values rows)
+default-filled id how [] rows e = e
+default-filled id how (v ∷ vs) rows e = with_values-filled id how DefaultValue v vs rows e
+
+with_default-filled : (a : Rule) (rows : List Row) (b : Bool) → Filled rows → Filled (cond b rows (default_rows a.id (reading_by a) a.defaults rows))
+with_default-filled a rows true e = e
+with_default-filled a rows false e = default-filled a.id (reading_by a) a.defaults rows e
+
+defaults-filled : (rules : List Rule) (rows : List Row) → Filled rows → Filled (fold with_default rows rules)
+defaults-filled [] rows e = e
+defaults-filled (a ∷ rest) rows e = defaults-filled rest (with_default rows a) (with_default-filled a rows (has_row a.id rows) e)
+
+-- the rows at the end of a walk
+pub rows-filled : (c : List Rule) (names : Names) (w : Walk) (words : List Text) → HasFlag c → IsFilled w.held → Filled (finished c (fold (walked c names) w words).held)
+rows-filled c names w words has f = defaults-filled c _ (settle c _ (walk-filled c names w words has f)).rows
+
+-- ---- a row that is given has a first value
+
+given_here : (id : Text) (r : Row) (rs : List Row) (b : Bool) → Filled (r ∷ rs) → (is_given id rs ≡ true → is_some (first_of id rs) ≡ true)
+    → option_map_or (λ r. explicit_source r.source) (cond b (Some r) (find (λ r. bytes_eq r.id id) rs)) false ≡ true
+    → is_some (option_and_then (λ r. slice_get r.values 0) (cond b (Some r) (find (λ r. bytes_eq r.id id) rs))) ≡ true
+given_here id r rs true e below h = first_true (has_value r) (list_all has_value rs) e
+given_here id r rs false e below h = below h
+
+pub given_first : (id : Text) (rows : List Row) → Filled rows → is_given id rows ≡ true → is_some (first_of id rows) ≡ true
+given_first id [] e given = absurd (true≢false (sym given))
+given_first id (r ∷ rs) e given = given_here id r rs (bytes_eq r.id id) e (given_first id rs (second_true (has_value r) (list_all has_value rs) e)) given

@@ -1,0 +1,5 @@
+pub mod ClassesRead
+pub mod CommandLine
+pub mod JobNames
+pub mod JobThere
+pub mod JobValues

@@ -1,0 +1,11 @@
+//! The words of the program: which job they ask for, and what question.
+#![tactic(auto)]
+
+mod command_line;
+mod job;
+mod question;
+mod words;
+
+pub use job::Job;
+pub use question::{BadWord, Destination, Question, QuestionFault, question_of};
+pub use words::{WordsFault, job_of};
