@@ -2,10 +2,11 @@
 
 use crate::keeper::TableKeeper;
 use crate::reading::ReadImage;
+use crate::rows::StoredRows;
 use lrs_element::Link;
 use lrs_keep::{Change, CommitFault, Difference, Keeper, LoadFault};
 use lrs_machine::{Command, Edit, Image, Key};
-use sqlite::{Alter, MemStore, Transaction};
+use sqlite::MemStore;
 use std::alloc::Global;
 use std::process::Abort;
 
@@ -14,11 +15,7 @@ use std::process::Abort;
 struct Starved;
 
 impl ReadImage for Starved {
-    fn read<S: Alter>(
-        &self,
-        _alloc: Global,
-        _tx: &mut Transaction<'_, S>,
-    ) -> Result<Image, LoadFault> {
+    fn read(&self, _alloc: Global, _rows: StoredRows) -> Result<Image, LoadFault> {
         Err(LoadFault::Memory)
     }
 }
