@@ -6,6 +6,8 @@ mod keeper;
 mod memory;
 mod reading;
 pub mod rows;
+#[cfg(test)]
+mod tests;
 mod texts;
 
 pub use keeper::TableKeeper;
