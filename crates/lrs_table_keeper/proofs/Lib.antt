@@ -4,3 +4,5 @@ pub mod ReadLemmas
 pub mod CommitLemmas
 pub mod Sound
 pub mod NewLemmas
+pub mod RowLemmas
+pub mod LoadLemmas

@@ -48,24 +48,12 @@ pub record IsUsable (s : State) (in_transaction is_loaded : Bool) (edits : ℕ) 
   pub ready : IsReady s
   pub loaded : is_loaded ≡ true → HasEdits edits s
 
--- what reading says of rows: they hold the image, or their first unsound table is this
+-- What an image is read as: what the rows hold, unless memory runs out.
 abbrev pub Tells : Result Image LoadFault → Tables → Type 0
-Tells (Ok image) t = AreRowsOf image t
+Tells (Ok image) t = content_of t ≡ Ok image
 Tells (Err Memory) t = ⊤
-Tells (Err Store) t = ⊤
+Tells (Err Store) t = ⊥
 Tells (Err (Unsound table)) t = content_of t ≡ Err table
-
--- whether something was read
-abbrev pub has_read : Result Image LoadFault → Bool
-has_read (Ok image) = true
-has_read (Err Memory) = false
-has_read (Err Store) = false
-has_read (Err (Unsound table)) = true
-
--- What was read is what the rows say, and the store was open.
-pub record ReadsImage (r : Result Image LoadFault) (s : State) : Type 0 where
-  pub is_open : has_read r ≡ true → IsTrue s.is_open
-  pub tells : Tells r (stored s.now.trees)
 
 -- what may be found after a failed commit: what might before, or what the change makes of that
 abbrev pub IsOldOrChanged : (Result Image Table → Type 0) → Change → Result Image Table → Type 0

@@ -10,7 +10,7 @@ ghost use Rattle.lrs_table_keeper.specs.Holding.{MayHold, IsSafe};
 
 use crate::committing::write_next;
 use crate::memory::new_store;
-use crate::reading::{ReadImage, read_alone};
+use crate::reading::{ReadImage, Unloaded, load_from};
 use lrs_keep::{Change, CommitFault, Keeper, LoadFault};
 use lrs_machine::{Image, Table};
 use lrs_tables::tables::OpenFault;
@@ -114,15 +114,15 @@ impl<S: Alter, R: ReadImage> Keeper for TableKeeper<S, R> {
             self.failures = self.failures.saturating_add(1);
             return Err(LoadFault::Store);
         }
-        match read_alone(&self.reader, alloc, &mut self.conn) {
+        match load_from(&self.reader, alloc, &mut self.conn) {
             Ok(image) => {
                 self.edits = image.edits.len() as u64;
                 self.is_loaded = true;
                 Ok(image)
             }
-            Err(fault) => {
+            Err(Unloaded { fault, must_reopen }) => {
                 self.is_loaded = false;
-                self.is_broken = true;
+                self.is_broken = must_reopen;
                 self.failures = failures_after(self.failures, &fault);
                 Err(fault)
             }

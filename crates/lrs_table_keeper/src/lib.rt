@@ -5,6 +5,7 @@ mod committing;
 mod keeper;
 mod memory;
 mod reading;
+pub mod rows;
 #[cfg(test)]
 mod tests;
 mod texts;

@@ -1,11 +1,11 @@
-//! Changes are kept in a store in memory: no contract says that a store does not always answer a fault.
+//! All rows of a store in memory are read: no contract says that a store does not always answer a fault.
 
 use crate::keeper::TableKeeper;
 use crate::reading::ReadImage;
-use lrs_element::Link;
-use lrs_keep::{Change, CommitFault, Difference, Keeper, LoadFault};
-use lrs_machine::{Command, Edit, Image, Key};
-use sqlite::{Alter, MemStore, Transaction};
+use crate::rows::StoredRows;
+use lrs_keep::{Keeper, LoadFault};
+use lrs_machine::Image;
+use sqlite::MemStore;
 use std::alloc::Global;
 use std::process::Abort;
 
@@ -14,29 +14,8 @@ use std::process::Abort;
 struct Starved;
 
 impl ReadImage for Starved {
-    fn read<S: Alter>(
-        &self,
-        _alloc: Global,
-        _tx: &mut Transaction<'_, S>,
-    ) -> Result<Image, LoadFault> {
+    fn read(&self, _alloc: Global, _rows: StoredRows) -> Result<Image, LoadFault> {
         Err(LoadFault::Memory)
-    }
-}
-
-/// The change that makes a link, under a key.
-fn link(rt: &(impl Abort + AllocGlobal), number: u32, key: &str) -> Change {
-    let alloc = rt.alloc();
-    let link = Link {
-        number,
-        length: 5_000,
-    };
-    let line = Command::Link(link).line(alloc).expect(rt, "memory");
-    let key = Key::new(key.as_bytes()).expect(rt, "a key");
-    let mut difference = Difference::none(alloc);
-    difference.link = Some(link);
-    Change {
-        edit: Edit { key, line },
-        difference,
     }
 }
 
@@ -47,9 +26,15 @@ fn new_keeper(rt: &(impl Abort + AllocGlobal)) -> TableKeeper<MemStore, Starved>
     }
 }
 
+/// All rows are read, and then the reader has no memory.
+fn starves(rt: &(impl Abort + AllocGlobal), keeper: &mut TableKeeper<MemStore, Starved>) {
+    let loaded = keeper.load(rt.alloc());
+    assert!(rt; matches!(&loaded, Err(LoadFault::Memory)));
+}
+
 #[test]
-fn two_changes_are_kept(rt: HostRuntime) {
+fn all_rows_are_read_again_after_want_of_memory(rt: HostRuntime) {
     let mut keeper = new_keeper(&rt);
-    assert!(rt; keeper.commit(&link(&rt, 1, "s1")).is_ok());
-    assert!(rt; keeper.commit(&link(&rt, 2, "s2")).is_ok());
+    starves(&rt, &mut keeper);
+    starves(&rt, &mut keeper);
 }
