@@ -3,7 +3,6 @@ use Rattle.std.proofs.Common.{◌≡◌, Result, Ok, Err, refl, sym, subst}
 use Rattle.std.specs.Prelude.{IfOk}
 use Rattle.lrs_machine.specs.declared.table.Table.{Table}
 use Rattle.lrs_keep.specs.declared.keeper.LoadFault.{LoadFault}
-use Rattle.lrs_keep.specs.declared.keeper.LoadFault.TheVariants as load
 use Rattle.lrs_load_routes.specs.declared.fault.ReadFault.{ReadFault}
 use Rattle.lrs_load_routes.specs.declared.fault.ReadFault.TheVariants.{Memory, Unsound}
 use Rattle.lrs_load.specs.Loading.{Loads}
