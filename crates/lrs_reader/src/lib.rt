@@ -2,7 +2,9 @@
 #![tactic(auto)]
 
 mod cells;
+mod entries;
 mod fault;
 mod routes;
 
+pub use entries::load_entries;
 pub use routes::{load_courses, load_marks, load_referents, load_spans};
