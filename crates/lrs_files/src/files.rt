@@ -73,7 +73,10 @@ pub enum CloseFault {
     Store,
 }
 
-fn close_fault_of(error: Error) -> CloseFault {
+fn close_fault_of(error: Error) -> CloseFault
+    ensures memory { error ≡ Error.SqliteFailure ErrorCode.OutOfMemory → result ≡ CloseFault.Memory }
+    ensures only { result ≡ CloseFault.Memory → error ≡ Error.SqliteFailure ErrorCode.OutOfMemory }
+{
     match error {
         Error::SqliteFailure(ErrorCode::OutOfMemory) => CloseFault::Memory,
         _ => CloseFault::Store,

@@ -47,7 +47,10 @@ pub fn grow<S: Alter>(conn: &mut Connection<S>) -> Result<(), Error>
 }
 
 /// Why a store is not opened, by what its connection answered.
-pub fn fault_of(error: Error) -> OpenFault {
+pub fn fault_of(error: Error) -> OpenFault
+    ensures memory { error ≡ Error.SqliteFailure ErrorCode.OutOfMemory → result ≡ OpenFault.Memory }
+    ensures only { result ≡ OpenFault.Memory → error ≡ Error.SqliteFailure ErrorCode.OutOfMemory }
+{
     match error {
         Error::SqliteFailure(ErrorCode::OutOfMemory) => OpenFault::Memory,
         _ => OpenFault::Store,
