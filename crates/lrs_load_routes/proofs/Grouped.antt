@@ -21,7 +21,7 @@ use Rattle.lrs_sound.proofs.Sweeping.{each_two-permutation}
 use Rattle.lrs_store.specs.Decoding.{OfRoute, Numbered, number_before, sorted, counted, only_if}
 use Rattle.lrs_store.specs.Decoding as option
 use Rattle.lrs_load_routes.specs.Grouping.{route_before}
-use Rattle.lrs_load_routes.proofs.Unordered.{sort_alike, sorted_in_order}
+use Rattle.lrs_content.proofs.Unordered.{sort_alike, sorted_in_order}
 
 pub names_rank : IsStrictWeakOrder name_before
 names_rank = ranks_by nat_list_cmp_total (λ (c : Name). c)

@@ -1,4 +1,3 @@
-pub mod Unordered
 pub mod Each
 pub mod Grouped
 pub mod Coursing

@@ -23,7 +23,7 @@ use Rattle.lrs_store.specs.Decoding as option
 use Rattle.lrs_store.specs.Content.{each_of_known, Measured, is_one_of, measured_with, measured_of}
 use Rattle.lrs_load_routes.specs.Courses.{passing}
 use Rattle.lrs_load_routes.specs.Measuring.{is_name_of, known, are_route_courses, courses_of_measured, good_measured, are_all_measured}
-use Rattle.lrs_load_routes.proofs.Unordered.{IsPermutation-filter}
+use Rattle.lrs_content.proofs.Unordered.{IsPermutation-filter}
 use Rattle.lrs_load_routes.proofs.Grouped.{counted_alike}
 use Rattle.lrs_load_routes.proofs.Searching.{names_sorted}
 use Rattle.lrs_load_routes.proofs.Reading.{each_of-passing, each_of-same}

@@ -19,7 +19,7 @@ use Rattle.lrs_sound.proofs.Keyed.{two_pass, place_in, member_at}
 use Rattle.lrs_store.specs.Decoding.{OfRoute}
 use Rattle.lrs_store.specs.Content.{with_name, routes_named}
 use Rattle.lrs_load_routes.specs.Grouping.{route_before, ends_with}
-use Rattle.lrs_load_routes.proofs.Unordered.{insert_by-comm}
+use Rattle.lrs_content.proofs.Unordered.{insert_by-comm}
 use Rattle.lrs_load_routes.proofs.Grouped.{names_rank, names_tell, routes_rank}
 
 any-insert_by : (p : Name → Bool) (x : Name) (xs : List Name) → list_any p (insert_by name_before x xs) ≡ (p x || list_any p xs)

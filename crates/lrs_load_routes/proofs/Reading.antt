@@ -24,7 +24,7 @@ use Rattle.lrs_store.specs.Decoding.{each_of, only_if, OfRoute, Numbered, number
 use Rattle.lrs_store.specs.Decoding as option
 use Rattle.lrs_store.specs.Content.{read, routes_named, course_in_fewest, course_of_route, courses_of}
 use Rattle.lrs_load_routes.specs.Courses.{is_good_course, good_course, good_route, fit_together, passing}
-use Rattle.lrs_load_routes.proofs.Unordered.{IsPermutation-filter}
+use Rattle.lrs_content.proofs.Unordered.{IsPermutation-filter}
 use Rattle.lrs_load_routes.proofs.Grouped.{counted_alike}
 use Rattle.lrs_load_routes.proofs.Naming.{routes_named-permutation, routes_named_rise}
 

@@ -23,7 +23,7 @@ use Rattle.lrs_store.specs.Content.{each_of_known, Measured, referent_before, re
 use Rattle.lrs_load_routes.specs.Courses.{passing}
 use Rattle.lrs_load_routes.specs.Measuring.{is_name_of, known, are_route_courses, courses_of_measured, are_all_measured}
 use Rattle.lrs_load_routes.specs.Referring.{is_measured, route_if, are_all_referred, courses_of_routes}
-use Rattle.lrs_load_routes.proofs.Unordered.{sort_alike, sorted_in_order}
+use Rattle.lrs_content.proofs.Unordered.{sort_alike, sorted_in_order}
 use Rattle.lrs_load_routes.proofs.Grouped.{sorted_strict}
 use Rattle.lrs_load_routes.proofs.Reading.{each_of-same}
 use Rattle.lrs_load_routes.proofs.Measuring.{each_known_of, said_of-permutation, passed, each_of-back, names_rise}

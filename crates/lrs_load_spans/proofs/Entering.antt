@@ -29,7 +29,7 @@ use Rattle.lrs_store.specs.Decoding.{each_of, only_if, OfRoute, said_of, sorted,
 use Rattle.lrs_store.specs.Decoding as option
 use Rattle.lrs_store.specs.Content.{each_of_known, entry_with, entries_of, spans_of}
 use Rattle.lrs_load_routes.specs.Courses.{passing}
-use Rattle.lrs_load_routes.proofs.Unordered.{IsPermutation-filter}
+use Rattle.lrs_content.proofs.Unordered.{IsPermutation-filter}
 use Rattle.lrs_load_routes.proofs.Reading.{each_of-passing}
 use Rattle.lrs_load_spans.specs.Spans.{named_before, is_one_of, agree, agree_said, canonical_entry, courses_over, are_sound}
 use Rattle.lrs_load_spans.proofs.Fitting.{canonical-permutation}

@@ -18,7 +18,7 @@ use Rattle.lrs_machine.proofs.Members.{all_at, all_of}
 use Rattle.lrs_sound.proofs.Keyed.{two_pass}
 use Rattle.lrs_sound.proofs.Rising.{rises}
 use Rattle.lrs_store.specs.Decoding.{sorted, only_if}
-use Rattle.lrs_load_routes.proofs.Unordered.{sort_alike, sorted_is}
+use Rattle.lrs_content.proofs.Unordered.{sort_alike, sorted_is}
 use Rattle.lrs_load_routes.proofs.Grouped.{sorted_strict, names_rank}
 use Rattle.lrs_load_spans.specs.Spans.{agree, follows, canonical}
 
