@@ -3,14 +3,16 @@
 import pathlib
 import tempfile
 
+import pytest
+
 from program import FIRST, FIRST_REPLIES, HEADER, after_first, ends, faults, lines, record, replies, run, run_sheet, sheet_of
 
 MARK = b"\xef\xbb\xbf"
 
 
-def test_empty_sheet_has_no_reply():
-    for sheet in [b"", HEADER, HEADER.rstrip(b"\n"), b"\n", b"\r\n\r\n\n", HEADER + b"\n\r\n"]:
-        ends(run_sheet(sheet), b"", 0)
+@pytest.mark.parametrize("sheet", [b"", HEADER, HEADER.rstrip(b"\n"), b"\n", b"\r\n\r\n\n", HEADER + b"\n\r\n"])
+def test_empty_sheet_has_no_reply(sheet):
+    ends(run_sheet(sheet), b"", 0)
 
 
 def test_first_sheet():
@@ -183,8 +185,9 @@ def test_keys():
     )
 
 
-def test_unknown_verbs():
-    replies(*((f"k,{verb},0,0", "k,refused,Malformed:verb") for verb in ["", "Link", "links", "LINK", " link", "edit"]))
+@pytest.mark.parametrize("verb", ["", "Link", "links", "LINK", " link", "edit"])
+def test_unknown_verbs(verb):
+    replies((f"k,{verb},0,0", "k,refused,Malformed:verb"))
 
 
 def test_repeated_keys():
@@ -203,24 +206,32 @@ def test_repeated_keys():
     )
 
 
-def test_headers_that_are_refused():
-    good = HEADER.rstrip(b"\n")
-    for header in [
+GOOD = HEADER.rstrip(b"\n")
+
+
+@pytest.mark.parametrize(
+    "header",
+    [
         b"key,verb",
         b"key",
         b"key,asset,class,route,side,method,from,to,value,offset",
-        good + b",",
-        good + b",j",
-        good[:-2],
-        good.upper(),
-        good + b" ",
-        b" " + good,
-        good.replace(b"verb", b"Verb"),
-        good.replace(b",", b";"),
+        GOOD + b",",
+        GOOD + b",j",
+        GOOD[:-2],
+        GOOD.upper(),
+        GOOD + b" ",
+        b" " + GOOD,
+        GOOD.replace(b"verb", b"Verb"),
+        GOOD.replace(b",", b";"),
         b"k1,link,1,5,,,,,,,",
-    ]:
-        faults(run_sheet(header + b"\nk1,link,1,5,,,,,,,\n"), "BadHeader")
-        faults(run_sheet(header), "BadHeader")
+    ],
+)
+def test_headers_that_are_refused(header):
+    faults(run_sheet(header + b"\nk1,link,1,5,,,,,,,\n"), "BadHeader")
+    faults(run_sheet(header), "BadHeader")
+
+
+def test_a_header_of_two_fields_and_an_empty_record():
     faults(run_sheet(b"key,verb\n\n,,,\n"), "BadHeader")
 
 
@@ -233,12 +244,17 @@ def test_records_of_another_length():
     faults(run_sheet(HEADER + b'"'), "BadCsv")
 
 
-def test_line_ends():
-    for end in [b"\n", b"\r", b"\r\n", b"\n\n", b"\r\r\n", b"\n\r\n\n"]:
-        sheet = FIRST.replace(b"\n", end)
-        ends(run_sheet(sheet), FIRST_REPLIES, 0)
-        ends(run_sheet(end + sheet), FIRST_REPLIES, 0)
-        ends(run_sheet(sheet[: -len(end)]), FIRST_REPLIES, 0)
+def test_a_torn_quote():
+    faults(run_sheet(HEADER + b'k1,"link'), "BadCsv")
+    faults(run_sheet(FIRST + b'k1,"link'), "BadCsv", FIRST_REPLIES)
+
+
+@pytest.mark.parametrize("end", [b"\n", b"\r", b"\r\n", b"\n\n", b"\r\r\n", b"\n\r\n\n"])
+def test_line_ends(end):
+    sheet = FIRST.replace(b"\n", end)
+    ends(run_sheet(sheet), FIRST_REPLIES, 0)
+    ends(run_sheet(end + sheet), FIRST_REPLIES, 0)
+    ends(run_sheet(sheet[: -len(end)]), FIRST_REPLIES, 0)
 
 
 def test_quoted_fields():

@@ -1,5 +1,7 @@
 """Sheets from hostile hands: after each one the replies or the fault are exact, and nothing else was changed."""
 
+import pytest
+
 from program import FIRST, FIRST_REPLIES, HEADER, ends, faults, lines, record, run, run_sheet
 
 SURVEY_HEADER = b"key,asset,class,route,side,method,from,to,value,offset\n"
@@ -56,15 +58,15 @@ def test_numbers_of_a_thousand_digits():
     ends(run_sheet(HEADER + record(f"k,link,{zeros}1,{zeros}5000") + record("k,link,1,5000")), lines("k,done,1", "k,again,1"), 0)
 
 
-def test_bytes_that_are_no_text():
-    for byte in [b"\0", b"\x80", b"\xff", b"\xc3\x28", b"\xed\xa0\x80", b"\xf8\x88\x80\x80\x80", b"\x1b", b"\x7f"]:
-        survives(b"k" + byte + b",link,1,5000,,,,,,,\n", "-,refused,Malformed:key")
-        survives(b"k,link" + byte + b",1,5000,,,,,,,\n", "k,refused,Malformed:verb")
-        survives(b"k,link,1" + byte + b",5000,,,,,,,\n", "k,refused,Malformed:a")
-        survives(b"k,link,1,5000,,,,,,," + byte + b"\n", "k,refused,Malformed:i")
-        survives(b"k,class,S" + byte + b",point,,,,,,,\n", "k,refused,Malformed:a")
-        survives(b"k,enter,10,SPEED,A1,B,abs,1,2,8" + byte + b",0\n", "k,refused,Malformed:h")
-        faults(run_sheet(byte + HEADER + PROBE), "BadHeader")
+@pytest.mark.parametrize("byte", [b"\0", b"\x80", b"\xff", b"\xc3\x28", b"\xed\xa0\x80", b"\xf8\x88\x80\x80\x80", b"\x1b", b"\x7f"])
+def test_bytes_that_are_no_text(byte):
+    survives(b"k" + byte + b",link,1,5000,,,,,,,\n", "-,refused,Malformed:key")
+    survives(b"k,link" + byte + b",1,5000,,,,,,,\n", "k,refused,Malformed:verb")
+    survives(b"k,link,1" + byte + b",5000,,,,,,,\n", "k,refused,Malformed:a")
+    survives(b"k,link,1,5000,,,,,,," + byte + b"\n", "k,refused,Malformed:i")
+    survives(b"k,class,S" + byte + b",point,,,,,,,\n", "k,refused,Malformed:a")
+    survives(b"k,enter,10,SPEED,A1,B,abs,1,2,8" + byte + b",0\n", "k,refused,Malformed:h")
+    faults(run_sheet(byte + HEADER + PROBE), "BadHeader")
 
 
 def test_bytes_of_all_values():

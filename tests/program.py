@@ -17,9 +17,6 @@ HEADER = b"key,verb,a,b,c,d,e,f,g,h,i\n"
 # Seconds that a run may take on a machine with much beside it.
 PATIENCE = 600
 
-# The program is built once, before the first test, however long that takes; no test is tried without it.
-subprocess.run([PROGRAM, "--help"], stdin=subprocess.DEVNULL, stdout=subprocess.DEVNULL, check=True)
-
 
 class Ended:
     """What a run wrote, as far as that was caught, and its status."""

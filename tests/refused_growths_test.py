@@ -1,80 +1,67 @@
-"""Want of memory: the tests of refused growths (crates/*/src/refused.rt) run with one allocation refused, each in turn."""
+"""Want of memory: the proved tests of refused growths (crates/*/src/refused.rt) run with one allocation refused, each in turn."""
 
-import concurrent.futures
-import os
 import pathlib
 import re
 import subprocess
 
+from refusing import with_each_refused
+
 CRATES = pathlib.Path(__file__).resolve().parent.parent / "crates"
 
-# Above the number of allocations that one of those tests makes.
-MOST_ALLOCATIONS = 200
 
-# How many runs there are side by side.
-RUNS = min(os.cpu_count() or 2, 4)
-
-
-def run_refusing(crate, allocation):
-    """What the crate's tests print where this allocation of each of them fails; rt try needs no proof for that."""
-    command = ["rt", "try", "--test", "--fail-alloc", str(allocation)]
-    where = {"cwd": CRATES / crate, "stdin": subprocess.DEVNULL, "stdout": subprocess.PIPE, "stderr": subprocess.STDOUT}
-    return subprocess.run(command, text=True, timeout=1800, **where).stdout
+def proved_tests(crate):
+    """The program of the crate's proved tests, which rt ci makes, and the names of those of refused growths."""
+    program = CRATES / crate / "out" / f"{crate}_tests"
+    if not program.exists():
+        subprocess.run(["rt", "test"], cwd=CRATES / crate, stdin=subprocess.DEVNULL, check=True)
+    listed = subprocess.run([program, "--list"], capture_output=True, text=True, check=True).stdout
+    return program, re.findall(r"\brefused::\w+", listed)
 
 
-def refused_calls(printed):
-    """The calls that were refused a growth; each test of them passed. The crate's other tests may fail for it."""
-    assert re.search(r"^run=ended ", printed, re.M), printed
-    results = re.findall(r"^test refused::\w+ \.\.\. (\w+)$", printed, re.M)
-    assert results and set(results) == {"ok"}, printed
-    return set(re.findall(r"^ +refused: (\S+)$", printed, re.M))
-
-
-def each_refused_call(crate, step=1, start=1, least=1, most=MOST_ALLOCATIONS):
-    """The calls that were refused, with each step-th allocation from the start on refused until none is left to refuse.
-
-    Before the least allocation there are some that no test tells of, since they only make what a call is tried on."""
+def refused_calls(crate):
+    """The calls that were refused a growth while each allocation of each test was refused in turn. Each test passed all the same."""
+    program, names = proved_tests(crate)
+    assert names, crate
     refused = set()
-    with concurrent.futures.ThreadPoolExecutor(RUNS) as pool:
-        for first in range(start, most, RUNS * step):
-            last = first + RUNS * step
-            runs = pool.map(lambda n: run_refusing(crate, n), range(first, last, step))
-            calls = [refused_calls(printed) for printed in runs]
-            refused.update(*calls)
-            if first >= least and not all(calls):
-                return refused
-    raise AssertionError(f"{crate}: a test makes {most} allocations or more")
+    for name in names:
+
+        def test(refusal, name=name):
+            ended = refusal.run(program, name)
+            assert ended.status == 0, (crate, name, refusal.number, ended)
+            # (some allocations only make what a call is tried on: no test tells of those)
+            refused.update(call.decode() for call in re.findall(rb"^refused: (\S+)$", ended.stdout, re.M))
+
+        assert with_each_refused("ALLOCATION", test) > 0, (crate, name)
+    return refused
 
 
 def test_courses_and_marks_bear_a_refused_growth():
     courses = {f"Course::{call}" for call in ("new", "copy", "cut", "concat", "replace", "turned")}
     marks = {f"Marks::{call}" for call in ("copy", "cut", "join", "mirrored")}
-    assert each_refused_call("lrs_element") == courses | marks
+    assert refused_calls("lrs_element_tests") == courses | marks
 
 
 def test_parts_of_a_ledger_bear_a_refused_growth():
-    assert each_refused_call("lrs_parts", least=5) == {"parts", "gone"}
+    assert refused_calls("lrs_parts") == {"parts", "gone"}
 
 
 def test_a_desk_bears_a_refused_growth():
-    assert each_refused_call("lrs_desk_tests", step=4) >= {"Desk::open", "run", "link", "class", "route"}
+    assert refused_calls("lrs_desk_tests") >= {"Desk::open", "run", "link", "class", "route"}
 
 
 def test_a_sheet_of_all_verbs_bears_a_refused_growth():
-    assert each_refused_call("lrs_sheet_tests", step=97, most=4_000) >= {"run_edits"}
+    assert refused_calls("lrs_sheet_tests") >= {"run_edits"}
 
 
 def test_deciding_soundness_bears_a_refused_growth():
-    # The image takes some 20 allocations; then each one of the call is refused.
-    assert each_refused_call("lrs_sound_tests", start=19) == {"image_of", "first_unsound"}
+    assert refused_calls("lrs_sound_tests") == {"image_of", "first_unsound"}
 
 
 def test_segments_bear_a_refused_growth():
-    # The route, its rows and the classes take the allocations before these.
-    assert each_refused_call("lrs_segments", start=13) == {"segments"}
+    assert refused_calls("lrs_segments_tests") == {"segments"}
 
 
 def test_spans_bear_a_refused_growth():
     changes = ("add", "remove_within", "remove_asset_within", "remove_class_places", "cut", "concat", "turned")
     calls = (*changes, "of_rows", "copy", "at", "met")
-    assert each_refused_call("lrs_spans_tests", least=27) == {f"Spans::{call}" for call in calls}
+    assert refused_calls("lrs_spans_tests") == {f"Spans::{call}" for call in calls}

@@ -8,6 +8,8 @@ import subprocess
 import sys
 import tempfile
 
+import pytest
+
 from program import TOP, ends, run
 
 CRATES = TOP / "crates"
@@ -82,10 +84,28 @@ def test_each_crate_has_a_root_with_tactics_and_a_line_on_what_it_is():
         assert "#![tactic(auto)]" in text, name
 
 
+def wrong_bodies(name):
+    """The wrong bodies of a crate: those that the gate tries, and those that are tried when the crate changes."""
+    return [*sorted((CRATES / name / "must-fail").glob("*.edit")), *sorted((CRATES / name / "wrong-bodies").glob("*.edit"))]
+
+
 def test_no_crate_has_more_than_fifteen_wrong_bodies():
     for name in crates_listed():
-        edits = sorted((CRATES / name / "must-fail").glob("*.edit"))
+        edits = wrong_bodies(name)
         assert len(edits) <= 15, (name, len(edits))
+        assert len({edit.name for edit in edits}) == len(edits), name
+
+
+def test_each_wrong_body_still_stands_in_its_crate():
+    for name in crates_listed():
+        for edit in wrong_bodies(name):
+            text = ""
+            for line in edit.read_text().splitlines():
+                word, _, rest = line.partition(": ")
+                if word == "file":
+                    text = (CRATES / name / rest).read_text()
+                elif word == "old":
+                    assert text.count(rest) == 1, (edit, rest)
 
 
 def test_no_file_is_too_long():
@@ -94,15 +114,27 @@ def test_no_file_is_too_long():
             assert len(path.read_text().splitlines()) <= 600, path
 
 
+def black_box_tests(folder, **files):
+    """Makes a copy of the black-box tests' settings beside these files of tests, in which nothing is to be built."""
+    (folder / "tests").mkdir()
+    shutil.copy(TOP / "pytest.ini", folder)
+    for name in ["conftest.py", "program.py"]:
+        shutil.copy(TOP / "tests" / name, folder / "tests")
+    for name, text in files.items():
+        (folder / "tests" / f"{name}_test.py").write_text(text)
+
+
+NOTHING_BUILT = {"ROADLRS": "/bin/true"}
+
+
 def run_test_script(folder_of_commands):
-    """Runs a copy of ./test over an empty set of black-box tests, with these commands alone on the path."""
+    """Runs a copy of ./test over two black-box tests, with these commands alone on the path."""
     with tempfile.TemporaryDirectory() as folder:
         copy = pathlib.Path(folder)
         (copy / "test").write_text((TOP / "test").read_text())
-        (copy / "tests").mkdir()
-        (copy / "tests" / "run.py").write_text('print("2 passed, 0 failed")\n')
+        black_box_tests(copy, a="def test_a(): pass\ndef test_b(): pass\n")
         python = pathlib.Path(sys.executable).parent
-        env = {"PATH": f"{folder_of_commands}:{python}:/usr/bin:/bin", "HOME": folder}
+        env = {"PATH": f"{folder_of_commands}:{python}:/usr/bin:/bin", "HOME": folder, **NOTHING_BUILT}
         return subprocess.run(["bash", str(copy / "test")], env=env, capture_output=True, text=True, timeout=600)
 
 
@@ -141,26 +173,51 @@ def test_the_gate_fails_where_the_prover_is_not_there():
     assert done.returncode != 0
 
 
-def run_black_box_tests(**files):
-    """Runs a copy of tests/run.py beside these files of tests."""
+def run_black_box_tests(*words, **files):
+    """The last line and the status of a run of these files of tests."""
     with tempfile.TemporaryDirectory() as folder:
-        shutil.copy(TOP / "tests" / "run.py", folder)
-        for name, text in files.items():
-            (pathlib.Path(folder) / f"{name}_test.py").write_text(text)
-        return subprocess.run([sys.executable, f"{folder}/run.py"], capture_output=True, text=True, timeout=600)
+        black_box_tests(pathlib.Path(folder), **files)
+        command = [sys.executable, "-B", "-m", "pytest", *words]
+        settings = {"capture_output": True, "text": True, "timeout": 600, "env": {**os.environ, **NOTHING_BUILT}}
+        done = subprocess.run(command, cwd=folder, **settings)
+        return done.stdout.splitlines()[-1], done.returncode
 
 
 def test_the_black_box_tests_are_counted():
-    done = run_black_box_tests(a="def test_a(): pass\ndef other(): assert False\n", b="def test_b(): assert 1 + 1 == 2\n")
-    assert (done.stdout, done.returncode) == ("2 passed, 0 failed\n", 0), done
+    given = {"a": "def test_a(): pass\ndef other(): assert False\n", "b": "def test_b(): assert 1 + 1 == 2\n"}
+    for words in [[], ["-q"], ["-v"], ["-q", "tests"]]:
+        assert run_black_box_tests(*words, **given) == ("2 passed, 0 failed", 0)
 
 
-def test_a_black_box_test_that_fails_fails_the_run():
-    done = run_black_box_tests(a="def test_a(): pass\n", b="def test_b(): assert False\ndef test_c(): pass\n")
-    assert done.stdout.splitlines()[-1] == "2 passed, 1 failed" and done.returncode == 1, done
+@pytest.mark.parametrize(
+    "bad",
+    [
+        "def test_b(): assert False\n",
+        "def test_b(missing): pass\n",
+        "import pytest\ndef test_b(): pytest.skip()\n",
+        "import pytest\n@pytest.mark.xfail\ndef test_b(): pass\n",
+    ],
+)
+def test_a_black_box_test_that_fails_or_is_left_out_fails_the_run(bad):
+    line, status = run_black_box_tests(a="def test_a(): pass\n", b=bad + "def test_c(): pass\n")
+    assert line == "2 passed, 1 failed"
+    assert status == 1 or "assert False" not in bad
 
 
-def test_black_box_tests_that_cannot_be_loaded_fail_the_run():
-    for text in ["no Python\n", "import no_such_module\n"]:
-        done = run_black_box_tests(a="def test_a(): pass\n", b=text)
-        assert done.stdout.splitlines()[-1] == "0 passed, 1 failed" and done.returncode == 1, done
+@pytest.mark.parametrize("text", ["no Python\n", "import no_such_module\n"])
+def test_black_box_tests_that_cannot_be_loaded_fail_the_run(text):
+    line, status = run_black_box_tests(a="def test_a(): pass\n", b=text)
+    assert line == "0 passed, 1 failed" and status != 0
+
+
+def test_a_run_of_no_black_box_test_fails():
+    line, status = run_black_box_tests(a="def other(): pass\n")
+    assert line == "0 passed, 0 failed" and status != 0
+
+
+def test_no_black_box_test_passes_where_the_program_cannot_be_built():
+    with tempfile.TemporaryDirectory() as folder:
+        black_box_tests(pathlib.Path(folder), a="def test_a(): pass\ndef test_b(): pass\n")
+        command = [sys.executable, "-B", "-m", "pytest"]
+        done = subprocess.run(command, cwd=folder, capture_output=True, text=True, timeout=600, env={**os.environ, "ROADLRS": "/bin/false"})
+        assert done.stdout.splitlines()[-1] == "0 passed, 2 failed" and done.returncode == 1, done

@@ -51,7 +51,7 @@ def test_a_full_device_is_no_fault_where_there_is_no_reply():
 
 
 def test_help_to_a_full_device():
-    for words in [["--help"], ["edit", "--help"]]:
+    for words in [["--help"], ["edit", "--help"], ["strip", "--help"], ["--version"]]:
         faults(onto_full_device(*words), "Write")
 
 

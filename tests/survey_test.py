@@ -6,6 +6,8 @@ What a survey enters where there are classes and routes is tested where two shee
 import pathlib
 import tempfile
 
+import pytest
+
 from program import FIRST, ends, faults, lines, run
 
 HEADER = b"key,asset,class,route,side,method,from,to,value,offset\n"
@@ -24,9 +26,9 @@ def replies(*rows):
     ends(run_survey(sheet), lines(*(reply for _, reply in rows)), 1)
 
 
-def test_empty_survey_has_no_reply():
-    for sheet in [b"", HEADER, HEADER.rstrip(b"\n"), b"\n", b"\r\n\r\n\n", HEADER + b"\n\r\n", MARK]:
-        ends(run_survey(sheet), b"", 0)
+@pytest.mark.parametrize("sheet", [b"", HEADER, HEADER.rstrip(b"\n"), b"\n", b"\r\n\r\n\n", HEADER + b"\n\r\n", MARK])
+def test_empty_survey_has_no_reply(sheet):
+    ends(run_survey(sheet), b"", 0)
 
 
 def test_a_survey_is_a_file_or_the_standard_input():

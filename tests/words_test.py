@@ -5,6 +5,8 @@ import pathlib
 import tempfile
 import threading
 
+import pytest
+
 from program import BUILT, FIRST, FIRST_REPLIES, PROGRAM, ends, faults, run
 
 
@@ -13,10 +15,12 @@ def is_misused(ended):
     assert (ended.stdout, ended.status) == (b"", 2) and ended.stderr, ended
 
 
-def test_words_that_are_no_text():
-    understood = ["edit", ":memory:", "stdin"]
-    for words in [[b"\xff"], [*understood, b"\xff"], ["edit", b"\xff", "stdin"], ["edit", ":memory:", b"\xff"]]:
-        ends(run(*words, given=FIRST), b"", 2, b"error: a word is not UTF-8\n")
+UNDERSTOOD = ["edit", ":memory:", "stdin"]
+
+
+@pytest.mark.parametrize("words", [[b"\xff"], [*UNDERSTOOD, b"\xff"], ["edit", b"\xff", "stdin"], ["edit", ":memory:", b"\xff"]])
+def test_words_that_are_no_text(words):
+    ends(run(*words, given=FIRST), b"", 2, b"error: a word is not UTF-8\n")
 
 
 def test_a_sheet_whose_path_is_no_text():
@@ -30,29 +34,32 @@ def test_a_sheet_whose_path_is_no_text():
             ends(run("edit", ":memory:", "stdin", given=None, stdin=sheet), FIRST_REPLIES, 0)
 
 
-def test_paths_of_all_kinds():
-    names = ["a sheet", " ", "a\nsheet", "\n", "a\tb", "a,b", "it's", '"sheet"', "$HOME", "*", "\\"]
-    names += ["\u00e9\u9053", "stdin ", ":memory:", "edit"]
-    with tempfile.TemporaryDirectory() as folder:
-        for name in names:
-            (pathlib.Path(folder) / name).write_bytes(FIRST)
-            ends(run("edit", ":memory:", f"{folder}/{name}"), FIRST_REPLIES, 0)
-            ends(run("edit", ":memory:", name, cwd=folder), FIRST_REPLIES, 0)
+NAMES = ["a sheet", " ", "a\nsheet", "\n", "a\tb", "a,b", "it's", '"sheet"', "$HOME", "*", "\\"]
+NAMES += ["\u00e9\u9053", "stdin ", ":memory:", "edit"]
 
 
-def test_paths_that_begin_with_a_dash():
-    with tempfile.TemporaryDirectory() as folder:
-        for name in ["-", "--", "-h", "--help"]:
-            (pathlib.Path(folder) / name).write_bytes(FIRST)
-            ends(run("edit", ":memory:", "--", name, cwd=folder), FIRST_REPLIES, 0)
-            ends(run("edit", ":memory:", f"./{name}", cwd=folder), FIRST_REPLIES, 0)
+@pytest.mark.parametrize("name", NAMES)
+def test_paths_of_all_kinds(name, tmp_path):
+    (tmp_path / name).write_bytes(FIRST)
+    ends(run("edit", ":memory:", f"{tmp_path}/{name}"), FIRST_REPLIES, 0)
+    ends(run("edit", ":memory:", name, cwd=tmp_path), FIRST_REPLIES, 0)
 
 
-def test_paths_that_lead_nowhere():
-    for path in ["", "/", "/dev/null/sheet", "s" * 256, "s/" * 3000, "stdin\n"]:
-        faults(run("edit", ":memory:", path, given=FIRST), "Read")
-    for path in ["", "/", "/dev/null/db", "s" * 256]:
-        faults(run("edit", path, "stdin", given=FIRST), "Open")
+@pytest.mark.parametrize("name", ["-", "--", "-h", "--help"])
+def test_paths_that_begin_with_a_dash(name, tmp_path):
+    (tmp_path / name).write_bytes(FIRST)
+    ends(run("edit", ":memory:", "--", name, cwd=tmp_path), FIRST_REPLIES, 0)
+    ends(run("edit", ":memory:", f"./{name}", cwd=tmp_path), FIRST_REPLIES, 0)
+
+
+@pytest.mark.parametrize("path", ["", "/", "/dev/null/sheet", "s" * 256, "s/" * 3000, "stdin\n"])
+def test_sheets_that_lead_nowhere(path):
+    faults(run("edit", ":memory:", path, given=FIRST), "Read")
+
+
+@pytest.mark.parametrize("path", ["", "/", "/dev/null/db", "s" * 256])
+def test_inventories_that_lead_nowhere(path):
+    faults(run("edit", path, "stdin", given=FIRST), "Open")
 
 
 def test_sheets_that_are_no_plain_files():
@@ -67,34 +74,38 @@ def test_sheets_that_are_no_plain_files():
         writer.join()
 
 
-def test_words_that_are_not_understood():
-    understood = ["edit", ":memory:", "stdin"]
-    for words in [
+@pytest.mark.parametrize(
+    "words",
+    [
         [],
         [""],
         ["-"],
         ["--"],
-        ["--version"],
-        ["edits", *understood[1:]],
-        ["EDIT", *understood[1:]],
+        ["edits", *UNDERSTOOD[1:]],
+        ["EDIT", *UNDERSTOOD[1:]],
         ["edit"],
         ["edit", ":memory:"],
-        ["edit", "--fast", *understood[1:]],
-        [*understood, "more"],
-        [*understood, ""],
-        [*understood, *["more"] * 10_000],
+        ["edit", "--fast", *UNDERSTOOD[1:]],
+        [*UNDERSTOOD, "more"],
+        [*UNDERSTOOD, ""],
+        [*UNDERSTOOD, *["more"] * 10_000],
         ["edit", "nowhere/db", "stdin", "more"],
         ["e" * 100_000],
-    ]:
-        is_misused(run(*words, given=FIRST))
+    ],
+    ids=lambda words: f"{len(words)} words",
+)
+def test_words_that_are_not_understood(words):
+    is_misused(run(*words, given=FIRST))
 
 
-def test_help():
-    asked = [["--help"], ["-h"], ["help"], ["edit", "--help"], ["help", "edit"]]
-    beside_misuse = [["edit", "--help", "more"], ["edit", ":memory:", "--help"], ["edit", ":memory:", "none", "-h"]]
-    for words in asked + beside_misuse:
-        ended = run(*words, given=FIRST)
-        assert (ended.stderr, ended.status) == (b"", 0) and ended.stdout, (words, ended)
+ASKED = [["--help"], ["-h"], ["help"], ["edit", "--help"], ["help", "edit"]]
+BESIDE_MISUSE = [["edit", "--help", "more"], ["edit", ":memory:", "--help"], ["edit", ":memory:", "none", "-h"]]
+
+
+@pytest.mark.parametrize("words", ASKED + BESIDE_MISUSE)
+def test_help(words):
+    ended = run(*words, given=FIRST)
+    assert (ended.stderr, ended.status) == (b"", 0) and ended.stdout, ended
 
 
 def test_usage_says_roadlrs_whatever_the_file_is_called():

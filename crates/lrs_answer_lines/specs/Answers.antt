@@ -27,9 +27,9 @@ abbrev pub place_text : Name → AtAnswer → Text
 place_text route found =
     line_of (route ∷ decimal found.at ∷ decimal found.entry.link ∷ decimal found.entry.mm ∷ direction_text found.entry.forward ∷ [])
 
--- an asset, its class, the side on which it holds the millimetre, its lateral offset and its value
+-- an asset, its class, the side on which it holds the millimetre, its lateral offset, its value, and the edit that entered it
 abbrev pub hit_text : Hit → Text
-hit_text h = line_of (decimal h.asset.number ∷ h.asset.class ∷ side_text h.side ∷ decimal h.asset.lateral ∷ h.asset.value ∷ [])
+hit_text h = line_of (decimal h.asset.number ∷ h.asset.class ∷ side_text h.side ∷ decimal h.asset.lateral ∷ h.asset.value ∷ decimal h.asset.entry ∷ [])
 
 -- where a position stands, and who holds it
 abbrev pub at_text : Name → AtAnswer → Text

@@ -34,7 +34,8 @@ fn write_hit<W: Write>(writer: &mut W, hit: &Hit) -> io::Result<()>
     let side = hit.side;
     let offset = hit.asset.lateral;
     let value = hit.asset.value;
-    writeln!(writer, "{number} {class} {side} {offset} {value}")
+    let entry = hit.asset.entry;
+    writeln!(writer, "{number} {class} {side} {offset} {value} {entry}")
 }
 
 /// Writes the lines of assets that hold a millimetre.

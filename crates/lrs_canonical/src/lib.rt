@@ -16,7 +16,5 @@ pub mod merging;
 pub mod order;
 pub mod removing;
 pub mod siding;
-#[cfg(test)]
-mod tests;
 pub mod turning;
 pub mod undoing;

@@ -1,75 +1,67 @@
 //! The program `roadlrs`: its words, what it does for them, and how it ends.
 #![tactic(auto)]
 
-ghost use Rattle.std.specs.Prelude.{◌≡◌};
-ghost use Rattle.lrs_cli.specs.Endings.{status_of};
+mod opening;
 
-mod fault;
-mod progress;
-mod sheets;
-mod words;
-
-use fault::ProgramFault;
-use lrs_sheet::Sheet;
-use progress::Shown;
-use sheets::do_sheet;
-use std::alloc::Global;
+use lrs_opening::opening::close_keeper;
+use lrs_tasks::{
+    Ending, Pace, ProgramFault, Shown, Task, do_in_memory, do_task, inventory_of, is_in_memory,
+    status, task_of,
+};
+use lrs_words::{Job, QuestionFault, WordsFault, job_of};
+use opening::open_file;
 use std::env;
 use std::io::{ErrorKind, IsTerminal};
 use std::process::ExitCode;
-use std::rt::Runtime;
-use words::{Job, WordsFault, job_of};
 
-/// How the program ends.
-#[derive(Clone, Copy, Debug, PartialEq, Eq)]
-pub enum Ending {
-    Done,
-    /// Something was refused.
-    Refused,
-    /// The words are not understood.
-    Usage,
-    Stopped(ProgramFault),
+// Does a task in the inventory of a file, which is closed afterwards. Where it cannot be closed, its log still has
+// what was committed. Each reply goes out once its record is committed, and before the next is read.
+fn do_in_file(rt: &HostRuntime, path: &str, task: &Task<'_>, shown: Shown) -> Ending {
+    let mut desk = match open_file(rt, path) {
+        Ok(desk) => desk,
+        Err(fault) => return Ending::Stopped(fault),
+    };
+    let ending = do_task(rt, &mut desk, task, Pace::LineByLine, shown);
+    drop(close_keeper(desk.into_keeper()));
+    ending
 }
 
-fn status(ending: Ending) -> u8
-    ensures { result ≡ status_of ending }
-{
-    match ending {
-        Ending::Done => 0,
-        Ending::Refused => 1,
-        Ending::Usage => 2,
-        Ending::Stopped(_) => 3,
+// Reads the words of a job, and then opens its inventory.
+fn do_job(rt: &HostRuntime, job: &Job<'_>, shown: Shown) -> Ending {
+    let task = match task_of(rt.alloc(), job) {
+        Ok(task) => task,
+        Err(QuestionFault::Unreadable(word)) => return Ending::Unreadable(word),
+        Err(QuestionFault::Memory) => return Ending::Stopped(ProgramFault::Memory),
+    };
+    let db = inventory_of(job);
+    if is_in_memory(db) {
+        do_in_memory(rt, &task, shown)
+    } else {
+        do_in_file(rt, db, &task, shown)
     }
 }
 
-fn do_job<R: Runtime<A = Global>>(rt: &R, job: Job<'_>, shown: Shown) -> Ending {
-    let replied = match job {
-        Job::Edit { db, sheet } => do_sheet(rt, Sheet::Edits, db, sheet, shown),
-        Job::Survey { db, sheet } => do_sheet(rt, Sheet::Survey, db, sheet, shown),
-    };
-    match replied {
-        Ok(tally) if tally.refused == 0 => Ending::Done,
-        Ok(_) => Ending::Refused,
-        Err(fault) => Ending::Stopped(fault),
+fn show(rt: &HostRuntime, text: String) -> Ending {
+    match rt.print(text) {
+        Ok(()) => Ending::Done,
+        Err(_) => Ending::Stopped(ProgramFault::Write),
     }
 }
 
 // Says why the words are no job. Where the standard error takes nothing, the status alone says it.
-fn answer_words<R: Runtime<A = Global>>(rt: &R, fault: WordsFault) -> Ending {
+fn answer_words(rt: &HostRuntime, fault: WordsFault) -> Ending {
     match fault {
         WordsFault::Memory => Ending::Stopped(ProgramFault::Memory),
-        WordsFault::Help(text) => match rt.print(text) {
-            Ok(()) => Ending::Done,
-            Err(_) => Ending::Stopped(ProgramFault::Write),
-        },
+        WordsFault::Help(text) => show(rt, text),
+        WordsFault::Version(text) => show(rt, text),
         WordsFault::Usage(text) => {
             let _ = rt.eprint(text);
-            Ending::Usage
+            Ending::Misused
         }
     }
 }
 
-fn do_words<R: Runtime<A = Global>>(rt: &R, shown: Shown) -> Ending {
+fn do_words(rt: &HostRuntime, shown: Shown) -> Ending {
     let given = match env::args(rt) {
         Ok(given) => given,
         Err(error) if error.kind() == ErrorKind::OutOfMemory => {
@@ -77,7 +69,7 @@ fn do_words<R: Runtime<A = Global>>(rt: &R, shown: Shown) -> Ending {
         }
         Err(_) => {
             let _ = rt.eprintln("error: a word is not UTF-8");
-            return Ending::Usage;
+            return Ending::Misused;
         }
     };
     let Ok(given) = given.collect::<Vec<String>>(rt.alloc()) else {
@@ -90,7 +82,7 @@ fn do_words<R: Runtime<A = Global>>(rt: &R, shown: Shown) -> Ending {
         }
     }
     match job_of(rt.alloc(), words.as_slice()) {
-        Ok(job) => do_job(rt, job, shown),
+        Ok(job) => do_job(rt, &job, shown),
         Err(fault) => answer_words(rt, fault),
     }
 }
@@ -102,11 +94,6 @@ fn main(rt: HostRuntime) -> ExitCode {
         (true, true) => Shown::BetweenLines,
     };
     let ending = do_words(&rt, shown);
-    if let Ending::Stopped(fault) = ending {
-        let _ = eprintln!(rt; "roadlrs: fault {fault}");
-    }
+    let _ = eprint!(rt; "{ending}");
     ExitCode::from(status(ending))
 }
-
-#[cfg(test)]
-mod tests;

@@ -17,8 +17,3 @@ pub use known::KnownLinks;
 pub use link::{Ground, Link, Piece};
 pub use marks::{Mark, MarkFault, Marks};
 pub use pieces::{starts_of, starts_up_to};
-
-#[cfg(test)]
-mod refused;
-#[cfg(test)]
-mod tests;

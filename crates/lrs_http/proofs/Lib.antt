@@ -4,3 +4,4 @@ pub mod BodyLemmas
 pub mod LengthLemmas
 pub mod LiteralLemmas
 pub mod WriteLemmas
+pub mod TaskLemmas

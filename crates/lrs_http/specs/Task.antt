@@ -1,5 +1,5 @@
 -- What a request asks for.
-use Rattle.std.specs.Prelude.{◌≡◌, ℕ, ◌≤◌, ◌⊎◌, Bool, List, length, map, Option, None, Some, Result, Ok, Err, if◌then◌else◌, ◌==◌, bytes_eq}
+use Rattle.std.specs.Prelude.{◌≡◌, ⊤, ℕ, ◌≤◌, ◌⊎◌, Bool, List, length, drop, map, codes, Option, None, Some, Result, Ok, Err, if◌then◌else◌, ◌==◌, bytes_eq}
 use Rattle.std.specs.List.{before_first, after_first}
 use Rattle.httparse.specs.Grammar.{RequestHead, ReadsRequest, print_request}
 use Rattle.httparse.specs.Spans.{name_and_value}
@@ -15,7 +15,7 @@ use Rattle.lrs_http.specs.Routes.{resource_at}
 use Rattle.lrs_http.specs.declared.task.Task.{Task}
 use Rattle.lrs_http.specs.declared.task.Task.TheVariants as task
 
--- what is asked for: nothing that is served, an answer to a query, or that a sheet is done
+-- what is asked for: nothing that is served, an answer to a question, with what it is asked by, or that a sheet is done
 pub data Asked : Type 0 where
   refused : ℕ → Asked
   not_allowed : Verb → Asked
@@ -39,6 +39,15 @@ path_of target = before_first is_question_mark target
 abbrev pub query_of : List ℕ → List ℕ
 query_of target = after_first is_question_mark target
 
+-- the name in the path of a route
+abbrev pub name_in : List ℕ → List ℕ
+name_in path = drop (length (codes "/v1/route/")) path
+
+-- what a resource is asked by: a route by the name in its path, any other by the query
+abbrev pub argument_of : Resource → List ℕ → List ℕ
+argument_of Route target = name_in (path_of target)
+argument_of _ target = query_of target
+
 -- the method that serves a resource
 abbrev pub verb_of : Resource → Verb
 verb_of At = Get
@@ -59,7 +68,7 @@ with_length resource (Ok length) rest = with_body resource (body_at length rest)
 
 -- by the verb of the resource; rest is what follows the head
 abbrev pub by_verb : Verb → Resource → List ℕ → List Field → List ℕ → Asked
-by_verb Get resource target fields rest = query resource (query_of target)
+by_verb Get resource target fields rest = query resource (argument_of resource target)
 by_verb Post resource target fields rest = with_length resource (body_length fields) rest
 
 abbrev pub at_resource : Option Resource → List ℕ → List ℕ → List Field → List ℕ → Asked
@@ -84,6 +93,13 @@ pub record AsksByHead (input : List ℕ) (asked : Asked) (h : RequestHead) (rest
   pub bytes : length (print_request h) ≤ most_head
   pub fields : length h.fields ≤ most_fields
   pub asks : asked ≡ asked_at h.method h.target (map name_and_value h.fields) rest
+
+-- a question is put to a resource that answers, and a sheet is given to one that does it
+abbrev pub IsServed : Asked → Type 0
+IsServed (refused status) = ⊤
+IsServed (not_allowed verb) = ⊤
+IsServed (query resource argument) = verb_of resource ≡ Get
+IsServed (sheet resource bytes) = verb_of resource ≡ Post
 
 -- what an input asks for; one whose head has several faults may be refused for either
 abbrev pub Asks : List ℕ → Asked → Type 0

@@ -5,7 +5,8 @@ ghost use Rattle.httparse.specs.Grammar.{RequestHead};
 ghost use Rattle.httparse.specs.Spans.{header_bytes, IsHeaderWithin, IsRequestOf, IsRequestWithin};
 ghost use Rattle.lrs_http.specs.Routes.{rows};
 ghost use Rattle.lrs_http.specs.Framing.{body_length};
-ghost use Rattle.lrs_http.specs.Task.{asked_by, asked_at, Asks, AsksByHead, most_head, most_fields, path_of, query_of, verb_of, with_length, by_verb};
+ghost use Rattle.lrs_http.specs.declared.reply.Verb.TheVariants.{Post};
+ghost use Rattle.lrs_http.specs.Task.{asked_by, asked_at, Asks, AsksByHead, most_head, most_fields, path_of, query_of, argument_of, name_in, verb_of, with_length, by_verb, IsServed};
 
 use crate::body::{BodyFault, read_body};
 use crate::framing::length_of_body;
@@ -22,12 +23,19 @@ const MOST_HEAD: usize = 8192;
 
 const MOST_FIELDS: usize = 64;
 
+/// The bytes of `/v1/route/`, behind which a route's path has the name.
+const BEFORE_NAME: usize = 10;
+
 /// What a request asks for.
 #[derive(Drop)]
 pub enum Task {
+    /// Nothing that is served: the status that says so.
     Refused(StatusCode),
+    /// The path has only this method.
     NotAllowed(Verb),
+    /// An answer: to a query, or of a route to the name in its path.
     Query(Resource, Vec<u8>),
+    /// That the sheet in the body is done.
     Sheet(Resource, Vec<u8>),
 }
 
@@ -55,6 +63,33 @@ fn split_target(target: &str) -> (&str, &str)
     }
 }
 
+/// The name in the path of a route.
+fn name_of(path: &str) -> &[u8]
+    ensures { result.now ≡ name_in path.now }
+{
+    let bytes = path.as_bytes();
+    if bytes.len() < BEFORE_NAME {
+        return &[];
+    }
+    &bytes[BEFORE_NAME..]
+}
+
+/// What a resource is asked by: a route by the name in its path, any other by the query.
+fn argument(resource: Resource, target: &str) -> &[u8]
+    ensures { result.now ≡ argument_of resource target.now }
+{
+    let (path, query) = split_target(target);
+    match resource {
+        Resource::Route => name_of(path),
+        Resource::At
+        | Resource::Segments
+        | Resource::Totals
+        | Resource::Translate
+        | Resource::Edits
+        | Resource::Surveys => query.as_bytes(),
+    }
+}
+
 /// The parts of a head, and the front of what follows it.
 #[derive(Clone, Copy)]
 struct Head<'b> {
@@ -71,8 +106,10 @@ fn read_sheet<R: Read>(
     resource: Resource,
     head: Head<'_>,
 ) -> Result<Task, BodyFault>
-    requires { All (IsHeaderWithin (length head.text.now)) head.fields.now }
-    ensures { IfOk result (λ task. IfSome (R.remaining reader.old) (λ more.
+    requires fields { All (IsHeaderWithin (length head.text.now)) head.fields.now }
+    requires verb { verb_of resource ≡ Post }
+    ensures served { IfOk result (λ task. IsServed (asked_by task)) }
+    ensures asked { IfOk result (λ task. IfSome (R.remaining reader.old) (λ more.
         asked_by task ≡ with_length resource (body_length (map (header_bytes head.entry.text.now) head.entry.fields.now)) (head.entry.front.now ++ more))) }
 {
     let length = match length_of_body(head.text, head.fields) {
@@ -93,10 +130,11 @@ fn read_task<R: Read>(
 ) -> Result<Task, BodyFault>
     requires router { router.now ≡ rows }
     requires fields { All (IsHeaderWithin (length head.text.now)) head.fields.now }
-    ensures { IfOk result (λ task. IfSome (R.remaining reader.old) (λ more.
+    ensures served { IfOk result (λ task. IsServed (asked_by task)) }
+    ensures asked { IfOk result (λ task. IfSome (R.remaining reader.old) (λ more.
         asked_by task ≡ asked_at head.entry.method.now head.entry.target.now (map (header_bytes head.entry.text.now) head.entry.fields.now) (head.entry.front.now ++ more))) }
 {
-    let (path, query) = split_target(head.target);
+    let (path, _) = split_target(head.target);
     let Some(resource) = find(router, path) else {
         return Ok(Task::Refused(StatusCode::NOT_FOUND));
     };
@@ -105,7 +143,10 @@ fn read_task<R: Read>(
         return Ok(Task::NotAllowed(verb));
     }
     match verb {
-        Verb::Get => Ok(Task::Query(resource, Vec::from_slice(alloc, query.as_bytes())?)),
+        Verb::Get => {
+            let asked_by = argument(resource, head.target);
+            Ok(Task::Query(resource, Vec::from_slice(alloc, asked_by)?))
+        }
         Verb::Post => read_sheet(alloc, reader, resource, head),
     }
 }
@@ -124,7 +165,8 @@ fn read_on_from<R: Read>(
     requires fields { length spans.now ≤ most_fields }
     requires within { IsRequestWithin text.now spans.now head }
     requires parsed { IsRequestOf text.now spans.now head }
-    ensures { IfOk result (λ task. IfSome (R.remaining reader.old) (λ more.
+    ensures served { IfOk result (λ task. IsServed (asked_by task)) }
+    ensures asked { IfOk result (λ task. IfSome (R.remaining reader.old) (λ more.
         (h : RequestHead) × (rest : List ℕ) × AsksByHead (text.now ++ more) (asked_by task) h rest)) }
 {
     let Ok(target) = str::from_utf8(head.path.of(text)) else {
@@ -147,7 +189,8 @@ pub fn receive<R: Read>(
     reader: &mut R,
 ) -> Result<Task, BodyFault>
     requires { router.now ≡ rows }
-    ensures { IfOk result (λ task. IfSome (R.remaining reader.old) (λ input. Asks input (asked_by task))) }
+    ensures asked { IfOk result (λ task. IfSome (R.remaining reader.old) (λ input. Asks input (asked_by task))) }
+    ensures served { IfOk result (λ task. IsServed (asked_by task)) }
 {
     let mut buffer = [0u8; MOST_HEAD];
     let mut spans = [EMPTY_HEADER_SPAN; MOST_FIELDS];

@@ -15,9 +15,6 @@ use lrs_events::Span;
 use std::alloc::{AllocError, Global};
 use std::marker::Model;
 
-#[cfg(test)]
-mod tests;
-
 /// Rows of a class on one side of a route, sorted by start and asset, so that the rows over a stretch are
 /// found by binary search and a walk from the first that reaches it.
 #[derive(Drop)]

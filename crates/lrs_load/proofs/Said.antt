@@ -7,7 +7,7 @@ use Rattle.lrs_store.specs.Decoding.{each_of, each_sorted, sorted}
 use Rattle.lrs_store.specs.Decoding as option
 use Rattle.lrs_store.specs.Content.{read}
 use Rattle.lrs_tables.proofs.SaidRows.{each_of-map}
-use Rattle.lrs_load.specs.Loading.{Reads, Loads, IsOfStore}
+use Rattle.lrs_load.specs.Loading.{Reads}
 
 module _ {A : Type 0} where
   pub reads_along : (v w : Result A Table) (r : Result A LoadFault) → v ≡ w → Reads v r → Reads w r
@@ -15,20 +15,6 @@ module _ {A : Type 0} where
 
   pub reads_memory : (w : Result A Table) (f : LoadFault) → f ≡ Memory → Reads w (Err f)
   reads_memory w f e = subst (λ x. Reads w (Err x)) (sym e) tt
-
-  pub loads_read : (v w : Result A Table) (r : Result A LoadFault) → v ≡ w → Reads v r → Loads w r
-  loads_read v w r e h = subst (λ x. Loads x r) e (by r h)
-    where
-      by : (r : Result A LoadFault) → Reads v r → Loads v r
-      by (Ok x) h = h
-      by (Err Memory) h = tt
-      by (Err Store) h = tt
-      by (Err (Unsound t)) h = h
-
-  pub loads_store : (w : Result A Table) (f : LoadFault) → IsOfStore f → Loads w (Err f)
-  loads_store w Memory h = tt
-  loads_store w Store h = tt
-  loads_store w (Unsound t) h = absurd h
 
 module _ {Cells Row X : Type 0} (before : X → X → Bool) (of : Row → Option X) (cells : Cells → Row) (t : Table) (test : List X → Bool) where
   abbrev reading : Option (List X) → Result (List X) Table

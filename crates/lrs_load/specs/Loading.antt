@@ -1,4 +1,4 @@
--- What a table's reading answers, where memory and the store serve.
+-- What a table's reading answers, where memory serves.
 use Rattle.std.specs.Prelude.{◌≡◌, Result, Ok, Err, ⊤}
 use Rattle.lrs_machine.specs.declared.table.Table.{Table}
 use Rattle.lrs_keep.specs.declared.keeper.LoadFault.{LoadFault}
@@ -10,16 +10,3 @@ Reads wanted (Ok x) = wanted ≡ Ok x
 Reads wanted (Err Memory) = ⊤
 Reads wanted (Err Store) = ⊥
 Reads wanted (Err (Unsound t)) = wanted ≡ Err t
-
--- what is wanted, unless memory ran out or the store failed
-abbrev pub Loads : {A : Type 0} → Result A Table → Result A LoadFault → Type 0
-Loads wanted (Ok x) = wanted ≡ Ok x
-Loads wanted (Err Memory) = ⊤
-Loads wanted (Err Store) = ⊤
-Loads wanted (Err (Unsound t)) = wanted ≡ Err t
-
--- the store's own fault, which says nothing of its tables
-abbrev pub IsOfStore : LoadFault → Type 0
-IsOfStore Memory = ⊤
-IsOfStore Store = ⊤
-IsOfStore (Unsound t) = ⊥

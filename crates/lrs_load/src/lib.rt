@@ -4,7 +4,6 @@
 pub mod edits;
 pub mod entry;
 mod fault;
-pub mod load;
 mod order;
 pub mod origins;
 pub mod rows;

@@ -19,6 +19,3 @@ pub use name::{RefName, RouteName};
 pub use reading::{read_expr, read_method, read_target};
 pub use route::{Referent, Route};
 pub use translating::{express, translate};
-
-#[cfg(test)]
-mod tests;

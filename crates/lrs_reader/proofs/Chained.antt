@@ -1,10 +1,7 @@
--- Tables that are loaded one after the other, inside one transaction.
-use Rattle.std.proofs.Common.{◌≡◌, ◌⊎◌, inl, inr, Bool, Option, Some, None, Result, Ok, Err, List, true, false, sym, ap, subst, ◌∙◌}
-use Rattle.std.specs.Prelude.{IsTrue}
+-- Tables that are read one after the other, each beside those before it.
+use Rattle.std.proofs.Common.{◌≡◌, ◌⊎◌, inl, inr, Bool, Option, Some, None, Result, Ok, Err, List, true, false, refl, sym, ap, subst, ◌∙◌}
 use Rattle.std.specs.List.{list_all}
 use Rattle.std.proofs.lemmas.Bool.{and_parts, cases_Bool}
-use Rattle.sqlite.specs.Effect.{Database}
-use Rattle.sqlite.specs.State.{State, IsUnchanged}
 use Rattle.lrs_measure.specs.Lists.{each_two}
 use Rattle.lrs_position.specs.declared.route.Route.{Route}
 use Rattle.lrs_position.specs.Routes.{is_route_course}
@@ -14,39 +11,39 @@ use Rattle.lrs_machine.proofs.Pairs.{each_two-map}
 use Rattle.lrs_keep.specs.declared.keeper.LoadFault.{LoadFault}
 use Rattle.lrs_keep.specs.declared.keeper.LoadFault.TheVariants.{Memory, Store, Unsound}
 use Rattle.lrs_store.specs.Content.{◌>>=◌, read}
-use Rattle.lrs_tables.specs.Stored.{IsWriting, HasTables}
-use Rattle.lrs_load.specs.Loading.{Loads}
+use Rattle.lrs_load.specs.Loading.{Reads}
 use Rattle.lrs_load_routes.specs.Measuring.{are_route_courses}
 use Rattle.lrs_load_routes.specs.Referring.{courses_of_routes}
 use Rattle.lrs_load_spans.specs.Spans.{named_before}
 
 module _ {A B : Type 0} (w : Result A Table) (f : A → Result B Table) where
-  -- what is not loaded ends the loading
-  pub stops : (e : LoadFault) → Loads w (Err e) → Loads (w >>= f) (Err e)
+  -- what is not read ends the reading
+  pub stops : (e : LoadFault) → Reads w (Err e) → Reads (w >>= f) (Err e)
   stops Memory h = tt
-  stops Store h = tt
+  stops Store h = h
   stops (Unsound t) h = ap (λ r. r >>= f) h
 
-  -- what is loaded leads to the next
-  pub leads : (x : A) (r : Result B LoadFault) → w ≡ Ok x → Loads (f x) r → Loads (w >>= f) r
-  leads x r h = subst (λ v. Loads (v >>= f) r) (sym h)
+  -- what is read leads to the next
+  pub leads : (x : A) (r : Result B LoadFault) → w ≡ Ok x → Reads (f x) r → Reads (w >>= f) r
+  leads x r h = subst (λ v. Reads (v >>= f) r) (sym h)
 
--- a transaction that nothing has changed is over the tables still
-pub writes_on : (a b : State) → IsUnchanged a b → IsWriting a → IsWriting b
-writes_on a b same writing = record {
-  begun = subst IsTrue (sym same.0.mode) writing.begun;
-  schema = λ opened. ap (λ (d : Database). d.schema) same.0.now_is ∙ writing.schema same.0.was_open;
-  tables = λ opened. subst (λ (d : Database). HasTables d.trees) (sym same.0.now_is) (writing.tables same.0.was_open);
-}
+  pub stops_at : (r : Result A LoadFault) (l : Result B LoadFault) (e : LoadFault) → r ≡ Err e → l ≡ Err e → Reads w r → Reads (w >>= f) l
+  stops_at r l e is as_ h = subst (Reads (w >>= f)) (sym as_) (stops e (subst (Reads w) is h))
+
+-- two steps after one are one step after both
+pub in_parts : {A B C : Type 0} (w : Result A Table) (f : A → Result B Table) (g : B → Result C Table) (h : A → Result C Table) → ((x : A) → (f x >>= g) ≡ h x) → ((w >>= f) >>= g) ≡ (w >>= h)
+in_parts (Ok x) f g h same = same x
+in_parts (Err t) f g h same = refl
+
+-- steps that lead to the same
+pub alike : {A B : Type 0} (w : Result A Table) (f g : A → Result B Table) → ((x : A) → f x ≡ g x) → (w >>= f) ≡ (w >>= g)
+alike (Ok x) f g h = h x
+alike (Err t) f g h = refl
 
 pub named_rise : (rs : List Route) → are_route_courses (courses_of_routes rs) ≡ true → each_two named_before rs ≡ true
 named_rise rs h =
     sym (each_two-map course_before (λ (r : Route). let c : RouteCourse = record { route = r.name; entries = r.course } in c) rs)
     ∙ (and_parts (each_two course_before (courses_of_routes rs)) (list_all (λ (c : RouteCourse). is_route_course c.entries) (courses_of_routes rs)) h).0
-
-module _ {A B : Type 0} (w : Result A Table) (f : A → Result B Table) where
-  pub stops_at : (r : Result A LoadFault) (l : Result B LoadFault) (e : LoadFault) → r ≡ Err e → l ≡ Err e → Loads w r → Loads (w >>= f) l
-  stops_at r l e is as_ h = subst (Loads (w >>= f)) (sym as_) (stops w f e (subst (Loads w) is h))
 
 -- what is read has passed the test
 pub read_passes : {A : Type 0} (t : Table) (o : Option A) (test : A → Bool) (x : A) → read t o test ≡ Ok x → test x ≡ true
@@ -55,4 +52,13 @@ read_passes t (Some y) test x h = by (cases_Bool (test y))
   where
     by : (test y ≡ true) ⊎ (test y ≡ false) → test x ≡ true
     by (inl p) = let same : y ≡ x = cc in subst (λ z. test z ≡ true) same p
+    by (inr p) = absurd (cc)
+
+-- ... and was said by the rows
+pub read_said : {A : Type 0} (t : Table) (o : Option A) (test : A → Bool) (x : A) → read t o test ≡ Ok x → o ≡ Some x
+read_said t None test x h = absurd (cc)
+read_said t (Some y) test x h = by (cases_Bool (test y))
+  where
+    by : (test y ≡ true) ⊎ (test y ≡ false) → Some y ≡ Some x
+    by (inl p) = let same : y ≡ x = cc in ap Some same
     by (inr p) = absurd (cc)

@@ -1,2 +1,5 @@
 pub mod Loaded
 pub mod Chained
+pub mod InParts
+pub mod OfEntries
+pub mod OfContent

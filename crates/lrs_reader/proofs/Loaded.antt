@@ -1,25 +1,25 @@
--- What the rows of a table give is what its loading gives.
+-- What the rows of a table give is what its reading gives.
 use Rattle.std.proofs.Common.{◌≡◌, Result, Ok, Err, refl, sym, subst}
 use Rattle.std.specs.Prelude.{IfOk}
 use Rattle.lrs_machine.specs.declared.table.Table.{Table}
 use Rattle.lrs_keep.specs.declared.keeper.LoadFault.{LoadFault}
 use Rattle.lrs_load_routes.specs.declared.fault.ReadFault.{ReadFault}
 use Rattle.lrs_load_routes.specs.declared.fault.ReadFault.TheVariants.{Memory, Unsound}
-use Rattle.lrs_load.specs.Loading.{Loads}
+use Rattle.lrs_load.specs.Loading.{Reads}
 use Rattle.lrs_reader.specs.Reading.{of_read}
 
 module _ {V A : Type 0} (f : V → A) (wanted : Result A Table) where
-  read_loads : (r : Result V ReadFault) → IfOk r (λ x. wanted ≡ Ok (f x)) → ((t : Table) → r ≡ Err (Unsound t) → wanted ≡ Err t) → Loads wanted (of_read f r)
-  read_loads (Ok x) ok unsound = ok
-  read_loads (Err Memory) ok unsound = tt
-  read_loads (Err (Unsound t)) ok unsound = unsound t refl
+  reads_from : (r : Result V ReadFault) → IfOk r (λ x. wanted ≡ Ok (f x)) → ((t : Table) → r ≡ Err (Unsound t) → wanted ≡ Err t) → Reads wanted (of_read f r)
+  reads_from (Ok x) ok unsound = ok
+  reads_from (Err Memory) ok unsound = tt
+  reads_from (Err (Unsound t)) ok unsound = unsound t refl
 
-  pub loads_of : (r : Result V ReadFault) (l : Result A LoadFault) → l ≡ of_read f r → IfOk r (λ x. wanted ≡ Ok (f x)) → ((t : Table) → r ≡ Err (Unsound t) → wanted ≡ Err t) → Loads wanted l
-  loads_of r l is ok unsound = subst (Loads wanted) (sym is) (read_loads r ok unsound)
+  pub reads_of : (r : Result V ReadFault) (l : Result A LoadFault) → l ≡ of_read f r → IfOk r (λ x. wanted ≡ Ok (f x)) → ((t : Table) → r ≡ Err (Unsound t) → wanted ≡ Err t) → Reads wanted l
+  reads_of r l is ok unsound = subst (Reads wanted) (sym is) (reads_from r ok unsound)
 
 -- the answer for other rows, of which the same is read
-pub loads_along : {A : Type 0} (other wanted : Result A Table) (r : Result A LoadFault) → other ≡ wanted → Loads other r → Loads wanted r
-loads_along other wanted r e h = subst (λ w. Loads w r) e h
+pub reads_along : {A : Type 0} (other wanted : Result A Table) (r : Result A LoadFault) → other ≡ wanted → Reads other r → Reads wanted r
+reads_along other wanted r e h = subst (λ w. Reads w r) e h
 
 -- what holds of an answer beside each of some things holds beside this one
 pub ok_at : {V E L : Type 0} (P : L → Type 0) (Q : L → V → Type 0) (r : Result V E) → IfOk r (λ x. (l : L) → P l → Q l x) → (l : L) → P l → IfOk r (Q l)

@@ -1,44 +1,42 @@
-//! The routes of a store with all that lies on them.
+//! The routes with all that lies on them.
 
-ghost use Rattle.std.specs.Prelude.{◌≡◌, true};
-ghost use Rattle.sqlite.specs.State.{HasCleanDisk, IsUnchanged};
-ghost use Rattle.sqlite.specs.Held.{state};
-ghost use Rattle.lrs_measure.specs.Lists.{each_two};
-ghost use Rattle.lrs_machine.specs.Sound.{are_links, class_before, asset_before};
-ghost use Rattle.lrs_tables.specs.Stored.{IsWriting, stored, OkDoes, LeavesStore};
-ghost use Rattle.lrs_load.specs.Loading.{Loads};
+ghost use Rattle.std.specs.Prelude.{◌≡◌, map, true, IfOk};
+ghost use Rattle.std.specs.List.{list_all};
+ghost use Rattle.lrs_machine.specs.Sound.{are_links, are_classes, are_assets, are_courses};
+ghost use Rattle.lrs_sound.specs.Tables.{fits_route, route_courses};
+ghost use Rattle.lrs_tables.specs.Stored.{piece_in, mark_in, ref_in, span_in};
+ghost use Rattle.lrs_load.specs.Loading.{Reads};
 ghost use Rattle.lrs_reader.specs.Reading.{entries_read};
 
-use crate::routes::{load_courses, load_marks, load_referents, load_spans};
-use lrs_element::Link;
-use lrs_events::{Asset, Class};
+use crate::named::Named;
+use crate::routes::{courses, measured, routes, spans};
 use lrs_keep::LoadFault;
 use lrs_machine::RouteEntry;
 use lrs_measure::Rows;
-use sqlite::{Alter, Transaction};
+use lrs_table_keeper::rows::RouteRows;
 use std::alloc::Global;
 
-/// The routes in the order of their names, with their courses, marks, referents and spans.
+/// The routes in the order of their names, with their courses, marks, referents and spans. The rows of a table
+/// are let go before those of the next are read.
 ///
 /// # Errors
-/// When one of their tables is unsound, the store fails, or memory runs out.
-pub fn load_entries<S: Alter>(
+/// When one of their tables is unsound, or memory runs out.
+pub(crate) fn read_entries(
     alloc: Global,
-    links: &[Link],
-    classes: &[Class],
-    assets: &[Asset],
-    tx: &mut Transaction<'_, S>,
+    named: &Named,
+    rows: RouteRows,
 ) -> Result<Rows<RouteEntry>, LoadFault>
-    requires links { are_links links.now ≡ true }
-    requires classes { each_two class_before classes.now ≡ true }
-    requires assets { each_two asset_before assets.now ≡ true }
-    ensures same_reference { tx.new.conn.ghost_name ≡ tx.old.conn.ghost_name }
-    ensures entries { HasCleanDisk (state S.Store tx.new.conn.now) → IsWriting (state S.Store tx.old.conn.now) → Loads (entries_read links.now classes.now assets.now (stored (state S.Store tx.old.conn.now).now.trees)) result }
-    ensures same { OkDoes result (state S.Store tx.old.conn.now) (state S.Store tx.new.conn.now) (IsUnchanged) }
-    ensures survives { LeavesStore (state S.Store tx.old.conn.now) (state S.Store tx.new.conn.now) }
+    requires links { are_links named.now.links ≡ true }
+    requires classes { are_classes named.now.classes ≡ true }
+    requires assets { are_assets named.now.classes named.now.assets ≡ true }
+    ensures entries { Reads (entries_read named.now (map piece_in rows.piece.items) (map mark_in rows.mark.items) (map ref_in rows.referent.items) (map span_in rows.span.items)) result }
+    ensures courses { IfOk result (λ entries. are_courses named.now.links (route_courses entries) ≡ true) }
+    ensures spans { IfOk result (λ entries. list_all (fits_route named.now.assets) entries ≡ true) }
 {
-    let courses = load_courses(alloc, links, tx)?;
-    let measured = load_marks(alloc, courses, tx)?;
-    let routes = load_referents(alloc, measured, tx)?;
-    load_spans(alloc, classes, assets, routes, tx)
+    let courses = courses(alloc, named.links.as_slice(), rows.piece)?;
+    let measured = measured(alloc, rows.mark, courses)?;
+    let routes = routes(alloc, rows.referent, measured)?;
+    let classes = named.classes.as_slice();
+    let assets = named.assets.as_slice();
+    spans(alloc, classes, assets, rows.span, routes)
 }

@@ -1,25 +1,13 @@
-//! Why nothing is loaded.
+//! Why nothing is read.
 
 ghost use Rattle.std.specs.Prelude.{◌≡◌};
-ghost use Rattle.lrs_load.specs.Loading.{IsOfStore};
 ghost use Rattle.lrs_reader.specs.Reading.{of_read};
 
 use lrs_keep::LoadFault;
 use lrs_load_routes::ReadFault;
 use lrs_measure::Rows;
-use sqlite::{Error, ErrorCode};
 
-/// A fault of the store: want of memory, or else a failure.
-pub(crate) fn store_fault(error: Error) -> LoadFault
-    ensures { IsOfStore result }
-{
-    match error {
-        Error::SqliteFailure(ErrorCode::OutOfMemory) => LoadFault::Memory,
-        _ => LoadFault::Store,
-    }
-}
-
-/// What the rows of a table give, as what its loading gives.
+/// What the rows of a table give, in the terms of a keeper.
 pub(crate) fn as_loaded<T>(found: Result<Vec<T>, ReadFault>) -> Result<Rows<T>, LoadFault>
     ensures { result ≡ of_read (λ v. v.items) found }
 {

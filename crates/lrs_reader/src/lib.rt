@@ -1,10 +1,14 @@
-//! The image that the tables of a store hold, read table by table inside one transaction.
+//! The image that the rows of a store hold, or the first table that is unsound.
 #![tactic(auto)]
 
 mod cells;
 mod entries;
 mod fault;
+mod inventory;
+mod ledgers;
+mod named;
+mod nothing;
+mod reader;
 mod routes;
 
-pub use entries::load_entries;
-pub use routes::{load_courses, load_marks, load_referents, load_spans};
+pub use reader::Reader;

@@ -11,8 +11,3 @@ mod sweeping;
 
 pub use printing::strip;
 pub use segmenting::segments;
-
-#[cfg(test)]
-mod refused;
-#[cfg(test)]
-mod tests;

@@ -21,6 +21,3 @@ pub use record::{command_of, survey_of};
 pub use reply::{Reply, Tally};
 pub use run::{run_edits, run_sheet, run_survey};
 pub use sheet::Sheet;
-
-#[cfg(test)]
-mod tests;

@@ -6,3 +6,5 @@ pub mod Sound
 pub mod NewLemmas
 pub mod RowLemmas
 pub mod LoadLemmas
+pub mod BroughtUp
+pub mod OpeningLemmas

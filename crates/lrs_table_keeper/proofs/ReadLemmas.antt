@@ -6,11 +6,10 @@ use Rattle.sqlite.specs.Effect.{Database}
 use Rattle.sqlite.specs.Held.{Held, state}
 use Rattle.sqlite.specs.State.{State, HasCleanDisk, Survives, IsRolledBack}
 use Rattle.sqlite.specs.declared.error.Error.{Error}
-use Rattle.lrs_store.specs.Tables.{Tables, AreSame}
+use Rattle.lrs_store.specs.Tables.{Tables}
 use Rattle.lrs_tables.specs.Stored.{stored, IsWriting, HasTables}
 use Rattle.lrs_tables.specs.Resting.{IsReady, IsAtRest}
-use Rattle.lrs_table_keeper.specs.declared.rows.StoredRows.{StoredRows}
-use Rattle.lrs_table_keeper.specs.Rows.{HasRead, tables_of}
+use Rattle.lrs_table_keeper.specs.Rows.{HasRead}
 
 -- a transaction that begins is over the tables
 begins : {S : Type 0} (g : Ghosts S) (old : Held S) → IsReady (state g old) → HasCleanDisk (state g old) → IsWriting (state g (record old { in_transaction = true }))
@@ -20,7 +19,7 @@ begins g old ready clean = record {
   tables = λ opened. (ready clean opened).tables;
 }
 
-before : {A : Type 0} → A ⊎ ⊥ → A
+pub before : {A : Type 0} → A ⊎ ⊥ → A
 before (inl a) = a
 before (inr none) = absurd none
 
@@ -82,14 +81,14 @@ rests {S} g old tx mid last P is ready one reads two undone clean opened = by tx
 
 -- the same of what was read, if it was
 
-pub told_if : {S : Type 0} (g : Ghosts S) (settled : IsSettled g) (old tx mid : Held S) (last : State) (r : Result StoredRows Error) → tx ≡ record old { in_transaction = true } → IsReady (state g old)
-    → Survives (state g tx) (state g mid) (λ _. ⊥) → (HasCleanDisk (state g mid) → IsWriting (state g tx) → IfOk r (λ x. HasRead (λ t. AreSame t (tables_of x)) (state g tx) (state g mid))) → Survives (state g mid) last (λ _. ⊥)
-    → HasCleanDisk last → (db : Trees) → last.may_leave db → IfOk r (λ x. AreSame (stored db) (tables_of x))
-told_if g settled old tx mid last (Ok x) is ready one reads two clean db left = told g settled old tx mid last (λ t. AreSame t (tables_of x)) is ready one reads two clean db left
-told_if g settled old tx mid last (Err e) is ready one reads two clean db left = tt
+pub told_if : {S A : Type 0} (g : Ghosts S) (settled : IsSettled g) (old tx mid : Held S) (last : State) (Q : A → Tables → Type 0) (r : Result A Error) → tx ≡ record old { in_transaction = true } → IsReady (state g old)
+    → Survives (state g tx) (state g mid) (λ _. ⊥) → (HasCleanDisk (state g mid) → IsWriting (state g tx) → IfOk r (λ x. HasRead (Q x) (state g tx) (state g mid))) → Survives (state g mid) last (λ _. ⊥)
+    → HasCleanDisk last → (db : Trees) → last.may_leave db → IfOk r (λ x. Q x (stored db))
+told_if g settled old tx mid last Q (Ok x) is ready one reads two clean db left = told g settled old tx mid last (Q x) is ready one reads two clean db left
+told_if g settled old tx mid last Q (Err e) is ready one reads two clean db left = tt
 
-pub rests_if : {S : Type 0} (g : Ghosts S) (old tx mid : Held S) (last : State) (r : Result StoredRows Error) → tx ≡ record old { in_transaction = true } → IsReady (state g old)
-    → Survives (state g tx) (state g mid) (λ _. ⊥) → (HasCleanDisk (state g mid) → IsWriting (state g tx) → IfOk r (λ x. HasRead (λ t. AreSame t (tables_of x)) (state g tx) (state g mid))) → Survives (state g mid) last (λ _. ⊥)
+pub rests_if : {S A : Type 0} (g : Ghosts S) (old tx mid : Held S) (last : State) (Q : A → Tables → Type 0) (r : Result A Error) → tx ≡ record old { in_transaction = true } → IsReady (state g old)
+    → Survives (state g tx) (state g mid) (λ _. ⊥) → (HasCleanDisk (state g mid) → IsWriting (state g tx) → IfOk r (λ x. HasRead (Q x) (state g tx) (state g mid))) → Survives (state g mid) last (λ _. ⊥)
     → (HasCleanDisk last → IsRolledBack (state g mid) last) → OnOk r (IsReady last)
-rests_if g old tx mid last (Ok x) is ready one reads two undone = rests g old tx mid last (λ t. AreSame t (tables_of x)) is ready one reads two undone
-rests_if g old tx mid last (Err e) is ready one reads two undone = tt
+rests_if g old tx mid last Q (Ok x) is ready one reads two undone = rests g old tx mid last (Q x) is ready one reads two undone
+rests_if g old tx mid last Q (Err e) is ready one reads two undone = tt

@@ -1,15 +1,20 @@
 //! The tables of a store as a keeper.
 
-ghost use Rattle.std.specs.Prelude.{◌≡◌, ◌≤◌, IfOk, true, false, Ok};
+ghost use Rattle.std.specs.Prelude.{◌≡◌, ◌≤◌, IfOk, IfErr, true, false, Ok, Err, Result};
+ghost use Rattle.sqlite.specs.State.{HasCleanDisk};
 ghost use Rattle.sqlite.specs.Held.{state};
 ghost use Rattle.sqlite.specs.Steps.{over_memory};
+ghost use Rattle.lrs_machine.specs.declared.image.Image.{Image as ImageRows};
+ghost use Rattle.lrs_machine.specs.declared.table.Table.{Table as DeclaredTable};
 ghost use Rattle.lrs_machine.specs.Image.{nothing};
 ghost use Rattle.lrs_keep.specs.Keeping.{HasRisen, HoldsOnly};
 ghost use Rattle.lrs_tables.specs.Resting.{IsReady};
 ghost use Rattle.lrs_table_keeper.specs.Holding.{MayHold, IsSafe};
+ghost use Rattle.lrs_table_keeper.specs.Opening.{IsSecond};
 
 use crate::committing::write_next;
 use crate::memory::new_store;
+use crate::opening::make_second;
 use crate::reading::{ReadImage, Unloaded, load_from};
 use lrs_keep::{Change, CommitFault, Keeper, LoadFault};
 use lrs_machine::{Image, Table};
@@ -71,6 +76,43 @@ impl<S: Alter, R: ReadImage> TableKeeper<S, R> {
             is_broken: false,
             failures: 0,
         }
+    }
+}
+
+impl<S: Alter, R: ReadImage + Drop> TableKeeper<S, R> {
+    /// Keeps what the tables of a store hold. Rows of version 1, and those of a store that has none, become rows
+    /// of version 2, in one transaction, and hold the same image. Nothing is loaded yet.
+    ///
+    /// # Errors
+    /// `Unsound` with the first unsound table of rows that are not of version 2, which stay as they are; `Store` if
+    /// the store fails, and `Memory` if memory runs out. The connection is given back, and holds what it held.
+    pub fn open(
+        alloc: Global,
+        mut conn: Connection<S>,
+        reader: R,
+    ) -> Result<TableKeeper<S, R>, (LoadFault, Connection<S>)>
+        requires autocommit { conn.in_transaction ≡ false }
+        requires ready { IsReady (state S.Store conn) }
+        ensures unloaded { IfOk result (λ k. k.is_loaded ≡ false) }
+        ensures usable { IfOk result (λ k. k.is_broken ≡ false) }
+        ensures clean { IfOk result (λ k. HasCleanDisk (state S.Store k.conn) → HasCleanDisk (state S.Store conn)) }
+        ensures second { IfOk result (λ k. IsSecond (state S.Store k.conn)) }
+        ensures content { IfOk result (λ k. (c : Result ImageRows DeclaredTable) → MayHold (state S.Store k.conn) c → MayHold (state S.Store conn) c) }
+        ensures unsound { IfErr result (λ e. (t : DeclaredTable) → e.0 ≡ LoadFault.Unsound t → (c : Result ImageRows DeclaredTable) → MayHold (state S.Store e.1) c → c ≡ Err t) }
+        ensures err { IfErr result (λ e. (c : Result ImageRows DeclaredTable) → MayHold (state S.Store e.1) c → MayHold (state S.Store conn) c) }
+    {
+        match make_second(&reader, alloc, &mut conn) {
+            Ok(()) => Ok(TableKeeper::over(conn, reader)),
+            Err(fault) => Err((fault, conn)),
+        }
+    }
+
+    /// Gives the connection back, with no call of the store.
+    pub fn into_connection(self) -> Connection<S>
+        ensures { result ≡ self.conn }
+    {
+        let TableKeeper { conn, .. } = self;
+        conn
     }
 }
 

@@ -4,10 +4,9 @@
 mod committing;
 mod keeper;
 mod memory;
+mod opening;
 mod reading;
 pub mod rows;
-#[cfg(test)]
-mod tests;
 mod texts;
 
 pub use keeper::TableKeeper;

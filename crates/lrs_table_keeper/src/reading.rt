@@ -57,7 +57,7 @@ fn says_two(row: &Row) -> bool
 }
 
 /// Whether the version is 2.
-fn is_second(rows: &[Row]) -> bool
+pub(crate) fn is_second(rows: &[Row]) -> bool
     ensures { IsTrue result → map version_in rows.now ≡ pos 2 ∷ [] }
 {
     match rows {

@@ -16,6 +16,4 @@ pub mod route;
 pub mod said;
 pub mod start;
 pub mod tables;
-#[cfg(test)]
-mod tests;
 pub mod written;

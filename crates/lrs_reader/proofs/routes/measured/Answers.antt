@@ -1,13 +1,14 @@
-use Rattle.std.proofs.Common.{◌∙◌}
+use Rattle.lrs_tables.specs.Stored.{mark_in}
+use Rattle.std.proofs.Common.{map, ap, ◌∙◌}
 use Rattle.lrs_machine.specs.declared.table.Table.TheVariants as table
 use Rattle.lrs_store.specs.Content.{read, measured_of}
 use Rattle.lrs_load_routes.specs.Measuring.{are_all_measured}
-use Rattle.lrs_reader.proofs.Loaded.{loads_of, loads_along}
+use Rattle.lrs_reader.proofs.Loaded.{reads_of, reads_along}
 use Rattle.lrs_reader.proofs.routes.measured.Goals as goal
 
 pub returns-clause-measured : goal.returns-clause-measured
 returns-clause-measured c =
-    let same = c.deref.ensures.value ∙ c.in_ok-cells.ensures in
+    let same = c.deref.ensures.value ∙ c.in_ok-cells.ensures ∙ ap (map mark_in) c.as_slice.ensures.value in
     let into = c.into_vec.ensures in
-    loads_along _ _ c.as_loaded.result (λ j. read table.Mark (measured_of (same j) (into j)) are_all_measured)
-    (loads_of _ (read table.Mark (measured_of c.deref.result.now c.into_vec.result.items) are_all_measured) c.read_marks.result c.as_loaded.result c.as_loaded.ensures c.read_marks.ensures.measured c.read_marks.ensures.unsound)
+    reads_along _ _ c.as_loaded.result (λ j. read table.Mark (measured_of (same j) (into j)) are_all_measured)
+    (reads_of _ (read table.Mark (measured_of c.deref.result.now c.into_vec.result.items) are_all_measured) c.read_marks.result c.as_loaded.result c.as_loaded.ensures c.read_marks.ensures.measured c.read_marks.ensures.unsound)

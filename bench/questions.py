@@ -1,0 +1,98 @@
+"""How long questions take among many assets, beside the same questions in SQL on the same machine.
+
+    python3 bench/questions.py [--runs N]
+
+`segments` of three classes over a route of 100,000 rows, and `at` in a thousand places of a route among 1,000,000 assets on
+1,000 routes: asked of a desk in memory by crates/lrs_desk_bench (`rt run` there builds it), and of Python's sqlite3 in memory,
+which has the same tables and an index over rows by route and place. SQL finds the values of each stretch between two ends,
+and does not join stretches of equal values. A line has the least of the runs.
+"""
+
+import argparse
+import pathlib
+import sqlite3
+import subprocess
+import time
+
+TOP = pathlib.Path(__file__).resolve().parent.parent
+BUILT = TOP / "crates" / "lrs_desk_bench" / "out" / "lrs_desk_bench"
+HEADER = "key,verb,a,b,c,d,e,f,g,h,i\n"
+CLASSES = ["C0", "C1", "C2"]
+PLACES = 1_000
+CALLS = 20
+TABLES = """
+CREATE TABLE asset (number INTEGER NOT NULL, class TEXT NOT NULL, value TEXT NOT NULL, lateral INTEGER NOT NULL, PRIMARY KEY (number)) STRICT;
+CREATE TABLE span (asset INTEGER NOT NULL REFERENCES asset, route TEXT NOT NULL, lo INTEGER NOT NULL, hi INTEGER NOT NULL, side INTEGER NOT NULL, PRIMARY KEY (asset, route, lo)) STRICT;
+CREATE INDEX span_place ON span (route, lo);
+"""
+AT = "SELECT asset, class, side, lateral, value FROM span JOIN asset ON number = asset WHERE route = ? AND lo <= ? AND lo > ? - 1000 AND hi > ? ORDER BY asset"
+VALUE = "(SELECT CASE WHEN hi > a THEN value END FROM span JOIN asset ON number = asset WHERE route = :route AND class = '{0}' AND lo <= a ORDER BY lo DESC LIMIT 1)"
+SEGMENTS = f"""
+WITH points AS (SELECT 0 AS p UNION SELECT lo FROM span WHERE route = :route UNION SELECT hi FROM span WHERE route = :route),
+     pieces AS (SELECT p AS a, LEAD(p) OVER (ORDER BY p) AS b FROM points)
+SELECT a, b, {", ".join(VALUE.format(name) for name in CLASSES)} FROM pieces WHERE b IS NOT NULL
+"""
+
+
+class Sample:
+    """Routes with so many rows each: of another asset each, 5 mm long every 10 mm, of three classes in turn, on both sides."""
+
+    def __init__(self, routes, rows):
+        self.routes, self.rows, self.length = routes, rows, 10 * rows
+
+    def entered(self):
+        for route in range(1, self.routes + 1):
+            for row in range(self.rows):
+                yield (route - 1) * self.rows + row + 1, CLASSES[row % 3], f"R{route}", 10 * row, f"v{row % 7}"
+
+    def sheet(self):
+        lines = [f"c{name},class,{name},exclusive,,,,,,,\n" for name in CLASSES]
+        for n in range(1, self.routes + 1):
+            lines.append(f"l{n},link,{n},{self.length},,,,,,,\nr{n},route,R{n},{n}:0:{self.length}:+,0:0 {self.length}:{self.length},,,,,,\n")
+        lines += [f"e{n},enter,{n},{kind},{route},B,abs,{at},{at + 5},{value},0\n" for n, kind, route, at, value in self.entered()]
+        return (HEADER + "".join(lines)).encode()
+
+    def tables(self):
+        db = sqlite3.connect(":memory:")
+        db.executescript(TABLES)
+        db.executemany("INSERT INTO asset VALUES (?, ?, ?, 0)", ((n, kind, value) for n, kind, _, _, value in self.entered()))
+        db.executemany("INSERT INTO span VALUES (?, ?, ?, ?, 0)", ((n, route, at, at + 5) for n, _, route, at, _ in self.entered()))
+        db.commit()
+        return db
+
+
+def asked_of_the_desk(sample):
+    """What a call of each question takes there, in seconds."""
+    told = subprocess.run([BUILT, "R1", *CLASSES], input=sample.sheet(), capture_output=True, check=True).stdout.decode()
+    return {line.partition(":")[0]: int(line.split()[1]) / 1e9 for line in told.splitlines()}
+
+
+def asked_in_sql(sample, db):
+    start = time.perf_counter()
+    for number in range(PLACES):
+        place = number * 367 % PLACES * sample.length // PLACES
+        db.execute(AT, ("R1", place, place, place)).fetchall()
+    at = (time.perf_counter() - start) / PLACES
+    start = time.perf_counter()
+    found = db.execute(SEGMENTS, {"route": "R1"}).fetchall()
+    assert len(found) >= 2 * sample.rows - 1
+    return {"at": at, "segments": time.perf_counter() - start}
+
+
+def least(runs, ask):
+    told = [ask() for _ in range(runs)]
+    return {name: min(each[name] for each in told) for name in told[0]}
+
+
+def main():
+    parser = argparse.ArgumentParser()
+    parser.add_argument("--runs", type=int, default=3)
+    runs = parser.parse_args().runs
+    for what, sample in [("one route of 100,000 rows", Sample(1, 100_000)), ("1,000,000 assets on 1,000 routes", Sample(1_000, 1_000))]:
+        db = sample.tables()
+        ours, theirs = least(runs, lambda: asked_of_the_desk(sample)), least(runs, lambda: asked_in_sql(sample, db))
+        for name in ["segments", "at"]:
+            print(f"{what}: {name}: desk {1e6 * ours[name]:,.2f} µs, sqlite3 {1e6 * theirs[name]:,.2f} µs")
+
+
+main()

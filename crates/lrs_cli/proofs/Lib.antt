@@ -1,5 +1,0 @@
-pub mod Between
-pub mod CommandLine
-pub mod JobNames
-pub mod JobThere
-pub mod JobValues

@@ -1,0 +1,105 @@
+//! How long questions take: `lrs_desk_bench ROUTE CLASS.. < SHEET` does an edit sheet at a desk in memory, and then asks for
+//! the segments of that route by those classes, and for who holds each of a thousand places of it.
+//!
+//! Without arguments it says what it did, and measures nothing.
+#![tactic(auto)]
+
+ghost use Rattle.std.specs.Prelude.{◌≡◌, false};
+
+use lrs_desk::{AskFault, Desk, Keeper, Limits, Plain};
+use lrs_events::{ClassName, Side};
+use lrs_measure::Frac;
+use lrs_position::{Expr, RouteName};
+use lrs_sheet::{Tally, run_edits};
+use std::alloc::Global;
+use std::env;
+use std::io::{self, ErrorKind};
+use std::rt::Runtime;
+use std::time::Instant;
+
+const CALLS: u32 = 20;
+
+const PLACES: u32 = 1_000;
+
+fn bad() -> io::Error {
+    ErrorKind::InvalidInput.into()
+}
+
+// A question that was refused is no measurement.
+fn refused(_: AskFault) -> io::Error {
+    bad()
+}
+
+fn desk_of<R: Runtime<A = Global>>(rt: &R) -> io::Result<(Desk<Plain>, Tally)> {
+    let alloc = rt.alloc();
+    let opened = Desk::open(Plain::empty(alloc), Limits::full(), alloc);
+    let mut desk = opened.map_err(|_| bad())?;
+    let tally = run_edits(alloc, rt.reader(), &mut io::sink(), &mut desk).map_err(|_| bad())?;
+    Ok((desk, tally))
+}
+
+fn print_mean<R: Runtime<A = Global>>(
+    rt: &R,
+    name: &str,
+    start: Instant,
+    calls: u32,
+    rows: usize,
+) -> io::Result<()> {
+    let nanoseconds = start.elapsed(rt)?.as_nanos() / u128::from(calls.max(1));
+    println!(rt; "{name}: {nanoseconds} ns a call, {rows} rows in all")
+}
+
+// The segments of the route on its left.
+fn time_segments<R: Runtime<A = Global>, K: Keeper>(
+    rt: &R,
+    desk: &Desk<K>,
+    route: &RouteName,
+    classes: &[ClassName],
+) -> io::Result<()> {
+    let mut rows = 0usize;
+    let start = Instant::now(rt)?;
+    for _ in 0..CALLS {
+        let found = desk.segments(route, classes, Side::L).map_err(refused)?;
+        rows = rows.saturating_add(found.len());
+    }
+    print_mean(rt, "segments", start, CALLS, rows)
+}
+
+// Who holds places all along the route.
+fn time_at<R: Runtime<A = Global>, K: Keeper>(
+    rt: &R,
+    desk: &Desk<K>,
+    route: &RouteName,
+) -> io::Result<()>
+    requires open { desk.now.must_reopen ≡ false }
+{
+    let mut rows = 0usize;
+    let start = Instant::now(rt)?;
+    for number in 0..PLACES {
+        // (places that stand near one another are not asked for one after the other)
+        let place = i128::from(number * 367 % PLACES);
+        let share = Frac::new(place, u128::from(PLACES)).ok_or_else(bad)?;
+        let found = desk.at(route, Expr::Int(share)).map_err(refused)?;
+        rows = rows.saturating_add(found.hits.len());
+    }
+    print_mean(rt, "at", start, PLACES, rows)
+}
+
+fn main(rt: HostRuntime) -> io::Result<()> {
+    let mut words = env::args(&rt)?.skip(1);
+    let (desk, tally) = desk_of(&rt)?;
+    let Some(route) = words.next() else {
+        let done = tally.done;
+        return println!(rt; "{done} records are done");
+    };
+    let route = RouteName::new(route.as_bytes()).ok_or_else(bad)?;
+    let mut classes = Vec::new(rt.alloc());
+    for word in words {
+        classes.push(ClassName::new(word.as_bytes()).ok_or_else(bad)?)?;
+    }
+    time_segments(&rt, &desk, &route, classes.as_slice())?;
+    if desk.must_reopen() {
+        return Err(bad());
+    }
+    time_at(&rt, &desk, &route)
+}

@@ -1,0 +1,16 @@
+use Rattle.std.proofs.Common.{sym, subst}
+use Rattle.std.specs.Prelude.{Result}
+use Rattle.lrs_machine.specs.declared.image.Image.{Image}
+use Rattle.lrs_machine.specs.declared.table.Table.{Table}
+use Rattle.lrs_desk_stops.specs.Steps.{acting}
+use Rattle.lrs_desk_stops.proofs.Stepping.{stop_is_step}
+use Rattle.lrs_desk_stops.proofs.steps.close.Goals as goal
+
+pub returns : goal.returns
+returns g c =
+    let may = g.K.Keeper.may_hold in
+    record {
+      step = λ limits start xs h.
+          stop_is_step may limits start xs (acting c.args.desk.must_reopen c.args.desk.image) (may c.args.desk.keeper) (may c.into_keeper.result)
+          (λ b held. subst (λ k. may k b) c.into_keeper.ensures.keeper held) h.found;
+    }

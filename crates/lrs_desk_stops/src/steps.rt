@@ -1,0 +1,44 @@
+//! The calls of a desk as steps of a run that may stop.
+
+ghost use Rattle.std.specs.Prelude.{◌≡◌, ◌++◌, ◌∷◌, [], List, IfOk, IfErr, Result};
+ghost use Rattle.lrs_machine.specs.declared.answer.Limits.{Limits as DeskLimits};
+ghost use Rattle.lrs_machine.specs.declared.image.Image.{Image as ImageRows};
+ghost use Rattle.lrs_machine.specs.declared.table.Table.{Table as ImageTable};
+ghost use Rattle.lrs_machine.specs.Image.{state_of};
+ghost use Rattle.lrs_machine.specs.State.{State};
+ghost use Rattle.lrs_stops.specs.Stopped.{Step, Open, Stop};
+ghost use Rattle.lrs_stops.specs.Laws.{IsMadeBy};
+ghost use Rattle.lrs_desk_stops.specs.Steps.{sent, step_of, IsAtRest, IsInRun};
+
+use lrs_desk::{Answer, Command, Desk, Fault, Keeper, Key, Limits, OpenFault};
+use std::alloc::Global;
+
+/// Opens a desk, as `Desk::open` does. Where the device gives something back, the desk acts on what is stored:
+/// the fold over the commands that were answered, each one that was in flight at its point or left out.
+///
+/// # Errors
+/// Those of `Desk::open`; what is stored is as it was.
+pub fn open<K: Keeper>(keeper: K, limits: Limits, alloc: Global) -> Result<Desk<K>, (OpenFault, K)>
+    ensures step { IfOk result (λ desk. (start : State) (xs : List Step) (c : Result ImageRows ImageTable) → IsAtRest limits start xs (K.may_hold keeper) → K.may_hold desk.keeper c → IsInRun K.may_hold limits start (xs ++ Open ∷ []) desk) }
+    ensures fold { IfOk result (λ desk. (start : State) (xs : List Step) (c : Result ImageRows ImageTable) → IsAtRest limits start xs (K.may_hold keeper) → K.may_hold desk.keeper c → IsMadeBy limits start (xs ++ Open ∷ []) (state_of desk.image)) }
+    ensures failed { IfErr result (λ e. (start : State) (xs : List Step) → IsAtRest limits start xs (K.may_hold keeper) → IsAtRest limits start (xs ++ Stop ∷ []) (K.may_hold e.1)) }
+{
+    Desk::open(keeper, limits, alloc)
+}
+
+/// Does a command, as `Desk::act` does, whatever comes of it.
+///
+/// # Errors
+/// Those of `Desk::act`: after `Keep` the command is in flight.
+pub fn act<K: Keeper>(desk: &mut Desk<K>, key: Key, command: &Command) -> Result<Answer, Fault>
+    ensures step { (limits : DeskLimits) (start : State) (xs : List Step) → IsInRun K.may_hold limits start xs desk.old → IsInRun K.may_hold limits start (xs ++ step_of (sent key command.now) result ∷ []) desk.new }
+{
+    desk.act(key, command)
+}
+
+/// Lets a desk go between two commands; the keeper can be opened again.
+pub fn close<K: Keeper>(desk: Desk<K>) -> K
+    ensures step { (limits : DeskLimits) (start : State) (xs : List Step) → IsInRun K.may_hold limits start xs desk → IsAtRest limits start (xs ++ Stop ∷ []) (K.may_hold result) }
+{
+    desk.into_keeper()
+}

@@ -1,0 +1,7 @@
+use Rattle.sqlite.specs.Files.{file_state, image_of}
+use Rattle.lrs_opening.proofs.OpenedLemmas.{has_opened}
+use Rattle.lrs_opening.proofs.opening.open_keeper_files.Goals as goal
+
+pub returns-in-Ok-open-clause-found : goal.returns-in-Ok-open-clause-found
+returns-in-Ok-open-clause-found g c clean =
+    has_opened (image_of g.D.Disk c.args.files) (file_state c.in-Ok.tables.conn) (file_state c.in-Ok-open.keeper.conn) (c.in-Ok.ensures.found (c.in-Ok-open.ensures.clean clean)) c.in-Ok-open.ensures.content

@@ -1,0 +1,4 @@
+//! Files are opened as the keeper of an inventory.
+#![tactic(auto)]
+
+pub mod opening;

@@ -1,0 +1,7 @@
+//! Replies to questions over HTTP.
+#![tactic(auto)]
+
+mod question;
+mod reply;
+
+pub use question::answer_asked;

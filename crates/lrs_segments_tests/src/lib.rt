@@ -1,0 +1,7 @@
+//! Tests of segments.
+#![tactic(auto)]
+
+#[cfg(test)]
+mod refused;
+#[cfg(test)]
+mod segments;

@@ -1,0 +1,127 @@
+-- The worked runs.
+use Rattle.std.proofs.Common.{◌≡◌, ◌⊎◌, inl, inr, [], ◌∷◌, length, Some, None, refl, sym, ap, ◌∙◌, arith}
+use Rattle.std.specs.Fmt.{digits}
+use Rattle.lrs_machine.specs.declared.answer.Answer.TheVariants.{Done, Again}
+use Rattle.lrs_machine.specs.State.{State, nothing_known}
+use Rattle.lrs_machine.specs.Machine.{Record, step, attempt, step_record}
+use Rattle.lrs_stops.specs.Stopped.{Moment, at_rest, Opens, Acts, StopsWithin, IsRun}
+use Rattle.lrs_stops.specs.Worked.{full, first_link, second_link, signs, after, until_the_stop, OneLinkOrTwo, at_work, BothEndAlike, Excluded}
+use Rattle.lrs_stops.proofs.Stopping.{some_same}
+
+opened_at : (s : State) → Opens (at_rest s) (at_work s)
+opened_at s = record { closed = refl; stored = refl; desk = refl }
+
+stopped_at : (r : Record) (s t : State) → (t ≡ s) ⊎ (t ≡ (step_record full r s).state) → StopsWithin full r (at_work s) (at_rest t)
+stopped_at r s t is = record { known = s; acts_on = refl; stored = is; desk = refl }
+
+one : State
+one = after (first_link ∷ [])
+
+two : State
+two = after (first_link ∷ second_link ∷ [])
+
+first_done : Acts full first_link (Done 1) (at_work nothing_known) (at_work one)
+unfolding digits step attempt one
+first_done = record { known = nothing_known; acts_on = refl; answered = refl; stored = refl; desk = refl }
+
+second_done : Acts full second_link (Done 2) (at_work one) (at_work two)
+unfolding digits step attempt one two
+second_done = record { known = one; acts_on = refl; answered = refl; stored = refl; desk = refl }
+
+second_again : Acts full second_link (Again 2) (at_work two) (at_work two)
+unfolding digits step attempt one two
+second_again = record { known = two; acts_on = refl; answered = refl; stored = refl; desk = refl }
+
+three : State
+three = after (first_link ∷ second_link ∷ signs ∷ [])
+
+signs_done : Acts full signs (Done 3) (at_work two) (at_work three)
+unfolding digits step attempt two three
+signs_done = record { known = two; acts_on = refl; answered = refl; stored = refl; desk = refl }
+
+-- what the first steps leave
+module _ (s : State) (run : IsRun full (at_rest nothing_known) until_the_stop (at_rest s)) where
+  open_is : run.0.stored ≡ nothing_known
+  open_is = run.1.stored
+
+  desk_is : run.2.1.known ≡ nothing_known
+  desk_is = some_same full run.2.1.known nothing_known (sym run.2.1.acts_on ∙ run.1.desk)
+
+  stored_is : run.2.0.stored ≡ one
+  unfolding one
+  stored_is = run.2.1.stored ∙ ap (λ (t : State). (step_record full first_link t).state) desk_is
+
+  acts_on_is : run.2.2.1.known ≡ one
+  unfolding one
+  acts_on_is = some_same full run.2.2.1.known (step_record full first_link run.2.1.known).state (sym run.2.2.1.acts_on ∙ run.2.1.desk) ∙ ap (λ (t : State). (step_record full first_link t).state) desk_is
+
+  left_is : run.2.2.0.stored ≡ s
+  left_is = sym (ap (λ (m : Moment). m.stored) run.2.2.2)
+
+  one_or_two : (s ≡ one) ⊎ (s ≡ two)
+  unfolding one two
+  one_or_two = by run.2.2.1.stored
+    where
+      by : (run.2.2.0.stored ≡ run.2.0.stored) ⊎ (run.2.2.0.stored ≡ (step_record full second_link run.2.2.1.known).state) → (s ≡ one) ⊎ (s ≡ two)
+      by (inl e) = inl (sym left_is ∙ e ∙ stored_is)
+      by (inr e) = inr (sym left_is ∙ e ∙ ap (λ (t : State). (step_record full second_link t).state) acts_on_is)
+
+edits_one : length one.done ≡ 1
+unfolding digits step attempt one
+edits_one = refl
+
+edits_two : length two.done ≡ 2
+unfolding digits step attempt two
+edits_two = refl
+
+never_none : (nothing_known ≡ one) ⊎ (nothing_known ≡ two) → ⊥
+never_none (inl e) = let n : 0 ≡ 1 = ap (λ (t : State). length t.done) e ∙ edits_one in omega (arith, n)
+never_none (inr e) = let n : 0 ≡ 2 = ap (λ (t : State). length t.done) e ∙ edits_two in omega (arith, n)
+
+pub one_link_or_two : OneLinkOrTwo
+unfolding one two
+one_link_or_two = record {
+  without = (at_work nothing_known, opened_at nothing_known, (at_work one, first_done, (at_rest one, stopped_at second_link one one (inl refl), refl)));
+  with = (at_work nothing_known, opened_at nothing_known, (at_work one, first_done, (at_rest two, stopped_at second_link one two (inr refl), refl)));
+  nothing_else = one_or_two;
+  not_lost = λ run. never_none (one_or_two nothing_known run);
+}
+
+pub both_end_alike : BothEndAlike
+unfolding digits step attempt one two three
+both_end_alike = record {
+  left_out = (
+    at_work nothing_known,
+    opened_at nothing_known,
+    (
+      at_work one,
+      first_done,
+      (
+        at_rest one,
+        stopped_at second_link one one (inl refl),
+        (at_rest one, refl, (at_work one, opened_at one, (at_work two, second_done, (at_work three, signs_done, refl)))),
+      ),
+    ),
+  );
+  kept = (
+    at_work nothing_known,
+    opened_at nothing_known,
+    (
+      at_work one,
+      first_done,
+      (
+        at_rest two,
+        stopped_at second_link one two (inr refl),
+        (at_rest two, refl, (at_work two, opened_at two, (at_work two, second_again, (at_work three, signs_done, refl)))),
+      ),
+    ),
+  );
+  sent_first = ((refl, tt), (refl, tt));
+  keys = refl;
+}
+
+pub excluded : Excluded
+excluded = record {
+  forgotten = λ s h. ap (λ (m : Moment). m.stored) h;
+  unopened = λ m h. absurd (let e : None ≡ Some h.known = h.acts_on in cc e);
+}

@@ -1,0 +1,3 @@
+pub mod Stopped
+pub mod Laws
+pub mod Worked

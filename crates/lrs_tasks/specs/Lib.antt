@@ -1,0 +1,4 @@
+pub mod Asking
+pub mod Endings
+pub mod Faults
+pub mod Tasks

@@ -1,0 +1,26 @@
+-- What a job has the program do.
+use Rattle.std.specs.Prelude.{◌≡◌}
+use Rattle.clap.specs.Words.{Text}
+use Rattle.lrs_sheet.specs.declared.sheet.Sheet.TheVariants.{Edits, Survey}
+use Rattle.lrs_words.specs.declared.job.Job.{Job}
+use Rattle.lrs_words.specs.declared.job.Job.TheVariants as job
+use Rattle.lrs_words.specs.Questions.{Asks}
+use Rattle.lrs_tasks.specs.declared.task.Task.{Task}
+use Rattle.lrs_tasks.specs.declared.task.Task.TheVariants as task
+
+-- the inventory that it names
+abbrev pub inventory_of : Job → Text
+inventory_of (job.Edit db sheet) = db.now
+inventory_of (job.Survey db sheet) = db.now
+inventory_of (job.At db route method position) = db.now
+inventory_of (job.Translate db route method position to) = db.now
+inventory_of (job.Strip db route side classes) = db.now
+inventory_of (job.Totals db) = db.now
+inventory_of (job.Find db asset) = db.now
+
+-- `edit` does an edit sheet, `survey` a survey, and every other job asks what its words say
+abbrev pub IsTaskOf : Job → Task → Type 0
+IsTaskOf (job.Edit db sheet) (task.Sheet kind from) = (kind ≡ Edits) × (from.now ≡ sheet.now)
+IsTaskOf (job.Survey db sheet) (task.Sheet kind from) = (kind ≡ Survey) × (from.now ≡ sheet.now)
+IsTaskOf j (task.Question question) = Asks j question
+IsTaskOf j t = ⊥

@@ -1,0 +1,165 @@
+"""One call of the system's is refused in each run, in turn: an allocation, a read or a write. What was answered is then the start of what is
+answered without, the program names the fault, and the same sheet with nothing refused ends as if nothing had been.
+"""
+
+import pathlib
+import tempfile
+
+import pytest
+
+from program import BUILT, FIRST, FIRST_REPLIES, HEADER, lines, record, run
+from refusing import with_each_refused
+from stores import edit, is_whole, make, rows_of
+from worked_rows import WORKED_ROWS
+
+# after the first sheet; each record is done
+ALL_VERBS = [
+    "e1,enter,10,SPEED,A1,B,abs,3000,9000,80,0",
+    "p1,enter,20,SIGN,A1,L,abs,9000,,STOP,0",
+    "t1,enter,30,RAIL,A1,R,int,1/3,2/3,STEEL,0",
+    "r1,ref,KM2,A1,abs,3",
+    "r2,ref,KM6,A1,abs,6003",
+    "m1,retire,10,A1,abs,5000,6000",
+    "j1,supersede,12,SPEED,A1,L,abs,3000,4000,50,0",
+    "e4,split,A1,5000,A2",
+    "e5,join,A1,A2",
+    "j2,turn,A1",
+    "j3,turn,A1",
+    "e6,recalibrate,A1,0:0 8000:8000",
+    "e8,realign,A1,4000,6000,3:0:2000:+,0:0 8000:8000",
+    "n1,renumber,A1,B1",
+    "u1,unref,KM2",
+    "c1,close,B1",
+]
+SURVEY = b"""key,asset,class,route,side,method,from,to,value,offset
+e1,10,SPEED,A1,B,abs,3000,9000,80,0
+p1,20,SIGN,A1,L,abs,9000,,STOP,0
+t1,30,RAIL,A1,R,int,1/3,2/3,STEEL,0
+t2,31,RAIL,A1,R,int,1/3,3/3,STEEL,x
+t3,31,TREE,A1,R,int,1/3,3/3,STEEL,0
+"""
+SURVEY_REPLIES = lines("e1,done,8", "p1,done,9", "t1,done,10", "t2,refused,Malformed:i", "t3,refused,NoClass")
+
+
+def fault_of(ended):
+    """The fault that the program named as it stopped."""
+    assert ended.status == 3, ended
+    assert ended.stderr.startswith(b"roadlrs: fault ") and ended.stderr.endswith(b"\n"), ended
+    return ended.stderr[len(b"roadlrs: fault ") : -1].decode()
+
+
+def is_answered_in_part(ended, replies, status, faults):
+    """The run stopped in one of these faults, and what it wrote begins as the replies do; or the refusal changed nothing."""
+    if (ended.stdout, ended.stderr, ended.status) != (replies, b"", status):
+        assert fault_of(ended) in faults, ended
+        assert replies.startswith(ended.stdout), ended
+
+
+@pytest.mark.parametrize("name", WORKED_ROWS)
+def test_a_worked_row_bears_a_refused_growth(name):
+    """Over an inventory in memory, with each allocation of the program refused in turn."""
+    rows = WORKED_ROWS[name]
+    sheet = FIRST + b"".join(record(text) for text, _ in rows)
+    replies = FIRST_REPLIES + lines(*(reply for _, reply in rows))
+    status = 1 if b",refused," in replies else 0
+
+    def test(refusal):
+        ended = refusal.run(BUILT, "edit", ":memory:", "stdin", given=sheet)
+        is_answered_in_part(ended, replies, status, {"Memory"})
+
+    assert with_each_refused("ALLOCATION", test) > 100
+
+
+def at_all_verbs(kind, faults, step):
+    """The sheet of all verbs over a file with each step-th call of a kind refused; and then once more."""
+    sheet = HEADER + b"".join(map(record, ALL_VERBS))
+    keys = [text.partition(",")[0] for text in ALL_VERBS]
+    done = lines(*(f"{key},done,{n}" for n, key in enumerate(keys, 8)))
+    with tempfile.TemporaryDirectory() as folder:
+        first = pathlib.Path(folder) / "first.db"
+        make(first)
+        after = pathlib.Path(folder) / "after.db"
+        make(after, *ALL_VERBS)
+        wanted, made = rows_of(after), first.read_bytes()
+
+        def test(refusal):
+            path = first.with_name(f"{refusal.number}.db")
+            path.write_bytes(made)
+            ended = refusal.run(BUILT, "edit", path, "stdin", given=sheet)
+            is_answered_in_part(ended, done, 0, faults)
+            answered = ended.stdout.count(b"\n")
+            again = edit(path, sheet)
+            assert (again.status, again.stderr) == (0, b""), (refusal.number, again)
+            expected = done.splitlines()
+            for n, line in enumerate(again.stdout.splitlines()):
+                repeated = expected[n].replace(b"done", b"again")
+                # the command that was on its way may have been done
+                assert line == repeated if n < answered else line in (expected[n], repeated if n == answered else b""), (refusal.number, again)
+            assert rows_of(path) == wanted, refusal.number
+            is_whole(path)
+            path.unlink()
+
+        assert with_each_refused(kind, test, step=step) > 10
+
+
+def test_all_verbs_over_a_file_bear_a_refused_growth():
+    at_all_verbs("ALLOCATION", {"Memory", "Open", "Keep", "MustReopen"}, 23)
+
+
+def test_all_verbs_over_a_file_bear_a_refused_write():
+    at_all_verbs("WRITE", {"Open", "Keep", "MustReopen", "Write"}, 1)
+
+
+def at_each_read_and_write(kind, fault, verb, sheet, replies):
+    """A sheet in a file over an inventory in memory, with each call of a kind refused."""
+    with tempfile.TemporaryDirectory() as folder:
+        path = pathlib.Path(folder) / "sheet.csv"
+        path.write_bytes(sheet)
+
+        def test(refusal):
+            ended = refusal.run(BUILT, verb, ":memory:", path)
+            is_answered_in_part(ended, replies, 1, {fault})
+            # nothing is passed over: a refusal that was reached is told
+            assert refusal.was_reached == (ended.status == 3), (refusal.number, ended)
+
+        assert with_each_refused(kind, test) > 0
+
+
+def test_a_sheet_that_cannot_be_read_or_answered():
+    sheet = FIRST + record("a1,link,1,7")
+    replies = FIRST_REPLIES + b"a1,refused,LinkKnown\n"
+    at_each_read_and_write("READ", "Read", "edit", sheet, replies)
+    at_each_read_and_write("WRITE", "Write", "edit", sheet, replies)
+
+
+def test_a_survey_that_cannot_be_read_or_answered():
+    refused = SURVEY_REPLIES
+    for n, key in enumerate([b"e1", b"p1", b"t1"], 8):
+        refused = refused.replace(b"%b,done,%d" % (key, n), b"%b,refused,NoClass" % key)
+    at_each_read_and_write("READ", "Read", "survey", SURVEY, refused)
+    at_each_read_and_write("WRITE", "Write", "survey", SURVEY, refused)
+
+
+@pytest.mark.parametrize("kind, faults", [("READ", {"Read", "Open"}), ("WRITE", {"Open", "Keep", "MustReopen", "Write"})])
+def test_a_survey_over_a_file_that_fails(kind, faults):
+    """Each read or write fails in turn, of the survey, of the replies or of the store; then the same survey is done."""
+    with tempfile.TemporaryDirectory() as folder:
+        first = pathlib.Path(folder) / "first.db"
+        make(first)
+        made = first.read_bytes()
+        survey = first.with_name("survey.csv")
+        survey.write_bytes(SURVEY)
+
+        def test(refusal):
+            path = first.with_name(f"{kind}{refusal.number}.db")
+            path.write_bytes(made)
+            ended = refusal.run(BUILT, "survey", path, survey)
+            is_answered_in_part(ended, SURVEY_REPLIES, 1, faults)
+            answered = ended.stdout.splitlines()
+            again = run("survey", path, survey)
+            assert again.status == 1 and again.stderr == b"", (refusal.number, again)
+            assert again.stdout.replace(b"again", b"done") == SURVEY_REPLIES, (refusal.number, again)
+            assert all(b",again," in line for line in again.stdout.splitlines()[: min(len(answered), 3)]), (refusal.number, again)
+            is_whole(path)
+
+        assert with_each_refused(kind, test) > 5

@@ -1,0 +1,89 @@
+"""The program stops before each of its changes of a file in turn: a write to the store or its log, a change of a length, a sync, or
+the write of a reply. Either all stays that was written, or half of what is to be written is there too, or the power goes, and
+nothing stays that was not synced. The same sheet, sent again, ends as if nothing had stopped."""
+
+import pathlib
+import shutil
+import tempfile
+
+import pytest
+
+from program import BUILT, FIRST, FIRST_REPLIES, lines, record
+from refusing import Stop, with_each_refused
+from stores import as_first, edit, is_whole, make, rows_of
+
+RECORDS = ["e1,enter,10,SPEED,A1,B,abs,3000,9000,80,0", "e4,split,A1,5000,A2", "e5,join,A1,A2"]
+SHEET = FIRST + b"".join(map(record, RECORDS))
+REPLIES = FIRST_REPLIES + lines("e1,done,8", "e4,done,9", "e5,done,10")
+ENDS = ["program", "tearing", "power"]
+
+
+def with_log(path):
+    """The files of a store."""
+    return [path, path.with_name(path.name + "-wal")]
+
+
+def copied(path, to):
+    """A copy of a store with its log."""
+    for old, new in zip(with_log(path), with_log(to)):
+        if old.exists():
+            shutil.copyfile(old, new)
+    return to
+
+
+def acknowledged(ended):
+    """The lines that went out whole before the stop."""
+    return ended.stdout[: ended.stdout.rfind(b"\n") + 1].splitlines(keepends=True)
+
+
+def goes_on(path, answered, expected, stop):
+    """The sheet is sent again: what was answered is answered `again`, the one in flight may be, and the rest is done."""
+    assert answered == expected[: len(answered)], (stop, answered)
+    ended = edit(path, SHEET)
+    assert (ended.status, ended.stderr) == (0, b""), (stop, ended)
+    said = ended.stdout.splitlines(keepends=True)
+    assert len(said) == len(expected), (stop, ended)
+    for n, (line, done) in enumerate(zip(said, expected)):
+        again = done.replace(b",done,", b",again,")
+        assert line == again if n < len(answered) else line in (done, again if n == len(answered) else done), (stop, n, ended)
+
+
+@pytest.mark.parametrize("by", ENDS)
+def test_a_sheet_is_stopped_at_each_change(by):
+    """From a new file on: links, classes, a route, a speed limit, a split and a join."""
+    with tempfile.TemporaryDirectory() as folder:
+        top = pathlib.Path(folder)
+        expected = REPLIES.splitlines(keepends=True)
+        assert edit(top / "whole.db", SHEET).stdout == REPLIES
+        wanted = rows_of(top / "whole.db")
+
+        def test(stop):
+            path = top / f"{stop.number}.db"
+            ended = stop.run(BUILT, "edit", path, "stdin", given=SHEET)
+            assert ended.status == (137 if stop.was_reached else 0), (stop.number, ended)
+            goes_on(path, acknowledged(ended), expected, stop.number)
+            assert rows_of(path) == wanted, stop.number
+            is_whole(path)
+
+        assert with_each_refused(by, test, what=Stop) > 50
+
+
+@pytest.mark.parametrize("by", ENDS)
+def test_bringing_up_a_store_is_stopped_at_each_change(by):
+    """A store of version 1 is opened, and brought up to version 2: an opening after the stop finds the same inventory."""
+    with tempfile.TemporaryDirectory() as folder:
+        top = pathlib.Path(folder)
+        make(top / "whole.db", *RECORDS)
+        wanted = rows_of(top / "whole.db")
+        as_first(copied(top / "whole.db", top / "first.db"))
+        again = REPLIES.replace(b",done,", b",again,")
+
+        def test(stop):
+            path = copied(top / "first.db", top / f"{stop.number}.db")
+            ended = stop.run(BUILT, "edit", path, "stdin", given=SHEET)
+            assert ended.status == (137 if stop.was_reached else 0), (stop.number, ended)
+            assert edit(path, SHEET).stdout == again, stop.number
+            assert rows_of(path) == wanted, stop.number
+            is_whole(path)
+
+        assert with_each_refused(by, test, what=Stop) > 5
