@@ -1,0 +1,50 @@
+-- What a sheet over HTTP is answered.
+use Rattle.std.specs.Prelude.{◌≡◌, ◌⊎◌, ℕ, [], ◌++◌, Some, None, Result, Ok, Err, codes}
+use Rattle.lrs_machine.specs.Image.{state_of}
+use Rattle.lrs_machine.specs.Lines.{Text}
+use Rattle.lrs_machine.specs.declared.image.Image.{Image}
+use Rattle.lrs_machine.specs.declared.table.Table.{Table}
+use Rattle.lrs_desk.specs.DeskView.{DeskView}
+use Rattle.lrs_desk.specs.declared.desk.Fault.TheVariants as stop
+use Rattle.lrs_sheet.specs.declared.reply.Tally.{Tally}
+use Rattle.lrs_sheet.specs.declared.fault.SheetFault.{SheetFault}
+use Rattle.lrs_sheet.specs.declared.fault.SheetFault.TheVariants as fault
+use Rattle.lrs_sheet.specs.declared.sheet.Sheet.{Sheet}
+use Rattle.lrs_sheet.specs.Sheets.{Runs, LeavesDesk, BreaksOff}
+use Rattle.lrs_http.specs.declared.reply.ContentType.TheVariants.{Csv}
+use Rattle.lrs_http.specs.Text.{Answer, empty_answer}
+
+-- a reply of lines
+abbrev pub lines_answer : ℕ → Text → Answer
+lines_answer status lines = record { status = status; content_type = Some Csv; allow = None; body = lines }
+
+-- the reply to a sheet that is at fault: the lines so far, and one that names the fault
+abbrev pub fault_answer : Text → Text → Answer
+fault_answer line lines = lines_answer 422 (lines ++ line)
+
+-- the reply to a sheet whose run ended so, and wrote these lines
+abbrev pub answer_after : Result Tally SheetFault → Text → Answer
+answer_after (Ok tally) lines = lines_answer 200 lines
+answer_after (Err fault.BadHeader) lines = fault_answer (codes "-,fault,BadHeader\n") lines
+answer_after (Err fault.BadCsv) lines = fault_answer (codes "-,fault,BadCsv\n") lines
+answer_after (Err fault.Read) lines = empty_answer 503
+answer_after (Err fault.Write) lines = empty_answer 503
+answer_after (Err (fault.Desk e)) lines = empty_answer 503
+answer_after (Err fault.Memory) lines = empty_answer 503
+
+-- a sheet is run at a desk, ends so and writes these lines
+pub record IsRun {K : Type 0} (holds : K → Result Image Table → Type 0) (sheet : Sheet) (input : Text) (old new : DeskView K) (ended : Result Tally SheetFault) (lines : Text) : Type 0 where
+  pub runs : Runs sheet old.limits input (state_of old.image) (state_of new.image) (Some []) (Some lines) ended
+  pub desk : LeavesDesk holds old new ended
+  -- after a failed commit: the keeper has the state of the records that were done, or that of one more
+  pub broken : ended ≡ Err (fault.Desk stop.Keep) → (c : Result Image Table) → holds new.keeper c
+      → BreaksOff sheet old.limits input (state_of old.image) (state_of new.image) c
+
+-- the reply to such a run; where memory runs out for it, there is an empty 503 in its place
+abbrev pub IsAnswerAfter : Result Tally SheetFault → Text → Answer → Type 0
+IsAnswerAfter ended lines answer = (answer ≡ answer_after ended lines) ⊎ (answer ≡ empty_answer 503)
+
+-- A sheet is done at a desk, and answered.
+abbrev pub DoesSheet : {K : Type 0} → (K → Result Image Table → Type 0) → Sheet → Text → DeskView K → Answer → DeskView K → Type 0
+DoesSheet holds sheet input old answer new =
+    (ended : Result Tally SheetFault) × (lines : Text) × IsRun holds sheet input old new ended lines × IsAnswerAfter ended lines answer

@@ -1,0 +1,64 @@
+//! Sheets are done at a desk, and what they are answered.
+
+ghost use Rattle.std.specs.Prelude.{◌≡◌, ◌⊎◌};
+ghost use Rattle.lrs_http.specs.Text.{answer_of, empty_answer};
+ghost use Rattle.lrs_web.specs.Sheets.{DoesSheet, IsAnswerAfter, fault_answer, lines_answer};
+
+use http::StatusCode;
+use lrs_desk::{Desk, Keeper};
+use lrs_http::{Content, ContentType, Reply};
+use lrs_sheet::{Sheet, SheetFault, Tally, run_sheet};
+use std::alloc::Global;
+
+fn lines_reply(status: StatusCode, lines: Vec<u8>) -> Reply
+    ensures { answer_of result ≡ lines_answer status lines.items }
+{
+    let content = Content {
+        kind: ContentType::Csv,
+        bytes: lines,
+    };
+    Reply {
+        status,
+        allow: None,
+        content: Some(content),
+    }
+}
+
+/// The lines so far and one that names the fault, or an empty 503 where memory runs out for it.
+fn faulty_reply(mut lines: Vec<u8>, line: &[u8]) -> Reply
+    ensures { (answer_of result ≡ fault_answer line.now lines.items) ⊎ (answer_of result ≡ empty_answer 503) }
+{
+    match lines.extend_from_slice(line) {
+        Ok(()) => lines_reply(StatusCode::UNPROCESSABLE_ENTITY, lines),
+        Err(_) => Reply::empty(StatusCode::SERVICE_UNAVAILABLE),
+    }
+}
+
+/// The reply to a sheet whose run ended so.
+fn reply_after(ended: Result<Tally, SheetFault>, lines: Vec<u8>) -> Reply
+    ensures { IsAnswerAfter ended lines.items (answer_of result) }
+{
+    match ended {
+        Ok(_) => lines_reply(StatusCode::OK, lines),
+        Err(SheetFault::BadHeader) => faulty_reply(lines, b"-,fault,BadHeader\n"),
+        Err(SheetFault::BadCsv) => faulty_reply(lines, b"-,fault,BadCsv\n"),
+        Err(SheetFault::Read | SheetFault::Write | SheetFault::Desk(_) | SheetFault::Memory) => {
+            Reply::empty(StatusCode::SERVICE_UNAVAILABLE)
+        }
+    }
+}
+
+/// Does a sheet whose bytes have all come. Where memory or the keeper fails, some of its records may be done, and the
+/// reply is an empty 503; their keys make sending it again safe.
+pub(crate) fn do_sheet<K: Keeper>(
+    alloc: Global,
+    sheet: Sheet,
+    bytes: &[u8],
+    desk: &mut Desk<K>,
+) -> Reply
+    ensures { DoesSheet K.may_hold sheet bytes.now desk.old (answer_of result) desk.new }
+{
+    let mut lines = Vec::new(alloc);
+    let ended = run_sheet(alloc, sheet, bytes, &mut lines, desk);
+    reply_after(ended, lines)
+}
