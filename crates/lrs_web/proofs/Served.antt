@@ -3,7 +3,7 @@ use Rattle.std.proofs.Common.{ℕ, List, Option, None, Some, IfSome, Result, Ok,
 use Rattle.lrs_machine.specs.declared.image.Image.{Image}
 use Rattle.lrs_machine.specs.declared.table.Table.{Table}
 use Rattle.lrs_desk.specs.DeskView.{DeskView}
-use Rattle.lrs_http.specs.Task.{Asked, Asks}
+use Rattle.lrs_http.specs.Task.{Asked, Asks, refused}
 use Rattle.lrs_http.specs.Text.{Answer, empty_answer}
 use Rattle.lrs_web.specs.declared.serving.WebFault.{WebFault}
 use Rattle.lrs_web.specs.Serving.{Does, Responds, Serves, Writes}
@@ -30,3 +30,6 @@ pub unserved : {K : Type 0} (holds : K → Result Image Table → Type 0) (a : O
     → IfSome a (λ input. (answer : Answer) × Serves holds input desk answer desk)
 unserved holds None desk = tt
 unserved holds (Some input) desk = (empty_answer 503, inr (refl, refl))
+
+pub nothing_done : {K : Type 0} (holds : K → Result Image Table → Type 0) (desk : DeskView K) → (asked : Asked) × (due : Answer) × Does holds asked desk due desk
+nothing_done holds desk = (refused 503, empty_answer 503, (refl, refl))

@@ -1,7 +1,7 @@
 //! One request is read, done and answered.
 
 ghost use Rattle.std.specs.Prelude.{◌≡◌, ◌⊎◌, IfOk, IfSome, Err};
-ghost use Rattle.lrs_http.specs.Task.{IsServed, asked_by};
+ghost use Rattle.lrs_http.specs.Task.{Asked, IsServed, asked_by};
 ghost use Rattle.lrs_http.specs.Text.{Answer, answer_of, empty_answer};
 ghost use Rattle.lrs_replies.specs.Answered.{AnswersAsked};
 ghost use Rattle.lrs_http.specs.Task.{verb_of};
@@ -129,7 +129,7 @@ fn respond<W: Write, K: Keeper>(
 ///
 /// # Errors
 /// `Read` if the reader fails before the request is whole: nothing is done. `Write` if the writer fails: what was asked
-/// for is done, and the keys of a sheet make sending it again safe.
+/// for is done, or for want of memory nothing; the keys of a sheet make sending it again safe.
 pub fn serve_one<R: Read, W: Write, K: Keeper>(
     alloc: Global,
     reader: &mut R,
@@ -140,6 +140,9 @@ pub fn serve_one<R: Read, W: Write, K: Keeper>(
         × IfSome (R.remaining reader.old) (λ input. Serves K.may_hold input desk.old answer desk.new)) }
     ensures write { result ≡ Err WebFault.Write → IfSome (R.remaining reader.old) (λ input. (answer : Answer) × Serves K.may_hold input desk.old answer desk.new) }
     ensures read { result ≡ Err WebFault.Read → desk.new ≡ desk.old }
+
+    // Whatever the reader tells of its bytes, the desk is as some request leaves it.
+    ensures left { (asked : Asked) × (due : Answer) × Does K.may_hold asked desk.old due desk.new }
 {
     let Ok(router) = routes(alloc) else {
         return refuse(writer);

@@ -1,5 +1,5 @@
 use Rattle.lrs_http.specs.Task.{asked_by}
-use Rattle.lrs_web.proofs.Served.{serves_ok, serves_done, unserved}
+use Rattle.lrs_web.proofs.Served.{nothing_done, serves_ok, serves_done, unserved}
 use Rattle.lrs_web.proofs.serving.serve_one.Goals as goal
 
 -- src/serving.rt:145:9
@@ -21,3 +21,15 @@ returns-in-Ok-receive-clause-write g c =
 -- src/serving.rt:143:1
 pub returns-in-Err-Memory-clause-write : goal.returns-in-Err-Memory-clause-write
 returns-in-Err-Memory-clause-write g c = λ _. unserved g.K.Keeper.may_hold (g.R.Read.remaining c.args.reader.now) c.args.desk.now
+
+pub returns-in_default-clause-left : goal.returns-in_default-clause-left
+returns-in_default-clause-left g c = nothing_done g.K.Keeper.may_hold c.args.desk.now
+
+pub returns-in-Ok-receive-clause-left : goal.returns-in-Ok-receive-clause-left
+returns-in-Ok-receive-clause-left g c = (asked_by c.in-Ok-receive.task, c.respond.ensures.done.0, c.respond.ensures.done.1)
+
+pub returns-in-Err-Memory-clause-left : goal.returns-in-Err-Memory-clause-left
+returns-in-Err-Memory-clause-left g c = nothing_done g.K.Keeper.may_hold c.args.desk.now
+
+pub returns-clause-left : goal.returns-clause-left
+returns-clause-left g c = nothing_done g.K.Keeper.may_hold c.args.desk.now
