@@ -4,7 +4,7 @@ use Rattle.clap.specs.Words.{Text}
 use Rattle.lrs_sheet.specs.declared.sheet.Sheet.TheVariants.{Edits, Survey}
 use Rattle.lrs_words.specs.declared.job.Job.{Job}
 use Rattle.lrs_words.specs.declared.job.Job.TheVariants as job
-use Rattle.lrs_words.specs.Questions.{Asks}
+use Rattle.lrs_words.specs.Questions.{Asks, SaysService}
 use Rattle.lrs_tasks.specs.declared.task.Task.{Task}
 use Rattle.lrs_tasks.specs.declared.task.Task.TheVariants as task
 
@@ -17,10 +17,12 @@ inventory_of (job.Translate db route method position to) = db.now
 inventory_of (job.Strip db route side classes) = db.now
 inventory_of (job.Totals db) = db.now
 inventory_of (job.Find db asset) = db.now
+inventory_of (job.Serve db port max) = db.now
 
--- `edit` does an edit sheet, `survey` a survey, and every other job asks what its words say
+-- `edit` does an edit sheet, `survey` a survey, `serve` serves where its words say, and every other job asks what they say
 abbrev pub IsTaskOf : Job → Task → Type 0
 IsTaskOf (job.Edit db sheet) (task.Sheet kind from) = (kind ≡ Edits) × (from.now ≡ sheet.now)
 IsTaskOf (job.Survey db sheet) (task.Sheet kind from) = (kind ≡ Survey) × (from.now ≡ sheet.now)
+IsTaskOf (job.Serve db port max) (task.Service service) = SaysService port.now max.now service
 IsTaskOf j (task.Question question) = Asks j question
 IsTaskOf j t = ⊥

@@ -6,15 +6,17 @@ use crate::asking::do_question;
 use crate::ending::Ending;
 use crate::opening::open_in_memory;
 use crate::progress::Shown;
+use crate::serving::do_service;
 use crate::sheets::{Pace, do_sheet};
 use crate::task::Task;
 use lrs_desk::{Desk, Keeper};
 use std::alloc::Global;
+use std::net::Net;
 use std::rt::Runtime;
 
 /// Does what a job asks for at a desk, whatever keeps the inventory, and prints what is said to it. The replies to a
 /// sheet in a file go out at the pace `of_file`.
-pub fn do_task<R: Runtime<A = Global>, K: Keeper>(
+pub fn do_task<R: Runtime<A = Global> + Net, K: Keeper>(
     rt: &R,
     desk: &mut Desk<K>,
     task: &Task<'_>,
@@ -30,11 +32,12 @@ pub fn do_task<R: Runtime<A = Global>, K: Keeper>(
             Err(fault) => Ending::Stopped(fault),
         },
         Task::Question(question) => do_question(rt, desk, question),
+        Task::Service(service) => do_service(rt, desk, *service),
     }
 }
 
 /// Does a task in a fresh inventory in memory.
-pub fn do_in_memory<R: Runtime<A = Global>>(rt: &R, task: &Task<'_>, shown: Shown) -> Ending {
+pub fn do_in_memory<R: Runtime<A = Global> + Net>(rt: &R, task: &Task<'_>, shown: Shown) -> Ending {
     match open_in_memory(rt.alloc()) {
         Ok(mut desk) => do_task(rt, &mut desk, task, Pace::InPieces, shown),
         Err(fault) => Ending::Stopped(fault),

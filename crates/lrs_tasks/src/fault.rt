@@ -23,6 +23,8 @@ pub enum ProgramFault {
     Write,
     BadHeader,
     BadCsv,
+    /// The port cannot be listened on.
+    Door,
 }
 
 fn table_name(table: Table) -> &'static str
@@ -64,6 +66,7 @@ impl fmt::Display for ProgramFault {
             ProgramFault::Write => f.write_str("Write"),
             ProgramFault::BadHeader => f.write_str("BadHeader"),
             ProgramFault::BadCsv => f.write_str("BadCsv"),
+            ProgramFault::Door => f.write_str("Door"),
         }
     }
 }

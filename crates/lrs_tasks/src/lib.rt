@@ -7,6 +7,7 @@ mod ending;
 mod fault;
 mod opening;
 mod progress;
+mod serving;
 mod sheets;
 mod task;
 
@@ -18,6 +19,3 @@ pub use opening::{is_in_memory, load_fault, open_desk, open_in_memory};
 pub use progress::Shown;
 pub use sheets::Pace;
 pub use task::{Task, inventory_of, task_of};
-
-#[cfg(test)]
-mod tests;

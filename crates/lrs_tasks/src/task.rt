@@ -5,7 +5,7 @@ ghost use Rattle.lrs_words.specs.Questions.{IsFaultOf};
 ghost use Rattle.lrs_tasks.specs.Tasks.{IsTaskOf, inventory_of};
 
 use lrs_sheet::Sheet;
-use lrs_words::{Job, Question, QuestionFault, question_of};
+use lrs_words::{Job, Question, QuestionFault, Service, question_of, service_of};
 use std::alloc::Global;
 
 /// What is done with an inventory.
@@ -15,6 +15,8 @@ pub enum Task<'a> {
     Sheet { kind: Sheet, from: &'a str },
     /// A question is answered.
     Question(Question),
+    /// The inventory is served.
+    Service(Service),
 }
 
 /// The inventory that a job names.
@@ -28,7 +30,8 @@ pub fn inventory_of<'a>(job: &Job<'a>) -> &'a str
         | Job::Translate { db, .. }
         | Job::Strip { db, .. }
         | Job::Totals { db }
-        | Job::Find { db, .. } => db,
+        | Job::Find { db, .. }
+        | Job::Serve { db, .. } => db,
     }
 }
 
@@ -49,6 +52,7 @@ pub fn task_of<'a>(alloc: Global, job: &Job<'a>) -> Result<Task<'a>, QuestionFau
             kind: Sheet::Survey,
             from: sheet,
         }),
+        Job::Serve { port, max, .. } => Ok(Task::Service(service_of(port, max)?)),
         Job::At { .. }
         | Job::Translate { .. }
         | Job::Strip { .. }

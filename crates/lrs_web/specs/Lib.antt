@@ -1,2 +1,4 @@
 pub mod Sheets
 pub mod Serving
+pub mod Door
+pub mod Visits

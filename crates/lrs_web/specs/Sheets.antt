@@ -1,5 +1,5 @@
 -- What a sheet over HTTP is answered.
-use Rattle.std.specs.Prelude.{◌≡◌, ◌⊎◌, ℕ, [], ◌++◌, Some, None, Result, Ok, Err, codes}
+use Rattle.std.specs.Prelude.{◌≡◌, ◌⊎◌, ℕ, [], ◌∷◌, ◌++◌, Option, Some, None, Result, Ok, Err, codes}
 use Rattle.lrs_machine.specs.Image.{state_of}
 use Rattle.lrs_machine.specs.Lines.{Text}
 use Rattle.lrs_machine.specs.declared.image.Image.{Image}
@@ -11,12 +11,18 @@ use Rattle.lrs_sheet.specs.declared.fault.SheetFault.{SheetFault}
 use Rattle.lrs_sheet.specs.declared.fault.SheetFault.TheVariants as fault
 use Rattle.lrs_sheet.specs.declared.sheet.Sheet.{Sheet}
 use Rattle.lrs_sheet.specs.Sheets.{Runs, LeavesDesk, BreaksOff}
+use Rattle.lrs_http.specs.declared.reply.ContentType.{ContentType}
 use Rattle.lrs_http.specs.declared.reply.ContentType.TheVariants.{Csv}
 use Rattle.lrs_http.specs.Text.{Answer, empty_answer}
 
+-- the content type of lines; where there are none, the reply has no body and names no type
+abbrev pub type_of_lines : Text → Option ContentType
+type_of_lines [] = None
+type_of_lines (byte ∷ bytes) = Some Csv
+
 -- a reply of lines
 abbrev pub lines_answer : ℕ → Text → Answer
-lines_answer status lines = record { status = status; content_type = Some Csv; allow = None; body = lines }
+lines_answer status lines = record { status = status; content_type = type_of_lines lines; allow = None; body = lines }
 
 -- the reply to a sheet that is at fault: the lines so far, and one that names the fault
 abbrev pub fault_answer : Text → Text → Answer

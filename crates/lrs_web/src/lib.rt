@@ -1,7 +1,9 @@
-//! Requests over HTTP, done at a desk: bytes in, bytes out, over any reader and writer.
+//! Requests over HTTP, done at a desk: bytes in, bytes out, over any reader and writer, and connections of any door.
 #![tactic(auto)]
 
+mod door;
 mod serving;
 mod sheet;
 
+pub use door::{Door, DoorFault, Served, serve_all};
 pub use serving::{WebFault, serve_one};

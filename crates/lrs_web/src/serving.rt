@@ -97,7 +97,7 @@ fn write_to<W: Write>(alloc: Global, reply: &Reply, writer: &mut W) -> Result<u1
     }
 }
 
-fn refuse<W: Write>(writer: &mut W) -> Result<u16, WebFault>
+pub(crate) fn refuse<W: Write>(writer: &mut W) -> Result<u16, WebFault>
     ensures written { IfOk result (λ status. Writes (W.contents writer.old) (W.contents writer.new) status (empty_answer 503)) }
     ensures fault { result ≡ Err WebFault.Read → ⊥ }
 {
@@ -108,7 +108,7 @@ fn refuse<W: Write>(writer: &mut W) -> Result<u16, WebFault>
 }
 
 /// Does what is asked for, and writes the reply.
-fn respond<W: Write, K: Keeper>(
+pub(crate) fn respond<W: Write, K: Keeper>(
     alloc: Global,
     task: &Task,
     writer: &mut W,

@@ -10,9 +10,13 @@ use lrs_http::{Content, ContentType, Reply};
 use lrs_sheet::{Sheet, SheetFault, Tally, run_sheet};
 use std::alloc::Global;
 
+// Where there are no lines, the reply has no body.
 fn lines_reply(status: StatusCode, lines: Vec<u8>) -> Reply
     ensures { answer_of result ≡ lines_answer status lines.items }
 {
+    if lines.is_empty() {
+        return Reply::empty(status);
+    }
     let content = Content {
         kind: ContentType::Csv,
         bytes: lines,

@@ -50,6 +50,7 @@ has_flag job.Translate = flag_in _ (λ name. refl) (λ x. refl)
 has_flag job.Strip = flag_in _ (λ name. refl) (λ x. refl)
 has_flag job.Totals = flag_in _ (λ name. refl) (λ x. refl)
 has_flag job.Find = flag_in _ (λ name. refl) (λ x. refl)
+has_flag job.Serve = flag_in _ (λ name. refl) (λ x. refl)
 
 -- ---- no word is missing
 
@@ -79,6 +80,7 @@ none_missing job.Translate rows e = missing_none _ e
 none_missing job.Strip rows e = missing_none _ e
 none_missing job.Totals rows e = missing_none _ e
 none_missing job.Find rows e = missing_none _ e
+none_missing job.Serve rows e = missing_none _ e
 
 job_words : (j : JobName) (words : List Text) → level_fault (shape_at j) [] nothing_held words false [] ≡ [] → HasJobWords (Some (rows_at (shape_at j) words))
 job_words j words e =

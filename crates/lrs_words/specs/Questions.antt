@@ -17,6 +17,7 @@ use Rattle.lrs_words.specs.declared.question.Destination.{Destination}
 use Rattle.lrs_words.specs.declared.question.Destination.TheVariants as destination
 use Rattle.lrs_words.specs.declared.question.Question.{Question}
 use Rattle.lrs_words.specs.declared.question.Question.TheVariants as question
+use Rattle.lrs_words.specs.declared.question.Service.{Service}
 use Rattle.lrs_words.specs.declared.question.QuestionFault.{QuestionFault}
 use Rattle.lrs_words.specs.declared.question.QuestionFault.TheVariants.{Unreadable, Memory}
 
@@ -43,20 +44,35 @@ SaysSide text side = text ≡ side_text side
 abbrev pub SaysClass : Text → Name → Type 0
 SaysClass text class = (class ≡ text) × IsTrue (is_class_name text)
 
--- digits of a number from 1 to 1,000,000,000,000
-pub record SaysAsset (text : Text) (asset : ℕ) : Type 0 where
+-- digits of a number between these bounds
+pub record SaysNumber (least greatest : ℕ) (text : Text) (number : ℕ) : Type 0 where
   pub digits : IsNumeral 10 text
-  pub value : asset ≡ digits_value 10 text
-  pub least : 1 ≤ asset
-  pub greatest : asset ≤ 1_000_000_000_000
+  pub value : number ≡ digits_value 10 text
+  pub above : least ≤ number
+  pub below : number ≤ greatest
+
+abbrev pub SaysAsset : Text → ℕ → Type 0
+SaysAsset = SaysNumber 1 1_000_000_000_000
+
+abbrev pub SaysPort : Text → ℕ → Type 0
+SaysPort = SaysNumber 1 65_535
+
+-- how many connections
+abbrev pub SaysMost : Text → ℕ → Type 0
+SaysMost = SaysNumber 0 1_000_000
+
+-- the port and how many connections, as these words say
+abbrev pub SaysService : Text → Text → Service → Type 0
+SaysService port max service = SaysPort port service.port × SaysMost max service.max
 
 -- ---- questions
 
--- the job is a sheet's, and asks nothing
-abbrev pub IsSheetJob : Job → Type 0
-IsSheetJob (job.Edit db sheet) = ⊤
-IsSheetJob (job.Survey db sheet) = ⊤
-IsSheetJob _ = ⊥
+-- the job asks nothing: it does a sheet, or serves
+abbrev pub AsksNothing : Job → Type 0
+AsksNothing (job.Edit db sheet) = ⊤
+AsksNothing (job.Survey db sheet) = ⊤
+AsksNothing (job.Serve db port max) = ⊤
+AsksNothing _ = ⊥
 
 -- the question is what the job's words say
 abbrev pub Asks : Job → Question → Type 0
@@ -81,6 +97,10 @@ CannotPosition method text fault = Cannot word.Method (SaysMethod method) fault 
 abbrev pub CannotClass : List Text → QuestionFault → Type 0
 CannotClass texts fault = (i : ℕ) × IsSomeAnd (slice_get texts i) (λ text. Cannot word.Class (SaysClass text) fault)
 
+-- the port, or how many connections
+abbrev pub CannotServe : Text → Text → QuestionFault → Type 0
+CannotServe port max fault = Cannot word.Port (SaysPort port) fault ⊎ Cannot word.Max (SaysMost max) fault
+
 -- the fault is a word of the job that cannot be read, or want of memory for the classes
 abbrev pub IsFaultOf : Job → QuestionFault → Type 0
 IsFaultOf (job.At db route method position) fault = Cannot word.Route (SaysRoute route.now) fault ⊎ CannotPosition method.now position.now fault
@@ -89,6 +109,7 @@ IsFaultOf (job.Translate db route method position to) fault =
 IsFaultOf (job.Strip db route side classes) fault =
     Cannot word.Route (SaysRoute route.now) fault ⊎ Cannot word.Side (SaysSide side.now) fault ⊎ (fault ≡ Memory) ⊎ CannotClass (map (λ w. w.now) classes.items) fault
 IsFaultOf (job.Find db asset) fault = Cannot word.Asset (SaysAsset asset.now) fault
+IsFaultOf (job.Serve db port max) fault = CannotServe port.now max.now fault
 IsFaultOf _ fault = ⊥
 
 -- what a word is not
@@ -100,3 +121,5 @@ bad_word_text word.Destination = codes "TO is none of abs, int, rel:NAME and lin
 bad_word_text word.Side = codes "SIDE is none of L, R and B"
 bad_word_text word.Class = codes "CLASS is no class name"
 bad_word_text word.Asset = codes "ASSET is no asset number"
+bad_word_text word.Port = codes "PORT is no port number"
+bad_word_text word.Max = codes "MAX is no number of connections"

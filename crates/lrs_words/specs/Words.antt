@@ -8,7 +8,7 @@ use Rattle.clap.specs.declared.error.ErrorKind.TheVariants as kind
 use Rattle.lrs_words.specs.declared.job.JobName.{JobName}
 use Rattle.lrs_words.specs.declared.job.JobName.TheVariants as job
 use Rattle.lrs_words.specs.declared.job.Job.{Job}
-use Rattle.lrs_words.specs.declared.job.Job.TheVariants.{Edit, Survey, At, Translate, Strip, Totals, Find}
+use Rattle.lrs_words.specs.declared.job.Job.TheVariants.{Edit, Survey, At, Translate, Strip, Totals, Find, Serve}
 
 -- ---- the command line
 
@@ -28,6 +28,7 @@ name_text job.Translate = codes "translate"
 name_text job.Strip = codes "strip"
 name_text job.Totals = codes "totals"
 name_text job.Find = codes "find"
+name_text job.Serve = codes "serve"
 
 -- what the words of a job are called, in their order
 abbrev pub rules_of : JobName → List Rule
@@ -38,6 +39,7 @@ rules_of job.Translate = required (codes "DB") ∷ required (codes "ROUTE") ∷ 
 rules_of job.Strip = required (codes "DB") ∷ required (codes "ROUTE") ∷ required (codes "SIDE") ∷ several (codes "CLASS") ∷ []
 rules_of job.Totals = required (codes "DB") ∷ []
 rules_of job.Find = required (codes "DB") ∷ required (codes "ASSET") ∷ []
+rules_of job.Serve = required (codes "DB") ∷ required (codes "PORT") ∷ required (codes "MAX") ∷ []
 
 -- the line of a job: its name and its words
 abbrev pub line_of_job : JobName → Shape
@@ -52,7 +54,7 @@ with_job a j = with_subcommand a (line_of_job j)
 
 -- all jobs
 abbrev pub jobs : List JobName
-jobs = job.Edit ∷ job.Survey ∷ job.At ∷ job.Translate ∷ job.Strip ∷ job.Totals ∷ job.Find ∷ []
+jobs = job.Edit ∷ job.Survey ∷ job.At ∷ job.Translate ∷ job.Strip ∷ job.Totals ∷ job.Find ∷ job.Serve ∷ []
 
 abbrev pub bare_line : App
 bare_line = record (new_app (codes "roadlrs")) {
@@ -73,6 +75,7 @@ job_name (Translate db route method position to) = job.Translate
 job_name (Strip db route side classes) = job.Strip
 job_name (Totals db) = job.Totals
 job_name (Find db asset) = job.Find
+job_name (Serve db port max) = job.Serve
 
 -- its words that come once, each with what it is called
 abbrev pub words_of : Job → List (Text × Text)
@@ -84,6 +87,7 @@ words_of (Translate db route method position to) =
 words_of (Strip db route side classes) = (codes "DB", db.now) ∷ (codes "ROUTE", route.now) ∷ (codes "SIDE", side.now) ∷ []
 words_of (Totals db) = (codes "DB", db.now) ∷ []
 words_of (Find db asset) = (codes "DB", db.now) ∷ (codes "ASSET", asset.now) ∷ []
+words_of (Serve db port max) = (codes "DB", db.now) ∷ (codes "PORT", port.now) ∷ (codes "MAX", max.now) ∷ []
 
 -- the classes of a strip are all the words of their place
 abbrev pub HasClasses : Job → List Row → Type 0

@@ -32,6 +32,10 @@ static CLASS: &str = "The names of exclusive classes";
 
 static ASSET: &str = "The number of an asset";
 
+static PORT: &str = "A port of 127.0.0.1, from 1 to 65535";
+
+static MAX: &str = "How many connections are served, at most 1000000";
+
 fn required<'a>(alloc: Global, id: &'a str, help: &'a str) -> Arg<'a>
     ensures rule { rule_of result ≡ required id.entry.now }
     ensures local { result.global ≡ false }
@@ -149,6 +153,17 @@ fn find_line<'a>(alloc: Global) -> Result<Command<'a>, AllocError>
     with_word(alloc, line, "ASSET", ASSET)
 }
 
+fn serve_line<'a>(alloc: Global) -> Result<Command<'a>, AllocError>
+    ensures app { IfOk result (λ c. app_of c ≡ app_of_job JobName.Serve) }
+    ensures local { IfOk result (λ c. (out-Command c).has_globals ≡ false) }
+{
+    let about = "Serves the inventory over HTTP on 127.0.0.1, one connection after another";
+    let example = "Example: roadlrs serve roads.db 8080 1000000";
+    let line = line_over(alloc, "serve", about, example)?;
+    let line = with_word(alloc, line, "PORT", PORT)?;
+    with_word(alloc, line, "MAX", MAX)
+}
+
 fn with_sheets<'a>(alloc: Global, line: Command<'a>) -> Result<Command<'a>, AllocError>
     ensures { IfOk result (λ c. app_of c ≡ with_job (with_job (app_of line.entry) JobName.Edit) JobName.Survey) }
 {
@@ -174,6 +189,13 @@ fn with_reports<'a>(alloc: Global, line: Command<'a>) -> Result<Command<'a>, All
     line.subcommand(strip)?.subcommand(totals)?.subcommand(find)
 }
 
+fn with_service<'a>(alloc: Global, line: Command<'a>) -> Result<Command<'a>, AllocError>
+    ensures { IfOk result (λ c. app_of c ≡ with_job (app_of line.entry) JobName.Serve) }
+{
+    let serve = serve_line(alloc)?;
+    line.subcommand(serve)
+}
+
 /// The command line of the program.
 pub(crate) fn program<'a>(alloc: Global) -> Result<Command<'a>, AllocError>
     ensures { IfOk result (λ c. app_of c ≡ line_of_program) }
@@ -186,5 +208,6 @@ pub(crate) fn program<'a>(alloc: Global) -> Result<Command<'a>, AllocError>
         .subcommand_required(true);
     let line = with_sheets(alloc, line)?;
     let line = with_positions(alloc, line)?;
-    with_reports(alloc, line)
+    let line = with_reports(alloc, line)?;
+    with_service(alloc, line)
 }

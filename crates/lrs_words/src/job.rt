@@ -14,6 +14,7 @@ pub enum JobName {
     Strip,
     Totals,
     Find,
+    Serve,
 }
 
 /// A job, with its words as they were given. `db` is the inventory.
@@ -60,6 +61,12 @@ pub enum Job<'a> {
         db: &'a str,
         asset: &'a str,
     },
+    /// Serves `max` connections over HTTP on a port of this machine.
+    Serve {
+        db: &'a str,
+        port: &'a str,
+        max: &'a str,
+    },
 }
 
 /// The job of this name.
@@ -75,6 +82,7 @@ pub(crate) fn read_job(name: &str) -> Option<JobName>
         "strip" => Some(JobName::Strip),
         "totals" => Some(JobName::Totals),
         "find" => Some(JobName::Find),
+        "serve" => Some(JobName::Serve),
         _ => None,
     }
 }

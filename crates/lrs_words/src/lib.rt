@@ -7,5 +7,7 @@ mod question;
 mod words;
 
 pub use job::Job;
-pub use question::{BadWord, Destination, Question, QuestionFault, question_of};
+pub use question::{
+    BadWord, Destination, Question, QuestionFault, Service, question_of, service_of,
+};
 pub use words::{WordsFault, job_of};

@@ -2,7 +2,7 @@
 
 ghost use Rattle.std.specs.Prelude.{◌≡◌, ◌⊎◌, IfOk, IfErr, IfNone, IfSome, map};
 ghost use Rattle.lrs_position.specs.Readings.{States};
-ghost use Rattle.lrs_words.specs.Questions.{Asks, Cannot, CannotClass, CannotPosition, IsFaultOf, IsSheetJob, SaysAsset, SaysClass, SaysDestination, SaysMethod, SaysPosition, SaysRoute, SaysSide};
+ghost use Rattle.lrs_words.specs.Questions.{Asks, AsksNothing, Cannot, CannotClass, CannotPosition, CannotServe, IsFaultOf, SaysAsset, SaysClass, SaysDestination, SaysMethod, SaysMost, SaysNumber, SaysPort, SaysPosition, SaysRoute, SaysService, SaysSide};
 
 use crate::job::Job;
 use lrs_events::{ClassName, Side, read_side};
@@ -13,6 +13,12 @@ use std::fmt;
 
 /// The greatest number of an asset.
 const GREATEST_ASSET: u64 = 1_000_000_000_000;
+
+/// The greatest port.
+const GREATEST_PORT: u64 = 65_535;
+
+/// The most connections that are served before the program ends.
+const MOST_CONNECTIONS: u64 = 1_000_000;
 
 /// How a position is to be said.
 #[derive(Clone, Copy, PartialEq, Eq)]
@@ -46,6 +52,13 @@ pub enum Question {
     },
 }
 
+/// Where an inventory is served: a port of this machine, for so many connections.
+#[derive(Clone, Copy, Debug, PartialEq, Eq)]
+pub struct Service {
+    pub port: u16,
+    pub max: u32,
+}
+
 /// A word that cannot be read.
 #[derive(Clone, Copy, Debug, PartialEq, Eq)]
 pub enum BadWord {
@@ -56,6 +69,8 @@ pub enum BadWord {
     Side,
     Class,
     Asset,
+    Port,
+    Max,
 }
 
 /// What the word is not.
@@ -74,6 +89,8 @@ impl fmt::Display for BadWord {
             BadWord::Side => f.write_str("SIDE is none of L, R and B"),
             BadWord::Class => f.write_str("CLASS is no class name"),
             BadWord::Asset => f.write_str("ASSET is no asset number"),
+            BadWord::Port => f.write_str("PORT is no port number"),
+            BadWord::Max => f.write_str("MAX is no number of connections"),
         }
     }
 }
@@ -184,27 +201,64 @@ fn classes_of(alloc: Global, texts: &[&str]) -> Result<Rows<ClassName>, Question
     Ok(Rows::from_vec(names))
 }
 
+/// The number between these bounds that a word says.
+fn number_of(text: &str, least: u64, greatest: u64, fault: BadWord) -> Result<u64, QuestionFault>
+    ensures read { IfOk result (SaysNumber least greatest text.now) }
+    ensures unread { IfErr result (Cannot fault (SaysNumber least greatest text.now)) }
+{
+    match read_digits(text.as_bytes(), greatest) {
+        Some(number) if number >= least => Ok(number),
+        _ => Err(QuestionFault::Unreadable(fault)),
+    }
+}
+
 fn asset_of(text: &str) -> Result<u64, QuestionFault>
     ensures read { IfOk result (SaysAsset text.now) }
     ensures unread { IfErr result (Cannot BadWord.Asset (SaysAsset text.now)) }
 {
-    match read_digits(text.as_bytes(), GREATEST_ASSET) {
-        Some(number) if number >= 1 => Ok(number),
-        _ => Err(QuestionFault::Unreadable(BadWord::Asset)),
-    }
+    number_of(text, 1, GREATEST_ASSET, BadWord::Asset)
 }
 
-/// What a job asks of its inventory; none where it does a sheet.
+fn port_of(text: &str) -> Result<u16, QuestionFault>
+    ensures read { IfOk result (SaysPort text.now) }
+    ensures unread { IfErr result (Cannot BadWord.Port (SaysPort text.now)) }
+{
+    let port = number_of(text, 1, GREATEST_PORT, BadWord::Port)?;
+    Ok(port as u16)
+}
+
+fn most_of(text: &str) -> Result<u32, QuestionFault>
+    ensures read { IfOk result (SaysMost text.now) }
+    ensures unread { IfErr result (Cannot BadWord.Max (SaysMost text.now)) }
+{
+    let max = number_of(text, 0, MOST_CONNECTIONS, BadWord::Max)?;
+    Ok(max as u32)
+}
+
+/// Where an inventory is served, as these words say.
+///
+/// # Errors
+/// The first word that cannot be read.
+pub fn service_of(port: &str, max: &str) -> Result<Service, QuestionFault>
+    ensures read { IfOk result (SaysService port.now max.now) }
+    ensures unread { IfErr result (CannotServe port.now max.now) }
+{
+    let port = port_of(port)?;
+    let max = most_of(max)?;
+    Ok(Service { port, max })
+}
+
+/// What a job asks of its inventory; none where it does a sheet, or serves.
 ///
 /// # Errors
 /// The first word that cannot be read, and `Memory`.
 pub fn question_of(alloc: Global, job: &Job<'_>) -> Result<Option<Question>, QuestionFault>
-    ensures none { IfOk result (λ asked. IfNone asked (IsSheetJob job.now)) }
+    ensures none { IfOk result (λ asked. IfNone asked (AsksNothing job.now)) }
     ensures read { IfOk result (λ asked. IfSome asked (Asks job.now)) }
     ensures unread { IfErr result (IsFaultOf job.now) }
 {
     match job {
-        Job::Edit { .. } | Job::Survey { .. } => Ok(None),
+        Job::Edit { .. } | Job::Survey { .. } | Job::Serve { .. } => Ok(None),
         Job::At {
             route,
             method,

@@ -173,6 +173,16 @@ fn find_job<'a>(given: &ArgMatches<'a>) -> Option<Job<'a>>
     Some(Job::Find { db, asset })
 }
 
+fn serve_job<'a>(given: &ArgMatches<'a>) -> Option<Job<'a>>
+    ensures job { IfSome result (λ job. (job_name job ≡ JobName.Serve) × HasWords job (rows_of (found_of given.now))) }
+    ensures there { AreGiven (rules_of JobName.Serve) (rows_of (found_of given.now)) → IsSome result }
+{
+    let db = word_in(given, "DB")?;
+    let port = word_in(given, "PORT")?;
+    let max = word_in(given, "MAX")?;
+    Some(Job::Serve { db, port, max })
+}
+
 // The job of this name, with its words.
 fn job_with<'a>(
     alloc: Global,
@@ -190,6 +200,7 @@ fn job_with<'a>(
         JobName::Strip => strip_job(alloc, given),
         JobName::Totals => Ok(totals_job(given)),
         JobName::Find => Ok(find_job(given)),
+        JobName::Serve => Ok(serve_job(given)),
     }
 }
 

@@ -1,5 +1,5 @@
 use Rattle.lrs_http.specs.Task.{asked_by}
-use Rattle.lrs_web.proofs.Served.{nothing_done, serves_ok, serves_done, unserved}
+use Rattle.lrs_web.proofs.Responding.{nothing_done, serves_ok, serves_done, unserved}
 use Rattle.lrs_web.proofs.serving.serve_one.Goals as goal
 
 -- src/serving.rt:145:9

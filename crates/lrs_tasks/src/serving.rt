@@ -1,0 +1,34 @@
+//! The inventory, served over HTTP.
+
+ghost use Rattle.std.specs.Prelude.{◌≡◌};
+ghost use Rattle.lrs_tasks.specs.Faults.{fault_of_service};
+
+use crate::ending::Ending;
+use crate::fault::ProgramFault;
+use lrs_desk::{Desk, Keeper};
+use lrs_serve::{ServiceFault, serve};
+use lrs_words::Service;
+use std::alloc::Global;
+use std::net::Net;
+use std::rt::Runtime;
+
+fn service_fault(fault: ServiceFault) -> ProgramFault
+    ensures { result ≡ fault_of_service fault }
+{
+    match fault {
+        ServiceFault::Door => ProgramFault::Door,
+        ServiceFault::Write => ProgramFault::Write,
+    }
+}
+
+/// Serves a desk until the last connection has ended.
+pub fn do_service<R: Runtime<A = Global> + Net, K: Keeper>(
+    rt: &R,
+    desk: &mut Desk<K>,
+    service: Service,
+) -> Ending {
+    match serve(rt, service.port, service.max, desk) {
+        Ok(_) => Ending::Done,
+        Err(fault) => Ending::Stopped(service_fault(fault)),
+    }
+}

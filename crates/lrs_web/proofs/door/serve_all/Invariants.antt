@@ -1,0 +1,10 @@
+use Rattle.std.proofs.Common.{◌≡◌, ◌+◌}
+use Rattle.lrs_web.specs.Visits.{Visited}
+use Rattle.lrs_web.proofs.door.serve_all.Given as goal
+
+abbrev pub invariant-loop-turn : goal.invariant-loop-turn
+invariant-loop-turn g l = record {
+  counted : l.full + l.cut ≡ l._turn;
+  steady : g.D.Door.failures l.door ≡ g.D.Door.failures l.fn.door;
+  visited : Visited g.K.Keeper.may_hold g.D.Connection.Read.remaining (g.D.Door.waiting l.fn.door) (g.D.Door.waiting l.door) l.full l.cut l.fn.desk l.desk;
+}
