@@ -136,7 +136,7 @@ def test_each_command_shows_an_example_that_is_understood():
 
 def test_help_names_each_command():
     said = run("--help").stdout.decode()
-    assert re.findall(r"^  (\w+)  ", said, re.M) == [*EXAMPLES, "help"], said
+    assert re.findall(r"^  (\w+)  ", said, re.M) == [*EXAMPLES, "serve", "help"], said
 
 
 def test_the_version_names_the_kit_that_proved_it():

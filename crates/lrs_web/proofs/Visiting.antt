@@ -1,14 +1,15 @@
 -- One more connection.
-use Rattle.std.proofs.Common.{◌≡◌, ℕ, ◌+◌, List, [], ◌∷◌, ◌++◌, length, Option, None, Some, IfSome, Result, Ok, Err, IfOk, refl, sym, ap, ◌∙◌, subst, append_assoc, length-append, arith, inl, inr}
+use Rattle.std.proofs.Common.{◌≡◌, ℕ, ◌+◌, List, [], ◌∷◌, ◌++◌, Option, None, Some, IfSome, Result, refl, sym, ap, ◌∙◌, subst, append_assoc, length-append, map, arith, inl, inr}
+use Rattle.std.proofs.lemmas.List.{length-map}
 use Rattle.lrs_machine.specs.Lines.{Text}
 use Rattle.lrs_machine.specs.declared.image.Image.{Image}
 use Rattle.lrs_machine.specs.declared.table.Table.{Table}
 use Rattle.lrs_desk.specs.DeskView.{DeskView}
 use Rattle.lrs_http.specs.Task.{Asked, Asks}
-use Rattle.lrs_http.specs.Text.{Answer, empty_answer}
+use Rattle.lrs_http.specs.Text.{Answer}
 use Rattle.lrs_web.specs.Serving.{Does, Responds}
 use Rattle.lrs_web.specs.Door.{Gives, KeepsAll}
-use Rattle.lrs_web.specs.Visits.{IsCut, IsDone, IsFull, Visited, Visits, nobody, full_visit, cut_visit}
+use Rattle.lrs_web.specs.Visits.{HasVisited, IsCut, IsFull, Visited, Visits, nobody, full_visit, cut_visit}
 
 module _ {K : Type 0} (holds : K → Result Image Table → Type 0) where
   -- an answer that is no 503 is the one that is due
@@ -21,6 +22,11 @@ module _ {K : Type 0} (holds : K → Result Image Table → Type 0) where
   cut_by bytes asked old new asks (due, does) = inr (asked, due, record { asks = asks; does = does })
 
   module _ {C : Type 0} (bytes : C → Option Text) where
+    -- the bytes of one more
+    bytes_of : (given : List C) (c : C) → map bytes given ++ bytes c ∷ [] ≡ map bytes (given ++ c ∷ [])
+    bytes_of [] c = refl
+    bytes_of (x ∷ xs) c = ap (λ (l : List (Option Text)). bytes x ∷ l) (bytes_of xs c)
+
     none_taken : (w : Option (List C)) → IfSome w (λ all. (rest : List C) × (all ≡ [] ++ rest) × (w ≡ Some rest))
     none_taken None = tt
     none_taken (Some all) = (all, refl, refl)
@@ -50,7 +56,7 @@ module _ {K : Type 0} (holds : K → Result Image Table → Type 0) where
       given = before.given ++ c ∷ [];
       taken = one_taken w l m before.given c before.taken gives;
       number = simp length-append (omega (arith, before.number));
-      visits = full_visit before.given c full cut old mid new before.visits done;
+      visits = subst (λ l. Visits holds l (full + 1) cut old new) (bytes_of before.given c) (full_visit _ (bytes c) full cut old mid new before.visits done);
     }
 
     pub visited_cut : (w l m : Option (List C)) (c : C) (full cut : ℕ) (old mid new : DeskView K) → Visited holds bytes w l full cut old mid → Gives l c m
@@ -59,7 +65,7 @@ module _ {K : Type 0} (holds : K → Result Image Table → Type 0) where
       given = before.given ++ c ∷ [];
       taken = one_taken w l m before.given c before.taken gives;
       number = simp length-append (omega (arith, before.number));
-      visits = cut_visit before.given c full cut old mid new before.visits done;
+      visits = subst (λ l. Visits holds l full (cut + 1) old new) (bytes_of before.given c) (cut_visit _ (bytes c) full cut old mid new before.visits done);
     }
 
     kept_left : (rest : List C) (m : Option (List C)) → KeepsAll (Some rest) m → m ≡ Some rest
@@ -72,6 +78,10 @@ module _ {K : Type 0} (holds : K → Result Image Table → Type 0) where
     kept (Some all) l m given taken keeps = (taken.0, taken.1, kept_left taken.0 m (subst (λ x. KeepsAll x m) taken.2 keeps))
 
     -- a door that fails takes nobody off its list
+    -- the bytes of connections may be forgotten
+    pub has_visited : (w l : Option (List C)) (full cut : ℕ) (old new : DeskView K) → Visited holds bytes w l full cut old new → HasVisited holds full cut old new
+    has_visited w l full cut old new before = (map bytes before.given, length-map before.given bytes ∙ before.number, before.visits)
+
     pub visited_kept : (w l m : Option (List C)) (full cut : ℕ) (old new : DeskView K) → Visited holds bytes w l full cut old new → KeepsAll l m → Visited holds bytes w m full cut old new
     visited_kept w l m full cut old new before keeps = record {
       given = before.given;

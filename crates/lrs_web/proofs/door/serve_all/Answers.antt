@@ -1,4 +1,4 @@
-use Rattle.std.proofs.Common.{◌≡◌, ◌+◌, refl, ◌∙◌, arith}
+use Rattle.std.proofs.Common.{refl, ◌∙◌, arith}
 use Rattle.lrs_web.proofs.Visiting.{visited_nobody, visited_full, visited_cut}
 use Rattle.lrs_web.proofs.door.serve_all.Goals as goal
 use Rattle.lrs_web.proofs.door.serve_all.Goals.{then-serve_connection, else-serve_connection}
