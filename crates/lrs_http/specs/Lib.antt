@@ -3,6 +3,7 @@ pub mod Body
 pub mod Framing
 pub mod Values
 pub mod Routes
+pub mod Paths
 pub mod Query
 pub mod Text
 pub mod Task

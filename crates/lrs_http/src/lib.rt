@@ -6,6 +6,7 @@
 mod body;
 mod framing;
 mod head;
+pub mod laws;
 mod paths;
 mod query;
 mod reply;
