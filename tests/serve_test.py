@@ -193,7 +193,7 @@ def test_an_unknown_path(desk, target):
 
 
 def test_a_path_that_is_no_text(desk):
-    assert answer(desk.port, request("GET /v1/\xff")) in [reply(400), reply(404)]
+    desk.answers(request("GET /v1/\xff"), reply(400))
 
 
 PATHS = {"GET": ["at", "route/A1", "route/a1", "segments", "translate", "totals"], "POST": ["edits", "surveys"]}
