@@ -1,7 +1,8 @@
 //! The inventory, served over HTTP.
 
-ghost use Rattle.std.specs.Prelude.{◌≡◌};
+ghost use Rattle.std.specs.Prelude.{ℕ, ◌≡◌, ◌+◌};
 ghost use Rattle.lrs_tasks.specs.Faults.{fault_of_service};
+ghost use Rattle.lrs_web.specs.Visits.{HasVisited};
 
 use crate::ending::Ending;
 use crate::fault::ProgramFault;
@@ -21,12 +22,14 @@ fn service_fault(fault: ServiceFault) -> ProgramFault
     }
 }
 
-/// Serves a desk until the last connection has ended.
+/// Serves a desk until the last connection has ended. It is done where as many were served as the service says.
 pub fn do_service<R: Runtime<A = Global> + Net, K: Keeper>(
     rt: &R,
     desk: &mut Desk<K>,
     service: Service,
-) -> Ending {
+) -> Ending
+    ensures { result ≡ Ending.Done → (full : ℕ) × (cut : ℕ) × (full + cut ≡ service.max) × HasVisited K.may_hold full cut desk.old desk.new }
+{
     match serve(rt, service.port, service.max, desk) {
         Ok(_) => Ending::Done,
         Err(fault) => Ending::Stopped(service_fault(fault)),
