@@ -64,7 +64,7 @@ def is_built_and_run(ended):
     """The program was built before it was run; both are said, each where it belongs."""
     said = ended.stderr.decode().splitlines()
     assert (ended.stdout, ended.status) == (b"a  b\ngiven\n", 0), ended
-    assert said[0].startswith("roadlrs: proving what the program stands on, 3 crates; a first run takes about "), said
+    assert said[0] == "roadlrs: proving what the program stands on, 3 crates; a first run takes an hour or more on 4 cores", said
     for number, (crate, line) in enumerate(zip(["low", "middle", "lrs_cli"], said[1:-1]), 1):
         assert re.fullmatch(rf"roadlrs: proving crate {number} of 3: {crate} \(after \d+ min \d+ s\)", line), said
     assert re.fullmatch(r"roadlrs: built in \d+ min \d+ s", said[-1]) and len(said) == 5, said

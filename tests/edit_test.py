@@ -112,6 +112,15 @@ def test_routes_that_are_malformed():
         ("b5,route,C1,3:0:10:+,0:0 10:100000000001", "b5,refused,Malformed:c"),
         ("b6,route,C1,3:0:10:+,0:0 10000000001:9", "b6,refused,Malformed:c"),
         ("b7,route,C1,3:0:10:+,0:0 10:9,x", "b7,refused,Malformed:d"),
+        ("b8,route,c1,3:0:10:+,0:0 10:9", "b8,refused,Malformed:a"),
+        ("b9,route,C1,3:0:10:+:,0:0 10:9", "b9,refused,Malformed:b"),
+        ("c1,route,C1,3:0:10:+ ,0:0 10:9", "c1,refused,Malformed:b"),
+        ("c2,route,C1,3:1000000001:10:+,0:0 10:9", "c2,refused,Malformed:b"),
+        ("c3,route,C1,3:0:-10:+,0:0 10:9", "c3,refused,Malformed:b"),
+        ("c4,route,C1,3:0:10:+,0:0 10:10:10", "c4,refused,Malformed:c"),
+        ("c5,route,C1,3:0:10:+,0:0 10", "c5,refused,Malformed:c"),
+        ("c6,route,C1,003:0:0010:-,0:00 10:100000000000", "c6,done,8"),
+        ("c6,route,C1,3:0:10:-,0:0 010:100000000000", "c6,again,8"),
     )
 
 
@@ -122,6 +131,9 @@ def test_longest_route():
         *links,
         (f"a,route,A,{' '.join(pieces)},0:0 10000000000:1", "a,refused,TooLong"),
         (f"b,route,A,{' '.join(pieces[:10])},0:0 10000000000:100000000000", "b,done,12"),
+        # a route that is too long is not looked for on ground that another one has
+        (f"c,route,B,{' '.join(pieces)},0:0 1:1", "c,refused,TooLong"),
+        (f"d,route,B,{' '.join(pieces[1:])},0:0 1:1", "d,refused,Taken:0"),
     )
 
 
@@ -271,8 +283,9 @@ def test_quoted_fields():
         (b' "j",link,4,5', "-,refused,Malformed:key"),
         (b'k,link,"4"",",5', "k,refused,Malformed:a"),
     ]
-    sheet = HEADER + b"".join(row + b",,,,,,,\n" for row, _ in rows)
-    ends(run_sheet(sheet), lines(*(reply for _, reply in rows)), 1)
+    for header in (HEADER, HEADER.replace(b",i\n", b',"i"\n')):
+        sheet = header + b"".join(row + b",,,,,,,\n" for row, _ in rows)
+        ends(run_sheet(sheet), lines(*(reply for _, reply in rows)), 1)
 
 
 def test_mark_before_the_header():

@@ -270,6 +270,42 @@ def test_where_an_asset_lies():
         answers(db, "find 10", "A0 0 3000 B", "A1 2500 3000 B", "A1 4000 5000 B")
 
 
+# after the first sheet: records that are done, and then the rows of assets
+LIES = {
+    "on_three_routes_by_their_names": (
+        [SPEED_LIMIT, "a1,recalibrate,A1,0:0 3000:3000 5000:5000 8000:8000", "a2,split,A1,5000,A0", "a3,split,A1,3000,B1"],
+        {10: ["A0 0 3000 B", "A1 2500 3000 B", "B1 0 2000 B"]},
+    ),
+    "on_a_renumbered_route": ([SPEED_LIMIT, "a1,renumber,A1,B1"], {10: ["B1 2500 8000 B"]}),
+    "on_two_routes_one_of_which_is_turned": ([SPEED_LIMIT, SPLIT, "a1,turn,A1"], {10: ["A1 0 2500 B", "A2 0 3000 B"]}),
+    "on_a_route_that_was_renumbered_and_joined": ([SPEED_LIMIT, SPLIT, "a1,renumber,A1,B1", "a2,join,B1,A2"], {10: ["B1 2500 8000 B"]}),
+    "at_a_point_behind_the_edge_of_a_split": (["p1,enter,20,SIGN,A1,R,abs,6000,,STOP,0", SPLIT], {20: ["A2 0 1 R"]}),
+    "at_a_point_before_the_edge_of_a_split": (["p1,enter,20,SIGN,A1,R,int,4999/8000,,STOP,0", SPLIT], {20: ["A1 4999 5000 R"]}),
+    "by_neighbouring_edits_on_the_same_ground": (
+        [SPEED_LIMIT, "e2,enter,9,RAIL,A1,L,abs,3000,9000,x,0", "e3,enter,12,RAIL,A1,L,abs,3000,6000,y,0"],
+        {10: ["A1 2500 8000 B"], 9: ["A1 2500 8000 L"], 12: ["A1 2500 5000 L"]},
+    ),
+    "where_a_part_is_retired_and_the_route_turned": ([SPEED_LIMIT, "m1,retire,10,A1,abs,5000,6000", "a1,turn,A1"], {10: ["A1 0 3000 B", "A1 3833 5500 B"]}),
+    "where_another_route_has_ground_that_it_left": (
+        [SPEED_LIMIT, RECALIBRATED, "e8,realign,A1,4000,6000,3:0:2000:+,0:0 8000:8000", "g2,route,B1,1:4000:5000:-,0:0 1000:1000", "g5,enter,13,SPEED,B1,B,abs,0,1000,60,0"],
+        {10: ["A1 2500 4000 B", "A1 6000 8000 B"], 13: ["B1 0 1000 B"]},
+    ),
+    "where_all_of_its_ground_has_another_route": (
+        [SPEED_LIMIT, "c1,close,A1", "g1,route,B1,2:0:3000:+ 1:0:5000:-,0:0 8000:8000", "g2,enter,11,SPEED,B1,L,abs,0,8000,60,0"],
+        {10: [], 11: ["B1 0 8000 L"]},
+    ),
+}
+
+
+@pytest.mark.parametrize("name", LIES)
+def test_where_an_asset_lies_today(name):
+    """On the routes that run today over the ground where it was entered, and on none of these where it holds nothing."""
+    texts, rows_of = LIES[name]
+    with after_first(*texts) as db:
+        for asset, rows in rows_of.items():
+            answers(db, f"find {asset}", *rows)
+
+
 def test_an_asset_that_holds_nothing_any_more():
     with after_first(SPEED_LIMIT, "e2,retire,10,A1,abs,0,9000") as db:
         answers(db, "find 10")

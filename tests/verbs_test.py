@@ -60,6 +60,10 @@ def test_referents():
         ("c5,recalibrate,B1,0:0 8000:8000", "c5,done,15"),
         ("c6,ref,KM7,B1,abs,8001", "c6,refused,OffRoute"),
         ("c7,ref,KM7,B1,abs,8000", "c7,done,16"),
+        ("d1,unref,KM-7", "d1,refused,Malformed:a"),
+        ("d2,unref,KM7,B1", "d2,refused,Malformed:b"),
+        ("d3,ref,KM8,B1,abs,x", "d3,refused,Malformed:d"),
+        ("b2,unref,KM5", "b2,again,11"),
     )
 
 

@@ -31,7 +31,7 @@ use Rattle.lrs_machine.proofs.Members.{In, any_found, all_at, all_weaker, two_at
 use Rattle.lrs_keep.proofs.Tables.{assets_in_order, routes_in_order}
 use Rattle.lrs_answers.specs.declared.finding.FoundRow.{FoundRow}
 use Rattle.lrs_answers.specs.Finding.{found_row, all_rows_of, rows_on}
-use Rattle.lrs_answers.proofs.Holding.{alone, held_at, rows_held_at}
+use Rattle.lrs_routes.proofs.Holding.{alone, held_at, rows_held_at}
 use Rattle.lrs_ordered.proofs.Keys.{finds_number}
 use Rattle.lrs_machine.specs.Image.{asset_entry}
 use Rattle.lrs_machine.specs.State as state
@@ -138,12 +138,16 @@ module _ (i : Image) (n : ℕ) where
   there : (a : Asset) → Some a ≡ sought → Some (asset_entry a).1 ≡ get (state_of i).assets n
   there a h = ap (option_map (λ (x : Asset). (asset_entry x).1)) h ∙ sym asset_is
 
-  pub rows_found : (a : Asset) (found : List FoundRow) → IsSound i → Some a ≡ sought → found ≡ flat_map (rows_on a.class n) i.routes → IsFound (state_of i) n (Ok found)
-  rows_found a found sound h same =
+  -- what is found is a known asset of the number
+  pub sought_known : (a : Asset) → Some a ≡ sought → In a i.assets × (a.number ≡ n)
+  sought_known a h =
       let by_number = sym (finds_number (λ (x : Asset). x.number) n i.assets) ∙ sym h in
-      let number : a.number ≡ n = eqb-true a.number n (found_passes (λ (x : Asset). nat_eq x.number n) a i.assets by_number) in
-      subst (λ (o : Option state.Asset). Given o (Ok found)) (there a h)
-      (same ∙ ap (λ k. flat_map (rows_on a.class k) i.routes) (sym number) ∙ rows_of_all i sound a (found_in (λ (x : Asset). nat_eq x.number n) a i.assets by_number) ∙ ap (all_rows_of (state_of i)) number)
+      (found_in (λ (x : Asset). nat_eq x.number n) a i.assets by_number, eqb-true a.number n (found_passes (λ (x : Asset). nat_eq x.number n) a i.assets by_number))
+
+  pub rows_found : (a : Asset) (found : List FoundRow) → IsSound i → Some a ≡ sought → found ≡ flat_map (rows_on a.class a.number) i.routes → IsFound (state_of i) n (Ok found)
+  rows_found a found sound h same =
+      let its = sought_known a h in
+      subst (λ (o : Option state.Asset). Given o (Ok found)) (there a h) (same ∙ rows_of_all i sound a its.0 ∙ ap (all_rows_of (state_of i)) its.1)
 
   pub no_memory : (a : Asset) → Some a ≡ sought → IsFound (state_of i) n (Err Memory)
   no_memory a h = subst (λ (o : Option state.Asset). Given o (Err Memory)) (there a h) (λ k. Memory)

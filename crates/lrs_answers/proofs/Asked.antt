@@ -26,7 +26,7 @@ use Rattle.lrs_keep.specs.Change.{is_named}
 use Rattle.lrs_answers.specs.declared.fault.AskFault.{AskFault}
 use Rattle.lrs_answers.specs.declared.fault.AskFault.TheVariants.{NoRoute}
 use Rattle.lrs_answers.specs.Answers.{IsRouteIn, OnRoute, AsksRoute, as_asked}
-use Rattle.lrs_answers.proofs.FromReferents.{referents_found}
+use Rattle.lrs_routes.proofs.FromReferents.{referents_found}
 
 -- ---- the route of a name
 

@@ -29,7 +29,7 @@ use Rattle.lrs_keep.proofs.Tables.{assets_in_order}
 use Rattle.lrs_answers.specs.Answers.{IsRouteIn}
 use Rattle.lrs_answers.specs.Hits.{hit_by}
 use Rattle.lrs_answers.proofs.Asked.{route_in, found_in, found_passes}
-use Rattle.lrs_answers.proofs.Holding.{held_at}
+use Rattle.lrs_routes.proofs.Holding.{held_at}
 use Rattle.lrs_answers.proofs.Joined.{joined, is_false, filter_map-same, with_key}
 
 its_sides : (s : Side) → side_of (has_side s Left) (has_side s Right) ≡ Some s

@@ -285,7 +285,7 @@ has_length links assets parts h part m =
 pub entered_parts : (i : Image) → IsSound i → AreParts i.links i.assets i.entered
 entered_parts i s = parts_are i.links i.assets i.entered (and_parts (each_two part_before i.entered) (are_parts i.links i.assets i.entered) (passes i s).entered).1
 
-gone_parts : (i : Image) → IsSound i → AreParts i.links i.assets (parts_of i.gone)
+pub gone_parts : (i : Image) → IsSound i → AreParts i.links i.assets (parts_of i.gone)
 gone_parts i s =
     let t = and_three (each_two gone_before i.gone) (are_parts i.links i.assets (parts_of i.gone)) (are_balanced i.links i.assets (spans_of i) i.entered (parts_of i.gone)) (passes i s).gone in
     parts_are i.links i.assets (parts_of i.gone) t.1

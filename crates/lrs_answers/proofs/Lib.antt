@@ -1,5 +1,3 @@
-pub mod FromReferents
-pub mod Holding
 pub mod Asked
 pub mod Located
 pub mod Joined
@@ -8,5 +6,3 @@ pub mod OfState
 pub mod AllRows
 pub mod AskedAt
 pub mod Ledgers
-pub mod Counted
-pub mod Summed

@@ -36,7 +36,7 @@ use Rattle.lrs_answers.specs.declared.fault.AskFault.TheVariants.{Seg}
 use Rattle.lrs_answers.specs.Answers.{IsRouteIn, UnlessMemory}
 use Rattle.lrs_answers.specs.Segmented.{class_list, asked_fault, IsSegmented}
 use Rattle.lrs_answers.proofs.Asked.{route_in, on_route}
-use Rattle.lrs_answers.proofs.Holding.{held_at}
+use Rattle.lrs_routes.proofs.Holding.{held_at}
 
 abbrev spans_entry : RouteEntry → RouteSpans
 spans_entry f = record { course = f.route.course; rows = f.spans }

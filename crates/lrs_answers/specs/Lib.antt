@@ -3,4 +3,3 @@ pub mod Hits
 pub mod Finding
 pub mod Segmented
 pub mod Totals
-pub mod Counts

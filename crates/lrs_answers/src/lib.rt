@@ -1,7 +1,6 @@
 //! What a road authority asks of an inventory, over the lists that are kept of it.
 #![tactic(auto)]
 
-mod counting;
 mod fault;
 mod finding;
 mod hits;
@@ -10,9 +9,8 @@ mod routes;
 mod segmenting;
 mod standing;
 
-pub use counting::totals;
 pub use fault::AskFault;
-pub use finding::{FoundRow, find};
+pub use finding::{FoundRow, push_rows};
 pub use hits::{AtAnswer, at};
 pub use segmenting::segments;
 pub use standing::{to_link, translate};

@@ -4,6 +4,8 @@ use Rattle.lrs_machine.specs.declared.answer.Limits.{Limits}
 use Rattle.lrs_machine.specs.declared.image.Image.{Image}
 use Rattle.lrs_machine.specs.declared.table.Table.{Table}
 use Rattle.lrs_keep.specs.Keeping.{HoldsOnly}
+use Rattle.lrs_totals.specs.declared.counts.Counts.{Counts}
+use Rattle.lrs_totals.specs.Running.{IsCounted}
 
 pub record DeskView (K : Type 0) : Type 0 where
   pub image : Image
@@ -12,7 +14,8 @@ pub record DeskView (K : Type 0) : Type 0 where
   pub must_reopen : Bool
   pub keeper : K
 
--- An opening finds the image and nothing else, unless a commit has failed.
-pub record IsWorking (image : Image) (must_reopen : Bool) (may : Result Image Table → Type 0) (is_loaded : Bool) : Type 0 where
+-- An opening finds the image and nothing else, unless a commit has failed; and what is counted of each class is the image's.
+pub record IsWorking (image : Image) (counts : Counts) (must_reopen : Bool) (may : Result Image Table → Type 0) (is_loaded : Bool) : Type 0 where
   pub kept : must_reopen ≡ false → HoldsOnly may image
   pub loaded : is_loaded ≡ true
+  pub counted : IsCounted image counts

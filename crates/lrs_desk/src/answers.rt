@@ -41,7 +41,7 @@ impl<K: Keeper> Desk<K> {
     pub fn find(&self, asset: u64) -> Result<Rows<FoundRow>, AskFault>
         ensures { IsFound (state_of self.now.image) asset result }
     {
-        lrs_answers::find(self.alloc(), self.inventory().kept(), asset)
+        lrs_finding::find(self.alloc(), self.inventory(), asset)
     }
 
     /// The segments of a route by these exclusive classes, on one side of it (ISO 19148: linear segment).
@@ -69,7 +69,8 @@ impl<K: Keeper> Desk<K> {
     pub fn totals(&self) -> Result<Rows<Total>, AskFault>
         ensures { UnlessMemory (λ totals. totals ≡ totals_of (state_of self.now.image)) result }
     {
-        lrs_answers::totals(self.alloc(), self.inventory().kept())
+        self.inventory().prove_sound();
+        self.counts().totals(self.alloc())
     }
 
     /// A position on a route by another method (ISO 19148: translation of a position expression).

@@ -8,13 +8,16 @@ ghost use Rattle.lrs_machine.specs.Laws.{once};
 ghost use Rattle.lrs_machine.specs.Machine.{step, answers, state_after};
 ghost use Rattle.lrs_keep.specs.Change.{apply, CanMake};
 ghost use Rattle.lrs_keep.specs.Keeping.{HasRisen, HoldsOnly, HoldsOldOrNew};
+ghost use Rattle.lrs_totals.specs.Running.{IsCounted};
 ghost use Rattle.lrs_verbs.specs.Keys.{place_among};
 ghost use Rattle.lrs_verbs.specs.Plans.{change_of, TellsGround};
 ghost use Rattle.lrs_desk.specs.Desk.{IsUnchanged, HasBroken, records_of};
 
 use crate::decide::{Decision, decide};
+use lrs_events::Class;
 use lrs_keep::{CommitFault, Keeper, LoadFault};
 use lrs_machine::{Answer, Command, Edit, Key, Limits, Table};
+use lrs_totals::Counts;
 use lrs_verbs::{Inventory, Plan};
 use std::alloc::{AllocError, AllocFailed, Global};
 use std::marker::Model;
@@ -74,6 +77,7 @@ fn open_fault(fault: LoadFault) -> OpenFault
 pub struct Desk<K: Keeper> {
     keeper: K,
     inventory: Inventory,
+    counts: Counts,
     limits: Limits,
     must_reopen: bool,
     alloc: Global,
@@ -91,7 +95,7 @@ impl<K: Keeper> Model for Desk<K> {
       keeper = d.keeper;
     } };
 
-    ghost invariant = { λ d. IsWorking d.inventory d.must_reopen (K.may_hold d.keeper) (K.is_loaded d.keeper) };
+    ghost invariant = { λ d. IsWorking d.inventory d.counts d.must_reopen (K.may_hold d.keeper) (K.is_loaded d.keeper) };
 }
 
 impl<K: Keeper> Desk<K> {
@@ -118,9 +122,13 @@ impl<K: Keeper> Desk<K> {
         let Ok(inventory) = Inventory::new(alloc, image) else {
             return Err((OpenFault::Memory, keeper));
         };
+        let Ok(counts) = Counts::of_image(alloc, inventory.kept()) else {
+            return Err((OpenFault::Memory, keeper));
+        };
         Ok(Desk {
             keeper,
             inventory,
+            counts,
             limits,
             must_reopen: false,
             alloc,
@@ -132,6 +140,13 @@ impl<K: Keeper> Desk<K> {
         ensures { result.now ≡ self.now.image }
     {
         &self.inventory
+    }
+
+    /// What has been entered, retired and abandoned of each class.
+    pub fn counts(&self) -> &Counts
+        ensures { IsCounted self.now.image result.now }
+    {
+        &self.counts
     }
 
     /// Whether a commit has failed, so that the keeper has to be opened again.
@@ -191,6 +206,7 @@ impl<K: Keeper> Desk<K> {
                 let made = make(
                     self.alloc,
                     &mut self.inventory,
+                    &mut self.counts,
                     &mut self.keeper,
                     edit,
                     plan,
@@ -202,10 +218,11 @@ impl<K: Keeper> Desk<K> {
     }
 }
 
-// Makes the change of a plan, and answers the number of its edit.
+// Makes the change of a plan, counts what it brings, and answers the number of its edit.
 fn make<K: Keeper>(
     alloc: Global,
     inventory: &mut Inventory,
+    counts: &mut Counts,
     keeper: &mut K,
     edit: Edit,
     plan: Plan,
@@ -215,6 +232,7 @@ fn make<K: Keeper>(
     requires can { CanMake (change_of edit plan) inventory.old }
     requires tells { TellsGround plan inventory.old }
     requires new_key { place_among inventory.old.edits edit.key ≡ None }
+    requires counted { IsCounted inventory.old counts.old }
     ensures answer { IfOk result (λ answer. answer ≡ Answer.Done (length inventory.old.edits + 1)) }
     ensures ok { OnOk result (inventory.new ≡ apply (change_of edit plan) inventory.old) }
     ensures ok_kept { OnOk result (HoldsOnly (K.may_hold keeper.new) (apply (change_of edit plan) inventory.old)) }
@@ -224,12 +242,26 @@ fn make<K: Keeper>(
     ensures cause { result ≡ Err Fault.Keep → HasRisen (K.failures keeper.old) (K.failures keeper.new) }
     ensures only { result ≡ Err Fault.MustReopen → ⊥ }
     ensures loaded { K.is_loaded keeper.new ≡ true }
+    ensures counted { IsCounted inventory.new counts.new }
 {
+    inventory.prove_sound();
+    counts.reserve()?;
     let number = inventory.edits() + 1;
+    let class = class_of(&plan);
     match inventory.make(alloc, keeper, edit, plan) {
-        Ok(()) => Ok(Answer::Done(number)),
+        Ok(()) => {
+            counts.catch_up(inventory.kept(), class);
+            Ok(Answer::Done(number))
+        }
         Err(fault) => Err(commit_fault(fault)),
     }
+}
+
+// The class that comes by a plan, if one does.
+fn class_of(plan: &Plan) -> Option<Class>
+    ensures { result ≡ plan.now.difference.class }
+{
+    plan.difference.class
 }
 
 fn commit_fault(fault: CommitFault) -> Fault

@@ -1,6 +1,6 @@
 //! The first sheet, and how tests act on a desk.
 
-use lrs_desk::{Answer, Command, Desk, Fault, Image, Keeper, Key, Limits, Plain};
+use lrs_desk::{Answer, Command, Desk, Fault, Keeper, Key, Limits};
 use lrs_element::{Link, Mark, Piece};
 use lrs_events::{Class, ClassName, Kind};
 use lrs_machine::{MarkList, PieceList};
@@ -126,18 +126,4 @@ pub fn gives<K: Keeper>(
     wanted: Result<Answer, Fault>,
 ) {
     assert_eq!(rt; desk.act(key(rt, text), command), wanted);
-}
-
-/// A desk after the first sheet.
-pub fn after_first_sheet(rt: &(impl Abort + AllocGlobal), limits: Limits) -> Desk<Plain> {
-    let mut desk = open(rt, Plain::empty(rt.alloc()), limits);
-    for (text, command) in KEYS.iter().zip(first_sheet(rt).iter()) {
-        desk.act(key(rt, text), command).expect(rt, "an answer");
-    }
-    desk
-}
-
-/// A copy of what a desk knows.
-pub fn image_of<K: Keeper>(rt: &(impl Abort + AllocGlobal), desk: &Desk<K>) -> Image {
-    desk.inventory().image(rt.alloc()).expect(rt, "memory")
 }

@@ -13,7 +13,7 @@ use Rattle.lrs_machine.specs.declared.image.Image.{Image}
 use Rattle.lrs_machine.specs.Image.{state_of, route_entry}
 use Rattle.lrs_machine.specs.Sound.{IsSound}
 use Rattle.lrs_machine.proofs.Members.{In}
-use Rattle.lrs_verbs.proofs.Holding.{alone}
+use Rattle.lrs_routes.proofs.Holding.{alone}
 use Rattle.lrs_determined.specs.Rows.{SayAlike, RowsAreDetermined}
 use Rattle.lrs_determined.proofs.Owned.{own, class_at, its_rows, ends, classes}
 

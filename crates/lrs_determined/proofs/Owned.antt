@@ -26,7 +26,7 @@ use Rattle.lrs_machine.proofs.Pairs.{held}
 use Rattle.lrs_keep.proofs.Tables.{assets_in_order}
 use Rattle.lrs_routes.proofs.Apart.{apart_too}
 use Rattle.lrs_routes.proofs.Rewriting.{old_spans}
-use Rattle.lrs_verbs.proofs.Holding.{alone, only_at}
+use Rattle.lrs_routes.proofs.Holding.{alone, only_at}
 use Rattle.lrs_determined.specs.Rows.{class_of_asset}
 
 -- what is held lies on the course

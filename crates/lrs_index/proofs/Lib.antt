@@ -11,3 +11,4 @@ pub mod Losing
 pub mod Once
 pub mod Handing
 pub mod Routes
+pub mod Meeting

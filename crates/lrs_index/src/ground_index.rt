@@ -1,6 +1,6 @@
 //! The stretches of links that routes run over.
 
-ghost use Rattle.std.specs.Prelude.{◌≡◌, ℕ, ◌+◌, ◌≤◌, ◌<◌, false, position, Some, None, List, IfNone, IfSome, IsSome, OnOk, OnErr, [], ◌∷◌, if◌then◌else◌, true};
+ghost use Rattle.std.specs.Prelude.{◌≡◌, ℕ, ◌+◌, ◌≤◌, ◌<◌, false, position, Some, None, List, IfNone, IfSome, IsSome, OnOk, OnErr, [], ◌∷◌, if◌then◌else◌, true, ◌⊎◌};
 ghost use Rattle.std.specs.List.{AllByRecursion};
 ghost use Rattle.std.specs.Option.{option_and, option_map};
 ghost use Rattle.std.specs.FinMap as map;
@@ -10,11 +10,12 @@ ghost use Rattle.lrs_element.specs.Pieces.{IsFilled};
 ghost use Rattle.lrs_index.specs.Ground as specs;
 ghost use Rattle.lrs_index.specs.Ground.{Stretches, is_shared, is_run_once, HasGained, IsWhole, AreWhole, StaysWhole};
 ghost use Rattle.lrs_index.specs.Stretches.{AreApart, IsFirst, IsLast, IsCut, AreParts, cut_in_two, handed};
+ghost use Rattle.lrs_index.specs.Met.{IsAmong, RunsBetween};
 
 use lrs_element::Piece;
 use lrs_position::RouteName;
 use std::alloc::{AllocError, Global};
-use std::collections::BTreeMap;
+use std::collections::{BTreeMap, BTreeSet};
 use std::marker::Model;
 
 /// A stretch of a link, from where it begins: the edge where it ends, and the route that runs over it.
@@ -93,6 +94,46 @@ impl GroundIndex {
         } else {
             None
         }
+    }
+
+    // The last stretch of a link that has a millimetre between two edges, and where it begins.
+    fn last_met(&self, link: u32, from: u32, edge: u32) -> Option<(u32, Stretch)>
+        ensures none { IfNone result ((route : Name) → RunsBetween (specs.route_over self.now) link from edge route → ⊥) }
+        ensures last { IfSome result (λ found. IsLast self.now link edge found.0 found.1) }
+        ensures met { IfSome result (λ found. RunsBetween (specs.route_over self.now) link from edge found.1.route) }
+        ensures apart { AreApart self.now }
+    {
+        // The stretches are apart.
+        let _ = &self.stretches;
+        let (begin, stretch) = self.last_before(link, edge)?;
+        if from < edge && from < stretch.end {
+            Some((begin, stretch))
+        } else {
+            None
+        }
+    }
+
+    /// Adds the routes that run over a millimetre of a link, from one edge of it up to another, to those found before.
+    ///
+    /// # Errors
+    /// When memory runs out; some of the routes may have been added then.
+    pub fn routes_over(
+        &self,
+        link: u32,
+        from: u32,
+        to: u32,
+        found: &mut BTreeSet<RouteName>,
+    ) -> Result<(), AllocError>
+        ensures met { OnOk result ((route : Name) → RunsBetween (specs.route_over self.now) link from to route → IsAmong route found.new) }
+        ensures kept { (route : Name) → IsAmong route found.old → IsAmong route found.new }
+        ensures only { (route : Name) → IsAmong route found.new → IsAmong route found.old ⊎ RunsBetween (specs.route_over self.now) link from to route }
+    {
+        let mut edge = to;
+        while let Some((begin, stretch)) = self.last_met(link, from, edge) {
+            found.insert(stretch.route)?;
+            edge = begin;
+        }
+        Ok(())
     }
 
     /// Whether a route runs over a millimetre of the piece, whichever way.

@@ -10,13 +10,14 @@ ghost use Rattle.lrs_http.specs.Task.{verb_of};
 ghost use Rattle.lrs_http.specs.Text.{answer_of};
 ghost use Rattle.lrs_http.specs.declared.reply.Verb.TheVariants.{Get};
 ghost use Rattle.lrs_json.specs.Answers.{segments_data, translated_data, on_link_data, totals_data};
+ghost use Rattle.lrs_totals.specs.Running.{IsCounted};
 ghost use Rattle.lrs_replies.specs.Answered.{AnswersAsked, AnswersQuestion, IsFoundAt, ShowsNamed, ShowsPosition};
 ghost use Rattle.lrs_replies.specs.Answered as spec;
 ghost use Rattle.lrs_replies.specs.Replies.{shown};
 
 use crate::reply::{error_reply, json_reply, refusal, unasked};
 use http::StatusCode;
-use lrs_answers::{AskFault, AtAnswer, at, segments, to_link, totals, translate};
+use lrs_answers::{AskFault, AtAnswer, at, segments, to_link, translate};
 use lrs_events::Side;
 use lrs_http::{Reply, Resource};
 use lrs_json::{at_json, link_json, route_json, segments_json, totals_json, translated_json};
@@ -26,6 +27,7 @@ use lrs_measure::{Frac, Rows};
 use lrs_parameters::{Destination, Question, question_of};
 use lrs_position::{Expr, RouteName};
 use lrs_report::{Segment, Total};
+use lrs_totals::Counts;
 use std::alloc::{AllocError, Global};
 
 /// Where a position stands; once a commit has failed nobody says so.
@@ -171,10 +173,12 @@ fn position_reply(
 fn answer_question(
     alloc: Global,
     kept: &KeptImage,
+    counts: &Counts,
     has_failed: bool,
     question: &Question,
 ) -> Result<Reply, AllocError>
     requires sound { IsSound (image_of kept.now) }
+    requires counted { IsCounted (image_of kept.now) counts.now }
     ensures { IfOk result (λ reply. AnswersQuestion has_failed (image_of kept.now) question.now (answer_of reply)) }
 {
     match question {
@@ -196,11 +200,11 @@ fn answer_question(
             position,
             to,
         } => position_reply(alloc, kept, route, *position, *to),
-        Question::Totals => totals_reply(alloc, totals(alloc, kept)),
+        Question::Totals => totals_reply(alloc, counts.totals(alloc)),
     }
 }
 
-/// The reply to what a resource is asked by an argument, of the image that is kept. Once a commit has failed, nobody
+/// The reply to what a resource is asked by an argument, of the image that is kept, beside what is counted of it. Once a commit has failed, nobody
 /// says who holds a place.
 ///
 /// # Errors
@@ -209,16 +213,18 @@ fn answer_question(
 pub fn answer_asked(
     alloc: Global,
     kept: &KeptImage,
+    counts: &Counts,
     has_failed: bool,
     resource: Resource,
     argument: &[u8],
 ) -> Result<Reply, AllocError>
     requires sound { IsSound (image_of kept.now) }
+    requires counted { IsCounted (image_of kept.now) counts.now }
     requires verb { verb_of resource ≡ Get }
     ensures { IfOk result (λ reply. AnswersAsked has_failed (image_of kept.now) resource argument.now (answer_of reply)) }
 {
     match question_of(alloc, resource, argument) {
-        Ok(question) => answer_question(alloc, kept, has_failed, &question),
+        Ok(question) => answer_question(alloc, kept, counts, has_failed, &question),
         Err(fault) => unasked(alloc, fault),
     }
 }

@@ -15,3 +15,5 @@ pub mod Halved
 pub mod Joined
 pub mod Turned
 pub mod Turning
+pub mod FromReferents
+pub mod Holding

@@ -2,8 +2,6 @@
 #![tactic(auto)]
 
 #[cfg(test)]
-mod edits;
+mod limits;
 #[cfg(test)]
 mod refused;
-#[cfg(test)]
-mod surveys;

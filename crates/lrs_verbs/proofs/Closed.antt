@@ -45,7 +45,7 @@ use Rattle.lrs_leaving.proofs.Named.{AreNamed, named_leave}
 use Rattle.lrs_verbs.specs.Changes.{route_on}
 use Rattle.lrs_verbs.specs.Closings.{names_of, without_route, closing}
 use Rattle.lrs_verbs.specs.Plans.{IsPlanOf}
-use Rattle.lrs_verbs.proofs.FromReferents.{ground_there}
+use Rattle.lrs_routes.proofs.FromReferents.{ground_there}
 use Rattle.lrs_verbs.proofs.Known.{route_value}
 
 -- ---- what the verb does

@@ -28,8 +28,8 @@ use Rattle.lrs_machine.specs.Image.{state_of, asset_entry}
 use Rattle.lrs_machine.specs.Sound.{IsSound, asset_before, is_span, are_spans_of, spans_of, keeps_exclusive, RouteSpans}
 use Rattle.lrs_machine.proofs.Members.{In, any_found, any_of, all_at, two_at, In-map, In-flat_map, flat_map_found}
 use Rattle.lrs_keep.proofs.Tables.{passes, assets_in_order}
-use Rattle.lrs_verbs.proofs.FromReferents.{ground_there}
-use Rattle.lrs_verbs.proofs.Holding.{held_at}
+use Rattle.lrs_routes.proofs.FromReferents.{ground_there}
+use Rattle.lrs_routes.proofs.Holding.{held_at}
 
 -- ---- entries of a stretch
 

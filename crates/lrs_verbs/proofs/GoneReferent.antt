@@ -30,7 +30,7 @@ use Rattle.lrs_keep.specs.Change.{changed_refs, refers_to}
 use Rattle.lrs_verbs.specs.Changes.{route_on}
 use Rattle.lrs_verbs.specs.Plans.{IsPlanOf}
 use Rattle.lrs_verbs.specs.RouteReferents.{plan_of_referents, without_one, nowhere}
-use Rattle.lrs_verbs.proofs.FromReferents.{row_of, cross, rear_of, apart_courses, other_names, refs_of, courses_apart, names_once}
+use Rattle.lrs_routes.proofs.FromReferents.{row_of, cross, rear_of, apart_courses, other_names, refs_of, courses_apart, names_once}
 use Rattle.lrs_routes.proofs.InOrder.{is_false}
 use Rattle.lrs_verbs.proofs.NamedEntries.{names_exact}
 use Rattle.lrs_routes.proofs.Apart.{at_is}

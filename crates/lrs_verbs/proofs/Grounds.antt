@@ -14,6 +14,7 @@ use Rattle.lrs_element.specs.declared.link.Piece.{Piece}
 use Rattle.lrs_element.specs.declared.link.Ground.{Ground}
 use Rattle.lrs_element.specs.Course.{Millimetre, course_of, expand, meets, runs_over, is_at}
 use Rattle.lrs_index.specs.Ground.{Stretches, route_over, is_shared, is_run_once, HasGained, AreWhole, StaysWhole}
+use Rattle.lrs_index.specs.Met.{RunsBetween}
 use Rattle.lrs_index.specs.Routes.{IsGroundOf}
 use Rattle.lrs_index.proofs.Sharing.{same_test}
 use Rattle.lrs_index.proofs.Once.{once_both, front}
@@ -168,6 +169,17 @@ pub first_is_taken : (kept : Stretches) (i seen : Image) (ps : List Piece) → i
 first_is_taken kept i seen ps is at =
     (λ j. position (λ p. (shared_is kept i.routes (expand p) at ∙ sym (taken_is i p)) j) ps)
     ∙ ap (λ (k : Image). position (λ p. is_taken (state_of k) (expand p)) ps) is
+
+-- the index tells the same of which routes are met
+module _ (kept : Stretches) (i seen : Image) (is : i ≡ seen) (held : IsGroundOf (λ e. e.route.name) (λ e. e.route.course) kept i.routes) (link from to : ℕ) (route : Name) where
+  tell_same : (m : Millimetre) → route_over kept m ≡ route_on seen.routes m
+  tell_same m = held.at m ∙ ap (λ (k : Image). route_on k.routes m) is
+
+  pub met_by_index : RunsBetween (route_on seen.routes) link from to route → RunsBetween (route_over kept) link from to route
+  met_by_index met = record { mm = met.mm; low = met.low; high = met.high; runs = tell_same (link, met.mm) ∙ met.runs }
+
+  pub met_by_routes : RunsBetween (route_over kept) link from to route → RunsBetween (route_on seen.routes) link from to route
+  met_by_routes met = record { mm = met.mm; low = met.low; high = met.high; runs = sym (tell_same (link, met.mm)) ∙ met.runs }
 
 -- ---- ground that comes, goes and passes
 

@@ -4,9 +4,7 @@ pub mod Keyed
 pub mod Standing
 pub mod Filed
 pub mod NewCourse
-pub mod FromReferents
 pub mod Located
-pub mod Holding
 pub mod FirstHolder
 pub mod InPlace
 pub mod Going

@@ -32,7 +32,7 @@ use Rattle.lrs_verbs.specs.declared.plan.Stop.{Stop}
 use Rattle.lrs_verbs.specs.declared.plan.Stop.TheVariants.{Refused, Memory}
 use Rattle.lrs_verbs.specs.Plans.{Answers}
 use Rattle.lrs_verbs.specs.Extents.{cause_of, IsRouteIn, IsLocatedAt, located_cell, located_end}
-use Rattle.lrs_verbs.proofs.FromReferents.{referents_found}
+use Rattle.lrs_routes.proofs.FromReferents.{referents_found}
 
 -- ---- one chainage in two ways
 

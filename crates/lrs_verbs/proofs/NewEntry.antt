@@ -60,7 +60,7 @@ use Rattle.lrs_routes.proofs.Apart.{nat_eq-comm}
 use Rattle.lrs_verbs.proofs.NewClass as new_class
 use Rattle.lrs_gone.proofs.Appended.{each_two-append}
 use Rattle.lrs_verbs.proofs.Located.{route_in}
-use Rattle.lrs_verbs.proofs.Holding.{alone}
+use Rattle.lrs_routes.proofs.Holding.{alone}
 use Rattle.lrs_verbs.proofs.FirstHolder.{spans_entry}
 use Rattle.lrs_verbs.proofs.InPlace.{DifferAt, map_same, made_same, any_more, all_still}
 use Rattle.lrs_verbs.proofs.RowsInPlace.{keep_all, routes_are, differ, can, tells}

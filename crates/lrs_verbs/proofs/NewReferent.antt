@@ -36,7 +36,7 @@ use Rattle.lrs_keep.specs.Change.{changed_refs}
 use Rattle.lrs_verbs.specs.Extents.{located_cell}
 use Rattle.lrs_verbs.specs.Plans.{IsPlanOf}
 use Rattle.lrs_verbs.specs.RouteReferents.{plan_of_referents, with_one, standing_at}
-use Rattle.lrs_verbs.proofs.FromReferents.{ground_there, other_names, refs_of, names_once}
+use Rattle.lrs_routes.proofs.FromReferents.{ground_there, other_names, refs_of, names_once}
 use Rattle.lrs_routes.proofs.InOrder.{is_false, all-insert_by, each_two-insert_by, before-chain, before-comparable}
 use Rattle.lrs_verbs.proofs.NamedEntries.{names_exact}
 use Rattle.lrs_verbs.proofs.InPlace.{DifferAt}

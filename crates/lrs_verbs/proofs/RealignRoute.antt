@@ -57,7 +57,7 @@ use Rattle.lrs_verbs.specs.declared.verbs.realign.Realigned.{Realigned}
 use Rattle.lrs_verbs.specs.Changes.{route_on}
 use Rattle.lrs_verbs.specs.Plans.{IsPlanOf}
 use Rattle.lrs_verbs.specs.Realignments.{check_stretch, new_line, refs_on, referents_moved, realigned_plan, IsOnNewLine}
-use Rattle.lrs_verbs.proofs.FromReferents.{ground_there}
+use Rattle.lrs_routes.proofs.FromReferents.{ground_there}
 use Rattle.lrs_verbs.proofs.MovedReferents as moved
 use Rattle.lrs_verbs.proofs.NewCourse.{no_place, fails_at, once, on_links, apart_from, IsMade, made_of, marks_of, good_line, fits_alone}
 use Rattle.lrs_verbs.proofs.NewRoute.{nothing_taken, taken_is}

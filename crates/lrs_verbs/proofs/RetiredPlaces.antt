@@ -34,8 +34,8 @@ use Rattle.lrs_keep.proofs.Tables.{assets_in_order}
 use Rattle.lrs_routes.proofs.Halved.{side_at, its_end, filled_in}
 use Rattle.lrs_routes.proofs.Parted.{member_held}
 use Rattle.lrs_verbs.specs.Taking.{of_asset_within}
-use Rattle.lrs_verbs.proofs.FromReferents.{ground_there}
-use Rattle.lrs_verbs.proofs.Holding.{alone, rows_held_at}
+use Rattle.lrs_routes.proofs.FromReferents.{ground_there}
+use Rattle.lrs_routes.proofs.Holding.{alone, rows_held_at}
 use Rattle.lrs_verbs.proofs.TakenInPlace.{IsTakenSo, among_at, on_both_sides, on_stretch, handed_back}
 
 module _ (i : Image) (r : RouteEntry) (asset : Asset) (x : Extent) (s : IsSound i) (m : In r i.routes) (known : get (state_of i).assets asset.number ≡ Some (asset_entry asset).1) where

@@ -42,7 +42,7 @@ use Rattle.lrs_verbs.specs.Plans.{plan_of, IsPlanOf}
 use Rattle.lrs_verbs.specs.Superseding.{of_class_there, with_rows_and_one, superseding, IsSuperseding}
 use Rattle.lrs_verbs.specs.Wanted.{IsWanted}
 use Rattle.lrs_verbs.proofs.EntryChecks.{supersede_done}
-use Rattle.lrs_verbs.proofs.Holding.{alone}
+use Rattle.lrs_routes.proofs.Holding.{alone}
 use Rattle.lrs_verbs.proofs.InPlace.{DifferAt, found_by_name, names_stay}
 use Rattle.lrs_verbs.proofs.Located.{route_in}
 use Rattle.lrs_verbs.proofs.NewEntry as entry

@@ -53,8 +53,8 @@ use Rattle.lrs_verbs.specs.Extents.{IsRouteIn}
 use Rattle.lrs_verbs.specs.Plans.{plan_of, IsPlanOf}
 use Rattle.lrs_verbs.specs.Taking.{taking}
 use Rattle.lrs_verbs.proofs.FirstHolder.{spans_entry, row_tests, asset_of}
-use Rattle.lrs_verbs.proofs.FromReferents.{apart_courses}
-use Rattle.lrs_verbs.proofs.Holding.{IsAlone, alone, picked_at, rows_held_at, held_among}
+use Rattle.lrs_routes.proofs.FromReferents.{apart_courses}
+use Rattle.lrs_routes.proofs.Holding.{IsAlone, alone, picked_at, rows_held_at, held_among}
 use Rattle.lrs_verbs.proofs.InPlace.{DifferAt, map_same, made_same, any_same, all_still, in_place}
 use Rattle.lrs_verbs.proofs.Located.{route_in}
 use Rattle.lrs_verbs.proofs.RowsInPlace.{routes_are, can, tells}

@@ -62,7 +62,8 @@ fn question_reply<K: Keeper>(
     ensures { AnswersAsked desk.now.must_reopen desk.now.image resource argument.now (answer_of result) ⊎ (answer_of result ≡ empty_answer 503) }
 {
     let kept = desk.inventory().kept();
-    match answer_asked(alloc, kept, desk.must_reopen(), resource, argument) {
+    let counts = desk.counts();
+    match answer_asked(alloc, kept, counts, desk.must_reopen(), resource, argument) {
         Ok(reply) => reply,
         Err(_) => Reply::empty(StatusCode::SERVICE_UNAVAILABLE),
     }

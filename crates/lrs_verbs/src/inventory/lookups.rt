@@ -1,13 +1,15 @@
 //! What is looked up in an inventory, in the words of the ground machine.
 
-ghost use Rattle.std.specs.Prelude.{◌≡◌, ◌+◌, ℕ, IfSome};
+ghost use Rattle.std.specs.Prelude.{◌≡◌, ◌+◌, ℕ, IfSome, OnOk, ◌⊎◌};
 ghost use Rattle.std.specs.List.{find, position};
 ghost use Rattle.std.specs.Option.{option_map};
 ghost use Rattle.lrs_machine.specs.Image.{state_of, asset_entry, route_entry};
 ghost use Rattle.lrs_machine.specs.Machine.{place_of_key, line_at, is_taken};
 ghost use Rattle.lrs_machine.specs.Register.{get};
 ghost use Rattle.lrs_keep.specs.Change.{is_named};
+ghost use Rattle.lrs_measure.specs.Texts.{Name};
 ghost use Rattle.lrs_element.specs.Course.{expand};
+ghost use Rattle.lrs_index.specs.Met.{IsAmong, RunsBetween};
 ghost use Rattle.lrs_verbs.specs.Changes.{route_on};
 ghost use Rattle.lrs_verbs.specs.Checks.{new_course};
 ghost use Rattle.lrs_verbs.specs.Plans.{Answers};
@@ -18,7 +20,8 @@ use lrs_element::{Course, CourseFault, Piece};
 use lrs_events::{Asset, ClassName, Kind};
 use lrs_machine::{Cause, Edit, Key, RouteEntry};
 use lrs_position::{RefName, RouteName};
-use std::alloc::Global;
+use std::alloc::{AllocError, Global};
+use std::collections::BTreeSet;
 
 impl Inventory {
     /// The length in millimetres of the link of a number.
@@ -82,6 +85,24 @@ impl Inventory {
         ensures { result ≡ route_on self.now.routes (link, mm) }
     {
         self.indexes.ground.route_over(link, mm)
+    }
+
+    /// Adds the routes that run over a millimetre of a link, from one edge of it up to another, to those found before.
+    ///
+    /// # Errors
+    /// When memory runs out; some of the routes may have been added then.
+    pub fn routes_over(
+        &self,
+        link: u32,
+        from: u32,
+        to: u32,
+        found: &mut BTreeSet<RouteName>,
+    ) -> Result<(), AllocError>
+        ensures met { OnOk result ((route : Name) → RunsBetween (route_on self.now.routes) link from to route → IsAmong route found.new) }
+        ensures kept { (route : Name) → IsAmong route found.old → IsAmong route found.new }
+        ensures only { (route : Name) → IsAmong route found.new → IsAmong route found.old ⊎ RunsBetween (route_on self.now.routes) link from to route }
+    {
+        self.indexes.ground.routes_over(link, from, to, found)
     }
 
     /// The first piece of which a route runs over a millimetre.

@@ -6,7 +6,7 @@ use Rattle.lrs_orderly.proofs.Tables.{few_edits}
 use Rattle.lrs_verbs.specs.Entering.{IsEntering}
 use Rattle.lrs_verbs.proofs.Stopping.{stopped}
 use Rattle.lrs_verbs.proofs.Located.{route_in}
-use Rattle.lrs_verbs.proofs.Holding.{alone}
+use Rattle.lrs_routes.proofs.Holding.{alone}
 use Rattle.lrs_verbs.proofs.EntryChecks.{then_held}
 use Rattle.lrs_verbs.proofs.NewEntry.{enters}
 use Rattle.lrs_verbs.proofs.verbs.enter.enter_on.Goals as goal

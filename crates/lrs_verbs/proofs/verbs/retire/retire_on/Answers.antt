@@ -11,7 +11,7 @@ use Rattle.lrs_orderly.proofs.Tables.{few_edits}
 use Rattle.lrs_verbs.specs.Taking.{IsTaking}
 use Rattle.lrs_verbs.proofs.Stopping.{refused, passed, stopped}
 use Rattle.lrs_verbs.proofs.Located.{route_in}
-use Rattle.lrs_verbs.proofs.Holding.{alone}
+use Rattle.lrs_routes.proofs.Holding.{alone}
 use Rattle.lrs_verbs.proofs.Retirement.{refuses_kind, refuses_extent, refuses_empty, refuses_bare, retires}
 use Rattle.lrs_verbs.proofs.verbs.retire.retire_on.Goals as goal
 

@@ -1,0 +1,5 @@
+pub mod Parted
+pub mod Naming
+pub mod Lying
+pub mod Gathering
+pub mod Everywhere
