@@ -6,7 +6,7 @@ use Rattle.lrs_machine.specs.declared.command.Command.{Command}
 use Rattle.lrs_machine.specs.declared.image.Image.{Image}
 use Rattle.lrs_desk.specs.Desk.{HasBroken}
 use Rattle.lrs_desk.specs.DeskView.{DeskView}
-use Rattle.lrs_sheet.specs.Records.{SaysCommand, text_at}
+use Rattle.lrs_records.specs.Records.{SaysCommand, text_at}
 use Rattle.lrs_sheet.specs.Rows.{BreaksAtRow}
 use Rattle.lrs_sheet.specs.Sheets.{HasOldOrNext}
 use Rattle.lrs_machine.specs.declared.table.Table.{Table}

@@ -11,8 +11,8 @@ use Rattle.lrs_sheet.specs.declared.reply.Tally.{Tally}
 use Rattle.lrs_sheet.specs.declared.fault.SheetFault.{SheetFault}
 use Rattle.lrs_sheet.specs.declared.fault.SheetFault.TheVariants as fault
 use Rattle.lrs_sheet.specs.Replies.{tally_of}
-use Rattle.lrs_sheet.specs.declared.sheet.Sheet.{Sheet}
-use Rattle.lrs_sheet.specs.Kinds.{IsHeader}
+use Rattle.lrs_records.specs.declared.sheet.Sheet.{Sheet}
+use Rattle.lrs_records.specs.Kinds.{IsHeader}
 use Rattle.lrs_sheet.specs.Sheets.{BreaksOff, HasAnsweredSome, HasDoneUpTo, HasStopped, Runs}
 use Rattle.lrs_sheet.specs.Rows.{AnswersSome, BreaksAfter, DoesRows, DoesUpTo, EndsAfter, Gave, HasRead, Stops}
 

@@ -1,11 +1,3 @@
-pub mod Words
-pub mod Shapes
-pub mod Verbs
-pub mod Records
-pub mod Surveys
-pub mod Kinds
-pub mod CanonicalRecords
-pub mod Fields
 pub mod Replies
 pub mod Sheets
 pub mod Rows

@@ -18,8 +18,8 @@ use Rattle.lrs_sheet.specs.declared.reply.Reply.{Reply}
 use Rattle.lrs_sheet.specs.declared.reply.Tally.{Tally}
 use Rattle.lrs_sheet.specs.declared.fault.SheetFault.{SheetFault}
 use Rattle.lrs_sheet.specs.declared.fault.SheetFault.TheVariants as fault
-use Rattle.lrs_sheet.specs.declared.sheet.Sheet.{Sheet}
-use Rattle.lrs_sheet.specs.Kinds.{edit_record, width_of}
+use Rattle.lrs_records.specs.declared.sheet.Sheet.{Sheet}
+use Rattle.lrs_records.specs.Kinds.{edit_record, width_of}
 use Rattle.lrs_sheet.specs.Replies.{IsReplied, Replied, answer_count, counted, reply_text, tally_of}
 use Rattle.lrs_sheet.specs.Sheets.{AreAll, AreAnswered, BeginsWith, GoesAlong, HasOldOrNext, HaveWidth, max_records}
 

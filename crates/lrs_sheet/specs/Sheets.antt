@@ -18,9 +18,9 @@ use Rattle.lrs_sheet.specs.declared.reply.Reply.{Reply}
 use Rattle.lrs_sheet.specs.declared.reply.Tally.{Tally}
 use Rattle.lrs_sheet.specs.declared.fault.SheetFault.{SheetFault}
 use Rattle.lrs_sheet.specs.declared.fault.SheetFault.TheVariants as fault
-use Rattle.lrs_sheet.specs.declared.sheet.Sheet.{Sheet}
-use Rattle.lrs_sheet.specs.declared.sheet.Sheet.TheVariants.{Edits, Survey}
-use Rattle.lrs_sheet.specs.Kinds.{IsHeader, edit_record, width_of}
+use Rattle.lrs_records.specs.declared.sheet.Sheet.{Sheet}
+use Rattle.lrs_records.specs.declared.sheet.Sheet.TheVariants.{Edits, Survey}
+use Rattle.lrs_records.specs.Kinds.{IsHeader, edit_record, width_of}
 use Rattle.lrs_sheet.specs.Replies.{IsReplied, Replied, lines_of, tally_of}
 
 -- The records of the input begin with these, by the rules of `csv`.

@@ -1,15 +1,6 @@
-//! Why a record or a sheet was not answered.
+//! Why a sheet was not answered to its end.
 
 use lrs_desk::Fault;
-use lrs_machine::Field;
-
-/// Why a record says no command.
-#[derive(Clone, Copy, Debug, PartialEq, Eq)]
-pub enum ReadFault {
-    /// The first field that is malformed.
-    Field(Field),
-    Memory,
-}
 
 /// Why a sheet was not answered to its end. The records before the fault are done.
 #[derive(Clone, Copy, Debug, PartialEq, Eq)]

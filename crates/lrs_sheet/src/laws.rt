@@ -1,23 +1,8 @@
-//! Laws of sheets and of the table of verbs.
+//! The law of sheets.
 
-ghost use Rattle.lrs_sheet.specs.Laws.{SheetDeterminesReply, RecordsAreJudged, LinesAreTheTables, PrintedRecordsSay};
+ghost use Rattle.lrs_sheet.specs.Laws.{SheetDeterminesReply};
 
 /// The bytes of a sheet and the state before it determine the bytes of its reply and the state after it.
 pub fn a_sheet_determines_its_reply()
     ensures { SheetDeterminesReply }
-{}
-
-/// A record says one command under one key, or it has one first malformed field, and not both.
-pub fn each_record_is_judged()
-    ensures { RecordsAreJudged }
-{}
-
-/// The canonical line of each command is made from the table of verbs.
-pub fn lines_are_made_from_the_table()
-    ensures { LinesAreTheTables }
-{}
-
-/// The record that a well formed command is printed as says that command.
-pub fn a_printed_record_says_its_command()
-    ensures { PrintedRecordsSay }
 {}

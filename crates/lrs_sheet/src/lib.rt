@@ -2,22 +2,13 @@
 //! before the next one is read, so that nothing grows with the number of records.
 #![tactic(auto)]
 
-mod arguments;
 mod fault;
-mod header;
 pub mod laws;
-mod list;
-mod place;
-mod record;
 mod reply;
 mod rows;
 mod run;
-mod shape;
-mod sheet;
-mod verb;
 
-pub use fault::{ReadFault, SheetFault};
-pub use record::{command_of, survey_of};
+pub use fault::SheetFault;
+pub use lrs_records::{ReadFault, Sheet, command_of, survey_of};
 pub use reply::{Reply, Tally};
 pub use run::{run_edits, run_sheet, run_survey};
-pub use sheet::Sheet;

@@ -10,19 +10,17 @@ ghost use Rattle.lrs_machine.specs.declared.table.Table.{Table};
 ghost use Rattle.lrs_machine.specs.Machine.{step};
 ghost use Rattle.lrs_desk.specs.Desk.{HasBroken};
 ghost use Rattle.lrs_sheet.specs.Replies.{IsAnswered, IsReplied, answer_count, reply_text};
-ghost use Rattle.lrs_sheet.specs.Kinds.{edit_fields, edit_record, width_of};
+ghost use Rattle.lrs_records.specs.Kinds.{edit_fields, edit_record, width_of};
 ghost use Rattle.lrs_sheet.specs.Sheets.{Runs, RunsEdits, RunsSurvey, LeavesDesk, BreaksOff, HasBrokenOff, SurveyHasBrokenOff};
 ghost use Rattle.lrs_sheet.specs.Rows.{IsPlain, DoesRows, IsRowFault, DoesRow, StopsAtRow, BreaksAtRow, BreaksAfter};
 
-use crate::fault::{ReadFault, SheetFault};
-use crate::header::is_header;
-use crate::record::command_in;
+use crate::fault::SheetFault;
 use crate::reply::{Reply, Tally};
 use crate::rows::{next_row, open};
-use crate::sheet::{Sheet, SheetRecord, text_at};
 use csv::{ByteRecord, Reader};
 use lrs_desk::{Desk, Fault, Keeper};
 use lrs_machine::{Answer, Cause, Command, Key};
+use lrs_records::{ReadFault, Sheet, SheetRecord, command_in, is_header, text_at};
 use std::alloc::Global;
 use std::io::{Read, Write};
 

@@ -1,5 +1,5 @@
-//! Sample routes, and the tests of lrs_sound on them: the neighbours of sound images by table, at full size too, and
-//! random images beside a plain reading of the definitions.
+//! Sample routes, and the tests of lrs_sound on them: the neighbours of a sound image at full size, and random images
+//! beside a plain reading of the definitions.
 #![tactic(auto)]
 
 #[cfg(test)]
@@ -12,12 +12,8 @@ mod long;
 #[cfg(test)]
 mod making;
 #[cfg(test)]
-mod neighbours;
-#[cfg(test)]
 mod plain;
 #[cfg(test)]
 mod random;
 #[cfg(test)]
 mod refused;
-#[cfg(test)]
-mod speed;

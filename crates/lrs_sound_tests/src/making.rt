@@ -2,7 +2,7 @@
 
 use crate::laying::{self, LONGEST_LINK};
 use lrs_element::{Link, Piece};
-use lrs_events::{Asset, Class, ClassName, Kind, LinkSide, Part, Side, Span, Value};
+use lrs_events::{Asset, Class, ClassName, Kind, Span, Value};
 use lrs_machine::{Command, Edit, Image, Key, RouteEntry, Table};
 use lrs_measure::Rows;
 use lrs_position::{RefName, Referent};
@@ -63,18 +63,6 @@ pub fn asset(rt: &impl Abort, number: u64, class: &[u8]) -> Asset {
     }
 }
 
-/// A part that edit 8 entered for asset 10.
-pub fn part(link: u32, from: u32, to: u32, side: LinkSide) -> Part {
-    Part {
-        edit: 8,
-        asset: 10,
-        link,
-        from,
-        to,
-        side,
-    }
-}
-
 /// A piece of a link that a course runs ahead.
 pub fn forth(link: u32, from: u32, to: u32) -> Piece {
     Piece {
@@ -92,17 +80,6 @@ pub fn back(link: u32, from: u32, to: u32) -> Piece {
         from,
         to,
         forward: false,
-    }
-}
-
-/// A row of an asset of class `SPEED`.
-pub fn row(rt: &impl Abort, asset: u64, from: u64, to: u64, side: Side) -> Span {
-    Span {
-        asset,
-        class: ClassName::new(b"SPEED").expect(rt, "a class name"),
-        from,
-        to,
-        side,
     }
 }
 

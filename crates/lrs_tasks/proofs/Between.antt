@@ -8,7 +8,7 @@ use Rattle.lrs_sheet.specs.declared.fault.SheetFault.{SheetFault}
 use Rattle.lrs_sheet.specs.declared.fault.SheetFault.TheVariants as fault
 use Rattle.lrs_sheet.specs.declared.reply.Reply.{Reply}
 use Rattle.lrs_sheet.specs.declared.reply.Tally.{Tally}
-use Rattle.lrs_sheet.specs.declared.sheet.Sheet.{Sheet}
+use Rattle.lrs_records.specs.declared.sheet.Sheet.{Sheet}
 use Rattle.lrs_sheet.specs.Sheets.{AreAnswered, Runs}
 
 -- bytes that are appended between two that are kept

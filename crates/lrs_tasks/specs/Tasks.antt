@@ -1,7 +1,7 @@
 -- What a job has the program do.
 use Rattle.std.specs.Prelude.{◌≡◌}
 use Rattle.clap.specs.Words.{Text}
-use Rattle.lrs_sheet.specs.declared.sheet.Sheet.TheVariants.{Edits, Survey}
+use Rattle.lrs_records.specs.declared.sheet.Sheet.TheVariants.{Edits, Survey}
 use Rattle.lrs_words.specs.declared.job.Job.{Job}
 use Rattle.lrs_words.specs.declared.job.Job.TheVariants as job
 use Rattle.lrs_words.specs.Questions.{Asks, SaysService}

@@ -5,8 +5,8 @@ use Rattle.lrs_machine.specs.Lines.{Text}
 use Rattle.lrs_machine.specs.declared.image.Image.{Image}
 use Rattle.lrs_machine.specs.declared.table.Table.{Table}
 use Rattle.lrs_desk.specs.DeskView.{DeskView}
-use Rattle.lrs_sheet.specs.declared.sheet.Sheet.{Sheet}
-use Rattle.lrs_sheet.specs.declared.sheet.Sheet.TheVariants.{Edits, Survey}
+use Rattle.lrs_records.specs.declared.sheet.Sheet.{Sheet}
+use Rattle.lrs_records.specs.declared.sheet.Sheet.TheVariants.{Edits, Survey}
 use Rattle.lrs_http.specs.declared.paths.Resource.{Resource}
 use Rattle.lrs_http.specs.declared.paths.Resource.TheVariants as resource
 use Rattle.lrs_http.specs.declared.reply.Verb.{Verb}

@@ -9,7 +9,7 @@ use Rattle.lrs_desk.specs.declared.desk.Fault.TheVariants as stop
 use Rattle.lrs_sheet.specs.declared.reply.Tally.{Tally}
 use Rattle.lrs_sheet.specs.declared.fault.SheetFault.{SheetFault}
 use Rattle.lrs_sheet.specs.declared.fault.SheetFault.TheVariants as fault
-use Rattle.lrs_sheet.specs.declared.sheet.Sheet.{Sheet}
+use Rattle.lrs_records.specs.declared.sheet.Sheet.{Sheet}
 use Rattle.lrs_sheet.specs.Sheets.{Runs, LeavesDesk, BreaksOff}
 use Rattle.lrs_http.specs.declared.reply.ContentType.{ContentType}
 use Rattle.lrs_http.specs.declared.reply.ContentType.TheVariants.{Csv}

@@ -1,4 +1,4 @@
-use Rattle.lrs_sheet.specs.Kinds.{edit_fields}
+use Rattle.lrs_records.specs.Kinds.{edit_fields}
 use Rattle.lrs_sheet.proofs.Breaking.{broken}
 use Rattle.lrs_sheet.proofs.run.answer_to.Goals as goal
 

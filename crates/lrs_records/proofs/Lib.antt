@@ -1,0 +1,14 @@
+pub mod Wording
+pub mod Misfits
+pub mod Surveyed
+pub mod Said
+pub mod OneArgument
+pub mod TableLines
+pub mod PrintedTexts
+pub mod Printed
+pub mod Deciding
+pub mod Judging
+pub mod HeaderFields
+pub mod OneCommand
+pub mod Complete
+pub mod Readers

@@ -1,0 +1,9 @@
+pub mod Words
+pub mod Shapes
+pub mod Verbs
+pub mod Records
+pub mod Surveys
+pub mod Kinds
+pub mod CanonicalRecords
+pub mod Fields
+pub mod Laws

@@ -1,0 +1,19 @@
+//! Records of sheets and of surveys: which command a record says, and under which key, or which of its fields is the
+//! first malformed one.
+#![tactic(auto)]
+
+mod arguments;
+mod fault;
+mod header;
+pub mod laws;
+mod list;
+mod place;
+mod record;
+mod shape;
+mod sheet;
+mod verb;
+
+pub use fault::ReadFault;
+pub use header::is_header;
+pub use record::{command_in, command_of, survey_of};
+pub use sheet::{Sheet, SheetRecord, text_at};
