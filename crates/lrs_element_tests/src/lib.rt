@@ -1,10 +1,8 @@
-//! Tests of rows in chunks, of courses and marks, and of positions.
+//! Tests of rows in chunks, and of courses and marks.
 #![tactic(auto)]
 
 #[cfg(test)]
 mod courses;
-#[cfg(test)]
-mod positions;
 #[cfg(test)]
 mod refused;
 #[cfg(test)]
