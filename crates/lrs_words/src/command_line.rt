@@ -10,7 +10,7 @@ use clap::{Arg, Command};
 use std::alloc::{AllocError, Global};
 
 /// The version of the program, and the kit that proved it.
-static VERSION: &str = "0.1.0, proved by rattle-kit-13b logic dac8208d650f15bf";
+static VERSION: &str = "0.1.0, proved by rattle-kit-13f logic dac8208d650f15bf";
 
 // What help says of the words.
 static DB: &str = "The inventory's file, or :memory: for a fresh one in memory";
