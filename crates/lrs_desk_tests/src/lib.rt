@@ -1,9 +1,7 @@
-//! Tests of lrs_desk: a keeper that fails, and each growth of a list refused.
+//! Tests of lrs_desk: a keeper that fails.
 #![tactic(auto)]
 
 #[cfg(test)]
 mod failing;
-#[cfg(test)]
-mod refused;
 #[cfg(test)]
 mod sheet;
