@@ -1,12 +1,14 @@
 //! The program `roadlrs`: its words, what it does for them, and how it ends.
 #![tactic(auto)]
 
+mod doing;
 mod opening;
+mod serving;
 
+use doing::{do_in_memory, do_task};
 use lrs_opening::opening::close_keeper;
 use lrs_tasks::{
-    Ending, Pace, ProgramFault, Shown, Task, do_in_memory, do_task, inventory_of, is_in_memory,
-    status, task_of,
+    Ending, Pace, ProgramFault, Shown, Task, inventory_of, is_in_memory, status, task_of,
 };
 use lrs_words::{Job, QuestionFault, WordsFault, job_of};
 use opening::open_file;

@@ -10,8 +10,6 @@ use Rattle.lrs_desk.specs.declared.desk.Fault.{Fault}
 use Rattle.lrs_desk.specs.declared.desk.Fault.TheVariants as desk
 use Rattle.lrs_sheet.specs.declared.fault.SheetFault.{SheetFault}
 use Rattle.lrs_sheet.specs.declared.fault.SheetFault.TheVariants as sheet
-use Rattle.lrs_serve.specs.declared.service.ServiceFault.{ServiceFault}
-use Rattle.lrs_serve.specs.declared.service.ServiceFault.TheVariants as service
 use Rattle.lrs_tasks.specs.declared.fault.ProgramFault.{ProgramFault}
 use Rattle.lrs_tasks.specs.declared.fault.ProgramFault.TheVariants.{Open, Unsound, Memory, Keep, MustReopen, Read, Write, BadHeader, BadCsv, Door}
 
@@ -69,8 +67,3 @@ fault_of_sheet sheet.BadHeader = BadHeader
 fault_of_sheet sheet.BadCsv = BadCsv
 fault_of_sheet (sheet.Desk fault) = fault_of_desk fault
 fault_of_sheet sheet.Memory = Memory
-
--- what it is for the program that a service ended before its last connection
-abbrev pub fault_of_service : ServiceFault → ProgramFault
-fault_of_service service.Door = Door
-fault_of_service service.Write = Write

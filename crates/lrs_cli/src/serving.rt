@@ -1,13 +1,12 @@
 //! The inventory, served over HTTP.
 
 ghost use Rattle.std.specs.Prelude.{ℕ, ◌≡◌, ◌+◌};
-ghost use Rattle.lrs_tasks.specs.Faults.{fault_of_service};
+ghost use Rattle.lrs_cli.specs.Services.{fault_of_service};
 ghost use Rattle.lrs_web.specs.Visits.{HasVisited};
 
-use crate::ending::Ending;
-use crate::fault::ProgramFault;
 use lrs_desk::{Desk, Keeper};
 use lrs_serve::{ServiceFault, serve};
+use lrs_tasks::{Ending, ProgramFault};
 use lrs_words::Service;
 use std::alloc::Global;
 use std::net::Net;

@@ -2,14 +2,9 @@
 
 ghost use Rattle.std.specs.Prelude.{◌≡◌, false};
 
-use crate::asking::do_question;
-use crate::ending::Ending;
-use crate::opening::open_in_memory;
-use crate::progress::Shown;
 use crate::serving::do_service;
-use crate::sheets::{Pace, do_sheet};
-use crate::task::Task;
 use lrs_desk::{Desk, Keeper};
+use lrs_tasks::{Ending, Pace, Shown, Task, do_question, do_sheet, open_in_memory};
 use std::alloc::Global;
 use std::net::Net;
 use std::rt::Runtime;
