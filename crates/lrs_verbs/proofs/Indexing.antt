@@ -1,10 +1,10 @@
 -- The indexes of an image as it changes.
-use Rattle.std.proofs.Common.{◌≡◌, ℕ, Bool, true, false, cond, length, Option, Some, None, refl, sym, ap, subst, ◌∙◌}
+use Rattle.std.proofs.Common.{◌≡◌, ℕ, Bool, true, false, cond, length, Option, Some, None, refl, sym, ap, subst, ◌∙◌, arith}
 use Rattle.std.specs.Prelude.{◌||◌, is_some, option_map}
 use Rattle.std.specs.List.{list_any}
-use Rattle.std.specs.FinMap.{FinMap, get, remove}
+use Rattle.std.specs.FinMap.{get}
 use Rattle.std.proofs.lemmas.Bool.{false≢true}
-use Rattle.lrs_measure.specs.Texts.{Name, name_cmp, same_name}
+use Rattle.lrs_measure.specs.Texts.{Name, same_name}
 use Rattle.lrs_element.specs.Course.{Millimetre, course_of, runs_over}
 use Rattle.lrs_index.specs.Ground.{Stretches, route_over}
 use Rattle.lrs_machine.specs.declared.image.Edit.{Edit}
@@ -15,17 +15,18 @@ use Rattle.lrs_verbs.specs.declared.plan.Plan.{Plan}
 use Rattle.lrs_verbs.specs.declared.plan.GroundChange.{GroundChange}
 use Rattle.lrs_verbs.specs.declared.plan.ReferentPlace.{ReferentPlace}
 use Rattle.lrs_verbs.specs.declared.indexes.Indexes.{Indexes}
-use Rattle.lrs_verbs.specs.Keys.{IsIndex, place_among}
+use Rattle.lrs_verbs.specs.declared.keys.KeyIndex.{KeyIndex}
+use Rattle.lrs_verbs.specs.Keys.{IsIndex, IsNewPlace, HaveSameKeys}
 use Rattle.lrs_verbs.specs.Changes.{route_on, ground_after, CanChange, CanChangeGround, without_referent, referents_after, IsNewReferent}
 use Rattle.lrs_verbs.specs.Plans.{change_of, TellsGround}
 use Rattle.lrs_verbs.specs.Indexes.{IsIndexed, IsReadyFor, AreWholeFor, made_by, ground_made, IsPutIn, TellSame}
-use Rattle.lrs_verbs.proofs.Keyed.{IsIndex-push, key_back}
+use Rattle.lrs_verbs.proofs.Keyed.{IsIndex-push, IsIndex-same}
 use Rattle.lrs_verbs.proofs.Standing.{referents_back, out_of}
 
 -- Indexes that tell the same are those of the same image.
 pub still_indexed : (i : Image) (old new : Indexes) → IsIndexed i old → TellSame old new → IsIndexed i new
 still_indexed i old new x same = record {
-  keys = record { at = λ key. same.keys key ∙ x.keys.at key };
+  keys = IsIndex-same old.keys new.keys i.edits same.keys x.keys;
   ground = record { at = λ m. same.ground m ∙ x.ground.at m };
   referents = record { at = λ name. same.referents name ∙ x.referents.at name };
 }
@@ -33,8 +34,8 @@ still_indexed i old new x same = record {
 -- ---- before a commit
 
 module _ (i : Image) (x : Indexes) (ix : IsIndexed i x) (p : Plan) (tells : TellsGround p i) where
-  pub new_key : (key : Name) → place_among i.edits key ≡ None → get x.keys key ≡ None
-  new_key key none = ix.keys.at key ∙ none
+  pub new_place : IsNewPlace (length i.edits) x.keys
+  new_place = ix.keys.no_more (length i.edits) (omega arith)
 
   pub can_ground : CanChangeGround p.ground (route_over x.ground)
   can_ground = subst (CanChangeGround p.ground) (λ j m. sym (ix.ground.at m) j) tells.can_ground
@@ -45,9 +46,9 @@ module _ (i : Image) (x : Indexes) (ix : IsIndexed i x) (p : Plan) (tells : Tell
 -- ---- where it fails
 
 module _ (key : Name) (place : ℕ) (change : Option GroundChange) (come : Option ReferentPlace) (before now new : Indexes) (put : IsPutIn key place change come before now) where
-  pub taken_out : new.keys ≡ remove now.keys key → ((m : Millimetre) → route_over new.ground m ≡ route_over before.ground m) → ((name : Name) → get new.referents name ≡ without_referent come (get now.referents) name) → TellSame before new
+  pub taken_out : HaveSameKeys before.keys new.keys → ((m : Millimetre) → route_over new.ground m ≡ route_over before.ground m) → ((name : Name) → get new.referents name ≡ without_referent come (get now.referents) name) → TellSame before new
   taken_out keys ground referents = record {
-    keys = λ q. ap (λ (s : FinMap name_cmp ℕ). get s q) (keys ∙ ap (λ (s : FinMap name_cmp ℕ). remove s key) put.keys) ∙ key_back before.keys key place q put.new_key;
+    keys = keys;
     ground = ground;
     referents = λ name.
         referents name
@@ -96,10 +97,10 @@ module _ (i : Image) (p : Plan) (e : Edit) (old ready new : Indexes) (ix : IsInd
   unfolding state_of
   same_referents = refl
 
-  pub next_indexed : place_among i.edits e.key ≡ None → new.keys ≡ ready.keys → ((m : Millimetre) → route_over new.ground m ≡ ground_made p.ground (route_over ready.ground) m)
+  pub next_indexed : new.keys ≡ ready.keys → ((m : Millimetre) → route_over new.ground m ≡ ground_made p.ground (route_over ready.ground) m)
       → ((name : Name) → get new.referents name ≡ out_of p.referents.gone (get ready.referents) name) → IsIndexed (apply (change_of e p) i) new
-  next_indexed none keys ground referents = record {
-    keys = subst (λ (s : FinMap name_cmp ℕ). IsIndex s (apply (change_of e p) i).edits) (sym (keys ∙ put.keys)) (IsIndex-push old.keys i.edits e ix.keys none);
+  next_indexed keys ground referents = record {
+    keys = subst (λ (s : KeyIndex). IsIndex s (apply (change_of e p) i).edits) (sym keys) (IsIndex-push i.edits e old.keys ready.keys ix.keys put.keys);
     ground = record { at = λ m. ground_done p.ground (route_on i.routes) tells.can_ground old.ground ready.ground new.ground ix.ground.at put.ground ground m ∙ sym (tells.ground m) };
     referents = record {
       at = λ name.

@@ -103,6 +103,34 @@ module _ {X : Type 0} (p : X → Bool) where
       at_end true e k = cc
       at_end false e k = grind (arith, nat_tests)
 
+-- what no element passes, and what the first to pass is
+module _ {X : Type 0} (p : X → Bool) where
+  pub position-fails : (xs : List X) → ((i : ℕ) (d : X) → i < length xs → p (slice_index_or xs i d) ≡ false) → position p xs ≡ None
+  position-fails xs h = position-none p xs (by xs h)
+    where
+      by : (ys : List X) → ((i : ℕ) (d : X) → i < length ys → p (slice_index_or ys i d) ≡ false) → list_all (λ x. not (p x)) ys ≡ true
+      by [] h = refl
+      by (y ∷ ys) h = and_from (not (p y)) (list_all (λ x. not (p x)) ys) (ap not (h zero y (omega arith))) (by ys (λ i d within. h (suc i) d (omega (arith, within))))
+
+  pub position-first : (xs : List X) (i : ℕ) (d : X) → i < length xs → p (slice_index_or xs i d) ≡ true → ((k : ℕ) → k < i → p (slice_index_or xs k d) ≡ false) → position p xs ≡ Some i
+  position-first xs i d within passes before =
+      ap (λ n. pick n (length xs)) (by xs i within passes before) ∙ some_below i (length xs) (grind (arith, nat_tests))
+    where
+      by : (ys : List X) (k : ℕ) → k < length ys → p (slice_index_or ys k d) ≡ true → ((j : ℕ) → j < k → p (slice_index_or ys j d) ≡ false) → prefix_len (λ x. not (p x)) ys ≡ k
+      by [] k w t b = absurd (omega (arith, w))
+      by (y ∷ ys) zero w t b = ap (λ t. cond (not t) (1 + prefix_len (λ x. not (p x)) ys) 0) t
+      by (y ∷ ys) (suc k) w t b =
+          ap (λ t. cond (not t) (1 + prefix_len (λ x. not (p x)) ys) 0) (b zero (omega arith))
+          ∙ ap (λ n. 1 + n) (by ys k (omega (arith, w)) t (λ j below. b (suc j) (omega (arith, below)))) ∙ (omega arith)
+
+module _ {X : Type 0} where
+  -- of each two elements in their order the test is passed
+  pub each_at : (test : X → X → Bool) (xs : List X) (i j : ℕ) (d : X) → i < j → j < length xs → each_two test xs ≡ true → test (slice_index_or xs i d) (slice_index_or xs j d) ≡ true
+  each_at test [] i j d below within h = absurd (omega (arith, within))
+  each_at test (x ∷ xs) i zero d below within h = absurd (omega (arith, below))
+  each_at test (x ∷ xs) zero (suc j) d below within h = all_get (test x) xs j d (omega (arith, within)) (and_parts (list_all (test x) xs) (each_two test xs) h).0
+  each_at test (x ∷ xs) (suc i) (suc j) d below within h = each_at test xs i j d (omega (arith, below)) (omega (arith, within)) (and_parts (list_all (test x) xs) (each_two test xs) h).1
+
 -- in what is made of the elements
 module _ {X Y : Type 0} (f : X → Y) (p : Y → Bool) where
   prefix_len-map : (xs : List X) → prefix_len (λ y. not (p y)) (map f xs) ≡ prefix_len (λ x. not (p (f x))) xs

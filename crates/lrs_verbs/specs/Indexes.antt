@@ -1,6 +1,6 @@
 -- The indexes of an image, and what is put into them and let go.
 use Rattle.std.specs.Prelude.{◌≡◌, ℕ, if◌then◌else◌, Option, Some, None, option_map}
-use Rattle.std.specs.FinMap.{get, insert}
+use Rattle.std.specs.FinMap.{get}
 use Rattle.lrs_measure.specs.Texts.{Name}
 use Rattle.lrs_element.specs.Course.{Millimetre, course_of, runs_over}
 use Rattle.lrs_index.specs.Ground.{Stretches, route_over, HasGained, AreWhole}
@@ -11,7 +11,7 @@ use Rattle.lrs_verbs.specs.declared.plan.GroundChange.{GroundChange}
 use Rattle.lrs_verbs.specs.declared.plan.ReferentPlace.{ReferentPlace}
 use Rattle.lrs_verbs.specs.declared.indexes.Indexes.{Indexes}
 use Rattle.lrs_verbs.specs.Changes.{with_referent, IsNewReferent}
-use Rattle.lrs_verbs.specs.Keys.{IsIndex}
+use Rattle.lrs_verbs.specs.Keys.{IsIndex, IsKeyPutIn, HaveSameKeys}
 use Rattle.lrs_verbs.specs.Places.{IsPlaced}
 
 -- The keys of an image, the ground of its routes and the places of its referents are indexed.
@@ -48,16 +48,15 @@ abbrev pub ground_made : Option GroundChange → (Millimetre → Option Name) �
 ground_made None on m = on m
 ground_made (Some g) on m = made_by g on m
 
--- What comes by an edit is in: its key, ground and a referent, none of which was there.
+-- What comes by an edit is in: its key, and ground and a referent that were not there.
 pub record IsPutIn (key : Name) (place : ℕ) (change : Option GroundChange) (come : Option ReferentPlace) (old new : Indexes) : Type 0 where
-  pub new_key : get old.keys key ≡ None
-  pub keys : new.keys ≡ insert old.keys key place
+  pub keys : IsKeyPutIn key place old.keys new.keys
   pub ground : IsReadyFor change old.ground new.ground
   pub new_referent : IsNewReferent come (get old.referents)
   pub referents : (name : Name) → get new.referents name ≡ with_referent come (get old.referents) name
 
 -- The same is found in both.
 pub record TellSame (old new : Indexes) : Type 0 where
-  pub keys : (key : Name) → get new.keys key ≡ get old.keys key
+  pub keys : HaveSameKeys old.keys new.keys
   pub ground : (m : Millimetre) → route_over new.ground m ≡ route_over old.ground m
   pub referents : (name : Name) → get new.referents name ≡ get old.referents name

@@ -1,7 +1,7 @@
 //! What is looked up in an inventory other than by its order: edits by their keys, routes by the ground that
 //! they run over, and referents by their names.
 
-ghost use Rattle.std.specs.Prelude.{◌≡◌, ℕ, None, IfOk, OnOk, OnErr, if◌then◌else◌};
+ghost use Rattle.std.specs.Prelude.{◌≡◌, None, IfOk, OnOk, OnErr, if◌then◌else◌};
 ghost use Rattle.std.specs.List.{list_any};
 ghost use Rattle.std.specs.FinMap as map;
 ghost use Rattle.lrs_measure.specs.Texts.{Name, same_name};
@@ -10,6 +10,7 @@ ghost use Rattle.lrs_index.specs.Ground.{route_over};
 ghost use Rattle.lrs_machine.specs.Sound.{IsSound};
 ghost use Rattle.lrs_verbs.specs.Changes.{CanChangeGround, IsNewReferent};
 ghost use Rattle.lrs_verbs.specs.Indexes.{IsIndexed, IsPutIn, TellSame, AreWholeFor, ground_made};
+ghost use Rattle.lrs_verbs.specs.Keys.{IsNewPlace};
 ghost use Rattle.lrs_verbs.specs.declared.indexes.Indexes.{Indexes as IndexValues};
 
 use crate::ground::{cut_and_add, free_and_hand_over, ground_of_routes, take_out_added};
@@ -52,15 +53,15 @@ impl Indexes {
     /// When memory runs out; the same is found then.
     pub fn put_in(
         &mut self,
-        key: Key,
+        key: &Key,
         place: u64,
         ground: &Option<GroundChange>,
         come: &Option<ReferentPlace>,
     ) -> Result<(), AllocError>
-        requires new_key { map.get self.old.keys key ≡ None }
+        requires new_place { IsNewPlace place self.old.keys }
         requires can { CanChangeGround ground.now (route_over self.old.ground) }
         requires new_referent { IsNewReferent come.now (map.get self.old.referents) }
-        ensures ok { OnOk result (IsPutIn key place ground.now come.now self.old self.new) }
+        ensures ok { OnOk result (IsPutIn key.now place ground.now come.now self.old self.new) }
         ensures err { OnErr result (TellSame self.old self.new) }
     {
         cut_and_add(&mut self.ground, ground)?;
@@ -69,7 +70,7 @@ impl Indexes {
             return Err(fault);
         }
         if let Err(fault) = self.referents.put_in(come) {
-            self.keys.remove(&key);
+            self.keys.remove(key, place);
             take_out_added(&mut self.ground, ground);
             return Err(fault);
         }
@@ -80,12 +81,13 @@ impl Indexes {
     pub fn take_out(
         &mut self,
         key: &Key,
+        place: u64,
         ground: &Option<GroundChange>,
         come: &Option<ReferentPlace>,
     )
-        ensures { (before : IndexValues) → (place : ℕ) → IsPutIn key.now place ground.now come.now before self.old → TellSame before self.new }
+        ensures { (before : IndexValues) → IsPutIn key.now place ground.now come.now before self.old → TellSame before self.new }
     {
-        self.keys.remove(key);
+        self.keys.remove(key, place);
         take_out_added(&mut self.ground, ground);
         self.referents.take_out(come);
     }

@@ -1,13 +1,12 @@
 //! An inventory: its image, and what is looked up in it.
 
-ghost use Rattle.std.specs.Prelude.{◌≡◌, IfOk, OnOk, OnErr, Err, Result, None, true, length};
+ghost use Rattle.std.specs.Prelude.{◌≡◌, IfOk, OnOk, OnErr, Err, Result, true, length};
 ghost use Rattle.lrs_machine.specs.declared.image.Image.{Image as ImageRows};
 ghost use Rattle.lrs_machine.specs.declared.table.Table.{Table};
 ghost use Rattle.lrs_machine.specs.Sound.{IsSound};
 ghost use Rattle.lrs_keep.specs.Change.{apply, CanMake};
 ghost use Rattle.lrs_keep.specs.Keeping.{HasRisen, HoldsOnly, HoldsOldOrNew};
 ghost use Rattle.lrs_keep.specs.Kept.{image_of};
-ghost use Rattle.lrs_verbs.specs.Keys.{place_among};
 ghost use Rattle.lrs_verbs.specs.Plans.{change_of, TellsGround};
 
 mod extents;
@@ -134,7 +133,6 @@ impl Inventory {
         requires content { HoldsOnly (K.may_hold keeper.old) self.old }
         requires can { CanMake (change_of edit plan) self.old }
         requires tells { TellsGround plan self.old }
-        requires new_key { place_among self.old.edits edit.key ≡ None }
         ensures ok { OnOk result (self.new ≡ apply (change_of edit plan) self.old) }
         ensures ok_kept { OnOk result (HoldsOnly (K.may_hold keeper.new) (apply (change_of edit plan) self.old)) }
         ensures err { OnErr result (self.new ≡ self.old) }
@@ -150,14 +148,14 @@ impl Inventory {
         } = plan;
         let key = edit.key;
         let place = self.kept.edits.as_slice().len() as u64;
-        self.indexes.put_in(key, place, &ground, &referents.come)?;
+        self.indexes.put_in(&key, place, &ground, &referents.come)?;
         match make_change(alloc, &mut self.kept, keeper, Change { edit, difference }) {
             Ok(()) => {
                 self.indexes.let_go(&ground, referents.gone.as_slice());
                 Ok(())
             }
             Err(fault) => {
-                self.indexes.take_out(&key, &ground, &referents.come);
+                self.indexes.take_out(&key, place, &ground, &referents.come);
                 Err(fault)
             }
         }

@@ -74,7 +74,7 @@ impl Inventory {
         ensures number { option_map (λ found. found.0) result ≡ option_map (λ place. place + 1) (place_of_key key.now (state_of self.now).done) }
         ensures line { IfSome result (λ found. (place : ℕ) → found.0 ≡ place + 1 → found.1.now.line ≡ line_at place (state_of self.now).done) }
     {
-        match self.indexes.keys.find(key) {
+        match self.indexes.keys.find(key, self.kept.edits.as_slice()) {
             Some(place) => Some((place + 1, &self.kept.edits[place as usize])),
             None => None,
         }

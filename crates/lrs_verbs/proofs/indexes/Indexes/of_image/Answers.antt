@@ -1,21 +1,12 @@
 use Rattle.std.proofs.Common.{◌≡◌, List, true, sym, subst}
-use Rattle.std.specs.Prelude.{not}
-use Rattle.lrs_measure.specs.Lists.{each_two}
-use Rattle.lrs_measure.specs.Texts.{same_name}
 use Rattle.lrs_index.specs.Ground.{is_run_once}
 use Rattle.lrs_index.specs.Routes.{IsGroundOf}
-use Rattle.lrs_machine.specs.declared.image.Edit.{Edit}
 use Rattle.lrs_machine.specs.declared.image.RouteEntry.{RouteEntry}
 use Rattle.lrs_machine.specs.Image.{state_of}
-use Rattle.lrs_orderly.proofs.Ordering.{sound_is_orderly}
 use Rattle.lrs_verbs.specs.Keys.{IsIndex}
 use Rattle.lrs_verbs.specs.Places.{IsPlaced, referent_among}
 use Rattle.lrs_verbs.proofs.Grounds.{ground_of, run_once}
 use Rattle.lrs_verbs.proofs.indexes.Indexes.of_image.Goals as goal
-
-pub of_edits-requires : goal.of_edits-requires
-of_edits-requires c =
-    record { once = subst (λ (es : List Edit). each_two (λ d e. not (same_name d.key e.key)) es ≡ true) (sym c.as_slice.ensures) (sound_is_orderly c.args.image.now c.requires.sound).keys }
 
 pub ground_of_routes-requires : goal.ground_of_routes-requires
 ground_of_routes-requires c =

@@ -6,7 +6,6 @@ use Rattle.lrs_machine.specs.declared.image.Image.{Image}
 use Rattle.lrs_machine.specs.Sound.{IsSound}
 use Rattle.lrs_keep.specs.Kept.{image_of}
 use Rattle.lrs_keep.specs.Change.{apply}
-use Rattle.lrs_verbs.specs.Keys.{place_among}
 use Rattle.lrs_verbs.specs.Indexes.{IsIndexed, IsPutIn}
 use Rattle.lrs_verbs.specs.Plans.{change_of, TellsGround}
 use Rattle.lrs_verbs.proofs.Standing.{out_of}
@@ -33,6 +32,6 @@ invariant_of-self-in-Ok g c =
       sound = subst IsSound (sym (c.in-Ok.ensures.ok ∙ ap (apply (change_of e p)) c.self.view_is)) c.requires.can.sound;
       indexed = subst (λ (j : Image). IsIndexed j new) (sym c.in-Ok.ensures.ok)
           (next_indexed i p e old ready new c.self.invariant.indexed (subst (TellsGround p) (sym c.self.view_is) c.requires.tells) put
-          (ap (λ (j : Image). place_among j.edits e.key) c.self.view_is ∙ c.requires.new_key) c.let_go.ensures.keys c.let_go.ensures.ground
+          c.let_go.ensures.keys c.let_go.ensures.ground
           (subst (λ (names : List Name). (name : Name) → get new.referents name ≡ out_of names (get ready.referents) name) c.as_slice-in-Ok.ensures c.let_go.ensures.referents));
     }
