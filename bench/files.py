@@ -1,6 +1,6 @@
 """How fast assets are entered into a file, beside Python's sqlite3 and PostgreSQL on the same machine.
 
-    python3 bench/files.py [RECORDS] [--disk FOLDER] [--runs N] [--without-postgres]
+    python3 bench/files.py [RECORDS] [--disk FOLDER] [--runs N] [--without-postgres] [--page BYTES]
 
 A sheet of 15,000 accepted records over 50 routes, each of which enters an asset, is done by the program over a file
 on tmpfs, over a file on a disk and in memory; by Python's sqlite3, which writes the same rows into the same tables in
@@ -8,7 +8,8 @@ one transaction a record (WAL, synchronous FULL) and tests nothing; and by Postg
 one call of a function and one commit a record. The three take turns; a line has the seconds of the fastest of the
 runs, without those of a sheet that only makes the routes, and records a second. Before and after the runs on a disk
 stands what one fdatasync of 4 KB takes there, and for the program how many of them, and how many bytes, a record
-writes. PostgreSQL is installed by apt-get where it is missing. ROADLRS names another program to measure.
+writes. PostgreSQL is installed by apt-get where it is missing. ROADLRS names another program to measure. With --page the
+stores of the first two have pages of so many bytes: sqlite3 makes the empty file that each begins with.
 """
 
 import argparse
@@ -88,17 +89,28 @@ def made_before():
     return records
 
 
+def make_empty(path, page):
+    """Makes a file without tables whose pages have so many bytes, if that is asked for."""
+    if page:
+        db = sqlite3.connect(path, isolation_level=None)
+        db.execute(f"PRAGMA page_size = {page}")
+        db.execute("VACUUM")
+        db.close()
+
+
 class Roadlrs:
     """The program over a file in a folder, or in memory."""
 
-    def __init__(self, program, sheets, folder=None):
-        self.program, self.sheets, self.folder = program, sheets, folder
+    def __init__(self, program, sheets, folder=None, page=None):
+        self.program, self.sheets, self.folder, self.page = program, sheets, folder, page
         self.name = "roadlrs"
 
     def seconds(self, count, trace=None):
         """The seconds of a run over a new store."""
         with tempfile.TemporaryDirectory(dir=self.folder) as name:
             store = ":memory:" if self.folder is None else f"{name}/roads.db"
+            if self.folder is not None:
+                make_empty(store, self.page)
             words = [self.program, "edit", store, self.sheets[count]]
             started = time.monotonic()
             done = subprocess.run([*(trace or []), *words], stdout=subprocess.PIPE, check=False)
@@ -112,12 +124,13 @@ class Roadlrs:
 class Sqlite:
     """Python's sqlite3, which writes the same rows and tests nothing."""
 
-    def __init__(self, folder):
-        self.folder = folder
+    def __init__(self, folder, page=None):
+        self.folder, self.page = folder, page
         self.name = f"sqlite3 {sqlite3.sqlite_version} of Python"
 
     def seconds(self, count):
         with tempfile.TemporaryDirectory(dir=self.folder) as name:
+            make_empty(f"{name}/roads.db", self.page)
             db = sqlite3.connect(f"{name}/roads.db", isolation_level=None)
             db.execute("PRAGMA journal_mode = WAL")
             db.execute("PRAGMA synchronous = FULL")
@@ -232,7 +245,7 @@ def measure(where, stores, count, runs):
 
 
 def over_folder(where, folder, program, sheets, given):
-    stores = [Roadlrs(program, sheets, folder), Sqlite(folder)]
+    stores = [Roadlrs(program, sheets, folder, given.page), Sqlite(folder, given.page)]
     postgres = None if given.without_postgres else Postgres(folder)
     try:
         measure(where, [*stores, *([postgres] if postgres else [])], given.records, given.runs)
@@ -248,6 +261,7 @@ def main():
     reader.add_argument("--disk", default=str(TOP))
     reader.add_argument("--runs", type=int, default=3)
     reader.add_argument("--without-postgres", action="store_true")
+    reader.add_argument("--page", type=int)
     given = reader.parse_args()
     program = os.environ.get("ROADLRS", str(BUILT))
     if program == str(BUILT):
