@@ -1,5 +1,5 @@
 -- The indexes of an image as it changes.
-use Rattle.std.proofs.Common.{◌≡◌, ℕ, Bool, true, false, cond, length, Option, Some, None, refl, sym, ap, subst, ◌∙◌, arith}
+use Rattle.std.proofs.Common.{◌≡◌, ℕ, Bool, true, false, cond, length, Option, Some, None, refl, sym, ap, subst, ◌∙◌}
 use Rattle.std.specs.Prelude.{◌||◌, is_some, option_map}
 use Rattle.std.specs.List.{list_any}
 use Rattle.std.specs.FinMap.{get}
@@ -16,8 +16,8 @@ use Rattle.lrs_verbs.specs.declared.plan.GroundChange.{GroundChange}
 use Rattle.lrs_verbs.specs.declared.plan.ReferentPlace.{ReferentPlace}
 use Rattle.lrs_verbs.specs.declared.indexes.Indexes.{Indexes}
 use Rattle.lrs_verbs.specs.declared.keys.KeyIndex.{KeyIndex}
-use Rattle.lrs_verbs.specs.Keys.{IsIndex, IsNewPlace, HaveSameKeys}
-use Rattle.lrs_verbs.specs.Changes.{route_on, ground_after, CanChange, CanChangeGround, without_referent, referents_after, IsNewReferent}
+use Rattle.lrs_verbs.specs.Keys.{IsIndex, HaveSameKeys}
+use Rattle.lrs_verbs.specs.Changes.{route_on, ground_after, CanChange, CanChangeGround, without_referent, referents_after}
 use Rattle.lrs_verbs.specs.Plans.{change_of, TellsGround}
 use Rattle.lrs_verbs.specs.Indexes.{IsIndexed, IsReadyFor, AreWholeFor, made_by, ground_made, IsPutIn, TellSame}
 use Rattle.lrs_verbs.proofs.Keyed.{IsIndex-push, IsIndex-same}
@@ -30,18 +30,6 @@ still_indexed i old new x same = record {
   ground = record { at = λ m. same.ground m ∙ x.ground.at m };
   referents = record { at = λ name. same.referents name ∙ x.referents.at name };
 }
-
--- ---- before a commit
-
-module _ (i : Image) (x : Indexes) (ix : IsIndexed i x) (p : Plan) (tells : TellsGround p i) where
-  pub new_place : IsNewPlace (length i.edits) x.keys
-  new_place = ix.keys.no_more (length i.edits) (omega arith)
-
-  pub can_ground : CanChangeGround p.ground (route_over x.ground)
-  can_ground = subst (CanChangeGround p.ground) (λ j m. sym (ix.ground.at m) j) tells.can_ground
-
-  pub new_referent : IsNewReferent p.referents.come (get x.referents)
-  new_referent = subst (IsNewReferent p.referents.come) (λ j name. sym (ix.referents.at name) j) tells.new_referent
 
 -- ---- where it fails
 
