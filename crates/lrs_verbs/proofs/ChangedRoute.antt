@@ -1,20 +1,10 @@
 -- Plans by which one route changes, and no other route comes or goes.
 use Rattle.std.proofs.Common.{◌≡◌, [], ◌∷◌, Some, None, sym, ap, subst, ◌∙◌}
-use Rattle.std.specs.List.{cons_option, find}
-use Rattle.std.specs.Option.{option_map}
-use Rattle.lrs_measure.specs.Lists.{each_two}
-use Rattle.lrs_machine.specs.declared.command.Command.{Command}
-use Rattle.lrs_machine.specs.declared.image.Image.{Image}
-use Rattle.lrs_machine.specs.declared.image.RouteEntry.{RouteEntry}
-use Rattle.lrs_machine.specs.Image.{state_of}
-use Rattle.lrs_machine.specs.Sound.{route_before, IsSound}
-use Rattle.lrs_machine.specs.State.{State}
+use Rattle.std.specs.List.{find}
+use Rattle.lrs_verbs.specs.Prelude.{cons_option, option_map, each_two, Command, Image, RouteEntry, state_of, route_before, IsSound, State, Makes, RouteChange, Difference, is_named, entry_after, with_difference, CanDiffer, rerouting}
 use Rattle.lrs_machine.proofs.Members.{In}
-use Rattle.lrs_orderly.specs.Made.{Makes}
-use Rattle.lrs_keep.specs.declared.change.RouteChange.{RouteChange}
-use Rattle.lrs_keep.specs.declared.change.Difference.{Difference}
-use Rattle.lrs_keep.specs.Change.{is_named, entry_after, with_difference, CanBecome, CanDiffer}
-use Rattle.lrs_routes.specs.Differences.{rerouting, KeepsFromDropped}
+use Rattle.lrs_keep.specs.Change.{CanBecome}
+use Rattle.lrs_routes.specs.Differences.{KeepsFromDropped}
 use Rattle.lrs_routes.specs.Rewriting.{rewritten, with_routes, AreFit}
 use Rattle.lrs_routes.proofs.Alike.{IsAlike, fit, same_state, named_ours, stays}
 use Rattle.lrs_routes.proofs.Differences.{difference_rewrites, reroutes}

@@ -1,39 +1,17 @@
 -- A route goes.
 use Rattle.std.proofs.Common.{◌≡◌, ℕ, ◌+◌, true, cond, List, [], ◌∷◌, length, Some, None, Result, Ok, Err, refl, sym, ap, subst, ◌∙◌}
 use Rattle.std.proofs.Math.Bool.{or-false}
-use Rattle.std.specs.Prelude.{is_some, nat_lt}
-use Rattle.std.specs.List.{find, list_any, list_all, AllByRecursion}
-use Rattle.std.specs.Option.{option_map, ok_or}
-use Rattle.std.specs.Cmp.Lexicographic.{bytes_decides}
+use Rattle.std.specs.List.{find}
 use Rattle.std.proofs.lemmas.Bool.{false≢true, and_parts, ltb-true}
 use Rattle.std.proofs.lemmas.List.{append-nil}
-use Rattle.lrs_measure.specs.Lists.{each_two}
-use Rattle.lrs_measure.specs.Texts.{Name, same_name}
-use Rattle.lrs_element.specs.declared.link.Ground.{Ground}
-use Rattle.lrs_element.specs.declared.link.Piece.{Piece}
-use Rattle.lrs_element.specs.Course.{Millimetre, course_of, runs_over}
-use Rattle.lrs_element.specs.Pieces.{IsFilled}
-use Rattle.lrs_position.specs.declared.route.Referent.{Referent}
-use Rattle.lrs_position.specs.Locating.{Alignment}
-use Rattle.lrs_position.specs.Routes.{referent_before}
-use Rattle.lrs_events.specs.declared.part.Gone.{Gone}
-use Rattle.lrs_events.specs.Spans.{holds_by_spans}
+use Rattle.lrs_verbs.specs.Prelude.{is_some, nat_lt, list_any, list_all, AllByRecursion, option_map, ok_or, bytes_decides, each_two, Name, same_name, Ground, Piece, Millimetre, course_of, runs_over, IsFilled, Referent, Alignment, referent_before, Gone, holds_by_spans, Cause, Image, RouteEntry, state_of, route_entry, referent_entry, referents_on, attempt, ◌>>=◌, IsSound, State, Makes, Difference, is_named, with_difference, AreGone}
 use Rattle.lrs_machine.specs.declared.answer.Cause.TheVariants as cause
-use Rattle.lrs_machine.specs.declared.answer.Cause.{Cause}
 use Rattle.lrs_machine.specs.declared.command.Command.TheVariants as verb
-use Rattle.lrs_machine.specs.declared.image.Image.{Image}
-use Rattle.lrs_machine.specs.declared.image.RouteEntry.{RouteEntry}
-use Rattle.lrs_machine.specs.Image.{state_of, route_entry, referent_entry, referents_on}
-use Rattle.lrs_machine.specs.Machine.{attempt, ◌>>=◌, abandon, drop_route}
-use Rattle.lrs_machine.specs.Sound.{IsSound}
-use Rattle.lrs_machine.specs.State.{State, Abandoned}
+use Rattle.lrs_machine.specs.Machine.{abandon, drop_route}
+use Rattle.lrs_machine.specs.State.{Abandoned}
 use Rattle.lrs_machine.proofs.Members.{In, any_found, any_of, all_at, In-map, map_found}
-use Rattle.lrs_orderly.specs.Made.{Makes}
 use Rattle.lrs_sound.proofs.Fitting.{fits}
-use Rattle.lrs_keep.specs.declared.change.Difference.{Difference}
-use Rattle.lrs_keep.specs.Change.{is_named, with_difference}
 use Rattle.lrs_keep.proofs.Tables.{routes_in_order}
-use Rattle.lrs_gone.specs.Gone.{AreGone}
 use Rattle.lrs_routes.specs.Running.{is_run_by}
 use Rattle.lrs_routes.proofs.Naming.{found_in, only_one, without_one}
 use Rattle.lrs_routes.proofs.Running.{runs_there, moves_ground}

@@ -1,22 +1,14 @@
 -- The checks of an entry, one after another.
 use Rattle.std.proofs.Common.{◌≡◌, ℕ, ◌-◌, ◌≤◌, Bool, true, false, cond, List, [], ◌∷◌, drop, length, Option, Some, None, Result, Ok, Err, refl, sym, ap, ◌∙◌, arith, ◌⊎◌, inl, inr}
-use Rattle.std.specs.Prelude.{◌||◌, ◌&&◌, nat_eq, nat_le}
-use Rattle.std.specs.Option.{ok_or}
 use Rattle.std.proofs.lemmas.Bool.{leb-true, leb-false, ne_eqb, cases_Bool}
 use Rattle.std.proofs.lemmas.List.{length-take, length-drop}
+use Rattle.lrs_verbs.specs.Prelude.{◌||◌, ◌&&◌, nat_eq, nat_le, ok_or, Ground, Alignment, Kind, places_on, is_among, Cause, Entry, contains_key, ◌>>=◌, ◌>>◌, refuse_at, Extent, extent_of, part_of, attempt, State, Retired}
 use Rattle.lrs_measure.specs.Lists.{is_nothing}
-use Rattle.lrs_element.specs.declared.link.Ground.{Ground}
-use Rattle.lrs_position.specs.Locating.{Alignment}
-use Rattle.lrs_events.specs.declared.class.Kind.{Kind}
-use Rattle.lrs_events.specs.Places.{places_on, is_among}
 use Rattle.lrs_report.specs.Segments.{is_exclusive}
-use Rattle.lrs_machine.specs.declared.answer.Cause.{Cause}
 use Rattle.lrs_machine.specs.declared.answer.Cause.TheVariants as cause
 use Rattle.lrs_machine.specs.declared.command.Command.TheVariants as verb
-use Rattle.lrs_machine.specs.declared.command.Entry.{Entry}
-use Rattle.lrs_machine.specs.Register.{get, contains_key}
-use Rattle.lrs_machine.specs.Machine.{◌>>=◌, ◌>>◌, refuse_if, refuse_at, route_named, is_wrong_kind, Extent, extent_of, is_empty_extent, part_of, first_holder, Wanted, wanted_of, enter_asset, take_away, is_of_class, attempt}
-use Rattle.lrs_machine.specs.State.{State, Retired}
+use Rattle.lrs_machine.specs.Register.{get}
+use Rattle.lrs_machine.specs.Machine.{refuse_if, route_named, is_wrong_kind, is_empty_extent, first_holder, Wanted, wanted_of, enter_asset, take_away, is_of_class}
 use Rattle.lrs_verbs.specs.Wanted.{is_left_out}
 
 -- ---- a part of a course without millimetres

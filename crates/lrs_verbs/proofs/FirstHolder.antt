@@ -1,31 +1,19 @@
 -- The least asset of a class that holds a place of a route is told by the route's own rows.
 use Rattle.std.proofs.Common.{◌≡◌, ℕ, zero, suc, ◌+◌, ◌-◌, ◌<◌, ◌≤◌, Bool, true, false, cond, ◌⊎◌, inl, inr, List, [], ◌∷◌, map, take, drop, length, Option, Some, None, refl, sym, ap, ◌∙◌, arith}
-use Rattle.std.specs.Prelude.{◌&&◌, nat_eq, nat_le, slice_get, slice_range}
-use Rattle.std.specs.List.{list_any, list_all}
 use Rattle.std.specs.List as list
-use Rattle.std.specs.Option.{option_map}
-use Rattle.std.specs.Cmp.Lexicographic.{bytes_decides}
 use Rattle.std.proofs.lemmas.Bool.{false≢true, both_ways, and_parts, and_from, cases_Bool, eqb-true, ltb-true}
-use Rattle.lrs_measure.specs.Lists.{each_two}
-use Rattle.lrs_measure.specs.Texts.{Name, same_name}
-use Rattle.lrs_element.specs.declared.link.Ground.{Ground}
-use Rattle.lrs_events.specs.declared.class.Asset.{Asset}
+use Rattle.lrs_verbs.specs.Prelude.{◌&&◌, nat_eq, nat_le, slice_get, slice_range, list_any, list_all, option_map, bytes_decides, each_two, Name, same_name, Ground, Asset, B, Span, Place, places_on, are_rows, RouteEntry, Image, state_of, asset_entry, IsSound, asset_before, is_span, are_spans_of}
 use Rattle.lrs_events.specs.declared.side.Side.{Side}
-use Rattle.lrs_events.specs.declared.side.Side.TheVariants.{L, R, B}
+use Rattle.lrs_events.specs.declared.side.Side.TheVariants.{L, R}
 use Rattle.lrs_events.specs.declared.side.LinkSide.{LinkSide}
 use Rattle.lrs_events.specs.declared.side.LinkSide.TheVariants.{Left, Right}
-use Rattle.lrs_events.specs.declared.span.Span.{Span}
 use Rattle.lrs_events.specs.Members.{has_side, between, stands_for, has_member}
-use Rattle.lrs_events.specs.Places.{Place, beside, places_at, places_on}
-use Rattle.lrs_events.specs.Spans.{are_rows}
+use Rattle.lrs_events.specs.Places.{beside, places_at}
 use Rattle.lrs_canonical.specs.OnCourse.{is_held}
 use Rattle.lrs_spans.specs.Search.{HoldsOver, IsOver}
-use Rattle.lrs_machine.specs.declared.image.RouteEntry.{RouteEntry}
-use Rattle.lrs_machine.specs.declared.image.Image.{Image}
 use Rattle.lrs_machine.specs.State as state
 use Rattle.lrs_machine.specs.Machine.{first_holder}
-use Rattle.lrs_machine.specs.Image.{state_of, asset_entry}
-use Rattle.lrs_machine.specs.Sound.{IsSound, asset_before, is_span, are_spans_of, spans_of, keeps_exclusive, RouteSpans}
+use Rattle.lrs_machine.specs.Sound.{spans_of, keeps_exclusive, RouteSpans}
 use Rattle.lrs_machine.proofs.Members.{In, any_found, any_of, all_at, two_at, In-map, In-flat_map, flat_map_found}
 use Rattle.lrs_keep.proofs.Tables.{passes, assets_in_order}
 use Rattle.lrs_routes.proofs.FromReferents.{ground_there}

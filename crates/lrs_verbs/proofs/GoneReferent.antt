@@ -1,32 +1,21 @@
 -- A referent goes.
 use Rattle.std.proofs.Common.{◌≡◌, ℕ, ◌+◌, Bool, true, false, cond, inl, inr, List, [], ◌∷◌, ◌++◌, filter, length, Option, Some, None, Ok, Err, refl, sym, ap, ◌∙◌}
-use Rattle.std.specs.Prelude.{◌||◌, ◌&&◌, not, nat_lt, is_none}
-use Rattle.std.specs.List.{list_any, list_all, flat_map, filter_map, cons_option, find}
-use Rattle.std.specs.Option.{option_map}
-use Rattle.std.specs.Ordering.{eq_by_cmp}
+use Rattle.std.specs.Prelude.{is_none}
+use Rattle.std.specs.List.{find}
 use Rattle.std.specs.Cmp.{Equal-is}
-use Rattle.std.specs.Cmp.Lexicographic.{bytes_decides}
 use Rattle.std.specs.FinMap as entries
 use Rattle.std.proofs.lemmas.Bool.{both_ways, not-true, and_parts, and_from}
 use Rattle.std.proofs.lemmas.List.Concat.{flat_map-append}
 use Rattle.std.proofs.lemmas.Map.Lookups.{exact_bytes}
-use Rattle.lrs_measure.specs.Lists.{each_two}
-use Rattle.lrs_measure.specs.Texts.{Name, name_cmp, same_name}
-use Rattle.lrs_element.specs.declared.link.Ground.{Ground}
-use Rattle.lrs_element.specs.Course.{Millimetre, ground_at, is_at, meets, runs_over}
-use Rattle.lrs_position.specs.declared.route.Referent.{Referent}
-use Rattle.lrs_position.specs.Routes.{is_route, is_route_course, have_marks, are_referents, referent_before}
+use Rattle.lrs_verbs.specs.Prelude.{◌||◌, ◌&&◌, not, nat_lt, list_any, list_all, flat_map, filter_map, cons_option, option_map, eq_by_cmp, bytes_decides, each_two, Name, name_cmp, same_name, Ground, Millimetre, meets, runs_over, Referent, is_route, is_route_course, have_marks, are_referents, referent_before, Image, RouteEntry, state_of, referent_entry, referents_on, attempt, ◌>>◌, IsSound, changed_refs}
+use Rattle.lrs_element.specs.Course.{ground_at, is_at}
 use Rattle.lrs_machine.specs.declared.answer.Cause.TheVariants as cause
 use Rattle.lrs_machine.specs.declared.command.Command.TheVariants as verb
-use Rattle.lrs_machine.specs.declared.image.Image.{Image}
-use Rattle.lrs_machine.specs.declared.image.RouteEntry.{RouteEntry}
-use Rattle.lrs_machine.specs.Image.{state_of, referent_entry, referents_on}
-use Rattle.lrs_machine.specs.Machine.{attempt, refuse_if, ◌>>◌, set_referent}
-use Rattle.lrs_machine.specs.Sound.{IsSound}
+use Rattle.lrs_machine.specs.Machine.{refuse_if, set_referent}
 use Rattle.lrs_machine.proofs.Members.{In, any_found, any_of, all_at, In-append_left, In-flat_map, flat_map_found, find_found}
 use Rattle.lrs_machine.proofs.SoundImages.{and_three}
 use Rattle.lrs_lanes.proofs.Members.{all-filter, each_two-filter}
-use Rattle.lrs_keep.specs.Change.{changed_refs, refers_to}
+use Rattle.lrs_keep.specs.Change.{refers_to}
 use Rattle.lrs_verbs.specs.Changes.{route_on}
 use Rattle.lrs_verbs.specs.Plans.{IsPlanOf}
 use Rattle.lrs_verbs.specs.RouteReferents.{plan_of_referents, without_one, nowhere}

@@ -1,32 +1,20 @@
 -- The index of ground beside the routes, and as ground comes, goes and passes.
 use Rattle.std.proofs.Common.{◌≡◌, ℕ, ◌+◌, ◌<◌, Bool, true, false, cond, List, [], ◌∷◌, ◌++◌, length, take, drop, get_or, Option, Some, None, refl, sym, ap, subst, ◌∙◌, append-nil, ⊎_elim}
-use Rattle.std.specs.Prelude.{◌||◌, ◌&&◌, not, nat_le, nat_eq, is_some, position, option_map, map}
-use Rattle.std.specs.List.{list_any, list_all, find, flat_map}
-use Rattle.std.specs.Option.{option_or}
+use Rattle.std.specs.List.{find}
 use Rattle.std.proofs.lemmas.Bool.{and_parts, and_from, both_ways, not-true, or_cases, false≢true, eq-eqb}
 use Rattle.std.proofs.lemmas.List.{take_more, take-append-drop}
 use Rattle.std.proofs.lemmas.List.Concat.{flat_map-append}
 use Rattle.std.proofs.lemmas.List.Folds.{list_any-append, find-append}
-use Rattle.lrs_measure.specs.Lists.{each_two}
-use Rattle.lrs_measure.specs.Texts.{Name}
-use Rattle.lrs_element.specs.declared.link.Link.{Link}
-use Rattle.lrs_element.specs.declared.link.Piece.{Piece}
-use Rattle.lrs_element.specs.declared.link.Ground.{Ground}
-use Rattle.lrs_element.specs.Course.{Millimetre, course_of, expand, meets, runs_over, is_at}
-use Rattle.lrs_index.specs.Ground.{Stretches, route_over, is_shared, is_run_once, HasGained, AreWhole, StaysWhole}
+use Rattle.lrs_verbs.specs.Prelude.{◌||◌, ◌&&◌, not, nat_le, nat_eq, is_some, position, option_map, map, list_any, list_all, flat_map, option_or, each_two, Name, Link, Piece, Ground, Millimetre, course_of, expand, meets, runs_over, Stretches, is_run_once, IsGroundOf, is_route_course, differs, Image, RouteEntry, state_of, RouteCourse, is_on_a_link, IsSound}
+use Rattle.lrs_element.specs.Course.{is_at}
+use Rattle.lrs_index.specs.Ground.{route_over, is_shared, HasGained, AreWhole, StaysWhole}
 use Rattle.lrs_index.specs.Met.{RunsBetween}
-use Rattle.lrs_index.specs.Routes.{IsGroundOf}
 use Rattle.lrs_index.proofs.Sharing.{same_test}
 use Rattle.lrs_index.proofs.Once.{once_both, front}
 use Rattle.lrs_index.proofs.Pieces.{across, behind}
-use Rattle.lrs_position.specs.Routes.{is_route_course}
-use Rattle.lrs_events.specs.Places.{differs}
-use Rattle.lrs_machine.specs.declared.image.Image.{Image}
-use Rattle.lrs_machine.specs.declared.image.RouteEntry.{RouteEntry}
 use Rattle.lrs_machine.specs.Bounds.{most_routes}
-use Rattle.lrs_machine.specs.Image.{state_of}
 use Rattle.lrs_machine.specs.Machine.{is_taken}
-use Rattle.lrs_machine.specs.Sound.{RouteCourse, course_before, is_course, is_on_a_link, courses_of, IsSound}
+use Rattle.lrs_machine.specs.Sound.{course_before, is_course, courses_of}
 use Rattle.lrs_machine.proofs.Members.{any_found, any_of}
 use Rattle.lrs_keep.proofs.Tables.{passes}
 use Rattle.lrs_verbs.specs.declared.plan.GroundChange.{GroundChange}

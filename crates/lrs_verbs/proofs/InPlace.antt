@@ -1,23 +1,15 @@
 -- A route of a list in the order of names is changed, and keeps its name and its place.
 use Rattle.std.proofs.Common.{◌≡◌, Bool, true, false, cond, ◌⊎◌, inl, inr, List, [], ◌∷◌, ◌++◌, map, filter, Some, refl, sym, ap, ◌∙◌}
-use Rattle.std.specs.Prelude.{◌||◌, not}
-use Rattle.std.specs.List.{list_any, list_all, flat_map, find}
-use Rattle.std.specs.Option.{option_map}
-use Rattle.std.specs.Cmp.Lexicographic.{bytes_decides}
+use Rattle.std.specs.List.{find}
 use Rattle.std.proofs.Math.Bool.{or-false}
 use Rattle.std.proofs.lemmas.Bool.{both_ways, and_parts, and_from, cases_Bool}
 use Rattle.std.proofs.lemmas.List.Elements.{filter-append}
 use Rattle.std.proofs.lemmas.List.Concat.{flat_map-append}
-use Rattle.lrs_measure.specs.Lists.{each_two}
-use Rattle.lrs_measure.specs.Ordered.{insert_by}
-use Rattle.lrs_measure.specs.Texts.{Name, name_before}
-use Rattle.lrs_element.specs.Course.{Millimetre, runs_over}
-use Rattle.lrs_machine.specs.declared.image.RouteEntry.{RouteEntry}
-use Rattle.lrs_machine.specs.Sound.{route_before}
+use Rattle.lrs_verbs.specs.Prelude.{◌||◌, not, list_any, list_all, flat_map, option_map, bytes_decides, each_two, insert_by, Name, Millimetre, runs_over, RouteEntry, route_before, is_named, without}
+use Rattle.lrs_measure.specs.Texts.{name_before}
 use Rattle.lrs_machine.proofs.Members.{In, all_at, all_of}
 use Rattle.lrs_machine.proofs.Pairs.{each_two-map}
 use Rattle.lrs_lanes.proofs.Members.{filter_all}
-use Rattle.lrs_keep.specs.Change.{is_named, without}
 use Rattle.lrs_keep.proofs.Named.{name_apart}
 use Rattle.lrs_keep.proofs.PutBack.{none_goes, found_passes}
 use Rattle.lrs_verbs.specs.Changes.{route_on}

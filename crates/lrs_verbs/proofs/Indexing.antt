@@ -1,16 +1,10 @@
 -- The indexes of an image as it changes.
 use Rattle.std.proofs.Common.{◌≡◌, ℕ, Bool, true, false, cond, length, Option, Some, None, refl, sym, ap, subst, ◌∙◌}
-use Rattle.std.specs.Prelude.{◌||◌, is_some, option_map}
-use Rattle.std.specs.List.{list_any}
 use Rattle.std.specs.FinMap.{get}
 use Rattle.std.proofs.lemmas.Bool.{false≢true}
-use Rattle.lrs_measure.specs.Texts.{Name, same_name}
-use Rattle.lrs_element.specs.Course.{Millimetre, course_of, runs_over}
-use Rattle.lrs_index.specs.Ground.{Stretches, route_over}
-use Rattle.lrs_machine.specs.declared.image.Edit.{Edit}
-use Rattle.lrs_machine.specs.declared.image.Image.{Image}
-use Rattle.lrs_machine.specs.Image.{state_of}
-use Rattle.lrs_keep.specs.Change.{apply, with_difference}
+use Rattle.lrs_verbs.specs.Prelude.{◌||◌, is_some, option_map, list_any, Name, same_name, Millimetre, course_of, runs_over, Stretches, Edit, Image, state_of, with_difference}
+use Rattle.lrs_index.specs.Ground.{route_over}
+use Rattle.lrs_keep.specs.Change.{apply}
 use Rattle.lrs_verbs.specs.declared.plan.Plan.{Plan}
 use Rattle.lrs_verbs.specs.declared.plan.GroundChange.{GroundChange}
 use Rattle.lrs_verbs.specs.declared.plan.ReferentPlace.{ReferentPlace}

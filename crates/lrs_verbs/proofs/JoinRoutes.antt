@@ -1,48 +1,24 @@
 -- Two routes become one.
 use Rattle.std.proofs.Common.{◌≡◌, ℕ, ◌+◌, ◌-◌, ◌≤◌, Bool, true, false, cond, ◌⊎◌, inl, inr, List, [], ◌∷◌, ◌++◌, map, drop, length, Option, Some, None, Result, Ok, Err, refl, sym, ap, subst, ◌∙◌, arith}
-use Rattle.std.specs.Prelude.{◌||◌, ◌&&◌, not, is_some, nat_lt, nat_le, nat_eq, unwrap_or}
-use Rattle.std.specs.List.{find, list_any, list_all, cons_option, AllByRecursion}
-use Rattle.std.specs.Option.{option_map, ok_or}
-use Rattle.std.specs.Cmp.Lexicographic.{bytes_decides}
+use Rattle.std.specs.List.{find}
 use Rattle.std.proofs.lemmas.Bool.{false≢true, both_ways, not-true, and_parts, or_left, or_right, or_parts, ltb-true, ltb-false, lt-ltb, leb-true, le-leb, eqb-true, ne_eqb, cases_eq}
 use Rattle.std.proofs.lemmas.List.{length-append, length-map, length-drop}
-use Rattle.lrs_measure.specs.Lists.{each_two}
+use Rattle.lrs_verbs.specs.Prelude.{◌||◌, ◌&&◌, not, is_some, nat_lt, nat_le, nat_eq, unwrap_or, list_any, list_all, cons_option, AllByRecursion, option_map, ok_or, bytes_decides, each_two, Name, same_name, Ground, Piece, Mark, course_of, runs_over, is_too_long, longest_route, IsFilled, Referent, Alignment, is_route, referent_before, Asset, Span, are_rows, Cause, Image, RouteEntry, state_of, route_entry, State, attempt, ◌>>◌, ◌>>=◌, set_route, asset_before, is_span, are_spans_of, route_before, IsSound, Makes, RouteChange, Difference, is_named, changed_refs, fits_after, route_after, entry_after, with_difference, CanDiffer, are_names_of, rerouting}
 use Rattle.lrs_measure.specs.Ordered.{insert_all}
-use Rattle.lrs_measure.specs.Texts.{Name, same_name}
-use Rattle.lrs_element.specs.declared.link.Ground.{Ground}
-use Rattle.lrs_element.specs.declared.link.Piece.{Piece}
-use Rattle.lrs_element.specs.declared.marks.Mark.{Mark}
-use Rattle.lrs_element.specs.Course.{course_of, runs_over, is_too_long, piece_count}
-use Rattle.lrs_element.specs.Limits.{most_marks, most_pieces, longest_route}
+use Rattle.lrs_element.specs.Course.{piece_count}
+use Rattle.lrs_element.specs.Limits.{most_marks, most_pieces}
 use Rattle.lrs_element.specs.Lines.{moved_on}
 use Rattle.lrs_element.specs.Marks.{joined_marks, is_out_of_range, first_mark, last_mark}
-use Rattle.lrs_element.specs.Pieces.{IsFilled}
-use Rattle.lrs_position.specs.declared.route.Referent.{Referent}
-use Rattle.lrs_position.specs.Locating.{Alignment}
-use Rattle.lrs_position.specs.Routes.{is_route, referent_before}
-use Rattle.lrs_events.specs.declared.class.Asset.{Asset}
-use Rattle.lrs_events.specs.declared.span.Span.{Span}
-use Rattle.lrs_events.specs.Spans.{are_rows}
 use Rattle.lrs_canonical.specs.Joins.{is_of_one_class}
 use Rattle.lrs_lanes.proofs.Members.{filter_all}
-use Rattle.lrs_machine.specs.declared.answer.Cause.{Cause}
 use Rattle.lrs_machine.specs.declared.answer.Cause.TheVariants as cause
 use Rattle.lrs_machine.specs.declared.command.Command.TheVariants as verb
-use Rattle.lrs_machine.specs.declared.image.Image.{Image}
-use Rattle.lrs_machine.specs.declared.image.RouteEntry.{RouteEntry}
-use Rattle.lrs_machine.specs.Image.{state_of, route_entry}
-use Rattle.lrs_machine.specs.State.{State}
-use Rattle.lrs_machine.specs.Machine.{attempt, refuse_if, ◌>>◌, ◌>>=◌, set_route, drop_route, do_join, do_join_of}
-use Rattle.lrs_machine.specs.Sound.{asset_before, is_span, are_spans_of, route_before, IsSound}
+use Rattle.lrs_machine.specs.Machine.{refuse_if, drop_route, do_join, do_join_of}
 use Rattle.lrs_machine.proofs.Members.{In, any_found, all_at, all_of, two_at, In-map}
-use Rattle.lrs_orderly.specs.Made.{Makes}
 use Rattle.lrs_sound.proofs.Fitting.{fits}
-use Rattle.lrs_keep.specs.declared.change.RouteChange.{RouteChange}
-use Rattle.lrs_keep.specs.declared.change.Difference.{Difference}
-use Rattle.lrs_keep.specs.Change.{is_named, changed_refs, fits_after, route_after, entry_after, with_difference, CanDiffer, are_names_of}
 use Rattle.lrs_keep.proofs.Becoming.{HasBecome, becomes}
 use Rattle.lrs_keep.proofs.Tables.{assets_in_order, routes_in_order}
-use Rattle.lrs_routes.specs.Differences.{rerouting, changed_route, KeepsFromDropped}
+use Rattle.lrs_routes.specs.Differences.{changed_route, KeepsFromDropped}
 use Rattle.lrs_routes.specs.Joining.{on_by, joined_refs, AreUnlike, IsJoined}
 use Rattle.lrs_routes.specs.Rewriting.{rewritten, with_routes}
 use Rattle.lrs_routes.proofs.Differences.{difference_rewrites, reroutes}

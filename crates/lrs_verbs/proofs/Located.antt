@@ -1,33 +1,25 @@
 -- What `locate` answers on a route is what the ground machine locates.
 use Rattle.std.proofs.Common.{◌≡◌, ℕ, ◌+◌, ◌-◌, ◌*◌, ◌<◌, ◌≤◌, ◌/◌, min, Bool, true, false, cond, ◌⊎◌, inl, inr, List, [], ◌∷◌, Option, Some, None, Result, Ok, Err, refl, sym, ap, subst, ◌∙◌, arith, ℤ, pos, negsuc, ◌*ℤ◌, unsigned_abs, length}
-use Rattle.std.specs.Prelude.{◌≤ℤ◌, IsTrue}
+use Rattle.std.specs.Prelude.{◌≤ℤ◌}
 use Rattle.std.specs.List as list
-use Rattle.std.specs.Option.{ok_or}
 use Rattle.std.proofs.Math.Nat.{mul-div-mul_left}
 use Rattle.std.proofs.lemmas.Bool.{and_parts, eqb-true, leb-true, le-ltb, cases_Bool}
 use Rattle.std.proofs.lemmas.Int.{ints}
-use Rattle.lrs_measure.specs.Texts.{Name}
+use Rattle.lrs_verbs.specs.Prelude.{IsTrue, ok_or, Name, Alignment, alignment_of, Cause, RouteEntry, Image, State, Extent, extent_of, ◌>>◌, ◌>>=◌, state_of, IsSound, is_named}
 use Rattle.lrs_measure.specs.Fraction.{Fraction, IsLowest}
 use Rattle.lrs_position.specs.declared.expression.Expr.{Expr}
 use Rattle.lrs_position.specs.declared.expression.Expr.TheVariants.{Abs, Rel, Int}
 use Rattle.lrs_position.specs.declared.locating.PlaceFault.{PlaceFault}
 use Rattle.lrs_position.specs.declared.locating.PlaceFault.TheVariants as fault
 use Rattle.lrs_position.specs.Expressions.{Ends, is_entered}
-use Rattle.lrs_position.specs.Locating.{Alignment, Locates, located, located_or_fault, lacks_referent, is_too_fine, snap, cell}
-use Rattle.lrs_position.specs.Translating.{alignment_of, referent_at, number_of, IsAnswer, IsOnRoute}
+use Rattle.lrs_position.specs.Locating.{Locates, located, located_or_fault, lacks_referent, is_too_fine, snap, cell}
+use Rattle.lrs_position.specs.Translating.{referent_at, number_of, IsAnswer, IsOnRoute}
 use Rattle.lrs_position.proofs.Located.{located-sound}
 use Rattle.lrs_position.proofs.Answering.{IsSound-from_route}
 use Rattle.lrs_position.proofs.Whole.{rounded_limit}
-use Rattle.lrs_machine.specs.declared.answer.Cause.{Cause}
 use Rattle.lrs_machine.specs.declared.answer.Cause.TheVariants as cause
-use Rattle.lrs_machine.specs.declared.image.RouteEntry.{RouteEntry}
-use Rattle.lrs_machine.specs.declared.image.Image.{Image}
-use Rattle.lrs_machine.specs.State.{State}
-use Rattle.lrs_machine.specs.Machine.{Extent, extent_of, extent_between, located_chainage, entry_of_referent, refuse_if, ◌>>◌, ◌>>=◌}
-use Rattle.lrs_machine.specs.Image.{state_of}
-use Rattle.lrs_machine.specs.Sound.{IsSound}
+use Rattle.lrs_machine.specs.Machine.{extent_between, located_chainage, entry_of_referent, refuse_if}
 use Rattle.lrs_machine.proofs.Members.{In}
-use Rattle.lrs_keep.specs.Change.{is_named}
 use Rattle.lrs_verbs.specs.declared.plan.Stop.{Stop}
 use Rattle.lrs_verbs.specs.declared.plan.Stop.TheVariants.{Refused, Memory}
 use Rattle.lrs_verbs.specs.Plans.{Answers}

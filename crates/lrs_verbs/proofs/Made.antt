@@ -1,7 +1,5 @@
 -- What a plan makes is sound.
-use Rattle.lrs_machine.specs.declared.image.Edit.{Edit}
-use Rattle.lrs_keep.specs.Change.{with_difference}
-use Rattle.lrs_measure.specs.Texts.{same_name}
+use Rattle.lrs_verbs.specs.Prelude.{Edit, with_difference, same_name}
 use Rattle.lrs_orderly.proofs.Making.{made_is_sound}
 use Rattle.lrs_verbs.specs.Plans.{PlansCanBeMade}
 use Rattle.lrs_verbs.proofs.Positions.{none_passes}

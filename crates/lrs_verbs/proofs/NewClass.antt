@@ -1,27 +1,15 @@
 -- A new class.
 use Rattle.std.proofs.Common.{◌≡◌, ℕ, ◌+◌, Bool, true, false, List, length, Some, None, Ok, Err, refl, sym, ap, ◌∙◌, subst}
-use Rattle.std.specs.Prelude.{nat_le, ◌&&◌}
-use Rattle.std.specs.List.{list_any, list_all}
-use Rattle.std.specs.Ordering.{eq_by_cmp}
-use Rattle.std.specs.Cmp.Lexicographic.{nat_list_cmp_total}
 use Rattle.std.proofs.lemmas.List.{append-nil}
-use Rattle.lrs_measure.specs.Lists.{each_two}
-use Rattle.lrs_measure.specs.Ordered.{insert_by}
-use Rattle.lrs_measure.specs.Texts.{Name, name_cmp, same_name}
-use Rattle.lrs_events.specs.declared.class.Asset.{Asset}
+use Rattle.lrs_verbs.specs.Prelude.{nat_le, ◌&&◌, list_any, list_all, eq_by_cmp, nat_list_cmp_total, each_two, insert_by, Name, name_cmp, same_name, Asset, Kind, Image, contains_key, state_of, attempt, ◌>>◌, asset_before, IsSound, with_difference, IsOrderly}
 use Rattle.lrs_events.specs.declared.class.Class.{Class}
-use Rattle.lrs_events.specs.declared.class.Kind.{Kind}
 use Rattle.lrs_machine.specs.declared.answer.Cause.TheVariants as cause
 use Rattle.lrs_machine.specs.declared.command.Command.TheVariants as verb
-use Rattle.lrs_machine.specs.declared.image.Image.{Image}
 use Rattle.lrs_machine.specs.Bounds.{most_assets}
 use Rattle.lrs_machine.specs.Entered.{is_asset_number, is_lateral_offset}
-use Rattle.lrs_machine.specs.Register.{insert, contains_key}
-use Rattle.lrs_machine.specs.Image.{state_of}
-use Rattle.lrs_machine.specs.Machine.{attempt, refuse_if, ◌>>◌}
-use Rattle.lrs_machine.specs.Sound.{class_before, asset_before, is_asset, are_assets, IsSound}
-use Rattle.lrs_keep.specs.Change.{with_difference}
-use Rattle.lrs_orderly.specs.Orderly.{IsOrderly}
+use Rattle.lrs_machine.specs.Register.{insert}
+use Rattle.lrs_machine.specs.Machine.{refuse_if}
+use Rattle.lrs_machine.specs.Sound.{class_before, is_asset, are_assets}
 use Rattle.lrs_machine.proofs.Members.{all_weaker}
 use Rattle.lrs_orderly.proofs.Ordering.{sound_is_orderly}
 use Rattle.lrs_verbs.specs.Plans.{plan_of, IsPlanOf}

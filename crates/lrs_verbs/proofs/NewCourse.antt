@@ -1,35 +1,25 @@
 -- Checks of pieces and marks, and what they say of an image's links.
 use Rattle.std.proofs.Common.{◌≡◌, ℕ, ◌+◌, ◌-◌, ◌<◌, ◌≤◌, suc, Bool, true, false, cond, inl, inr, List, [], ◌∷◌, ◌++◌, map, length, Option, Some, None, Result, Ok, Err, refl, sym, ap, subst, ◌∙◌, arith, get_or, append_assoc}
-use Rattle.std.specs.Prelude.{nat_eq, nat_lt, nat_le, not, ◌||◌, ◌&&◌, is_none, unwrap_or}
-use Rattle.std.specs.List.{list_any, list_all, position}
+use Rattle.std.specs.Prelude.{is_none}
 use Rattle.std.specs.List as list
-use Rattle.std.specs.Option.{option_map, option_map_or}
-use Rattle.std.specs.Ordering.{nat_cmp, eq_by_cmp}
+use Rattle.std.specs.Option.{option_map_or}
 use Rattle.std.specs.Cmp.{unsigned_tied}
 use Rattle.std.specs.FinMap.{find}
 use Rattle.std.proofs.lemmas.Bool.{false≢true, both_ways, and_parts, and_from, or_left, or_parts, eqb-true, lt-ltb, ltb-true, ltb-false, ne_eqb}
 use Rattle.std.proofs.lemmas.List.{append-nil}
 use Rattle.std.proofs.lemmas.List.Folds.{list_any_at}
 use Rattle.std.proofs.lemmas.List.Quantifiers.{position-Some}
-use Rattle.lrs_measure.specs.Lists.{each_two, is_nothing}
-use Rattle.lrs_element.specs.declared.link.Link.{Link}
-use Rattle.lrs_element.specs.declared.link.Piece.{Piece}
-use Rattle.lrs_element.specs.declared.link.Ground.{Ground}
-use Rattle.lrs_element.specs.declared.marks.Mark.{Mark}
+use Rattle.lrs_verbs.specs.Prelude.{nat_eq, nat_lt, nat_le, not, ◌||◌, ◌&&◌, unwrap_or, list_any, list_all, position, option_map, nat_cmp, eq_by_cmp, each_two, Link, Piece, Ground, Mark, is_route, is_route_course, have_marks, are_referents, expand, course_of, runs_over, meets, is_too_long, Cause, Image, state_of, ◌>>◌, refuse_at, differs, is_on_a_link}
+use Rattle.lrs_measure.specs.Lists.{is_nothing}
 use Rattle.lrs_element.specs.Limits.{most_marks, greatest_measure}
 use Rattle.lrs_element.specs.Marks.{is_out_of_order, misses_the_end, first_bad_mark, bad_mark}
-use Rattle.lrs_position.specs.Routes.{is_route, is_route_course, have_marks, are_referents}
-use Rattle.lrs_element.specs.Course.{expand, course_of, is_at, runs_over, meets, lacks_link, length_of, is_bad_piece, is_too_long, first_repeated, AreGood}
+use Rattle.lrs_element.specs.Course.{is_at, lacks_link, length_of, is_bad_piece, first_repeated, AreGood}
 use Rattle.lrs_element.specs.Pieces.{piece_len, ground_of}
 use Rattle.lrs_element.proofs.Expanding.{length-expand, get_or-expand}
-use Rattle.lrs_machine.specs.declared.answer.Cause.{Cause}
 use Rattle.lrs_machine.specs.declared.answer.Cause.TheVariants as cause
-use Rattle.lrs_machine.specs.declared.image.Image.{Image}
-use Rattle.lrs_machine.specs.Image.{link_entry, state_of}
-use Rattle.lrs_machine.specs.Machine.{◌>>◌, refuse_if, refuse_at}
+use Rattle.lrs_machine.specs.Image.{link_entry}
+use Rattle.lrs_machine.specs.Machine.{refuse_if}
 use Rattle.lrs_verbs.specs.Checks.{new_course, new_marks}
-use Rattle.lrs_events.specs.Places.{differs}
-use Rattle.lrs_machine.specs.Sound.{is_on_a_link}
 use Rattle.lrs_gone.proofs.Appended.{each_two-append}
 use Rattle.lrs_machine.proofs.Members.{In, any_found, any_of, all_of, flat_map_found}
 use Rattle.lrs_verbs.proofs.Positions.{none_passes}

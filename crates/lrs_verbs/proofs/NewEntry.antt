@@ -1,50 +1,33 @@
 -- What an entry makes: a new asset, a row on its route, and the rows of a ledger for it.
 use Rattle.std.proofs.Common.{◌≡◌, ℕ, ◌+◌, ◌<◌, ◌≤◌, Bool, true, false, cond, List, [], ◌∷◌, ◌++◌, length, Some, None, Ok, refl, sym, ap, subst, ◌∙◌, arith, inl, inr, ◌⊎◌}
-use Rattle.std.specs.Prelude.{is_some, ◌||◌, ◌&&◌, not, nat_eq, nat_lt, nat_le, slice_range}
-use Rattle.std.specs.List.{list_any, list_all}
 use Rattle.std.specs.List as list
-use Rattle.std.specs.Ordering.{nat_cmp, eq_by_cmp}
 use Rattle.std.specs.Cmp.{nat_cmp_total, unsigned_tied}
-use Rattle.std.specs.Cmp.Lexicographic.{bytes_decides}
 use Rattle.std.specs.FinMap.{find, nat_cmp-IsAntisymmetric}
 use Rattle.std.proofs.lemmas.Bool.{both_ways, not-true, and_parts, and_from, or_left, or_right, or_parts, eqb-true, eq-eqb, le-leb, leb-true, lt-ltb, cases_lt}
 use Rattle.std.proofs.lemmas.Bool.Decides.{nat_tests}
 use Rattle.std.proofs.lemmas.List.{append-nil}
 use Rattle.std.proofs.lemmas.List.Folds.{list_all-map, list_any-append}
-use Rattle.lrs_measure.specs.Lists.{each_two, is_nothing}
-use Rattle.lrs_measure.specs.Ordered.{insert_by}
-use Rattle.lrs_measure.specs.Texts.{name_cmp, same_name}
-use Rattle.lrs_element.specs.Limits.{longest_route, most_pieces}
-use Rattle.lrs_element.specs.Course.{is_too_long, piece_count}
-use Rattle.lrs_position.specs.Routes.{is_route_course, have_marks, are_referents}
-use Rattle.lrs_events.specs.declared.class.Asset.{Asset}
-use Rattle.lrs_events.specs.declared.class.Kind.{Kind}
-use Rattle.lrs_events.specs.declared.part.Part.{Part}
-use Rattle.lrs_events.specs.declared.span.Span.{Span}
-use Rattle.lrs_events.specs.Places.{Place, is_among, places_on}
+use Rattle.lrs_verbs.specs.Prelude.{is_some, ◌||◌, ◌&&◌, not, nat_eq, nat_lt, nat_le, slice_range, list_any, list_all, nat_cmp, eq_by_cmp, bytes_decides, each_two, insert_by, name_cmp, same_name, longest_route, is_too_long, is_route_course, have_marks, are_referents, Asset, Kind, Part, Span, Place, is_among, places_on, span_before, are_rows, Entry, RouteEntry, Image, Edit, state_of, holds_on, route_entry, referents_on, asset_entry, Extent, part_of, refuse_at, attempt, contains_key, route_before, asset_before, is_span, are_spans_of, is_on_a_link, are_courses, IsSound, RouteCourse, is_named, without, with_difference, IsOrderly}
+use Rattle.lrs_measure.specs.Lists.{is_nothing}
+use Rattle.lrs_element.specs.Limits.{most_pieces}
+use Rattle.lrs_element.specs.Course.{piece_count}
 use Rattle.lrs_events.specs.Changes.{changed}
 use Rattle.lrs_events.specs.Parts.{has_pair, part_before}
-use Rattle.lrs_events.specs.Spans.{span_before, are_rows, is_row, holds_by_span}
+use Rattle.lrs_events.specs.Spans.{is_row, holds_by_span}
 use Rattle.lrs_report.specs.Segments.{is_exclusive}
 use Rattle.lrs_canonical.proofs.Changing.{any_insert}
 use Rattle.lrs_machine.specs.declared.answer.Cause.TheVariants as cause
 use Rattle.lrs_machine.specs.declared.command.Command.TheVariants as verb
-use Rattle.lrs_machine.specs.declared.command.Entry.{Entry}
-use Rattle.lrs_machine.specs.declared.image.RouteEntry.{RouteEntry}
-use Rattle.lrs_machine.specs.declared.image.Image.{Image}
-use Rattle.lrs_machine.specs.declared.image.Edit.{Edit}
 use Rattle.lrs_machine.specs.Bounds.{most_pairs, most_assets, most_edits}
-use Rattle.lrs_machine.specs.Image.{state_of, holds_on, route_entry, referents_on, asset_entry}
-use Rattle.lrs_machine.specs.Machine.{Extent, part_of, first_holder, refuse_at, enter_asset, attempt}
+use Rattle.lrs_machine.specs.Machine.{first_holder, enter_asset}
 use Rattle.lrs_machine.specs.Entered.{is_asset_number, is_lateral_offset}
-use Rattle.lrs_machine.specs.Register.{contains_key}
-use Rattle.lrs_machine.specs.Sound.{route_before, asset_before, is_asset, are_assets, is_span, are_spans_of, spans_of, is_on_a_link, is_part, share_nothing, pairs_of, are_parts, parts_of, is_named_by, are_courses, are_all_marks, are_all_referents, IsSound, RouteCourse, RouteMarks, RouteReferents}
+use Rattle.lrs_machine.specs.Sound.{is_asset, are_assets, spans_of, is_part, share_nothing, pairs_of, are_parts, parts_of, is_named_by, are_all_marks, are_all_referents, RouteMarks, RouteReferents}
 use Rattle.lrs_machine.proofs.Members.{In, any_found, any_of, all_at, all_weaker, all_of}
 use Rattle.lrs_machine.proofs.SoundImages.{and_three}
 use Rattle.lrs_ordered.specs.Laws.{numbers_agree}
-use Rattle.lrs_keep.specs.Change.{is_named, without, with_difference, routes_after}
+use Rattle.lrs_keep.specs.Change.{routes_after}
 use Rattle.lrs_keep.proofs.Tables.{passes, routes_in_order}
-use Rattle.lrs_orderly.specs.Orderly.{IsOrderly, is_filled, share_nothing_in_an_edit}
+use Rattle.lrs_orderly.specs.Orderly.{is_filled, share_nothing_in_an_edit}
 use Rattle.lrs_orderly.proofs.Found.{each_two_from}
 use Rattle.lrs_orderly.proofs.Ordering.{sound_is_orderly}
 use Rattle.lrs_verbs.specs.Entering.{asset_of, row_of, with_row, entering, AreInLimits, AreEntered, IsEntering}

@@ -1,31 +1,19 @@
 -- A new link.
 use Rattle.std.proofs.Common.{◌≡◌, ℕ, ◌+◌, Bool, true, false, List, [], ◌∷◌, length, Some, None, Ok, Err, refl, sym, ap, ◌∙◌, subst, arith}
-use Rattle.std.specs.Prelude.{◌||◌, ◌&&◌, not, nat_eq, nat_lt, nat_le}
-use Rattle.std.specs.List.{list_any, list_all}
-use Rattle.std.specs.Ordering.{nat_cmp, eq_by_cmp}
 use Rattle.std.specs.Cmp.{unsigned_tied}
 use Rattle.std.specs.FinMap.{nat_cmp-IsAntisymmetric}
 use Rattle.std.proofs.lemmas.Bool.{and_from, or_parts}
 use Rattle.std.proofs.lemmas.Bool.Decides.{nat_tests}
 use Rattle.std.proofs.lemmas.Cmp.{nat_cmp_total}
 use Rattle.std.proofs.lemmas.List.{append-nil}
-use Rattle.lrs_measure.specs.Lists.{each_two}
-use Rattle.lrs_measure.specs.Ordered.{insert_by}
-use Rattle.lrs_element.specs.declared.link.Link.{Link}
-use Rattle.lrs_element.specs.declared.link.Ground.{Ground}
-use Rattle.lrs_element.specs.Course.{meets}
-use Rattle.lrs_position.specs.Routes.{is_route_course}
-use Rattle.lrs_events.specs.Places.{differs}
+use Rattle.lrs_verbs.specs.Prelude.{◌||◌, ◌&&◌, not, nat_eq, nat_lt, nat_le, list_any, list_all, nat_cmp, eq_by_cmp, each_two, insert_by, Link, Ground, meets, is_route_course, differs, Image, contains_key, state_of, attempt, ◌>>◌, is_on_a_link, RouteCourse, are_courses, IsSound, with_difference, IsOrderly}
 use Rattle.lrs_machine.specs.declared.answer.Cause.TheVariants as cause
 use Rattle.lrs_machine.specs.declared.command.Command.TheVariants as verb
-use Rattle.lrs_machine.specs.declared.image.Image.{Image}
 use Rattle.lrs_machine.specs.Bounds.{most_routes}
-use Rattle.lrs_machine.specs.Register.{insert, contains_key}
-use Rattle.lrs_machine.specs.Image.{state_of, link_entry}
-use Rattle.lrs_machine.specs.Machine.{attempt, refuse_if, ◌>>◌}
-use Rattle.lrs_machine.specs.Sound.{link_before, is_on_a_link, is_course, RouteCourse, course_before, are_courses, courses_of, IsSound}
-use Rattle.lrs_keep.specs.Change.{with_difference}
-use Rattle.lrs_orderly.specs.Orderly.{IsOrderly}
+use Rattle.lrs_machine.specs.Register.{insert}
+use Rattle.lrs_machine.specs.Image.{link_entry}
+use Rattle.lrs_machine.specs.Machine.{refuse_if}
+use Rattle.lrs_machine.specs.Sound.{link_before, is_course, course_before, courses_of}
 use Rattle.lrs_machine.proofs.Members.{all_weaker}
 use Rattle.lrs_orderly.proofs.Ordering.{sound_is_orderly}
 use Rattle.lrs_verbs.specs.Plans.{plan_of, IsPlanOf}

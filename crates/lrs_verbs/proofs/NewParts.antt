@@ -1,23 +1,16 @@
 -- The rows of a ledger for what a new row holds.
 use Rattle.std.proofs.Common.{◌≡◌, ℕ, ◌+◌, ◌-◌, ◌*◌, ◌<◌, ◌≤◌, true, false, cond, List, [], ◌∷◌, map, drop, length, refl, sym, ap, subst, ◌∙◌, arith, length-append}
-use Rattle.std.specs.Prelude.{◌&&◌, nat_eq, nat_lt, nat_le, slice_range}
-use Rattle.std.specs.List.{list_any, list_all}
 use Rattle.std.proofs.lemmas.Bool.{and_parts, and_from, or_left, eqb-true, eq-eqb, ltb-true, lt-ltb, le-leb}
 use Rattle.std.proofs.lemmas.List.{length-take}
 use Rattle.std.proofs.lemmas.List.Sums.{sum_by-cons}
-use Rattle.lrs_measure.specs.Lists.{each_two}
-use Rattle.lrs_element.specs.declared.link.Link.{Link}
-use Rattle.lrs_element.specs.declared.link.Ground.{Ground}
-use Rattle.lrs_element.specs.Limits.{longest_route}
-use Rattle.lrs_events.specs.declared.part.Part.{Part}
+use Rattle.lrs_verbs.specs.Prelude.{◌&&◌, nat_eq, nat_lt, nat_le, slice_range, list_any, list_all, each_two, Link, Ground, longest_route, Part, B, Span, Place, is_among, places_on, is_on_a_link}
 use Rattle.lrs_events.specs.declared.side.Side.{Side}
-use Rattle.lrs_events.specs.declared.side.Side.TheVariants.{L, R, B}
-use Rattle.lrs_events.specs.declared.span.Span.{Span}
+use Rattle.lrs_events.specs.declared.side.Side.TheVariants.{L, R}
 use Rattle.lrs_events.specs.Parts.{has_pair, has_place}
-use Rattle.lrs_events.specs.Places.{Place, same_place, same_link_side, is_among, places_at, places_on}
+use Rattle.lrs_events.specs.Places.{same_place, same_link_side, places_at}
 use Rattle.lrs_events.specs.Spans.{holds_by_span}
 use Rattle.lrs_machine.specs.Bounds.{most_pairs}
-use Rattle.lrs_machine.specs.Sound.{link_before, is_on_a_link, pairs_of, has_asset_place}
+use Rattle.lrs_machine.specs.Sound.{link_before, pairs_of, has_asset_place}
 use Rattle.lrs_machine.proofs.Members.{In, any_found, any_of, all_at, map_found, In-map, all_of}
 use Rattle.lrs_machine.proofs.Pairs.{held, same_side_is, is_same_side}
 use Rattle.lrs_orderly.proofs.Counted.{is_on_its_link, fewer}

@@ -1,38 +1,21 @@
 -- A referent comes.
 use Rattle.std.proofs.Common.{◌≡◌, ℕ, ◌+◌, ◌<◌, Bool, true, false, cond, inl, inr, List, [], ◌∷◌, ◌++◌, length, Option, Some, None, Result, Ok, Err, refl, sym, ap, subst, ◌∙◌}
-use Rattle.std.specs.Prelude.{◌&&◌, not, nat_lt, is_some}
-use Rattle.std.specs.List.{list_any, list_all, flat_map, filter_map, cons_option}
-use Rattle.std.specs.Option.{option_map, option_or, ok_or}
-use Rattle.std.specs.Ordering.{eq_by_cmp}
 use Rattle.std.specs.Cmp.{Equal-is}
-use Rattle.std.specs.Cmp.Lexicographic.{nat_list_cmp_total, texts_ties, bytes_decides}
 use Rattle.std.specs.FinMap.{find}
 use Rattle.std.proofs.lemmas.Bool.{false≢true, both_ways, and_parts, and_from, ltb-true, lt-ltb}
 use Rattle.std.proofs.lemmas.List.Folds.{list_all-append}
 use Rattle.std.proofs.lemmas.List.Concat.{flat_map-append}
-use Rattle.lrs_measure.specs.Lists.{each_two}
-use Rattle.lrs_measure.specs.Ordered.{insert_by}
-use Rattle.lrs_measure.specs.Texts.{Name, name_cmp, same_name}
-use Rattle.lrs_element.specs.declared.link.Ground.{Ground}
-use Rattle.lrs_element.specs.Course.{Millimetre, ground_at}
+use Rattle.lrs_verbs.specs.Prelude.{◌&&◌, not, nat_lt, is_some, list_any, list_all, flat_map, filter_map, cons_option, option_map, option_or, ok_or, eq_by_cmp, nat_list_cmp_total, texts_ties, bytes_decides, each_two, insert_by, Name, name_cmp, same_name, Ground, Millimetre, Referent, Alignment, is_route, is_route_course, have_marks, are_referents, referent_before, Cause, Image, RouteEntry, state_of, referent_entry, referents_on, attempt, ◌>>◌, ◌>>=◌, IsSound, State, changed_refs}
+use Rattle.lrs_element.specs.Course.{ground_at}
 use Rattle.lrs_position.specs.declared.expression.Expr.{Expr}
-use Rattle.lrs_position.specs.declared.route.Referent.{Referent}
-use Rattle.lrs_position.specs.Locating.{Alignment, cell}
-use Rattle.lrs_position.specs.Routes.{is_route, is_route_course, have_marks, are_referents, referent_before}
-use Rattle.lrs_machine.specs.declared.answer.Cause.{Cause}
+use Rattle.lrs_position.specs.Locating.{cell}
 use Rattle.lrs_machine.specs.declared.answer.Cause.TheVariants as cause
 use Rattle.lrs_machine.specs.declared.command.Command.TheVariants as verb
-use Rattle.lrs_machine.specs.declared.image.Image.{Image}
-use Rattle.lrs_machine.specs.declared.image.RouteEntry.{RouteEntry}
-use Rattle.lrs_machine.specs.Image.{state_of, referent_entry, referents_on}
-use Rattle.lrs_machine.specs.Machine.{attempt, refuse_if, ◌>>◌, ◌>>=◌, route_named, located_chainage, set_referent}
+use Rattle.lrs_machine.specs.Machine.{refuse_if, route_named, located_chainage, set_referent}
 use Rattle.lrs_machine.specs.Register.{get}
-use Rattle.lrs_machine.specs.Sound.{IsSound}
-use Rattle.lrs_machine.specs.State.{State}
 use Rattle.lrs_machine.proofs.Members.{In, any_found, all_at, all_of, In-flat_map, flat_map_found, find_known}
 use Rattle.lrs_machine.proofs.SoundImages.{and_three}
 use Rattle.lrs_lanes.proofs.Members.{filter_all}
-use Rattle.lrs_keep.specs.Change.{changed_refs}
 use Rattle.lrs_verbs.specs.Extents.{located_cell}
 use Rattle.lrs_verbs.specs.Plans.{IsPlanOf}
 use Rattle.lrs_verbs.specs.RouteReferents.{plan_of_referents, with_one, standing_at}

@@ -1,45 +1,21 @@
 -- A new route.
 use Rattle.std.proofs.Common.{◌≡◌, ℕ, ◌+◌, ◌≤◌, Bool, true, false, cond, List, [], length, Option, Some, None, Result, Ok, Err, refl, sym, ap, ◌∙◌, subst, arith}
-use Rattle.std.specs.Prelude.{nat_le, ◌||◌, ◌&&◌, not}
-use Rattle.std.specs.List.{list_any, list_all, position, flat_map, filter_map, AllByRecursion}
 use Rattle.std.specs.List as list
-use Rattle.std.specs.Option.{option_map}
-use Rattle.std.specs.Ordering.{eq_by_cmp}
-use Rattle.std.specs.Cmp.Lexicographic.{nat_list_cmp_total}
 use Rattle.std.specs.FinMap.{find}
 use Rattle.std.proofs.lemmas.Bool.{false≢true, both_ways, and_parts, and_from, le-leb}
 use Rattle.std.proofs.lemmas.List.{append-nil, length-map}
 use Rattle.std.proofs.lemmas.List.Folds.{list_all-map, flat_map-map}
-use Rattle.lrs_measure.specs.Lists.{each_two}
-use Rattle.lrs_measure.specs.Texts.{Name, name_cmp, same_name}
-use Rattle.lrs_measure.specs.Ordered.{insert_by}
-use Rattle.lrs_element.specs.declared.link.Piece.{Piece}
-use Rattle.lrs_element.specs.declared.link.Ground.{Ground}
-use Rattle.lrs_element.specs.declared.marks.Mark.{Mark}
-use Rattle.lrs_element.specs.Course.{Millimetre, expand, course_of, is_at, runs_over, meets, is_too_long}
-use Rattle.lrs_element.specs.Pieces.{IsFilled}
-use Rattle.lrs_position.specs.Routes.{is_route_course, have_marks, are_referents}
-use Rattle.lrs_position.specs.declared.route.Referent.{Referent}
-use Rattle.lrs_events.specs.Places.{Place, differs}
-use Rattle.lrs_events.specs.Spans.{holds_by_spans}
+use Rattle.lrs_verbs.specs.Prelude.{nat_le, ◌||◌, ◌&&◌, not, list_any, list_all, position, flat_map, filter_map, AllByRecursion, option_map, eq_by_cmp, nat_list_cmp_total, each_two, Name, name_cmp, same_name, insert_by, Piece, Ground, Mark, Millimetre, expand, course_of, runs_over, meets, is_too_long, IsFilled, is_route_course, have_marks, are_referents, Referent, Place, differs, holds_by_spans, Cause, Image, RouteEntry, contains_key, state_of, route_entry, referent_entry, referents_on, holds_on, State, attempt, refuse_at, ◌>>◌, ◌>>=◌, set_route, RouteCourse, is_on_a_link, are_courses, are_spans_of, route_before, IsSound, no_difference, with_difference, IsOrderly, is_run_once}
+use Rattle.lrs_element.specs.Course.{is_at}
 use Rattle.lrs_lanes.proofs.Inserted.{length-insert_by}
-use Rattle.lrs_machine.specs.declared.answer.Cause.{Cause}
 use Rattle.lrs_machine.specs.declared.answer.Cause.TheVariants as cause
 use Rattle.lrs_machine.specs.declared.command.Command.TheVariants as verb
-use Rattle.lrs_machine.specs.declared.image.Image.{Image}
-use Rattle.lrs_machine.specs.declared.image.RouteEntry.{RouteEntry}
 use Rattle.lrs_machine.specs.Bounds.{most_routes}
-use Rattle.lrs_machine.specs.Register.{contains_key}
-use Rattle.lrs_machine.specs.Image.{state_of, route_entry, referent_entry, referents_on, holds_on}
-use Rattle.lrs_machine.specs.State.{State}
-use Rattle.lrs_machine.specs.Machine.{attempt, refuse_if, refuse_at, ◌>>◌, ◌>>=◌, check_pieces, check_free, check_marks, set_route, is_taken}
-use Rattle.lrs_machine.specs.Sound.{RouteCourse, course_before, is_course, is_on_a_link, are_courses, courses_of, RouteMarks, RouteReferents, are_all_referents, referents_of, RouteSpans, are_spans_of, route_before, IsSound}
+use Rattle.lrs_machine.specs.Machine.{refuse_if, check_pieces, check_free, check_marks, is_taken}
+use Rattle.lrs_machine.specs.Sound.{course_before, is_course, courses_of, RouteMarks, RouteReferents, are_all_referents, referents_of, RouteSpans}
 use Rattle.lrs_machine.proofs.Members.{In, any_of, any_found, all_of, list_any-map}
 use Rattle.lrs_machine.proofs.SoundImages.{and_three}
-use Rattle.lrs_keep.specs.Change.{no_difference, with_difference}
-use Rattle.lrs_orderly.specs.Orderly.{IsOrderly}
 use Rattle.lrs_orderly.proofs.Ordering.{sound_is_orderly}
-use Rattle.lrs_index.specs.Ground.{is_run_once}
 use Rattle.lrs_verbs.specs.Changes.{route_on, ground_after}
 use Rattle.lrs_verbs.specs.Plans.{TellsGround, IsPlanOf}
 use Rattle.lrs_verbs.specs.Checks.{new_course, new_marks, IsEntryOf, route_plan}

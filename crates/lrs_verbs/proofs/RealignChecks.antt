@@ -1,37 +1,19 @@
 -- The checks of a realignment, in their order.
 use Rattle.std.proofs.Common.{◌≡◌, ℕ, ◌+◌, ◌-◌, ◌≤◌, Bool, true, false, cond, ◌⊎◌, inl, inr, List, [], ◌∷◌, ◌++◌, take, drop, length, Option, Some, None, Result, Ok, Err, refl, sym, ap, subst, ◌∙◌, arith, length-append}
-use Rattle.std.specs.Prelude.{◌||◌, ◌&&◌, not, nat_lt, nat_le, nat_eq, slice_range, unwrap_or}
-use Rattle.std.specs.List.{find, list_all}
-use Rattle.std.specs.Option.{option_map, ok_or}
+use Rattle.std.specs.List.{find}
 use Rattle.std.proofs.lemmas.Bool.{not-true, and_parts, or_left, or_right, or_cases, or_parts, ltb-true, ltb-false, lt-ltb, leb-true, le-leb}
-use Rattle.lrs_measure.specs.Lists.{each_two, is_nothing}
-use Rattle.lrs_measure.specs.Texts.{Name}
-use Rattle.lrs_element.specs.declared.link.Ground.{Ground}
-use Rattle.lrs_element.specs.declared.link.Piece.{Piece}
-use Rattle.lrs_element.specs.declared.marks.Mark.{Mark}
-use Rattle.lrs_element.specs.Course.{course_of, continues, piece_count, is_too_long}
-use Rattle.lrs_element.specs.Limits.{longest_route, most_pieces}
-use Rattle.lrs_position.specs.declared.route.Referent.{Referent}
-use Rattle.lrs_position.specs.Locating.{Alignment}
-use Rattle.lrs_position.specs.Routes.{referent_before}
-use Rattle.lrs_events.specs.declared.span.Span.{Span}
-use Rattle.lrs_events.specs.Spans.{are_rows}
-use Rattle.lrs_canonical.specs.Joins.{end_by}
+use Rattle.lrs_verbs.specs.Prelude.{◌||◌, ◌&&◌, not, nat_lt, nat_le, nat_eq, slice_range, unwrap_or, list_all, option_map, ok_or, each_two, Name, Ground, Piece, Mark, course_of, is_too_long, longest_route, Referent, Alignment, referent_before, Span, are_rows, end_by, Cause, Image, RouteEntry, state_of, route_entry, attempt, ◌>>=◌, ◌>>◌, set_route, is_span, are_spans_of, IsSound, State, is_named}
+use Rattle.lrs_measure.specs.Lists.{is_nothing}
+use Rattle.lrs_element.specs.Course.{continues, piece_count}
+use Rattle.lrs_element.specs.Limits.{most_pieces}
 use Rattle.lrs_canonical.proofs.Members.{all_at, all_from}
 use Rattle.lrs_realign.specs.Realigning.{have_room_behind}
-use Rattle.lrs_machine.specs.declared.answer.Cause.{Cause}
 use Rattle.lrs_machine.specs.declared.answer.Cause.TheVariants as cause
 use Rattle.lrs_machine.specs.declared.command.Command.TheVariants as verb
-use Rattle.lrs_machine.specs.declared.image.Image.{Image}
-use Rattle.lrs_machine.specs.declared.image.RouteEntry.{RouteEntry}
-use Rattle.lrs_machine.specs.Image.{state_of, route_entry}
-use Rattle.lrs_machine.specs.Machine.{attempt, refuse_if, ◌>>=◌, ◌>>◌, check_pieces, check_free, check_marks, set_route, abandon}
-use Rattle.lrs_machine.specs.Sound.{is_span, are_spans_of, IsSound}
-use Rattle.lrs_machine.specs.State.{State}
+use Rattle.lrs_machine.specs.Machine.{refuse_if, check_pieces, check_free, check_marks, abandon}
 use Rattle.lrs_machine.proofs.Members as members
 use Rattle.lrs_machine.proofs.Members.{all_of}
 use Rattle.lrs_sound.proofs.Fitting.{fits}
-use Rattle.lrs_keep.specs.Change.{is_named}
 use Rattle.lrs_routes.proofs.Rewriting.{old_spans}
 use Rattle.lrs_leaving.specs.Realigning.{replaced}
 use Rattle.lrs_leaving.proofs.Replaced.{replaced_length}

@@ -1,41 +1,20 @@
 -- A stretch of a route gets other ground.
 use Rattle.std.proofs.Common.{◌≡◌, ℕ, ◌+◌, ◌-◌, ◌≤◌, Bool, true, false, cond, ◌⊎◌, inl, inr, List, [], ◌∷◌, ◌++◌, map, take, drop, length, Option, Some, None, Ok, refl, sym, ap, subst, ◌∙◌}
-use Rattle.std.specs.Prelude.{◌||◌, ◌&&◌, not, is_some, nat_lt, slice_get, slice_range, unwrap_or}
-use Rattle.std.specs.List.{find, list_any, list_all, cons_option}
-use Rattle.std.specs.Option.{option_map, option_or}
-use Rattle.std.specs.Cmp.Lexicographic.{bytes_decides}
+use Rattle.std.specs.List.{find}
 use Rattle.std.proofs.lemmas.Bool.{false≢true, both_ways, not-true, and_parts, and_from, or_left, or_right, cases_Bool, ltb-true}
 use Rattle.std.proofs.lemmas.List.Folds.{list_any-append}
-use Rattle.lrs_measure.specs.Lists.{each_two}
-use Rattle.lrs_measure.specs.Texts.{Name, same_name}
-use Rattle.lrs_element.specs.declared.link.Ground.{Ground}
-use Rattle.lrs_element.specs.declared.link.Piece.{Piece}
-use Rattle.lrs_element.specs.declared.marks.Mark.{Mark}
-use Rattle.lrs_element.specs.Course.{Millimetre, course_of, expand, is_at, runs_over, meets}
-use Rattle.lrs_index.specs.Ground.{is_run_once}
+use Rattle.lrs_verbs.specs.Prelude.{◌||◌, ◌&&◌, not, is_some, nat_lt, slice_get, slice_range, unwrap_or, list_any, list_all, cons_option, option_map, option_or, bytes_decides, each_two, Name, same_name, Ground, Piece, Mark, Millimetre, course_of, expand, runs_over, meets, is_run_once, Referent, is_route, is_route_course, have_marks, are_referents, referent_before, differs, is_within, Image, RouteEntry, state_of, referent_entry, referents_on, set_route, are_spans_of, route_before, IsSound, State, Makes, RouteChange, Difference, is_named, changed_refs, fits_after, route_after, entry_after, with_difference, CanDiffer, are_names_of, rerouting}
+use Rattle.lrs_element.specs.Course.{is_at}
 use Rattle.lrs_index.proofs.Pieces.{across, behind}
-use Rattle.lrs_position.specs.declared.route.Referent.{Referent}
-use Rattle.lrs_position.specs.Routes.{is_route, is_route_course, have_marks, are_referents, referent_before}
-use Rattle.lrs_events.specs.Places.{differs}
-use Rattle.lrs_canonical.specs.Removals.{is_within}
 use Rattle.lrs_realign.specs.Realigning.{IsRealigned}
 use Rattle.lrs_machine.specs.declared.command.Command.TheVariants as verb
-use Rattle.lrs_machine.specs.declared.image.Image.{Image}
-use Rattle.lrs_machine.specs.declared.image.RouteEntry.{RouteEntry}
-use Rattle.lrs_machine.specs.Image.{state_of, referent_entry, referents_on}
-use Rattle.lrs_machine.specs.Machine.{is_taken, do_realign, set_route, abandon}
-use Rattle.lrs_machine.specs.Sound.{are_spans_of, route_before, IsSound}
-use Rattle.lrs_machine.specs.State.{State}
+use Rattle.lrs_machine.specs.Machine.{is_taken, do_realign, abandon}
 use Rattle.lrs_machine.proofs.Members.{In, any_found, any_of, all_at, two_at, In-map, map_found}
-use Rattle.lrs_orderly.specs.Made.{Makes}
 use Rattle.lrs_sound.proofs.Fitting.{fits}
-use Rattle.lrs_keep.specs.declared.change.RouteChange.{RouteChange}
 use Rattle.lrs_keep.specs.declared.change.ReferentChange.{ReferentChange}
-use Rattle.lrs_keep.specs.declared.change.Difference.{Difference}
-use Rattle.lrs_keep.specs.Change.{is_named, changed_refs, fits_after, route_after, entry_after, with_difference, CanDiffer, are_names_of}
 use Rattle.lrs_keep.proofs.Becoming.{HasBecome, becomes}
 use Rattle.lrs_keep.proofs.Tables.{routes_in_order}
-use Rattle.lrs_routes.specs.Differences.{rerouting, KeepsFromDropped}
+use Rattle.lrs_routes.specs.Differences.{KeepsFromDropped}
 use Rattle.lrs_routes.specs.Rewriting.{rewritten, with_routes, AreFit}
 use Rattle.lrs_routes.specs.Running.{runs_on, is_run_by}
 use Rattle.lrs_routes.proofs.Apart.{meet_at}

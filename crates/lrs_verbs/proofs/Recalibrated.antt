@@ -2,23 +2,11 @@
 use Rattle.std.proofs.Common.{◌≡◌, ℕ, true, List, length, Option, Some, None, Result, Ok, Err, sym, ap, subst, ◌∙◌}
 use Rattle.std.specs.Prelude.{is_none}
 use Rattle.std.specs.List.{find}
-use Rattle.std.specs.Option.{option_map, ok_or}
-use Rattle.lrs_measure.specs.Texts.{Name}
-use Rattle.lrs_element.specs.declared.marks.Mark.{Mark}
+use Rattle.lrs_verbs.specs.Prelude.{option_map, ok_or, Name, Mark, Alignment, Cause, Image, RouteEntry, state_of, route_entry, State, attempt, ◌>>◌, ◌>>=◌, set_route, IsSound, Makes, RouteChange, is_named}
 use Rattle.lrs_element.specs.Marks.{bad_mark}
-use Rattle.lrs_position.specs.Locating.{Alignment}
-use Rattle.lrs_machine.specs.declared.answer.Cause.{Cause}
 use Rattle.lrs_machine.specs.declared.answer.Cause.TheVariants as cause
 use Rattle.lrs_machine.specs.declared.command.Command.TheVariants as verb
-use Rattle.lrs_machine.specs.declared.image.Image.{Image}
-use Rattle.lrs_machine.specs.declared.image.RouteEntry.{RouteEntry}
-use Rattle.lrs_machine.specs.Image.{state_of, route_entry}
-use Rattle.lrs_machine.specs.State.{State}
-use Rattle.lrs_machine.specs.Machine.{attempt, ◌>>◌, ◌>>=◌, check_marks, set_route}
-use Rattle.lrs_machine.specs.Sound.{IsSound}
-use Rattle.lrs_orderly.specs.Made.{Makes}
-use Rattle.lrs_keep.specs.declared.change.RouteChange.{RouteChange}
-use Rattle.lrs_keep.specs.Change.{is_named}
+use Rattle.lrs_machine.specs.Machine.{check_marks}
 use Rattle.lrs_routes.specs.Renaming.{HasSame}
 use Rattle.lrs_routes.proofs.Renaming.{recalibrate_makes, alike}
 use Rattle.lrs_verbs.specs.Checks.{new_marks, recalibrated}

@@ -1,30 +1,15 @@
 -- A route under another name.
 use Rattle.std.proofs.Common.{◌≡◌, ℕ, true, false, cond, List, length, Option, Some, None, Result, Ok, Err, refl, sym, ap, subst, ◌∙◌}
-use Rattle.std.specs.Prelude.{is_none, is_some}
-use Rattle.std.specs.List.{find, list_any, AllByRecursion}
-use Rattle.std.specs.Option.{option_map, ok_or}
+use Rattle.std.specs.Prelude.{is_none}
+use Rattle.std.specs.List.{find}
 use Rattle.std.proofs.lemmas.Bool.{false≢true}
-use Rattle.lrs_measure.specs.Texts.{Name, same_name}
-use Rattle.lrs_element.specs.declared.link.Piece.{Piece}
-use Rattle.lrs_element.specs.Course.{course_of, runs_over}
+use Rattle.lrs_verbs.specs.Prelude.{is_some, list_any, AllByRecursion, option_map, ok_or, Name, same_name, Piece, course_of, runs_over, IsFilled, Alignment, Cause, Image, RouteEntry, state_of, route_entry, State, attempt, ◌>>◌, ◌>>=◌, set_route, contains_key, IsSound, Makes, RouteChange, is_named}
 use Rattle.lrs_element.specs.Marks.{bad_mark}
-use Rattle.lrs_element.specs.Pieces.{IsFilled}
-use Rattle.lrs_position.specs.Locating.{Alignment}
-use Rattle.lrs_machine.specs.declared.answer.Cause.{Cause}
 use Rattle.lrs_machine.specs.declared.answer.Cause.TheVariants as cause
 use Rattle.lrs_machine.specs.declared.command.Command.TheVariants as verb
-use Rattle.lrs_machine.specs.declared.image.Image.{Image}
-use Rattle.lrs_machine.specs.declared.image.RouteEntry.{RouteEntry}
-use Rattle.lrs_machine.specs.Image.{state_of, route_entry}
-use Rattle.lrs_machine.specs.State.{State}
-use Rattle.lrs_machine.specs.Machine.{attempt, refuse_if, ◌>>◌, ◌>>=◌, set_route, drop_route}
-use Rattle.lrs_machine.specs.Register.{contains_key}
-use Rattle.lrs_machine.specs.Sound.{IsSound}
+use Rattle.lrs_machine.specs.Machine.{refuse_if, drop_route}
 use Rattle.lrs_machine.proofs.Members.{In}
-use Rattle.lrs_orderly.specs.Made.{Makes}
 use Rattle.lrs_sound.proofs.Fitting.{fits}
-use Rattle.lrs_keep.specs.declared.change.RouteChange.{RouteChange}
-use Rattle.lrs_keep.specs.Change.{is_named}
 use Rattle.lrs_routes.specs.Renaming.{HasSame}
 use Rattle.lrs_routes.proofs.Alike.{IsAlike, fit, same_state, moves}
 use Rattle.lrs_routes.proofs.Renaming.{renumber_makes, own_if_new, alike}

@@ -1,19 +1,11 @@
 -- Plans of routes that keep their ground, their referents and their rows.
 use Rattle.std.proofs.Common.{◌≡◌, true, List, [], ◌∷◌, filter, Option, Some, refl, ap, ◌∙◌}
-use Rattle.std.specs.Prelude.{◌&&◌, length, unwrap_or}
-use Rattle.std.specs.List.{list_all, find}
+use Rattle.std.specs.List.{find}
 use Rattle.std.proofs.lemmas.Bool.{and_from, and_parts}
-use Rattle.lrs_measure.specs.Texts.{Name}
-use Rattle.lrs_element.specs.declared.marks.Mark.{Mark}
-use Rattle.lrs_position.specs.Routes.{is_route, is_route_course, have_marks, are_referents}
-use Rattle.lrs_events.specs.Spans.{are_rows}
-use Rattle.lrs_machine.specs.declared.image.Image.{Image}
-use Rattle.lrs_machine.specs.declared.image.RouteEntry.{RouteEntry}
-use Rattle.lrs_machine.specs.Sound.{is_span, are_spans_of, IsSound}
+use Rattle.lrs_verbs.specs.Prelude.{◌&&◌, length, unwrap_or, list_all, Name, Mark, is_route, is_route_course, have_marks, are_referents, are_rows, Image, RouteEntry, is_span, are_spans_of, IsSound, RouteChange, is_named, changed_refs, fits_after, route_after, spans_after, entry_after}
 use Rattle.lrs_machine.proofs.Members.{all_at}
 use Rattle.lrs_sound.proofs.Fitting.{fits}
-use Rattle.lrs_keep.specs.declared.change.RouteChange.{RouteChange}
-use Rattle.lrs_keep.specs.Change.{is_named, changed_refs, fits_after, route_after, spans_after, entry_after, CanBecome}
+use Rattle.lrs_keep.specs.Change.{CanBecome}
 use Rattle.lrs_keep.proofs.Becoming.{HasBecome, becomes}
 use Rattle.lrs_routes.specs.Differences.{no_change}
 use Rattle.lrs_routes.specs.Renaming.{HasSame}

@@ -1,20 +1,11 @@
 -- The checks of a retirement, one after another.
 use Rattle.std.proofs.Common.{◌≡◌, ℕ, Bool, true, false, Option, Some, None, Result, Ok, Err, ap, ◌∙◌}
-use Rattle.std.specs.Prelude.{◌||◌, not}
-use Rattle.std.specs.List.{list_any}
-use Rattle.std.specs.Option.{ok_or}
-use Rattle.lrs_measure.specs.Texts.{Name}
+use Rattle.lrs_verbs.specs.Prelude.{◌||◌, not, list_any, ok_or, Name, Alignment, Kind, B, places_on, Cause, ◌>>=◌, ◌>>◌, Extent, extent_of, part_of, attempt, State, Retired}
 use Rattle.lrs_position.specs.Expressions.{Ends}
-use Rattle.lrs_position.specs.Locating.{Alignment}
-use Rattle.lrs_events.specs.declared.class.Kind.{Kind}
-use Rattle.lrs_events.specs.declared.side.Side.TheVariants.{B}
-use Rattle.lrs_events.specs.Places.{places_on}
-use Rattle.lrs_machine.specs.declared.answer.Cause.{Cause}
 use Rattle.lrs_machine.specs.declared.answer.Cause.TheVariants as cause
 use Rattle.lrs_machine.specs.declared.command.Command.TheVariants as verb
 use Rattle.lrs_machine.specs.Register.{get}
-use Rattle.lrs_machine.specs.Machine.{◌>>=◌, ◌>>◌, refuse_if, route_named, is_wrong_kind, Extent, extent_of, is_empty_extent, part_of, belongs_to, kind_of_asset, take_away, attempt}
-use Rattle.lrs_machine.specs.State.{State, Retired}
+use Rattle.lrs_machine.specs.Machine.{refuse_if, route_named, is_wrong_kind, is_empty_extent, belongs_to, kind_of_asset, take_away}
 
 module _ (asset : ℕ) (route : Name) (ends : Ends) (n : ℕ) (s : State) where
   -- whether there is nothing to retire

@@ -1,32 +1,19 @@
 -- What an asset holds on a part of a route is taken away there.
 use Rattle.std.proofs.Common.{◌≡◌, ℕ, ◌-◌, ◌≤◌, Bool, true, false, ◌⊎◌, inl, inr, List, [], ◌∷◌, length, Some, refl, sym, ap, ◌∙◌, arith}
-use Rattle.std.specs.Prelude.{◌&&◌, not, nat_eq, nat_le, nat_lt, slice_get}
-use Rattle.std.specs.List.{list_any}
 use Rattle.std.specs.Cmp as cmp
-use Rattle.std.specs.Cmp.Lexicographic.{bytes_decides}
 use Rattle.std.proofs.Math.Bool.{and-true}
 use Rattle.std.proofs.lemmas.Bool.{false≢true, and_parts, and_from, cases_Bool, eqb-true, eq-eqb, ltb-true}
+use Rattle.lrs_verbs.specs.Prelude.{◌&&◌, not, nat_eq, nat_le, nat_lt, slice_get, list_any, bytes_decides, same_name, Ground, Asset, B, Span, Place, places_on, holds_by_spans, Removal, is_within, IsRemoval, Image, RouteEntry, state_of, asset_entry, holds_on, Extent, part_of, IsSound}
 use Rattle.lrs_measure.specs.Lists.{is_nothing}
-use Rattle.lrs_measure.specs.Texts.{same_name}
-use Rattle.lrs_element.specs.declared.link.Ground.{Ground}
 use Rattle.lrs_element.specs.Course.{is_at}
-use Rattle.lrs_events.specs.declared.class.Asset.{Asset}
-use Rattle.lrs_events.specs.declared.side.Side.TheVariants.{B}
 use Rattle.lrs_events.specs.declared.side.LinkSide.{LinkSide}
-use Rattle.lrs_events.specs.declared.span.Span.{Span}
 use Rattle.lrs_events.specs.Members.{is_member}
-use Rattle.lrs_events.specs.Places.{Place, beside, places_at, places_on, lies_on}
-use Rattle.lrs_events.specs.Spans.{holds_by_spans}
-use Rattle.lrs_canonical.specs.declared.removing.Removal.{Removal}
+use Rattle.lrs_events.specs.Places.{beside, places_at, lies_on}
 use Rattle.lrs_canonical.specs.OnCourse.{is_held}
-use Rattle.lrs_canonical.specs.Removals.{Taken, is_within, IsRemoval}
-use Rattle.lrs_machine.specs.declared.image.Image.{Image}
-use Rattle.lrs_machine.specs.declared.image.RouteEntry.{RouteEntry}
+use Rattle.lrs_canonical.specs.Removals.{Taken}
 use Rattle.lrs_machine.specs.State as state
-use Rattle.lrs_machine.specs.Image.{state_of, asset_entry, holds_on}
 use Rattle.lrs_machine.specs.Register.{get}
-use Rattle.lrs_machine.specs.Machine.{Extent, part_of, belongs_to}
-use Rattle.lrs_machine.specs.Sound.{IsSound}
+use Rattle.lrs_machine.specs.Machine.{belongs_to}
 use Rattle.lrs_machine.proofs.Ledgers.{among_passes}
 use Rattle.lrs_machine.proofs.Members.{In, any_found, any_of, flat_map_found, find_numbered}
 use Rattle.lrs_machine.proofs.Pairs.{beside_ground}

@@ -1,32 +1,16 @@
 -- The plan of a retirement: its refusals, and what it takes away.
 use Rattle.std.proofs.Common.{◌≡◌, ℕ, ◌+◌, ◌≤◌, Bool, true, false, length, Option, Some, None, Ok, Err, refl, sym, ap, subst, ◌∙◌}
-use Rattle.std.specs.Prelude.{◌||◌, not}
-use Rattle.std.specs.List.{list_any, find}
-use Rattle.std.specs.Option.{option_map, option_and_then}
+use Rattle.std.specs.List.{find}
+use Rattle.std.specs.Option.{option_and_then}
+use Rattle.lrs_verbs.specs.Prelude.{◌||◌, not, list_any, option_map, Name, alignment_of, Asset, Kind, B, places_on, Removal, IsRemoval, IsPlan, Cause, Image, RouteEntry, state_of, asset_entry, route_entry, ◌>>◌, Extent, part_of, extent_of, attempt, IsSound, Retired, is_named}
 use Rattle.lrs_measure.specs.Lists.{is_nothing}
-use Rattle.lrs_measure.specs.Texts.{Name}
 use Rattle.lrs_position.specs.Expressions.{Ends}
-use Rattle.lrs_position.specs.Translating.{alignment_of}
-use Rattle.lrs_events.specs.declared.class.Asset.{Asset}
-use Rattle.lrs_events.specs.declared.class.Kind.{Kind}
-use Rattle.lrs_events.specs.declared.side.Side.TheVariants.{B}
-use Rattle.lrs_events.specs.Places.{places_on}
-use Rattle.lrs_canonical.specs.declared.removing.Removal.{Removal}
-use Rattle.lrs_canonical.specs.Removals.{IsRemoval}
-use Rattle.lrs_spans.specs.Plans.{IsPlan}
-use Rattle.lrs_machine.specs.declared.answer.Cause.{Cause}
 use Rattle.lrs_machine.specs.declared.answer.Cause.TheVariants as cause
 use Rattle.lrs_machine.specs.declared.command.Command.TheVariants as verb
-use Rattle.lrs_machine.specs.declared.image.Image.{Image}
-use Rattle.lrs_machine.specs.declared.image.RouteEntry.{RouteEntry}
-use Rattle.lrs_machine.specs.Image.{state_of, asset_entry, route_entry}
 use Rattle.lrs_machine.specs.Register.{get}
-use Rattle.lrs_machine.specs.Machine.{◌>>◌, Extent, refuse_if, part_of, belongs_to, is_empty_extent, is_wrong_kind, extent_of, kind_of_asset, attempt}
-use Rattle.lrs_machine.specs.Sound.{IsSound}
-use Rattle.lrs_machine.specs.State.{Retired}
+use Rattle.lrs_machine.specs.Machine.{refuse_if, belongs_to, is_empty_extent, is_wrong_kind, kind_of_asset}
 use Rattle.lrs_machine.specs.State as state
 use Rattle.lrs_machine.proofs.Members.{In}
-use Rattle.lrs_keep.specs.Change.{is_named}
 use Rattle.lrs_verbs.specs.declared.plan.Plan.{Plan}
 use Rattle.lrs_verbs.specs.Plans.{IsPlanOf}
 use Rattle.lrs_verbs.specs.Taking.{of_asset_within, HasAsset, IsTaking}

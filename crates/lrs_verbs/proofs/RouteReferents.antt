@@ -1,33 +1,20 @@
 -- An image in which the referents of one route change, and nothing else.
 use Rattle.std.proofs.Common.{◌≡◌, ℕ, ◌+◌, Bool, true, List, length, Option, Some, Ok, refl, sym, ap, subst, ◌∙◌}
-use Rattle.std.specs.List.{list_all, flat_map, find}
-use Rattle.std.specs.Option.{option_map}
+use Rattle.std.specs.List.{find}
 use Rattle.std.specs.FinMap as entries
 use Rattle.std.proofs.lemmas.Bool.{and_parts, and_from}
 use Rattle.std.proofs.lemmas.List.{append-nil}
 use Rattle.std.proofs.lemmas.List.Folds.{list_all-map, flat_map-map}
-use Rattle.lrs_measure.specs.Lists.{each_two}
-use Rattle.lrs_measure.specs.Texts.{Name, name_cmp}
-use Rattle.lrs_measure.specs.Ordered.{insert_by, insert_some}
-use Rattle.lrs_element.specs.Course.{Millimetre}
-use Rattle.lrs_position.specs.Routes.{is_route, is_route_course, have_marks, are_referents}
-use Rattle.lrs_events.specs.Places.{Place}
-use Rattle.lrs_events.specs.Spans.{are_rows, holds_by_spans}
-use Rattle.lrs_machine.specs.declared.command.Command.{Command}
-use Rattle.lrs_machine.specs.declared.image.Image.{Image}
-use Rattle.lrs_machine.specs.declared.image.RouteEntry.{RouteEntry}
-use Rattle.lrs_machine.specs.Image.{state_of, route_entry, referents_on, holds_on}
-use Rattle.lrs_machine.specs.Machine.{attempt}
-use Rattle.lrs_machine.specs.Sound.{RouteReferents, RouteSpans, are_courses, are_all_marks, are_all_referents, referents_of, are_spans_of, is_span, spans_of, route_before, IsSound}
+use Rattle.lrs_verbs.specs.Prelude.{list_all, flat_map, option_map, each_two, Name, name_cmp, insert_by, Millimetre, is_route, is_route_course, have_marks, are_referents, Place, are_rows, holds_by_spans, Command, Image, RouteEntry, state_of, route_entry, referents_on, holds_on, attempt, are_courses, are_spans_of, is_span, route_before, IsSound, RouteChange, changed_refs, entry_after, is_named, without, with_difference, CanDiffer, are_names_of, IsOrderly}
+use Rattle.lrs_measure.specs.Ordered.{insert_some}
+use Rattle.lrs_machine.specs.Sound.{RouteReferents, RouteSpans, are_all_marks, are_all_referents, referents_of, spans_of}
 use Rattle.lrs_machine.proofs.Members.{In, In-map, all_at}
 use Rattle.lrs_machine.proofs.SoundImages.{and_three}
 use Rattle.lrs_lanes.proofs.Members.{filter_all}
 use Rattle.lrs_keep.specs.declared.change.ReferentChange.{ReferentChange}
-use Rattle.lrs_keep.specs.declared.change.RouteChange.{RouteChange}
-use Rattle.lrs_keep.specs.Change.{changed_refs, entry_after, is_named, without, with_difference, CanBecome, CanDiffer, are_names_of}
+use Rattle.lrs_keep.specs.Change.{CanBecome}
 use Rattle.lrs_keep.proofs.Becoming.{HasBecome, becomes}
 use Rattle.lrs_keep.proofs.Tables.{routes_in_order}
-use Rattle.lrs_orderly.specs.Orderly.{IsOrderly}
 use Rattle.lrs_orderly.proofs.Ordering.{sound_is_orderly}
 use Rattle.lrs_verbs.specs.declared.plan.ReferentPlaces.{ReferentPlaces}
 use Rattle.lrs_verbs.specs.Changes.{route_on, referents_after, IsNewReferent}

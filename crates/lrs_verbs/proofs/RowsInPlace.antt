@@ -1,27 +1,12 @@
 -- A route's rows change in place, and nothing else of it.
 use Rattle.std.proofs.Common.{◌≡◌, true, List, filter, Option, Some, refl, sym, ap, ◌∙◌}
-use Rattle.std.specs.List.{flat_map}
 use Rattle.std.specs.List as list
-use Rattle.std.specs.Option.{option_map}
 use Rattle.std.specs.FinMap.{find}
-use Rattle.lrs_measure.specs.Lists.{each_two}
-use Rattle.lrs_measure.specs.Ordered.{insert_by, insert_some}
-use Rattle.lrs_measure.specs.Texts.{Name, name_cmp}
-use Rattle.lrs_position.specs.Routes.{is_route}
-use Rattle.lrs_events.specs.declared.class.Asset.{Asset}
-use Rattle.lrs_events.specs.declared.part.Part.{Part}
-use Rattle.lrs_events.specs.declared.part.Gone.{Gone}
-use Rattle.lrs_events.specs.declared.span.Span.{Span}
+use Rattle.lrs_verbs.specs.Prelude.{flat_map, option_map, each_two, insert_by, Name, name_cmp, is_route, Asset, Part, Gone, Span, span_before, are_rows, RouteEntry, Image, state_of, referents_on, route_before, RouteChange, Difference, no_difference, is_named, without, entry_after, fits_after, CanDiffer}
+use Rattle.lrs_measure.specs.Ordered.{insert_some}
 use Rattle.lrs_events.specs.Changes.{changed}
-use Rattle.lrs_events.specs.Spans.{span_before, are_rows}
 use Rattle.lrs_lanes.proofs.Members.{filter_all}
-use Rattle.lrs_machine.specs.declared.image.RouteEntry.{RouteEntry}
-use Rattle.lrs_machine.specs.declared.image.Image.{Image}
-use Rattle.lrs_machine.specs.Image.{state_of, referents_on}
-use Rattle.lrs_machine.specs.Sound.{route_before}
-use Rattle.lrs_keep.specs.declared.change.RouteChange.{RouteChange}
-use Rattle.lrs_keep.specs.declared.change.Difference.{Difference}
-use Rattle.lrs_keep.specs.Change.{no_difference, is_named, without, entry_after, fits_after, routes_after, CanDiffer, are_rows_of}
+use Rattle.lrs_keep.specs.Change.{routes_after, are_rows_of}
 use Rattle.lrs_keep.proofs.Becoming.{has_become}
 use Rattle.lrs_routes.specs.Differences.{no_change}
 use Rattle.lrs_verbs.specs.Changes.{route_on}

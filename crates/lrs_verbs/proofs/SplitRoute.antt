@@ -1,41 +1,20 @@
 -- A route becomes two.
 use Rattle.std.proofs.Common.{◌≡◌, ℕ, Bool, true, false, cond, ◌⊎◌, inl, inr, List, [], ◌∷◌, map, filter, take, drop, length, Option, Some, None, Result, Ok, Err, refl, sym, ap, subst, ◌∙◌}
-use Rattle.std.specs.Prelude.{◌&&◌, not, is_some, nat_lt, nat_eq, unwrap_or}
-use Rattle.std.specs.List.{find, list_any, cons_option, AllByRecursion}
-use Rattle.std.specs.Option.{option_map, ok_or}
-use Rattle.std.specs.Cmp.Lexicographic.{bytes_decides}
+use Rattle.std.specs.List.{find}
 use Rattle.std.proofs.lemmas.Bool.{false≢true, both_ways, not-true, or_right, cases_Bool}
 use Rattle.std.proofs.lemmas.List.{take-append-drop}
 use Rattle.std.proofs.lemmas.List.Folds.{list_any-append}
-use Rattle.lrs_measure.specs.Lists.{each_two}
-use Rattle.lrs_measure.specs.Texts.{Name, same_name}
-use Rattle.lrs_element.specs.declared.link.Piece.{Piece}
-use Rattle.lrs_element.specs.declared.marks.Mark.{Mark}
-use Rattle.lrs_element.specs.Course.{Millimetre, course_of, is_at, runs_over, is_too_long}
+use Rattle.lrs_verbs.specs.Prelude.{◌&&◌, not, is_some, nat_lt, nat_eq, unwrap_or, list_any, cons_option, AllByRecursion, option_map, ok_or, bytes_decides, each_two, Name, same_name, Piece, Mark, Millimetre, course_of, runs_over, is_too_long, IsFilled, Referent, Alignment, is_route, Cause, Image, RouteEntry, state_of, route_entry, State, attempt, ◌>>◌, ◌>>=◌, set_route, contains_key, are_spans_of, route_before, IsSound, Makes, RouteChange, Difference, is_named, changed_refs, fits_after, route_after, entry_after, with_difference, CanDiffer, are_names_of, rerouting}
+use Rattle.lrs_element.specs.Course.{is_at}
 use Rattle.lrs_element.specs.Marks.{is_inner_mark, marks_to, marks_from}
-use Rattle.lrs_element.specs.Pieces.{IsFilled}
 use Rattle.lrs_element.proofs.LineLemmas.{KeepRules-from_none, ends_at}
-use Rattle.lrs_position.specs.declared.route.Referent.{Referent}
-use Rattle.lrs_position.specs.Locating.{Alignment}
-use Rattle.lrs_position.specs.Routes.{is_route}
-use Rattle.lrs_machine.specs.declared.answer.Cause.{Cause}
 use Rattle.lrs_machine.specs.declared.answer.Cause.TheVariants as cause
 use Rattle.lrs_machine.specs.declared.command.Command.TheVariants as verb
-use Rattle.lrs_machine.specs.declared.image.Image.{Image}
-use Rattle.lrs_machine.specs.declared.image.RouteEntry.{RouteEntry}
-use Rattle.lrs_machine.specs.Image.{state_of, route_entry}
-use Rattle.lrs_machine.specs.State.{State}
-use Rattle.lrs_machine.specs.Machine.{attempt, refuse_if, ◌>>◌, ◌>>=◌, set_route}
-use Rattle.lrs_machine.specs.Register.{contains_key}
-use Rattle.lrs_machine.specs.Sound.{are_spans_of, route_before, IsSound}
+use Rattle.lrs_machine.specs.Machine.{refuse_if}
 use Rattle.lrs_machine.proofs.Members.{In, any_found, any_of, all_at, two_at, In-map, map_found}
-use Rattle.lrs_orderly.specs.Made.{Makes}
 use Rattle.lrs_sound.proofs.Fitting.{fits}
-use Rattle.lrs_keep.specs.declared.change.RouteChange.{RouteChange}
-use Rattle.lrs_keep.specs.declared.change.Difference.{Difference}
-use Rattle.lrs_keep.specs.Change.{is_named, changed_refs, fits_after, route_after, entry_after, with_difference, CanDiffer, are_names_of}
 use Rattle.lrs_keep.proofs.Becoming.{HasBecome, becomes}
-use Rattle.lrs_routes.specs.Differences.{rerouting, KeepsFromDropped}
+use Rattle.lrs_routes.specs.Differences.{KeepsFromDropped}
 use Rattle.lrs_routes.specs.Rewriting.{rewritten, with_routes}
 use Rattle.lrs_routes.specs.Splitting.{is_ahead, IsSplit}
 use Rattle.lrs_routes.proofs.Differences.{difference_rewrites, reroutes}

@@ -1,23 +1,13 @@
 -- Referents as they come into an index.
 use Rattle.std.proofs.Common.{◌≡◌, ℕ, ◌+◌, ◌<◌, ◌≤◌, Bool, true, false, cond, List, [], ◌∷◌, ◌++◌, length, take, get_or, Option, Some, None, refl, sym, ap, subst, ◌∙◌}
-use Rattle.std.specs.Prelude.{◌||◌, is_some, slice_get}
-use Rattle.std.specs.List.{filter_map, flat_map, list_any}
-use Rattle.std.specs.Option.{option_or, option_map}
-use Rattle.std.specs.Ordering.{eq_by_cmp}
 use Rattle.std.specs.Cmp.{Equal-is}
-use Rattle.std.specs.Cmp.Lexicographic.{nat_list_cmp_total, texts_ties, bytes_decides}
 use Rattle.std.specs.FinMap.{empty, insert, remove, get, find, get-empty, get-insert, get-remove}
 use Rattle.std.proofs.lemmas.List.{take_more, take_all, append-nil}
 use Rattle.std.proofs.lemmas.List.Folds.{list_any-append}
 use Rattle.std.proofs.lemmas.Option.{slice_get_past}
 use Rattle.std.proofs.lemmas.List.Elements.{filter_map-append}
 use Rattle.std.proofs.lemmas.List.Concat.{flat_map-append}
-use Rattle.lrs_measure.specs.Texts.{Name, name_cmp, same_name}
-use Rattle.lrs_element.specs.declared.link.Ground.{Ground}
-use Rattle.lrs_element.specs.Course.{Millimetre}
-use Rattle.lrs_position.specs.declared.route.Referent.{Referent}
-use Rattle.lrs_machine.specs.declared.image.RouteEntry.{RouteEntry}
-use Rattle.lrs_machine.specs.Image.{referent_entry, referents_on}
+use Rattle.lrs_verbs.specs.Prelude.{◌||◌, is_some, slice_get, filter_map, flat_map, list_any, option_or, option_map, eq_by_cmp, nat_list_cmp_total, texts_ties, bytes_decides, Name, name_cmp, same_name, Ground, Millimetre, Referent, RouteEntry, referent_entry, referents_on}
 use Rattle.lrs_verbs.specs.declared.plan.ReferentPlace.{ReferentPlace}
 use Rattle.lrs_verbs.specs.Changes.{with_referent, without_referent, IsNewReferent}
 use Rattle.lrs_verbs.specs.Places.{Places, referent_among, IsPlaced, HaveCome}

@@ -1,12 +1,6 @@
 -- Where a verb stops.
 use Rattle.std.proofs.Common.{◌≡◌, ◌+◌, Bool, true, false, length, Result, Ok, Err, refl, sym, ap, ◌∙◌}
-use Rattle.std.specs.Prelude.{if◌then◌else◌}
-use Rattle.lrs_machine.specs.declared.answer.Cause.{Cause}
-use Rattle.lrs_machine.specs.declared.command.Command.{Command}
-use Rattle.lrs_machine.specs.declared.image.Image.{Image}
-use Rattle.lrs_machine.specs.Image.{state_of}
-use Rattle.lrs_machine.specs.Machine.{attempt}
-use Rattle.lrs_machine.specs.State.{State}
+use Rattle.lrs_verbs.specs.Prelude.{if◌then◌else◌, Cause, Command, Image, state_of, attempt, State}
 use Rattle.lrs_verbs.specs.declared.plan.Stop.{Stop}
 use Rattle.lrs_verbs.specs.declared.plan.Stop.TheVariants.{Refused, Memory}
 use Rattle.lrs_verbs.specs.Plans.{Answers, Plans}

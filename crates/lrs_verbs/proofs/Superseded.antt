@@ -1,41 +1,19 @@
 -- An asset takes the places of others of its class: these lose them, and then it is entered as on free ground.
 use Rattle.std.proofs.Common.{◌≡◌, ℕ, ◌+◌, Bool, true, false, cond, List, [], ◌∷◌, ◌++◌, filter, length, Option, Some, Ok, refl, sym, ap, subst, ◌∙◌, inl}
-use Rattle.std.specs.Prelude.{◌&&◌, not, slice_range}
 use Rattle.std.specs.List as list
 use Rattle.std.specs.Option.{option_map_or}
-use Rattle.std.specs.Cmp.Lexicographic.{bytes_decides}
 use Rattle.std.proofs.lemmas.Bool.{and_parts, or_left}
 use Rattle.std.proofs.lemmas.List.{append-nil}
-use Rattle.lrs_measure.specs.Ordered.{insert_by, insert_all}
-use Rattle.lrs_measure.specs.Texts.{Name, same_name}
-use Rattle.lrs_element.specs.declared.link.Ground.{Ground}
-use Rattle.lrs_events.specs.declared.class.Asset.{Asset}
-use Rattle.lrs_events.specs.declared.class.Kind.{Kind}
-use Rattle.lrs_events.specs.declared.part.Part.{Part}
-use Rattle.lrs_events.specs.declared.part.Gone.{Gone}
-use Rattle.lrs_events.specs.declared.span.Span.{Span}
+use Rattle.lrs_verbs.specs.Prelude.{◌&&◌, not, slice_range, bytes_decides, insert_by, Name, same_name, Ground, Asset, Kind, Part, Gone, Span, Place, is_among, places_on, span_before, holds_by_spans, Removal, is_within, IsRemoval, IsPlan, Entry, RouteEntry, Image, Retired, state_of, asset_entry, Extent, attempt, route_before, asset_before, IsSound, Difference, is_named, without, with_difference, AreGone, IsOrderly}
+use Rattle.lrs_measure.specs.Ordered.{insert_all}
 use Rattle.lrs_events.specs.Changes.{changed, changed_rows, without_rows}
 use Rattle.lrs_events.specs.Members.{has_side}
-use Rattle.lrs_events.specs.Places.{Place, is_among, places_on}
-use Rattle.lrs_events.specs.Spans.{span_before, holds_by_spans}
-use Rattle.lrs_canonical.specs.declared.removing.Removal.{Removal}
-use Rattle.lrs_canonical.specs.Removals.{is_within, IsRemoval}
-use Rattle.lrs_spans.specs.Plans.{IsPlan}
 use Rattle.lrs_machine.specs.declared.command.Command.TheVariants as verb
-use Rattle.lrs_machine.specs.declared.command.Entry.{Entry}
-use Rattle.lrs_machine.specs.declared.image.RouteEntry.{RouteEntry}
-use Rattle.lrs_machine.specs.declared.image.Image.{Image}
 use Rattle.lrs_machine.specs.State as state
-use Rattle.lrs_machine.specs.State.{Retired}
-use Rattle.lrs_machine.specs.Image.{state_of, asset_entry}
-use Rattle.lrs_machine.specs.Machine.{Extent, is_of_class, enter_asset, attempt}
-use Rattle.lrs_machine.specs.Sound.{route_before, asset_before, IsSound}
+use Rattle.lrs_machine.specs.Machine.{is_of_class, enter_asset}
 use Rattle.lrs_machine.proofs.Members.{In, In-append_right, find_numbered}
-use Rattle.lrs_keep.specs.declared.change.Difference.{Difference}
-use Rattle.lrs_keep.specs.Change.{is_named, without, with_difference, routes_after}
+use Rattle.lrs_keep.specs.Change.{routes_after}
 use Rattle.lrs_keep.proofs.Tables.{routes_in_order, assets_in_order}
-use Rattle.lrs_gone.specs.Gone.{AreGone}
-use Rattle.lrs_orderly.specs.Orderly.{IsOrderly}
 use Rattle.lrs_verbs.specs.declared.plan.Plan.{Plan}
 use Rattle.lrs_verbs.specs.Entering.{asset_of, row_of, with_row, entering, AreInLimits, AreEntered}
 use Rattle.lrs_verbs.specs.Plans.{plan_of, IsPlanOf}

@@ -1,49 +1,31 @@
 -- A route's rows change in place to what a removal leaves, and the ledger grows by what the removal hands back.
 use Rattle.std.proofs.Common.{◌≡◌, ℕ, zero, suc, ◌+◌, ◌-◌, Bool, true, false, ◌⊎◌, inl, inr, List, [], ◌∷◌, ◌++◌, drop, length, Some, None, Ok, refl, sym, ap, subst, ◌∙◌}
-use Rattle.std.specs.Prelude.{◌||◌, ◌&&◌, not, nat_eq, slice_get, slice_range}
-use Rattle.std.specs.List.{list_any, list_all}
-use Rattle.std.specs.Cmp.Lexicographic.{bytes_decides}
 use Rattle.std.specs.FinMap.{find}
 use Rattle.std.proofs.Math.Bool.{and-true}
 use Rattle.std.proofs.lemmas.Bool.{false≢true, both_ways, and_parts, and_from, or_cases, cases_Bool, eqb-true, eq-eqb}
 use Rattle.std.proofs.lemmas.List.{append-nil}
 use Rattle.std.proofs.lemmas.List.Folds.{list_all-map, list_any-append}
-use Rattle.lrs_measure.specs.Lists.{each_two}
-use Rattle.lrs_measure.specs.Ordered.{insert_by}
-use Rattle.lrs_measure.specs.Texts.{Name, name_cmp, same_name}
-use Rattle.lrs_element.specs.declared.link.Ground.{Ground}
-use Rattle.lrs_element.specs.Course.{is_at, meets}
-use Rattle.lrs_events.specs.declared.class.Asset.{Asset}
-use Rattle.lrs_events.specs.declared.part.Gone.{Gone}
+use Rattle.lrs_verbs.specs.Prelude.{◌||◌, ◌&&◌, not, nat_eq, slice_get, slice_range, list_any, list_all, bytes_decides, each_two, insert_by, Name, name_cmp, same_name, Ground, meets, Asset, Gone, B, Span, Place, places_on, is_among, differs, holds_by_spans, Removal, IsRemoval, IsPlan, Command, Image, RouteEntry, state_of, holds_on, route_entry, referents_on, attempt, route_before, are_spans_of, are_courses, IsSound, RouteCourse, without, with_difference, IsOrderly, AreGone}
+use Rattle.lrs_element.specs.Course.{is_at}
 use Rattle.lrs_events.specs.declared.side.Side.{Side}
-use Rattle.lrs_events.specs.declared.side.Side.TheVariants.{B}
 use Rattle.lrs_events.specs.declared.side.LinkSide.{LinkSide}
 use Rattle.lrs_events.specs.declared.side.LinkSide.TheVariants.{Left, Right}
-use Rattle.lrs_events.specs.declared.span.Span.{Span}
 use Rattle.lrs_events.specs.Changes.{changed_rows}
 use Rattle.lrs_events.specs.Members.{between, stands_for, has_member, is_member}
 use Rattle.lrs_events.specs.Parts.{has_pair}
-use Rattle.lrs_events.specs.Places.{Place, same_link_side, along_link, beside, places_on, is_among, lies_on, differs}
-use Rattle.lrs_events.specs.Spans.{holds_by_spans}
-use Rattle.lrs_canonical.specs.declared.removing.Removal.{Removal}
+use Rattle.lrs_events.specs.Places.{same_link_side, along_link, beside, lies_on}
 use Rattle.lrs_canonical.specs.OnCourse.{is_held}
-use Rattle.lrs_canonical.specs.Removals.{Taken, IsRemoval}
+use Rattle.lrs_canonical.specs.Removals.{Taken}
 use Rattle.lrs_canonical.proofs.Picked.{row_holds}
-use Rattle.lrs_spans.specs.Plans.{IsPlan}
-use Rattle.lrs_machine.specs.declared.command.Command.{Command}
-use Rattle.lrs_machine.specs.declared.image.Image.{Image}
-use Rattle.lrs_machine.specs.declared.image.RouteEntry.{RouteEntry}
 use Rattle.lrs_machine.specs.State.{Reason, same_reason}
-use Rattle.lrs_machine.specs.Image.{state_of, holds_on, route_entry, referents_on, reason_of}
-use Rattle.lrs_machine.specs.Machine.{attempt, take_away}
-use Rattle.lrs_machine.specs.Sound.{route_before, are_spans_of, spans_of, are_courses, are_all_marks, are_all_referents, IsSound, RouteCourse, RouteMarks, RouteReferents}
+use Rattle.lrs_machine.specs.Image.{reason_of}
+use Rattle.lrs_machine.specs.Machine.{take_away}
+use Rattle.lrs_machine.specs.Sound.{spans_of, are_all_marks, are_all_referents, RouteMarks, RouteReferents}
 use Rattle.lrs_machine.proofs.Members.{In, any_found, any_of, In-append_right, In-take, In-drop}
 use Rattle.lrs_machine.proofs.Pairs.{held, each_two-map}
-use Rattle.lrs_keep.specs.Change.{without, with_difference}
 use Rattle.lrs_keep.proofs.Tables.{routes_in_order}
-use Rattle.lrs_orderly.specs.Orderly.{IsOrderly}
 use Rattle.lrs_orderly.proofs.Ordering.{sound_is_orderly}
-use Rattle.lrs_gone.specs.Gone.{AreGone, AreInOrder}
+use Rattle.lrs_gone.specs.Gone.{AreInOrder}
 use Rattle.lrs_gone.proofs.GoneInOrder.{gone_stays_in_order}
 use Rattle.lrs_routes.proofs.Apart.{nat_eq-comm}
 use Rattle.lrs_routes.proofs.Halved.{fewer_have_rows}

@@ -1,15 +1,8 @@
 -- Plans that leave the routes as they are.
 use Rattle.std.proofs.Common.{◌≡◌, Option, refl, sym, ap, subst, ◌∙◌}
-use Rattle.std.specs.Prelude.{None}
-use Rattle.lrs_measure.specs.Lists.{each_two}
-use Rattle.lrs_element.specs.declared.link.Link.{Link}
+use Rattle.lrs_verbs.specs.Prelude.{None, each_two, Link, Image, state_of, route_before, IsSound, RouteChange, Difference, no_difference, CanDiffer}
 use Rattle.lrs_events.specs.declared.class.Class.{Class}
-use Rattle.lrs_machine.specs.declared.image.Image.{Image}
-use Rattle.lrs_machine.specs.Image.{state_of}
-use Rattle.lrs_machine.specs.Sound.{route_before, IsSound}
-use Rattle.lrs_keep.specs.declared.change.RouteChange.{RouteChange}
-use Rattle.lrs_keep.specs.declared.change.Difference.{Difference}
-use Rattle.lrs_keep.specs.Change.{no_difference, routes_after, CanChangeRoute, GoesApart, CanDiffer}
+use Rattle.lrs_keep.specs.Change.{routes_after, CanChangeRoute, GoesApart}
 use Rattle.lrs_keep.proofs.Tables.{routes_in_order}
 use Rattle.lrs_verbs.specs.Plans.{plan_of, TellsGround}
 

@@ -1,12 +1,6 @@
 -- What a plan changes of the ground that routes run over, and of where referents stand.
-use Rattle.std.specs.Prelude.{◌≡◌, ◌||◌, true, false, if◌then◌else◌, List, Option, Some, None, is_some}
-use Rattle.std.specs.List.{list_any, AllByRecursion}
-use Rattle.lrs_measure.specs.Texts.{Name, same_name}
-use Rattle.lrs_element.specs.Course.{Millimetre, course_of, runs_over}
-use Rattle.lrs_element.specs.Pieces.{IsFilled}
-use Rattle.lrs_index.specs.Ground.{is_run_once}
+use Rattle.lrs_verbs.specs.Prelude.{◌≡◌, ◌||◌, true, false, if◌then◌else◌, List, Option, Some, None, is_some, list_any, AllByRecursion, Name, same_name, Millimetre, course_of, runs_over, IsFilled, is_run_once, RouteEntry}
 use Rattle.lrs_index.specs.Routes.{routes_over}
-use Rattle.lrs_machine.specs.declared.image.RouteEntry.{RouteEntry}
 use Rattle.lrs_verbs.specs.declared.plan.GroundChange.{GroundChange}
 use Rattle.lrs_verbs.specs.declared.plan.ReferentPlace.{ReferentPlace}
 use Rattle.lrs_verbs.specs.declared.plan.ReferentPlaces.{ReferentPlaces}

@@ -1,18 +1,8 @@
 -- What checks of pieces and marks give where they pass, and the plans that verbs of routes make of it.
-use Rattle.std.specs.Prelude.{◌≡◌, ℕ, List, [], Some, None, Result, Ok}
-use Rattle.lrs_measure.specs.Texts.{Name}
-use Rattle.lrs_element.specs.declared.link.Piece.{Piece}
-use Rattle.lrs_element.specs.declared.link.Ground.{Ground}
-use Rattle.lrs_element.specs.declared.marks.Mark.{Mark}
-use Rattle.lrs_element.specs.Course.{course_of, is_too_long}
-use Rattle.lrs_machine.specs.declared.answer.Cause.{Cause}
+use Rattle.lrs_verbs.specs.Prelude.{◌≡◌, ℕ, List, [], Some, None, Result, Ok, Name, Piece, Ground, Mark, course_of, is_too_long, Cause, RouteEntry, ◌>>◌, State, RouteChange, no_difference, rerouting}
 use Rattle.lrs_machine.specs.declared.answer.Cause.TheVariants as cause
-use Rattle.lrs_machine.specs.declared.image.RouteEntry.{RouteEntry}
-use Rattle.lrs_machine.specs.Machine.{◌>>◌, refuse_if, check_pieces, check_marks}
-use Rattle.lrs_machine.specs.State.{State}
-use Rattle.lrs_keep.specs.declared.change.RouteChange.{RouteChange}
-use Rattle.lrs_keep.specs.Change.{no_difference}
-use Rattle.lrs_routes.specs.Differences.{no_change, rerouting}
+use Rattle.lrs_machine.specs.Machine.{refuse_if, check_pieces, check_marks}
+use Rattle.lrs_routes.specs.Differences.{no_change}
 use Rattle.lrs_verbs.specs.declared.plan.Plan.{Plan}
 use Rattle.lrs_verbs.specs.declared.verbs.split.Halves.{Halves}
 use Rattle.lrs_verbs.specs.Plans.{plan_of}

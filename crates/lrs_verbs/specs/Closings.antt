@@ -1,11 +1,5 @@
 -- What a close changes.
-use Rattle.std.specs.Prelude.{List, [], map, Some, None}
-use Rattle.lrs_measure.specs.Texts.{Name}
-use Rattle.lrs_element.specs.declared.link.Piece.{Piece}
-use Rattle.lrs_position.specs.declared.route.Referent.{Referent}
-use Rattle.lrs_events.specs.declared.part.Gone.{Gone}
-use Rattle.lrs_keep.specs.declared.change.Difference.{Difference}
-use Rattle.lrs_keep.specs.Change.{no_difference}
+use Rattle.lrs_verbs.specs.Prelude.{List, [], map, Some, None, Name, Piece, Referent, Gone, Difference, no_difference}
 use Rattle.lrs_verbs.specs.declared.plan.Plan.{Plan}
 use Rattle.lrs_verbs.specs.Plans.{plan_of}
 

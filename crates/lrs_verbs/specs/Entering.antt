@@ -1,27 +1,9 @@
 -- What an entry changes: an asset, a row on its route, and the rows of a ledger for it.
-use Rattle.std.specs.Prelude.{◌≡◌, ℕ, ◌&&◌, true, false, nat_eq, nat_lt, List, [], ◌∷◌, Some, None}
-use Rattle.std.specs.List.{list_any, list_all}
-use Rattle.lrs_measure.specs.Lists.{each_two}
-use Rattle.lrs_measure.specs.Texts.{Name}
-use Rattle.lrs_element.specs.declared.link.Ground.{Ground}
-use Rattle.lrs_position.specs.Translating.{alignment_of}
-use Rattle.lrs_events.specs.declared.class.Asset.{Asset}
-use Rattle.lrs_events.specs.declared.class.Kind.{Kind}
-use Rattle.lrs_events.specs.declared.part.Part.{Part}
-use Rattle.lrs_events.specs.declared.span.Span.{Span}
+use Rattle.lrs_verbs.specs.Prelude.{◌≡◌, ℕ, ◌&&◌, true, false, nat_eq, nat_lt, List, [], ◌∷◌, Some, None, list_any, list_all, each_two, Name, Ground, alignment_of, Asset, Kind, Part, Span, Place, Entry, Image, RouteEntry, state_of, contains_key, Extent, Difference, RouteChange, no_difference}
 use Rattle.lrs_events.specs.Parts.{has_pair, IsHadOnce, part_before}
-use Rattle.lrs_events.specs.Places.{Place}
 use Rattle.lrs_events.specs.Spans.{holds_by_span}
-use Rattle.lrs_machine.specs.declared.command.Entry.{Entry}
-use Rattle.lrs_machine.specs.declared.image.Image.{Image}
-use Rattle.lrs_machine.specs.declared.image.RouteEntry.{RouteEntry}
 use Rattle.lrs_machine.specs.Entered.{is_asset_number, is_lateral_offset}
-use Rattle.lrs_machine.specs.Image.{state_of}
-use Rattle.lrs_machine.specs.Register.{get, contains_key}
-use Rattle.lrs_machine.specs.Machine.{Extent}
-use Rattle.lrs_keep.specs.declared.change.Difference.{Difference}
-use Rattle.lrs_keep.specs.declared.change.RouteChange.{RouteChange}
-use Rattle.lrs_keep.specs.Change.{no_difference}
+use Rattle.lrs_machine.specs.Register.{get}
 use Rattle.lrs_verbs.specs.declared.plan.Plan.{Plan}
 use Rattle.lrs_verbs.specs.Extents.{IsRouteIn}
 use Rattle.lrs_verbs.specs.Plans.{plan_of}

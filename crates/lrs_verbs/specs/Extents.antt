@@ -1,18 +1,14 @@
 -- Where positions are on a route of an inventory, and what lies there.
-use Rattle.std.specs.Prelude.{◌≡◌, ℕ, ◌≤◌, Some, Result, Ok, Err, unsigned_abs, ⊤}
+use Rattle.std.specs.Prelude.{unsigned_abs, ⊤}
 use Rattle.std.specs.List.{find}
+use Rattle.lrs_verbs.specs.Prelude.{◌≡◌, ℕ, ◌≤◌, Some, Result, Ok, Err, Alignment, Cause, Image, RouteEntry, ◌>>=◌, Extent, State, is_named}
 use Rattle.lrs_measure.specs.Fraction.{Fraction}
 use Rattle.lrs_position.specs.declared.expression.Expr.{Expr}
 use Rattle.lrs_position.specs.declared.locating.PlaceFault.{PlaceFault}
 use Rattle.lrs_position.specs.declared.locating.PlaceFault.TheVariants as fault
-use Rattle.lrs_position.specs.Locating.{Alignment, snap, cell}
-use Rattle.lrs_machine.specs.declared.answer.Cause.{Cause}
+use Rattle.lrs_position.specs.Locating.{snap, cell}
 use Rattle.lrs_machine.specs.declared.answer.Cause.TheVariants as cause
-use Rattle.lrs_machine.specs.declared.image.Image.{Image}
-use Rattle.lrs_machine.specs.declared.image.RouteEntry.{RouteEntry}
-use Rattle.lrs_machine.specs.Machine.{◌>>=◌, Extent, located_chainage}
-use Rattle.lrs_machine.specs.State.{State}
-use Rattle.lrs_keep.specs.Change.{is_named}
+use Rattle.lrs_machine.specs.Machine.{located_chainage}
 use Rattle.lrs_verbs.specs.declared.plan.Stop.{Stop}
 use Rattle.lrs_verbs.specs.declared.plan.Stop.TheVariants.{Refused, Memory}
 

@@ -1,12 +1,7 @@
 -- The indexes of an image, and what is put into them and let go.
-use Rattle.std.specs.Prelude.{◌≡◌, ℕ, if◌then◌else◌, Option, Some, None, option_map}
 use Rattle.std.specs.FinMap.{get}
-use Rattle.lrs_measure.specs.Texts.{Name}
-use Rattle.lrs_element.specs.Course.{Millimetre, course_of, runs_over}
-use Rattle.lrs_index.specs.Ground.{Stretches, route_over, HasGained, AreWhole}
-use Rattle.lrs_index.specs.Routes.{IsGroundOf}
-use Rattle.lrs_machine.specs.declared.image.Image.{Image}
-use Rattle.lrs_machine.specs.Image.{state_of}
+use Rattle.lrs_verbs.specs.Prelude.{◌≡◌, ℕ, if◌then◌else◌, Option, Some, None, option_map, Name, Millimetre, course_of, runs_over, Stretches, IsGroundOf, Image, state_of}
+use Rattle.lrs_index.specs.Ground.{route_over, HasGained, AreWhole}
 use Rattle.lrs_verbs.specs.declared.plan.GroundChange.{GroundChange}
 use Rattle.lrs_verbs.specs.declared.plan.ReferentPlace.{ReferentPlace}
 use Rattle.lrs_verbs.specs.declared.indexes.Indexes.{Indexes}

@@ -1,6 +1,5 @@
 -- What is known of an inventory.
-use Rattle.lrs_machine.specs.declared.image.Image.{Image}
-use Rattle.lrs_machine.specs.Sound.{IsSound}
+use Rattle.lrs_verbs.specs.Prelude.{Image, IsSound}
 use Rattle.lrs_verbs.specs.declared.indexes.Indexes.{Indexes}
 use Rattle.lrs_verbs.specs.Indexes.{IsIndexed}
 

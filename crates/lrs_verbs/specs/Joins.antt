@@ -1,21 +1,11 @@
 -- A route that goes on as another.
-use Rattle.std.specs.Prelude.{◌≡◌, true, nat_lt, List, [], ◌++◌, map, length, Some, Result, Ok}
-use Rattle.std.specs.List.{list_all}
-use Rattle.lrs_measure.specs.Lists.{each_two}
-use Rattle.lrs_element.specs.declared.link.Ground.{Ground}
-use Rattle.lrs_element.specs.declared.marks.Mark.{Mark}
-use Rattle.lrs_element.specs.Course.{is_too_long}
+use Rattle.std.specs.Prelude.{◌++◌}
+use Rattle.lrs_verbs.specs.Prelude.{◌≡◌, true, nat_lt, List, [], map, length, Some, Result, Ok, list_all, each_two, Ground, Mark, is_too_long, has_row, are_rows, span_before, end_by, Cause, RouteEntry, ◌>>◌, RouteChange, spans_after}
 use Rattle.lrs_element.specs.Limits.{most_marks}
 use Rattle.lrs_element.specs.Marks.{joined_marks, is_out_of_range}
-use Rattle.lrs_events.specs.Changes.{has_row}
-use Rattle.lrs_events.specs.Spans.{are_rows, span_before}
-use Rattle.lrs_canonical.specs.Joins.{end_by, have_room, are_of_one_class, IsJoin}
-use Rattle.lrs_machine.specs.declared.answer.Cause.{Cause}
+use Rattle.lrs_canonical.specs.Joins.{have_room, are_of_one_class, IsJoin}
 use Rattle.lrs_machine.specs.declared.answer.Cause.TheVariants as cause
-use Rattle.lrs_machine.specs.declared.image.RouteEntry.{RouteEntry}
-use Rattle.lrs_machine.specs.Machine.{◌>>◌, refuse_if}
-use Rattle.lrs_keep.specs.declared.change.RouteChange.{RouteChange}
-use Rattle.lrs_keep.specs.Change.{spans_after}
+use Rattle.lrs_machine.specs.Machine.{refuse_if}
 use Rattle.lrs_routes.specs.Joining.{on_by}
 
 -- The course of two routes as one.

@@ -1,11 +1,8 @@
 -- The places of keys among the edits, and their index.
-use Rattle.std.specs.Prelude.{◌≡◌, ◌<◌, ◌≤◌, ◌==◌, ℕ, zero, suc, List, Option, Some, None, if◌then◌else◌, length, map, slice_index}
+use Rattle.std.specs.Prelude.{◌==◌, zero, suc, slice_index}
 use Rattle.std.specs.BTreeMap.{get}
 use Rattle.std.specs.Hash.DefaultHasher as sip
-use Rattle.std.specs.List.{position}
-use Rattle.std.specs.Ordering.{nat_cmp}
-use Rattle.lrs_measure.specs.Texts.{Name, same_name}
-use Rattle.lrs_machine.specs.declared.image.Edit.{Edit}
+use Rattle.lrs_verbs.specs.Prelude.{◌≡◌, ◌<◌, ◌≤◌, ℕ, List, Option, Some, None, if◌then◌else◌, length, map, position, nat_cmp, Name, same_name, Edit}
 use Rattle.lrs_verbs.specs.declared.keys.KeyIndex.{KeyIndex}
 
 -- at which place a key is

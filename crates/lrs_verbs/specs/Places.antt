@@ -1,12 +1,6 @@
 -- Where referents stand, and how a plan changes it.
-use Rattle.std.specs.Prelude.{◌≡◌, List, Option}
-use Rattle.std.specs.List.{flat_map}
-use Rattle.std.specs.Option.{option_or}
 use Rattle.std.specs.FinMap.{FinMap, get, find}
-use Rattle.lrs_measure.specs.Texts.{Name, name_cmp}
-use Rattle.lrs_element.specs.Course.{Millimetre}
-use Rattle.lrs_machine.specs.declared.image.RouteEntry.{RouteEntry}
-use Rattle.lrs_machine.specs.Image.{referents_on}
+use Rattle.lrs_verbs.specs.Prelude.{◌≡◌, List, Option, flat_map, option_or, Name, name_cmp, Millimetre, RouteEntry, referents_on}
 
 -- a ground millimetre for each of some names
 abbrev pub Places : Type 0

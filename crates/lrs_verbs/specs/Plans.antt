@@ -1,19 +1,10 @@
 -- What the plan of a command says of the ground.
-use Rattle.std.specs.Prelude.{◌≡◌, ◌+◌, ◌≤◌, [], length, None, Result, Ok, Err, ⊤}
-use Rattle.lrs_measure.specs.Texts.{Name}
-use Rattle.lrs_element.specs.Course.{Millimetre}
-use Rattle.lrs_machine.specs.declared.answer.Cause.{Cause}
-use Rattle.lrs_machine.specs.declared.command.Command.{Command}
-use Rattle.lrs_machine.specs.declared.image.Edit.{Edit}
-use Rattle.lrs_machine.specs.declared.image.Image.{Image}
-use Rattle.lrs_machine.specs.Image.{state_of}
+use Rattle.std.specs.Prelude.{⊤}
+use Rattle.lrs_verbs.specs.Prelude.{◌≡◌, ◌+◌, ◌≤◌, [], length, None, Result, Ok, Err, Name, Millimetre, Cause, Command, Edit, Image, state_of, attempt, IsSound, Makes, Difference, no_difference, with_difference, CanDiffer}
 use Rattle.lrs_machine.specs.Bounds.{most_edits}
-use Rattle.lrs_machine.specs.Machine.{attempt}
-use Rattle.lrs_machine.specs.Sound.{IsSound}
-use Rattle.lrs_orderly.specs.Made.{Makes, HasRoomFor}
-use Rattle.lrs_keep.specs.declared.change.Difference.{Difference}
+use Rattle.lrs_orderly.specs.Made.{HasRoomFor}
 use Rattle.lrs_keep.specs.declared.change.Change.{Change}
-use Rattle.lrs_keep.specs.Change.{no_difference, with_difference, CanDiffer, CanMake}
+use Rattle.lrs_keep.specs.Change.{CanMake}
 use Rattle.lrs_verbs.specs.declared.plan.Plan.{Plan}
 use Rattle.lrs_verbs.specs.declared.plan.Stop.{Stop}
 use Rattle.lrs_verbs.specs.declared.plan.Stop.TheVariants.{Refused, Memory}

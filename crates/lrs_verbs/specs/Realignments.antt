@@ -1,29 +1,13 @@
 -- What the checks of a realignment give, and what it changes.
-use Rattle.std.specs.Prelude.{◌≡◌, ℕ, ◌+◌, ◌-◌, ◌||◌, ◌&&◌, true, false, nat_lt, nat_eq, List, [], map, filter, length, slice_range, Option, Some, None, Result, Ok}
-use Rattle.std.specs.List.{AllByRecursion, list_all}
-use Rattle.lrs_measure.specs.Lists.{each_two, is_nothing}
-use Rattle.lrs_measure.specs.Texts.{Name}
-use Rattle.lrs_element.specs.declared.link.Ground.{Ground}
-use Rattle.lrs_element.specs.declared.link.Piece.{Piece}
-use Rattle.lrs_element.specs.declared.marks.Mark.{Mark}
-use Rattle.lrs_element.specs.Course.{course_of, is_too_long}
-use Rattle.lrs_element.specs.Pieces.{IsFilled}
-use Rattle.lrs_position.specs.declared.route.Referent.{Referent}
-use Rattle.lrs_events.specs.Changes.{has_row}
-use Rattle.lrs_events.specs.declared.span.Span.{Span}
-use Rattle.lrs_events.specs.Spans.{are_rows, span_before, holds_by_spans}
-use Rattle.lrs_canonical.specs.Removals.{is_within, IsThat}
+use Rattle.std.specs.Prelude.{◌-◌, filter}
+use Rattle.lrs_verbs.specs.Prelude.{◌≡◌, ℕ, ◌+◌, ◌||◌, ◌&&◌, true, false, nat_lt, nat_eq, List, [], map, length, slice_range, Option, Some, None, Result, Ok, AllByRecursion, list_all, each_two, Name, Ground, Piece, Mark, course_of, is_too_long, IsFilled, Referent, has_row, Span, are_rows, span_before, holds_by_spans, is_within, Cause, RouteEntry, ◌>>=◌, ◌>>◌, State, Difference, spans_after, AreGone, rerouting}
+use Rattle.lrs_measure.specs.Lists.{is_nothing}
+use Rattle.lrs_canonical.specs.Removals.{IsThat}
 use Rattle.lrs_realign.specs.Realigning.{IsRealigned}
-use Rattle.lrs_machine.specs.declared.answer.Cause.{Cause}
 use Rattle.lrs_machine.specs.declared.answer.Cause.TheVariants as cause
-use Rattle.lrs_machine.specs.declared.image.RouteEntry.{RouteEntry}
-use Rattle.lrs_machine.specs.Machine.{◌>>=◌, ◌>>◌, refuse_if, check_pieces, check_free}
-use Rattle.lrs_machine.specs.State.{State, Abandoned}
-use Rattle.lrs_keep.specs.declared.change.Difference.{Difference}
+use Rattle.lrs_machine.specs.Machine.{refuse_if, check_pieces, check_free}
+use Rattle.lrs_machine.specs.State.{Abandoned}
 use Rattle.lrs_keep.specs.declared.change.ReferentChange.{ReferentChange}
-use Rattle.lrs_keep.specs.Change.{spans_after}
-use Rattle.lrs_gone.specs.Gone.{AreGone}
-use Rattle.lrs_routes.specs.Differences.{rerouting}
 use Rattle.lrs_leaving.specs.Realigning.{replaced}
 use Rattle.lrs_verbs.specs.declared.plan.GroundChange.{GroundChange}
 use Rattle.lrs_verbs.specs.declared.plan.ReferentPlaces.{ReferentPlaces}

@@ -1,12 +1,6 @@
 -- What changes where the referents of one route change, and nothing else.
-use Rattle.std.specs.Prelude.{[], ◌∷◌, Some, None}
-use Rattle.lrs_measure.specs.Texts.{Name}
-use Rattle.lrs_element.specs.Course.{Millimetre}
-use Rattle.lrs_position.specs.declared.route.Referent.{Referent}
+use Rattle.lrs_verbs.specs.Prelude.{[], ◌∷◌, Some, None, Name, Millimetre, Referent, RouteChange, Difference, no_difference}
 use Rattle.lrs_keep.specs.declared.change.ReferentChange.{ReferentChange}
-use Rattle.lrs_keep.specs.declared.change.RouteChange.{RouteChange}
-use Rattle.lrs_keep.specs.declared.change.Difference.{Difference}
-use Rattle.lrs_keep.specs.Change.{no_difference}
 use Rattle.lrs_verbs.specs.declared.plan.Plan.{Plan}
 use Rattle.lrs_verbs.specs.declared.plan.ReferentPlaces.{ReferentPlaces}
 use Rattle.lrs_verbs.specs.Plans.{plan_of}

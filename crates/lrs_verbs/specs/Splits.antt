@@ -1,17 +1,8 @@
 -- A route in two parts.
-use Rattle.std.specs.Prelude.{◌≡◌, ℕ, Bool, true, false, ◌&&◌, not, nat_lt, nat_eq, List, [], map, filter, take, drop, Some}
-use Rattle.std.specs.List.{list_any, list_all}
-use Rattle.lrs_measure.specs.Lists.{each_two}
-use Rattle.lrs_measure.specs.Texts.{Name}
-use Rattle.lrs_element.specs.declared.marks.Mark.{Mark}
-use Rattle.lrs_element.specs.Course.{is_too_long}
+use Rattle.std.specs.Prelude.{Bool, filter, take, drop}
+use Rattle.lrs_verbs.specs.Prelude.{◌≡◌, ℕ, true, false, ◌&&◌, not, nat_lt, nat_eq, List, [], map, Some, list_any, list_all, each_two, Name, Mark, is_too_long, Referent, has_row, are_rows, span_before, RouteEntry, spans_after}
 use Rattle.lrs_element.specs.Marks.{marks_to, marks_from}
-use Rattle.lrs_position.specs.declared.route.Referent.{Referent}
-use Rattle.lrs_events.specs.Changes.{has_row}
-use Rattle.lrs_events.specs.Spans.{are_rows, span_before}
 use Rattle.lrs_canonical.specs.Cuts.{IsCut}
-use Rattle.lrs_machine.specs.declared.image.RouteEntry.{RouteEntry}
-use Rattle.lrs_keep.specs.Change.{spans_after}
 use Rattle.lrs_routes.specs.Splitting.{back_by, is_ahead}
 use Rattle.lrs_verbs.specs.declared.verbs.split.Halves.{Halves}
 

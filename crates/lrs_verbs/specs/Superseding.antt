@@ -1,21 +1,9 @@
 -- What an asset changes that takes the places of others of its class.
-use Rattle.std.specs.Prelude.{◌≡◌, ℕ, ◌&&◌, List, [], ◌∷◌, ◌++◌, Some}
-use Rattle.lrs_measure.specs.Texts.{Name, same_name}
-use Rattle.lrs_element.specs.declared.link.Ground.{Ground}
+use Rattle.std.specs.Prelude.{◌++◌}
+use Rattle.lrs_verbs.specs.Prelude.{◌≡◌, ℕ, ◌&&◌, List, [], ◌∷◌, Some, Name, same_name, Ground, Part, Gone, Span, holds_by_spans, Removal, is_within, Entry, Extent, Retired, Difference, RouteChange, AreGone}
 use Rattle.lrs_events.specs.declared.change.SpanChange.{SpanChange}
-use Rattle.lrs_events.specs.declared.part.Part.{Part}
-use Rattle.lrs_events.specs.declared.part.Gone.{Gone}
-use Rattle.lrs_events.specs.declared.span.Span.{Span}
 use Rattle.lrs_events.specs.Members.{has_side}
-use Rattle.lrs_events.specs.Spans.{holds_by_spans}
-use Rattle.lrs_canonical.specs.declared.removing.Removal.{Removal}
-use Rattle.lrs_canonical.specs.Removals.{Taken, is_within}
-use Rattle.lrs_machine.specs.declared.command.Entry.{Entry}
-use Rattle.lrs_machine.specs.Machine.{Extent}
-use Rattle.lrs_machine.specs.State.{Retired}
-use Rattle.lrs_keep.specs.declared.change.Difference.{Difference}
-use Rattle.lrs_keep.specs.declared.change.RouteChange.{RouteChange}
-use Rattle.lrs_gone.specs.Gone.{AreGone}
+use Rattle.lrs_canonical.specs.Removals.{Taken}
 use Rattle.lrs_routes.specs.Differences.{no_change}
 use Rattle.lrs_verbs.specs.declared.plan.Plan.{Plan}
 use Rattle.lrs_verbs.specs.Entering.{row_of, entering, AreEntered}

@@ -1,23 +1,9 @@
 -- What an edit takes away on a route: rows that go and come there, and the rows of a ledger for what is handed back.
-use Rattle.std.specs.Prelude.{◌≡◌, ℕ, ◌&&◌, nat_eq, List, Some}
-use Rattle.lrs_measure.specs.Texts.{Name, same_name}
+use Rattle.lrs_verbs.specs.Prelude.{◌≡◌, ℕ, ◌&&◌, nat_eq, List, Some, Name, same_name, Asset, Kind, Gone, holds_by_spans, Removal, is_within, Image, RouteEntry, state_of, asset_entry, Extent, RouteChange, Difference, no_difference, AreGone}
 use Rattle.lrs_events.specs.declared.change.SpanChange.{SpanChange}
-use Rattle.lrs_events.specs.declared.class.Asset.{Asset}
-use Rattle.lrs_events.specs.declared.class.Kind.{Kind}
-use Rattle.lrs_events.specs.declared.part.Gone.{Gone}
-use Rattle.lrs_events.specs.Spans.{holds_by_spans}
-use Rattle.lrs_canonical.specs.declared.removing.Removal.{Removal}
-use Rattle.lrs_canonical.specs.Removals.{Taken, is_within}
-use Rattle.lrs_machine.specs.declared.image.Image.{Image}
-use Rattle.lrs_machine.specs.declared.image.RouteEntry.{RouteEntry}
-use Rattle.lrs_machine.specs.Image.{state_of, asset_entry}
-use Rattle.lrs_machine.specs.Machine.{Extent}
+use Rattle.lrs_canonical.specs.Removals.{Taken}
 use Rattle.lrs_machine.specs.Register.{get}
 use Rattle.lrs_machine.specs.State.{Reason}
-use Rattle.lrs_keep.specs.declared.change.RouteChange.{RouteChange}
-use Rattle.lrs_keep.specs.declared.change.Difference.{Difference}
-use Rattle.lrs_keep.specs.Change.{no_difference}
-use Rattle.lrs_gone.specs.Gone.{AreGone}
 use Rattle.lrs_routes.specs.Differences.{no_change}
 use Rattle.lrs_verbs.specs.declared.plan.Plan.{Plan}
 use Rattle.lrs_verbs.specs.Extents.{IsRouteIn}

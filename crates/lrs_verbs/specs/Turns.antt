@@ -1,15 +1,8 @@
 -- A route seen from its other end, as its plan makes it.
-use Rattle.std.specs.Prelude.{◌≡◌, true, false, map, length, Some}
-use Rattle.std.specs.List.{list_all}
-use Rattle.lrs_measure.specs.Lists.{each_two}
-use Rattle.lrs_element.specs.Course.{turned, is_too_long}
+use Rattle.lrs_verbs.specs.Prelude.{◌≡◌, true, false, map, length, Some, list_all, each_two, is_too_long, has_row, are_rows, span_before, RouteEntry, RouteChange, spans_after}
+use Rattle.lrs_element.specs.Course.{turned}
 use Rattle.lrs_element.specs.Marks.{mirrored}
-use Rattle.lrs_events.specs.Changes.{has_row}
-use Rattle.lrs_events.specs.Spans.{are_rows, span_before}
 use Rattle.lrs_canonical.specs.Turns.{IsTurned}
-use Rattle.lrs_machine.specs.declared.image.RouteEntry.{RouteEntry}
-use Rattle.lrs_keep.specs.declared.change.RouteChange.{RouteChange}
-use Rattle.lrs_keep.specs.Change.{spans_after}
 use Rattle.lrs_routes.specs.Turning.{from_end}
 
 -- What becomes of the route of an entry: all its referents go, and come where they are from its other end.

@@ -1,13 +1,8 @@
 -- What an entry asks for: a stretch of a route, for an asset of a class of a kind.
-use Rattle.std.specs.Prelude.{◌≡◌, ◌<◌, Bool, ◌&&◌, not, length, Ok, Err}
-use Rattle.lrs_events.specs.declared.class.Kind.{Kind}
-use Rattle.lrs_events.specs.Places.{places_on}
+use Rattle.std.specs.Prelude.{Bool}
+use Rattle.lrs_verbs.specs.Prelude.{◌≡◌, ◌<◌, ◌&&◌, not, length, Ok, Err, Kind, places_on, Entry, Image, RouteEntry, state_of, Extent, part_of}
 use Rattle.lrs_report.specs.Segments.{is_exclusive}
-use Rattle.lrs_machine.specs.declared.command.Entry.{Entry}
-use Rattle.lrs_machine.specs.declared.image.Image.{Image}
-use Rattle.lrs_machine.specs.declared.image.RouteEntry.{RouteEntry}
-use Rattle.lrs_machine.specs.Image.{state_of}
-use Rattle.lrs_machine.specs.Machine.{Extent, part_of, wanted_of}
+use Rattle.lrs_machine.specs.Machine.{wanted_of}
 use Rattle.lrs_verbs.specs.declared.plan.Stop.{Stop}
 use Rattle.lrs_verbs.specs.Entering.{HasBegun}
 use Rattle.lrs_verbs.specs.Extents.{EndsBy}

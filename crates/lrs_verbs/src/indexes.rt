@@ -1,13 +1,9 @@
 //! What is looked up in an inventory other than by its order: edits by their keys, routes by the ground that
 //! they run over, and referents by their names.
 
-ghost use Rattle.std.specs.Prelude.{◌≡◌, None, IfOk, OnOk, OnErr, if◌then◌else◌};
-ghost use Rattle.std.specs.List.{list_any};
 ghost use Rattle.std.specs.FinMap as map;
-ghost use Rattle.lrs_measure.specs.Texts.{Name, same_name};
-ghost use Rattle.lrs_element.specs.Course.{Millimetre};
+ghost use Rattle.lrs_verbs.specs.Prelude.{◌≡◌, None, IfOk, OnOk, OnErr, if◌then◌else◌, list_any, Name, same_name, Millimetre, IsSound};
 ghost use Rattle.lrs_index.specs.Ground.{route_over};
-ghost use Rattle.lrs_machine.specs.Sound.{IsSound};
 ghost use Rattle.lrs_verbs.specs.Changes.{CanChangeGround, IsNewReferent};
 ghost use Rattle.lrs_verbs.specs.Indexes.{IsIndexed, IsPutIn, TellSame, AreWholeFor, ground_made};
 ghost use Rattle.lrs_verbs.specs.Keys.{IsNewPlace};

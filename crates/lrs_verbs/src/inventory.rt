@@ -1,12 +1,10 @@
 //! An inventory: its image, and what is looked up in it.
 
-ghost use Rattle.std.specs.Prelude.{◌≡◌, IfOk, OnOk, OnErr, Err, Result, true, length};
+ghost use Rattle.lrs_verbs.specs.Prelude.{◌≡◌, IfOk, OnOk, OnErr, Err, Result, true, length, IsSound, image_of};
 ghost use Rattle.lrs_machine.specs.declared.image.Image.{Image as ImageRows};
 ghost use Rattle.lrs_machine.specs.declared.table.Table.{Table};
-ghost use Rattle.lrs_machine.specs.Sound.{IsSound};
 ghost use Rattle.lrs_keep.specs.Change.{apply, CanMake};
 ghost use Rattle.lrs_keep.specs.Keeping.{HasRisen, HoldsOnly, HoldsOldOrNew};
-ghost use Rattle.lrs_keep.specs.Kept.{image_of};
 ghost use Rattle.lrs_verbs.specs.Plans.{change_of, TellsGround};
 
 mod extents;

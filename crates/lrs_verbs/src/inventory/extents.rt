@@ -1,11 +1,9 @@
 //! Where positions are on a route of an inventory, and what lies there.
 
-ghost use Rattle.std.specs.Prelude.{◌≡◌, ◌<◌, ◌≤◌, nat_le, length, IfOk};
+ghost use Rattle.lrs_verbs.specs.Prelude.{◌≡◌, ◌<◌, ◌≤◌, nat_le, length, IfOk, alignment_of, places_on, state_of, extent_of, part_of};
 ghost use Rattle.lrs_measure.specs.Fraction.{IsLowest};
-ghost use Rattle.lrs_position.specs.Translating.{alignment_of, IsOnRoute};
-ghost use Rattle.lrs_events.specs.Places.{places_on};
-ghost use Rattle.lrs_machine.specs.Image.{state_of};
-ghost use Rattle.lrs_machine.specs.Machine.{extent_of, first_holder, is_empty_extent, part_of};
+ghost use Rattle.lrs_position.specs.Translating.{IsOnRoute};
+ghost use Rattle.lrs_machine.specs.Machine.{first_holder, is_empty_extent};
 ghost use Rattle.lrs_verbs.specs.Extents.{cause_of, IsRouteIn, LocatesAs, located_cell, located_end, EndsBy};
 ghost use Rattle.lrs_verbs.specs.Plans.{Answers};
 

@@ -1,14 +1,11 @@
 //! An asset that comes to hold places.
 
-ghost use Rattle.std.specs.Prelude.{◌≡◌, ◌<◌, false, if◌then◌else◌, IfOk, IsTrue, None, true, length};
-ghost use Rattle.lrs_measure.specs.Lists.{each_two};
-ghost use Rattle.lrs_events.specs.Places.{differs, places_on};
+ghost use Rattle.lrs_verbs.specs.Prelude.{◌≡◌, ◌<◌, false, if◌then◌else◌, IfOk, IsTrue, None, true, length, each_two, differs, places_on, state_of, part_of, refuse_at};
 ghost use Rattle.lrs_events.specs.Spans.{is_row};
 ghost use Rattle.lrs_report.specs.Segments.{is_exclusive};
 ghost use Rattle.lrs_machine.specs.declared.answer.Cause.TheVariants as cause;
 ghost use Rattle.lrs_machine.specs.declared.command.Command.TheVariants as verb;
-ghost use Rattle.lrs_machine.specs.Image.{state_of};
-ghost use Rattle.lrs_machine.specs.Machine.{first_holder, part_of, refuse_at};
+ghost use Rattle.lrs_machine.specs.Machine.{first_holder};
 ghost use Rattle.lrs_verbs.specs.Entering.{asset_of, row_of, with_row, AreInLimits, AreEntered, IsEntering};
 ghost use Rattle.lrs_verbs.specs.Extents.{IsRouteIn, EndsBy};
 ghost use Rattle.lrs_verbs.specs.Plans.{Answers, Plans};

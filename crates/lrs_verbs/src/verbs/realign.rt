@@ -1,15 +1,7 @@
 //! A stretch of a route gets other ground.
 
-ghost use Rattle.std.specs.Prelude.{◌≡◌, ◌+◌, ◌≤◌, IsTrue, IfOk, [], true, length, map, nat_lt, slice_range, unwrap_or};
-ghost use Rattle.std.specs.List.{list_all, AllByRecursion};
-ghost use Rattle.lrs_measure.specs.Lists.{each_two};
-ghost use Rattle.lrs_element.specs.Course.{course_of};
-ghost use Rattle.lrs_element.specs.Limits.{longest_route};
-ghost use Rattle.lrs_element.specs.Pieces.{IsFilled};
-ghost use Rattle.lrs_events.specs.Places.{differs};
-ghost use Rattle.lrs_canonical.specs.Joins.{end_by};
+ghost use Rattle.lrs_verbs.specs.Prelude.{◌≡◌, ◌+◌, ◌≤◌, IsTrue, IfOk, [], true, length, map, nat_lt, slice_range, unwrap_or, list_all, AllByRecursion, each_two, course_of, longest_route, IsFilled, differs, end_by, state_of};
 ghost use Rattle.lrs_machine.specs.declared.command.Command.TheVariants as verb;
-ghost use Rattle.lrs_machine.specs.Image.{state_of};
 ghost use Rattle.lrs_leaving.specs.Realigning.{replaced};
 ghost use Rattle.lrs_verbs.specs.Realignments.{check_stretch, free_course, short_course, new_line, refs_on, on_from, referents_moved, realigned_plan, IsOnNewLine};
 ghost use Rattle.lrs_verbs.specs.Splits.{refs_behind};

@@ -1,13 +1,8 @@
 //! An asset gives up what it holds on a part of a route.
 
-ghost use Rattle.std.specs.Prelude.{◌≡◌, ◌<◌, IsTrue, IfOk, true};
-ghost use Rattle.lrs_measure.specs.Lists.{each_two, is_nothing};
-ghost use Rattle.lrs_events.specs.Places.{differs};
-ghost use Rattle.lrs_events.specs.Spans.{are_rows};
-ghost use Rattle.lrs_canonical.specs.Removals.{IsRemoval};
+ghost use Rattle.lrs_verbs.specs.Prelude.{◌≡◌, ◌<◌, IsTrue, IfOk, true, each_two, differs, are_rows, IsRemoval, Retired, IsPlan};
+ghost use Rattle.lrs_measure.specs.Lists.{is_nothing};
 ghost use Rattle.lrs_machine.specs.declared.command.Command.TheVariants as verb;
-ghost use Rattle.lrs_machine.specs.State.{Retired};
-ghost use Rattle.lrs_spans.specs.Plans.{IsPlan};
 ghost use Rattle.lrs_verbs.specs.Plans.{Plans};
 ghost use Rattle.lrs_verbs.specs.Taking.{of_asset_within, HasAsset, IsTaking};
 

@@ -1,14 +1,10 @@
 //! A route runs the other way.
 
-ghost use Rattle.std.specs.Prelude.{◌≡◌, ◌≤◌, IsTrue, IfOk, Some, None, map, length};
-ghost use Rattle.lrs_canonical.specs.Joins.{end_by};
+ghost use Rattle.lrs_verbs.specs.Prelude.{◌≡◌, ◌≤◌, IsTrue, IfOk, Some, None, map, length, end_by, longest_route, rerouting, IsPlan};
 ghost use Rattle.lrs_canonical.specs.Turns.{IsTurned};
-ghost use Rattle.lrs_element.specs.Limits.{longest_route};
 ghost use Rattle.lrs_events.specs.Changes.{changed_rows};
 ghost use Rattle.lrs_machine.specs.declared.command.Command.TheVariants as verb;
-ghost use Rattle.lrs_routes.specs.Differences.{rerouting};
 ghost use Rattle.lrs_routes.specs.Turning.{from_end};
-ghost use Rattle.lrs_spans.specs.Plans.{IsPlan};
 ghost use Rattle.lrs_verbs.specs.Turns.{IsTurnedBy};
 ghost use Rattle.lrs_verbs.specs.Plans.{plan_of, Plans};
 

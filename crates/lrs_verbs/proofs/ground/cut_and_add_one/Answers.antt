@@ -1,6 +1,5 @@
 use Rattle.std.proofs.Common.{◌≡◌, List, false, ap, subst, ◌∙◌}
-use Rattle.lrs_element.specs.declared.link.Piece.{Piece}
-use Rattle.lrs_element.specs.Course.{course_of, meets}
+use Rattle.lrs_verbs.specs.Prelude.{Piece, course_of, meets}
 use Rattle.lrs_index.specs.Ground.{is_shared, HasGained, AreWhole}
 use Rattle.lrs_verbs.proofs.Grounds.{come_free, ready}
 use Rattle.lrs_verbs.proofs.ground.cut_and_add_one.Goals as goal

@@ -1,5 +1,6 @@
 use Rattle.std.proofs.Common.{ap, ◌∙◌}
-use Rattle.lrs_index.specs.Ground.{is_run_once, is_shared}
+use Rattle.lrs_verbs.specs.Prelude.{is_run_once}
+use Rattle.lrs_index.specs.Ground.{is_shared}
 use Rattle.lrs_verbs.proofs.Grounds.{own_once, own_free, next_ground}
 use Rattle.lrs_verbs.proofs.ground.ground_of_routes.Goals as goal
 

@@ -1,5 +1,5 @@
 use Rattle.std.proofs.Common.{take}
-use Rattle.lrs_index.specs.Routes.{IsGroundOf}
+use Rattle.lrs_verbs.specs.Prelude.{IsGroundOf}
 use Rattle.lrs_verbs.proofs.ground.ground_of_routes.Given as goal
 
 abbrev pub invariant-loop-entry : goal.invariant-loop-entry

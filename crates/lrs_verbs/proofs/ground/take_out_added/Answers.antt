@@ -1,7 +1,6 @@
 use Rattle.std.proofs.Common.{◌≡◌, List, Option, subst}
-use Rattle.lrs_measure.specs.Texts.{Name}
-use Rattle.lrs_element.specs.declared.link.Piece.{Piece}
-use Rattle.lrs_index.specs.Ground.{Stretches, HasGained}
+use Rattle.lrs_verbs.specs.Prelude.{Name, Piece, Stretches}
+use Rattle.lrs_index.specs.Ground.{HasGained}
 use Rattle.lrs_verbs.specs.declared.plan.GroundChange.{GroundChange}
 use Rattle.lrs_verbs.specs.Indexes.{IsReadyFor}
 use Rattle.lrs_verbs.proofs.Grounds.{out_again}

@@ -1,8 +1,5 @@
 use Rattle.std.proofs.Common.{◌≡◌, List, true, sym, subst}
-use Rattle.lrs_index.specs.Ground.{is_run_once}
-use Rattle.lrs_index.specs.Routes.{IsGroundOf}
-use Rattle.lrs_machine.specs.declared.image.RouteEntry.{RouteEntry}
-use Rattle.lrs_machine.specs.Image.{state_of}
+use Rattle.lrs_verbs.specs.Prelude.{is_run_once, IsGroundOf, RouteEntry, state_of}
 use Rattle.lrs_verbs.specs.Keys.{IsIndex}
 use Rattle.lrs_verbs.specs.Places.{IsPlaced, referent_among}
 use Rattle.lrs_verbs.proofs.Grounds.{ground_of, run_once}

@@ -1,7 +1,5 @@
 use Rattle.std.proofs.Common.{Ok, ap, sym, ◌∙◌}
-use Rattle.lrs_machine.specs.declared.image.Image.{Image}
-use Rattle.lrs_machine.specs.Image.{state_of}
-use Rattle.lrs_keep.specs.Kept.{image_of}
+use Rattle.lrs_verbs.specs.Prelude.{Image, state_of, image_of}
 use Rattle.lrs_keep.proofs.Tables.{links_in_order}
 use Rattle.lrs_verbs.specs.Checks.{new_course}
 use Rattle.lrs_verbs.proofs.NewCourse.{no_link, bad_piece, twice, too_long, good_pieces}

@@ -1,6 +1,5 @@
 use Rattle.std.proofs.lemmas.Result.{err_from_is_err_and}
-use Rattle.lrs_position.specs.Translating.{alignment_of}
-use Rattle.lrs_machine.specs.Image.{state_of}
+use Rattle.lrs_verbs.specs.Prelude.{alignment_of, state_of}
 use Rattle.lrs_verbs.proofs.Located.{point_stops, from_stops, to_stops}
 use Rattle.lrs_verbs.proofs.inventory.Inventory.extent.Goals as goal
 

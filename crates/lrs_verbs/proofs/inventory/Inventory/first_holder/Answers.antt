@@ -1,5 +1,5 @@
 use Rattle.std.proofs.Common.{subst}
-use Rattle.lrs_machine.specs.Machine.{Extent}
+use Rattle.lrs_verbs.specs.Prelude.{Extent}
 use Rattle.lrs_spans.specs.Search.{IsOver}
 use Rattle.lrs_verbs.proofs.Located.{route_in}
 use Rattle.lrs_verbs.proofs.FirstHolder.{first_holder_is}

@@ -1,5 +1,5 @@
 use Rattle.std.proofs.Common.{◌∙◌}
-use Rattle.lrs_keep.specs.Kept.{image_of}
+use Rattle.lrs_verbs.specs.Prelude.{image_of}
 use Rattle.lrs_verbs.proofs.Grounds.{first_is_taken}
 use Rattle.lrs_verbs.proofs.inventory.Inventory.first_taken.Goals as goal
 

@@ -1,8 +1,6 @@
 use denote.Bor.{Bor}
 use Rattle.std.proofs.Common.{ap, sym, ◌∙◌, Some, None}
-use Rattle.std.specs.Option.{option_map}
-use Rattle.lrs_element.specs.declared.link.Link.{Link}
-use Rattle.lrs_keep.specs.Kept.{image_of}
+use Rattle.lrs_verbs.specs.Prelude.{option_map, Link, image_of}
 use Rattle.lrs_keep.proofs.Tables.{links_in_order}
 use Rattle.lrs_verbs.proofs.Known.{link_of}
 use Rattle.lrs_verbs.proofs.inventory.Inventory.link_length.Goals as goal

@@ -1,9 +1,7 @@
 use Rattle.std.proofs.Common.{Err, subst, sym, ap, ◌∙◌}
-use Rattle.std.specs.Prelude.{IsTrue}
+use Rattle.lrs_verbs.specs.Prelude.{IsTrue, alignment_of, state_of}
 use Rattle.lrs_position.specs.declared.expression.Expr.{Expr}
 use Rattle.lrs_position.specs.Expressions.{is_entered}
-use Rattle.lrs_position.specs.Translating.{alignment_of}
-use Rattle.lrs_machine.specs.Image.{state_of}
 use Rattle.lrs_machine.specs.Machine.{located_chainage}
 use Rattle.lrs_verbs.specs.Extents.{IsLocatedAt}
 use Rattle.lrs_verbs.proofs.Located.{located_alike, refused_alike}

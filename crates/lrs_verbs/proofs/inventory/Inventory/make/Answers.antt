@@ -1,10 +1,6 @@
 use Rattle.std.proofs.Common.{◌≡◌, ℕ, List, length, ap, sym, subst, ◌∙◌}
 use Rattle.std.specs.FinMap.{get}
-use Rattle.lrs_measure.specs.Texts.{Name}
-use Rattle.lrs_machine.specs.declared.image.Edit.{Edit}
-use Rattle.lrs_machine.specs.declared.image.Image.{Image}
-use Rattle.lrs_machine.specs.Sound.{IsSound}
-use Rattle.lrs_keep.specs.Kept.{image_of}
+use Rattle.lrs_verbs.specs.Prelude.{Name, Edit, Image, IsSound, image_of}
 use Rattle.lrs_keep.specs.Change.{apply}
 use Rattle.lrs_verbs.specs.Indexes.{IsIndexed, IsPutIn}
 use Rattle.lrs_verbs.specs.Plans.{change_of, TellsGround}

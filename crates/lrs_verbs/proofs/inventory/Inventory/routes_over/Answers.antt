@@ -1,6 +1,6 @@
 use Rattle.std.proofs.Common.{inl, inr, ⊎_elim}
 use Rattle.std.proofs.lemmas.Result.{on_ok_weaker}
-use Rattle.lrs_keep.specs.Kept.{image_of}
+use Rattle.lrs_verbs.specs.Prelude.{image_of}
 use Rattle.lrs_verbs.proofs.Grounds.{met_by_index, met_by_routes}
 use Rattle.lrs_verbs.proofs.inventory.Inventory.routes_over.Goals as goal
 

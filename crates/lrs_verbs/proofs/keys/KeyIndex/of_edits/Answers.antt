@@ -2,7 +2,7 @@ use Rattle.lrs_verbs.specs.Keys.{IsKeyPutIn}
 use Rattle.lrs_verbs.proofs.Keyed.{IsIndex-next}
 use Rattle.lrs_verbs.proofs.keys.KeyIndex.of_edits.Goals as goal
 use Rattle.std.proofs.Common.{subst}
-use Rattle.lrs_machine.specs.declared.image.Edit.{Edit}
+use Rattle.lrs_verbs.specs.Prelude.{Edit}
 
 pub loop-i-preserved : goal.loop-i-preserved
 loop-i-preserved c =

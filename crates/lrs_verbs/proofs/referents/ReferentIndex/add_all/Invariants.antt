@@ -1,6 +1,5 @@
 use Rattle.std.proofs.Common.{take}
-use Rattle.std.specs.List.{filter_map}
-use Rattle.lrs_machine.specs.Image.{referent_entry}
+use Rattle.lrs_verbs.specs.Prelude.{filter_map, referent_entry}
 use Rattle.lrs_verbs.specs.Places.{HaveCome}
 use Rattle.lrs_verbs.proofs.referents.ReferentIndex.add_all.Given as goal
 

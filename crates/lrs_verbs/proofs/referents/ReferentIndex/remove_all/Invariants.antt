@@ -1,6 +1,6 @@
 use Rattle.std.proofs.Common.{◌≡◌, take}
 use Rattle.std.specs.FinMap as map
-use Rattle.lrs_measure.specs.Texts.{Name}
+use Rattle.lrs_verbs.specs.Prelude.{Name}
 use Rattle.lrs_verbs.proofs.Standing.{out_of}
 use Rattle.lrs_verbs.proofs.referents.ReferentIndex.remove_all.Given as goal
 

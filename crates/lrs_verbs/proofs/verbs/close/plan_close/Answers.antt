@@ -1,12 +1,9 @@
 use Rattle.std.proofs.Common.{ℕ, ◌+◌, Err, List, rules, sym, ap, subst, ◌∙◌}
 use Rattle.std.proofs.lemmas.Result.{err_from_is_err_and}
-use Rattle.lrs_position.specs.declared.route.Referent.{Referent}
-use Rattle.lrs_events.specs.declared.span.Span.{Span}
-use Rattle.lrs_events.specs.Spans.{holds_by_spans}
+use Rattle.lrs_verbs.specs.Prelude.{Referent, Span, holds_by_spans, AreGone}
 use Rattle.lrs_machine.specs.declared.command.Command.TheVariants as verb
 use Rattle.lrs_machine.specs.State.{Abandoned}
 use Rattle.lrs_orderly.proofs.Tables.{few_edits}
-use Rattle.lrs_gone.specs.Gone.{AreGone}
 use Rattle.lrs_routes.proofs.Naming.{found_in}
 use Rattle.lrs_routes.proofs.Rewriting.{its_course}
 use Rattle.lrs_verbs.specs.declared.plan.Plan.{Plan}

@@ -1,7 +1,7 @@
 use Rattle.std.proofs.Common.{ℕ, ◌+◌, length, rules, ap, subst}
 use Rattle.std.proofs.lemmas.Result.{err_from_is_err_and}
 use Rattle.lrs_machine.specs.declared.command.Command.TheVariants as verb
-use Rattle.lrs_machine.specs.Image.{state_of}
+use Rattle.lrs_verbs.specs.Prelude.{state_of}
 use Rattle.lrs_orderly.proofs.Tables.{few_edits}
 use Rattle.lrs_verbs.specs.Entering.{IsEntering}
 use Rattle.lrs_verbs.proofs.Stopping.{stopped}

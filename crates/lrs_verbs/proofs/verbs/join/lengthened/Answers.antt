@@ -1,8 +1,5 @@
 use Rattle.std.proofs.Common.{ℕ, ◌+◌, ◌≤◌, List, length, sym, ap, subst, ◌∙◌}
-use Rattle.std.specs.Prelude.{nat_lt}
-use Rattle.std.specs.List.{list_all}
-use Rattle.lrs_element.specs.Limits.{longest_route}
-use Rattle.lrs_position.specs.declared.route.Referent.{Referent}
+use Rattle.lrs_verbs.specs.Prelude.{nat_lt, list_all, longest_route, Referent}
 use Rattle.lrs_verbs.proofs.JoinRoutes.{refs_have_room}
 use Rattle.lrs_verbs.proofs.verbs.join.lengthened.Goals as goal
 

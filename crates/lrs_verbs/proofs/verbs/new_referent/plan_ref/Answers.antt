@@ -1,22 +1,12 @@
 use denote.Bor.{Bor}
 use Rattle.std.proofs.Common.{◌≡◌, ◌+◌, false, Option, Some, None, Ok, length, refl, sym, ap, subst, ◌∙◌}
-use Rattle.std.specs.Prelude.{is_some}
 use Rattle.std.specs.List.{find}
-use Rattle.std.specs.Option.{option_map}
 use Rattle.std.proofs.lemmas.Result.{err_from_is_err_and}
-use Rattle.lrs_measure.specs.Texts.{Name}
-use Rattle.lrs_element.specs.declared.link.Ground.{Ground}
-use Rattle.lrs_element.specs.Course.{Millimetre}
-use Rattle.lrs_position.specs.Locating.{Alignment}
-use Rattle.lrs_position.specs.Translating.{alignment_of}
+use Rattle.lrs_verbs.specs.Prelude.{is_some, option_map, Name, Ground, Millimetre, Alignment, alignment_of, Image, RouteEntry, state_of, route_entry, is_named}
 use Rattle.lrs_machine.specs.declared.answer.Cause.TheVariants as cause
 use Rattle.lrs_machine.specs.declared.command.Command.TheVariants as verb
-use Rattle.lrs_machine.specs.declared.image.Image.{Image}
-use Rattle.lrs_machine.specs.declared.image.RouteEntry.{RouteEntry}
-use Rattle.lrs_machine.specs.Image.{state_of, route_entry}
 use Rattle.lrs_machine.specs.Register.{get}
 use Rattle.lrs_verbs.specs.declared.plan.Plan.{Plan}
-use Rattle.lrs_keep.specs.Change.{is_named}
 use Rattle.lrs_verbs.specs.Extents.{IsRouteIn, located_cell}
 use Rattle.lrs_verbs.specs.Plans.{Answers, IsPlanOf}
 use Rattle.lrs_verbs.specs.RouteReferents.{plan_of_referents, with_one, standing_at}

@@ -1,8 +1,7 @@
 use Rattle.std.proofs.Common.{ℕ, ◌+◌, List, Err, rules, sym, ap, subst, ◌∙◌}
 use Rattle.std.proofs.lemmas.Result.{err_from_is_err_and}
-use Rattle.lrs_element.specs.declared.link.Piece.{Piece}
+use Rattle.lrs_verbs.specs.Prelude.{Piece, state_of}
 use Rattle.lrs_machine.specs.declared.command.Command.TheVariants as verb
-use Rattle.lrs_machine.specs.Image.{state_of}
 use Rattle.lrs_orderly.proofs.Tables.{few_edits}
 use Rattle.lrs_routes.proofs.Naming.{found_in}
 use Rattle.lrs_routes.proofs.Rewriting.{its_course}

@@ -1,9 +1,8 @@
 use Rattle.std.proofs.Common.{ℕ, Err, sym, ap, subst, ◌∙◌}
 use Rattle.std.specs.List.{find}
 use Rattle.std.proofs.lemmas.Result.{err_from_is_err_and}
-use Rattle.lrs_measure.specs.Texts.{Name}
+use Rattle.lrs_verbs.specs.Prelude.{Name, is_named}
 use Rattle.lrs_machine.specs.declared.command.Command.TheVariants as verb
-use Rattle.lrs_keep.specs.Change.{is_named}
 use Rattle.lrs_routes.proofs.Naming.{found_in}
 use Rattle.lrs_verbs.specs.declared.plan.Stop.{Stop}
 use Rattle.lrs_verbs.specs.Plans.{Plans}

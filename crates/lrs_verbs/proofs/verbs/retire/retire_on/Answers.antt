@@ -1,12 +1,9 @@
 use Rattle.std.proofs.Common.{ℕ, ◌+◌, rules, sym, ap, subst, ◌∙◌}
 use Rattle.std.proofs.lemmas.Result.{err_from_is_err_and}
+use Rattle.lrs_verbs.specs.Prelude.{alignment_of, state_of, extent_of, Retired}
 use Rattle.lrs_measure.specs.Lists.{is_nothing}
-use Rattle.lrs_position.specs.Translating.{alignment_of}
 use Rattle.lrs_machine.specs.declared.answer.Cause.TheVariants as cause
 use Rattle.lrs_machine.specs.declared.command.Command.TheVariants as verb
-use Rattle.lrs_machine.specs.Image.{state_of}
-use Rattle.lrs_machine.specs.Machine.{extent_of}
-use Rattle.lrs_machine.specs.State.{Retired}
 use Rattle.lrs_orderly.proofs.Tables.{few_edits}
 use Rattle.lrs_verbs.specs.Taking.{IsTaking}
 use Rattle.lrs_verbs.proofs.Stopping.{refused, passed, stopped}

@@ -1,6 +1,5 @@
 use Rattle.std.proofs.Common.{◌≡◌, List, true, subst, sym}
-use Rattle.lrs_position.specs.declared.route.Referent.{Referent}
-use Rattle.lrs_position.specs.Routes.{is_route}
+use Rattle.lrs_verbs.specs.Prelude.{Referent, is_route}
 use Rattle.lrs_verbs.proofs.NewCourse.{fits_alone}
 use Rattle.lrs_verbs.proofs.verbs.route.new_entry.Goals as goal
 

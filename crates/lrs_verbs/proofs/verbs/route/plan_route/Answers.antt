@@ -2,7 +2,7 @@ use Rattle.std.proofs.Common.{◌≡◌, ℕ, Ok, length, sym, ap, subst, ◌∙
 use Rattle.std.proofs.lemmas.Result.{err_from_is_err_and}
 use Rattle.lrs_machine.specs.declared.answer.Cause.TheVariants as cause
 use Rattle.lrs_machine.specs.declared.command.Command.TheVariants as verb
-use Rattle.lrs_machine.specs.Image.{state_of}
+use Rattle.lrs_verbs.specs.Prelude.{state_of}
 use Rattle.lrs_machine.specs.Machine.{check_free}
 use Rattle.lrs_machine.specs.Register.{get}
 use Rattle.lrs_verbs.specs.declared.plan.Plan.{Plan}

@@ -1,7 +1,5 @@
 use Rattle.std.proofs.Common.{List, map, ap, sym, ◌∙◌}
-use Rattle.lrs_element.specs.Course.{is_too_long}
-use Rattle.lrs_position.specs.declared.route.Referent.{Referent}
-use Rattle.lrs_position.specs.Routes.{is_route}
+use Rattle.lrs_verbs.specs.Prelude.{is_too_long, Referent, is_route}
 use Rattle.lrs_routes.specs.Splitting.{back_by}
 use Rattle.lrs_routes.proofs.Halved.{parts_are_routes}
 use Rattle.lrs_verbs.specs.Splits.{refs_behind}

@@ -1,5 +1,5 @@
 use Rattle.std.proofs.Common.{◌≡◌, Some, None, sym, subst, ◌∙◌}
-use Rattle.lrs_measure.specs.Texts.{Name}
+use Rattle.lrs_verbs.specs.Prelude.{Name}
 use Rattle.lrs_machine.specs.declared.command.Command.TheVariants as verb
 use Rattle.lrs_verbs.specs.declared.plan.Plan.{Plan}
 use Rattle.lrs_verbs.specs.Plans.{IsPlanOf}

@@ -1,10 +1,9 @@
 use Rattle.std.proofs.Common.{sym, ◌∙◌}
 use Rattle.std.proofs.lemmas.Bool.{leb-false}
 use Rattle.std.proofs.lemmas.Result.{err_from_is_err_and}
-use Rattle.lrs_position.specs.Translating.{alignment_of}
+use Rattle.lrs_verbs.specs.Prelude.{alignment_of, state_of, extent_of}
 use Rattle.lrs_machine.specs.declared.answer.Cause.TheVariants as cause
-use Rattle.lrs_machine.specs.Image.{state_of}
-use Rattle.lrs_machine.specs.Machine.{extent_of, wanted_of}
+use Rattle.lrs_machine.specs.Machine.{wanted_of}
 use Rattle.lrs_verbs.specs.Wanted.{is_left_out}
 use Rattle.lrs_verbs.proofs.Stopping.{answers_refused, answers_stopped, passed}
 use Rattle.lrs_verbs.proofs.EntryChecks.{refuses_kind, refuses_extent, refuses_empty, wants}
