@@ -1,7 +1,8 @@
 -- Plans by which one route changes, and no other route comes or goes.
 use Rattle.std.proofs.Common.{◌≡◌, [], ◌∷◌, Some, None, sym, ap, subst, ◌∙◌}
-use Rattle.std.specs.List.{find}
-use Rattle.lrs_verbs.specs.Prelude.{cons_option, option_map, each_two, Command, Image, RouteEntry, state_of, route_before, IsSound, State, Makes, RouteChange, Difference, is_named, entry_after, with_difference, CanDiffer, rerouting}
+use Rattle.std.specs.List.{find, cons_option}
+use Rattle.std.specs.Option.{option_map}
+use Rattle.lrs_verbs.specs.Prelude.{each_two, Command, Image, RouteEntry, state_of, route_before, IsSound, State, Makes, RouteChange, Difference, is_named, entry_after, with_difference, CanDiffer, rerouting}
 use Rattle.lrs_machine.proofs.Members.{In}
 use Rattle.lrs_keep.specs.Change.{CanBecome}
 use Rattle.lrs_routes.specs.Differences.{KeepsFromDropped}

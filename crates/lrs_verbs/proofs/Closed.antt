@@ -1,10 +1,13 @@
 -- A route goes.
 use Rattle.std.proofs.Common.{◌≡◌, ℕ, ◌+◌, true, cond, List, [], ◌∷◌, length, Some, None, Result, Ok, Err, refl, sym, ap, subst, ◌∙◌}
 use Rattle.std.proofs.Math.Bool.{or-false}
-use Rattle.std.specs.List.{find}
+use Rattle.std.specs.List.{find, list_any, list_all, AllByRecursion}
 use Rattle.std.proofs.lemmas.Bool.{false≢true, and_parts, ltb-true}
 use Rattle.std.proofs.lemmas.List.{append-nil}
-use Rattle.lrs_verbs.specs.Prelude.{is_some, nat_lt, list_any, list_all, AllByRecursion, option_map, ok_or, bytes_decides, each_two, Name, same_name, Ground, Piece, Millimetre, course_of, runs_over, IsFilled, Referent, Alignment, referent_before, Gone, holds_by_spans, Cause, Image, RouteEntry, state_of, route_entry, referent_entry, referents_on, attempt, ◌>>=◌, IsSound, State, Makes, Difference, is_named, with_difference, AreGone}
+use Rattle.std.specs.Prelude.{is_some, nat_lt}
+use Rattle.std.specs.Option.{option_map, ok_or}
+use Rattle.std.specs.Cmp.Lexicographic.{bytes_decides}
+use Rattle.lrs_verbs.specs.Prelude.{each_two, Name, same_name, Ground, Piece, Millimetre, course_of, runs_over, IsFilled, Referent, Alignment, referent_before, Gone, holds_by_spans, Cause, Image, RouteEntry, state_of, route_entry, referent_entry, referents_on, attempt, ◌>>=◌, IsSound, State, Makes, Difference, is_named, with_difference, AreGone}
 use Rattle.lrs_machine.specs.declared.answer.Cause.TheVariants as cause
 use Rattle.lrs_machine.specs.declared.command.Command.TheVariants as verb
 use Rattle.lrs_machine.specs.Machine.{abandon, drop_route}

@@ -3,10 +3,14 @@ use Rattle.std.proofs.Common.{◌≡◌, Bool, true, false, cond, List, [], ◌�
 use Rattle.std.specs.List as list
 use Rattle.std.specs.declared.cmp.Ordering.{Ordering}
 use Rattle.std.specs.declared.cmp.Ordering.TheVariants.{Less, Equal, Greater}
-use Rattle.std.specs.Ordering.{is_lt, is_eq}
+use Rattle.std.specs.Ordering.{is_lt, is_eq, eq_by_cmp}
 use Rattle.std.specs.Cmp.{IsTotalOrder, Equal-is, eq_by_cmp_equiv}
 use Rattle.std.specs.FinMap.{find, IsAntisymmetric}
-use Rattle.lrs_verbs.specs.Prelude.{is_some, ◌||◌, list_any, option_map, eq_by_cmp, nat_list_cmp_total, texts_ties, Name, name_cmp, same_name, insert_by}
+use Rattle.std.specs.Prelude.{is_some, ◌||◌}
+use Rattle.std.specs.List.{list_any}
+use Rattle.std.specs.Option.{option_map}
+use Rattle.std.specs.Cmp.Lexicographic.{nat_list_cmp_total, texts_ties}
+use Rattle.lrs_verbs.specs.Prelude.{Name, name_cmp, same_name, insert_by}
 use Rattle.lrs_machine.specs.Register.{by_order, put}
 use Rattle.std.proofs.lemmas.Bool.{false≢true}
 

@@ -2,7 +2,11 @@
 use Rattle.std.proofs.Common.{◌≡◌, ℕ, zero, suc, ◌+◌, ◌-◌, ◌<◌, ◌≤◌, Bool, true, false, cond, ◌⊎◌, inl, inr, List, [], ◌∷◌, map, take, drop, length, Option, Some, None, refl, sym, ap, ◌∙◌, arith}
 use Rattle.std.specs.List as list
 use Rattle.std.proofs.lemmas.Bool.{false≢true, both_ways, and_parts, and_from, cases_Bool, eqb-true, ltb-true}
-use Rattle.lrs_verbs.specs.Prelude.{◌&&◌, nat_eq, nat_le, slice_get, slice_range, list_any, list_all, option_map, bytes_decides, each_two, Name, same_name, Ground, Asset, B, Span, Place, places_on, are_rows, RouteEntry, Image, state_of, asset_entry, IsSound, asset_before, is_span, are_spans_of}
+use Rattle.std.specs.Prelude.{◌&&◌, nat_eq, nat_le, slice_get, slice_range}
+use Rattle.std.specs.List.{list_any, list_all}
+use Rattle.std.specs.Option.{option_map}
+use Rattle.std.specs.Cmp.Lexicographic.{bytes_decides}
+use Rattle.lrs_verbs.specs.Prelude.{each_two, Name, same_name, Ground, Asset, B, Span, Place, places_on, are_rows, RouteEntry, Image, state_of, asset_entry, IsSound, asset_before, is_span, are_spans_of}
 use Rattle.lrs_events.specs.declared.side.Side.{Side}
 use Rattle.lrs_events.specs.declared.side.Side.TheVariants.{L, R}
 use Rattle.lrs_events.specs.declared.side.LinkSide.{LinkSide}

@@ -1,7 +1,9 @@
 -- Rows and referents that go are of the route.
 use Rattle.std.proofs.Common.{◌≡◌, Bool, true, inl, inr, List, [], ◌∷◌, map, filter, refl}
 use Rattle.std.proofs.lemmas.Bool.{and_from}
-use Rattle.lrs_verbs.specs.Prelude.{list_any, list_all, bytes_decides, Referent, Span, has_row, IsPlan}
+use Rattle.std.specs.List.{list_any, list_all}
+use Rattle.std.specs.Cmp.Lexicographic.{bytes_decides}
+use Rattle.lrs_verbs.specs.Prelude.{Referent, Span, has_row, IsPlan}
 use Rattle.lrs_events.specs.declared.change.SpanChange.{SpanChange}
 use Rattle.lrs_canonical.specs.Order.{In}
 use Rattle.lrs_canonical.proofs.Differing.{has_in}

@@ -1,13 +1,16 @@
 -- A referent goes.
 use Rattle.std.proofs.Common.{◌≡◌, ℕ, ◌+◌, Bool, true, false, cond, inl, inr, List, [], ◌∷◌, ◌++◌, filter, length, Option, Some, None, Ok, Err, refl, sym, ap, ◌∙◌}
-use Rattle.std.specs.Prelude.{is_none}
-use Rattle.std.specs.List.{find}
+use Rattle.std.specs.Prelude.{is_none, ◌||◌, ◌&&◌, not, nat_lt}
+use Rattle.std.specs.List.{find, list_any, list_all, flat_map, filter_map, cons_option}
 use Rattle.std.specs.Cmp.{Equal-is}
 use Rattle.std.specs.FinMap as entries
 use Rattle.std.proofs.lemmas.Bool.{both_ways, not-true, and_parts, and_from}
 use Rattle.std.proofs.lemmas.List.Concat.{flat_map-append}
 use Rattle.std.proofs.lemmas.Map.Lookups.{exact_bytes}
-use Rattle.lrs_verbs.specs.Prelude.{◌||◌, ◌&&◌, not, nat_lt, list_any, list_all, flat_map, filter_map, cons_option, option_map, eq_by_cmp, bytes_decides, each_two, Name, name_cmp, same_name, Ground, Millimetre, meets, runs_over, Referent, is_route, is_route_course, have_marks, are_referents, referent_before, Image, RouteEntry, state_of, referent_entry, referents_on, attempt, ◌>>◌, IsSound, changed_refs}
+use Rattle.std.specs.Option.{option_map}
+use Rattle.std.specs.Ordering.{eq_by_cmp}
+use Rattle.std.specs.Cmp.Lexicographic.{bytes_decides}
+use Rattle.lrs_verbs.specs.Prelude.{each_two, Name, name_cmp, same_name, Ground, Millimetre, meets, runs_over, Referent, is_route, is_route_course, have_marks, are_referents, referent_before, Image, RouteEntry, state_of, referent_entry, referents_on, attempt, ◌>>◌, IsSound, changed_refs}
 use Rattle.lrs_element.specs.Course.{ground_at, is_at}
 use Rattle.lrs_machine.specs.declared.answer.Cause.TheVariants as cause
 use Rattle.lrs_machine.specs.declared.command.Command.TheVariants as verb

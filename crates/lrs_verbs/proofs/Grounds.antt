@@ -1,11 +1,13 @@
 -- The index of ground beside the routes, and as ground comes, goes and passes.
 use Rattle.std.proofs.Common.{◌≡◌, ℕ, ◌+◌, ◌<◌, Bool, true, false, cond, List, [], ◌∷◌, ◌++◌, length, take, drop, get_or, Option, Some, None, refl, sym, ap, subst, ◌∙◌, append-nil, ⊎_elim}
-use Rattle.std.specs.List.{find}
+use Rattle.std.specs.List.{find, position, list_any, list_all, flat_map}
 use Rattle.std.proofs.lemmas.Bool.{and_parts, and_from, both_ways, not-true, or_cases, false≢true, eq-eqb}
 use Rattle.std.proofs.lemmas.List.{take_more, take-append-drop}
 use Rattle.std.proofs.lemmas.List.Concat.{flat_map-append}
 use Rattle.std.proofs.lemmas.List.Folds.{list_any-append, find-append}
-use Rattle.lrs_verbs.specs.Prelude.{◌||◌, ◌&&◌, not, nat_le, nat_eq, is_some, position, option_map, map, list_any, list_all, flat_map, option_or, each_two, Name, Link, Piece, Ground, Millimetre, course_of, expand, meets, runs_over, Stretches, is_run_once, IsGroundOf, is_route_course, differs, Image, RouteEntry, state_of, RouteCourse, is_on_a_link, IsSound}
+use Rattle.std.specs.Prelude.{◌||◌, ◌&&◌, not, nat_le, nat_eq, is_some, map}
+use Rattle.std.specs.Option.{option_map, option_or}
+use Rattle.lrs_verbs.specs.Prelude.{each_two, Name, Link, Piece, Ground, Millimetre, course_of, expand, meets, runs_over, Stretches, is_run_once, IsGroundOf, is_route_course, differs, Image, RouteEntry, state_of, RouteCourse, is_on_a_link, IsSound}
 use Rattle.lrs_element.specs.Course.{is_at}
 use Rattle.lrs_index.specs.Ground.{route_over, is_shared, HasGained, AreWhole, StaysWhole}
 use Rattle.lrs_index.specs.Met.{RunsBetween}

@@ -1,11 +1,14 @@
 -- A route of a list in the order of names is changed, and keeps its name and its place.
 use Rattle.std.proofs.Common.{◌≡◌, Bool, true, false, cond, ◌⊎◌, inl, inr, List, [], ◌∷◌, ◌++◌, map, filter, Some, refl, sym, ap, ◌∙◌}
-use Rattle.std.specs.List.{find}
+use Rattle.std.specs.List.{find, list_any, list_all, flat_map}
 use Rattle.std.proofs.Math.Bool.{or-false}
 use Rattle.std.proofs.lemmas.Bool.{both_ways, and_parts, and_from, cases_Bool}
 use Rattle.std.proofs.lemmas.List.Elements.{filter-append}
 use Rattle.std.proofs.lemmas.List.Concat.{flat_map-append}
-use Rattle.lrs_verbs.specs.Prelude.{◌||◌, not, list_any, list_all, flat_map, option_map, bytes_decides, each_two, insert_by, Name, Millimetre, runs_over, RouteEntry, route_before, is_named, without}
+use Rattle.std.specs.Prelude.{◌||◌, not}
+use Rattle.std.specs.Option.{option_map}
+use Rattle.std.specs.Cmp.Lexicographic.{bytes_decides}
+use Rattle.lrs_verbs.specs.Prelude.{each_two, insert_by, Name, Millimetre, runs_over, RouteEntry, route_before, is_named, without}
 use Rattle.lrs_measure.specs.Texts.{name_before}
 use Rattle.lrs_machine.proofs.Members.{In, all_at, all_of}
 use Rattle.lrs_machine.proofs.Pairs.{each_two-map}

@@ -2,7 +2,10 @@
 use Rattle.std.proofs.Common.{◌≡◌, ℕ, Bool, true, false, cond, length, Option, Some, None, refl, sym, ap, subst, ◌∙◌}
 use Rattle.std.specs.FinMap.{get}
 use Rattle.std.proofs.lemmas.Bool.{false≢true}
-use Rattle.lrs_verbs.specs.Prelude.{◌||◌, is_some, option_map, list_any, Name, same_name, Millimetre, course_of, runs_over, Stretches, Edit, Image, state_of, with_difference}
+use Rattle.std.specs.Prelude.{◌||◌, is_some}
+use Rattle.std.specs.List.{list_any}
+use Rattle.std.specs.Option.{option_map}
+use Rattle.lrs_verbs.specs.Prelude.{Name, same_name, Millimetre, course_of, runs_over, Stretches, Edit, Image, state_of, with_difference}
 use Rattle.lrs_index.specs.Ground.{route_over}
 use Rattle.lrs_keep.specs.Change.{apply}
 use Rattle.lrs_verbs.specs.declared.plan.Plan.{Plan}

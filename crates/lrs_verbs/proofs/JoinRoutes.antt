@@ -1,9 +1,12 @@
 -- Two routes become one.
 use Rattle.std.proofs.Common.{◌≡◌, ℕ, ◌+◌, ◌-◌, ◌≤◌, Bool, true, false, cond, ◌⊎◌, inl, inr, List, [], ◌∷◌, ◌++◌, map, drop, length, Option, Some, None, Result, Ok, Err, refl, sym, ap, subst, ◌∙◌, arith}
-use Rattle.std.specs.List.{find}
+use Rattle.std.specs.List.{find, list_any, list_all, cons_option, AllByRecursion}
 use Rattle.std.proofs.lemmas.Bool.{false≢true, both_ways, not-true, and_parts, or_left, or_right, or_parts, ltb-true, ltb-false, lt-ltb, leb-true, le-leb, eqb-true, ne_eqb, cases_eq}
 use Rattle.std.proofs.lemmas.List.{length-append, length-map, length-drop}
-use Rattle.lrs_verbs.specs.Prelude.{◌||◌, ◌&&◌, not, is_some, nat_lt, nat_le, nat_eq, unwrap_or, list_any, list_all, cons_option, AllByRecursion, option_map, ok_or, bytes_decides, each_two, Name, same_name, Ground, Piece, Mark, course_of, runs_over, is_too_long, longest_route, IsFilled, Referent, Alignment, is_route, referent_before, Asset, Span, are_rows, Cause, Image, RouteEntry, state_of, route_entry, State, attempt, ◌>>◌, ◌>>=◌, set_route, asset_before, is_span, are_spans_of, route_before, IsSound, Makes, RouteChange, Difference, is_named, changed_refs, fits_after, route_after, entry_after, with_difference, CanDiffer, are_names_of, rerouting}
+use Rattle.std.specs.Prelude.{◌||◌, ◌&&◌, not, is_some, nat_lt, nat_le, nat_eq, unwrap_or}
+use Rattle.std.specs.Option.{option_map, ok_or}
+use Rattle.std.specs.Cmp.Lexicographic.{bytes_decides}
+use Rattle.lrs_verbs.specs.Prelude.{each_two, Name, same_name, Ground, Piece, Mark, course_of, runs_over, is_too_long, longest_route, IsFilled, Referent, Alignment, is_route, referent_before, Asset, Span, are_rows, Cause, Image, RouteEntry, state_of, route_entry, State, attempt, ◌>>◌, ◌>>=◌, set_route, asset_before, is_span, are_spans_of, route_before, IsSound, Makes, RouteChange, Difference, is_named, changed_refs, fits_after, route_after, entry_after, with_difference, CanDiffer, are_names_of, rerouting}
 use Rattle.lrs_measure.specs.Ordered.{insert_all}
 use Rattle.lrs_element.specs.Course.{piece_count}
 use Rattle.lrs_element.specs.Limits.{most_marks, most_pieces}

@@ -1,12 +1,14 @@
 -- The index of keys beside the list of edits.
 use Rattle.std.proofs.Common.{◌≡◌, ℕ, zero, suc, ◌+◌, ◌-◌, ◌<◌, ◌≤◌, ◌==◌, take, true, false, cond, nat_lt, List, [], ◌∷◌, ◌++◌, length, Option, Some, None, refl, sym, ap, subst, ◌∙◌, arith, length-append}
-use Rattle.std.specs.Prelude.{slice_index, slice_index_or}
+use Rattle.std.specs.Prelude.{slice_index, slice_index_or, not}
 use Rattle.std.specs.BTreeMap.{get, is_at, IsEmpty}
 use Rattle.std.specs.Map.{lookup}
 use Rattle.std.proofs.lemmas.Bool.{false≢true}
 use Rattle.std.proofs.lemmas.Bool.Decides.{nat_tests, Decides-eqb}
 use Rattle.std.proofs.lemmas.List.{take_more, length-take, length-map, get_or-map, map-append, get_or_default, get_or_append_left, get_or-append_right}
-use Rattle.lrs_verbs.specs.Prelude.{not, nat_cmp, bytes_decides, each_two, Name, same_name, Edit}
+use Rattle.std.specs.Ordering.{nat_cmp}
+use Rattle.std.specs.Cmp.Lexicographic.{bytes_decides}
+use Rattle.lrs_verbs.specs.Prelude.{each_two, Name, same_name, Edit}
 use Rattle.lrs_verbs.specs.declared.keys.KeyIndex.{KeyIndex}
 use Rattle.lrs_verbs.specs.Keys.{place_among, digest, digests, last_before, IsIndex, IsKeyPutIn, HaveSameKeys}
 use Rattle.lrs_verbs.proofs.Positions.{position-fails, position-first, each_at}

@@ -1,11 +1,14 @@
 -- Look-ups in an image, beside those in its state.
 use Rattle.std.proofs.Common.{◌≡◌, ℕ, zero, suc, ◌+◌, ◌<◌, List, [], ◌∷◌, map, length, get_or, Option, Some, None, refl, sym, ap, ◌∙◌, arith}
 use Rattle.std.specs.List.{find}
-use Rattle.std.specs.Ordering.{is_eq}
+use Rattle.std.specs.Ordering.{is_eq, nat_cmp}
 use Rattle.std.specs.FinMap.{nat_cmp-IsAntisymmetric}
 use Rattle.std.proofs.lemmas.Cmp.{nat_cmp_total}
 use Rattle.std.proofs.lemmas.List.Quantifiers.{position-Some}
-use Rattle.lrs_verbs.specs.Prelude.{is_some, option_map, nat_cmp, nat_list_cmp_total, texts_ties, Name, name_cmp, same_name, Edit, Image, RouteEntry, state_of, asset_entry, route_entry, Alignment, Link, Asset, Kind, is_named}
+use Rattle.std.specs.Prelude.{is_some}
+use Rattle.std.specs.Option.{option_map}
+use Rattle.std.specs.Cmp.Lexicographic.{nat_list_cmp_total, texts_ties}
+use Rattle.lrs_verbs.specs.Prelude.{Name, name_cmp, same_name, Edit, Image, RouteEntry, state_of, asset_entry, route_entry, Alignment, Link, Asset, Kind, is_named}
 use Rattle.lrs_machine.specs.Image.{link_entry}
 use Rattle.lrs_machine.specs.Machine.{place_of_key, line_at}
 use Rattle.lrs_machine.specs.State as state

@@ -1,11 +1,12 @@
 -- What `locate` answers on a route is what the ground machine locates.
 use Rattle.std.proofs.Common.{◌≡◌, ℕ, ◌+◌, ◌-◌, ◌*◌, ◌<◌, ◌≤◌, ◌/◌, min, Bool, true, false, cond, ◌⊎◌, inl, inr, List, [], ◌∷◌, Option, Some, None, Result, Ok, Err, refl, sym, ap, subst, ◌∙◌, arith, ℤ, pos, negsuc, ◌*ℤ◌, unsigned_abs, length}
-use Rattle.std.specs.Prelude.{◌≤ℤ◌}
+use Rattle.std.specs.Prelude.{◌≤ℤ◌, IsTrue}
 use Rattle.std.specs.List as list
 use Rattle.std.proofs.Math.Nat.{mul-div-mul_left}
 use Rattle.std.proofs.lemmas.Bool.{and_parts, eqb-true, leb-true, le-ltb, cases_Bool}
 use Rattle.std.proofs.lemmas.Int.{ints}
-use Rattle.lrs_verbs.specs.Prelude.{IsTrue, ok_or, Name, Alignment, alignment_of, Cause, RouteEntry, Image, State, Extent, extent_of, ◌>>◌, ◌>>=◌, state_of, IsSound, is_named}
+use Rattle.std.specs.Option.{ok_or}
+use Rattle.lrs_verbs.specs.Prelude.{Name, Alignment, alignment_of, Cause, RouteEntry, Image, State, Extent, extent_of, ◌>>◌, ◌>>=◌, state_of, IsSound, is_named}
 use Rattle.lrs_measure.specs.Fraction.{Fraction, IsLowest}
 use Rattle.lrs_position.specs.declared.expression.Expr.{Expr}
 use Rattle.lrs_position.specs.declared.expression.Expr.TheVariants.{Abs, Rel, Int}

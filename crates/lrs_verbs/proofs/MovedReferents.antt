@@ -1,7 +1,11 @@
 -- Referents of a route of which a stretch gets other ground: those before it stay, and those behind it move.
 use Rattle.std.proofs.Common.{◌≡◌, ℕ, ◌+◌, ◌-◌, ◌<◌, ◌≤◌, true, false, cond, ◌⊎◌, inl, inr, List, [], ◌∷◌, map, filter, length, refl, sym, ap, subst, ◌∙◌, arith}
 use Rattle.std.proofs.lemmas.Bool.{both_ways, not-true, and_parts, and_from, ltb-true, ltb-false, lt-ltb, le-ltb}
-use Rattle.lrs_verbs.specs.Prelude.{not, nat_lt, list_any, list_all, eq_by_cmp, nat_list_cmp_total, texts_ties, each_two, insert_by, name_cmp, same_name, Referent, are_referents, referent_before, RouteEntry, changed_refs}
+use Rattle.std.specs.Prelude.{not, nat_lt}
+use Rattle.std.specs.List.{list_any, list_all}
+use Rattle.std.specs.Ordering.{eq_by_cmp}
+use Rattle.std.specs.Cmp.Lexicographic.{nat_list_cmp_total, texts_ties}
+use Rattle.lrs_verbs.specs.Prelude.{each_two, insert_by, name_cmp, same_name, Referent, are_referents, referent_before, RouteEntry, changed_refs}
 use Rattle.lrs_measure.specs.Ordered.{insert_all}
 use Rattle.lrs_lanes.proofs.Members.{each_two-filter}
 use Rattle.lrs_machine.proofs.Members.{In, any_found, all_at, all_of, two_at, In-map, map_found}

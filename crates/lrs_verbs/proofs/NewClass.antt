@@ -1,7 +1,11 @@
 -- A new class.
 use Rattle.std.proofs.Common.{◌≡◌, ℕ, ◌+◌, Bool, true, false, List, length, Some, None, Ok, Err, refl, sym, ap, ◌∙◌, subst}
 use Rattle.std.proofs.lemmas.List.{append-nil}
-use Rattle.lrs_verbs.specs.Prelude.{nat_le, ◌&&◌, list_any, list_all, eq_by_cmp, nat_list_cmp_total, each_two, insert_by, Name, name_cmp, same_name, Asset, Kind, Image, contains_key, state_of, attempt, ◌>>◌, asset_before, IsSound, with_difference, IsOrderly}
+use Rattle.std.specs.Prelude.{nat_le, ◌&&◌}
+use Rattle.std.specs.List.{list_any, list_all}
+use Rattle.std.specs.Ordering.{eq_by_cmp}
+use Rattle.std.specs.Cmp.Lexicographic.{nat_list_cmp_total}
+use Rattle.lrs_verbs.specs.Prelude.{each_two, insert_by, Name, name_cmp, same_name, Asset, Kind, Image, contains_key, state_of, attempt, ◌>>◌, asset_before, IsSound, with_difference, IsOrderly}
 use Rattle.lrs_events.specs.declared.class.Class.{Class}
 use Rattle.lrs_machine.specs.declared.answer.Cause.TheVariants as cause
 use Rattle.lrs_machine.specs.declared.command.Command.TheVariants as verb

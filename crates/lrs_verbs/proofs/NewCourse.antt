@@ -1,15 +1,17 @@
 -- Checks of pieces and marks, and what they say of an image's links.
 use Rattle.std.proofs.Common.{◌≡◌, ℕ, ◌+◌, ◌-◌, ◌<◌, ◌≤◌, suc, Bool, true, false, cond, inl, inr, List, [], ◌∷◌, ◌++◌, map, length, Option, Some, None, Result, Ok, Err, refl, sym, ap, subst, ◌∙◌, arith, get_or, append_assoc}
-use Rattle.std.specs.Prelude.{is_none}
+use Rattle.std.specs.Prelude.{is_none, nat_eq, nat_lt, nat_le, not, ◌||◌, ◌&&◌, unwrap_or}
 use Rattle.std.specs.List as list
-use Rattle.std.specs.Option.{option_map_or}
+use Rattle.std.specs.Option.{option_map_or, option_map}
 use Rattle.std.specs.Cmp.{unsigned_tied}
 use Rattle.std.specs.FinMap.{find}
 use Rattle.std.proofs.lemmas.Bool.{false≢true, both_ways, and_parts, and_from, or_left, or_parts, eqb-true, lt-ltb, ltb-true, ltb-false, ne_eqb}
 use Rattle.std.proofs.lemmas.List.{append-nil}
 use Rattle.std.proofs.lemmas.List.Folds.{list_any_at}
 use Rattle.std.proofs.lemmas.List.Quantifiers.{position-Some}
-use Rattle.lrs_verbs.specs.Prelude.{nat_eq, nat_lt, nat_le, not, ◌||◌, ◌&&◌, unwrap_or, list_any, list_all, position, option_map, nat_cmp, eq_by_cmp, each_two, Link, Piece, Ground, Mark, is_route, is_route_course, have_marks, are_referents, expand, course_of, runs_over, meets, is_too_long, Cause, Image, state_of, ◌>>◌, refuse_at, differs, is_on_a_link}
+use Rattle.std.specs.List.{list_any, list_all, position}
+use Rattle.std.specs.Ordering.{nat_cmp, eq_by_cmp}
+use Rattle.lrs_verbs.specs.Prelude.{each_two, Link, Piece, Ground, Mark, is_route, is_route_course, have_marks, are_referents, expand, course_of, runs_over, meets, is_too_long, Cause, Image, state_of, ◌>>◌, refuse_at, differs, is_on_a_link}
 use Rattle.lrs_measure.specs.Lists.{is_nothing}
 use Rattle.lrs_element.specs.Limits.{most_marks, greatest_measure}
 use Rattle.lrs_element.specs.Marks.{is_out_of_order, misses_the_end, first_bad_mark, bad_mark}

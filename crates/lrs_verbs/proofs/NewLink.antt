@@ -6,7 +6,10 @@ use Rattle.std.proofs.lemmas.Bool.{and_from, or_parts}
 use Rattle.std.proofs.lemmas.Bool.Decides.{nat_tests}
 use Rattle.std.proofs.lemmas.Cmp.{nat_cmp_total}
 use Rattle.std.proofs.lemmas.List.{append-nil}
-use Rattle.lrs_verbs.specs.Prelude.{◌||◌, ◌&&◌, not, nat_eq, nat_lt, nat_le, list_any, list_all, nat_cmp, eq_by_cmp, each_two, insert_by, Link, Ground, meets, is_route_course, differs, Image, contains_key, state_of, attempt, ◌>>◌, is_on_a_link, RouteCourse, are_courses, IsSound, with_difference, IsOrderly}
+use Rattle.std.specs.Prelude.{◌||◌, ◌&&◌, not, nat_eq, nat_lt, nat_le}
+use Rattle.std.specs.List.{list_any, list_all}
+use Rattle.std.specs.Ordering.{nat_cmp, eq_by_cmp}
+use Rattle.lrs_verbs.specs.Prelude.{each_two, insert_by, Link, Ground, meets, is_route_course, differs, Image, contains_key, state_of, attempt, ◌>>◌, is_on_a_link, RouteCourse, are_courses, IsSound, with_difference, IsOrderly}
 use Rattle.lrs_machine.specs.declared.answer.Cause.TheVariants as cause
 use Rattle.lrs_machine.specs.declared.command.Command.TheVariants as verb
 use Rattle.lrs_machine.specs.Bounds.{most_routes}

@@ -3,7 +3,9 @@ use Rattle.std.proofs.Common.{◌≡◌, ℕ, ◌+◌, ◌-◌, ◌*◌, ◌<◌
 use Rattle.std.proofs.lemmas.Bool.{and_parts, and_from, or_left, eqb-true, eq-eqb, ltb-true, lt-ltb, le-leb}
 use Rattle.std.proofs.lemmas.List.{length-take}
 use Rattle.std.proofs.lemmas.List.Sums.{sum_by-cons}
-use Rattle.lrs_verbs.specs.Prelude.{◌&&◌, nat_eq, nat_lt, nat_le, slice_range, list_any, list_all, each_two, Link, Ground, longest_route, Part, B, Span, Place, is_among, places_on, is_on_a_link}
+use Rattle.std.specs.Prelude.{◌&&◌, nat_eq, nat_lt, nat_le, slice_range}
+use Rattle.std.specs.List.{list_any, list_all}
+use Rattle.lrs_verbs.specs.Prelude.{each_two, Link, Ground, longest_route, Part, B, Span, Place, is_among, places_on, is_on_a_link}
 use Rattle.lrs_events.specs.declared.side.Side.{Side}
 use Rattle.lrs_events.specs.declared.side.Side.TheVariants.{L, R}
 use Rattle.lrs_events.specs.Parts.{has_pair, has_place}

@@ -5,7 +5,12 @@ use Rattle.std.specs.FinMap.{find}
 use Rattle.std.proofs.lemmas.Bool.{false≢true, both_ways, and_parts, and_from, ltb-true, lt-ltb}
 use Rattle.std.proofs.lemmas.List.Folds.{list_all-append}
 use Rattle.std.proofs.lemmas.List.Concat.{flat_map-append}
-use Rattle.lrs_verbs.specs.Prelude.{◌&&◌, not, nat_lt, is_some, list_any, list_all, flat_map, filter_map, cons_option, option_map, option_or, ok_or, eq_by_cmp, nat_list_cmp_total, texts_ties, bytes_decides, each_two, insert_by, Name, name_cmp, same_name, Ground, Millimetre, Referent, Alignment, is_route, is_route_course, have_marks, are_referents, referent_before, Cause, Image, RouteEntry, state_of, referent_entry, referents_on, attempt, ◌>>◌, ◌>>=◌, IsSound, State, changed_refs}
+use Rattle.std.specs.Prelude.{◌&&◌, not, nat_lt, is_some}
+use Rattle.std.specs.List.{list_any, list_all, flat_map, filter_map, cons_option}
+use Rattle.std.specs.Option.{option_map, option_or, ok_or}
+use Rattle.std.specs.Ordering.{eq_by_cmp}
+use Rattle.std.specs.Cmp.Lexicographic.{nat_list_cmp_total, texts_ties, bytes_decides}
+use Rattle.lrs_verbs.specs.Prelude.{each_two, insert_by, Name, name_cmp, same_name, Ground, Millimetre, Referent, Alignment, is_route, is_route_course, have_marks, are_referents, referent_before, Cause, Image, RouteEntry, state_of, referent_entry, referents_on, attempt, ◌>>◌, ◌>>=◌, IsSound, State, changed_refs}
 use Rattle.lrs_element.specs.Course.{ground_at}
 use Rattle.lrs_position.specs.declared.expression.Expr.{Expr}
 use Rattle.lrs_position.specs.Locating.{cell}

@@ -5,7 +5,12 @@ use Rattle.std.specs.FinMap.{find}
 use Rattle.std.proofs.lemmas.Bool.{false≢true, both_ways, and_parts, and_from, le-leb}
 use Rattle.std.proofs.lemmas.List.{append-nil, length-map}
 use Rattle.std.proofs.lemmas.List.Folds.{list_all-map, flat_map-map}
-use Rattle.lrs_verbs.specs.Prelude.{nat_le, ◌||◌, ◌&&◌, not, list_any, list_all, position, flat_map, filter_map, AllByRecursion, option_map, eq_by_cmp, nat_list_cmp_total, each_two, Name, name_cmp, same_name, insert_by, Piece, Ground, Mark, Millimetre, expand, course_of, runs_over, meets, is_too_long, IsFilled, is_route_course, have_marks, are_referents, Referent, Place, differs, holds_by_spans, Cause, Image, RouteEntry, contains_key, state_of, route_entry, referent_entry, referents_on, holds_on, State, attempt, refuse_at, ◌>>◌, ◌>>=◌, set_route, RouteCourse, is_on_a_link, are_courses, are_spans_of, route_before, IsSound, no_difference, with_difference, IsOrderly, is_run_once}
+use Rattle.std.specs.Prelude.{nat_le, ◌||◌, ◌&&◌, not}
+use Rattle.std.specs.List.{list_any, list_all, position, flat_map, filter_map, AllByRecursion}
+use Rattle.std.specs.Option.{option_map}
+use Rattle.std.specs.Ordering.{eq_by_cmp}
+use Rattle.std.specs.Cmp.Lexicographic.{nat_list_cmp_total}
+use Rattle.lrs_verbs.specs.Prelude.{each_two, Name, name_cmp, same_name, insert_by, Piece, Ground, Mark, Millimetre, expand, course_of, runs_over, meets, is_too_long, IsFilled, is_route_course, have_marks, are_referents, Referent, Place, differs, holds_by_spans, Cause, Image, RouteEntry, contains_key, state_of, route_entry, referent_entry, referents_on, holds_on, State, attempt, refuse_at, ◌>>◌, ◌>>=◌, set_route, RouteCourse, is_on_a_link, are_courses, are_spans_of, route_before, IsSound, no_difference, with_difference, IsOrderly, is_run_once}
 use Rattle.lrs_element.specs.Course.{is_at}
 use Rattle.lrs_lanes.proofs.Inserted.{length-insert_by}
 use Rattle.lrs_machine.specs.declared.answer.Cause.TheVariants as cause

@@ -1,7 +1,9 @@
 -- A row of an asset that has no row comes among the rows of a route.
 use Rattle.std.proofs.Common.{◌≡◌, ℕ, ◌<◌, Bool, true, ◌⊎◌, inl, inr, List, sym, ap}
 use Rattle.std.proofs.lemmas.Bool.{and_parts, and_from, or_left, or_right, cases_order, ne_eqb}
-use Rattle.lrs_verbs.specs.Prelude.{◌||◌, ◌&&◌, not, nat_eq, nat_lt, list_all, each_two, insert_by, same_name, Span, span_before, are_rows}
+use Rattle.std.specs.Prelude.{◌||◌, ◌&&◌, not, nat_eq, nat_lt}
+use Rattle.std.specs.List.{list_all}
+use Rattle.lrs_verbs.specs.Prelude.{each_two, insert_by, same_name, Span, span_before, are_rows}
 use Rattle.lrs_events.specs.Spans.{same_side, are_apart, is_row}
 use Rattle.lrs_canonical.proofs.Changing.{spans_strict}
 use Rattle.lrs_canonical.proofs.Rows.{NameCases, name_cases, before, same, behind, begins_class, begins_asset, first_begins}

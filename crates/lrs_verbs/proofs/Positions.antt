@@ -1,13 +1,13 @@
 -- Where an element is first found, as its list grows.
 use Rattle.std.proofs.Common.{◌≡◌, ℕ, ◌+◌, ◌<◌, ◌≤◌, suc, zero, take, Bool, true, false, cond, List, [], ◌∷◌, ◌++◌, map, length, Option, Some, None, refl, sym, ap, ◌∙◌, arith, length-append}
-use Rattle.std.specs.Prelude.{slice_index_or}
-use Rattle.std.specs.List.{position_or_len, prefix_len}
+use Rattle.std.specs.Prelude.{slice_index_or, ◌&&◌, nat_eq, nat_lt, not}
+use Rattle.std.specs.List.{position_or_len, prefix_len, position, list_all}
 use Rattle.std.proofs.lemmas.Bool.{and_parts, and_from}
 use Rattle.std.proofs.lemmas.Bool.Decides.{nat_tests}
 use Rattle.std.proofs.lemmas.List.{length-map}
 use Rattle.std.proofs.lemmas.List.Folds.{prefix_len-append}
 use Rattle.std.proofs.lemmas.List.Sums.{prefix_len-le-length}
-use Rattle.lrs_verbs.specs.Prelude.{◌&&◌, nat_eq, nat_lt, not, position, list_all, each_two}
+use Rattle.lrs_verbs.specs.Prelude.{each_two}
 
 abbrev pick : ℕ → ℕ → Option ℕ
 pick n len = cond (nat_lt n len) (Some n) None

@@ -1,9 +1,12 @@
 -- A stretch of a route gets other ground.
 use Rattle.std.proofs.Common.{◌≡◌, ℕ, ◌+◌, ◌-◌, ◌≤◌, Bool, true, false, cond, ◌⊎◌, inl, inr, List, [], ◌∷◌, ◌++◌, map, take, drop, length, Option, Some, None, Ok, refl, sym, ap, subst, ◌∙◌}
-use Rattle.std.specs.List.{find}
+use Rattle.std.specs.List.{find, list_any, list_all, cons_option}
 use Rattle.std.proofs.lemmas.Bool.{false≢true, both_ways, not-true, and_parts, and_from, or_left, or_right, cases_Bool, ltb-true}
 use Rattle.std.proofs.lemmas.List.Folds.{list_any-append}
-use Rattle.lrs_verbs.specs.Prelude.{◌||◌, ◌&&◌, not, is_some, nat_lt, slice_get, slice_range, unwrap_or, list_any, list_all, cons_option, option_map, option_or, bytes_decides, each_two, Name, same_name, Ground, Piece, Mark, Millimetre, course_of, expand, runs_over, meets, is_run_once, Referent, is_route, is_route_course, have_marks, are_referents, referent_before, differs, is_within, Image, RouteEntry, state_of, referent_entry, referents_on, set_route, are_spans_of, route_before, IsSound, State, Makes, RouteChange, Difference, is_named, changed_refs, fits_after, route_after, entry_after, with_difference, CanDiffer, are_names_of, rerouting}
+use Rattle.std.specs.Prelude.{◌||◌, ◌&&◌, not, is_some, nat_lt, slice_get, slice_range, unwrap_or}
+use Rattle.std.specs.Option.{option_map, option_or}
+use Rattle.std.specs.Cmp.Lexicographic.{bytes_decides}
+use Rattle.lrs_verbs.specs.Prelude.{each_two, Name, same_name, Ground, Piece, Mark, Millimetre, course_of, expand, runs_over, meets, is_run_once, Referent, is_route, is_route_course, have_marks, are_referents, referent_before, differs, is_within, Image, RouteEntry, state_of, referent_entry, referents_on, set_route, are_spans_of, route_before, IsSound, State, Makes, RouteChange, Difference, is_named, changed_refs, fits_after, route_after, entry_after, with_difference, CanDiffer, are_names_of, rerouting}
 use Rattle.lrs_element.specs.Course.{is_at}
 use Rattle.lrs_index.proofs.Pieces.{across, behind}
 use Rattle.lrs_realign.specs.Realigning.{IsRealigned}

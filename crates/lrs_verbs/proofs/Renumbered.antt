@@ -1,9 +1,10 @@
 -- A route under another name.
 use Rattle.std.proofs.Common.{◌≡◌, ℕ, true, false, cond, List, length, Option, Some, None, Result, Ok, Err, refl, sym, ap, subst, ◌∙◌}
-use Rattle.std.specs.Prelude.{is_none}
-use Rattle.std.specs.List.{find}
+use Rattle.std.specs.Prelude.{is_none, is_some}
+use Rattle.std.specs.List.{find, list_any, AllByRecursion}
 use Rattle.std.proofs.lemmas.Bool.{false≢true}
-use Rattle.lrs_verbs.specs.Prelude.{is_some, list_any, AllByRecursion, option_map, ok_or, Name, same_name, Piece, course_of, runs_over, IsFilled, Alignment, Cause, Image, RouteEntry, state_of, route_entry, State, attempt, ◌>>◌, ◌>>=◌, set_route, contains_key, IsSound, Makes, RouteChange, is_named}
+use Rattle.std.specs.Option.{option_map, ok_or}
+use Rattle.lrs_verbs.specs.Prelude.{Name, same_name, Piece, course_of, runs_over, IsFilled, Alignment, Cause, Image, RouteEntry, state_of, route_entry, State, attempt, ◌>>◌, ◌>>=◌, set_route, contains_key, IsSound, Makes, RouteChange, is_named}
 use Rattle.lrs_element.specs.Marks.{bad_mark}
 use Rattle.lrs_machine.specs.declared.answer.Cause.TheVariants as cause
 use Rattle.lrs_machine.specs.declared.command.Command.TheVariants as verb

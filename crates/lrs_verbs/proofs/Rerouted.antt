@@ -1,8 +1,9 @@
 -- Plans of routes that keep their ground, their referents and their rows.
 use Rattle.std.proofs.Common.{◌≡◌, true, List, [], ◌∷◌, filter, Option, Some, refl, ap, ◌∙◌}
-use Rattle.std.specs.List.{find}
+use Rattle.std.specs.List.{find, list_all}
 use Rattle.std.proofs.lemmas.Bool.{and_from, and_parts}
-use Rattle.lrs_verbs.specs.Prelude.{◌&&◌, length, unwrap_or, list_all, Name, Mark, is_route, is_route_course, have_marks, are_referents, are_rows, Image, RouteEntry, is_span, are_spans_of, IsSound, RouteChange, is_named, changed_refs, fits_after, route_after, spans_after, entry_after}
+use Rattle.std.specs.Prelude.{◌&&◌, length, unwrap_or}
+use Rattle.lrs_verbs.specs.Prelude.{Name, Mark, is_route, is_route_course, have_marks, are_referents, are_rows, Image, RouteEntry, is_span, are_spans_of, IsSound, RouteChange, is_named, changed_refs, fits_after, route_after, spans_after, entry_after}
 use Rattle.lrs_machine.proofs.Members.{all_at}
 use Rattle.lrs_sound.proofs.Fitting.{fits}
 use Rattle.lrs_keep.specs.Change.{CanBecome}

@@ -1,6 +1,9 @@
 -- The checks of a retirement, one after another.
 use Rattle.std.proofs.Common.{◌≡◌, ℕ, Bool, true, false, Option, Some, None, Result, Ok, Err, ap, ◌∙◌}
-use Rattle.lrs_verbs.specs.Prelude.{◌||◌, not, list_any, ok_or, Name, Alignment, Kind, B, places_on, Cause, ◌>>=◌, ◌>>◌, Extent, extent_of, part_of, attempt, State, Retired}
+use Rattle.std.specs.Prelude.{◌||◌, not}
+use Rattle.std.specs.List.{list_any}
+use Rattle.std.specs.Option.{ok_or}
+use Rattle.lrs_verbs.specs.Prelude.{Name, Alignment, Kind, B, places_on, Cause, ◌>>=◌, ◌>>◌, Extent, extent_of, part_of, attempt, State, Retired}
 use Rattle.lrs_position.specs.Expressions.{Ends}
 use Rattle.lrs_machine.specs.declared.answer.Cause.TheVariants as cause
 use Rattle.lrs_machine.specs.declared.command.Command.TheVariants as verb

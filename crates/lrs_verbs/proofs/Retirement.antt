@@ -1,8 +1,9 @@
 -- The plan of a retirement: its refusals, and what it takes away.
 use Rattle.std.proofs.Common.{◌≡◌, ℕ, ◌+◌, ◌≤◌, Bool, true, false, length, Option, Some, None, Ok, Err, refl, sym, ap, subst, ◌∙◌}
-use Rattle.std.specs.List.{find}
-use Rattle.std.specs.Option.{option_and_then}
-use Rattle.lrs_verbs.specs.Prelude.{◌||◌, not, list_any, option_map, Name, alignment_of, Asset, Kind, B, places_on, Removal, IsRemoval, IsPlan, Cause, Image, RouteEntry, state_of, asset_entry, route_entry, ◌>>◌, Extent, part_of, extent_of, attempt, IsSound, Retired, is_named}
+use Rattle.std.specs.List.{find, list_any}
+use Rattle.std.specs.Option.{option_and_then, option_map}
+use Rattle.std.specs.Prelude.{◌||◌, not}
+use Rattle.lrs_verbs.specs.Prelude.{Name, alignment_of, Asset, Kind, B, places_on, Removal, IsRemoval, IsPlan, Cause, Image, RouteEntry, state_of, asset_entry, route_entry, ◌>>◌, Extent, part_of, extent_of, attempt, IsSound, Retired, is_named}
 use Rattle.lrs_measure.specs.Lists.{is_nothing}
 use Rattle.lrs_position.specs.Expressions.{Ends}
 use Rattle.lrs_machine.specs.declared.answer.Cause.TheVariants as cause

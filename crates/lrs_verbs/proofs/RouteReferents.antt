@@ -1,11 +1,12 @@
 -- An image in which the referents of one route change, and nothing else.
 use Rattle.std.proofs.Common.{◌≡◌, ℕ, ◌+◌, Bool, true, List, length, Option, Some, Ok, refl, sym, ap, subst, ◌∙◌}
-use Rattle.std.specs.List.{find}
+use Rattle.std.specs.List.{find, list_all, flat_map}
 use Rattle.std.specs.FinMap as entries
 use Rattle.std.proofs.lemmas.Bool.{and_parts, and_from}
 use Rattle.std.proofs.lemmas.List.{append-nil}
 use Rattle.std.proofs.lemmas.List.Folds.{list_all-map, flat_map-map}
-use Rattle.lrs_verbs.specs.Prelude.{list_all, flat_map, option_map, each_two, Name, name_cmp, insert_by, Millimetre, is_route, is_route_course, have_marks, are_referents, Place, are_rows, holds_by_spans, Command, Image, RouteEntry, state_of, route_entry, referents_on, holds_on, attempt, are_courses, are_spans_of, is_span, route_before, IsSound, RouteChange, changed_refs, entry_after, is_named, without, with_difference, CanDiffer, are_names_of, IsOrderly}
+use Rattle.std.specs.Option.{option_map}
+use Rattle.lrs_verbs.specs.Prelude.{each_two, Name, name_cmp, insert_by, Millimetre, is_route, is_route_course, have_marks, are_referents, Place, are_rows, holds_by_spans, Command, Image, RouteEntry, state_of, route_entry, referents_on, holds_on, attempt, are_courses, are_spans_of, is_span, route_before, IsSound, RouteChange, changed_refs, entry_after, is_named, without, with_difference, CanDiffer, are_names_of, IsOrderly}
 use Rattle.lrs_measure.specs.Ordered.{insert_some}
 use Rattle.lrs_machine.specs.Sound.{RouteReferents, RouteSpans, are_all_marks, are_all_referents, referents_of, spans_of}
 use Rattle.lrs_machine.proofs.Members.{In, In-map, all_at}

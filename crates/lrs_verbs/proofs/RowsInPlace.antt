@@ -2,7 +2,9 @@
 use Rattle.std.proofs.Common.{◌≡◌, true, List, filter, Option, Some, refl, sym, ap, ◌∙◌}
 use Rattle.std.specs.List as list
 use Rattle.std.specs.FinMap.{find}
-use Rattle.lrs_verbs.specs.Prelude.{flat_map, option_map, each_two, insert_by, Name, name_cmp, is_route, Asset, Part, Gone, Span, span_before, are_rows, RouteEntry, Image, state_of, referents_on, route_before, RouteChange, Difference, no_difference, is_named, without, entry_after, fits_after, CanDiffer}
+use Rattle.std.specs.List.{flat_map}
+use Rattle.std.specs.Option.{option_map}
+use Rattle.lrs_verbs.specs.Prelude.{each_two, insert_by, Name, name_cmp, is_route, Asset, Part, Gone, Span, span_before, are_rows, RouteEntry, Image, state_of, referents_on, route_before, RouteChange, Difference, no_difference, is_named, without, entry_after, fits_after, CanDiffer}
 use Rattle.lrs_measure.specs.Ordered.{insert_some}
 use Rattle.lrs_events.specs.Changes.{changed}
 use Rattle.lrs_lanes.proofs.Members.{filter_all}

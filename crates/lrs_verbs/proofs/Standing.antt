@@ -7,7 +7,12 @@ use Rattle.std.proofs.lemmas.List.Folds.{list_any-append}
 use Rattle.std.proofs.lemmas.Option.{slice_get_past}
 use Rattle.std.proofs.lemmas.List.Elements.{filter_map-append}
 use Rattle.std.proofs.lemmas.List.Concat.{flat_map-append}
-use Rattle.lrs_verbs.specs.Prelude.{◌||◌, is_some, slice_get, filter_map, flat_map, list_any, option_or, option_map, eq_by_cmp, nat_list_cmp_total, texts_ties, bytes_decides, Name, name_cmp, same_name, Ground, Millimetre, Referent, RouteEntry, referent_entry, referents_on}
+use Rattle.std.specs.Prelude.{◌||◌, is_some, slice_get}
+use Rattle.std.specs.List.{filter_map, flat_map, list_any}
+use Rattle.std.specs.Option.{option_or, option_map}
+use Rattle.std.specs.Ordering.{eq_by_cmp}
+use Rattle.std.specs.Cmp.Lexicographic.{nat_list_cmp_total, texts_ties, bytes_decides}
+use Rattle.lrs_verbs.specs.Prelude.{Name, name_cmp, same_name, Ground, Millimetre, Referent, RouteEntry, referent_entry, referents_on}
 use Rattle.lrs_verbs.specs.declared.plan.ReferentPlace.{ReferentPlace}
 use Rattle.lrs_verbs.specs.Changes.{with_referent, without_referent, IsNewReferent}
 use Rattle.lrs_verbs.specs.Places.{Places, referent_among, IsPlaced, HaveCome}

@@ -4,7 +4,9 @@ use Rattle.std.specs.List as list
 use Rattle.std.specs.Option.{option_map_or}
 use Rattle.std.proofs.lemmas.Bool.{and_parts, or_left}
 use Rattle.std.proofs.lemmas.List.{append-nil}
-use Rattle.lrs_verbs.specs.Prelude.{◌&&◌, not, slice_range, bytes_decides, insert_by, Name, same_name, Ground, Asset, Kind, Part, Gone, Span, Place, is_among, places_on, span_before, holds_by_spans, Removal, is_within, IsRemoval, IsPlan, Entry, RouteEntry, Image, Retired, state_of, asset_entry, Extent, attempt, route_before, asset_before, IsSound, Difference, is_named, without, with_difference, AreGone, IsOrderly}
+use Rattle.std.specs.Prelude.{◌&&◌, not, slice_range}
+use Rattle.std.specs.Cmp.Lexicographic.{bytes_decides}
+use Rattle.lrs_verbs.specs.Prelude.{insert_by, Name, same_name, Ground, Asset, Kind, Part, Gone, Span, Place, is_among, places_on, span_before, holds_by_spans, Removal, is_within, IsRemoval, IsPlan, Entry, RouteEntry, Image, Retired, state_of, asset_entry, Extent, attempt, route_before, asset_before, IsSound, Difference, is_named, without, with_difference, AreGone, IsOrderly}
 use Rattle.lrs_measure.specs.Ordered.{insert_all}
 use Rattle.lrs_events.specs.Changes.{changed, changed_rows, without_rows}
 use Rattle.lrs_events.specs.Members.{has_side}

@@ -5,7 +5,10 @@ use Rattle.std.proofs.Math.Bool.{and-true}
 use Rattle.std.proofs.lemmas.Bool.{false≢true, both_ways, and_parts, and_from, or_cases, cases_Bool, eqb-true, eq-eqb}
 use Rattle.std.proofs.lemmas.List.{append-nil}
 use Rattle.std.proofs.lemmas.List.Folds.{list_all-map, list_any-append}
-use Rattle.lrs_verbs.specs.Prelude.{◌||◌, ◌&&◌, not, nat_eq, slice_get, slice_range, list_any, list_all, bytes_decides, each_two, insert_by, Name, name_cmp, same_name, Ground, meets, Asset, Gone, B, Span, Place, places_on, is_among, differs, holds_by_spans, Removal, IsRemoval, IsPlan, Command, Image, RouteEntry, state_of, holds_on, route_entry, referents_on, attempt, route_before, are_spans_of, are_courses, IsSound, RouteCourse, without, with_difference, IsOrderly, AreGone}
+use Rattle.std.specs.Prelude.{◌||◌, ◌&&◌, not, nat_eq, slice_get, slice_range}
+use Rattle.std.specs.List.{list_any, list_all}
+use Rattle.std.specs.Cmp.Lexicographic.{bytes_decides}
+use Rattle.lrs_verbs.specs.Prelude.{each_two, insert_by, Name, name_cmp, same_name, Ground, meets, Asset, Gone, B, Span, Place, places_on, is_among, differs, holds_by_spans, Removal, IsRemoval, IsPlan, Command, Image, RouteEntry, state_of, holds_on, route_entry, referents_on, attempt, route_before, are_spans_of, are_courses, IsSound, RouteCourse, without, with_difference, IsOrderly, AreGone}
 use Rattle.lrs_element.specs.Course.{is_at}
 use Rattle.lrs_events.specs.declared.side.Side.{Side}
 use Rattle.lrs_events.specs.declared.side.LinkSide.{LinkSide}

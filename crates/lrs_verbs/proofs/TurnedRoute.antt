@@ -1,9 +1,11 @@
 -- A route from its other end.
 use Rattle.std.proofs.Common.{◌≡◌, ℕ, Bool, true, cond, inl, inr, List, [], ◌∷◌, map, filter, length, Some, None, Ok, Err, refl, sym, ap, subst, ◌∙◌}
-use Rattle.std.specs.Prelude.{◌⊎◌}
-use Rattle.std.specs.List.{find}
+use Rattle.std.specs.Prelude.{◌⊎◌, ◌&&◌, not, nat_lt, nat_le, nat_eq, unwrap_or}
+use Rattle.std.specs.List.{find, list_any, list_all}
 use Rattle.std.proofs.lemmas.Bool.{and_parts}
-use Rattle.lrs_verbs.specs.Prelude.{◌&&◌, not, nat_lt, nat_le, nat_eq, unwrap_or, list_any, list_all, option_map, ok_or, nat_list_cmp_total, bytes_decides, each_two, Name, same_name, Referent, Alignment, is_route, referent_before, Asset, Span, has_row, are_rows, span_before, end_by, Image, RouteEntry, state_of, route_entry, attempt, ◌>>=◌, set_route, is_span, are_spans_of, IsSound, Makes, RouteChange, is_named, changed_refs, fits_after, route_after, are_names_of, rerouting, IsPlan}
+use Rattle.std.specs.Option.{option_map, ok_or}
+use Rattle.std.specs.Cmp.Lexicographic.{nat_list_cmp_total, bytes_decides}
+use Rattle.lrs_verbs.specs.Prelude.{each_two, Name, same_name, Referent, Alignment, is_route, referent_before, Asset, Span, has_row, are_rows, span_before, end_by, Image, RouteEntry, state_of, route_entry, attempt, ◌>>=◌, set_route, is_span, are_spans_of, IsSound, Makes, RouteChange, is_named, changed_refs, fits_after, route_after, are_names_of, rerouting, IsPlan}
 use Rattle.lrs_measure.specs.Ordered.{insert_all}
 use Rattle.lrs_element.specs.Course.{turned}
 use Rattle.lrs_element.specs.Marks.{mirrored}

@@ -1,5 +1,7 @@
 -- What a plan changes of the ground that routes run over, and of where referents stand.
-use Rattle.lrs_verbs.specs.Prelude.{◌≡◌, ◌||◌, true, false, if◌then◌else◌, List, Option, Some, None, is_some, list_any, AllByRecursion, Name, same_name, Millimetre, course_of, runs_over, IsFilled, is_run_once, RouteEntry}
+use Rattle.std.specs.Prelude.{◌≡◌, ◌||◌, true, false, if◌then◌else◌, List, Option, Some, None, is_some}
+use Rattle.std.specs.List.{list_any, AllByRecursion}
+use Rattle.lrs_verbs.specs.Prelude.{Name, same_name, Millimetre, course_of, runs_over, IsFilled, is_run_once, RouteEntry}
 use Rattle.lrs_index.specs.Routes.{routes_over}
 use Rattle.lrs_verbs.specs.declared.plan.GroundChange.{GroundChange}
 use Rattle.lrs_verbs.specs.declared.plan.ReferentPlace.{ReferentPlace}

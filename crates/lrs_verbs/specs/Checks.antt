@@ -1,5 +1,6 @@
 -- What checks of pieces and marks give where they pass, and the plans that verbs of routes make of it.
-use Rattle.lrs_verbs.specs.Prelude.{◌≡◌, ℕ, List, [], Some, None, Result, Ok, Name, Piece, Ground, Mark, course_of, is_too_long, Cause, RouteEntry, ◌>>◌, State, RouteChange, no_difference, rerouting}
+use Rattle.std.specs.Prelude.{◌≡◌, ℕ, List, [], Some, None, Result, Ok}
+use Rattle.lrs_verbs.specs.Prelude.{Name, Piece, Ground, Mark, course_of, is_too_long, Cause, RouteEntry, ◌>>◌, State, RouteChange, no_difference, rerouting}
 use Rattle.lrs_machine.specs.declared.answer.Cause.TheVariants as cause
 use Rattle.lrs_machine.specs.Machine.{refuse_if, check_pieces, check_marks}
 use Rattle.lrs_routes.specs.Differences.{no_change}

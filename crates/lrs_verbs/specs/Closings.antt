@@ -1,5 +1,6 @@
 -- What a close changes.
-use Rattle.lrs_verbs.specs.Prelude.{List, [], map, Some, None, Name, Piece, Referent, Gone, Difference, no_difference}
+use Rattle.std.specs.Prelude.{List, [], map, Some, None}
+use Rattle.lrs_verbs.specs.Prelude.{Name, Piece, Referent, Gone, Difference, no_difference}
 use Rattle.lrs_verbs.specs.declared.plan.Plan.{Plan}
 use Rattle.lrs_verbs.specs.Plans.{plan_of}
 

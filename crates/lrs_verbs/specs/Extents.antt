@@ -1,7 +1,7 @@
 -- Where positions are on a route of an inventory, and what lies there.
-use Rattle.std.specs.Prelude.{unsigned_abs, ⊤}
+use Rattle.std.specs.Prelude.{unsigned_abs, ⊤, ◌≡◌, ℕ, ◌≤◌, Some, Result, Ok, Err}
 use Rattle.std.specs.List.{find}
-use Rattle.lrs_verbs.specs.Prelude.{◌≡◌, ℕ, ◌≤◌, Some, Result, Ok, Err, Alignment, Cause, Image, RouteEntry, ◌>>=◌, Extent, State, is_named}
+use Rattle.lrs_verbs.specs.Prelude.{Alignment, Cause, Image, RouteEntry, ◌>>=◌, Extent, State, is_named}
 use Rattle.lrs_measure.specs.Fraction.{Fraction}
 use Rattle.lrs_position.specs.declared.expression.Expr.{Expr}
 use Rattle.lrs_position.specs.declared.locating.PlaceFault.{PlaceFault}

@@ -1,6 +1,8 @@
 -- The indexes of an image, and what is put into them and let go.
 use Rattle.std.specs.FinMap.{get}
-use Rattle.lrs_verbs.specs.Prelude.{◌≡◌, ℕ, if◌then◌else◌, Option, Some, None, option_map, Name, Millimetre, course_of, runs_over, Stretches, IsGroundOf, Image, state_of}
+use Rattle.std.specs.Prelude.{◌≡◌, ℕ, if◌then◌else◌, Option, Some, None}
+use Rattle.std.specs.Option.{option_map}
+use Rattle.lrs_verbs.specs.Prelude.{Name, Millimetre, course_of, runs_over, Stretches, IsGroundOf, Image, state_of}
 use Rattle.lrs_index.specs.Ground.{route_over, HasGained, AreWhole}
 use Rattle.lrs_verbs.specs.declared.plan.GroundChange.{GroundChange}
 use Rattle.lrs_verbs.specs.declared.plan.ReferentPlace.{ReferentPlace}

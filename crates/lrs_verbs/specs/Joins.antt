@@ -1,6 +1,7 @@
 -- A route that goes on as another.
-use Rattle.std.specs.Prelude.{◌++◌}
-use Rattle.lrs_verbs.specs.Prelude.{◌≡◌, true, nat_lt, List, [], map, length, Some, Result, Ok, list_all, each_two, Ground, Mark, is_too_long, has_row, are_rows, span_before, end_by, Cause, RouteEntry, ◌>>◌, RouteChange, spans_after}
+use Rattle.std.specs.Prelude.{◌++◌, ◌≡◌, true, nat_lt, List, [], map, length, Some, Result, Ok}
+use Rattle.std.specs.List.{list_all}
+use Rattle.lrs_verbs.specs.Prelude.{each_two, Ground, Mark, is_too_long, has_row, are_rows, span_before, end_by, Cause, RouteEntry, ◌>>◌, RouteChange, spans_after}
 use Rattle.lrs_element.specs.Limits.{most_marks}
 use Rattle.lrs_element.specs.Marks.{joined_marks, is_out_of_range}
 use Rattle.lrs_canonical.specs.Joins.{have_room, are_of_one_class, IsJoin}

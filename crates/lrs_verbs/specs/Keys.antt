@@ -1,8 +1,10 @@
 -- The places of keys among the edits, and their index.
-use Rattle.std.specs.Prelude.{◌==◌, zero, suc, slice_index}
+use Rattle.std.specs.Prelude.{◌==◌, zero, suc, slice_index, ◌≡◌, ◌<◌, ◌≤◌, ℕ, List, Option, Some, None, if◌then◌else◌, length, map}
 use Rattle.std.specs.BTreeMap.{get}
 use Rattle.std.specs.Hash.DefaultHasher as sip
-use Rattle.lrs_verbs.specs.Prelude.{◌≡◌, ◌<◌, ◌≤◌, ℕ, List, Option, Some, None, if◌then◌else◌, length, map, position, nat_cmp, Name, same_name, Edit}
+use Rattle.std.specs.List.{position}
+use Rattle.std.specs.Ordering.{nat_cmp}
+use Rattle.lrs_verbs.specs.Prelude.{Name, same_name, Edit}
 use Rattle.lrs_verbs.specs.declared.keys.KeyIndex.{KeyIndex}
 
 -- at which place a key is

@@ -1,6 +1,9 @@
 -- Where referents stand, and how a plan changes it.
 use Rattle.std.specs.FinMap.{FinMap, get, find}
-use Rattle.lrs_verbs.specs.Prelude.{◌≡◌, List, Option, flat_map, option_or, Name, name_cmp, Millimetre, RouteEntry, referents_on}
+use Rattle.std.specs.Prelude.{◌≡◌, List, Option}
+use Rattle.std.specs.List.{flat_map}
+use Rattle.std.specs.Option.{option_or}
+use Rattle.lrs_verbs.specs.Prelude.{Name, name_cmp, Millimetre, RouteEntry, referents_on}
 
 -- a ground millimetre for each of some names
 abbrev pub Places : Type 0

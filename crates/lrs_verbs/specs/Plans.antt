@@ -1,6 +1,6 @@
 -- What the plan of a command says of the ground.
-use Rattle.std.specs.Prelude.{⊤}
-use Rattle.lrs_verbs.specs.Prelude.{◌≡◌, ◌+◌, ◌≤◌, [], length, None, Result, Ok, Err, Name, Millimetre, Cause, Command, Edit, Image, state_of, attempt, IsSound, Makes, Difference, no_difference, with_difference, CanDiffer}
+use Rattle.std.specs.Prelude.{⊤, ◌≡◌, ◌+◌, ◌≤◌, [], length, None, Result, Ok, Err}
+use Rattle.lrs_verbs.specs.Prelude.{Name, Millimetre, Cause, Command, Edit, Image, state_of, attempt, IsSound, Makes, Difference, no_difference, with_difference, CanDiffer}
 use Rattle.lrs_machine.specs.Bounds.{most_edits}
 use Rattle.lrs_orderly.specs.Made.{HasRoomFor}
 use Rattle.lrs_keep.specs.declared.change.Change.{Change}

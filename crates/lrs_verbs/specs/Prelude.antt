@@ -1,9 +1,4 @@
--- The words of std and of the crates below that many modules of this crate cite, passed on from one place. Declares nothing.
-pub use Rattle.std.specs.Cmp.Lexicographic.{bytes_decides, nat_list_cmp_total, texts_ties}
-pub use Rattle.std.specs.List.{list_any, list_all, flat_map, AllByRecursion, filter_map, position, cons_option}
-pub use Rattle.std.specs.Option.{option_map, ok_or, option_or}
-pub use Rattle.std.specs.Ordering.{eq_by_cmp, nat_cmp}
-pub use Rattle.std.specs.Prelude.{◌≡◌, ◌&&◌, not, nat_lt, ◌||◌, nat_eq, is_some, IfOk, None, Some, true, length, nat_le, [], map, List, ℕ, slice_range, if◌then◌else◌, ◌≤◌, IsTrue, unwrap_or, Ok, OnOk, Result, false, OnErr, Err, ◌∷◌, ◌+◌, ◌<◌, slice_get, Option}
+-- The words of the crates below that many modules of this crate cite, passed on from one place. Declares nothing. The words of std come from std itself, as a reader expects them to.
 pub use Rattle.lrs_canonical.specs.Joins.{end_by}
 pub use Rattle.lrs_canonical.specs.Removals.{is_within, IsRemoval}
 pub use Rattle.lrs_canonical.specs.declared.removing.Removal.{Removal}

@@ -1,6 +1,7 @@
 -- What the checks of a realignment give, and what it changes.
-use Rattle.std.specs.Prelude.{◌-◌, filter}
-use Rattle.lrs_verbs.specs.Prelude.{◌≡◌, ℕ, ◌+◌, ◌||◌, ◌&&◌, true, false, nat_lt, nat_eq, List, [], map, length, slice_range, Option, Some, None, Result, Ok, AllByRecursion, list_all, each_two, Name, Ground, Piece, Mark, course_of, is_too_long, IsFilled, Referent, has_row, Span, are_rows, span_before, holds_by_spans, is_within, Cause, RouteEntry, ◌>>=◌, ◌>>◌, State, Difference, spans_after, AreGone, rerouting}
+use Rattle.std.specs.Prelude.{◌-◌, filter, ◌≡◌, ℕ, ◌+◌, ◌||◌, ◌&&◌, true, false, nat_lt, nat_eq, List, [], map, length, slice_range, Option, Some, None, Result, Ok}
+use Rattle.std.specs.List.{AllByRecursion, list_all}
+use Rattle.lrs_verbs.specs.Prelude.{each_two, Name, Ground, Piece, Mark, course_of, is_too_long, IsFilled, Referent, has_row, Span, are_rows, span_before, holds_by_spans, is_within, Cause, RouteEntry, ◌>>=◌, ◌>>◌, State, Difference, spans_after, AreGone, rerouting}
 use Rattle.lrs_measure.specs.Lists.{is_nothing}
 use Rattle.lrs_canonical.specs.Removals.{IsThat}
 use Rattle.lrs_realign.specs.Realigning.{IsRealigned}

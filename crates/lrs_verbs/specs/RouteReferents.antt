@@ -1,5 +1,6 @@
 -- What changes where the referents of one route change, and nothing else.
-use Rattle.lrs_verbs.specs.Prelude.{[], ◌∷◌, Some, None, Name, Millimetre, Referent, RouteChange, Difference, no_difference}
+use Rattle.std.specs.Prelude.{[], ◌∷◌, Some, None}
+use Rattle.lrs_verbs.specs.Prelude.{Name, Millimetre, Referent, RouteChange, Difference, no_difference}
 use Rattle.lrs_keep.specs.declared.change.ReferentChange.{ReferentChange}
 use Rattle.lrs_verbs.specs.declared.plan.Plan.{Plan}
 use Rattle.lrs_verbs.specs.declared.plan.ReferentPlaces.{ReferentPlaces}

@@ -1,6 +1,6 @@
 -- What an asset changes that takes the places of others of its class.
-use Rattle.std.specs.Prelude.{◌++◌}
-use Rattle.lrs_verbs.specs.Prelude.{◌≡◌, ℕ, ◌&&◌, List, [], ◌∷◌, Some, Name, same_name, Ground, Part, Gone, Span, holds_by_spans, Removal, is_within, Entry, Extent, Retired, Difference, RouteChange, AreGone}
+use Rattle.std.specs.Prelude.{◌++◌, ◌≡◌, ℕ, ◌&&◌, List, [], ◌∷◌, Some}
+use Rattle.lrs_verbs.specs.Prelude.{Name, same_name, Ground, Part, Gone, Span, holds_by_spans, Removal, is_within, Entry, Extent, Retired, Difference, RouteChange, AreGone}
 use Rattle.lrs_events.specs.declared.change.SpanChange.{SpanChange}
 use Rattle.lrs_events.specs.Members.{has_side}
 use Rattle.lrs_canonical.specs.Removals.{Taken}

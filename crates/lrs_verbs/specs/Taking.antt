@@ -1,5 +1,6 @@
 -- What an edit takes away on a route: rows that go and come there, and the rows of a ledger for what is handed back.
-use Rattle.lrs_verbs.specs.Prelude.{◌≡◌, ℕ, ◌&&◌, nat_eq, List, Some, Name, same_name, Asset, Kind, Gone, holds_by_spans, Removal, is_within, Image, RouteEntry, state_of, asset_entry, Extent, RouteChange, Difference, no_difference, AreGone}
+use Rattle.std.specs.Prelude.{◌≡◌, ℕ, ◌&&◌, nat_eq, List, Some}
+use Rattle.lrs_verbs.specs.Prelude.{Name, same_name, Asset, Kind, Gone, holds_by_spans, Removal, is_within, Image, RouteEntry, state_of, asset_entry, Extent, RouteChange, Difference, no_difference, AreGone}
 use Rattle.lrs_events.specs.declared.change.SpanChange.{SpanChange}
 use Rattle.lrs_canonical.specs.Removals.{Taken}
 use Rattle.lrs_machine.specs.Register.{get}

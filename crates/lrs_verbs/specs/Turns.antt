@@ -1,5 +1,7 @@
 -- A route seen from its other end, as its plan makes it.
-use Rattle.lrs_verbs.specs.Prelude.{◌≡◌, true, false, map, length, Some, list_all, each_two, is_too_long, has_row, are_rows, span_before, RouteEntry, RouteChange, spans_after}
+use Rattle.std.specs.Prelude.{◌≡◌, true, false, map, length, Some}
+use Rattle.std.specs.List.{list_all}
+use Rattle.lrs_verbs.specs.Prelude.{each_two, is_too_long, has_row, are_rows, span_before, RouteEntry, RouteChange, spans_after}
 use Rattle.lrs_element.specs.Course.{turned}
 use Rattle.lrs_element.specs.Marks.{mirrored}
 use Rattle.lrs_canonical.specs.Turns.{IsTurned}

@@ -1,6 +1,6 @@
 -- What an entry asks for: a stretch of a route, for an asset of a class of a kind.
-use Rattle.std.specs.Prelude.{Bool}
-use Rattle.lrs_verbs.specs.Prelude.{◌≡◌, ◌<◌, ◌&&◌, not, length, Ok, Err, Kind, places_on, Entry, Image, RouteEntry, state_of, Extent, part_of}
+use Rattle.std.specs.Prelude.{Bool, ◌≡◌, ◌<◌, ◌&&◌, not, length, Ok, Err}
+use Rattle.lrs_verbs.specs.Prelude.{Kind, places_on, Entry, Image, RouteEntry, state_of, Extent, part_of}
 use Rattle.lrs_report.specs.Segments.{is_exclusive}
 use Rattle.lrs_machine.specs.Machine.{wanted_of}
 use Rattle.lrs_verbs.specs.declared.plan.Stop.{Stop}

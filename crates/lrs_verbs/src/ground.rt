@@ -1,6 +1,8 @@
 //! The index of the ground that routes run over, as routes come, go and change.
 
-ghost use Rattle.lrs_verbs.specs.Prelude.{◌≡◌, true, IfOk, OnOk, OnErr, flat_map, Millimetre, Stretches, is_run_once, IsGroundOf};
+ghost use Rattle.std.specs.Prelude.{◌≡◌, true, IfOk, OnOk, OnErr};
+ghost use Rattle.std.specs.List.{flat_map};
+ghost use Rattle.lrs_verbs.specs.Prelude.{Millimetre, Stretches, is_run_once, IsGroundOf};
 ghost use Rattle.lrs_index.specs.Ground.{route_over};
 ghost use Rattle.lrs_verbs.specs.Changes.{CanChange, CanChangeGround};
 ghost use Rattle.lrs_verbs.specs.Indexes.{IsReady, IsReadyFor, AreWholeFor, made_by, ground_made};

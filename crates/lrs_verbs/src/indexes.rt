@@ -2,7 +2,9 @@
 //! they run over, and referents by their names.
 
 ghost use Rattle.std.specs.FinMap as map;
-ghost use Rattle.lrs_verbs.specs.Prelude.{◌≡◌, None, IfOk, OnOk, OnErr, if◌then◌else◌, list_any, Name, same_name, Millimetre, IsSound};
+ghost use Rattle.std.specs.Prelude.{◌≡◌, None, IfOk, OnOk, OnErr, if◌then◌else◌};
+ghost use Rattle.std.specs.List.{list_any};
+ghost use Rattle.lrs_verbs.specs.Prelude.{Name, same_name, Millimetre, IsSound};
 ghost use Rattle.lrs_index.specs.Ground.{route_over};
 ghost use Rattle.lrs_verbs.specs.Changes.{CanChangeGround, IsNewReferent};
 ghost use Rattle.lrs_verbs.specs.Indexes.{IsIndexed, IsPutIn, TellSame, AreWholeFor, ground_made};

@@ -1,6 +1,7 @@
 //! An inventory: its image, and what is looked up in it.
 
-ghost use Rattle.lrs_verbs.specs.Prelude.{◌≡◌, IfOk, OnOk, OnErr, Err, Result, true, length, IsSound, image_of};
+ghost use Rattle.std.specs.Prelude.{◌≡◌, IfOk, OnOk, OnErr, Err, Result, true, length};
+ghost use Rattle.lrs_verbs.specs.Prelude.{IsSound, image_of};
 ghost use Rattle.lrs_machine.specs.declared.image.Image.{Image as ImageRows};
 ghost use Rattle.lrs_machine.specs.declared.table.Table.{Table};
 ghost use Rattle.lrs_keep.specs.Change.{apply, CanMake};

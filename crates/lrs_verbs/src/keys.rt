@@ -1,6 +1,7 @@
 //! The places of keys among the edits, found by their digests. The keys themselves stand in the edits alone.
 
-ghost use Rattle.lrs_verbs.specs.Prelude.{◌≡◌, OnOk, OnErr, IfOk, [], true, not, each_two, same_name};
+ghost use Rattle.std.specs.Prelude.{◌≡◌, OnOk, OnErr, IfOk, [], true, not};
+ghost use Rattle.lrs_verbs.specs.Prelude.{each_two, same_name};
 ghost use Rattle.lrs_verbs.specs.Keys.{digest, place_among, IsIndex, IsNewPlace, IsKeyPutIn, HaveSameKeys};
 ghost use Rattle.lrs_verbs.specs.declared.keys.KeyIndex.{KeyIndex as KeyPlaces};
 

@@ -1,6 +1,6 @@
 //! What a verb gives: what its command changes, or why it does not act.
 
-ghost use Rattle.lrs_verbs.specs.Prelude.{◌≡◌, if◌then◌else◌, Ok, Err};
+ghost use Rattle.std.specs.Prelude.{◌≡◌, if◌then◌else◌, Ok, Err};
 ghost use Rattle.lrs_verbs.specs.Plans.{no_plan};
 
 use lrs_element::Piece;

@@ -1,7 +1,9 @@
 //! The ground millimetres of referents, found by their names.
 
 ghost use Rattle.std.specs.FinMap as map;
-ghost use Rattle.lrs_verbs.specs.Prelude.{◌≡◌, OnOk, OnErr, IfOk, [], ◌∷◌, None, if◌then◌else◌, filter_map, list_any, Name, same_name, referent_entry};
+ghost use Rattle.std.specs.Prelude.{◌≡◌, OnOk, OnErr, IfOk, [], ◌∷◌, None, if◌then◌else◌};
+ghost use Rattle.std.specs.List.{filter_map, list_any};
+ghost use Rattle.lrs_verbs.specs.Prelude.{Name, same_name, referent_entry};
 ghost use Rattle.lrs_verbs.specs.Changes.{with_referent, without_referent};
 ghost use Rattle.lrs_verbs.specs.Places.{referent_among, IsPlaced, HaveCome};
 

@@ -1,8 +1,9 @@
 //! What is looked up in an inventory, in the words of the ground machine.
 
-ghost use Rattle.std.specs.Prelude.{IfSome, ◌⊎◌};
-ghost use Rattle.std.specs.List.{find};
-ghost use Rattle.lrs_verbs.specs.Prelude.{◌≡◌, ◌+◌, ℕ, OnOk, position, option_map, state_of, asset_entry, route_entry, is_named, Name, expand};
+ghost use Rattle.std.specs.Prelude.{IfSome, ◌⊎◌, ◌≡◌, ◌+◌, ℕ, OnOk};
+ghost use Rattle.std.specs.List.{find, position};
+ghost use Rattle.std.specs.Option.{option_map};
+ghost use Rattle.lrs_verbs.specs.Prelude.{state_of, asset_entry, route_entry, is_named, Name, expand};
 ghost use Rattle.lrs_machine.specs.Machine.{place_of_key, line_at, is_taken};
 ghost use Rattle.lrs_machine.specs.Register.{get};
 ghost use Rattle.lrs_index.specs.Met.{IsAmong, RunsBetween};

@@ -1,6 +1,8 @@
 //! What verbs of routes make their plans of.
 
-ghost use Rattle.lrs_verbs.specs.Prelude.{◌≡◌, IfOk, map, AllByRecursion, course_of, IsFilled};
+ghost use Rattle.std.specs.Prelude.{◌≡◌, IfOk, map};
+ghost use Rattle.std.specs.List.{AllByRecursion};
+ghost use Rattle.lrs_verbs.specs.Prelude.{course_of, IsFilled};
 ghost use Rattle.lrs_routes.specs.Differences.{no_change};
 
 use lrs_element::{Course, Piece};

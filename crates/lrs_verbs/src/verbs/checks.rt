@@ -1,8 +1,8 @@
 //! Checks that several verbs share.
 
-ghost use Rattle.std.specs.Prelude.{IfErr};
+ghost use Rattle.std.specs.Prelude.{IfErr, ◌≡◌, Some, None, IfOk};
 ghost use Rattle.std.specs.List.{find};
-ghost use Rattle.lrs_verbs.specs.Prelude.{◌≡◌, Some, None, IfOk, is_named, state_of};
+ghost use Rattle.lrs_verbs.specs.Prelude.{is_named, state_of};
 ghost use Rattle.lrs_machine.specs.declared.answer.Cause.TheVariants as cause;
 ghost use Rattle.lrs_machine.specs.Machine.{check_free, is_wrong_kind};
 ghost use Rattle.lrs_verbs.specs.Checks.{new_marks};

@@ -1,6 +1,6 @@
 //! A route goes, with what lies on it.
 
-ghost use Rattle.lrs_verbs.specs.Prelude.{◌≡◌};
+ghost use Rattle.std.specs.Prelude.{◌≡◌};
 ghost use Rattle.lrs_machine.specs.declared.command.Command.TheVariants as verb;
 ghost use Rattle.lrs_verbs.specs.Closings.{closing};
 ghost use Rattle.lrs_verbs.specs.Plans.{Plans};

@@ -1,6 +1,7 @@
 //! An asset that comes to hold places.
 
-ghost use Rattle.lrs_verbs.specs.Prelude.{◌≡◌, ◌<◌, false, if◌then◌else◌, IfOk, IsTrue, None, true, length, each_two, differs, places_on, state_of, part_of, refuse_at};
+ghost use Rattle.std.specs.Prelude.{◌≡◌, ◌<◌, false, if◌then◌else◌, IfOk, IsTrue, None, true, length};
+ghost use Rattle.lrs_verbs.specs.Prelude.{each_two, differs, places_on, state_of, part_of, refuse_at};
 ghost use Rattle.lrs_events.specs.Spans.{is_row};
 ghost use Rattle.lrs_report.specs.Segments.{is_exclusive};
 ghost use Rattle.lrs_machine.specs.declared.answer.Cause.TheVariants as cause;

@@ -1,7 +1,8 @@
 //! Two routes become one.
 
-ghost use Rattle.std.specs.Prelude.{◌++◌};
-ghost use Rattle.lrs_verbs.specs.Prelude.{◌≡◌, ◌+◌, ◌≤◌, IfOk, map, length, nat_lt, true, list_all, longest_route};
+ghost use Rattle.std.specs.Prelude.{◌++◌, ◌≡◌, ◌+◌, ◌≤◌, IfOk, map, length, nat_lt, true};
+ghost use Rattle.std.specs.List.{list_all};
+ghost use Rattle.lrs_verbs.specs.Prelude.{longest_route};
 ghost use Rattle.lrs_element.specs.Marks.{joined_marks};
 ghost use Rattle.lrs_machine.specs.declared.command.Command.TheVariants as verb;
 ghost use Rattle.lrs_routes.specs.Joining.{on_by};

@@ -1,6 +1,8 @@
 //! A stretch of a route gets other ground.
 
-ghost use Rattle.lrs_verbs.specs.Prelude.{◌≡◌, ◌+◌, ◌≤◌, IsTrue, IfOk, [], true, length, map, nat_lt, slice_range, unwrap_or, list_all, AllByRecursion, each_two, course_of, longest_route, IsFilled, differs, end_by, state_of};
+ghost use Rattle.std.specs.Prelude.{◌≡◌, ◌+◌, ◌≤◌, IsTrue, IfOk, [], true, length, map, nat_lt, slice_range, unwrap_or};
+ghost use Rattle.std.specs.List.{list_all, AllByRecursion};
+ghost use Rattle.lrs_verbs.specs.Prelude.{each_two, course_of, longest_route, IsFilled, differs, end_by, state_of};
 ghost use Rattle.lrs_machine.specs.declared.command.Command.TheVariants as verb;
 ghost use Rattle.lrs_leaving.specs.Realigning.{replaced};
 ghost use Rattle.lrs_verbs.specs.Realignments.{check_stretch, free_course, short_course, new_line, refs_on, on_from, referents_moved, realigned_plan, IsOnNewLine};

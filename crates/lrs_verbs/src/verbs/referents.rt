@@ -1,6 +1,6 @@
 //! Plans by which referents of one route change, and nothing else.
 
-ghost use Rattle.lrs_verbs.specs.Prelude.{◌≡◌, ◌∷◌, [], IfOk};
+ghost use Rattle.std.specs.Prelude.{◌≡◌, ◌∷◌, [], IfOk};
 ghost use Rattle.lrs_verbs.specs.RouteReferents.{plan_of_referents};
 
 use crate::plan::{Plan, ReferentPlaces};

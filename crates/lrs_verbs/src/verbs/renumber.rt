@@ -1,6 +1,6 @@
 //! Another name for a route.
 
-ghost use Rattle.lrs_verbs.specs.Prelude.{◌≡◌};
+ghost use Rattle.std.specs.Prelude.{◌≡◌};
 ghost use Rattle.lrs_machine.specs.declared.command.Command.TheVariants as verb;
 ghost use Rattle.lrs_verbs.specs.Checks.{renumbered};
 ghost use Rattle.lrs_verbs.specs.Plans.{Plans};

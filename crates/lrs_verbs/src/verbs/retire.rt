@@ -1,6 +1,7 @@
 //! An asset gives up what it holds on a part of a route.
 
-ghost use Rattle.lrs_verbs.specs.Prelude.{◌≡◌, ◌<◌, IsTrue, IfOk, true, each_two, differs, are_rows, IsRemoval, Retired, IsPlan};
+ghost use Rattle.std.specs.Prelude.{◌≡◌, ◌<◌, IsTrue, IfOk, true};
+ghost use Rattle.lrs_verbs.specs.Prelude.{each_two, differs, are_rows, IsRemoval, Retired, IsPlan};
 ghost use Rattle.lrs_measure.specs.Lists.{is_nothing};
 ghost use Rattle.lrs_machine.specs.declared.command.Command.TheVariants as verb;
 ghost use Rattle.lrs_verbs.specs.Plans.{Plans};

@@ -1,6 +1,8 @@
 //! A route becomes two.
 
-ghost use Rattle.lrs_verbs.specs.Prelude.{◌≡◌, ◌≤◌, IsTrue, IfOk, map, true, length, nat_eq, list_any, is_route};
+ghost use Rattle.std.specs.Prelude.{◌≡◌, ◌≤◌, IsTrue, IfOk, map, true, length, nat_eq};
+ghost use Rattle.std.specs.List.{list_any};
+ghost use Rattle.lrs_verbs.specs.Prelude.{is_route};
 ghost use Rattle.lrs_element.specs.Marks.{is_inner_mark};
 ghost use Rattle.lrs_machine.specs.declared.command.Command.TheVariants as verb;
 ghost use Rattle.lrs_routes.specs.Splitting.{back_by};

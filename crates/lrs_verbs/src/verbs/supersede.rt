@@ -1,6 +1,7 @@
 //! An asset that takes the places of others of its class.
 
-ghost use Rattle.lrs_verbs.specs.Prelude.{◌≡◌, IfOk, IsTrue, true, each_two, differs, are_rows};
+ghost use Rattle.std.specs.Prelude.{◌≡◌, IfOk, IsTrue, true};
+ghost use Rattle.lrs_verbs.specs.Prelude.{each_two, differs, are_rows};
 ghost use Rattle.lrs_events.specs.Spans.{is_row};
 ghost use Rattle.lrs_machine.specs.declared.command.Command.TheVariants as verb;
 ghost use Rattle.lrs_verbs.specs.Entering.{row_of, AreInLimits};

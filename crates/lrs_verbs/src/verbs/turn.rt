@@ -1,6 +1,7 @@
 //! A route runs the other way.
 
-ghost use Rattle.lrs_verbs.specs.Prelude.{◌≡◌, ◌≤◌, IsTrue, IfOk, Some, None, map, length, end_by, longest_route, rerouting, IsPlan};
+ghost use Rattle.std.specs.Prelude.{◌≡◌, ◌≤◌, IsTrue, IfOk, Some, None, map, length};
+ghost use Rattle.lrs_verbs.specs.Prelude.{end_by, longest_route, rerouting, IsPlan};
 ghost use Rattle.lrs_canonical.specs.Turns.{IsTurned};
 ghost use Rattle.lrs_events.specs.Changes.{changed_rows};
 ghost use Rattle.lrs_machine.specs.declared.command.Command.TheVariants as verb;

@@ -1,7 +1,6 @@
 //! What an entry asks for: the checks that `enter` and `supersede` share.
 
-ghost use Rattle.std.specs.Prelude.{IfErr};
-ghost use Rattle.lrs_verbs.specs.Prelude.{◌≡◌, ◌||◌, IfOk};
+ghost use Rattle.std.specs.Prelude.{IfErr, ◌≡◌, ◌||◌, IfOk};
 ghost use Rattle.lrs_machine.specs.Machine.{is_wrong_kind};
 ghost use Rattle.lrs_verbs.specs.Entering.{HasBegun};
 ghost use Rattle.lrs_verbs.specs.Wanted.{is_left_out, IsWanted, IsRefused};

@@ -1,6 +1,7 @@
 use denote.Bor.{Bor}
 use Rattle.std.proofs.Common.{ap, sym, ◌∙◌, Some, None}
-use Rattle.lrs_verbs.specs.Prelude.{option_map, Asset, image_of}
+use Rattle.std.specs.Option.{option_map}
+use Rattle.lrs_verbs.specs.Prelude.{Asset, image_of}
 use Rattle.lrs_keep.proofs.Tables.{assets_in_order}
 use Rattle.lrs_verbs.proofs.Known.{asset_of}
 use Rattle.lrs_verbs.proofs.inventory.Inventory.asset.Goals as goal

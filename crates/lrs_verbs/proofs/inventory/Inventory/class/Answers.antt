@@ -1,6 +1,7 @@
 use denote.Bor.{Bor}
 use Rattle.std.proofs.Common.{ap, sym, ◌∙◌, Some, None}
-use Rattle.lrs_verbs.specs.Prelude.{option_map, image_of}
+use Rattle.std.specs.Option.{option_map}
+use Rattle.lrs_verbs.specs.Prelude.{image_of}
 use Rattle.lrs_events.specs.declared.class.Class.{Class}
 use Rattle.lrs_keep.proofs.Tables.{classes_in_order}
 use Rattle.lrs_verbs.proofs.Known.{class_of}

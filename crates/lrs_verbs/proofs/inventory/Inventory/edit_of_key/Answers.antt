@@ -1,5 +1,6 @@
 use Rattle.std.proofs.Common.{◌≡◌, List, true, sym, ap, subst, ◌∙◌, Some, None}
-use Rattle.lrs_verbs.specs.Prelude.{not, each_two, same_name, Edit, image_of}
+use Rattle.std.specs.Prelude.{not}
+use Rattle.lrs_verbs.specs.Prelude.{each_two, same_name, Edit, image_of}
 use Rattle.lrs_orderly.proofs.Ordering.{sound_is_orderly}
 use Rattle.lrs_verbs.specs.Keys.{IsIndex, place_among}
 use Rattle.lrs_verbs.proofs.Known.{number_of, line_of}

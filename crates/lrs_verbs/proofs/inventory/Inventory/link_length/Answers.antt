@@ -1,6 +1,7 @@
 use denote.Bor.{Bor}
 use Rattle.std.proofs.Common.{ap, sym, ◌∙◌, Some, None}
-use Rattle.lrs_verbs.specs.Prelude.{option_map, Link, image_of}
+use Rattle.std.specs.Option.{option_map}
+use Rattle.lrs_verbs.specs.Prelude.{Link, image_of}
 use Rattle.lrs_keep.proofs.Tables.{links_in_order}
 use Rattle.lrs_verbs.proofs.Known.{link_of}
 use Rattle.lrs_verbs.proofs.inventory.Inventory.link_length.Goals as goal

@@ -1,5 +1,6 @@
 use Rattle.std.proofs.Common.{Err, subst, sym, ap, ◌∙◌}
-use Rattle.lrs_verbs.specs.Prelude.{IsTrue, alignment_of, state_of}
+use Rattle.std.specs.Prelude.{IsTrue}
+use Rattle.lrs_verbs.specs.Prelude.{alignment_of, state_of}
 use Rattle.lrs_position.specs.declared.expression.Expr.{Expr}
 use Rattle.lrs_position.specs.Expressions.{is_entered}
 use Rattle.lrs_machine.specs.Machine.{located_chainage}

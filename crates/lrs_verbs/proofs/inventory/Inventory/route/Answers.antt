@@ -1,6 +1,7 @@
 use denote.Bor.{Bor}
 use Rattle.std.proofs.Common.{◌≡◌, Option, Some, None, refl, ◌∙◌}
-use Rattle.lrs_verbs.specs.Prelude.{option_map, RouteEntry, route_entry, image_of}
+use Rattle.std.specs.Option.{option_map}
+use Rattle.lrs_verbs.specs.Prelude.{RouteEntry, route_entry, image_of}
 use Rattle.lrs_keep.proofs.Tables.{routes_in_order}
 use Rattle.lrs_verbs.proofs.Known.{row_of, route_of}
 use Rattle.lrs_verbs.proofs.inventory.Inventory.route.Goals as goal

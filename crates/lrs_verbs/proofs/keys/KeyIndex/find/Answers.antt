@@ -1,6 +1,6 @@
 use Rattle.std.proofs.Common.{◌<◌, Option, ℕ, Some, ◌∙◌, sym, ap, subst, arith}
 use Rattle.std.specs.BTreeMap.{get}
-use Rattle.lrs_verbs.specs.Prelude.{nat_cmp}
+use Rattle.std.specs.Ordering.{nat_cmp}
 use Rattle.lrs_verbs.proofs.Keyed.{past, IsCandidate, first_candidate, next_candidate, goes_back, is_place, is_nowhere}
 use Rattle.lrs_verbs.proofs.keys.KeyIndex.find.Goals as goal
 

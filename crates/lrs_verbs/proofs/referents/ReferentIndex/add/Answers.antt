@@ -1,5 +1,5 @@
 use Rattle.std.proofs.Common.{ap, sym, subst, ◌∙◌, arith}
-use Rattle.lrs_verbs.specs.Prelude.{is_some}
+use Rattle.std.specs.Prelude.{is_some}
 use Rattle.lrs_verbs.specs.Places.{Places, HaveCome}
 use Rattle.lrs_verbs.proofs.Standing.{own, comes_off, comes_known, comes_new}
 use Rattle.lrs_verbs.proofs.referents.ReferentIndex.add.Goals as goal

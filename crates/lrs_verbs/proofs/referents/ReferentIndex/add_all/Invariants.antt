@@ -1,5 +1,6 @@
 use Rattle.std.proofs.Common.{take}
-use Rattle.lrs_verbs.specs.Prelude.{filter_map, referent_entry}
+use Rattle.std.specs.List.{filter_map}
+use Rattle.lrs_verbs.specs.Prelude.{referent_entry}
 use Rattle.lrs_verbs.specs.Places.{HaveCome}
 use Rattle.lrs_verbs.proofs.referents.ReferentIndex.add_all.Given as goal
 

@@ -1,7 +1,8 @@
 use Rattle.std.proofs.Common.{List, subst}
 use Rattle.std.proofs.lemmas.List.{take_all}
 use Rattle.std.specs.FinMap.{empty}
-use Rattle.lrs_verbs.specs.Prelude.{flat_map, filter_map, Referent, RouteEntry, referents_on, referent_entry}
+use Rattle.std.specs.List.{flat_map, filter_map}
+use Rattle.lrs_verbs.specs.Prelude.{Referent, RouteEntry, referents_on, referent_entry}
 use Rattle.lrs_verbs.specs.Places.{HaveCome}
 use Rattle.lrs_verbs.proofs.Standing.{come_routes, all_placed}
 use Rattle.lrs_verbs.proofs.referents.ReferentIndex.of_routes.Goals as goal

@@ -1,6 +1,7 @@
 use Rattle.std.proofs.Common.{take}
 use Rattle.std.specs.FinMap.{empty}
-use Rattle.lrs_verbs.specs.Prelude.{flat_map, referents_on}
+use Rattle.std.specs.List.{flat_map}
+use Rattle.lrs_verbs.specs.Prelude.{referents_on}
 use Rattle.lrs_verbs.specs.Places.{HaveCome}
 use Rattle.lrs_verbs.proofs.referents.ReferentIndex.of_routes.Given as goal
 

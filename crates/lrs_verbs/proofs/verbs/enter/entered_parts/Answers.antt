@@ -1,5 +1,5 @@
 use Rattle.std.proofs.Common.{◌≡◌, Bool, true, false, refl, ap, ◌∙◌}
-use Rattle.lrs_verbs.specs.Prelude.{◌||◌, ◌&&◌, nat_eq}
+use Rattle.std.specs.Prelude.{◌||◌, ◌&&◌, nat_eq}
 use Rattle.lrs_events.specs.Spans.{holds_by_span}
 use Rattle.lrs_verbs.proofs.verbs.enter.entered_parts.Goals as goal
 

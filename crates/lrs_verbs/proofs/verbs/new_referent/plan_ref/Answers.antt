@@ -2,7 +2,9 @@ use denote.Bor.{Bor}
 use Rattle.std.proofs.Common.{◌≡◌, ◌+◌, false, Option, Some, None, Ok, length, refl, sym, ap, subst, ◌∙◌}
 use Rattle.std.specs.List.{find}
 use Rattle.std.proofs.lemmas.Result.{err_from_is_err_and}
-use Rattle.lrs_verbs.specs.Prelude.{is_some, option_map, Name, Ground, Millimetre, Alignment, alignment_of, Image, RouteEntry, state_of, route_entry, is_named}
+use Rattle.std.specs.Prelude.{is_some}
+use Rattle.std.specs.Option.{option_map}
+use Rattle.lrs_verbs.specs.Prelude.{Name, Ground, Millimetre, Alignment, alignment_of, Image, RouteEntry, state_of, route_entry, is_named}
 use Rattle.lrs_machine.specs.declared.answer.Cause.TheVariants as cause
 use Rattle.lrs_machine.specs.declared.command.Command.TheVariants as verb
 use Rattle.lrs_machine.specs.Register.{get}
