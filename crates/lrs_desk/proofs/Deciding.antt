@@ -150,7 +150,6 @@ module _ (limits : Limits) (key : Name) (command : Command) (i : Image) (none : 
     sound = made_is_sound command i (with_difference p.difference i) (edit_of key command) sound plan.makes
         (record { assets = few_rows (needs_asset command) (length i.assets) limits.assets most_assets room.assets (limits_few_assets limits); routes = few_rows (needs_route command) (length i.routes) limits.routes most_routes room.routes (limits_few_routes limits) })
         (none_passes (λ (e : Edit). same_name e.key key) i.edits none) (few room.edits (limits_few limits));
-    new_key = none;
   }
     where
       few : nat_le limits.edits (length i.edits) ≡ false → limits.edits ≤ most_edits → length i.edits + 1 ≤ most_edits

@@ -1,5 +1,5 @@
 -- What is decided about a command.
-use Rattle.std.specs.Prelude.{◌≡◌, ◌+◌, ◌&&◌, true, false, nat_le, length, None}
+use Rattle.std.specs.Prelude.{◌≡◌, ◌+◌, ◌&&◌, true, false, nat_le, length}
 use Rattle.lrs_measure.specs.Texts.{Name}
 use Rattle.lrs_machine.specs.declared.answer.What.{What}
 use Rattle.lrs_machine.specs.declared.answer.What.TheVariants.{Edits, Assets, Routes}
@@ -13,7 +13,6 @@ use Rattle.lrs_desk.specs.declared.decide.Decision.{Decision}
 use Rattle.lrs_desk.specs.declared.decide.Decision.TheVariants.{Stay, Make}
 use Rattle.lrs_machine.specs.Image.{state_of}
 use Rattle.lrs_keep.specs.Change.{with_difference, with_edit}
-use Rattle.lrs_verbs.specs.Keys.{place_among}
 use Rattle.lrs_verbs.specs.Plans.{IsPlanOf}
 use Rattle.lrs_machine.specs.Lines.{line_of}
 use Rattle.lrs_machine.specs.Machine.{step, needs_asset, needs_route}
@@ -27,12 +26,11 @@ edit_of key command = record { key = key; line = line_of command }
 abbrev pub done_image : Name → Command → Plan → Image → Image
 done_image key command plan i = with_edit (edit_of key command) (with_difference plan.difference i)
 
--- The command is done by this plan under a new key, and leaves the image sound.
+-- The command is done by this plan, and leaves the image sound.
 pub record IsDoneBy (limits : Limits) (key : Name) (command : Command) (i : Image) (plan : Plan) : Type 0 where
   pub is_plan : IsPlanOf command i plan
   pub outcome : step limits key command (state_of i) ≡ record { answer = Done (length i.edits + 1); state = state_of (done_image key command plan i) }
   pub sound : IsSound (done_image key command plan i)
-  pub new_key : place_among i.edits key ≡ None
 
 -- A decision is the ground machine's.
 abbrev pub IsDecision : Limits → Name → Command → Image → Decision → Type 0

@@ -1,6 +1,6 @@
 //! The desk: it does commands, and keeps what they change.
 
-ghost use Rattle.std.specs.Prelude.{◌≡◌, ◌↔◌, IsTrue, ◌+◌, IfOk, IfErr, OnOk, OnErr, Ok, Err, Result, ℕ, length, take, true, false, None};
+ghost use Rattle.std.specs.Prelude.{◌≡◌, ◌↔◌, IsTrue, ◌+◌, IfOk, IfErr, OnOk, OnErr, Ok, Err, Result, ℕ, length, take, true, false};
 ghost use Rattle.lrs_machine.specs.declared.table.Table.{Table};
 ghost use Rattle.lrs_machine.specs.declared.image.Image.{Image as ImageRows};
 ghost use Rattle.lrs_machine.specs.Image.{state_of};
@@ -9,7 +9,6 @@ ghost use Rattle.lrs_machine.specs.Machine.{step, answers, state_after};
 ghost use Rattle.lrs_keep.specs.Change.{apply, CanMake};
 ghost use Rattle.lrs_keep.specs.Keeping.{HasRisen, HoldsOnly, HoldsOldOrNew};
 ghost use Rattle.lrs_totals.specs.Running.{IsCounted};
-ghost use Rattle.lrs_verbs.specs.Keys.{place_among};
 ghost use Rattle.lrs_verbs.specs.Plans.{change_of, TellsGround};
 ghost use Rattle.lrs_desk.specs.Desk.{IsUnchanged, HasBroken, records_of};
 
@@ -231,7 +230,6 @@ fn make<K: Keeper>(
     requires kept { HoldsOnly (K.may_hold keeper.old) inventory.old }
     requires can { CanMake (change_of edit plan) inventory.old }
     requires tells { TellsGround plan inventory.old }
-    requires new_key { place_among inventory.old.edits edit.key ≡ None }
     requires counted { IsCounted inventory.old counts.old }
     ensures answer { IfOk result (λ answer. answer ≡ Answer.Done (length inventory.old.edits + 1)) }
     ensures ok { OnOk result (inventory.new ≡ apply (change_of edit plan) inventory.old) }

@@ -2,7 +2,6 @@ use Rattle.std.proofs.Common.{◌≡◌, ◌⊎◌, OnErr, Ok, ap, subst, rules,
 use Rattle.lrs_machine.specs.declared.image.Edit.{Edit}
 use Rattle.lrs_machine.specs.declared.image.Image.{Image}
 use Rattle.lrs_machine.specs.Image.{state_of}
-use Rattle.lrs_machine.specs.Lines.{line_of}
 use Rattle.lrs_machine.specs.Machine.{step}
 use Rattle.lrs_machine.specs.Sound.{IsSound}
 use Rattle.lrs_keep.specs.Keeping.{HasRisen}
