@@ -1,6 +1,5 @@
 //! How long questions take: `lrs_desk_bench ROUTE CLASS.. < SHEET` does an edit sheet at a desk in memory, and then asks for
-//! the segments of that route by those classes, for who holds each of a thousand places of it, for where each of a thousand
-//! assets lies, and for the totals.
+//! the segments of that route by those classes, and for who holds each of a thousand places of it.
 //!
 //! Without arguments it says what it did, and measures nothing.
 #![tactic(auto)]
@@ -86,57 +85,6 @@ fn time_at<R: Runtime<A = Global>, K: Keeper>(
     print_mean(rt, "at", start, PLACES, rows)
 }
 
-// Where assets lie, of numbers spread over so many records, of which a few entered no asset.
-fn time_find<R: Runtime<A = Global>, K: Keeper>(
-    rt: &R,
-    desk: &Desk<K>,
-    records: u64,
-) -> io::Result<()> {
-    let mut rows = 0usize;
-    let step = records / 1_024;
-    let start = Instant::now(rt)?;
-    for number in 0..PLACES {
-        let asset = step.saturating_mul(u64::from(number)).saturating_add(1);
-        let found = desk.find(asset).map_err(refused)?;
-        rows = rows.saturating_add(found.len());
-    }
-    print_mean(rt, "find", start, PLACES, rows)
-}
-
-fn time_totals<R: Runtime<A = Global>, K: Keeper>(rt: &R, desk: &Desk<K>) -> io::Result<()> {
-    let mut rows = 0usize;
-    let start = Instant::now(rt)?;
-    for _ in 0..PLACES {
-        let found = desk.totals().map_err(refused)?;
-        rows = rows.saturating_add(found.len());
-    }
-    print_mean(rt, "totals", start, PLACES, rows)
-}
-
-// What is asked of the inventory as a whole.
-fn time_inventory<R: Runtime<A = Global>, K: Keeper>(
-    rt: &R,
-    desk: &Desk<K>,
-    records: u64,
-) -> io::Result<()> {
-    time_find(rt, desk, records)?;
-    time_totals(rt, desk)
-}
-
-// What is asked of one route.
-fn time_route<R: Runtime<A = Global>, K: Keeper>(
-    rt: &R,
-    desk: &Desk<K>,
-    route: &RouteName,
-    classes: &[ClassName],
-) -> io::Result<()> {
-    time_segments(rt, desk, route, classes)?;
-    if desk.must_reopen() {
-        return Err(bad());
-    }
-    time_at(rt, desk, route)
-}
-
 fn main(rt: HostRuntime) -> io::Result<()> {
     let mut words = env::args(&rt)?.skip(1);
     let (desk, tally) = desk_of(&rt)?;
@@ -149,6 +97,9 @@ fn main(rt: HostRuntime) -> io::Result<()> {
     for word in words {
         classes.push(ClassName::new(word.as_bytes()).ok_or_else(bad)?)?;
     }
-    time_route(&rt, &desk, &route, classes.as_slice())?;
-    time_inventory(&rt, &desk, tally.done)
+    time_segments(&rt, &desk, &route, classes.as_slice())?;
+    if desk.must_reopen() {
+        return Err(bad());
+    }
+    time_at(&rt, &desk, &route)
 }
