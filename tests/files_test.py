@@ -1,5 +1,6 @@
 """An inventory in a file: its tables, what is opened and what is not, and files of the first version."""
 
+import contextlib
 import os
 import random
 import shutil
@@ -49,6 +50,24 @@ def test_an_inventory_is_there_again():
         after = rows_of(path)
         assert after["edit"][:13] == before["edit"] and len(after["edit"]) == 14
         assert after["span"] == before["span"]
+
+
+def size_of_a_page(path, *first):
+    """Asks sqlite3 for the size of a page in bytes, after these statements."""
+    with contextlib.closing(sqlite3.connect(path, isolation_level=None)) as db:
+        for statement in first:
+            db.execute(statement)
+        return db.execute("PRAGMA page_size").fetchone()[0]
+
+
+def test_a_store_whose_pages_have_another_size():
+    for size in (512, 1024, 65536):
+        with folder() as path:
+            assert size_of_a_page(path, f"PRAGMA page_size = {size}", "VACUUM") == size == path.stat().st_size
+            make_full(path)
+            ends(edit(path, FIRST), AGAIN, 0)
+            is_whole(path)
+            assert size_of_a_page(path) == size
 
 
 def test_surveys_and_sheets_at_one_file():
