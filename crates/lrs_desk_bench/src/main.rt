@@ -85,21 +85,45 @@ fn time_at<R: Runtime<A = Global>, K: Keeper>(
     print_mean(rt, "at", start, PLACES, rows)
 }
 
-fn main(rt: HostRuntime) -> io::Result<()> {
-    let mut words = env::args(&rt)?.skip(1);
-    let (desk, tally) = desk_of(&rt)?;
-    let Some(route) = words.next() else {
-        let done = tally.done;
-        return println!(rt; "{done} records are done");
-    };
-    let route = RouteName::new(route.as_bytes()).ok_or_else(bad)?;
-    let mut classes = Vec::new(rt.alloc());
+// The names of classes that the words say.
+fn classes_of(alloc: Global, words: &[String]) -> io::Result<Vec<ClassName>> {
+    let mut classes = Vec::new(alloc);
     for word in words {
         classes.push(ClassName::new(word.as_bytes()).ok_or_else(bad)?)?;
     }
-    time_segments(&rt, &desk, &route, classes.as_slice())?;
+    Ok(classes)
+}
+
+// What is asked of one route.
+fn time_route<R: Runtime<A = Global>, K: Keeper>(
+    rt: &R,
+    desk: &Desk<K>,
+    route: &RouteName,
+    classes: &[ClassName],
+) -> io::Result<()> {
+    time_segments(rt, desk, route, classes)?;
     if desk.must_reopen() {
         return Err(bad());
     }
-    time_at(&rt, &desk, &route)
+    time_at(rt, desk, route)
+}
+
+fn time_words<R: Runtime<A = Global>, K: Keeper>(
+    rt: &R,
+    desk: &Desk<K>,
+    route: &str,
+    classes: &[String],
+) -> io::Result<()> {
+    let route = RouteName::new(route.as_bytes()).ok_or_else(bad)?;
+    let classes = classes_of(rt.alloc(), classes)?;
+    time_route(rt, desk, &route, classes.as_slice())
+}
+
+fn main(rt: HostRuntime) -> io::Result<()> {
+    let words = env::args(&rt)?.collect::<Vec<String>>(rt.alloc())?;
+    let (desk, tally) = desk_of(&rt)?;
+    match words.as_slice() {
+        [_, route, classes @ ..] => time_words(&rt, &desk, route, classes),
+        _ => println!(rt; "{} records are done", tally.done),
+    }
 }
