@@ -2,9 +2,10 @@
 
     python3 bench/questions.py [--runs N]
 
-`segments` of three classes over a route of 100,000 rows, and `at` in a thousand places of a route among 1,000,000 assets on
-1,000 routes: asked of a desk in memory by crates/lrs_desk_bench (`rt run` there builds it), and of Python's sqlite3 in memory,
-which has the same tables and an index over rows by route and place. SQL finds the values of each stretch between two ends,
+`segments` of three classes over a route of 100,000 rows, `at` in a thousand places of a route among 1,000,000 assets on
+1,000 routes, `find` of a thousand assets and `totals`: asked of a desk in memory by crates/lrs_desk_bench (`rt run` there builds it), and of Python's sqlite3 in memory,
+which has the same tables and an index over rows by route and place. Totals are summed over the table of what was entered: nothing
+is retired or abandoned here. SQL finds the values of each stretch between two ends,
 and does not join stretches of equal values. A line has the least of the runs.
 """
 
@@ -24,8 +25,11 @@ TABLES = """
 CREATE TABLE asset (number INTEGER NOT NULL, class TEXT NOT NULL, value TEXT NOT NULL, lateral INTEGER NOT NULL, PRIMARY KEY (number)) STRICT;
 CREATE TABLE span (asset INTEGER NOT NULL REFERENCES asset, route TEXT NOT NULL, lo INTEGER NOT NULL, hi INTEGER NOT NULL, side INTEGER NOT NULL, PRIMARY KEY (asset, route, lo)) STRICT;
 CREATE INDEX span_place ON span (route, lo);
+CREATE TABLE entered (edit INTEGER NOT NULL, asset INTEGER NOT NULL, link INTEGER NOT NULL, lo INTEGER NOT NULL, hi INTEGER NOT NULL, side INTEGER NOT NULL, PRIMARY KEY (edit, asset, link, lo, side)) STRICT;
 """
 AT = "SELECT asset, class, side, lateral, value FROM span JOIN asset ON number = asset WHERE route = ? AND lo <= ? AND lo > ? - 1000 AND hi > ? ORDER BY asset"
+FIND = "SELECT route, lo, hi, side FROM span WHERE asset = ? ORDER BY route, lo"
+TOTALS = "SELECT class, SUM(hi - lo) FROM entered JOIN asset ON number = asset GROUP BY class ORDER BY class"
 VALUE = "(SELECT CASE WHEN hi > a THEN value END FROM span JOIN asset ON number = asset WHERE route = :route AND class = '{0}' AND lo <= a ORDER BY lo DESC LIMIT 1)"
 SEGMENTS = f"""
 WITH points AS (SELECT 0 AS p UNION SELECT lo FROM span WHERE route = :route UNION SELECT hi FROM span WHERE route = :route),
@@ -57,6 +61,8 @@ class Sample:
         db.executescript(TABLES)
         db.executemany("INSERT INTO asset VALUES (?, ?, ?, 0)", ((n, kind, value) for n, kind, _, _, value in self.entered()))
         db.executemany("INSERT INTO span VALUES (?, ?, ?, ?, 0)", ((n, route, at, at + 5) for n, _, route, at, _ in self.entered()))
+        entered = ((n, n, int(route[1:]), at, at + 5, side) for n, _, route, at, _ in self.entered() for side in (1, 2))
+        db.executemany("INSERT INTO entered VALUES (?, ?, ?, ?, ?, ?)", entered)
         db.commit()
         return db
 
@@ -75,8 +81,16 @@ def asked_in_sql(sample, db):
     at = (time.perf_counter() - start) / PLACES
     start = time.perf_counter()
     found = db.execute(SEGMENTS, {"route": "R1"}).fetchall()
+    segments = time.perf_counter() - start
     assert len(found) >= 2 * sample.rows - 1
-    return {"at": at, "segments": time.perf_counter() - start}
+    assets = sample.routes * sample.rows
+    start = time.perf_counter()
+    for number in range(PLACES):
+        db.execute(FIND, (assets // PLACES * number + 1,)).fetchall()
+    find = (time.perf_counter() - start) / PLACES
+    start = time.perf_counter()
+    assert len(db.execute(TOTALS).fetchall()) == len(CLASSES)
+    return {"at": at, "segments": segments, "find": find, "totals": time.perf_counter() - start}
 
 
 def least(runs, ask):
@@ -91,7 +105,7 @@ def main():
     for what, sample in [("one route of 100,000 rows", Sample(1, 100_000)), ("1,000,000 assets on 1,000 routes", Sample(1_000, 1_000))]:
         db = sample.tables()
         ours, theirs = least(runs, lambda: asked_of_the_desk(sample)), least(runs, lambda: asked_in_sql(sample, db))
-        for name in ["segments", "at"]:
+        for name in ["segments", "at", "find", "totals"]:
             print(f"{what}: {name}: desk {1e6 * ours[name]:,.2f} µs, sqlite3 {1e6 * theirs[name]:,.2f} µs")
 
 

@@ -1,5 +1,6 @@
 //! How long questions take: `lrs_desk_bench ROUTE CLASS.. < SHEET` does an edit sheet at a desk in memory, and then asks for
-//! the segments of that route by those classes, and for who holds each of a thousand places of it.
+//! the segments of that route by those classes, for who holds each of a thousand places of it, for where each of a thousand
+//! assets lies, and for the totals.
 //!
 //! Without arguments it says what it did, and measures nothing.
 #![tactic(auto)]
@@ -85,6 +86,43 @@ fn time_at<R: Runtime<A = Global>, K: Keeper>(
     print_mean(rt, "at", start, PLACES, rows)
 }
 
+// Where assets lie, of numbers spread over so many records, of which a few entered no asset.
+fn time_find<R: Runtime<A = Global>, K: Keeper>(
+    rt: &R,
+    desk: &Desk<K>,
+    records: u64,
+) -> io::Result<()> {
+    let mut rows = 0usize;
+    let step = records / 1_024;
+    let start = Instant::now(rt)?;
+    for number in 0..PLACES {
+        let asset = step.saturating_mul(u64::from(number)).saturating_add(1);
+        let found = desk.find(asset).map_err(refused)?;
+        rows = rows.saturating_add(found.len());
+    }
+    print_mean(rt, "find", start, PLACES, rows)
+}
+
+fn time_totals<R: Runtime<A = Global>, K: Keeper>(rt: &R, desk: &Desk<K>) -> io::Result<()> {
+    let mut rows = 0usize;
+    let start = Instant::now(rt)?;
+    for _ in 0..PLACES {
+        let found = desk.totals().map_err(refused)?;
+        rows = rows.saturating_add(found.len());
+    }
+    print_mean(rt, "totals", start, PLACES, rows)
+}
+
+// What is asked of the inventory as a whole.
+fn time_inventory<R: Runtime<A = Global>, K: Keeper>(
+    rt: &R,
+    desk: &Desk<K>,
+    records: u64,
+) -> io::Result<()> {
+    time_find(rt, desk, records)?;
+    time_totals(rt, desk)
+}
+
 // The names of classes that the words say.
 fn classes_of(alloc: Global, words: &[String]) -> io::Result<Vec<ClassName>> {
     let mut classes = Vec::new(alloc);
@@ -119,11 +157,23 @@ fn time_words<R: Runtime<A = Global>, K: Keeper>(
     time_route(rt, desk, &route, classes.as_slice())
 }
 
+// All questions: those of one route, and those of the inventory.
+fn time_all<R: Runtime<A = Global>, K: Keeper>(
+    rt: &R,
+    desk: &Desk<K>,
+    records: u64,
+    route: &str,
+    classes: &[String],
+) -> io::Result<()> {
+    time_words(rt, desk, route, classes)?;
+    time_inventory(rt, desk, records)
+}
+
 fn main(rt: HostRuntime) -> io::Result<()> {
     let words = env::args(&rt)?.collect::<Vec<String>>(rt.alloc())?;
     let (desk, tally) = desk_of(&rt)?;
     match words.as_slice() {
-        [_, route, classes @ ..] => time_words(&rt, &desk, route, classes),
+        [_, route, classes @ ..] => time_all(&rt, &desk, tally.done, route, classes),
         _ => println!(rt; "{} records are done", tally.done),
     }
 }
