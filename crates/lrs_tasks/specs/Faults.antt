@@ -1,7 +1,9 @@
 -- The names of faults, as the program prints them.
-use Rattle.std.specs.Prelude.{List, ℕ, ◌++◌, codes}
+use Rattle.std.specs.Prelude.{◌≡◌, List, ℕ, ◌++◌, codes, Result, Err}
+use Rattle.lrs_machine.specs.declared.image.Image.{Image}
 use Rattle.lrs_machine.specs.declared.table.Table.{Table}
 use Rattle.lrs_machine.specs.declared.table.Table.TheVariants as table
+use Rattle.lrs_keep.specs.Keeping.{HasRisen}
 use Rattle.lrs_keep.specs.declared.keeper.LoadFault.{LoadFault}
 use Rattle.lrs_keep.specs.declared.keeper.LoadFault.TheVariants as load
 use Rattle.lrs_desk.specs.declared.desk.OpenFault.{OpenFault}
@@ -52,6 +54,14 @@ abbrev pub fault_of_open : OpenFault → ProgramFault
 fault_of_open opened.Memory = Memory
 fault_of_open opened.Keep = Open
 fault_of_open (opened.Unsound t) = Unsound t
+
+-- The program stops for what the keeper left: its device failed once more, or what an opening may find there has this first unsound table.
+pub record HasNoDesk {K : Type 0} (failures : K → ℕ) (may_hold : K → Result Image Table → Type 0) (before : K) (fault : ProgramFault) : Type 0 where
+  pub why : OpenFault
+  pub left : K
+  pub named : fault ≡ fault_of_open why
+  pub device : why ≡ opened.Keep → HasRisen (failures before) (failures left)
+  pub unsound : (t : Table) → why ≡ opened.Unsound t → (c : Result Image Table) → may_hold left c → c ≡ Err t
 
 -- what a desk's fault is for the program
 abbrev pub fault_of_desk : Fault → ProgramFault

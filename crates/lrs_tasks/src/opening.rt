@@ -4,7 +4,7 @@ ghost use Rattle.std.specs.Prelude.{◌≡◌, ◌↔◌, IfOk, IfErr, IsTrue, c
 ghost use Rattle.lrs_machine.specs.Bounds.{most_assets, most_edits, most_routes};
 ghost use Rattle.lrs_machine.specs.Image.{nothing};
 ghost use Rattle.lrs_keep.specs.Keeping.{HoldsOnly};
-ghost use Rattle.lrs_tasks.specs.Faults.{fault_of_load, fault_of_open};
+ghost use Rattle.lrs_tasks.specs.Faults.{HasNoDesk, fault_of_load, fault_of_open};
 
 use crate::fault::ProgramFault;
 use lrs_desk::{Desk, Keeper, LoadFault, OpenFault, Plain};
@@ -60,6 +60,7 @@ pub fn open_desk<K: Keeper + Drop>(keeper: K, alloc: Global) -> Result<Desk<K>, 
     ensures kept { IfOk result (λ desk. HoldsOnly (K.may_hold desk.keeper) desk.image) }
     ensures open { IfOk result (λ desk. desk.must_reopen ≡ false) }
     ensures limits { IfOk result (λ desk. (desk.limits.routes ≡ most_routes) × (desk.limits.assets ≡ most_assets) × (desk.limits.edits ≡ most_edits)) }
+    ensures fault { IfErr result (HasNoDesk K.failures K.may_hold keeper) }
 {
     match Desk::open(keeper, Limits::full(), alloc) {
         Ok(desk) => Ok(desk),
