@@ -41,10 +41,6 @@ def test_courses_and_marks_bear_a_refused_growth():
     assert refused_calls("lrs_element_tests") == courses | marks
 
 
-def test_parts_of_a_ledger_bear_a_refused_growth():
-    assert refused_calls("lrs_parts") == {"parts", "gone"}
-
-
 def test_a_sheet_of_all_verbs_bears_a_refused_growth():
     assert refused_calls("lrs_sheet_tests") >= {"run_edits"}
 

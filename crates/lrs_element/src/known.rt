@@ -61,6 +61,10 @@ impl Ordered for Link {
     fn is_before(&self, other: &Link) -> bool {
         self.number < other.number
     }
+
+    fn rank(&self) -> u64 {
+        u64::from(self.number)
+    }
 }
 
 impl Keyed<u32> for Link {
@@ -71,6 +75,10 @@ impl Keyed<u32> for Link {
 
     fn cmp_key(&self, number: &u32) -> cmp::Ordering {
         self.number.cmp(number)
+    }
+
+    fn key_rank(number: &u32) -> u64 {
+        u64::from(*number)
     }
 
     ghost rises = { λ a b n before from. number_after a.number b.number n before from };

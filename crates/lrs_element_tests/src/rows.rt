@@ -25,6 +25,10 @@ impl Ordered for Row {
     fn is_before(&self, other: &Row) -> bool {
         self.number < other.number
     }
+
+    fn rank(&self) -> u64 {
+        u64::from(self.number)
+    }
 }
 
 impl Keyed<u32> for Row {
@@ -35,6 +39,10 @@ impl Keyed<u32> for Row {
 
     fn cmp_key(&self, number: &u32) -> cmp::Ordering {
         self.number.cmp(number)
+    }
+
+    fn key_rank(number: &u32) -> u64 {
+        u64::from(*number)
     }
 
     ghost rises = { λ a b number before from. number_after a.number b.number number before from };

@@ -6,7 +6,7 @@ ghost use Rattle.lrs_events.specs.Names;
 
 use lrs_measure::Text;
 use lrs_measure::alphabet::{are_capitals, are_word_bytes, has_length, is_lone_dash};
-use lrs_ordered::{Keyed, Ordered};
+use lrs_ordered::{Keyed, Ordered, name_rank};
 use std::marker::Model;
 use std::{cmp, fmt};
 
@@ -173,6 +173,10 @@ impl Ordered for Class {
     fn is_before(&self, other: &Class) -> bool {
         self.name.bytes().cmp(other.name.bytes()).is_lt()
     }
+
+    fn rank(&self) -> u64 {
+        name_rank(self.name.bytes())
+    }
 }
 
 impl Keyed<ClassName> for Class {
@@ -183,6 +187,10 @@ impl Keyed<ClassName> for Class {
 
     fn cmp_key(&self, name: &ClassName) -> cmp::Ordering {
         self.name.bytes().cmp(name.bytes())
+    }
+
+    fn key_rank(name: &ClassName) -> u64 {
+        name_rank(name.bytes())
     }
 
     ghost rises = { λ a b name before from. name_after a.name b.name name before from };
@@ -207,6 +215,10 @@ impl Ordered for Asset {
     fn is_before(&self, other: &Asset) -> bool {
         self.number < other.number
     }
+
+    fn rank(&self) -> u64 {
+        self.number
+    }
 }
 
 impl Keyed<u64> for Asset {
@@ -217,6 +229,10 @@ impl Keyed<u64> for Asset {
 
     fn cmp_key(&self, number: &u64) -> cmp::Ordering {
         self.number.cmp(number)
+    }
+
+    fn key_rank(number: &u64) -> u64 {
+        *number
     }
 
     ghost rises = { λ a b number before from. number_after a.number b.number number before from };

@@ -4,6 +4,3 @@
 mod ground_index;
 
 pub use ground_index::GroundIndex;
-
-#[cfg(test)]
-mod tests;

@@ -3,7 +3,7 @@
 ghost use Rattle.std.specs.Prelude.{◌≡◌, ◌+◌, ◌<◌, ◌≤◌, [], ◌∷◌, ◌++◌, length, IfOk, OnOk, vec_len, vec_capacity};
 
 use lrs_measure::{Rows, TryCopy};
-use lrs_ordered::Chunked;
+use lrs_ordered::{Chunked, Ordered};
 use std::alloc::{AllocError, Global};
 
 /// Makes room for more elements.
@@ -35,7 +35,7 @@ pub fn append_in_room<T: Drop>(items: &mut Vec<T>, mut others: Vec<T>)
 }
 
 /// These rows in chunks.
-pub fn chunks_of<T: Drop>(alloc: Global, rows: Vec<T>) -> Result<Chunked<T>, AllocError>
+pub fn chunks_of<T: Ordered + Drop>(alloc: Global, rows: Vec<T>) -> Result<Chunked<T>, AllocError>
     ensures { IfOk result (λ chunks. chunks.rows ≡ rows.items) }
 {
     let mut chunks = Chunked::new(alloc);

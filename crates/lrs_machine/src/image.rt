@@ -7,7 +7,7 @@ use crate::line::Line;
 use lrs_element::Link;
 use lrs_events::{Asset, Class, Gone, Part};
 use lrs_measure::{Rows, TryCopy};
-use lrs_ordered::{Keyed, Ordered};
+use lrs_ordered::{Keyed, Ordered, name_rank};
 use lrs_position::{Route, RouteName};
 use lrs_spans::Spans;
 use std::alloc::{AllocError, Global};
@@ -39,6 +39,10 @@ impl Ordered for RouteEntry {
         let other_name = &other.route.name;
         name.bytes().cmp(other_name.bytes()).is_lt()
     }
+
+    fn rank(&self) -> u64 {
+        name_rank(self.route.name.bytes())
+    }
 }
 
 impl Keyed<RouteName> for RouteEntry {
@@ -50,6 +54,10 @@ impl Keyed<RouteName> for RouteEntry {
     fn cmp_key(&self, name: &RouteName) -> cmp::Ordering {
         let own = &self.route.name;
         own.bytes().cmp(name.bytes())
+    }
+
+    fn key_rank(name: &RouteName) -> u64 {
+        name_rank(name.bytes())
     }
 
     ghost rises = { λ a b name before from. name_after a.route.name b.route.name name before from };

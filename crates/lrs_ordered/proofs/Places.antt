@@ -1,5 +1,5 @@
 -- Where an element belongs in a list that it splits.
-use Rattle.std.proofs.Common.{◌≡◌, ℕ, ◌+◌, ◌<◌, ◌≤◌, zero, suc, Bool, true, false, cond, List, [], ◌∷◌, ◌++◌, length, get_or, insert, refl, sym, ap, ◌∙◌, arith, add-one, ◌⊎◌, inl, inr}
+use Rattle.std.proofs.Common.{◌≡◌, ℕ, ◌+◌, ◌-◌, ◌<◌, ◌≤◌, zero, suc, Bool, true, false, cond, List, [], ◌∷◌, ◌++◌, length, get_or, insert, refl, sym, ap, ◌∙◌, arith, add-one, ◌⊎◌, inl, inr}
 use Rattle.std.specs.Prelude.{◌||◌, not}
 use Rattle.std.specs.List.{list_all}
 use Rattle.std.specs.List.Sorted.{IsPartitionedBy, IsPartitionPoint}
@@ -13,6 +13,10 @@ earlier : (a b : Bool) → (not a || b) ≡ true → not b ≡ true → not a �
 earlier true true h k = k
 earlier true false h k = absurd (false≢true h)
 earlier false b h k = refl
+
+later : (a b : Bool) → (not a || b) ≡ true → a ≡ true → b ≡ true
+later true b h k = h
+later false b h k = absurd (false≢true k)
 
 is_passing : (b : Bool) → not b ≡ false → b ≡ true
 is_passing true h = refl
@@ -80,6 +84,31 @@ module _ {X : Type 0} where
       let here = is_failing (p y) (point.0 0 y (omega arith) (omega arith)) in
       let later = placed p ys k (omega (arith, within)) (λ i d from to. point.0 (suc i) d (omega arith) (omega (arith, to)), λ i d from to. point.1 (suc i) d (omega (arith, from)) (omega (arith, to))) in
       ap suc later ∙ sym (add-one _) ∙ sym (ap (λ b. cond b 0 (place_by p ys + 1)) here)
+
+  -- So is a place, if the element before it fails and the one at it passes.
+  pub placed_between : (p : X → Bool) (xs : List X) (k : ℕ) → is_parted p xs ≡ true → k ≤ length xs → (0 < k → (d : X) → p (get_or xs (k - 1) d) ≡ false) → (k < length xs → (d : X) → p (get_or xs k d) ≡ true) → k ≡ place_by p xs
+  placed_between p xs k h within front rear = placed p xs k within (before, after)
+    where
+      pass : (i j : ℕ) (d : X) → i < j → j < length xs → (not (p (get_or xs i d)) || p (get_or xs j d)) ≡ true
+      pass i j d less to = two_pass (λ a b. not (p a) || p b) xs i j d h less to
+
+      fails : (i : ℕ) (d : X) → 0 < k → i < k → (i < k - 1) ⊎ (k - 1 ≤ i) → not (p (get_or xs i d)) ≡ true
+      fails i d some to (inl less) = earlier (p (get_or xs i d)) (p (get_or xs (k - 1) d)) (pass i (k - 1) d less (omega (arith, some, within))) (ap not (front some d))
+      fails i d some to (inr more) =
+          let same : i ≡ k - 1 = omega (arith, some, more, to) in
+          ap (λ j. not (p (get_or xs j d))) same ∙ ap not (front some d)
+
+      before : (i : ℕ) (d : X) → 0 ≤ i → i < k → not (p (get_or xs i d)) ≡ true
+      before i d from to = fails i d (omega (arith, to)) to (cases_lt i (k - 1))
+
+      passes : (i : ℕ) (d : X) → k ≤ i → i < length xs → (k < i) ⊎ (i ≤ k) → p (get_or xs i d) ≡ true
+      passes i d from to (inl less) = later (p (get_or xs k d)) (p (get_or xs i d)) (pass k i d less to) (rear (omega (arith, less, to)) d)
+      passes i d from to (inr more) =
+          let same : i ≡ k = omega (arith, from, more) in
+          ap (λ j. p (get_or xs j d)) same ∙ rear (omega (arith, from, to)) d
+
+      after : (i : ℕ) (d : X) → k ≤ i → i < length xs → not (p (get_or xs i d)) ≡ false
+      after i d from to = ap not (passes i d from to (cases_lt k i))
 
   -- To put an element in its place is to insert it there.
   pub insert_by-place : (before : X → X → Bool) (x : X) (xs : List X) → insert_by before x xs ≡ insert xs (place_by (before x) xs) x

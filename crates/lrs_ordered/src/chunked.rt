@@ -10,6 +10,7 @@ ghost use Rattle.lrs_ordered.specs.Ordered.{is_split_by, are_empty};
 
 use crate::chunk::Chunk;
 use crate::find::find_among;
+use crate::firsts::Firsts;
 use crate::iter::RowsIter;
 use crate::ordered::{Keyed, Ordered};
 use crate::put::{put, put_last};
@@ -23,6 +24,8 @@ use std::marker::Model;
 #[derive(Drop)]
 pub struct Chunked<T> {
     chunks: Vec<Chunk<T>>,
+    // where to look first
+    firsts: Firsts,
     spares: Vec<Chunk<T>>,
     len: usize,
     room: usize,
@@ -49,6 +52,7 @@ impl<T> Chunked<T> {
     {
         Chunked {
             chunks: Vec::new(alloc),
+            firsts: Firsts::new(alloc),
             spares: Vec::new(alloc),
             len: 0,
             room: 0,
@@ -84,7 +88,7 @@ impl<T> Chunked<T> {
         requires order { each_two T.before self.now.rows ≡ true }
         ensures { option_map (λ row. row.now) result ≡ find (λ row. is_eq (T.key_order row key.now)) self.now.rows }
     {
-        find_among(self.chunks.as_slice(), key)
+        find_among(self.chunks.as_slice(), &self.firsts, key)
     }
 }
 
@@ -120,6 +124,7 @@ impl<T: Drop> Chunked<T> {
                 return Err(AllocError);
             }
             self.chunks.reserve(more)?;
+            self.firsts.reserve(more)?;
             make_spares(self.alloc, &mut self.spares, more)?;
             self.room = more;
         }
@@ -127,7 +132,7 @@ impl<T: Drop> Chunked<T> {
     }
 }
 
-impl<T: Drop> Chunked<T> {
+impl<T: Ordered + Drop> Chunked<T> {
     /// Puts a row at the end.
     ///
     /// # Errors
@@ -137,14 +142,14 @@ impl<T: Drop> Chunked<T> {
         ensures err { OnErr result (self.new.rows ≡ self.old.rows) }
     {
         self.reserve(1)?;
-        put_last(&mut self.chunks, &mut self.spares, row);
+        put_last(&mut self.chunks, &mut self.firsts, &mut self.spares, row);
         self.len += 1;
         self.room -= 1;
         Ok(())
     }
 }
 
-impl<T: Copy + Drop> Chunked<T> {
+impl<T: Ordered + Copy + Drop> Chunked<T> {
     /// Equal rows, with no room for more.
     ///
     /// # Errors
@@ -160,7 +165,7 @@ impl<T: Copy + Drop> Chunked<T> {
     }
 }
 
-impl<T: TryCopy + Drop> Chunked<T> {
+impl<T: Ordered + TryCopy + Drop> Chunked<T> {
     /// Equal rows, of copies, with no room for more.
     ///
     /// # Errors
@@ -186,7 +191,7 @@ impl<T: Drop> Chunked<T> {
         ensures rows { self.new.rows ≡ filter (λ row. not (is_eq (T.key_order row key.now))) self.old.rows }
         ensures room { self.new.room ≡ self.old.room }
     {
-        let row = remove_among(&mut self.chunks, key);
+        let row = remove_among(&mut self.chunks, &mut self.firsts, key);
         if row.is_some() {
             self.len -= 1;
         }
@@ -202,7 +207,7 @@ impl<T: Ordered + Drop> Chunked<T> {
         ensures rows { self.new.rows ≡ insert_by T.before row self.old.rows }
         ensures room { self.new.room + 1 ≡ self.old.room }
     {
-        put(&mut self.chunks, &mut self.spares, row);
+        put(&mut self.chunks, &mut self.firsts, &mut self.spares, row);
         self.len += 1;
         self.room -= 1;
     }

@@ -1,6 +1,6 @@
 //! A row among chunks of rows in order, by binary search.
 
-ghost use Rattle.std.specs.Prelude.{◌≡◌, ◌+◌, ◌<◌, ◌≤◌, length, take, drop, true, IfSome, IfNone, slice_index_or};
+ghost use Rattle.std.specs.Prelude.{◌≡◌, ◌+◌, ◌-◌, ◌<◌, ◌≤◌, List, false, length, take, drop, true, IfSome, IfNone, slice_index_or};
 ghost use Rattle.std.specs.List.{find};
 ghost use Rattle.std.specs.Option.{option_map};
 ghost use Rattle.std.specs.Ordering.{is_eq, is_ge, is_gt};
@@ -8,6 +8,7 @@ ghost use Rattle.lrs_measure.specs.Ordered.{place_by};
 ghost use Rattle.lrs_ordered.specs.Ordered.{joined, first_passes, rises_by, none_by, are_filled};
 
 use crate::chunk::Chunk;
+use crate::firsts::Firsts;
 use crate::ordered::Keyed;
 
 // Whether a row has a key.
@@ -70,18 +71,34 @@ fn begins_above<K, T: Keyed<K>>(chunk: &Chunk<T>, key: &K) -> bool
     }
 }
 
-// How many chunks do not begin above a key, by binary search.
-fn chunks_up_to<K, T: Keyed<K>>(chunks: &[Chunk<T>], key: &K) -> usize
+// Whether just the chunks before a place do not begin above a key, as its two neighbours say.
+fn are_up_to<K, T: Keyed<K>>(chunks: &[Chunk<T>], key: &K, count: usize) -> bool
+    ensures within { result ≡ true → count ≤ length chunks.now }
+    ensures front { result ≡ true → 0 < count → (d : List T) → first_passes (λ row. is_gt (T.key_order row key.now)) (slice_index_or chunks.now (count - 1) d) ≡ false }
+    ensures rear { result ≡ true → count < length chunks.now → (d : List T) → first_passes (λ row. is_gt (T.key_order row key.now)) (slice_index_or chunks.now count d) ≡ true }
+{
+    if count > chunks.len() || (count > 0 && begins_above(&chunks[count - 1], key)) {
+        return false;
+    }
+    count == chunks.len() || begins_above(&chunks[count], key)
+}
+
+// How many chunks do not begin above a key: as many as the ranks say, or else by binary search.
+fn chunks_up_to<K, T: Keyed<K>>(chunks: &[Chunk<T>], firsts: &Firsts, key: &K) -> usize
     requires filled { are_filled chunks.now ≡ true }
     requires order { rises_by (λ row. T.key_order row key.now) (joined chunks.now) ≡ true }
     ensures place { result ≡ place_by (first_passes (λ row. is_gt (T.key_order row key.now))) chunks.now }
     ensures within { result ≤ length chunks.now }
 {
+    let likely = firsts.up_to(T::key_rank(key));
+    if are_up_to(chunks, key, likely) {
+        return likely;
+    }
     chunks.partition_point(|chunk| !begins_above(chunk, key))
 }
 
 /// Which chunk the row of a key is in, if there is one.
-pub fn chunk_of<K, T: Keyed<K>>(chunks: &[Chunk<T>], key: &K) -> usize
+pub fn chunk_of<K, T: Keyed<K>>(chunks: &[Chunk<T>], firsts: &Firsts, key: &K) -> usize
     requires filled { are_filled chunks.now ≡ true }
     requires order { rises_by (λ row. T.key_order row key.now) (joined chunks.now) ≡ true }
     requires some { 0 < length chunks.now }
@@ -89,11 +106,15 @@ pub fn chunk_of<K, T: Keyed<K>>(chunks: &[Chunk<T>], key: &K) -> usize
     ensures front { none_by (λ row. T.key_order row key.now) (joined (take result chunks.now)) ≡ true }
     ensures rear { none_by (λ row. T.key_order row key.now) (joined (drop (result + 1) chunks.now)) ≡ true }
 {
-    chunks_up_to(chunks, key).saturating_sub(1)
+    chunks_up_to(chunks, firsts, key).saturating_sub(1)
 }
 
 /// The row of a key among the rows of chunks.
-pub fn find_among<'a, K, T: Keyed<K>>(chunks: &'a [Chunk<T>], key: &K) -> Option<&'a T>
+pub fn find_among<'a, K, T: Keyed<K>>(
+    chunks: &'a [Chunk<T>],
+    firsts: &Firsts,
+    key: &K,
+) -> Option<&'a T>
     requires filled { are_filled chunks.now ≡ true }
     requires order { rises_by (λ row. T.key_order row key.now) (joined chunks.now) ≡ true }
     ensures { option_map (λ row. row.now) result ≡ find (λ row. is_eq (T.key_order row key.now)) (joined chunks.now) }
@@ -101,7 +122,7 @@ pub fn find_among<'a, K, T: Keyed<K>>(chunks: &'a [Chunk<T>], key: &K) -> Option
     if chunks.is_empty() {
         return None;
     }
-    let at = chunk_of(chunks, key);
+    let at = chunk_of(chunks, firsts, key);
     let chunk = &chunks[at];
     find_in(chunk.as_slice(), key)
 }

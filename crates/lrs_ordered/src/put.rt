@@ -1,12 +1,13 @@
 //! A row more in chunks of rows in order.
 
-ghost use Rattle.std.specs.Prelude.{◌≡◌, ◌+◌, ◌<◌, ◌≤◌, [], ◌∷◌, ◌++◌, length, take, drop, true, not, insert, vec_len, vec_capacity};
+ghost use Rattle.std.specs.Prelude.{◌≡◌, ◌+◌, ◌-◌, ◌<◌, ◌≤◌, List, [], ◌∷◌, ◌++◌, false, slice_index_or, length, take, drop, true, not, insert, vec_len, vec_capacity};
 ghost use Rattle.std.specs.List.{list_all};
 ghost use Rattle.std.specs.Option.{option_to_list};
 ghost use Rattle.lrs_measure.specs.Ordered.{place_by, insert_by};
 ghost use Rattle.lrs_ordered.specs.Ordered.{is_split_by, joined, first_passes, is_filled, are_filled, are_empty};
 
 use crate::chunk::{Chunk, HALF, MOST};
+use crate::firsts::Firsts;
 use crate::ordered::Ordered;
 
 // Whether a row comes before a chunk's first.
@@ -19,18 +20,34 @@ fn comes_before<T: Ordered>(row: &T, chunk: &Chunk<T>) -> bool
     }
 }
 
-// How many chunks begin with no row after this one, by binary search.
-pub fn place_among<T: Ordered>(chunks: &[Chunk<T>], row: &T) -> usize
+// Whether just the chunks before a place begin with no row after this one, as its two neighbours say.
+fn is_place<T: Ordered>(chunks: &[Chunk<T>], row: &T, count: usize) -> bool
+    ensures within { result ≡ true → count ≤ length chunks.now }
+    ensures front { result ≡ true → 0 < count → (d : List T) → first_passes (T.before row.now) (slice_index_or chunks.now (count - 1) d) ≡ false }
+    ensures rear { result ≡ true → count < length chunks.now → (d : List T) → first_passes (T.before row.now) (slice_index_or chunks.now count d) ≡ true }
+{
+    if count > chunks.len() || (count > 0 && comes_before(row, &chunks[count - 1])) {
+        return false;
+    }
+    count == chunks.len() || comes_before(row, &chunks[count])
+}
+
+// How many chunks begin with no row after this one: as many as the ranks say, or else by binary search.
+pub fn place_among<T: Ordered>(chunks: &[Chunk<T>], firsts: &Firsts, row: &T) -> usize
     requires filled { are_filled chunks.now ≡ true }
     requires order { is_split_by T.before row.now (joined chunks.now) ≡ true }
     ensures place { result ≡ place_by (first_passes (T.before row.now)) chunks.now }
     ensures within { result ≤ length chunks.now }
 {
+    let likely = firsts.up_to(row.rank());
+    if is_place(chunks, row, likely) {
+        return likely;
+    }
     chunks.partition_point(|chunk| !comes_before(row, chunk))
 }
 
 // Which chunk a row belongs in.
-fn target_of<T: Ordered>(chunks: &[Chunk<T>], row: &T) -> usize
+fn target_of<T: Ordered>(chunks: &[Chunk<T>], firsts: &Firsts, row: &T) -> usize
     requires filled { are_filled chunks.now ≡ true }
     requires order { is_split_by T.before row.now (joined chunks.now) ≡ true }
     requires some { 0 < length chunks.now }
@@ -38,7 +55,7 @@ fn target_of<T: Ordered>(chunks: &[Chunk<T>], row: &T) -> usize
     ensures front { list_all (λ y. not (T.before row.now y)) (joined (take result chunks.now)) ≡ true }
     ensures rear { first_passes (T.before row.now) (joined (drop (result + 1) chunks.now)) ≡ true }
 {
-    place_among(chunks, row).saturating_sub(1)
+    place_among(chunks, firsts, row).saturating_sub(1)
 }
 
 // Splits a full chunk, and puts a row into one of the two.
@@ -164,7 +181,12 @@ fn put_first<T: Drop>(chunks: &mut Vec<Chunk<T>>, spares: &mut Vec<Chunk<T>>, ro
 
 /// Puts a row where it belongs among the rows of chunks. No more than the rows of one chunk are moved. It takes
 /// no memory.
-pub fn put<T: Ordered + Drop>(chunks: &mut Vec<Chunk<T>>, spares: &mut Vec<Chunk<T>>, row: T)
+pub fn put<T: Ordered + Drop>(
+    chunks: &mut Vec<Chunk<T>>,
+    firsts: &mut Firsts,
+    spares: &mut Vec<Chunk<T>>,
+    row: T,
+)
     requires filled { are_filled chunks.old.items ≡ true }
     requires order { is_split_by T.before row (joined chunks.old.items) ≡ true }
     requires empty { are_empty spares.old.items ≡ true }
@@ -177,11 +199,14 @@ pub fn put<T: Ordered + Drop>(chunks: &mut Vec<Chunk<T>>, spares: &mut Vec<Chunk
     ensures len { vec_len chunks.new ≤ vec_len chunks.old + 1 }
     ensures capacity { vec_capacity chunks.old ≤ vec_capacity chunks.new }
 {
-    if chunks.is_empty() {
+    let count = chunks.len();
+    if count == 0 {
+        firsts.came(0, row.rank());
         put_first(chunks, spares, row);
     } else {
-        let at = target_of(chunks.as_slice(), &row);
+        let at = target_of(chunks.as_slice(), firsts, &row);
         put_at(chunks, at, spares, row);
+        firsts.note_put(chunks.as_slice(), at, count);
     }
 }
 
@@ -204,7 +229,12 @@ fn push_last<T: Drop>(chunks: &mut Vec<Chunk<T>>, row: T) -> Option<T>
 }
 
 /// Puts a row at the end. It takes no memory.
-pub fn put_last<T: Drop>(chunks: &mut Vec<Chunk<T>>, spares: &mut Vec<Chunk<T>>, row: T)
+pub fn put_last<T: Ordered + Drop>(
+    chunks: &mut Vec<Chunk<T>>,
+    firsts: &mut Firsts,
+    spares: &mut Vec<Chunk<T>>,
+    row: T,
+)
     requires filled { are_filled chunks.old.items ≡ true }
     requires empty { are_empty spares.old.items ≡ true }
     requires spare { 0 < vec_len spares.old }
@@ -218,6 +248,7 @@ pub fn put_last<T: Drop>(chunks: &mut Vec<Chunk<T>>, spares: &mut Vec<Chunk<T>>,
 {
     let left = push_some(chunks, row);
     if let Some(row) = left {
+        firsts.came(chunks.len(), row.rank());
         push_fresh(chunks, spares, row);
     }
 }

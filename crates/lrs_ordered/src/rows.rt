@@ -8,7 +8,7 @@ ghost use Rattle.lrs_measure.specs.Lists.{each_two};
 
 use crate::chunked::Chunked;
 use crate::iter::RowsIter;
-use crate::ordered::Keyed;
+use crate::ordered::{Keyed, Ordered};
 use lrs_measure::TryCopy;
 use std::alloc::{AllocError, Global};
 use std::marker::Model;
@@ -85,7 +85,7 @@ impl<T> OrderedRows<T> {
     }
 }
 
-impl<T: Copy + Drop> OrderedRows<T> {
+impl<T: Ordered + Copy + Drop> OrderedRows<T> {
     /// Equal rows, with no room for more.
     ///
     /// # Errors
@@ -99,7 +99,7 @@ impl<T: Copy + Drop> OrderedRows<T> {
     }
 }
 
-impl<T: TryCopy + Drop> OrderedRows<T> {
+impl<T: Ordered + TryCopy + Drop> OrderedRows<T> {
     /// Equal rows, of copies, with no room for more.
     ///
     /// # Errors

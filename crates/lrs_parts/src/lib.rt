@@ -6,8 +6,3 @@ mod ledger;
 mod run;
 
 pub use ledger::{gone, parts};
-
-#[cfg(test)]
-mod refused;
-#[cfg(test)]
-mod tests;

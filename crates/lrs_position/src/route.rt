@@ -8,7 +8,7 @@ ghost use Rattle.lrs_position.specs.Routes.{is_route};
 use crate::name::{RefName, RouteName};
 use lrs_element::{Course, Marks};
 use lrs_measure::Rows;
-use lrs_ordered::{Keyed, Ordered};
+use lrs_ordered::{Keyed, Ordered, name_rank};
 use std::alloc::{AllocError, Global};
 use std::cmp;
 
@@ -82,6 +82,10 @@ impl Ordered for Referent {
     fn is_before(&self, other: &Referent) -> bool {
         self.name.bytes().cmp(other.name.bytes()).is_lt()
     }
+
+    fn rank(&self) -> u64 {
+        name_rank(self.name.bytes())
+    }
 }
 
 impl Keyed<RefName> for Referent {
@@ -92,6 +96,10 @@ impl Keyed<RefName> for Referent {
 
     fn cmp_key(&self, name: &RefName) -> cmp::Ordering {
         self.name.bytes().cmp(name.bytes())
+    }
+
+    fn key_rank(name: &RefName) -> u64 {
+        name_rank(name.bytes())
     }
 
     ghost rises = { λ a b n before from. name_after a.name b.name n before from };
