@@ -68,6 +68,22 @@ def test_links_and_names_in_no_order():
     replies(*rows)
 
 
+def test_names_that_begin_alike():
+    """The first eight bytes of a name say where to look among many: here they are the same in all."""
+    places = list(range(400))
+    random.Random(3).shuffle(places)
+    rows = links([1], 1_000_000)
+    rows += [(route(f"r{n}", f"MOTORWAY{n}", f"1:{n}:{n + 1}:+", 1), f"r{n},done,{at}") for at, n in enumerate(places, 2)]
+    rows += [(f"m{n},renumber,MOTORWAY{n},MOTORWAY{n}X", f"m{n},done,{at}") for at, n in enumerate(places[::2], 402)]
+    for n in range(400):
+        gone = n in places[::2]
+        known = f"MOTORWAY{n}X" if gone else f"MOTORWAY{n}"
+        rows.append((route(f"s{n}", known, "1:500000:500001:+", 1), f"s{n},refused,RouteKnown"))
+        if gone:
+            rows.append((f"t{n},renumber,MOTORWAY{n},B", f"t{n},refused,NoRoute"))
+    replies(*rows)
+
+
 def test_classes_in_no_order():
     names = [f"{letter}{n}" for letter in "QA7ZB" for n in range(60)]
     random.Random(2).shuffle(names)

@@ -26,8 +26,9 @@ impl Ordered for Row {
         self.number < other.number
     }
 
+    // The same in a hundred rows, so that it often says too little.
     fn rank(&self) -> u64 {
-        u64::from(self.number)
+        u64::from(self.number / 100)
     }
 }
 
@@ -42,7 +43,7 @@ impl Keyed<u32> for Row {
     }
 
     fn key_rank(number: &u32) -> u64 {
-        u64::from(*number)
+        u64::from(*number / 100)
     }
 
     ghost rises = { λ a b number before from. number_after a.number b.number number before from };
