@@ -1,5 +1,5 @@
 -- What the calls of a desk promise makes them steps of a run.
-use Rattle.std.proofs.Common.{◌≡◌, ℕ, ◌⊎◌, ◌↔◌, inl, inr, Bool, true, false, List, [], ◌∷◌, ◌++◌, Some, None, Result, Ok, Err, refl, sym, ap, subst, ◌∙◌}
+use Rattle.std.proofs.Common.{◌≡◌, ℕ, ◌⊎◌, ◌↔◌, inl, inr, Bool, true, false, List, [], ◌∷◌, ◌++◌, take, Some, None, Result, Ok, Err, refl, sym, ap, subst, ◌∙◌}
 use Rattle.std.specs.Prelude.{IfOk, IfErr, OnOk, IsTrue, Option}
 use Rattle.std.proofs.lemmas.Bool.{false≢true}
 use Rattle.lrs_measure.specs.Texts.{Name}
@@ -9,7 +9,7 @@ use Rattle.lrs_machine.specs.declared.command.Command.{Command}
 use Rattle.lrs_machine.specs.declared.image.Image.{Image}
 use Rattle.lrs_machine.specs.declared.table.Table.{Table}
 use Rattle.lrs_machine.specs.Image.{state_of}
-use Rattle.lrs_machine.specs.Machine.{Record, step, step_record}
+use Rattle.lrs_machine.specs.Machine.{Record, step, step_record, state_after}
 use Rattle.lrs_machine.specs.Sound.{IsSound}
 use Rattle.lrs_machine.specs.State.{State}
 use Rattle.lrs_keep.specs.Keeping.{HoldsOnly}
@@ -82,16 +82,17 @@ module _ {K : Type 0} (holds : K → Result Image Table → Type 0) (limits : Li
       longer : (m : Moment) → IsRun limits (at_rest start) xs m → IsRun limits (at_rest start) (xs ++ Unserved r ∷ []) m
       longer m run = joined limits xs (Unserved r ∷ []) (at_rest start) m m run (m, refl, refl)
 
-  stops : (old new : DeskView K) (r : Record) (t : State) → old.must_reopen ≡ false → acting new.must_reopen new.image ≡ None
-      → (t ≡ state_of old.image) ⊎ (t ≡ (step_record limits r (state_of old.image)).state) → InRun xs old
-      → IsRun limits (at_rest start) (xs ++ StopWithin r ∷ []) (record { stored = t; desk = acting new.must_reopen new.image })
-  stops old new r t open_then none is h =
+  -- a command that is sent alone is in flight: it is stored, or it is left out
+  stops : (old new : DeskView K) (r : Record) (k : ℕ) (t : State) → old.must_reopen ≡ false → acting new.must_reopen new.image ≡ None
+      → t ≡ state_after limits (take k (r ∷ [])) (state_of old.image) → InRun xs old
+      → IsRun limits (at_rest start) (xs ++ StopWithin [] r ∷ []) (record { stored = t; desk = acting new.must_reopen new.image })
+  stops old new r k t open_then none is h =
       let m : Moment = record { stored = t; desk = acting new.must_reopen new.image } in
-      joined limits xs (StopWithin r ∷ []) (at_rest start) (at_work (state_of old.image)) m (h.runs open_then)
-      (m, record { known = state_of old.image; acts_on = refl; stored = is; desk = none }, refl)
+      joined limits xs (StopWithin [] r ∷ []) (at_rest start) (at_work (state_of old.image)) m (h.runs open_then)
+      (m, record { known = state_of old.image; acts_on = refl; accepted = tt; stored = (k, is); desk = none }, refl)
 
   broken : (failures : K → ℕ) (old new : DeskView K) (key : Name) (command : Command) → old.must_reopen ≡ false → new.limits ≡ old.limits
-      → HasBroken holds failures key command old new → InRun xs old → InRun (xs ++ StopWithin (sent key command) ∷ []) new
+      → HasBroken holds failures key command old new → InRun xs old → InRun (xs ++ StopWithin [] (sent key command) ∷ []) new
   broken failures old new key command open_then same b h = record {
     limits_are = same ∙ h.limits_are;
     runs = λ open_now. absurd (false≢true (sym open_now ∙ b.must_reopen));
@@ -102,12 +103,12 @@ module _ {K : Type 0} (holds : K → Result Image Table → Type 0) (limits : Li
       none = ap (λ must. acting must new.image) b.must_reopen
 
       by : (c : Result Image Table) → (c ≡ Ok old.image) ⊎ ((image : Image) × (c ≡ Ok image) × (state_of image ≡ (step old.limits key command (state_of old.image)).state) × IsSound image)
-          → (t : State) × IsRun limits (at_rest start) (xs ++ StopWithin (sent key command) ∷ []) (record { stored = t; desk = acting new.must_reopen new.image }) × StandsFor c t
-      by c (inl e) = (state_of old.image, stops old new (sent key command) (state_of old.image) open_then none (inl refl) h, record { image = old.image; found = e; state = refl })
+          → (t : State) × IsRun limits (at_rest start) (xs ++ StopWithin [] (sent key command) ∷ []) (record { stored = t; desk = acting new.must_reopen new.image }) × StandsFor c t
+      by c (inl e) = (state_of old.image, stops old new (sent key command) 0 (state_of old.image) open_then none refl h, record { image = old.image; found = e; state = refl })
       by c (inr e) =
           let t = (step_record limits (sent key command) (state_of old.image)).state in (
             t,
-            stops old new (sent key command) t open_then none (inr refl) h,
+            stops old new (sent key command) 1 t open_then none refl h,
             record { image = e.0; found = e.1; state = e.2 ∙ ap (λ (l : Limits). (step_record l (sent key command) (state_of old.image)).state) h.limits_are },
           )
 
@@ -144,7 +145,7 @@ module _ {K : Type 0} (holds : K → Result Image Table → Type 0) (limits : Li
       same_image : (i j : Image) → ◌≡◌ {A = Result Image Table} (Ok i) (Ok j) → i ≡ j
       same_image i j e = cc
 
-  -- ... and is the fold over the commands that were answered, each in flight at its point or left out
+  -- ... and is the fold over the commands that were answered, with some first ones of those in flight at their point
   pub found_is_fold : (d : DeskView K) → d.must_reopen ≡ false → InRun xs d → IsMadeBy limits start xs (state_of d.image)
   found_is_fold d open_now h = stored_is_fold limits start xs (at_work (state_of d.image)) (h.runs open_now)
 

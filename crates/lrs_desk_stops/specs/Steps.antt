@@ -1,5 +1,5 @@
 -- Which steps of a run the calls of a desk are, and what an opening may find in the course of one.
-use Rattle.std.specs.Prelude.{◌≡◌, Bool, true, false, if◌then◌else◌, List, Option, Some, None, Result, Ok, Err}
+use Rattle.std.specs.Prelude.{◌≡◌, Bool, false, if◌then◌else◌, List, [], Option, Some, None, Result, Ok, Err}
 use Rattle.lrs_measure.specs.Texts.{Name}
 use Rattle.lrs_machine.specs.declared.answer.Answer.{Answer}
 use Rattle.lrs_machine.specs.declared.answer.Limits.{Limits}
@@ -22,7 +22,7 @@ sent key command = record { key = key; command = command }
 abbrev pub step_of : Record → Result Answer Fault → Step
 step_of r (Ok answer) = Act r answer
 step_of r (Err Memory) = Unserved r
-step_of r (Err Keep) = StopWithin r
+step_of r (Err Keep) = StopWithin [] r
 step_of r (Err MustReopen) = Unserved r
 
 -- what is found is an image of the state

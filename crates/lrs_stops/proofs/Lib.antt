@@ -1,3 +1,4 @@
 pub mod Edits
+pub mod Sending
 pub mod Stopping
 pub mod Working

@@ -1,6 +1,8 @@
 -- What a run that stops leaves stored.
-use Rattle.std.proofs.Common.{◌≡◌, ℕ, ◌+◌, ◌≤◌, ◌⊎◌, inl, inr, Bool, true, false, cond, List, [], ◌∷◌, ◌++◌, length, Some, None, refl, sym, ap, subst, ◌∙◌, arith}
-use Rattle.std.specs.List.{count_by}
+use Rattle.std.proofs.Common.{◌≡◌, ℕ, ◌+◌, ◌-◌, ◌≤◌, suc, ◌⊎◌, inl, inr, Bool, true, false, cond, List, [], ◌∷◌, ◌++◌, length, take, Some, None, refl, sym, ap, subst, ◌∙◌, arith}
+use Rattle.std.specs.Prelude.{max, nat_lt}
+use Rattle.std.specs.List.{count_by, AllByRecursion}
+use Rattle.std.proofs.Math.Nat.{le-max_left, le-max_right}
 use Rattle.std.specs.Cmp.Lexicographic.{bytes_decides}
 use Rattle.lrs_measure.specs.Texts.{Name, same_name}
 use Rattle.lrs_machine.specs.declared.answer.Answer.{Answer}
@@ -8,13 +10,14 @@ use Rattle.lrs_machine.specs.declared.answer.Answer.TheVariants.{Done, Again}
 use Rattle.lrs_machine.specs.declared.answer.Limits.{Limits}
 use Rattle.lrs_machine.specs.Lines.{line_of}
 use Rattle.lrs_machine.specs.State.{State, Edit}
-use Rattle.lrs_machine.specs.Machine.{Outcome, step_record, accept, answers, state_after, Record, place_of_key}
+use Rattle.lrs_machine.specs.Machine.{Outcome, step_record, answers, state_after, Record, place_of_key}
 use Rattle.lrs_machine.specs.Laws.{IsLawful}
 use Rattle.lrs_machine.proofs.Lawful.{every_step_keeps_the_laws}
-use Rattle.lrs_stops.specs.Stopped.{Step, Open, Act, Unserved, StopWithin, Stop, Moment, at_rest, IsStep, IsRun, nothing, answered, at_its_point, left_out, opened, unserved, stopped, acknowledged, first_acted_on, SendsFirst}
-use Rattle.lrs_stops.specs.Laws.{DeskIsStored, IsMadeBy, StoredIsFold, AnswersAreOfFold, StandsIn, same, again, StandInFor, SentFirstIsUnstopped, Accepts, NoneIsLost, HasKeysOnce, NoneIsDoubled, StoredIsLawful, StopsHaveBothOutcomes, RunsAreThere}
+use Rattle.lrs_stops.specs.Stopped.{Step, Open, Act, Unserved, StopWithin, Stop, Moment, at_rest, IsStep, IsRun, IsAccepted, nothing, answered, in_flight, opened, unserved, stopped, acknowledged, SendsFirst}
+use Rattle.lrs_stops.specs.Laws.{DeskIsStored, IsMadeBy, StoredIsFold, AnswersAreOfFold, StandsIn, StandInFor, SentFirstIsUnstopped, Accepts, NoneIsLost, HasKeysOnce, NoneIsDoubled, StoredIsLawful, StopsHaveBothOutcomes, StopsHaveEachOutcome, RunsAreThere}
 use Rattle.lrs_stops.proofs.Edits as edits
 use Rattle.lrs_stops.proofs.Edits.{Outcomes, outcomes, IsEdit}
+use Rattle.lrs_stops.proofs.Sending.{Ahead, at_end, wider, sent, both, flown}
 
 module _ (limits : Limits) where
   abbrev next : Record → State → State
@@ -35,7 +38,7 @@ module _ (limits : Limits) where
   acts_on_stored before after Open h is = λ s e. some_same s before.stored (sym e ∙ h.desk) ∙ sym h.stored
   acts_on_stored before after (Act r a) h is = λ s e. some_same s (next r h.known) (sym e ∙ h.desk) ∙ sym h.stored
   acts_on_stored before after (Unserved r) h is = subst ActsOnStored (sym h) is
-  acts_on_stored before after (StopWithin r) h is = no_desk after h.desk
+  acts_on_stored before after (StopWithin rs r) h is = no_desk after h.desk
   acts_on_stored before after Stop h is = no_desk after (ap (λ (m : Moment). m.desk) h)
 
   acts_on_stored_after : (xs : List Step) (before after : Moment) → IsRun limits before xs after → ActsOnStored before → ActsOnStored after
@@ -54,15 +57,15 @@ module _ (limits : Limits) where
 
   -- what each command keeps is kept by runs
   module _ (P : State → Type 0) (goes : (r : Record) (s : State) → P s → P (next r s)) where
+    goes_on : (rs : List Record) (s : State) → P s → P (state_after limits rs s)
+    goes_on [] s p = p
+    goes_on (r ∷ rs) s p = goes_on rs (next r s) (goes r s p)
+
     by_step : (before after : Moment) (x : Step) → IsStep limits before x after → ActsOnStored before → P before.stored → P after.stored
     by_step before after Open h is p = subst P (sym h.stored) p
     by_step before after (Act r a) h is p = subst P (sym h.stored) (goes r h.known (subst P (sym (is h.known h.acts_on)) p))
     by_step before after (Unserved r) h is p = subst (λ (m : Moment). P m.stored) (sym h) p
-    by_step before after (StopWithin r) h is p = by h.stored
-      where
-        by : (after.stored ≡ before.stored) ⊎ (after.stored ≡ next r h.known) → P after.stored
-        by (inl e) = subst P (sym e) p
-        by (inr e) = subst P (sym e) (goes r h.known (subst P (sym (is h.known h.acts_on)) p))
+    by_step before after (StopWithin rs r) h is p = subst P (sym h.stored.1) (goes_on (take h.stored.0 (rs ++ r ∷ [])) h.known (subst P (sym (is h.known h.acts_on)) p))
     by_step before after Stop h is p = subst (λ (m : Moment). P m.stored) (sym h) p
 
     kept_through : (xs : List Step) (before after : Moment) → IsRun limits before xs after → ActsOnStored before → P before.stored → P after.stored
@@ -70,6 +73,10 @@ module _ (limits : Limits) where
     kept_through (x ∷ xs) before after run is p = kept_through xs run.0 after run.2 (acts_on_stored before run.0 x run.1 is) (by_step before run.0 x run.1 is p)
 
   -- ---- what is stored is a fold
+
+  one_after_another : (rs qs : List Record) (s : State) → state_after limits (rs ++ qs) s ≡ state_after limits qs (state_after limits rs s)
+  one_after_another [] qs s = refl
+  one_after_another (r ∷ rs) qs s = one_after_another rs qs (next r s)
 
   made : (xs : List Step) (before after : Moment) → IsRun limits before xs after → ActsOnStored before → IsMadeBy limits before.stored xs after.stored
   made [] before after run is = record { commands = []; kept = nothing; stored = ap (λ (m : Moment). m.stored) run }
@@ -86,11 +93,16 @@ module _ (limits : Limits) where
       by Open h rest = record { commands = rest.commands; kept = opened xs rest.commands rest.kept; stored = without h.stored rest }
       by (Act r a) h rest = record { commands = r ∷ rest.commands; kept = answered r a xs rest.commands rest.kept; stored = with r h.known (is h.known h.acts_on) h.stored rest }
       by (Unserved r) h rest = record { commands = rest.commands; kept = unserved r xs rest.commands rest.kept; stored = without (ap (λ (m : Moment). m.stored) h) rest }
-      by (StopWithin r) h rest = by_stored h.stored
-        where
-          by_stored : (run.0.stored ≡ before.stored) ⊎ (run.0.stored ≡ next r h.known) → IsMadeBy limits before.stored (StopWithin r ∷ xs) after.stored
-          by_stored (inl e) = record { commands = rest.commands; kept = left_out r xs rest.commands rest.kept; stored = without e rest }
-          by_stored (inr e) = record { commands = r ∷ rest.commands; kept = at_its_point r xs rest.commands rest.kept; stored = with r h.known (is h.known h.acts_on) e rest }
+      by (StopWithin rs r) h rest =
+          let sent = take h.stored.0 (rs ++ r ∷ []) in
+          record {
+            commands = sent ++ rest.commands;
+            kept = in_flight h.stored.0 rs r xs rest.commands rest.kept;
+            stored =
+                rest.stored
+                ∙ ap (state_after limits rest.commands) (h.stored.1 ∙ ap (state_after limits sent) (is h.known h.acts_on))
+                ∙ sym (one_after_another sent rest.commands before.stored);
+          }
       by Stop h rest = record { commands = rest.commands; kept = stopped xs rest.commands rest.kept; stored = without (ap (λ (m : Moment). m.stored) h) rest }
 
 rests : (start : State) (limits : Limits) → ActsOnStored limits (at_rest start)
@@ -159,139 +171,71 @@ pub stored_is_lawful : StoredIsLawful
 stored_is_lawful limits start xs m lawful run =
     kept_through limits IsLawful (λ r s h. every_step_keeps_the_laws limits r.key r.command s h) xs (at_rest start) m run (rests start limits) lawful
 
--- ---- the command in flight is sent first
-
-record IsRepeated (limits : Limits) (r : Record) (s : State) (o : Outcome) : Type 0 where
-  pub state : (step_record limits r o.state).state ≡ o.state
-  pub answer : StandsIn true (step_record limits r o.state).answer o.answer
-
-repeated : (limits : Limits) (r : Record) (s : State) → IsRepeated limits r s (step_record limits r s)
-repeated limits r s = by (step_record limits r s) (outcomes limits r.key r.command s) refl
-  where
-    as_before : (o : Outcome) → o.state ≡ s → step_record limits r s ≡ o → IsRepeated limits r s o
-    as_before o is e = record {
-      state = ap (λ (t : State). (step_record limits r t).state) is ∙ ap (λ (p : Outcome). p.state) e;
-      answer = subst (λ (a : Answer). StandsIn true a o.answer) (sym (ap (λ (t : State). (step_record limits r t).answer) is ∙ ap (λ (p : Outcome). p.answer) e)) (same true o.answer);
-    }
-
-    by : (o : Outcome) → Outcomes r.key r.command s o → step_record limits r s ≡ o → IsRepeated limits r s o
-    by _ (edits.done t none kept) e =
-        let n = length s.done + 1 in
-        let is = edits.again limits r n (accept r.key r.command t) (edits.edit_now r s t none kept) in
-        record {
-          state = ap (λ (p : Outcome). p.state) is;
-          answer = subst (λ (a : Answer). StandsIn true a (Done n)) (sym (ap (λ (p : Outcome). p.answer) is)) (again n);
-        }
-    by _ (edits.known place at) e = as_before _ refl e
-    by _ (edits.refused c) e = as_before _ refl e
+-- ---- those in flight are sent first
 
 module _ (limits : Limits) where
   abbrev after : Record → State → State
   after r s = (step_record limits r s).state
 
-  -- what is stored where the commands so far make s: that, or, while a command is in flight, also its next state
-  abbrev Before : Bool → List Step → State → State → Type 0
-  Before false xs s t = t ≡ s
-  Before true xs s t = (r : Record) × (first_acted_on xs ≡ Some r) × ((t ≡ s) ⊎ (t ≡ after r s))
-
-  moved : (f : Bool) (xs ys : List Step) (s t u : State) → first_acted_on ys ≡ first_acted_on xs → u ≡ t → Before f xs s t → Before f ys s u
-  moved false xs ys s t u e at h = at ∙ h
-  moved true xs ys s t u e at h = (h.0, e ∙ h.1, by h.2)
-    where
-      by : (t ≡ s) ⊎ (t ≡ after h.0 s) → (u ≡ s) ⊎ (u ≡ after h.0 s)
-      by (inl is) = inl (at ∙ is)
-      by (inr is) = inr (at ∙ is)
-
-  record AsUnstopped (f : Bool) (xs : List Step) (s found : State) : Type 0 where
+  -- the count is of the commands by which what is stored may be ahead
+  record AsUnstopped (count : ℕ) (xs : List Step) (s found : State) : Type 0 where
     pub stored : found ≡ state_after limits (acknowledged xs) s
-    pub given : StandInFor f xs (answers limits (acknowledged xs) s)
+    pub given : StandInFor count xs (answers limits (acknowledged xs) s)
 
-  -- a command that is acted on
-  record IsActed (f : Bool) (r : Record) (a : Answer) (s t : State) : Type 0 where
-    pub stored : t ≡ after r s
-    pub answer : StandsIn f a (step_record limits r s).answer
-
-  acted : (f : Bool) (xs : List Step) (r : Record) (a : Answer) (s t known u : State) → Before f (Act r a ∷ xs) s t → known ≡ t
-      → a ≡ (step_record limits r known).answer → u ≡ after r known → IsActed f r a s u
-  acted f xs r a s t known u h is said stored = by f h
-    where
-      from_start : (f : Bool) → known ≡ s → IsActed f r a s u
-      from_start f e = record {
-        stored = stored ∙ ap (after r) e;
-        answer = subst (λ (b : Answer). StandsIn f b (step_record limits r s).answer) (sym (said ∙ ap (λ (v : State). (step_record limits r v).answer) e)) (same f (step_record limits r s).answer);
-      }
-
-      from_next : known ≡ after r s → IsActed true r a s u
-      from_next e =
-          let twice = repeated limits r s in
-          record {
-            stored = stored ∙ ap (after r) e ∙ twice.state;
-            answer = subst (λ (b : Answer). StandsIn true b (step_record limits r s).answer) (sym (said ∙ ap (λ (v : State). (step_record limits r v).answer) e)) twice.answer;
-          }
-
-      in_flight : (q : Record) → Some r ≡ Some q → (t ≡ s) ⊎ (t ≡ after q s) → IsActed true r a s u
-      in_flight q e (inl g) = from_start true (is ∙ g)
-      in_flight q e (inr g) = from_next (is ∙ g ∙ ap (λ (p : Record). after p s) (sym (some_same limits r q e)))
-
-      by : (f : Bool) → Before f (Act r a ∷ xs) s t → IsActed f r a s u
-      by false h = from_start false (is ∙ h)
-      by true h = in_flight h.0 h.1 h.2
-
-  -- a command that is in flight
-  flown : (f : Bool) (xs : List Step) (r : Record) (s t known u : State) → Before f (StopWithin r ∷ xs) s t → known ≡ t → (u ≡ t) ⊎ (u ≡ after r known) → (u ≡ s) ⊎ (u ≡ after r s)
-  flown f xs r s t known u h is stored = by f h stored
-    where
-      with : (t ≡ s) ⊎ (t ≡ after r s) → (u ≡ t) ⊎ (u ≡ after r known) → (u ≡ s) ⊎ (u ≡ after r s)
-      with (inl e) (inl g) = inl (g ∙ e)
-      with (inl e) (inr g) = inr (g ∙ ap (after r) (is ∙ e))
-      with (inr e) (inl g) = inr (g ∙ e)
-      with (inr e) (inr g) = inr (g ∙ ap (after r) (is ∙ e) ∙ (repeated limits r s).state)
-
-      by : (f : Bool) → Before f (StopWithin r ∷ xs) s t → (u ≡ t) ⊎ (u ≡ after r known) → (u ≡ s) ⊎ (u ≡ after r s)
-      by false h = with (inl h)
-      by true h = with (subst (λ (q : Record). (t ≡ s) ⊎ (t ≡ after q s)) (sym (some_same limits r h.0 h.1)) h.2)
-
-  unstopped : (xs : List Step) (f : Bool) (s : State) (m n : Moment) → ActsOnStored limits m → IsRun limits m xs n → SendsFirst xs → Before f xs s m.stored → AsUnstopped f xs s n.stored
-  unstopped [] false s m n is run first h = record { stored = ap (λ (k : Moment). k.stored) run ∙ h; given = refl }
-  unstopped [] true s m n is run first h = absurd (let none : None ≡ Some h.0 = h.1 in cc none)
-  unstopped (Open ∷ xs) f s m n is run first h =
+  unstopped : (xs : List Step) (count : ℕ) (s : State) (m n : Moment) → ActsOnStored limits m → IsRun limits m xs n → SendsFirst xs → Ahead limits count (acknowledged xs) s m.stored → AsUnstopped count xs s n.stored
+  unstopped [] count s m n is run first h = record { stored = ap (λ (k : Moment). k.stored) run ∙ at_end limits count s m.stored h; given = refl }
+  unstopped (Open ∷ xs) count s m n is run first h =
       let k = run.0 in
-      let rest = unstopped xs f s k n (acts_on_stored limits m k Open run.1 is) run.2 first (moved f (Open ∷ xs) xs s m.stored k.stored refl run.1.stored h) in
+      let rest = unstopped xs count s k n (acts_on_stored limits m k Open run.1 is) run.2 first (subst (Ahead limits count (acknowledged xs) s) (sym run.1.stored) h) in
       record { stored = rest.stored; given = rest.given }
-  unstopped (Act r a ∷ xs) f s m n is run first h =
+  unstopped (Act r a ∷ xs) count s m n is run first h =
       let k = run.0 in
       let act = run.1 in
-      let now = acted f xs r a s m.stored act.known k.stored h (is act.known act.acts_on) act.answered act.stored in
-      let rest = unstopped xs false (after r s) k n (acts_on_stored limits m k (Act r a) act is) run.2 first now.stored in
-      record { stored = rest.stored; given = ((step_record limits r s).answer, answers limits (acknowledged xs) (after r s), refl, now.answer, rest.given) }
-  unstopped (Unserved r ∷ xs) f s m n is run first h =
+      let known = is act.known act.acts_on in
+      let now = sent limits count r (acknowledged xs) s m.stored h in
+      let ahead = subst (Ahead limits (count - 1) (acknowledged xs) (after r s)) (sym (act.stored ∙ ap (after r) known)) now.ahead in
+      let answer = subst (λ (b : Answer). StandsIn (nat_lt 0 count) b (step_record limits r s).answer) (sym (act.answered ∙ ap (λ (t : State). (step_record limits r t).answer) known)) now.answer in
+      let rest = unstopped xs (count - 1) (after r s) k n (acts_on_stored limits m k (Act r a) act is) run.2 first ahead in
+      record { stored = rest.stored; given = ((step_record limits r s).answer, answers limits (acknowledged xs) (after r s), refl, answer, rest.given) }
+  unstopped (Unserved r ∷ xs) count s m n is run first h =
       let k = run.0 in
-      let rest = unstopped xs f s k n (acts_on_stored limits m k (Unserved r) run.1 is) run.2 first (moved f (Unserved r ∷ xs) xs s m.stored k.stored refl (ap (λ (l : Moment). l.stored) run.1) h) in
+      let rest = unstopped xs count s k n (acts_on_stored limits m k (Unserved r) run.1 is) run.2 first (subst (λ (l : Moment). Ahead limits count (acknowledged xs) s l.stored) (sym run.1) h) in
       record { stored = rest.stored; given = rest.given }
-  unstopped (StopWithin r ∷ xs) f s m n is run first h =
+  unstopped (StopWithin rs r ∷ xs) count s m n is run first h =
       let k = run.0 in
       let stop = run.1 in
-      let now = flown f xs r s m.stored stop.known k.stored h (is stop.known stop.acts_on) stop.stored in
-      let rest = unstopped xs true s k n (acts_on_stored limits m k (StopWithin r) stop is) run.2 first.1 (r, first.0, now) in
+      let known = is stop.known stop.acts_on in
+      let more = max count (length rs + 1) in
+      let accepted = subst (λ (t : State). AllByRecursion IsAccepted (answers limits rs t)) known stop.accepted in
+      let group = flown limits rs r first.0 stop.stored.0 m.stored k.stored accepted (stop.stored.1 ∙ ap (state_after limits (take stop.stored.0 (rs ++ r ∷ []))) known) in
+      let now = subst (λ (fs : List Record). Ahead limits (suc (length rs)) fs m.stored k.stored) (sym first.1) group in
+      let ahead = both limits more (acknowledged xs) s m.stored k.stored
+      (wider limits count more (acknowledged xs) s m.stored (le-max_left count (length rs + 1)) h)
+      (wider limits (suc (length rs)) more (acknowledged xs) m.stored k.stored (let l = le-max_right count (length rs + 1) in omega (arith, l)) now) in
+      let rest = unstopped xs more s k n (acts_on_stored limits m k (StopWithin rs r) stop is) run.2 first.2 ahead in
       record { stored = rest.stored; given = rest.given }
-  unstopped (Stop ∷ xs) f s m n is run first h =
+  unstopped (Stop ∷ xs) count s m n is run first h =
       let k = run.0 in
-      let rest = unstopped xs f s k n (acts_on_stored limits m k Stop run.1 is) run.2 first (moved f (Stop ∷ xs) xs s m.stored k.stored refl (ap (λ (l : Moment). l.stored) run.1) h) in
+      let rest = unstopped xs count s k n (acts_on_stored limits m k Stop run.1 is) run.2 first (subst (λ (l : Moment). Ahead limits count (acknowledged xs) s l.stored) (sym run.1) h) in
       record { stored = rest.stored; given = rest.given }
 
 pub sent_first_is_unstopped : SentFirstIsUnstopped
 sent_first_is_unstopped limits start xs m run first =
-    let all = unstopped limits xs false start (at_rest start) m (rests start limits) run first refl in
+    let all = unstopped limits xs 0 start (at_rest start) m (rests start limits) run first refl in
     record { stored = all.stored; given = all.given }
 
 -- ---- the runs that there are
 
+pub stops_have_each_outcome : StopsHaveEachOutcome
+stops_have_each_outcome limits start s xs rs r k m run acting accepted =
+    let left = state_after limits (take k (rs ++ r ∷ [])) s in
+    joined limits xs (StopWithin rs r ∷ []) (at_rest start) m (at_rest left) run
+    (at_rest left, record { known = s; acts_on = acting; accepted = accepted; stored = (k, refl); desk = refl }, refl)
+
 pub stops_have_both_outcomes : StopsHaveBothOutcomes
 stops_have_both_outcomes limits start s xs r m run acting = record {
-  old = joined limits xs (StopWithin r ∷ []) (at_rest start) m (at_rest s) run
-      (at_rest s, record { known = s; acts_on = acting; stored = inl (desk_is_stored limits start s xs m run acting); desk = refl }, refl);
-  next = joined limits xs (StopWithin r ∷ []) (at_rest start) m (at_rest (step_record limits r s).state) run
-      (at_rest (step_record limits r s).state, record { known = s; acts_on = acting; stored = inr refl; desk = refl }, refl);
+  old = stops_have_each_outcome limits start s xs [] r 0 m run acting tt;
+  next = stops_have_each_outcome limits start s xs [] r 1 m run acting tt;
 }
 
 -- each command acted on in turn

@@ -1,18 +1,19 @@
 -- The worked runs.
-use Rattle.std.proofs.Common.{◌≡◌, ◌⊎◌, inl, inr, [], ◌∷◌, length, Some, None, refl, sym, ap, ◌∙◌, arith}
+use Rattle.std.proofs.Common.{◌≡◌, ℕ, suc, zero, ◌⊎◌, inl, inr, false, [], ◌∷◌, length, take, Some, None, refl, sym, ap, ◌∙◌, arith}
 use Rattle.std.specs.Fmt.{digits}
 use Rattle.lrs_machine.specs.declared.answer.Answer.TheVariants.{Done, Again}
 use Rattle.lrs_machine.specs.State.{State, nothing_known}
-use Rattle.lrs_machine.specs.Machine.{Record, step, attempt, step_record}
+use Rattle.lrs_machine.specs.Machine.{Record, step, attempt, step_record, state_after}
 use Rattle.lrs_stops.specs.Stopped.{Moment, at_rest, Opens, Acts, StopsWithin, IsRun}
-use Rattle.lrs_stops.specs.Worked.{full, first_link, second_link, signs, after, until_the_stop, OneLinkOrTwo, at_work, BothEndAlike, Excluded}
+use Rattle.lrs_stops.specs.Worked.{full, first_link, second_link, signs, after, until_the_stop, OneLinkOrTwo, at_work, until_both_stop, BothEndAlike, TwoInFlight, Excluded}
 use Rattle.lrs_stops.proofs.Stopping.{some_same}
+use Rattle.lrs_stops.specs.Laws.{same, again}
 
 opened_at : (s : State) → Opens (at_rest s) (at_work s)
 opened_at s = record { closed = refl; stored = refl; desk = refl }
 
-stopped_at : (r : Record) (s t : State) → (t ≡ s) ⊎ (t ≡ (step_record full r s).state) → StopsWithin full r (at_work s) (at_rest t)
-stopped_at r s t is = record { known = s; acts_on = refl; stored = is; desk = refl }
+stopped_at : (r : Record) (s t : State) (k : ℕ) → t ≡ state_after full (take k (r ∷ [])) s → StopsWithin full [] r (at_work s) (at_rest t)
+stopped_at r s t k is = record { known = s; acts_on = refl; accepted = tt; stored = (k, is); desk = refl }
 
 one : State
 one = after (first_link ∷ [])
@@ -60,11 +61,12 @@ module _ (s : State) (run : IsRun full (at_rest nothing_known) until_the_stop (a
 
   one_or_two : (s ≡ one) ⊎ (s ≡ two)
   unfolding one two
-  one_or_two = by run.2.2.1.stored
+  one_or_two = by run.2.2.1.stored.0 (run.2.2.1.stored.1 ∙ ap (state_after full (take run.2.2.1.stored.0 (second_link ∷ []))) acts_on_is)
     where
-      by : (run.2.2.0.stored ≡ run.2.0.stored) ⊎ (run.2.2.0.stored ≡ (step_record full second_link run.2.2.1.known).state) → (s ≡ one) ⊎ (s ≡ two)
-      by (inl e) = inl (sym left_is ∙ e ∙ stored_is)
-      by (inr e) = inr (sym left_is ∙ e ∙ ap (λ (t : State). (step_record full second_link t).state) acts_on_is)
+      by : (k : ℕ) → run.2.2.0.stored ≡ state_after full (take k (second_link ∷ [])) one → (s ≡ one) ⊎ (s ≡ two)
+      by zero e = inl (sym left_is ∙ e)
+      by (suc zero) e = inr (sym left_is ∙ e)
+      by (suc (suc k)) e = inr (sym left_is ∙ e)
 
 edits_one : length one.done ≡ 1
 unfolding digits step attempt one
@@ -81,8 +83,8 @@ never_none (inr e) = let n : 0 ≡ 2 = ap (λ (t : State). length t.done) e ∙ 
 pub one_link_or_two : OneLinkOrTwo
 unfolding one two
 one_link_or_two = record {
-  without = (at_work nothing_known, opened_at nothing_known, (at_work one, first_done, (at_rest one, stopped_at second_link one one (inl refl), refl)));
-  with = (at_work nothing_known, opened_at nothing_known, (at_work one, first_done, (at_rest two, stopped_at second_link one two (inr refl), refl)));
+  without = (at_work nothing_known, opened_at nothing_known, (at_work one, first_done, (at_rest one, stopped_at second_link one one 0 refl, refl)));
+  with = (at_work nothing_known, opened_at nothing_known, (at_work one, first_done, (at_rest two, stopped_at second_link one two 1 refl, refl)));
   nothing_else = one_or_two;
   not_lost = λ run. never_none (one_or_two nothing_known run);
 }
@@ -98,7 +100,7 @@ both_end_alike = record {
       first_done,
       (
         at_rest one,
-        stopped_at second_link one one (inl refl),
+        stopped_at second_link one one 0 refl,
         (at_rest one, refl, (at_work one, opened_at one, (at_work two, second_done, (at_work three, signs_done, refl)))),
       ),
     ),
@@ -111,13 +113,58 @@ both_end_alike = record {
       first_done,
       (
         at_rest two,
-        stopped_at second_link one two (inr refl),
+        stopped_at second_link one two 1 refl,
         (at_rest two, refl, (at_work two, opened_at two, (at_work two, second_again, (at_work three, signs_done, refl)))),
       ),
     ),
   );
-  sent_first = ((refl, tt), (refl, tt));
+  sent_first = ((signs ∷ [], refl, tt), (signs ∷ [], refl, tt));
   keys = refl;
+}
+
+-- ---- two in flight
+
+both_stopped : StopsWithin full (first_link ∷ []) second_link (at_work nothing_known) (at_rest two)
+unfolding digits step attempt two
+both_stopped = record { known = nothing_known; acts_on = refl; accepted = (tt, tt); stored = (2, refl); desk = refl }
+
+first_again : Acts full first_link (Again 1) (at_work two) (at_work two)
+unfolding digits step attempt one two
+first_again = record { known = two; acts_on = refl; answered = refl; stored = refl; desk = refl }
+
+-- what is left of them
+module _ (s : State) (run : IsRun full (at_rest nothing_known) until_both_stop (at_rest s)) where
+  acts_on_nothing : run.2.1.known ≡ nothing_known
+  acts_on_nothing = some_same full run.2.1.known nothing_known (sym run.2.1.acts_on ∙ run.1.desk)
+
+  left_of_both : run.2.0.stored ≡ s
+  left_of_both = sym (ap (λ (m : Moment). m.stored) run.2.2)
+
+  none_one_or_two : (s ≡ nothing_known) ⊎ ((s ≡ one) ⊎ (s ≡ two))
+  unfolding one two
+  none_one_or_two = by run.2.1.stored.0 (run.2.1.stored.1 ∙ ap (state_after full (take run.2.1.stored.0 (first_link ∷ second_link ∷ []))) acts_on_nothing)
+    where
+      by : (k : ℕ) → run.2.0.stored ≡ state_after full (take k (first_link ∷ second_link ∷ [])) nothing_known → (s ≡ nothing_known) ⊎ ((s ≡ one) ⊎ (s ≡ two))
+      by zero e = inl (sym left_of_both ∙ e)
+      by (suc zero) e = inr (inl (sym left_of_both ∙ e))
+      by (suc (suc zero)) e = inr (inr (sym left_of_both ∙ e))
+      by (suc (suc (suc k))) e = inr (inr (sym left_of_both ∙ e))
+
+pub two_in_flight : TwoInFlight
+unfolding digits step attempt one two three
+two_in_flight = record {
+  nothing_else = none_one_or_two;
+  kept = (
+    at_work nothing_known,
+    opened_at nothing_known,
+    (
+      at_rest two,
+      both_stopped,
+      (at_rest two, refl, (at_work two, opened_at two, (at_work two, first_again, (at_work two, second_again, (at_work three, signs_done, refl))))),
+    ),
+  );
+  sent_first = (signs ∷ [], refl, tt);
+  given = (Done 1, Done 2 ∷ Done 3 ∷ [], refl, again 1, (Done 2, Done 3 ∷ [], refl, again 2, (Done 3, [], refl, same false (Done 3), refl)));
 }
 
 pub excluded : Excluded

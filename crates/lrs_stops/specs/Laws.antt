@@ -1,6 +1,6 @@
 -- What holds of every run that stops.
-use Rattle.std.specs.Prelude.{◌≡◌, ◌⊎◌, ◌≤◌, ℕ, Bool, true, false, List, [], ◌∷◌, ◌++◌, Some}
-use Rattle.std.specs.List.{count_by}
+use Rattle.std.specs.Prelude.{◌≡◌, ◌⊎◌, ◌≤◌, ◌+◌, ◌-◌, ℕ, max, nat_lt, Bool, true, List, [], ◌∷◌, ◌++◌, length, take, Some}
+use Rattle.std.specs.List.{count_by, AllByRecursion}
 use Rattle.lrs_measure.specs.Texts.{Name, same_name}
 use Rattle.lrs_machine.specs.declared.answer.Answer.{Answer}
 use Rattle.lrs_machine.specs.declared.answer.Answer.TheVariants.{Done, Again}
@@ -8,7 +8,7 @@ use Rattle.lrs_machine.specs.declared.answer.Limits.{Limits}
 use Rattle.lrs_machine.specs.State.{State}
 use Rattle.lrs_machine.specs.Machine.{Record, step_record, answers, state_after}
 use Rattle.lrs_machine.specs.Laws.{IsLawful}
-use Rattle.lrs_stops.specs.Stopped.{Step, Open, Act, Unserved, StopWithin, Stop, Moment, at_rest, IsRun, Keeps, acknowledged, SendsFirst}
+use Rattle.lrs_stops.specs.Stopped.{Step, Open, Act, Unserved, StopWithin, Stop, Moment, at_rest, IsRun, IsAccepted, Keeps, acknowledged, SendsFirst}
 
 -- The open desk acts on what is stored.
 abbrev pub DeskIsStored : Type 0
@@ -20,7 +20,7 @@ pub record IsMadeBy (limits : Limits) (start : State) (xs : List Step) (found : 
   pub kept : Keeps xs commands
   pub stored : found ≡ state_after limits commands start
 
--- What is stored, and so what an opening finds, is the fold over the commands that were answered, each one that was in flight at its point or left out.
+-- What is stored, and so what an opening finds, is the fold over the commands that were answered, with some first ones of those that were in flight, at their point.
 abbrev pub StoredIsFold : Type 0
 StoredIsFold = (limits : Limits) (start : State) (xs : List Step) (m : Moment) → IsRun limits (at_rest start) xs m → IsMadeBy limits start xs m.stored
 
@@ -39,21 +39,21 @@ pub data StandsIn : Bool → Answer → Answer → Type 0 where
   same : (in_flight : Bool) (a : Answer) → StandsIn in_flight a a
   again : (n : ℕ) → StandsIn true (Again n) (Done n)
 
--- The answers that were given stand in for the expected ones; whether the first command was in flight before.
-abbrev pub StandInFor : Bool → List Step → List Answer → Type 0
-StandInFor in_flight [] expected = expected ≡ []
-StandInFor in_flight (Act r given ∷ xs) expected = (a : Answer) × (rest : List Answer) × (expected ≡ a ∷ rest) × StandsIn in_flight given a × StandInFor false xs rest
-StandInFor in_flight (StopWithin r ∷ xs) expected = StandInFor true xs expected
-StandInFor in_flight (Open ∷ xs) expected = StandInFor in_flight xs expected
-StandInFor in_flight (Unserved r ∷ xs) expected = StandInFor in_flight xs expected
-StandInFor in_flight (Stop ∷ xs) expected = StandInFor in_flight xs expected
+-- The answers that were given stand in for the expected ones; the count is of the next commands that were in flight before.
+abbrev pub StandInFor : ℕ → List Step → List Answer → Type 0
+StandInFor count [] expected = expected ≡ []
+StandInFor count (Act r given ∷ xs) expected = (a : Answer) × (rest : List Answer) × (expected ≡ a ∷ rest) × StandsIn (nat_lt 0 count) given a × StandInFor (count - 1) xs rest
+StandInFor count (StopWithin rs r ∷ xs) expected = StandInFor (max count (length rs + 1)) xs expected
+StandInFor count (Open ∷ xs) expected = StandInFor count xs expected
+StandInFor count (Unserved r ∷ xs) expected = StandInFor count xs expected
+StandInFor count (Stop ∷ xs) expected = StandInFor count xs expected
 
 -- as if nothing had stopped
 pub record IsUnstopped (limits : Limits) (start : State) (xs : List Step) (found : State) : Type 0 where
   pub stored : found ≡ state_after limits (acknowledged xs) start
-  pub given : StandInFor false xs (answers limits (acknowledged xs) start)
+  pub given : StandInFor 0 xs (answers limits (acknowledged xs) start)
 
--- Where each command in flight is sent first afterwards and the rest follows, state and answers are those of the same commands without a stop.
+-- Where those in flight are sent first afterwards, in their order, and the rest follows, state and answers are those of the same commands without a stop.
 abbrev pub SentFirstIsUnstopped : Type 0
 SentFirstIsUnstopped = (limits : Limits) (start : State) (xs : List Step) (m : Moment) → IsRun limits (at_rest start) xs m → SendsFirst xs → IsUnstopped limits start xs m.stored
 
@@ -83,13 +83,19 @@ NoneIsDoubled = (limits : Limits) (start : State) (xs : List Step) (m : Moment) 
 abbrev pub StoredIsLawful : Type 0
 StoredIsLawful = (limits : Limits) (start : State) (xs : List Step) (m : Moment) → IsLawful start → IsRun limits (at_rest start) xs m → IsLawful m.stored
 
--- Where a desk is open and a command is sent, a run may stop with what was stored, and with the next state.
+-- Where a desk is open and a command is sent alone, a run may stop with what was stored, and with the next state.
 pub record BothCanBe (limits : Limits) (start : State) (xs : List Step) (r : Record) (s : State) : Type 0 where
-  pub old : IsRun limits (at_rest start) (xs ++ StopWithin r ∷ []) (at_rest s)
-  pub next : IsRun limits (at_rest start) (xs ++ StopWithin r ∷ []) (at_rest (step_record limits r s).state)
+  pub old : IsRun limits (at_rest start) (xs ++ StopWithin [] r ∷ []) (at_rest s)
+  pub next : IsRun limits (at_rest start) (xs ++ StopWithin [] r ∷ []) (at_rest (step_record limits r s).state)
 
 abbrev pub StopsHaveBothOutcomes : Type 0
 StopsHaveBothOutcomes = (limits : Limits) (start s : State) (xs : List Step) (r : Record) (m : Moment) → IsRun limits (at_rest start) xs m → m.desk ≡ Some s → BothCanBe limits start xs r s
+
+-- Where commands are sent together, all but the last of them accepted, a run may stop with any first ones of them stored.
+abbrev pub StopsHaveEachOutcome : Type 0
+StopsHaveEachOutcome = (limits : Limits) (start s : State) (xs : List Step) (rs : List Record) (r : Record) (k : ℕ) (m : Moment)
+    → IsRun limits (at_rest start) xs m → m.desk ≡ Some s → AllByRecursion IsAccepted (answers limits rs s)
+    → IsRun limits (at_rest start) (xs ++ StopWithin rs r ∷ []) (at_rest (state_after limits (take k (rs ++ r ∷ [])) s))
 
 -- There is a run of any commands that stops nowhere.
 pub record IsServed (limits : Limits) (start : State) (rs : List Record) : Type 0 where

@@ -1,9 +1,11 @@
 -- Runs that stop: what each step does to what is stored, and to the state on which the open desk acts.
-use Rattle.std.specs.Prelude.{◌≡◌, ◌⊎◌, List, [], ◌∷◌, Option, Some, None}
+use Rattle.std.specs.Prelude.{◌≡◌, ℕ, List, [], ◌∷◌, ◌++◌, take, Option, Some, None}
+use Rattle.std.specs.List.{AllByRecursion}
 use Rattle.lrs_machine.specs.declared.answer.Answer.{Answer}
+use Rattle.lrs_machine.specs.declared.answer.Answer.TheVariants.{Done, Again, Refused}
 use Rattle.lrs_machine.specs.declared.answer.Limits.{Limits}
 use Rattle.lrs_machine.specs.State.{State}
-use Rattle.lrs_machine.specs.Machine.{Record, step_record}
+use Rattle.lrs_machine.specs.Machine.{Record, step_record, answers, state_after}
 
 -- What happens to an inventory that is stored, one thing after another.
 pub data Step : Type 0 where
@@ -13,8 +15,8 @@ pub data Step : Type 0 where
   Act : Record → Answer → Step
   -- a command is sent, and it is told that it was not acted on: memory was lacking, or no desk acts until the store is opened
   Unserved : Record → Step
-  -- a command is sent, and the program stops or the store fails before it has its answer: the command is in flight
-  StopWithin : Record → Step
+  -- Commands are sent together, one after another, and the program stops or the store fails before any of them has its answer: they are in flight. Those before the last were accepted.
+  StopWithin : List Record → Record → Step
   -- the program stops between two commands or within an opening, or an opening fails
   Stop : Step
 
@@ -43,11 +45,19 @@ pub record Acts (limits : Limits) (r : Record) (answer : Answer) (before after :
   pub stored : after.stored ≡ (step_record limits r known).state
   pub desk : after.desk ≡ Some (step_record limits r known).state
 
--- A command in flight: what is stored is as it was, or the next state as a whole.
-pub record StopsWithin (limits : Limits) (r : Record) (before after : Moment) : Type 0 where
+-- the answer says that the command is an edit
+abbrev pub IsAccepted : Answer → Type 0
+IsAccepted (Done n) = Unit {0}
+IsAccepted (Again n) = Unit {0}
+IsAccepted (Refused c) = ⊥
+
+-- Commands in flight, rs and then r: what is stored is what some first ones of them make, perhaps none, perhaps all.
+pub record StopsWithin (limits : Limits) (rs : List Record) (r : Record) (before after : Moment) : Type 0 where
   pub known : State
   pub acts_on : before.desk ≡ Some known
-  pub stored : (after.stored ≡ before.stored) ⊎ (after.stored ≡ (step_record limits r known).state)
+  -- those before the last were accepted: the desk ends a group at the first refusal
+  pub accepted : AllByRecursion IsAccepted (answers limits rs known)
+  pub stored : (k : ℕ) × (after.stored ≡ state_after limits (take k (rs ++ r ∷ [])) known)
   pub desk : after.desk ≡ None
 
 -- what a step may make of a moment
@@ -55,7 +65,7 @@ abbrev pub IsStep : Limits → Moment → Step → Moment → Type 0
 IsStep limits before Open after = Opens before after
 IsStep limits before (Act r answer) after = Acts limits r answer before after
 IsStep limits before (Unserved r) after = after ≡ before
-IsStep limits before (StopWithin r) after = StopsWithin limits r before after
+IsStep limits before (StopWithin rs r) after = StopsWithin limits rs r before after
 IsStep limits before Stop after = after ≡ at_rest before.stored
 
 -- a run: one step after another
@@ -63,12 +73,12 @@ abbrev pub IsRun : Limits → Moment → List Step → Moment → Type 0
 IsRun limits before [] after = after ≡ before
 IsRun limits before (x ∷ xs) after = (m : Moment) × IsStep limits before x m × IsRun limits m xs after
 
--- The commands of a run of which the state is made: each that got its answer, in order, and each that was in flight at its point or left out.
+-- The commands of a run of which the state is made: each that got its answer, in order, and of those in flight some first ones at their point, the others left out.
 pub data Keeps : List Step → List Record → Type 0 where
   nothing : Keeps [] []
   answered : (r : Record) (a : Answer) (xs : List Step) (rs : List Record) → Keeps xs rs → Keeps (Act r a ∷ xs) (r ∷ rs)
-  at_its_point : (r : Record) (xs : List Step) (rs : List Record) → Keeps xs rs → Keeps (StopWithin r ∷ xs) (r ∷ rs)
-  left_out : (r : Record) (xs : List Step) (rs : List Record) → Keeps xs rs → Keeps (StopWithin r ∷ xs) rs
+  -- some first ones of those that were in flight, at their point
+  in_flight : (k : ℕ) (rs : List Record) (r : Record) (xs : List Step) (kept : List Record) → Keeps xs kept → Keeps (StopWithin rs r ∷ xs) (take k (rs ++ r ∷ []) ++ kept)
   opened : (xs : List Step) (rs : List Record) → Keeps xs rs → Keeps (Open ∷ xs) rs
   unserved : (r : Record) (xs : List Step) (rs : List Record) → Keeps xs rs → Keeps (Unserved r ∷ xs) rs
   stopped : (xs : List Step) (rs : List Record) → Keeps xs rs → Keeps (Stop ∷ xs) rs
@@ -79,22 +89,13 @@ acknowledged [] = []
 acknowledged (Act r a ∷ xs) = r ∷ acknowledged xs
 acknowledged (Open ∷ xs) = acknowledged xs
 acknowledged (Unserved r ∷ xs) = acknowledged xs
-acknowledged (StopWithin r ∷ xs) = acknowledged xs
+acknowledged (StopWithin rs r ∷ xs) = acknowledged xs
 acknowledged (Stop ∷ xs) = acknowledged xs
 
--- the first command on which a desk acts
-abbrev pub first_acted_on : List Step → Option Record
-first_acted_on [] = None
-first_acted_on (Act r a ∷ xs) = Some r
-first_acted_on (StopWithin r ∷ xs) = Some r
-first_acted_on (Open ∷ xs) = first_acted_on xs
-first_acted_on (Unserved r ∷ xs) = first_acted_on xs
-first_acted_on (Stop ∷ xs) = first_acted_on xs
-
--- Each command in flight is sent first afterwards, under its key, until it has its answer.
+-- Those that were in flight are sent first afterwards, in their order, under their keys, until each has its answer.
 abbrev pub SendsFirst : List Step → Type 0
 SendsFirst [] = Unit {0}
-SendsFirst (StopWithin r ∷ xs) = (first_acted_on xs ≡ Some r) × SendsFirst xs
+SendsFirst (StopWithin rs r ∷ xs) = (rest : List Record) × (acknowledged xs ≡ (rs ++ r ∷ []) ++ rest) × SendsFirst xs
 SendsFirst (Act r a ∷ xs) = SendsFirst xs
 SendsFirst (Open ∷ xs) = SendsFirst xs
 SendsFirst (Unserved r ∷ xs) = SendsFirst xs

@@ -1,6 +1,6 @@
 //! Laws of runs that stop.
 
-ghost use Rattle.lrs_stops.specs.Laws.{DeskIsStored, StoredIsFold, AnswersAreOfFold, SentFirstIsUnstopped, NoneIsLost, NoneIsDoubled, StoredIsLawful, StopsHaveBothOutcomes, RunsAreThere};
+ghost use Rattle.lrs_stops.specs.Laws.{DeskIsStored, StoredIsFold, AnswersAreOfFold, SentFirstIsUnstopped, NoneIsLost, NoneIsDoubled, StoredIsLawful, StopsHaveBothOutcomes, StopsHaveEachOutcome, RunsAreThere};
 
 /// The open desk acts on what is stored.
 pub fn the_desk_acts_on_what_is_stored()
@@ -8,7 +8,7 @@ pub fn the_desk_acts_on_what_is_stored()
 {}
 
 /// What is stored, and so what an opening finds, is the fold over the commands that were answered, in
-/// order, with each one that was in flight at its point or left out.
+/// order, with some first ones of those that were in flight, at their point.
 pub fn what_is_stored_is_a_fold()
     ensures { StoredIsFold }
 {}
@@ -18,9 +18,9 @@ pub fn answers_are_of_the_fold()
     ensures { AnswersAreOfFold }
 {}
 
-/// Where each command in flight is sent first after the opening, under its key, and the rest follows, the
-/// state is that of the same commands without a stop, and so is each answer, but for `Again` with the
-/// edit's number in place of `Done` where the command had been in flight.
+/// Where those in flight are sent first after the opening, in their order, under their keys, and the rest
+/// follows, the state is that of the same commands without a stop, and so is each answer, but for `Again`
+/// with the edit's number in place of `Done` where the command had been in flight.
 pub fn sent_first_is_as_without_stops()
     ensures { SentFirstIsUnstopped }
 {}
@@ -45,6 +45,11 @@ pub fn what_is_stored_is_lawful()
 /// A run can stop within any command, with what was stored before it and with its next state.
 pub fn stops_have_both_outcomes()
     ensures { StopsHaveBothOutcomes }
+{}
+
+/// A run can stop within any commands that are sent together, with any first ones of them stored.
+pub fn stops_have_each_outcome()
+    ensures { StopsHaveEachOutcome }
 {}
 
 /// For any commands there is a run that stops nowhere.

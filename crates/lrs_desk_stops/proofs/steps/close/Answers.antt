@@ -1,7 +1,4 @@
-use Rattle.std.proofs.Common.{sym, subst}
-use Rattle.std.specs.Prelude.{Result}
-use Rattle.lrs_machine.specs.declared.image.Image.{Image}
-use Rattle.lrs_machine.specs.declared.table.Table.{Table}
+use Rattle.std.proofs.Common.{subst}
 use Rattle.lrs_desk_stops.specs.Steps.{acting}
 use Rattle.lrs_desk_stops.proofs.Stepping.{stop_is_step}
 use Rattle.lrs_desk_stops.proofs.steps.close.Goals as goal
