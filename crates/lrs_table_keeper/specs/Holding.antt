@@ -1,5 +1,5 @@
 -- What an opening of the tables of a store may find, and what a keeper over them knows.
-use Rattle.std.specs.Prelude.{◌≡◌, ℕ, ◌⊎◌, pos, Bool, true, false, [], ◌∷◌, length, Result, Ok, Err, IsTrue, ⊤}
+use Rattle.std.specs.Prelude.{◌≡◌, ℕ, pos, Bool, true, false, [], ◌∷◌, length, Result, Ok, Err, IsTrue, ⊤}
 use Rattle.std.proofs.Common.{refl}
 use Rattle.sqlite_trees.specs.Tree.{Trees}
 use Rattle.sqlite.specs.State.{State, HasCleanDisk}
@@ -7,8 +7,6 @@ use Rattle.lrs_machine.specs.declared.image.Image.{Image}
 use Rattle.lrs_machine.specs.declared.table.Table.{Table}
 use Rattle.lrs_keep.specs.declared.keeper.LoadFault.{LoadFault}
 use Rattle.lrs_keep.specs.declared.keeper.LoadFault.TheVariants.{Memory, Store, Unsound}
-use Rattle.lrs_keep.specs.declared.change.Change.{Change}
-use Rattle.lrs_keep.specs.Keeping.{IsChanged}
 use Rattle.lrs_store.specs.Tables.{Tables}
 use Rattle.lrs_store.specs.Content.{content_of}
 use Rattle.lrs_tables.specs.Stored.{stored}
@@ -54,7 +52,3 @@ Tells (Ok image) t = content_of t ≡ Ok image
 Tells (Err Memory) t = ⊤
 Tells (Err Store) t = ⊥
 Tells (Err (Unsound table)) t = content_of t ≡ Err table
-
--- what may be found after a failed commit: what might before, or what the change makes of that
-abbrev pub IsOldOrChanged : (Result Image Table → Type 0) → Change → Result Image Table → Type 0
-IsOldOrChanged before change c = before c ⊎ IsChanged before change c

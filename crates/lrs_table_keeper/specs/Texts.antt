@@ -1,6 +1,6 @@
 -- The texts that come with a change.
 use Rattle.std.specs.Prelude.{List, IsTrue, IfSome}
-use Rattle.std.specs.List.{list_all}
+use Rattle.std.specs.List.{list_all, AllByRecursion}
 use Rattle.std.specs.Str.{IsUtf8}
 use Rattle.lrs_position.specs.declared.route.Referent.{Referent}
 use Rattle.lrs_position.specs.Names.{is_route_name, is_referent_name}
@@ -30,3 +30,7 @@ pub record HasTexts (c : Change) : Type 0 where
   pub made : IfSome c.difference.made MakesTexts
   pub key : IsTrue (is_key c.edit.key)
   pub line : IsUtf8 c.edit.line
+
+-- so is each that comes with one of the changes
+abbrev pub HaveTexts : List Change → Type 0
+HaveTexts changes = AllByRecursion HasTexts changes

@@ -22,6 +22,7 @@ use lrs_tables::tables::OpenFault;
 use sqlite::{Alter, Connection, MemStore};
 use std::alloc::Global;
 use std::marker::Model;
+use std::slice::from_ref;
 
 /// Keeps an image in the tables of a store. A commit is one transaction; loading reads all tables.
 ///
@@ -176,7 +177,7 @@ impl<S: Alter, R: ReadImage> Keeper for TableKeeper<S, R> {
             self.failures = self.failures.saturating_add(1);
             return Err(CommitFault::Store);
         }
-        match write_next(&mut self.conn, self.edits, change) {
+        match write_next(&mut self.conn, self.edits, from_ref(change)) {
             Ok(edits) => {
                 self.edits = edits;
                 Ok(())

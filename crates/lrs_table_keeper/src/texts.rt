@@ -1,4 +1,4 @@
-//! The texts that come with a change.
+//! The texts that come with changes.
 
 ghost use Rattle.std.specs.Prelude.{IsTrue, IfSome};
 ghost use Rattle.std.specs.List.{list_all};
@@ -6,7 +6,7 @@ ghost use Rattle.std.specs.Str.{IsUtf8};
 ghost use Rattle.lrs_position.specs.Names.{is_route_name, is_referent_name};
 ghost use Rattle.lrs_events.specs.Names.{is_class_name, is_value};
 ghost use Rattle.lrs_machine.specs.Keys.{is_key};
-ghost use Rattle.lrs_table_keeper.specs.Texts.{HasTexts, AreNames, MakesTexts, ChangesTexts};
+ghost use Rattle.lrs_table_keeper.specs.Texts.{HasTexts, HaveTexts, AreNames, MakesTexts, ChangesTexts};
 
 use lrs_events::{Asset, Class};
 use lrs_keep::{Change, RouteChange};
@@ -69,8 +69,8 @@ fn edit(edit: &Edit)
     let _line = edit.line.as_str().as_bytes();
 }
 
-/// Each text that comes with a change is of its kind, as its type says. It does nothing: a contract names it.
-pub(crate) fn texts(change: &Change)
+/// Each text that comes with a change is of its kind, as its type says.
+fn texts(change: &Change)
     ensures { HasTexts change.now }
 {
     let difference = &change.difference;
@@ -79,4 +79,13 @@ pub(crate) fn texts(change: &Change)
     changed(&difference.changed);
     made(&difference.made);
     edit(&change.edit);
+}
+
+/// So is each text that comes with one of the changes. It does nothing: a contract names it.
+pub(crate) fn all_texts(changes: &[Change])
+    ensures { HaveTexts changes.now }
+{
+    for change in changes {
+        texts(change);
+    }
 }

@@ -19,7 +19,6 @@ use Rattle.lrs_machine.specs.declared.image.RouteEntry.{RouteEntry}
 use Rattle.lrs_keep.specs.declared.change.ReferentChange.{ReferentChange}
 use Rattle.lrs_keep.specs.declared.change.RouteChange.{RouteChange}
 use Rattle.lrs_keep.specs.declared.change.Difference.{Difference}
-use Rattle.lrs_keep.specs.declared.change.Change.{Change}
 use Rattle.lrs_store.specs.Tables.{Tables}
 use Rattle.lrs_store.specs.Laws.{origin_row, brought_up}
 use Rattle.lrs_store.specs.Tables.{AreSame}
@@ -27,7 +26,7 @@ use Rattle.lrs_store.specs.Encoding.{link_row, class_row, asset_row, piece_row, 
 use Rattle.lrs_tables.specs.RowLaws.{same_trans}
 use Rattle.lrs_tables.specs.Changing as it
 use Rattle.lrs_tables.specs.Changing.{has_key_of}
-use Rattle.lrs_tables.specs.Writing.{with_some, new_pieces, new_marks, changed_refs, changed_spans, changed_route, new_route, with_ledgers, written, IsWritten}
+use Rattle.lrs_tables.specs.Writing.{with_some, new_pieces, new_marks, changed_refs, changed_spans, changed_route, new_route, with_ledgers}
 
 -- what makes the same rows of the same rows
 abbrev pub IsSteady : (Tables → Tables) → Type 0
@@ -149,21 +148,3 @@ steady-new_route e pieces a b h =
 
 pub steady-with_ledgers : (d : Difference) → IsSteady (with_ledgers d)
 steady-with_ledgers d a b h = steady-with_gone d.gone _ _ (steady-with_entered d.entered a b h)
-
-pub steady-written : (n : ℕ) (c : Change) (changed made : Option (List Piece)) → IsSteady (written n c changed made)
-steady-written n c changed made a b h =
-    let d = c.difference in
-    steady-with_edit n c.edit _ _ (steady-with_ledgers d _ _
-    (steady_some (λ (e : RouteEntry). new_route e made) (λ e. steady-new_route e made) d.made _ _
-    (steady_some (λ (r : RouteChange). changed_route r changed) (λ r. steady-changed_route r changed) d.changed _ _ (steady_some it.without_route steady-without_route d.dropped _ _
-    (steady_some it.with_asset steady-with_asset d.asset _ _ (steady_some it.with_class steady-with_class d.class _ _ (steady_some it.with_link steady-with_link d.link a b h)))))))
-
--- what is written of rows is written of the same rows
-pub written_from : (n : ℕ) (c : Change) (t before after : Tables) → AreSame t before → IsWritten n c before after → IsWritten n c t after
-written_from n c t before after same it = record {
-  changed = it.changed;
-  changed_are = it.changed_are;
-  made = it.made;
-  made_are = it.made_are;
-  rows = same_trans _ _ _ (steady-written n c it.changed it.made t before same) it.rows;
-}

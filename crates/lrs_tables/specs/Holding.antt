@@ -1,12 +1,10 @@
 -- What an opening of a store at this moment may find, after a crash too.
-use Rattle.std.specs.Prelude.{ℕ, ◌⊎◌}
+use Rattle.std.specs.Prelude.{◌⊎◌}
 use Rattle.sqlite_trees.specs.Tree.{Trees}
 use Rattle.sqlite.specs.State.{State, HasCleanDisk}
-use Rattle.lrs_keep.specs.declared.change.Change.{Change}
 use Rattle.lrs_store.specs.Tables.{Tables}
 use Rattle.lrs_store.specs.Tables.{AreSame}
 use Rattle.lrs_tables.specs.Stored.{stored}
-use Rattle.lrs_tables.specs.Writing.{IsWritten}
 
 -- nothing but these rows, in any order
 abbrev pub HoldsOnly : State → Tables → Type 0
@@ -15,11 +13,3 @@ HoldsOnly s t = HasCleanDisk s → (db : Trees) → s.may_leave db → AreSame t
 -- nothing but the first rows, or nothing but the second
 abbrev pub HoldsOneOf : State → Tables → Tables → Type 0
 HoldsOneOf s t u = HasCleanDisk s → (db : Trees) → s.may_leave db → AreSame t (stored db) ⊎ AreSame u (stored db)
-
--- nothing but what the change, whose edit has this number, makes of these rows
-abbrev pub HoldsChanged : ℕ → Change → State → Tables → Type 0
-HoldsChanged n c s t = HasCleanDisk s → (db : Trees) → s.may_leave db → IsWritten n c t (stored db)
-
--- one or the other, and nothing in between
-abbrev pub HoldsEither : ℕ → Change → State → Tables → Type 0
-HoldsEither n c s t = HasCleanDisk s → (db : Trees) → s.may_leave db → AreSame t (stored db) ⊎ IsWritten n c t (stored db)

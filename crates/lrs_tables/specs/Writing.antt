@@ -1,5 +1,5 @@
--- What a change makes of the rows of a store.
-use Rattle.std.specs.Prelude.{ℕ, List, Option, Some, None, IsTrue, ⊤}
+-- What a change makes of the rows of a store, and what several make of them.
+use Rattle.std.specs.Prelude.{◌≡◌, ℕ, ◌+◌, ◌<◌, List, [], ◌∷◌, length, Option, Some, None, IsTrue, ⊤}
 use Rattle.lrs_measure.specs.Texts.{Name}
 use Rattle.lrs_element.specs.declared.link.Ground.{Ground}
 use Rattle.lrs_element.specs.declared.link.Piece.{Piece}
@@ -98,3 +98,15 @@ pub record Writes (n : ℕ) (c : Change) (old new : State) : Type 0 where
   pub writing : IsWriting new
   pub was_open : IsTrue old.is_open
   pub rows : IsWritten n c (stored old.now.trees) (stored new.now.trees)
+
+-- The second rows are the first after these changes, each written of what the one before it left. The edit of the first change has this number, each next one more.
+abbrev pub AreWritten : ℕ → List Change → Tables → Tables → Type 0
+AreWritten n [] before after = before ≡ after
+AreWritten n (c ∷ cs) before after = (middle : Tables) × IsWritten n c before middle × AreWritten (n + 1) cs middle after
+
+-- a call inside a transaction writes these changes; that the store was open is known where there is one
+pub record WritesEach (n : ℕ) (cs : List Change) (old new : State) : Type 0 where
+  pub writing : IsWriting new
+  pub was_open : IsTrue new.is_open → IsTrue old.is_open
+  pub is_open : 0 < length cs → IsTrue old.is_open
+  pub rows : AreWritten n cs (stored old.now.trees) (stored new.now.trees)

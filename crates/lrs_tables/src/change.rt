@@ -1,10 +1,10 @@
-//! A change is written, as a whole.
+//! Changes are written, as a whole.
 
-ghost use Rattle.std.specs.Prelude.{◌≡◌, OnOk, IsTrue, false};
+ghost use Rattle.std.specs.Prelude.{◌≡◌, ◌+◌, ◌<◌, ◌^◌, length, OnOk, IsTrue, false};
 ghost use Rattle.sqlite.specs.State.{HasCleanDisk, Survives};
 ghost use Rattle.sqlite.specs.Held.{state};
 ghost use Rattle.lrs_tables.specs.Stored.{Makes, stored, OkDoes, LeavesStore};
-ghost use Rattle.lrs_tables.specs.Writing.{MakesOf, Writes, IsWritten, with_some, changed_course, changed_route, new_course, new_route, with_ledgers};
+ghost use Rattle.lrs_tables.specs.Writing.{MakesOf, Writes, WritesEach, AreWritten, with_some, changed_course, changed_route, new_course, new_route, with_ledgers};
 ghost use Rattle.lrs_tables.specs.Changing.{without_route, with_entered, with_gone};
 ghost use Rattle.lrs_tables.specs.Resting.{IsReady};
 
@@ -107,25 +107,45 @@ fn write_rows<S: Alter>(tx: &mut Transaction<'_, S>, n: u64, change: &Change) ->
     Ok(())
 }
 
-/// Writes a change, whose edit has this number, in one transaction. It writes all of it or nothing, and asks
-/// nothing of the store after the commit.
+/// Writes the rows of changes, one after the other: the edit of the first has this number, each next one more.
+fn write_each<S: Alter>(
+    tx: &mut Transaction<'_, S>,
+    n: u64,
+    changes: &[Change],
+) -> Result<(), Error>
+    requires fits { n + length changes.now < 2 ^ 64 }
+    ensures same_reference { tx.new.conn.ghost_name ≡ tx.old.conn.ghost_name }
+    ensures does { OkDoes result (state S.Store tx.old.conn.now) (state S.Store tx.new.conn.now) (WritesEach n changes.now) }
+    ensures survives { LeavesStore (state S.Store tx.old.conn.now) (state S.Store tx.new.conn.now) }
+{
+    for i in 0..changes.len() {
+        write_rows(tx, n + i as u64, &changes[i])?;
+    }
+    Ok(())
+}
+
+/// Writes changes in one transaction: the edit of the first has this number, each next one more. It writes all of
+/// them or nothing, and asks nothing of the store after the commit. With no change a commit would say nothing of
+/// a store that was shut, so there is at least one.
 ///
 /// # Errors
-/// When the store fails, or a number is too large for it. What is stored is then as it was, or with the change.
-pub fn write_change<S: Alter>(
+/// When the store fails, or a number is too large for it. What is stored is then as it was, or with all changes.
+pub fn write_changes<S: Alter>(
     conn: &mut Connection<S>,
     n: u64,
-    change: &Change,
+    changes: &[Change],
 ) -> Result<(), Error>
     requires autocommit { conn.old.in_transaction ≡ false }
     requires ready { IsReady (state S.Store conn.old) }
+    requires some { 0 < length changes.now }
+    requires fits { n + length changes.now < 2 ^ 64 }
     ensures autocommit { conn.new.in_transaction ≡ false }
-    ensures written { HasCleanDisk (state S.Store conn.new) → OnOk result (IsWritten n change.now (stored (state S.Store conn.old).now.trees) (stored (state S.Store conn.new).committed.trees)) }
+    ensures written { HasCleanDisk (state S.Store conn.new) → OnOk result (AreWritten n changes.now (stored (state S.Store conn.old).now.trees) (stored (state S.Store conn.new).committed.trees)) }
     ensures is_open { HasCleanDisk (state S.Store conn.new) → OnOk result (IsTrue (state S.Store conn.old).is_open × IsTrue (state S.Store conn.new).is_open) }
     ensures ready { OnOk result (IsReady (state S.Store conn.new)) }
-    ensures crash { Survives (state S.Store conn.old) (state S.Store conn.new) (λ db. IsTrue (state S.Store conn.old).is_open × IsWritten n change.now (stored (state S.Store conn.old).now.trees) (stored db)) }
+    ensures crash { Survives (state S.Store conn.old) (state S.Store conn.new) (λ db. IsTrue (state S.Store conn.old).is_open × AreWritten n changes.now (stored (state S.Store conn.old).now.trees) (stored db)) }
 {
     let mut tx = conn.transaction();
-    write_rows(&mut tx, n, change)?;
+    write_each(&mut tx, n, changes)?;
     tx.commit()
 }

@@ -7,14 +7,13 @@ ghost use Rattle.lrs_keep.specs.Keeping.{HasRisen};
 ghost use Rattle.lrs_store.specs.Laws.{brought_up};
 ghost use Rattle.lrs_store.specs.Tables.{Tables as Stored};
 ghost use Rattle.lrs_tables.specs.Resting.{IsReady};
-ghost use Rattle.lrs_tables.specs.Holding.{HoldsOnly, HoldsOneOf, HoldsChanged, HoldsEither};
+ghost use Rattle.lrs_tables.specs.Holding.{HoldsOnly, HoldsOneOf};
 ghost use Rattle.lrs_tables.specs.Starting.{new_rows};
 
 use crate::bringing_up::bring_up;
-use crate::change::write_change;
 use crate::start::make_store;
 use lrs_events::Asset;
-use lrs_keep::{Change, CommitFault};
+use lrs_keep::CommitFault;
 use sqlite::{Alter, Connection, Error, ErrorCode, MemStore};
 use std::alloc::Global;
 
@@ -27,28 +26,6 @@ pub struct Tables<S: Alter> {
 }
 
 impl<S: Alter> Tables<S> {
-    /// Writes a change, whose edit has this number, as a whole. After Ok an opening finds what the change makes
-    /// of the rows, and after a fault of the store that or the rows as they were.
-    ///
-    /// # Errors
-    /// When the store fails.
-    pub fn commit(&mut self, n: u64, change: &Change) -> Result<(), CommitFault>
-        requires ready { (self.old.conn.in_transaction ≡ false) × IsReady (state S.Store self.old.conn) }
-        ensures ready { OnOk result ((self.new.conn.in_transaction ≡ false) × IsReady (state S.Store self.new.conn)) }
-        ensures ok { OnOk result ((t : Stored) → HoldsOnly (state S.Store self.old.conn) t → HoldsChanged n change.now (state S.Store self.new.conn) t) }
-        ensures store { result ≡ Err CommitFault.Store → (t : Stored) → HoldsOnly (state S.Store self.old.conn) t → HoldsEither n change.now (state S.Store self.new.conn) t }
-        ensures only { OnErr result (result ≡ Err CommitFault.Store) }
-        ensures cause { result ≡ Err CommitFault.Store → HasRisen self.old.failures self.new.failures }
-    {
-        match write_change(&mut self.conn, n, change) {
-            Ok(()) => Ok(()),
-            Err(_) => {
-                self.failures = self.failures.saturating_add(1);
-                Err(CommitFault::Store)
-            }
-        }
-    }
-
     /// Brings a store of version 1 up to version 2, with the edits that entered these assets, as a whole. After Ok
     /// an opening finds the rows of version 2, and after a fault of the store these or the rows as they were.
     ///

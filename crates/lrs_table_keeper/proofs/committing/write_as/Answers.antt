@@ -6,18 +6,18 @@ use Rattle.lrs_table_keeper.proofs.committing.write_as.Goals as goal
 
 pub returns-in-Ok-clause-edits : goal.returns-in-Ok-clause-edits
 returns-in-Ok-clause-edits g c =
-    let early : HasCleanDisk (state g.S.Store c.write_change.new.conn) → HasCleanDisk (state g.S.Store c.args.conn.now) = λ clean. omega (arith, clean, c.write_change.ensures.crash.clean) in
-    counted g.S.Store g.met.S.Store.stays g.met.S.Store.settled c.args.conn.now c.args.n c.args.edits c.args.change.now c.requires.ready c.requires.next c.requires.edits c.requires.can c.texts.ensures
-    c.write_change.new.conn early c.in-Ok.ensures.is_open c.in-Ok.ensures.written
+    let early : HasCleanDisk (state g.S.Store c.write_changes.new.conn) → HasCleanDisk (state g.S.Store c.args.conn.now) = λ clean. omega (arith, clean, c.write_changes.ensures.crash.clean) in
+    counted g.S.Store g.met.S.Store.stays g.met.S.Store.settled c.args.conn.now c.args.n c.args.edits c.args.changes.now c.requires.ready c.requires.next c.requires.edits c.requires.can c.all_texts.ensures
+    c.write_changes.new.conn early c.in-Ok.ensures.is_open c.in-Ok.ensures.written
 
 pub returns-in-Ok-clause-ok : goal.returns-in-Ok-clause-ok
 returns-in-Ok-clause-ok g c =
-    let early : HasCleanDisk (state g.S.Store c.write_change.new.conn) → HasCleanDisk (state g.S.Store c.args.conn.now) = λ clean. omega (arith, clean, c.write_change.ensures.crash.clean) in
-    changed g.S.Store g.met.S.Store.stays g.met.S.Store.settled c.args.conn.now c.args.n c.args.edits c.args.change.now c.requires.ready c.requires.next c.requires.edits c.requires.can c.texts.ensures
-    c.write_change.new.conn early c.in-Ok.ensures.is_open c.in-Ok.ensures.written
+    let early : HasCleanDisk (state g.S.Store c.write_changes.new.conn) → HasCleanDisk (state g.S.Store c.args.conn.now) = λ clean. omega (arith, clean, c.write_changes.ensures.crash.clean) in
+    changed g.S.Store g.met.S.Store.stays g.met.S.Store.settled c.args.conn.now c.args.n c.args.edits c.args.changes.now c.requires.ready c.requires.next c.requires.edits c.requires.can c.all_texts.ensures
+    c.write_changes.new.conn early c.in-Ok.ensures.is_open c.in-Ok.ensures.written
 
 pub returns-in-Err-clause-err : goal.returns-in-Err-clause-err
 returns-in-Err-clause-err g c =
-    let early : HasCleanDisk (state g.S.Store c.write_change.new.conn) → HasCleanDisk (state g.S.Store c.args.conn.now) = λ clean. omega (arith, clean, c.write_change.ensures.crash.clean) in
-    old_or_changed g.S.Store g.met.S.Store.stays g.met.S.Store.settled c.args.conn.now c.args.n c.args.edits c.args.change.now c.requires.ready c.requires.next c.requires.edits c.requires.can c.texts.ensures
-    c.write_change.new.conn early c.write_change.ensures.crash.crash
+    let early : HasCleanDisk (state g.S.Store c.write_changes.new.conn) → HasCleanDisk (state g.S.Store c.args.conn.now) = λ clean. omega (arith, clean, c.write_changes.ensures.crash.clean) in
+    old_or_changed g.S.Store g.met.S.Store.stays g.met.S.Store.settled c.args.conn.now c.args.n c.args.edits c.args.changes.now c.requires.ready c.requires.next c.requires.edits c.requires.can c.all_texts.ensures
+    c.write_changes.new.conn early c.write_changes.ensures.crash.crash
