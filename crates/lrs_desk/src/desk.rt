@@ -1,6 +1,6 @@
 //! The desk: it does commands, and keeps what they change.
 
-ghost use Rattle.std.specs.Prelude.{◌≡◌, ◌↔◌, IsTrue, ◌+◌, IfOk, IfErr, OnOk, OnErr, Ok, Err, Result, ℕ, length, take, true, false};
+ghost use Rattle.std.specs.Prelude.{◌≡◌, ◌↔◌, IsTrue, ◌+◌, ◌≤◌, IfOk, IfErr, OnOk, OnErr, Ok, Err, Result, ℕ, length, take, true, false};
 ghost use Rattle.lrs_machine.specs.declared.table.Table.{Table};
 ghost use Rattle.lrs_machine.specs.declared.image.Image.{Image as ImageRows};
 ghost use Rattle.lrs_machine.specs.Image.{state_of};
@@ -10,7 +10,7 @@ ghost use Rattle.lrs_keep.specs.Change.{apply, CanMake};
 ghost use Rattle.lrs_keep.specs.Keeping.{HasRisen, HoldsOnly, HoldsOldOrNew};
 ghost use Rattle.lrs_totals.specs.Running.{IsCounted};
 ghost use Rattle.lrs_verbs.specs.Plans.{change_of, TellsGround};
-ghost use Rattle.lrs_desk.specs.Desk.{IsUnchanged, HasBroken, records_of};
+ghost use Rattle.lrs_desk.specs.Desk.{IsUnchanged, HasBroken, DoesFirst, BreaksAmid, records_of};
 
 use crate::decide::{Decision, decide};
 use lrs_events::Class;
@@ -214,6 +214,46 @@ impl<K: Keeper> Desk<K> {
                 made
             }
         }
+    }
+}
+
+impl<K: Keeper> Desk<K> {
+    /// Does the first of these commands, in order: one at least, and no more after one that is refused. What they
+    /// change is kept before they are answered.
+    ///
+    /// # Errors
+    ///
+    /// `Memory`, and nothing has changed. `Keep` if the keeper's device failed: the commands are in flight, and some
+    /// first ones of them may be kept. `MustReopen` from then on.
+    pub fn act_on_first(&mut self, commands: &[(Key, Command)]) -> Result<Vec<Answer>, Fault>
+        requires some { 1 ≤ length commands.now }
+        // The answers and the next state are the ground machine's.
+        ensures does { IfOk result (λ given. DoesFirst self.old.limits (records_of commands.now) (state_of self.old.image) (state_of self.new.image) given.items) }
+        ensures content { OnOk result (HoldsOnly (K.may_hold self.new.keeper) self.new.image) }
+
+        // Want of memory changes nothing.
+        ensures memory { result ≡ Err Fault.Memory → IsUnchanged K.may_hold self.old self.new }
+
+        // A commit fails only where the device does, and then some first commands are kept.
+        ensures keep { result ≡ Err Fault.Keep → BreaksAmid K.may_hold K.failures (records_of commands.now) self.old self.new }
+
+        // From then on the desk asks to be opened again, and at no other time.
+        ensures reopen { (result ≡ Err Fault.MustReopen) ↔ IsTrue self.old.must_reopen }
+        ensures stays { result ≡ Err Fault.MustReopen → IsUnchanged K.may_hold self.old self.new }
+        ensures limits { self.new.limits ≡ self.old.limits }
+        ensures open { OnOk result (self.new.must_reopen ≡ false) }
+    {
+        if self.must_reopen {
+            return Err(Fault::MustReopen);
+        }
+        let mut given = Vec::with_capacity(self.alloc, 1)?; // nothing fails after the commit
+        self.inventory.prove_sound();
+        let (key, command) = &commands[0]; // one as yet, whose change is kept by itself
+        let answer = self.act(*key, command)?;
+        if given.push(answer).is_err() {
+            unreachable!()
+        }
+        Ok(given)
     }
 }
 
