@@ -83,7 +83,7 @@ pub stays : {K : Type 0} {holds : K → Result Image Table → Type 0} (desk : D
 stays desk = record { limits = refl; kept = λ kept. kept; reopen = refl }
 
 -- one that goes along, and goes along
-along : {K : Type 0} {holds : K → Result Image Table → Type 0} (a b c : DeskView K) → GoesAlong holds a b → GoesAlong holds b c → GoesAlong holds a c
+pub along : {K : Type 0} {holds : K → Result Image Table → Type 0} (a b c : DeskView K) → GoesAlong holds a b → GoesAlong holds b c → GoesAlong holds a c
 along a b c first next = record { limits = next.limits ∙ first.limits; kept = λ kept. next.kept (first.kept kept); reopen = next.reopen ∙ first.reopen }
 
 -- before the first turn

@@ -2,3 +2,4 @@ pub mod Replies
 pub mod Sheets
 pub mod Rows
 pub mod Laws
+pub mod Waiting

@@ -7,6 +7,7 @@ pub mod laws;
 mod reply;
 mod rows;
 mod run;
+mod waiting;
 
 pub use fault::SheetFault;
 pub use lrs_records::{ReadFault, Sheet, command_of, survey_of};

@@ -17,6 +17,7 @@ ghost use Rattle.lrs_sheet.specs.Rows.{IsPlain, DoesRows, IsRowFault, DoesRow, S
 use crate::fault::SheetFault;
 use crate::reply::{Reply, Tally};
 use crate::rows::{next_row, open};
+use crate::waiting::write_reply;
 use csv::{ByteRecord, Reader};
 use lrs_desk::{Desk, Fault, Keeper};
 use lrs_machine::{Answer, Cause, Command, Key};
@@ -80,16 +81,6 @@ fn reply_to<K: Keeper>(
             answer,
         }),
         Err(fault) => Err(fault),
-    }
-}
-
-fn write_reply<W: Write>(writer: &mut W, reply: Reply) -> Result<(), SheetFault>
-    ensures written { OnOk result (Appends (W.contents writer.old) (W.contents writer.new) (reply_text reply ++ 10 ∷ [])) }
-    ensures faults { IfErr result (λ e. e ≡ SheetFault.Write) }
-{
-    match writeln!(writer, "{reply}") {
-        Ok(()) => Ok(()),
-        Err(_) => Err(SheetFault::Write),
     }
 }
 
