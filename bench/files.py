@@ -4,8 +4,8 @@
 
 A sheet of 15,000 accepted records over 50 routes, each of which enters an asset, is done by the program over a file
 on tmpfs, over a file on a disk and in memory; by Python's sqlite3, which writes the same rows into the same tables in
-one transaction a record (WAL, synchronous FULL) and tests nothing; and by PostgreSQL 15 with an exclusion constraint,
-one call of a function and one commit a record. The three take turns; a line has the seconds of the fastest of the
+one transaction a record, and in one for 256 records as the program does (WAL, synchronous FULL), and tests nothing; and by PostgreSQL 15 with an exclusion constraint,
+one call of a function and one commit a record. They take turns; a line has the seconds of the fastest of the
 runs, without those of a sheet that only makes the routes, and records a second. Before and after the runs on a disk
 stands what one fdatasync of 4 KB takes there, and for the program how many of them, and how many bytes, a record
 writes. PostgreSQL is installed by apt-get where it is missing. ROADLRS names another program to measure. With --page the
@@ -122,11 +122,11 @@ class Roadlrs:
 
 
 class Sqlite:
-    """Python's sqlite3, which writes the same rows and tests nothing."""
+    """Python's sqlite3, which writes the same rows, of so many records in one transaction, and tests nothing."""
 
-    def __init__(self, folder, page=None):
-        self.folder, self.page = folder, page
-        self.name = f"sqlite3 {sqlite3.sqlite_version} of Python"
+    def __init__(self, folder, page=None, together=1):
+        self.folder, self.page, self.together = folder, page, together
+        self.name = f"sqlite3 {sqlite3.sqlite_version} of Python" + ("" if together == 1 else f", {together} records a transaction")
 
     def seconds(self, count):
         with tempfile.TemporaryDirectory(dir=self.folder) as name:
@@ -138,14 +138,16 @@ class Sqlite:
             db.execute("INSERT INTO class VALUES ('SPEED', 2)")
             all_entered = [Entered(n) for n in range(count)]
             started = time.monotonic()
-            for it in all_entered:
-                db.execute("BEGIN IMMEDIATE")
+            for n, it in enumerate(all_entered):
+                if n % self.together == 0:
+                    db.execute("BEGIN IMMEDIATE")
                 db.execute("INSERT INTO asset VALUES (?, 'SPEED', '80', 0)", (it.asset,))
                 db.execute("INSERT INTO span VALUES (?, ?, ?, ?, 0)", (it.asset, it.route, it.low, it.high))
                 db.execute("INSERT INTO entered VALUES (?, ?, ?, ?, ?, 0)", (it.number, it.asset, it.link, it.low, it.high))
                 db.execute("INSERT INTO edit VALUES (?, ?, ?)", (it.number, it.key, it.line))
                 db.execute("INSERT INTO origin VALUES (?, ?)", (it.asset, it.number))
-                db.execute("COMMIT")
+                if (n + 1) % self.together == 0 or n + 1 == count:
+                    db.execute("COMMIT")
             spent = time.monotonic() - started
             db.close()
         return spent
@@ -230,7 +232,7 @@ def written_by(program, count):
 
 
 def print_line(where, name, count, spent):
-    print(f"{where:<8}{name:<28}{spent:>9.3f} s{count / spent:>12,.0f}/s{spent / count * 1e6:>9.1f} µs", flush=True)
+    print(f"{where:<8}{name:<58}{spent:>9.3f} s{count / spent:>12,.0f}/s{spent / count * 1e6:>9.1f} µs", flush=True)
 
 
 def measure(where, stores, count, runs):
@@ -245,7 +247,7 @@ def measure(where, stores, count, runs):
 
 
 def over_folder(where, folder, program, sheets, given):
-    stores = [Roadlrs(program, sheets, folder, given.page), Sqlite(folder, given.page)]
+    stores = [Roadlrs(program, sheets, folder, given.page), Sqlite(folder, given.page), Sqlite(folder, given.page, 256)]
     postgres = None if given.without_postgres else Postgres(folder)
     try:
         measure(where, [*stores, *([postgres] if postgres else [])], given.records, given.runs)

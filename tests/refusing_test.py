@@ -65,7 +65,8 @@ def test_a_worked_row_bears_a_refused_growth(name):
 
     def test(refusal):
         ended = refusal.run(BUILT, "edit", ":memory:", "stdin", given=sheet)
-        is_answered_in_part(ended, replies, status, {"Memory"})
+        # the keeper in memory that lacks it has failed
+        is_answered_in_part(ended, replies, status, {"Memory", "Keep"})
 
     assert with_each_refused("ALLOCATION", test) > 100
 

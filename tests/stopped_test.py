@@ -36,16 +36,25 @@ def acknowledged(ended):
     return ended.stdout[: ended.stdout.rfind(b"\n") + 1].splitlines(keepends=True)
 
 
-def goes_on(path, answered, expected, stop):
-    """The sheet is sent again: what was answered is answered `again`, the one in flight may be, and the rest is done."""
+def goes_on(path, sheet, answered, expected, stop, in_flight):
+    """The sheet is sent again: what was answered is answered `again`, the first of those in flight may be, and the rest is done."""
     assert answered == expected[: len(answered)], (stop, answered)
-    ended = edit(path, SHEET)
-    assert (ended.status, ended.stderr) == (0, b""), (stop, ended)
+    ended = edit(path, sheet)
+    assert ended.stderr == b"" and ended.status in (0, 1), (stop, ended)
     said = ended.stdout.splitlines(keepends=True)
     assert len(said) == len(expected), (stop, ended)
+    kept = True
     for n, (line, done) in enumerate(zip(said, expected)):
         again = done.replace(b",done,", b",again,")
-        assert line == again if n < len(answered) else line in (done, again if n == len(answered) else done), (stop, n, ended)
+        kept = n < len(answered) or (kept and n < len(answered) + in_flight and line == again)
+        assert line == (again if kept else done), (stop, n, ended)
+
+
+def in_group(answered, expected):
+    """How many lines behind those that are answered may be of commands in flight: those up to the first refusal."""
+    rest = expected[len(answered) :]
+    accepted = [b",done," in line for line in rest]
+    return accepted.index(False) + 1 if False in accepted else len(rest)
 
 
 @pytest.mark.parametrize("by", ENDS)
@@ -61,11 +70,35 @@ def test_a_sheet_is_stopped_at_each_change(by):
             path = top / f"{stop.number}.db"
             ended = stop.run(BUILT, "edit", path, "stdin", given=SHEET)
             assert ended.status == (137 if stop.was_reached else 0), (stop.number, ended)
-            goes_on(path, acknowledged(ended), expected, stop.number)
+            goes_on(path, SHEET, acknowledged(ended), expected, stop.number, 1)
             assert rows_of(path) == wanted, stop.number
             is_whole(path)
 
         assert with_each_refused(by, test, what=Stop) > 50
+
+
+@pytest.mark.parametrize("by", ENDS)
+def test_a_sheet_in_a_file_is_stopped_at_each_change(by):
+    """Its records are kept together; a refusal ends a group of them."""
+    with tempfile.TemporaryDirectory() as folder:
+        top = pathlib.Path(folder)
+        sheet = FIRST + b"".join(map(record, [*RECORDS[:1], "x1,link,1,7", *RECORDS[1:]]))
+        (top / "sheet.csv").write_bytes(sheet)
+        replies = FIRST_REPLIES + lines("e1,done,8", "x1,refused,LinkKnown", "e4,done,9", "e5,done,10")
+        expected = replies.splitlines(keepends=True)
+        assert edit(top / "whole.db", sheet).stdout == replies
+        wanted = rows_of(top / "whole.db")
+
+        def test(stop):
+            path = top / f"{stop.number}.db"
+            ended = stop.run(BUILT, "edit", path, top / "sheet.csv")
+            assert ended.status == (137 if stop.was_reached else 1), (stop.number, ended)
+            answered = acknowledged(ended)
+            goes_on(path, sheet, answered, expected, stop.number, in_group(answered, expected))
+            assert rows_of(path) == wanted, stop.number
+            is_whole(path)
+
+        assert with_each_refused(by, test, what=Stop) > 10
 
 
 @pytest.mark.parametrize("by", ENDS)

@@ -23,7 +23,7 @@ fn do_in_file(rt: &HostRuntime, path: &str, task: &Task<'_>, shown: Shown) -> En
         Ok(desk) => desk,
         Err(fault) => return Ending::Stopped(fault),
     };
-    let ending = do_task(rt, &mut desk, task, Pace::LineByLine, shown);
+    let ending = do_task(rt, &mut desk, task, Pace::InGroups, shown);
     drop(close_keeper(desk.into_keeper()));
     ending
 }

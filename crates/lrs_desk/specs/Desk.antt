@@ -1,8 +1,7 @@
 -- What a desk's calls leave.
-use Rattle.std.specs.Prelude.{◌≡◌, ◌⊎◌, ◌≤◌, ◌<◌, ◌+◌, true, ℕ, Ok, Result, List, length, map, take, ⊤}
+use Rattle.std.specs.Prelude.{◌≡◌, ◌≤◌, ◌<◌, ◌+◌, ◌-◌, true, ℕ, Ok, Result, List, length, map, take}
 use Rattle.std.specs.List.{AllByRecursion}
 use Rattle.lrs_machine.specs.declared.answer.Answer.{Answer}
-use Rattle.lrs_machine.specs.declared.answer.Answer.TheVariants.{Done, Again, Refused}
 use Rattle.lrs_machine.specs.declared.answer.Limits.{Limits}
 use Rattle.lrs_machine.specs.State.{State}
 use Rattle.lrs_machine.specs.declared.table.Table.{Table}
@@ -10,9 +9,10 @@ use Rattle.lrs_measure.specs.Texts.{Name}
 use Rattle.lrs_machine.specs.declared.command.Command.{Command}
 use Rattle.lrs_machine.specs.declared.image.Image.{Image}
 use Rattle.lrs_machine.specs.Image.{state_of}
-use Rattle.lrs_machine.specs.Machine.{step, Record, answers, state_after}
+use Rattle.lrs_machine.specs.Machine.{Record, answers, state_after}
 use Rattle.lrs_machine.specs.Sound.{IsSound}
 use Rattle.lrs_keep.specs.Keeping.{HasRisen}
+use Rattle.lrs_stops.specs.Stopped.{IsAccepted}
 use Rattle.lrs_desk.specs.DeskView.{DeskView}
 
 -- the same image, and nothing else to be found
@@ -21,30 +21,17 @@ pub record IsUnchanged {K : Type 0} (holds : K → Result Image Table → Type 0
   pub content : (c : Result Image Table) → holds new.keeper c → holds old.keeper c
   pub must_reopen : new.must_reopen ≡ old.must_reopen
 
--- The commit of a command failed: what is found is the old image, or a sound one of the next state.
-pub record HasBroken {K : Type 0} (holds : K → Result Image Table → Type 0) (failures : K → ℕ) (key : Name) (command : Command) (old new : DeskView K) : Type 0 where
-  pub image : new.image ≡ old.image
-  pub content : (c : Result Image Table) → holds new.keeper c
-      → (c ≡ Ok old.image) ⊎ ((image : Image) × (c ≡ Ok image) × (state_of image ≡ (step old.limits key command (state_of old.image)).state) × IsSound image)
-  pub must_reopen : new.must_reopen ≡ true
-  pub cause : HasRisen (failures old.keeper) (failures new.keeper)
-
 -- commands under keys, as the ground machine is given them
 abbrev pub records_of : List (Name × Command) → List Record
 records_of records = map (λ r. record { key = r.0; command = r.1 }) records
 
--- the answer to a command that is an edit, now or before
-abbrev pub IsAccepted : Answer → Type 0
-IsAccepted (Done n) = ⊤
-IsAccepted (Again n) = ⊤
-IsAccepted (Refused cause) = ⊥
-
--- The first of these commands are done, one at least, and so answered.
+-- The first of these commands are done, one at least, and so answered; each but the last was accepted.
 pub record DoesFirst (limits : Limits) (records : List Record) (before after : State) (given : List Answer) : Type 0 where
   pub some : 1 ≤ length given
   pub few : length given ≤ length records
   pub answered : given ≡ answers limits (take (length given) records) before
   pub state : after ≡ state_after limits (take (length given) records) before
+  pub accepted : AllByRecursion IsAccepted (answers limits (take (length given - 1) records) before)
 
 -- what is found is a sound image of the state after some first ones of these commands
 pub record IsAmid (limits : Limits) (records : List Record) (before : State) (c : Result Image Table) : Type 0 where
@@ -54,12 +41,13 @@ pub record IsAmid (limits : Limits) (records : List Record) (before : State) (c 
   pub state : state_of image ≡ state_after limits (take stored records) before
   pub sound : IsSound image
 
--- The first of these commands are in flight: their commit failed. Each before the last was accepted, and what is found is the state after some first ones.
+-- The first of these commands are in flight: their commit failed. Each before the last was accepted, what is found is the state after some first ones, and the desk's image is that after all of them.
 pub record BreaksAmid {K : Type 0} (holds : K → Result Image Table → Type 0) (failures : K → ℕ) (records : List Record) (old new : DeskView K) : Type 0 where
   -- how many are in flight beside the last one
   pub accepted : ℕ
   pub few : accepted < length records
   pub are_accepted : AllByRecursion IsAccepted (answers old.limits (take accepted records) (state_of old.image))
+  pub image : state_of new.image ≡ state_after old.limits (take (accepted + 1) records) (state_of old.image)
   pub content : (c : Result Image Table) → holds new.keeper c → IsAmid old.limits (take (accepted + 1) records) (state_of old.image) c
   pub must_reopen : new.must_reopen ≡ true
   pub cause : HasRisen (failures old.keeper) (failures new.keeper)

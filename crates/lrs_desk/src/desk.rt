@@ -1,23 +1,18 @@
 //! The desk: it does commands, and keeps what they change.
 
-ghost use Rattle.std.specs.Prelude.{◌≡◌, ◌↔◌, IsTrue, ◌+◌, ◌≤◌, IfOk, IfErr, OnOk, OnErr, Ok, Err, Result, ℕ, length, take, true, false};
+ghost use Rattle.std.specs.Prelude.{◌≡◌, ◌↔◌, IsTrue, ◌≤◌, IfOk, IfErr, OnOk, Ok, Err, Result, length, true, false};
 ghost use Rattle.lrs_machine.specs.declared.table.Table.{Table};
 ghost use Rattle.lrs_machine.specs.declared.image.Image.{Image as ImageRows};
 ghost use Rattle.lrs_machine.specs.Image.{state_of};
-ghost use Rattle.lrs_machine.specs.Laws.{once};
-ghost use Rattle.lrs_machine.specs.Machine.{step, answers, state_after};
-ghost use Rattle.lrs_keep.specs.Change.{apply, CanMake};
-ghost use Rattle.lrs_keep.specs.Keeping.{HasRisen, HoldsOnly, HoldsOldOrNew};
+ghost use Rattle.lrs_keep.specs.Keeping.{HasRisen, HoldsOnly};
 ghost use Rattle.lrs_totals.specs.Running.{IsCounted};
-ghost use Rattle.lrs_verbs.specs.Plans.{change_of, TellsGround};
-ghost use Rattle.lrs_desk.specs.Desk.{IsUnchanged, HasBroken, DoesFirst, BreaksAmid, records_of};
+ghost use Rattle.lrs_desk.specs.Desk.{IsUnchanged, DoesFirst, BreaksAmid, records_of};
 
-use crate::decide::{Decision, decide};
-use lrs_events::Class;
-use lrs_keep::{CommitFault, Keeper, LoadFault};
-use lrs_machine::{Answer, Command, Edit, Key, Limits, Table};
+use crate::group::{Group, do_first};
+use lrs_keep::{CommitFailed, Keeper, LoadFault};
+use lrs_machine::{Answer, Command, Key, Limits, Table};
 use lrs_totals::Counts;
-use lrs_verbs::{Inventory, Plan};
+use lrs_verbs::Inventory;
 use std::alloc::{AllocError, AllocFailed, Global};
 use std::marker::Model;
 
@@ -166,55 +161,6 @@ impl<K: Keeper> Desk<K> {
         let Desk { keeper, .. } = self;
         keeper
     }
-
-    /// Does a command, unless its key was accepted before or a check fails.
-    pub fn act(&mut self, key: Key, command: &Command) -> Result<Answer, Fault>
-        // The answer and the next state are the ground machine's.
-        ensures answer { IfOk result (λ answer. answer ≡ (step self.old.limits key command.now (state_of self.old.image)).answer) }
-        ensures image { OnOk result (state_of self.new.image ≡ (step self.old.limits key command.now (state_of self.old.image)).state) }
-        ensures content { OnOk result (HoldsOnly (K.may_hold self.new.keeper) self.new.image) }
-
-        // Want of memory changes nothing.
-        ensures memory { result ≡ Err Fault.Memory → IsUnchanged K.may_hold self.old self.new }
-
-        // After a failed commit, which only a failure of the device makes, what is kept is the old content or the next state's.
-        ensures keep { result ≡ Err Fault.Keep → HasBroken K.may_hold K.failures key command.now self.old self.new }
-
-        // From then on the desk asks to be opened again, and at no other time.
-        ensures reopen { (result ≡ Err Fault.MustReopen) ↔ IsTrue self.old.must_reopen }
-        ensures stays { result ≡ Err Fault.MustReopen → IsUnchanged K.may_hold self.old self.new }
-        ensures limits { self.new.limits ≡ self.old.limits }
-        ensures open { OnOk result (self.new.must_reopen ≡ false) }
-    {
-        if self.must_reopen {
-            return Err(Fault::MustReopen);
-        }
-        let line = command.line(self.alloc)?;
-        let decision = decide(
-            self.alloc,
-            &self.inventory,
-            &self.limits,
-            &key,
-            command,
-            &line,
-        )?;
-        match decision {
-            Decision::Stay(answer) => Ok(answer),
-            Decision::Make(plan) => {
-                let edit = Edit { key, line };
-                let made = make(
-                    self.alloc,
-                    &mut self.inventory,
-                    &mut self.counts,
-                    &mut self.keeper,
-                    edit,
-                    plan,
-                );
-                self.must_reopen = matches!(made, Err(Fault::Keep));
-                made
-            }
-        }
-    }
 }
 
 impl<K: Keeper> Desk<K> {
@@ -246,92 +192,20 @@ impl<K: Keeper> Desk<K> {
         if self.must_reopen {
             return Err(Fault::MustReopen);
         }
-        let mut given = Vec::with_capacity(self.alloc, 1)?; // nothing fails after the commit
         self.inventory.prove_sound();
-        let (key, command) = &commands[0]; // one as yet, whose change is kept by itself
-        let answer = self.act(*key, command)?;
-        if given.push(answer).is_err() {
-            unreachable!()
+        let Group { given, changes } = do_first(
+            self.alloc,
+            &self.limits,
+            &mut self.inventory,
+            &mut self.counts,
+            commands,
+        )?;
+        match self.keeper.commit(&changes) {
+            Ok(()) => Ok(given),
+            Err(CommitFailed) => {
+                self.must_reopen = true;
+                Err(Fault::Keep)
+            }
         }
-        Ok(given)
     }
-}
-
-// Makes the change of a plan, counts what it brings, and answers the number of its edit.
-fn make<K: Keeper>(
-    alloc: Global,
-    inventory: &mut Inventory,
-    counts: &mut Counts,
-    keeper: &mut K,
-    edit: Edit,
-    plan: Plan,
-) -> Result<Answer, Fault>
-    requires loaded { K.is_loaded keeper.old ≡ true }
-    requires kept { HoldsOnly (K.may_hold keeper.old) inventory.old }
-    requires can { CanMake (change_of edit plan) inventory.old }
-    requires tells { TellsGround plan inventory.old }
-    requires counted { IsCounted inventory.old counts.old }
-    ensures answer { IfOk result (λ answer. answer ≡ Answer.Done (length inventory.old.edits + 1)) }
-    ensures ok { OnOk result (inventory.new ≡ apply (change_of edit plan) inventory.old) }
-    ensures ok_kept { OnOk result (HoldsOnly (K.may_hold keeper.new) (apply (change_of edit plan) inventory.old)) }
-    ensures err { OnErr result (inventory.new ≡ inventory.old) }
-    ensures memory { result ≡ Err Fault.Memory → (c : Result ImageRows Table) → K.may_hold keeper.new c → K.may_hold keeper.old c }
-    ensures store { result ≡ Err Fault.Keep → HoldsOldOrNew (change_of edit plan) (K.may_hold keeper.new) inventory.old }
-    ensures cause { result ≡ Err Fault.Keep → HasRisen (K.failures keeper.old) (K.failures keeper.new) }
-    ensures only { result ≡ Err Fault.MustReopen → ⊥ }
-    ensures loaded { K.is_loaded keeper.new ≡ true }
-    ensures counted { IsCounted inventory.new counts.new }
-{
-    inventory.prove_sound();
-    counts.reserve()?;
-    let number = inventory.edits() + 1;
-    let class = class_of(&plan);
-    match inventory.make(alloc, keeper, edit, plan) {
-        Ok(()) => {
-            counts.catch_up(inventory.kept(), class);
-            Ok(Answer::Done(number))
-        }
-        Err(fault) => Err(commit_fault(fault)),
-    }
-}
-
-// The class that comes by a plan, if one does.
-fn class_of(plan: &Plan) -> Option<Class>
-    ensures { result ≡ plan.now.difference.class }
-{
-    plan.difference.class
-}
-
-fn commit_fault(fault: CommitFault) -> Fault
-    ensures memory { result ≡ Fault.Memory → fault ≡ CommitFault.Memory }
-    ensures keep { result ≡ Fault.Keep → fault ≡ CommitFault.Store }
-    ensures only { result ≡ Fault.MustReopen → ⊥ }
-{
-    match fault {
-        CommitFault::Memory => Fault::Memory,
-        CommitFault::Store => Fault::Keep,
-    }
-}
-
-/// Does commands under keys, one after the other. The answers and the image are those of the ground
-/// machine over the list; a key that was accepted before acts no more. A fault ends the run, and the image
-/// is then that of some first commands of the list.
-pub fn run<K: Keeper>(
-    desk: &mut Desk<K>,
-    records: &[(Key, Command)],
-    alloc: Global,
-) -> Result<Vec<Answer>, Fault>
-    ensures answers { IfOk result (λ given. given.items ≡ answers desk.old.limits (records_of records.now) (state_of desk.old.image)) }
-    ensures image { OnOk result (state_of desk.new.image ≡ state_after desk.old.limits (records_of records.now) (state_of desk.old.image)) }
-    ensures front { (k : ℕ) × (state_of desk.new.image ≡ state_after desk.old.limits (records_of (take k records.now)) (state_of desk.old.image)) }
-    ensures limits { desk.new.limits ≡ desk.old.limits }
-    ensures reopen { OnOk result (desk.new.must_reopen ≡ desk.old.must_reopen) }
-    ensures once { OnOk result (state_of desk.new.image ≡ state_after desk.old.limits (once desk.old.limits (records_of records.now) (state_of desk.old.image)) (state_of desk.old.image)) }
-{
-    let mut given = Vec::new(alloc);
-    for (key, command) in records {
-        let answer = desk.act(*key, command)?;
-        given.push(answer)?;
-    }
-    Ok(given)
 }

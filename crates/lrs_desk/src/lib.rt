@@ -4,10 +4,11 @@
 mod answers;
 mod decide;
 mod desk;
+mod group;
 
-pub use desk::{Desk, Fault, OpenFault, run};
+pub use desk::{Desk, Fault, OpenFault};
 pub use lrs_answers::{AskFault, AtAnswer, FoundRow};
-pub use lrs_keep::{Change, CommitFault, Difference, Keeper, LoadFault, Plain};
+pub use lrs_keep::{Change, CommitFailed, Difference, Keeper, LoadFault, Plain};
 pub use lrs_machine::{Answer, Cause, Command, Image, Key, Limits, Table};
 pub use lrs_totals::Counts;
 pub use lrs_verbs::Inventory;

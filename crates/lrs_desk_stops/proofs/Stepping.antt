@@ -1,41 +1,86 @@
 -- What the calls of a desk promise makes them steps of a run.
-use Rattle.std.proofs.Common.{◌≡◌, ℕ, ◌⊎◌, ◌↔◌, inl, inr, Bool, true, false, List, [], ◌∷◌, ◌++◌, take, Some, None, Result, Ok, Err, refl, sym, ap, subst, ◌∙◌}
+use Rattle.std.proofs.Common.{◌≡◌, ◌≤◌, ◌<◌, ◌+◌, ℕ, zero, suc, ◌↔◌, Bool, true, false, List, [], ◌∷◌, ◌++◌, length, map, take, Some, None, Result, Ok, Err, refl, sym, ap, subst, ◌∙◌, arith}
+use Rattle.std.specs.Global.{Vec}
+use Rattle.std.specs.List.{AllByRecursion}
 use Rattle.std.specs.Prelude.{IfOk, IfErr, OnOk, IsTrue, Option}
 use Rattle.std.proofs.lemmas.Bool.{false≢true}
-use Rattle.lrs_measure.specs.Texts.{Name}
 use Rattle.lrs_machine.specs.declared.answer.Answer.{Answer}
 use Rattle.lrs_machine.specs.declared.answer.Limits.{Limits}
-use Rattle.lrs_machine.specs.declared.command.Command.{Command}
 use Rattle.lrs_machine.specs.declared.image.Image.{Image}
 use Rattle.lrs_machine.specs.declared.table.Table.{Table}
 use Rattle.lrs_machine.specs.Image.{state_of}
-use Rattle.lrs_machine.specs.Machine.{Record, step, step_record, state_after}
-use Rattle.lrs_machine.specs.Sound.{IsSound}
+use Rattle.lrs_machine.specs.Machine.{Record, step_record, answers, state_after}
 use Rattle.lrs_machine.specs.State.{State}
 use Rattle.lrs_keep.specs.Keeping.{HoldsOnly}
-use Rattle.lrs_stops.specs.Stopped.{Step, Open, Act, Unserved, StopWithin, Stop, Moment, at_rest, IsRun}
+use Rattle.lrs_stops.specs.Stopped.{Step, Open, Act, Unserved, StopWithin, Stop, Moment, at_rest, IsRun, IsAccepted}
 use Rattle.lrs_stops.specs.Laws.{IsMadeBy}
 use Rattle.lrs_stops.proofs.Stopping.{joined, stored_is_fold}
 use Rattle.lrs_desk.specs.declared.desk.Fault.{Fault}
 use Rattle.lrs_desk.specs.declared.desk.Fault.TheVariants.{Memory, Keep, MustReopen}
-use Rattle.lrs_desk.specs.Desk.{IsUnchanged, HasBroken}
+use Rattle.lrs_desk.specs.Desk.{IsUnchanged, DoesFirst, BreaksAmid}
 use Rattle.lrs_desk.specs.DeskView.{DeskView}
-use Rattle.lrs_desk_stops.specs.Steps.{sent, step_of, StandsFor, MayFind, IsAtRest, acting, IsInRun}
+use Rattle.lrs_desk_stops.specs.Steps.{MayFind, AreActs, AreInFlight, AreStepsOf, IsAtRest, acting, IsInRun}
 
 -- stored, and a desk acts on it
 abbrev at_work : State → Moment
 at_work s = record { stored = s; desk = Some s }
 
-answer_is_no_fault : (a : Answer) → ◌≡◌ {A = Result Answer Fault} (Ok a) (Err MustReopen) → ⊥
-answer_is_no_fault a e = cc e
+answers_are_no_fault : (given : Vec Answer) → ◌≡◌ {A = Result (Vec Answer) Fault} (Ok given) (Err MustReopen) → ⊥
+answers_are_no_fault given e = cc e
 
-faults_differ : ◌≡◌ {A = Result Answer Fault} (Err Keep) (Err MustReopen) → ⊥
+faults_differ : ◌≡◌ {A = Result (Vec Answer) Fault} (Err Keep) (Err MustReopen) → ⊥
 faults_differ e = cc e
 
 -- a test that does not pass fails
 still_open : (b : Bool) → (IsTrue b → ⊥) → b ≡ false
 still_open true no_pass = absurd (no_pass refl)
 still_open false no_pass = refl
+
+-- the first n and one more: the one that comes then, and those behind it
+record Parted (n : ℕ) (rs : List Record) : Type 0 where
+  pub last : Record
+  pub behind : List Record
+  pub all : rs ≡ take n rs ++ last ∷ behind
+  pub first : take (suc n) rs ≡ take n rs ++ last ∷ []
+
+parted : (n : ℕ) (rs : List Record) → n < length rs → Parted n rs
+parted n [] few = absurd (omega (arith, few))
+parted zero (r ∷ rs) few = record { last = r; behind = rs; all = refl; first = refl }
+parted (suc n) (r ∷ rs) few =
+    let p = parted n rs (omega (arith, few)) in
+    record { last = p.last; behind = p.behind; all = ap (λ (l : List Record). r ∷ l) p.all; first = ap (λ (l : List Record). r ∷ l) p.first }
+
+-- ---- of the steps that commands are
+
+-- commands that are done one after another, each with the ground machine's answer
+record Done (limits : Limits) (rs : List Record) (given : List Answer) (s : State) : Type 0 where
+  pub steps : List Step
+  pub acts : AreActs rs given steps
+  pub run : IsRun limits (at_work s) steps (at_work (state_after limits (take (length given) rs) s))
+
+same_head : (a b : Answer) (xs ys : List Answer) → a ∷ xs ≡ b ∷ ys → a ≡ b
+same_head a b xs ys e = cc e
+
+same_tail : (a b : Answer) (xs ys : List Answer) → a ∷ xs ≡ b ∷ ys → xs ≡ ys
+same_tail a b xs ys e = cc e
+
+done : (limits : Limits) (rs : List Record) (given : List Answer) (s : State) → given ≡ answers limits (take (length given) rs) s → Done limits rs given s
+done limits rs [] s said = record { steps = []; acts = refl; run = refl }
+done limits [] (a ∷ given) s said = absurd (cc said)
+done limits (r ∷ rs) (a ∷ given) s said =
+    let o = step_record limits r s in
+    let more = answers limits (take (length given) rs) o.state in
+    let rest = done limits rs given o.state (same_tail a o.answer given more said) in
+    record {
+      steps = Act r a ∷ rest.steps;
+      acts = (rest.steps, refl, rest.acts);
+      run = (at_work o.state, record { known = s; acts_on = refl; answered = same_head a o.answer given more said; stored = refl; desk = refl }, rest.run);
+    }
+
+-- commands that are not served change nothing
+unserved : (limits : Limits) (rs : List Record) (m : Moment) → IsRun limits m (map Unserved rs) m
+unserved limits [] m = refl
+unserved limits (r ∷ rs) m = (m, refl, unserved limits rs m)
 
 module _ {K : Type 0} (holds : K → Result Image Table → Type 0) (limits : Limits) (start : State) (xs : List Step) where
   abbrev InRun : List Step → DeskView K → Type 0
@@ -54,19 +99,23 @@ module _ {K : Type 0} (holds : K → Result Image Table → Type 0) (limits : Li
     );
   }
 
-  answered : (old new : DeskView K) (r : Record) (a : Answer) → old.must_reopen ≡ false → new.must_reopen ≡ false → new.limits ≡ old.limits
-      → a ≡ (step_record old.limits r (state_of old.image)).answer → state_of new.image ≡ (step_record old.limits r (state_of old.image)).state → HoldsOnly (holds new.keeper) new.image
-      → InRun xs old → InRun (xs ++ Act r a ∷ []) new
-  answered old new r a open_then open_now same said next only h =
+  answered : (old new : DeskView K) (records : List Record) (given : List Answer) → old.must_reopen ≡ false → new.must_reopen ≡ false → new.limits ≡ old.limits
+      → DoesFirst old.limits records (state_of old.image) (state_of new.image) given → HoldsOnly (holds new.keeper) new.image
+      → InRun xs old → (steps : List Step) × ((1 ≤ length given) × AreActs records given steps) × InRun (xs ++ steps) new
+  answered old new records given open_then open_now same does only h =
       let s = state_of old.image in
-      let t = state_of new.image in
-      let goes = next ∙ ap (λ (l : Limits). (step_record l r s).state) h.limits_are in
-      only_image (xs ++ Act r a ∷ []) new (same ∙ h.limits_are) open_now only
-      (joined limits xs (Act r a ∷ []) (at_rest start) (at_work s) (at_work t) (h.runs open_then)
-      (at_work t, record { known = s; acts_on = refl; answered = said ∙ ap (λ (l : Limits). (step_record l r s).answer) h.limits_are; stored = goes; desk = ap Some goes }, refl))
+      let first = take (length given) records in
+      let all = done limits records given s (does.answered ∙ ap (λ (l : Limits). answers l first s) h.limits_are) in
+      let goes = does.state ∙ ap (λ (l : Limits). state_after l first s) h.limits_are in (
+        all.steps,
+        (does.some, all.acts),
+        only_image (xs ++ all.steps) new (same ∙ h.limits_are) open_now only
+            (joined limits xs all.steps (at_rest start) (at_work s) (at_work (state_of new.image)) (h.runs open_then)
+            (subst (λ (t : State). IsRun limits (at_work s) all.steps (at_work t)) (sym goes) all.run)),
+      )
 
-  unchanged : (old new : DeskView K) (r : Record) → new.limits ≡ old.limits → IsUnchanged holds old new → InRun xs old → InRun (xs ++ Unserved r ∷ []) new
-  unchanged old new r same u h = record {
+  unchanged : (old new : DeskView K) (records : List Record) → new.limits ≡ old.limits → IsUnchanged holds old new → InRun xs old → InRun (xs ++ map Unserved records) new
+  unchanged old new records same u h = record {
     limits_are = same ∙ h.limits_are;
     runs = λ open_now. longer (at_work (state_of new.image)) (subst (λ (i : Image). IsRun limits (at_rest start) xs (at_work (state_of i))) (sym u.image) (h.runs (sym u.must_reopen ∙ open_now)));
     found = λ c may.
@@ -79,57 +128,63 @@ module _ {K : Type 0} (holds : K → Result Image Table → Type 0) (limits : Li
         );
   }
     where
-      longer : (m : Moment) → IsRun limits (at_rest start) xs m → IsRun limits (at_rest start) (xs ++ Unserved r ∷ []) m
-      longer m run = joined limits xs (Unserved r ∷ []) (at_rest start) m m run (m, refl, refl)
+      longer : (m : Moment) → IsRun limits (at_rest start) xs m → IsRun limits (at_rest start) (xs ++ map Unserved records) m
+      longer m run = joined limits xs (map Unserved records) (at_rest start) m m run (unserved limits records m)
 
-  -- a command that is sent alone is in flight: it is stored, or it is left out
-  stops : (old new : DeskView K) (r : Record) (k : ℕ) (t : State) → old.must_reopen ≡ false → acting new.must_reopen new.image ≡ None
-      → t ≡ state_after limits (take k (r ∷ [])) (state_of old.image) → InRun xs old
-      → IsRun limits (at_rest start) (xs ++ StopWithin [] r ∷ []) (record { stored = t; desk = acting new.must_reopen new.image })
-  stops old new r k t open_then none is h =
-      let m : Moment = record { stored = t; desk = acting new.must_reopen new.image } in
-      joined limits xs (StopWithin [] r ∷ []) (at_rest start) (at_work (state_of old.image)) m (h.runs open_then)
-      (m, record { known = state_of old.image; acts_on = refl; accepted = tt; stored = (k, is); desk = none }, refl)
-
-  broken : (failures : K → ℕ) (old new : DeskView K) (key : Name) (command : Command) → old.must_reopen ≡ false → new.limits ≡ old.limits
-      → HasBroken holds failures key command old new → InRun xs old → InRun (xs ++ StopWithin [] (sent key command) ∷ []) new
-  broken failures old new key command open_then same b h = record {
-    limits_are = same ∙ h.limits_are;
-    runs = λ open_now. absurd (false≢true (sym open_now ∙ b.must_reopen));
-    found = λ c may. by c (b.content c may);
-  }
+  -- those in flight: what is found is the state after some first ones of them
+  broken : (failures : K → ℕ) (old new : DeskView K) (records : List Record) → old.must_reopen ≡ false → new.limits ≡ old.limits
+      → BreaksAmid holds failures records old new → InRun xs old → (steps : List Step) × AreInFlight records steps × InRun (xs ++ steps) new
+  broken failures old new records open_then same b h = (
+    steps,
+    record { front = front; last = p.last; behind = p.behind; sent = p.all; step = refl },
+    record {
+      limits_are = same ∙ h.limits_are;
+      runs = λ open_now. absurd (false≢true (sym open_now ∙ b.must_reopen));
+      found = λ c may. let f = b.content c may in (state_of f.image, stops f.stored (state_of f.image) f.state, record { image = f.image; found = f.found; state = refl });
+    },
+  )
     where
-      none : acting new.must_reopen new.image ≡ None
-      none = ap (λ must. acting must new.image) b.must_reopen
+      front : List Record
+      front = take b.accepted records
 
-      by : (c : Result Image Table) → (c ≡ Ok old.image) ⊎ ((image : Image) × (c ≡ Ok image) × (state_of image ≡ (step old.limits key command (state_of old.image)).state) × IsSound image)
-          → (t : State) × IsRun limits (at_rest start) (xs ++ StopWithin [] (sent key command) ∷ []) (record { stored = t; desk = acting new.must_reopen new.image }) × StandsFor c t
-      by c (inl e) = (state_of old.image, stops old new (sent key command) 0 (state_of old.image) open_then none refl h, record { image = old.image; found = e; state = refl })
-      by c (inr e) =
-          let t = (step_record limits (sent key command) (state_of old.image)).state in (
-            t,
-            stops old new (sent key command) 1 t open_then none refl h,
-            record { image = e.0; found = e.1; state = e.2 ∙ ap (λ (l : Limits). (step_record l (sent key command) (state_of old.image)).state) h.limits_are },
-          )
+      p : Parted b.accepted records
+      p = parted b.accepted records b.few
 
-  -- Whatever a desk answers to a command, it is a step.
-  pub act_is_step : (failures : K → ℕ) (old new : DeskView K) (key : Name) (command : Command) (result : Result Answer Fault)
-      → IfOk result (λ answer. answer ≡ (step old.limits key command (state_of old.image)).answer)
-      → OnOk result (state_of new.image ≡ (step old.limits key command (state_of old.image)).state)
+      steps : List Step
+      steps = StopWithin front p.last ∷ []
+
+      s : State
+      s = state_of old.image
+
+      stops : (k : ℕ) (t : State) → t ≡ state_after old.limits (take k (take (b.accepted + 1) records)) s
+          → IsRun limits (at_rest start) (xs ++ steps) (record { stored = t; desk = acting new.must_reopen new.image })
+      stops k t is =
+          let m : Moment = record { stored = t; desk = acting new.must_reopen new.image } in
+          let one_more : b.accepted + 1 ≡ suc b.accepted = omega (arith) in
+          let among = is
+          ∙ ap (λ (l : Limits). state_after l (take k (take (b.accepted + 1) records)) s) h.limits_are
+          ∙ ap (λ (rs : List Record). state_after limits (take k rs) s) (ap (λ n. take n records) one_more ∙ p.first) in
+          let accepted = subst (λ (l : Limits). AllByRecursion IsAccepted (answers l front s)) h.limits_are b.are_accepted in
+          joined limits xs steps (at_rest start) (at_work s) m (h.runs open_then)
+          (m, record { known = s; acts_on = refl; accepted = accepted; stored = (k, among); desk = ap (λ must. acting must new.image) b.must_reopen }, refl)
+
+  -- Whatever a desk answers to commands, they are steps.
+  pub acts_are_steps : (failures : K → ℕ) (old new : DeskView K) (records : List Record) (result : Result (Vec Answer) Fault)
+      → IfOk result (λ given. DoesFirst old.limits records (state_of old.image) (state_of new.image) given.items)
       → OnOk result (HoldsOnly (holds new.keeper) new.image)
       → (result ≡ Err Memory → IsUnchanged holds old new)
-      → (result ≡ Err Keep → HasBroken holds failures key command old new)
+      → (result ≡ Err Keep → BreaksAmid holds failures records old new)
       → ((result ≡ Err MustReopen) ↔ IsTrue old.must_reopen)
       → (result ≡ Err MustReopen → IsUnchanged holds old new)
       → new.limits ≡ old.limits
       → OnOk result (new.must_reopen ≡ false)
-      → InRun xs old → InRun (xs ++ step_of (sent key command) result ∷ []) new
-  act_is_step failures old new key command (Ok a) said next only memory keep reopen stays same open_now h =
-      answered old new (sent key command) a (still_open old.must_reopen (λ t. answer_is_no_fault a (reopen.1 t))) open_now same said next only h
-  act_is_step failures old new key command (Err Memory) said next only memory keep reopen stays same open_now h = unchanged old new (sent key command) same (memory refl) h
-  act_is_step failures old new key command (Err Keep) said next only memory keep reopen stays same open_now h =
-      broken failures old new key command (still_open old.must_reopen (λ t. faults_differ (reopen.1 t))) same (keep refl) h
-  act_is_step failures old new key command (Err MustReopen) said next only memory keep reopen stays same open_now h = unchanged old new (sent key command) same (stays refl) h
+      → InRun xs old → (steps : List Step) × AreStepsOf records result steps × InRun (xs ++ steps) new
+  acts_are_steps failures old new records (Ok given) does only memory keep reopen stays same open_now h =
+      answered old new records given.items (still_open old.must_reopen (λ t. answers_are_no_fault given (reopen.1 t))) open_now same does only h
+  acts_are_steps failures old new records (Err Memory) does only memory keep reopen stays same open_now h = (map Unserved records, refl, unchanged old new records same (memory refl) h)
+  acts_are_steps failures old new records (Err Keep) does only memory keep reopen stays same open_now h =
+      broken failures old new records (still_open old.must_reopen (λ t. faults_differ (reopen.1 t))) same (keep refl) h
+  acts_are_steps failures old new records (Err MustReopen) does only memory keep reopen stays same open_now h = (map Unserved records, refl, unchanged old new records same (stays refl) h)
 
   -- What an opening finds is stored, and a desk acts on it.
   pub open_is_step : (may : Result Image Table → Type 0) (d : DeskView K) (c : Result Image Table) → IsAtRest limits start xs may → holds d.keeper c

@@ -1,9 +1,8 @@
 -- Which steps of a run the calls of a desk are, and what an opening may find in the course of one.
-use Rattle.std.specs.Prelude.{◌≡◌, Bool, false, if◌then◌else◌, List, [], Option, Some, None, Result, Ok, Err}
-use Rattle.lrs_measure.specs.Texts.{Name}
+use Rattle.std.specs.Prelude.{◌≡◌, ◌≤◌, Bool, false, if◌then◌else◌, List, [], ◌∷◌, ◌++◌, length, map, Option, Some, None, Result, Ok, Err}
+use Rattle.std.specs.Global.{Vec}
 use Rattle.lrs_machine.specs.declared.answer.Answer.{Answer}
 use Rattle.lrs_machine.specs.declared.answer.Limits.{Limits}
-use Rattle.lrs_machine.specs.declared.command.Command.{Command}
 use Rattle.lrs_machine.specs.declared.image.Image.{Image}
 use Rattle.lrs_machine.specs.declared.table.Table.{Table}
 use Rattle.lrs_machine.specs.Image.{state_of}
@@ -14,16 +13,26 @@ use Rattle.lrs_desk.specs.declared.desk.Fault.{Fault}
 use Rattle.lrs_desk.specs.declared.desk.Fault.TheVariants.{Memory, Keep, MustReopen}
 use Rattle.lrs_desk.specs.DeskView.{DeskView}
 
--- a command under its key
-abbrev pub sent : Name → Command → Record
-sent key command = record { key = key; command = command }
+-- each of the first of these commands gets its answer, one after another
+abbrev pub AreActs : List Record → List Answer → List Step → Type 0
+AreActs records [] steps = steps ≡ []
+AreActs [] (a ∷ given) steps = ⊥
+AreActs (r ∷ rs) (a ∷ given) steps = (rest : List Step) × (steps ≡ Act r a ∷ rest) × AreActs rs given rest
 
--- the step that a command is, by what the desk answers
-abbrev pub step_of : Record → Result Answer Fault → Step
-step_of r (Ok answer) = Act r answer
-step_of r (Err Memory) = Unserved r
-step_of r (Err Keep) = StopWithin [] r
-step_of r (Err MustReopen) = Unserved r
+-- the first of these commands are in flight together, up to the last of them; those behind it were not looked at
+pub record AreInFlight (records : List Record) (steps : List Step) : Type 0 where
+  pub front : List Record
+  pub last : Record
+  pub behind : List Record
+  pub sent : records ≡ front ++ last ∷ behind
+  pub step : steps ≡ StopWithin front last ∷ []
+
+-- The steps that commands which are sent together are, by what the desk answers: one command at least gets its answer, or the first ones are in flight, or none is served.
+abbrev pub AreStepsOf : List Record → Result (Vec Answer) Fault → List Step → Type 0
+AreStepsOf records (Ok given) steps = (1 ≤ length given.items) × AreActs records given.items steps
+AreStepsOf records (Err Memory) steps = steps ≡ map Unserved records
+AreStepsOf records (Err Keep) steps = AreInFlight records steps
+AreStepsOf records (Err MustReopen) steps = steps ≡ map Unserved records
 
 -- what is found is an image of the state
 pub record StandsFor (c : Result Image Table) (s : State) : Type 0 where

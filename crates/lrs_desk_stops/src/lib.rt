@@ -6,4 +6,4 @@
 
 mod steps;
 
-pub use steps::{act, close, open};
+pub use steps::{act_on_first, close, open};

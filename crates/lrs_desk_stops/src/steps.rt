@@ -1,6 +1,6 @@
 //! The calls of a desk as steps of a run that may stop.
 
-ghost use Rattle.std.specs.Prelude.{◌≡◌, ◌++◌, ◌∷◌, [], List, IfOk, IfErr, Result};
+ghost use Rattle.std.specs.Prelude.{◌≡◌, ◌≤◌, ◌++◌, ◌∷◌, [], List, length, IfOk, IfErr, Result};
 ghost use Rattle.lrs_machine.specs.declared.answer.Limits.{Limits as DeskLimits};
 ghost use Rattle.lrs_machine.specs.declared.image.Image.{Image as ImageRows};
 ghost use Rattle.lrs_machine.specs.declared.table.Table.{Table as ImageTable};
@@ -8,7 +8,8 @@ ghost use Rattle.lrs_machine.specs.Image.{state_of};
 ghost use Rattle.lrs_machine.specs.State.{State};
 ghost use Rattle.lrs_stops.specs.Stopped.{Step, Open, Stop};
 ghost use Rattle.lrs_stops.specs.Laws.{IsMadeBy};
-ghost use Rattle.lrs_desk_stops.specs.Steps.{sent, step_of, IsAtRest, IsInRun};
+ghost use Rattle.lrs_desk.specs.Desk.{records_of};
+ghost use Rattle.lrs_desk_stops.specs.Steps.{AreStepsOf, IsAtRest, IsInRun};
 
 use lrs_desk::{Answer, Command, Desk, Fault, Keeper, Key, Limits, OpenFault};
 use std::alloc::Global;
@@ -26,14 +27,18 @@ pub fn open<K: Keeper>(keeper: K, limits: Limits, alloc: Global) -> Result<Desk<
     Desk::open(keeper, limits, alloc)
 }
 
-/// Does a command, as `Desk::act` does, whatever comes of it.
+/// Does the first of these commands, as `Desk::act_on_first` does, whatever comes of it.
 ///
 /// # Errors
-/// Those of `Desk::act`: after `Keep` the command is in flight.
-pub fn act<K: Keeper>(desk: &mut Desk<K>, key: Key, command: &Command) -> Result<Answer, Fault>
-    ensures step { (limits : DeskLimits) (start : State) (xs : List Step) → IsInRun K.may_hold limits start xs desk.old → IsInRun K.may_hold limits start (xs ++ step_of (sent key command.now) result ∷ []) desk.new }
+/// Those of `Desk::act_on_first`: after `Keep` the first ones of the commands are in flight.
+pub fn act_on_first<K: Keeper>(
+    desk: &mut Desk<K>,
+    commands: &[(Key, Command)],
+) -> Result<Vec<Answer>, Fault>
+    requires some { 1 ≤ length commands.now }
+    ensures step { (limits : DeskLimits) (start : State) (xs : List Step) → IsInRun K.may_hold limits start xs desk.old → (steps : List Step) × AreStepsOf (records_of commands.now) result steps × IsInRun K.may_hold limits start (xs ++ steps) desk.new }
 {
-    desk.act(key, command)
+    desk.act_on_first(commands)
 }
 
 /// Lets a desk go between two commands; the keeper can be opened again.

@@ -2,3 +2,4 @@ pub mod PutBack
 pub mod Named
 pub mod Becoming
 pub mod Tables
+pub mod Together

@@ -1,11 +1,8 @@
 -- What a keeper's calls leave.
 use Rattle.std.specs.Prelude.{◌≡◌, ◌⊎◌, ℕ, ◌<◌, ◌-◌, ◌^◌, Result, Ok, Err, Option, Some, None, IfOk, Bool, true, false}
-use Rattle.std.proofs.Common.{refl}
 use Rattle.lrs_machine.specs.declared.image.Image.{Image}
 use Rattle.lrs_machine.specs.declared.table.Table.{Table}
 use Rattle.lrs_machine.specs.Sound.{first_unsound, IsSound}
-use Rattle.lrs_keep.specs.declared.change.Change.{Change}
-use Rattle.lrs_keep.specs.Change.{apply}
 
 -- what is found where this image is kept: the image, or its first unsound table
 abbrev pub content_by : Image → Option Table → Result Image Table
@@ -27,19 +24,7 @@ HoldsOnly may image = (c : Result Image Table) → may c → c ≡ Ok image
 abbrev pub HoldsSound : (Result Image Table → Type 0) → Type 0
 HoldsSound may = (c : Result Image Table) → may c → IfOk c (λ image. IsSound image)
 
--- what a change makes of something that could be found before it
-abbrev pub IsChanged : (Result Image Table → Type 0) → Change → Result Image Table → Type 0
-IsChanged before change c = (b : Result Image Table) × before b × IfOk b (λ image. c ≡ Ok (apply change image))
-
--- what may be found: the image from before a change, or the one after it, and nothing else
-abbrev pub HoldsOldOrNew : Change → (Result Image Table → Type 0) → Image → Type 0
-HoldsOldOrNew change may image = (c : Result Image Table) → may c → (c ≡ Ok image) ⊎ (c ≡ Ok (apply change image))
-
 -- whether an opening finds an image
 abbrev pub is_image : Result Image Table → Bool
 is_image (Ok image) = true
 is_image (Err table) = false
-
--- what a keeper in memory has is found
-pub finds_kept : (content : Result Image Table) → (c : Result Image Table) × (c ≡ content)
-finds_kept content = (content, refl)

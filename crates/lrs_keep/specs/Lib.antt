@@ -2,3 +2,4 @@ pub mod Change
 pub mod Kept
 pub mod Keeping
 pub mod Plain
+pub mod Together

@@ -1,5 +1,6 @@
 -- What is kept in memory.
-use Rattle.std.specs.Prelude.{Result, Ok, Err, ⊤}
+use Rattle.std.specs.Prelude.{◌≡◌, ℕ, Result, Ok, Err, ⊤}
+use Rattle.std.proofs.Common.{refl}
 use Rattle.lrs_machine.specs.declared.image.Image.{Image}
 use Rattle.lrs_machine.specs.declared.table.Table.{Table}
 use Rattle.lrs_machine.specs.Sound.{IsSound}
@@ -16,3 +17,13 @@ content_in (Unsound table) = Err table
 abbrev pub IsContent : Content → Type 0
 IsContent (Sound kept) = IsSound (image_of kept)
 IsContent (Unsound table) = ⊤
+
+-- What is seen of a keeper in memory.
+pub record PlainView : Type 0 where
+  pub content : Result Image Table
+  -- how often memory ran out at a commit
+  pub failures : ℕ
+
+-- what it has is found
+pub finds_kept : (k : PlainView) → (c : Result Image Table) × (c ≡ k.content)
+finds_kept k = (k.content, refl)

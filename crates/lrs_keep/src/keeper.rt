@@ -26,34 +26,18 @@ impl From<AllocError> for LoadFault {
     }
 }
 
-/// Why a change is not made.
+/// Changes are not made, as the device failed. What is kept is as it was, or with some first ones of them.
 #[derive(Clone, Copy, Debug, PartialEq, Eq)]
-pub enum CommitFault {
-    /// There is too little memory. What is kept is as it was.
-    Memory,
-    /// The device failed. What is kept is as it was, or with the change as a whole.
-    Store,
-}
-
-impl From<AllocError> for CommitFault {
-    ghost use Rattle.std.specs.Prelude.{◌≡◌};
-    ghost use Rattle.lrs_keep.specs.declared.keeper.CommitFault.TheVariants.{Memory};
-
-    ghost from_gives = { λ _ e. e ≡ Memory };
-
-    fn from(_: AllocError) -> Self {
-        CommitFault::Memory
-    }
-}
+pub struct CommitFailed;
 
 /// Keeps an image, on a device that may fail.
 pub trait Keeper {
-    ghost use Rattle.std.specs.Prelude.{◌≡◌, ◌≤◌, ℕ, Bool, true, Ok, Err, Result, IfOk, OnOk, ◌⊎◌};
+    ghost use Rattle.std.specs.Prelude.{◌≡◌, ◌≤◌, ℕ, Bool, true, Ok, Err, Result, IfOk, OnOk, OnErr, ◌⊎◌};
     ghost use Rattle.lrs_machine.specs.declared.image.Image.{Image};
     ghost use Rattle.lrs_machine.specs.declared.table.Table.{Table};
     ghost use Rattle.lrs_machine.specs.Sound.{IsSound};
-    ghost use Rattle.lrs_keep.specs.Change.{CanMake};
-    ghost use Rattle.lrs_keep.specs.Keeping.{HasRisen, IsChanged, HoldsSound};
+    ghost use Rattle.lrs_keep.specs.Keeping.{HasRisen, HoldsSound};
+    ghost use Rattle.lrs_keep.specs.Together.{CanMakeAll, IsChangedBy, IsChangedBySome};
 
     // What an opening at this moment may find: a sound image, or the first unsound table.
     ghost may_hold: { Self → Result Image Table → Type 0 };
@@ -79,15 +63,14 @@ pub trait Keeper {
         ensures found { HoldsSound (may_hold self.new) }
         ensures content { (c : Result Image Table) → may_hold self.new c → may_hold self.old c };
 
-    /// Makes a change, as a whole.
-    fn commit(&mut self, change: &Change) -> Result<(), CommitFault>
+    /// Makes changes, each of what those before it made. Want of memory counts as a failure of the device.
+    fn commit(&mut self, changes: &[Change]) -> Result<(), CommitFailed>
         requires loaded { is_loaded self.old ≡ true }
         requires sound { HoldsSound (may_hold self.old) }
-        requires can { (c : Result Image Table) → may_hold self.old c → IfOk c (CanMake change.now) }
-        ensures ok { OnOk result ((c : Result Image Table) → may_hold self.new c → IsChanged (may_hold self.old) change.now c) }
-        ensures memory { result ≡ Err CommitFault.Memory → (c : Result Image Table) → may_hold self.new c → may_hold self.old c }
-        ensures store { result ≡ Err CommitFault.Store → (c : Result Image Table) → may_hold self.new c → may_hold self.old c ⊎ IsChanged (may_hold self.old) change.now c }
-        ensures cause { result ≡ Err CommitFault.Store → HasRisen (failures self.old) (failures self.new) }
+        requires can { (c : Result Image Table) → may_hold self.old c → IfOk c (CanMakeAll changes.now) }
+        ensures ok { OnOk result ((c : Result Image Table) → may_hold self.new c → IsChangedBy (may_hold self.old) changes.now c) }
+        ensures failed { OnErr result ((c : Result Image Table) → may_hold self.new c → may_hold self.old c ⊎ IsChangedBySome (may_hold self.old) changes.now c) }
+        ensures cause { OnErr result (HasRisen (failures self.old) (failures self.new)) }
         ensures counts { failures self.old ≤ failures self.new }
         ensures found { HoldsSound (may_hold self.new) }
         ensures loaded { is_loaded self.new ≡ true };

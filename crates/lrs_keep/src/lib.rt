@@ -2,7 +2,6 @@
 #![tactic(auto)]
 
 mod change;
-mod keep;
 mod keeper;
 mod kept;
 mod lists;
@@ -11,8 +10,7 @@ mod plain;
 mod routes;
 
 pub use change::{Change, Difference, ReferentChange, RouteChange};
-pub use keep::make_change;
-pub use keeper::{CommitFault, Keeper, LoadFault};
+pub use keeper::{CommitFailed, Keeper, LoadFault};
 pub use kept::KeptImage;
 pub use open_route::OpenRoute;
 pub use plain::Plain;

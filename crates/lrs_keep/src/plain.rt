@@ -5,10 +5,9 @@ ghost use Rattle.lrs_machine.specs.Image.{nothing};
 ghost use Rattle.lrs_keep.specs.Keeping.{content_of};
 
 use crate::change::Change;
-use crate::keeper::{CommitFault, Keeper, LoadFault};
+use crate::keeper::{CommitFailed, Keeper, LoadFault};
 use crate::kept::KeptImage;
 use lrs_machine::{Image, Table};
-use lrs_measure::TryCopy;
 use lrs_sound::first_unsound;
 use std::alloc::{AllocError, Global};
 use std::marker::Model;
@@ -20,22 +19,21 @@ enum Content {
 }
 
 /// Keeps an image in memory, or the name of its first unsound table. It is for tests and small inventories:
-/// `load` copies all of the image, and `commit` no more than the change.
+/// `load` copies all of the image, and `commit` no more than the changes. Where memory runs out at a commit, some first
+/// changes are kept, and that counts as a failure.
 #[derive(Drop)]
 pub struct Plain {
     content: Content,
+    failures: u64,
     alloc: Global,
 }
 
 impl Model for Plain {
-    ghost use Rattle.std.specs.Prelude.{Result};
-    ghost use Rattle.lrs_machine.specs.declared.image.Image.{Image};
-    ghost use Rattle.lrs_machine.specs.declared.table.Table.{Table};
-    ghost use Rattle.lrs_keep.specs.Plain.{content_in, IsContent};
+    ghost use Rattle.lrs_keep.specs.Plain.{content_in, IsContent, PlainView};
 
-    ghost Value = { Result Image Table };
+    ghost Value = { PlainView };
 
-    ghost view = { λ plain. content_in plain.content };
+    ghost view = { λ plain. record { content = content_in plain.content; failures = plain.failures } };
 
     ghost invariant = { λ plain. IsContent plain.content };
 }
@@ -46,21 +44,26 @@ impl Plain {
     /// # Errors
     /// When memory runs out.
     pub fn new(image: Image, alloc: Global) -> Result<Plain, AllocError>
-        ensures { IfOk result (λ plain. plain ≡ content_of image) }
+        ensures { IfOk result (λ plain. plain ≡ record { content = content_of image; failures = 0 }) }
     {
         let content = match first_unsound(alloc, &image)? {
             Some(table) => Content::Unsound(table),
             None => Content::Sound(KeptImage::of_image(alloc, image)?),
         };
-        Ok(Plain { content, alloc })
+        Ok(Plain {
+            content,
+            failures: 0,
+            alloc,
+        })
     }
 
     /// Keeps the image without entries.
     pub fn empty(alloc: Global) -> Plain
-        ensures { result ≡ Ok nothing }
+        ensures { result ≡ record { content = Ok nothing; failures = 0 } }
     {
         Plain {
             content: Content::Sound(KeptImage::empty(alloc)),
+            failures: 0,
             alloc,
         }
     }
@@ -68,17 +71,18 @@ impl Plain {
 
 impl Keeper for Plain {
     ghost use Rattle.std.specs.Prelude.{◌≡◌, ⊤};
-    ghost use Rattle.lrs_keep.specs.Keeping.{finds_kept, is_image};
+    ghost use Rattle.lrs_keep.specs.Keeping.{is_image};
+    ghost use Rattle.lrs_keep.specs.Plain.{finds_kept};
 
-    ghost may_hold = { λ plain c. c ≡ plain };
+    ghost may_hold = { λ plain c. c ≡ plain.content };
 
     ghost is_clean = { λ plain. ⊤ };
 
     ghost finds = { λ plain clean. finds_kept plain };
 
-    ghost is_loaded = { is_image };
+    ghost is_loaded = { λ plain. is_image plain.content };
 
-    ghost failures = { λ plain. 0 };
+    ghost failures = { λ plain. plain.failures };
 
     fn load(&mut self, alloc: Global) -> Result<Image, LoadFault> {
         match &self.content {
@@ -90,14 +94,15 @@ impl Keeper for Plain {
         }
     }
 
-    fn commit(&mut self, change: &Change) -> Result<(), CommitFault> {
-        let change = change.copy(self.alloc)?;
-        match &mut self.content {
-            Content::Sound(kept) => {
-                kept.change(self.alloc, change)?;
-                Ok(())
-            }
+    fn commit(&mut self, changes: &[Change]) -> Result<(), CommitFailed> {
+        let made = match &mut self.content {
+            Content::Sound(kept) => kept.change_all(self.alloc, changes),
             Content::Unsound(_) => unreachable!(),
+        };
+        if made.is_err() {
+            self.failures = self.failures.saturating_add(1);
+            return Err(CommitFailed);
         }
+        Ok(())
     }
 }

@@ -105,4 +105,4 @@ by-records sheet limits input before old earlier one other (inr (header, records
     of-one old earlier one other replies replies' one-list answered.written answered'.written state counts counts'
 
 pub sheet_determines_reply : SheetDeterminesReply
-sheet_determines_reply = by-records
+sheet_determines_reply sheet together others limits = by-records sheet limits

@@ -25,7 +25,7 @@ use Rattle.lrs_records.specs.declared.sheet.Sheet.{Sheet}
 use Rattle.lrs_records.specs.Kinds.{edit_record, width_of}
 use Rattle.lrs_sheet.specs.Replies.{IsReplied, Replied, answer_count, counted, is_again, is_done, is_refused, lines_of, reply_text, tally_of}
 use Rattle.lrs_sheet.specs.Sheets.{GoesAlong, HaveWidth, max_records, LeavesDesk}
-use Rattle.lrs_sheet.specs.Rows.{Begins, BreaksAfter, BreaksAtRow, DoesRow, DoesRows, DoesUpTo, EndsAfter, Gave, HasDone, IsPlain, IsReadFault, NextDiffers, Stops, StopsAtRow, AnswersSome}
+use Rattle.lrs_sheet.specs.Rows.{AnswersSome, Begins, DoesRow, DoesRows, EndsAfter, Gave, HasDone, IsPlain, IsReadFault, NextDiffers}
 
 -- one more record, answered
 pub Replied-more : (sheet : Sheet) (limits : Limits) (before middle after : State) (records : List (List (List ℕ))) (replies : List Reply) (fields : List (List ℕ)) (reply : Reply)
@@ -148,76 +148,23 @@ differs rem a b records wanted gave next = λ input before h.
     (fields, rw (append-nil (before ++ records)) at begins, bad)
 
 -- a read failed
-pub stop-read : {K : Type 0} {holds : K → Result Image Table → Type 0} {R : Type 0} (sheet : Sheet) (rem : R → Option (List ℕ)) (rows now : Reader R) (before after : DeskView K) (old new : Option (List ℕ)) (tally : Tally) (turns : ℕ) (e : SheetFault)
-    → HasDone sheet holds rem rows now before after old new tally turns → IsReadFault rem now e → DoesRows sheet rem rows before.limits (state_of before.image) (state_of after.image) old new (Err e)
-stop-read sheet rem rows now before after old new tally turns fault.Read done why = some-answered sheet rem rows now before after old new tally turns done
-stop-read sheet rem rows now before after old new tally turns fault.Memory done why = some-answered sheet rem rows now before after old new tally turns done
-stop-read sheet rem rows now before after old new tally turns fault.Write done why = absurd why
-stop-read sheet rem rows now before after old new tally turns fault.BadHeader done why = absurd why
-stop-read sheet rem rows now before after old new tally turns (fault.Desk m) done why = absurd why
-stop-read sheet rem rows now before after old new tally turns fault.BadCsv done (wanted, expected, next) =
+pub stop-read : {K : Type 0} {holds : K → Result Image Table → Type 0} {R : Type 0} (sheet : Sheet) (together : ℕ) (rem : R → Option (List ℕ)) (rows now : Reader R) (before after : DeskView K) (old new : Option (List ℕ)) (tally : Tally) (turns : ℕ) (e : SheetFault)
+    → HasDone sheet holds rem rows now before after old new tally turns → IsReadFault rem now e → DoesRows sheet together rem rows before.limits (state_of before.image) (state_of after.image) old new (Err e)
+stop-read sheet together rem rows now before after old new tally turns fault.Read done why = some-answered sheet rem rows now before after old new tally turns done
+stop-read sheet together rem rows now before after old new tally turns fault.Memory done why = some-answered sheet rem rows now before after old new tally turns done
+stop-read sheet together rem rows now before after old new tally turns fault.Write done why = absurd why
+stop-read sheet together rem rows now before after old new tally turns fault.BadHeader done why = absurd why
+stop-read sheet together rem rows now before after old new tally turns (fault.Desk m) done why = absurd why
+stop-read sheet together rem rows now before after old new tally turns fault.BadCsv done (wanted, expected, next) =
     let is : wanted ≡ width_of sheet = cc (done.width, expected) in
     (done.records, done.replies, done.answered, differs rem rows now done.records (width_of sheet) done.gave (rw is at next))
 
 -- the records are at their end
-pub all-done : {K : Type 0} {holds : K → Result Image Table → Type 0} {R : Type 0} (sheet : Sheet) (rem : R → Option (List ℕ)) (rows now : Reader R) (before after : DeskView K) (old new : Option (List ℕ)) (tally : Tally) (turns : ℕ)
+pub all-done : {K : Type 0} {holds : K → Result Image Table → Type 0} {R : Type 0} (sheet : Sheet) (together : ℕ) (rem : R → Option (List ℕ)) (rows now : Reader R) (before after : DeskView K) (old new : Option (List ℕ)) (tally : Tally) (turns : ℕ)
     → HasDone sheet holds rem rows now before after old new tally turns → EndsAfter rem now [] → turns ≤ max_records
-    → DoesRows sheet rem rows before.limits (state_of before.image) (state_of after.image) old new (Ok tally)
-all-done sheet rem rows now before after old new tally turns done ends few =
+    → DoesRows sheet together rem rows before.limits (state_of before.image) (state_of after.image) old new (Ok tally)
+all-done sheet together rem rows now before after old new tally turns done ends few =
     (done.records, done.replies, done.answered, done.counts, λ input start h. rw (append-nil (start ++ done.records)) at (ends input (start ++ done.records) (done.gave input start h)), rw done.in_turn few)
-
--- a record was not done
-stop-before : {K : Type 0} {holds : K → Result Image Table → Type 0} {R : Type 0} (sheet : Sheet) (rem : R → Option (List ℕ)) (rows now next : Reader R) (before middle after : DeskView K) (old mid new : Option (List ℕ)) (tally : Tally) (turns : ℕ) (fields : List (List ℕ))
-    → HasDone sheet holds rem rows now before middle old mid tally turns → length fields ≡ width_of sheet → Gave rem now next (fields ∷ []) → (state_of after.image ≡ state_of middle.image) × (new ≡ mid)
-    → Stops sheet rem rows before.limits (state_of before.image) (state_of after.image) old new
-stop-before sheet rem rows now next before middle after old mid new tally turns fields done wide gave (state, written) =
-    rw (state, written) (
-      done.records,
-      fields,
-      done.replies,
-      wide,
-      done.answered,
-      begins rem rows next (done.records ++ fields ∷ []) (gave-more rem rows now next done.records (fields ∷ []) done.gave gave),
-    )
-
--- a record was done, and its line not written whole
-stop-after : {K : Type 0} {holds : K → Result Image Table → Type 0} {R : Type 0} (sheet : Sheet) (rem : R → Option (List ℕ)) (rows now next : Reader R) (before middle after : DeskView K) (old mid new : Option (List ℕ)) (tally : Tally) (turns : ℕ) (fields : List (List ℕ))
-    → HasDone sheet holds rem rows now before middle old mid tally turns → length fields ≡ width_of sheet → Gave rem now next (fields ∷ []) → (reply : Reply) × IsReplied middle.limits (state_of middle.image) (edit_record sheet fields) reply (state_of after.image)
-    → DoesUpTo sheet rem rows before.limits (state_of before.image) (state_of after.image)
-stop-after sheet rem rows now next before middle after old mid new tally turns fields done wide gave (reply, replied) = (
-  done.records,
-  fields,
-  done.replies ++ reply ∷ [],
-  width-more sheet done.records fields done.answered.width wide,
-  Replied-more sheet before.limits (state_of before.image) (state_of middle.image) (state_of after.image) done.records done.replies fields reply done.answered.replied (rw done.desk.limits at replied),
-  begins rem rows next (done.records ++ fields ∷ []) (gave-more rem rows now next done.records (fields ∷ []) done.gave gave),
-)
-
--- a record stopped the run
-pub stop-row : {K : Type 0} {holds : K → Result Image Table → Type 0} {R : Type 0} (sheet : Sheet) (rem : R → Option (List ℕ)) (rows now next : Reader R) (before middle after : DeskView K) (old mid new : Option (List ℕ)) (tally : Tally) (turns : ℕ) (fields : List (List ℕ)) (e : SheetFault)
-    → HasDone sheet holds rem rows now before middle old mid tally turns → length fields ≡ width_of sheet → Gave rem now next (fields ∷ []) → StopsAtRow middle.limits (state_of middle.image) (edit_record sheet fields) (state_of after.image) mid new e
-    → DoesRows sheet rem rows before.limits (state_of before.image) (state_of after.image) old new (Err e)
-stop-row sheet rem rows now next before middle after old mid new tally turns fields fault.Write done wide gave stops = stop-after sheet rem rows now next before middle after old mid new tally turns fields done wide gave stops
-stop-row sheet rem rows now next before middle after old mid new tally turns fields fault.Memory done wide gave (state, written) = rw (state, written) (some-answered sheet rem rows now before middle old mid tally turns done)
-stop-row sheet rem rows now next before middle after old mid new tally turns fields (fault.Desk m) done wide gave stops = stop-before sheet rem rows now next before middle after old mid new tally turns fields done wide gave stops
-stop-row sheet rem rows now next before middle after old mid new tally turns fields fault.Read done wide gave stops = absurd stops
-stop-row sheet rem rows now next before middle after old mid new tally turns fields fault.BadHeader done wide gave stops = absurd stops
-stop-row sheet rem rows now next before middle after old mid new tally turns fields fault.BadCsv done wide gave stops = absurd stops
-
--- the commit of a record failed
-pub broke : {K : Type 0} {holds : K → Result Image Table → Type 0} {R : Type 0} (sheet : Sheet) (rem : R → Option (List ℕ)) (rows now next : Reader R) (before middle after : DeskView K) (old mid : Option (List ℕ)) (tally : Tally) (turns : ℕ) (fields : List (List ℕ))
-    → HasDone sheet holds rem rows now before middle old mid tally turns → Gave rem now next (fields ∷ []) → BreaksAtRow holds middle (edit_record sheet fields) after
-    → (c : Result Image Table) → holds after.keeper c → BreaksAfter sheet rem rows before.limits (state_of before.image) (state_of after.image) c
-broke sheet rem rows now next before middle after old mid tally turns fields done gave (same, kept) c found =
-    rw same (
-      done.records,
-      fields,
-      done.replies,
-      done.answered.width,
-      done.answered.replied,
-      begins rem rows next (done.records ++ fields ∷ []) (gave-more rem rows now next done.records (fields ∷ []) done.gave gave),
-      rw done.desk.limits at (kept c found),
-    )
 
 -- a record left the desk after others
 module _ {K : Type 0} {holds : K → Result Image Table → Type 0} (X Y : Type 0) (a b c : DeskView K) where

@@ -1,8 +1,9 @@
 pub mod ReadRows
 pub mod Done
 pub mod Whole
-pub mod Breaking
 pub mod Determined
 pub mod Answering
 pub mod Together
 pub mod Waits
+pub mod Stopping
+pub mod Taking

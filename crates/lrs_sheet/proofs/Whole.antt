@@ -10,6 +10,7 @@ use Rattle.lrs_machine.specs.declared.table.Table.{Table}
 use Rattle.lrs_sheet.specs.declared.reply.Tally.{Tally}
 use Rattle.lrs_sheet.specs.declared.fault.SheetFault.{SheetFault}
 use Rattle.lrs_sheet.specs.declared.fault.SheetFault.TheVariants as fault
+use Rattle.lrs_desk.specs.declared.desk.Fault.TheVariants as stop
 use Rattle.lrs_sheet.specs.Replies.{tally_of}
 use Rattle.lrs_records.specs.declared.sheet.Sheet.{Sheet}
 use Rattle.lrs_records.specs.Kinds.{IsHeader}
@@ -21,61 +22,63 @@ keeps-same None = tt
 keeps-same (Some bytes) = refl
 
 -- a sheet with no record
-pub empty-sheet : {R : Type 0} (sheet : Sheet) (rem : R → Option (List ℕ)) (rows : Reader R) (known : Option (List ℕ)) (limits : Limits) (state : State) (contents : Option (List ℕ)) (tally : Tally)
+pub empty-sheet : {R : Type 0} (sheet : Sheet) (together : ℕ) (rem : R → Option (List ℕ)) (rows : Reader R) (known : Option (List ℕ)) (limits : Limits) (state : State) (contents : Option (List ℕ)) (tally : Tally)
     → IfSome known (λ input. HasRead rem rows input []) → EndsAfter rem rows [] → tally ≡ tally_of []
-    → IfSome known (λ input. Runs sheet limits input state state contents contents (Ok tally))
-empty-sheet sheet rem rows None limits state contents tally start ends none = tt
-empty-sheet sheet rem rows (Some input) limits state contents tally start ends none = inl (ends input [] start, refl, keeps-same contents, none)
+    → IfSome known (λ input. Runs sheet together limits input state state contents contents (Ok tally))
+empty-sheet sheet together rem rows None limits state contents tally start ends none = tt
+empty-sheet sheet together rem rows (Some input) limits state contents tally start ends none = inl (ends input [] start, refl, keeps-same contents, none)
 
 -- a sheet of another header
-pub bad-header : {R : Type 0} (sheet : Sheet) (rem : R → Option (List ℕ)) (rows next : Reader R) (known : Option (List ℕ)) (limits : Limits) (state : State) (contents : Option (List ℕ)) (fields : List (List ℕ))
+pub bad-header : {R : Type 0} (sheet : Sheet) (together : ℕ) (rem : R → Option (List ℕ)) (rows next : Reader R) (known : Option (List ℕ)) (limits : Limits) (state : State) (contents : Option (List ℕ)) (fields : List (List ℕ))
     → IfSome known (λ input. HasRead rem rows input []) → Gave rem rows next (fields ∷ []) → (IsHeader sheet fields → ⊥)
-    → IfSome known (λ input. Runs sheet limits input state state contents contents (Err fault.BadHeader))
-bad-header sheet rem rows next None limits state contents fields start gave other = tt
-bad-header sheet rem rows next (Some input) limits state contents fields start gave other =
+    → IfSome known (λ input. Runs sheet together limits input state state contents contents (Err fault.BadHeader))
+bad-header sheet together rem rows next None limits state contents fields start gave other = tt
+bad-header sheet together rem rows next (Some input) limits state contents fields start gave other =
     let (rest, source, reached) = gave input [] start in
     (fields, (next.state, rest, reached), other, refl, keeps-same contents)
 
 up-to-under : {R : Type 0} (sheet : Sheet) (rem : R → Option (List ℕ)) (next : Reader R) (input : List ℕ) (limits : Limits) (before after : State) (fields : List (List ℕ))
     → HasRead rem next input (fields ∷ []) → IsHeader sheet fields → DoesUpTo sheet rem next limits before after → HasDoneUpTo sheet limits input before after
-up-to-under sheet rem next input limits before after fields read header (records, last, replies, wide, replied, begins) =
-    (fields, records, last, replies, header, begins input (fields ∷ []) read, wide, replied)
+up-to-under sheet rem next input limits before after fields read header (records, further, replies, some, wide, replied, begins) =
+    (fields, records, further, replies, header, begins input (fields ∷ []) read, some, wide, replied)
 
-stopped-under : {R : Type 0} (sheet : Sheet) (rem : R → Option (List ℕ)) (next : Reader R) (input : List ℕ) (limits : Limits) (before after : State) (old new : Option (List ℕ)) (fields : List (List ℕ))
-    → HasRead rem next input (fields ∷ []) → IsHeader sheet fields → Stops sheet rem next limits before after old new → HasStopped sheet limits input before after old new
-stopped-under sheet rem next input limits before after old new fields read header (records, last, replies, wide, answered, begins) =
-    (fields, records, last, replies, header, begins input (fields ∷ []) read, wide, answered)
+stopped-under : {R : Type 0} (sheet : Sheet) (together : ℕ) (rem : R → Option (List ℕ)) (next : Reader R) (input : List ℕ) (limits : Limits) (before after : State) (old new : Option (List ℕ)) (fields : List (List ℕ))
+    → HasRead rem next input (fields ∷ []) → IsHeader sheet fields → Stops sheet together rem next limits before after old new → HasStopped sheet together limits input before after old new
+stopped-under sheet together rem next input limits before after old new fields read header (records, further, replies, undone, answered, begins) =
+    (fields, records, further, replies, header, begins input (fields ∷ []) read, undone, answered)
 
 answered-under : {R : Type 0} (sheet : Sheet) (rem : R → Option (List ℕ)) (next : Reader R) (input : List ℕ) (limits : Limits) (before after : State) (old new : Option (List ℕ)) (fields : List (List ℕ))
     → HasRead rem next input (fields ∷ []) → IsHeader sheet fields → AnswersSome sheet rem next limits before after old new → HasAnsweredSome sheet limits input before after old new
 answered-under sheet rem next input limits before after old new fields read header (records, replies, answered, begins) =
     inr (fields, records, replies, header, begins input (fields ∷ []) read, answered)
 
-under : {R : Type 0} (sheet : Sheet) (rem : R → Option (List ℕ)) (next : Reader R) (input : List ℕ) (limits : Limits) (before after : State) (old new : Option (List ℕ)) (fields : List (List ℕ)) (result : Result Tally SheetFault)
-    → HasRead rem next input (fields ∷ []) → IsHeader sheet fields → DoesRows sheet rem next limits before after old new result → Runs sheet limits input before after old new result
-under sheet rem next input limits before after old new fields (Ok tally) read header (records, replies, answered, counts, ends, few) =
+under : {R : Type 0} (sheet : Sheet) (together : ℕ) (rem : R → Option (List ℕ)) (next : Reader R) (input : List ℕ) (limits : Limits) (before after : State) (old new : Option (List ℕ)) (fields : List (List ℕ)) (result : Result Tally SheetFault)
+    → HasRead rem next input (fields ∷ []) → IsHeader sheet fields → DoesRows sheet together rem next limits before after old new result → Runs sheet together limits input before after old new result
+under sheet together rem next input limits before after old new fields (Ok tally) read header (records, replies, answered, counts, ends, few) =
     inr (fields, records, replies, header, ends input (fields ∷ []) read, answered, counts, few)
-under sheet rem next input limits before after old new fields (Err fault.BadCsv) read header (records, replies, answered, next-differs) =
+under sheet together rem next input limits before after old new fields (Err fault.BadCsv) read header (records, replies, answered, next-differs) =
     let (bad, begins, differs) = next-differs input (fields ∷ []) read in
     (fields, records, bad, replies, header, begins, differs, answered)
-under sheet rem next input limits before after old new fields (Err fault.BadHeader) read header does = absurd does
-under sheet rem next input limits before after old new fields (Err fault.Read) read header does = answered-under sheet rem next input limits before after old new fields read header does
-under sheet rem next input limits before after old new fields (Err fault.Write) read header does = up-to-under sheet rem next input limits before after fields read header does
-under sheet rem next input limits before after old new fields (Err (fault.Desk m)) read header does = stopped-under sheet rem next input limits before after old new fields read header does
-under sheet rem next input limits before after old new fields (Err fault.Memory) read header does = answered-under sheet rem next input limits before after old new fields read header does
+under sheet together rem next input limits before after old new fields (Err fault.BadHeader) read header does = absurd does
+under sheet together rem next input limits before after old new fields (Err fault.Read) read header does = answered-under sheet rem next input limits before after old new fields read header does
+under sheet together rem next input limits before after old new fields (Err fault.Write) read header does = up-to-under sheet rem next input limits before after fields read header does
+under sheet together rem next input limits before after old new fields (Err (fault.Desk stop.Memory)) read header does = stopped-under sheet together rem next input limits before after old new fields read header does
+under sheet together rem next input limits before after old new fields (Err (fault.Desk stop.MustReopen)) read header does = stopped-under sheet together rem next input limits before after old new fields read header does
+under sheet together rem next input limits before after old new fields (Err (fault.Desk stop.Keep)) read header (settled, does) = (settled, stopped-under sheet together rem next input limits before settled old new fields read header does)
+under sheet together rem next input limits before after old new fields (Err fault.Memory) read header does = answered-under sheet rem next input limits before after old new fields read header does
 
--- the records under sheet the header
-pub under-header : {R : Type 0} (sheet : Sheet) (rem : R → Option (List ℕ)) (rows next : Reader R) (known : Option (List ℕ)) (limits : Limits) (before after : State) (old new : Option (List ℕ)) (fields : List (List ℕ)) (result : Result Tally SheetFault)
-    → IfSome known (λ input. HasRead rem rows input []) → Gave rem rows next (fields ∷ []) → IsHeader sheet fields → DoesRows sheet rem next limits before after old new result
-    → IfSome known (λ input. Runs sheet limits input before after old new result)
-under-header sheet rem rows next None limits before after old new fields result start gave header does = tt
-under-header sheet rem rows next (Some input) limits before after old new fields result start gave header does =
-    under sheet rem next input limits before after old new fields result (gave input [] start) header does
+-- the records under the header
+pub under-header : {R : Type 0} (sheet : Sheet) (together : ℕ) (rem : R → Option (List ℕ)) (rows next : Reader R) (known : Option (List ℕ)) (limits : Limits) (before after : State) (old new : Option (List ℕ)) (fields : List (List ℕ)) (result : Result Tally SheetFault)
+    → IfSome known (λ input. HasRead rem rows input []) → Gave rem rows next (fields ∷ []) → IsHeader sheet fields → DoesRows sheet together rem next limits before after old new result
+    → IfSome known (λ input. Runs sheet together limits input before after old new result)
+under-header sheet together rem rows next None limits before after old new fields result start gave header does = tt
+under-header sheet together rem rows next (Some input) limits before after old new fields result start gave header does =
+    under sheet together rem next input limits before after old new fields result (gave input [] start) header does
 
--- the commit of a record under sheet the header failed
-pub broke-under : {R : Type 0} (sheet : Sheet) (rem : R → Option (List ℕ)) (rows next : Reader R) (known : Option (List ℕ)) (limits : Limits) (before after : State) (content : Result Image Table) (fields : List (List ℕ))
-    → IfSome known (λ input. HasRead rem rows input []) → Gave rem rows next (fields ∷ []) → IsHeader sheet fields → BreaksAfter sheet rem next limits before after content
-    → IfSome known (λ input. BreaksOff sheet limits input before after content)
-broke-under sheet rem rows next None limits before after content fields start gave header breaks = tt
-broke-under sheet rem rows next (Some input) limits before after content fields start gave header (records, bad, replies, wide, replied, begins, kept) =
-    (fields, records, bad, replies, header, begins input (fields ∷ []) (gave input [] start), wide, replied, kept)
+-- a commit under the header failed
+pub broke-under : {R : Type 0} (sheet : Sheet) (together : ℕ) (rem : R → Option (List ℕ)) (rows next : Reader R) (known : Option (List ℕ)) (limits : Limits) (before : State) (old new : Option (List ℕ)) (content : Result Image Table) (fields : List (List ℕ))
+    → IfSome known (λ input. HasRead rem rows input []) → Gave rem rows next (fields ∷ []) → IsHeader sheet fields → BreaksAfter sheet together rem next limits before old new content
+    → IfSome known (λ input. BreaksOff sheet together limits input before old new content)
+broke-under sheet together rem rows next None limits before old new content fields start gave header breaks = tt
+broke-under sheet together rem rows next (Some input) limits before old new content fields start gave header (records, further, replies, settled, undone, answered, begins, kept) =
+    (fields, records, further, replies, settled, header, begins input (fields ∷ []) (gave input [] start), undone, answered, kept)

@@ -14,14 +14,15 @@ use Rattle.lrs_machine.specs.declared.answer.Limits.{Limits}
 use Rattle.lrs_machine.specs.declared.image.Image.{Image}
 use Rattle.lrs_machine.specs.declared.table.Table.{Table}
 use Rattle.lrs_desk.specs.DeskView.{DeskView}
+use Rattle.lrs_desk.specs.declared.desk.Fault.TheVariants as stop
 use Rattle.lrs_sheet.specs.declared.reply.Reply.{Reply}
 use Rattle.lrs_sheet.specs.declared.reply.Tally.{Tally}
 use Rattle.lrs_sheet.specs.declared.fault.SheetFault.{SheetFault}
 use Rattle.lrs_sheet.specs.declared.fault.SheetFault.TheVariants as fault
 use Rattle.lrs_records.specs.declared.sheet.Sheet.{Sheet}
-use Rattle.lrs_records.specs.Kinds.{edit_record, width_of}
+use Rattle.lrs_records.specs.Kinds.{width_of}
 use Rattle.lrs_sheet.specs.Replies.{IsReplied, Replied, answer_count, counted, reply_text, tally_of}
-use Rattle.lrs_sheet.specs.Sheets.{AreAll, AreAnswered, BeginsWith, GoesAlong, HasOldOrNext, HaveWidth, max_records}
+use Rattle.lrs_sheet.specs.Sheets.{AreAll, AreAnswered, AreUndone, BeginsWith, GoesAlong, HaveWidth, IsAfterRecords, max_records}
 
 -- the reader gives the records of a text as `csv` does by default, with no header handling and no trimming
 pub record IsPlain {R : Type 0} (reader : Reader R) : Type 0 where
@@ -75,64 +76,44 @@ abbrev pub AnswersSome : {R : Type 0} → Sheet → (R → Option Text) → Read
 AnswersSome sheet remaining reader limits before after old new =
     (records : List (List Text)) × (replies : List Reply) × AreAnswered sheet limits before records replies after old new × Begins remaining reader records
 
--- ... and the next one, of the right length, is not
-abbrev pub Stops : {R : Type 0} → Sheet → (R → Option Text) → Reader R → Limits → State → State → Option Text → Option Text → Type 0
-Stops sheet remaining reader limits before after old new =
-    (records : List (List Text)) × (fields : List Text) × (replies : List Reply) × (length fields ≡ width_of sheet) × AreAnswered sheet limits before records replies after old new
-    × Begins remaining reader (records ++ fields ∷ [])
+-- ... and those after them are not
+abbrev pub Stops : {R : Type 0} → Sheet → ℕ → (R → Option Text) → Reader R → Limits → State → State → Option Text → Option Text → Type 0
+Stops sheet together remaining reader limits before after old new =
+    (records : List (List Text)) × (further : List (List Text)) × (replies : List Reply) × AreUndone sheet together further × AreAnswered sheet limits before records replies after old new
+    × Begins remaining reader (records ++ further)
 
--- the records that come next are done up to this one
+-- some of the records that come next are done, one at least
 abbrev pub DoesUpTo : {R : Type 0} → Sheet → (R → Option Text) → Reader R → Limits → State → State → Type 0
 DoesUpTo sheet remaining reader limits before after =
-    (records : List (List Text)) × (fields : List Text) × (replies : List Reply) × HaveWidth sheet (records ++ fields ∷ []) × Replied sheet limits before (records ++ fields ∷ []) replies after
-    × Begins remaining reader (records ++ fields ∷ [])
+    (records : List (List Text)) × (further : List (List Text)) × (replies : List Reply) × (1 ≤ length records) × HaveWidth sheet records × Replied sheet limits before records replies after
+    × Begins remaining reader (records ++ further)
 
 -- what doing the records under a header gives
-abbrev pub DoesRows : {R : Type 0} → Sheet → (R → Option Text) → Reader R → Limits → State → State → Option Text → Option Text → Result Tally SheetFault → Type 0
-DoesRows sheet remaining reader limits before after old new (Ok tally) =
+abbrev pub DoesRows : {R : Type 0} → Sheet → ℕ → (R → Option Text) → Reader R → Limits → State → State → Option Text → Option Text → Result Tally SheetFault → Type 0
+DoesRows sheet together remaining reader limits before after old new (Ok tally) =
     (records : List (List Text)) × (replies : List Reply) × AreAnswered sheet limits before records replies after old new
     × (tally ≡ tally_of replies) × EndsAfter remaining reader records × (length records ≤ max_records)
-DoesRows sheet remaining reader limits before after old new (Err fault.BadCsv) =
+DoesRows sheet together remaining reader limits before after old new (Err fault.BadCsv) =
     (records : List (List Text)) × (replies : List Reply) × AreAnswered sheet limits before records replies after old new
     × NextDiffers remaining reader records (width_of sheet)
-DoesRows sheet remaining reader limits before after old new (Err fault.BadHeader) = ⊥
-DoesRows sheet remaining reader limits before after old new (Err fault.Read) = AnswersSome sheet remaining reader limits before after old new
-DoesRows sheet remaining reader limits before after old new (Err fault.Write) = DoesUpTo sheet remaining reader limits before after
-DoesRows sheet remaining reader limits before after old new (Err (fault.Desk e)) = Stops sheet remaining reader limits before after old new
-DoesRows sheet remaining reader limits before after old new (Err fault.Memory) = AnswersSome sheet remaining reader limits before after old new
+DoesRows sheet together remaining reader limits before after old new (Err fault.BadHeader) = ⊥
+DoesRows sheet together remaining reader limits before after old new (Err fault.Read) = AnswersSome sheet remaining reader limits before after old new
+DoesRows sheet together remaining reader limits before after old new (Err fault.Write) = DoesUpTo sheet remaining reader limits before after
+DoesRows sheet together remaining reader limits before after old new (Err (fault.Desk stop.Memory)) = Stops sheet together remaining reader limits before after old new
+DoesRows sheet together remaining reader limits before after old new (Err (fault.Desk stop.MustReopen)) = Stops sheet together remaining reader limits before after old new
+DoesRows sheet together remaining reader limits before after old new (Err (fault.Desk stop.Keep)) = (settled : State) × Stops sheet together remaining reader limits before settled old new
+DoesRows sheet together remaining reader limits before after old new (Err fault.Memory) = AnswersSome sheet remaining reader limits before after old new
 
--- the commit of a record failed: the desk's image stays, and what its keeper has stands for the state before it, or for the one after it
-abbrev pub BreaksAtRow : {K : Type 0} → (K → Result Image Table → Type 0) → DeskView K → List Text → DeskView K → Type 0
-BreaksAtRow holds old fields new = (new.image ≡ old.image) × ((c : Result Image Table) → holds new.keeper c → HasOldOrNext old.limits (state_of old.image) fields c)
-
--- the same after some of the records that come next are done
-abbrev pub BreaksAfter : {R : Type 0} → Sheet → (R → Option Text) → Reader R → Limits → State → State → Result Image Table → Type 0
-BreaksAfter sheet remaining reader limits before after content =
-    (records : List (List Text)) × (fields : List Text) × (replies : List Reply) × HaveWidth sheet records × Replied sheet limits before records replies after
-    × Begins remaining reader (records ++ fields ∷ []) × HasOldOrNext limits after (edit_record sheet fields) content
-
--- a fault at a record that was read, before its line is written
-abbrev pub IsRowFault : SheetFault → Type 0
-IsRowFault fault.Write = ⊥
-IsRowFault (fault.Desk e) = ⊤
-IsRowFault fault.Memory = ⊤
-IsRowFault fault.Read = ⊥
-IsRowFault fault.BadHeader = ⊥
-IsRowFault fault.BadCsv = ⊥
+-- a commit failed: some of the records that come next are done, and of those after them some first ones may be kept
+abbrev pub BreaksAfter : {R : Type 0} → Sheet → ℕ → (R → Option Text) → Reader R → Limits → State → Option Text → Option Text → Result Image Table → Type 0
+BreaksAfter sheet together remaining reader limits before old new content =
+    (records : List (List Text)) × (further : List (List Text)) × (replies : List Reply) × (settled : State) × AreUndone sheet together further
+    × AreAnswered sheet limits before records replies settled old new × Begins remaining reader (records ++ further) × IsAfterRecords sheet limits settled further content
 
 -- a record is answered, its line is written and it is counted
 abbrev pub DoesRow : Limits → State → List Text → State → Option Text → Option Text → Tally → Tally → Type 0
 DoesRow limits before fields after old new tally counts =
     (reply : Reply) × IsReplied limits before fields reply after × Appends old new (reply_text reply ++ 10 ∷ []) × (counts ≡ counted tally reply.answer)
-
--- A record is done and its line not written whole, or it is not done and nothing is written.
-abbrev pub StopsAtRow : Limits → State → List Text → State → Option Text → Option Text → SheetFault → Type 0
-StopsAtRow limits before fields after old new fault.Write = (reply : Reply) × IsReplied limits before fields reply after
-StopsAtRow limits before fields after old new (fault.Desk e) = (after ≡ before) × (new ≡ old)
-StopsAtRow limits before fields after old new fault.Memory = (after ≡ before) × (new ≡ old)
-StopsAtRow limits before fields after old new fault.Read = ⊥
-StopsAtRow limits before fields after old new fault.BadHeader = ⊥
-StopsAtRow limits before fields after old new fault.BadCsv = ⊥
 
 -- after some turns of the loop over the records
 pub record HasDone {R K : Type 0} (sheet : Sheet) (holds : K → Result Image Table → Type 0) (remaining : R → Option Text) (first now : Reader R) (before after : DeskView K) (old new : Option Text) (tally : Tally) (turns : ℕ) : Type 0 where

@@ -1,5 +1,5 @@
 -- What a sheet is answered, an edit sheet or a survey: the reply to its bytes, from a state, and each fault where it is due.
-use Rattle.std.specs.Prelude.{◌≤◌, ◌≡◌, ◌⊎◌, ℕ, List, [], ◌∷◌, ◌++◌, Option, true, length, Result, Ok, Err}
+use Rattle.std.specs.Prelude.{◌≤◌, ◌≡◌, ◌⊎◌, ℕ, List, [], ◌∷◌, ◌++◌, take, Option, true, length, Result, Ok, Err}
 use Rattle.std.specs.List.{AllByRecursion}
 use Rattle.std.specs.Io.KnownBytes.{Appends, Keeps}
 use Rattle.csv.specs.Reading.{AreRecords, Reached, default_config, strip_bom}
@@ -21,7 +21,7 @@ use Rattle.lrs_sheet.specs.declared.fault.SheetFault.TheVariants as fault
 use Rattle.lrs_records.specs.declared.sheet.Sheet.{Sheet}
 use Rattle.lrs_records.specs.declared.sheet.Sheet.TheVariants.{Edits, Survey}
 use Rattle.lrs_records.specs.Kinds.{IsHeader, edit_record, width_of}
-use Rattle.lrs_sheet.specs.Replies.{IsReplied, Replied, lines_of, tally_of}
+use Rattle.lrs_sheet.specs.Replies.{Replied, lines_of, tally_of}
 
 -- The records of the input begin with these, by the rules of `csv`.
 abbrev pub BeginsWith : Text → List (List Text) → Type 0
@@ -38,6 +38,10 @@ HaveWidth sheet records = AllByRecursion (λ fields. length fields ≡ width_of 
 -- the most records of a sheet after its header
 abbrev pub max_records : ℕ
 max_records = 100_000_000
+
+-- how many records are done together, of a sheet that is there as a whole
+abbrev pub records_together : ℕ
+records_together = 256
 
 -- The records are answered in order, and the lines of their replies are written.
 pub record AreAnswered (sheet : Sheet) (limits : Limits) (before : State) (records : List (List Text)) (replies : List Reply) (after : State) (old new : Option Text) : Type 0 where
@@ -70,35 +74,42 @@ HasAnsweredSome sheet limits input before after old new =
     ⊎ ((header : List Text) × (records : List (List Text)) × (replies : List Reply) × IsHeader sheet header × BeginsWith input (header ∷ records)
     × AreAnswered sheet limits before records replies after old new)
 
--- Some records at the front of the sheet are done, and each has its line; a further one of the right length is not done.
-abbrev pub HasStopped : Sheet → Limits → Text → State → State → Option Text → Option Text → Type 0
-HasStopped sheet limits input before after old new =
-    (header : List Text) × (records : List (List Text)) × (fields : List Text) × (replies : List Reply) × IsHeader sheet header
-    × BeginsWith input ((header ∷ records) ++ fields ∷ []) × (length fields ≡ width_of sheet) × AreAnswered sheet limits before records replies after old new
+-- Further records, one at least and no more than are done together, are not done.
+abbrev pub AreUndone : Sheet → ℕ → List (List Text) → Type 0
+AreUndone sheet together further = (1 ≤ length further) × (length further ≤ together) × HaveWidth sheet further
 
--- Some records at the front of the sheet are done, one at least; the line of the last was not written whole.
+-- Some records at the front of the sheet are done, and each has its line; those that come next are not done.
+abbrev pub HasStopped : Sheet → ℕ → Limits → Text → State → State → Option Text → Option Text → Type 0
+HasStopped sheet together limits input before after old new =
+    (header : List Text) × (records : List (List Text)) × (further : List (List Text)) × (replies : List Reply) × IsHeader sheet header
+    × BeginsWith input ((header ∷ records) ++ further) × AreUndone sheet together further × AreAnswered sheet limits before records replies after old new
+
+-- Some records at the front of the sheet are done, one at least; not all of their lines are written whole.
 abbrev pub HasDoneUpTo : Sheet → Limits → Text → State → State → Type 0
 HasDoneUpTo sheet limits input before after =
-    (header : List Text) × (records : List (List Text)) × (fields : List Text) × (replies : List Reply) × IsHeader sheet header
-    × BeginsWith input (header ∷ (records ++ fields ∷ [])) × HaveWidth sheet (records ++ fields ∷ []) × Replied sheet limits before (records ++ fields ∷ []) replies after
+    (header : List Text) × (records : List (List Text)) × (further : List (List Text)) × (replies : List Reply) × IsHeader sheet header
+    × BeginsWith input ((header ∷ records) ++ further) × (1 ≤ length records) × HaveWidth sheet records × Replied sheet limits before records replies after
 
--- What a run of a sheet gives.
-abbrev pub Runs : Sheet → Limits → Text → State → State → Option Text → Option Text → Result Tally SheetFault → Type 0
-Runs sheet limits input before after old new (Ok tally) = AnswersAll sheet limits input before after old new tally
-Runs sheet limits input before after old new (Err fault.BadHeader) = HasBadHeader sheet input before after old new
-Runs sheet limits input before after old new (Err fault.BadCsv) = HasBadRecord sheet limits input before after old new
-Runs sheet limits input before after old new (Err fault.Read) = HasAnsweredSome sheet limits input before after old new
-Runs sheet limits input before after old new (Err fault.Write) = HasDoneUpTo sheet limits input before after
-Runs sheet limits input before after old new (Err (fault.Desk e)) = HasStopped sheet limits input before after old new
-Runs sheet limits input before after old new (Err fault.Memory) = HasAnsweredSome sheet limits input before after old new
+-- What a run of a sheet gives, which does no more than so many records together.
+abbrev pub Runs : Sheet → ℕ → Limits → Text → State → State → Option Text → Option Text → Result Tally SheetFault → Type 0
+Runs sheet together limits input before after old new (Ok tally) = AnswersAll sheet limits input before after old new tally
+Runs sheet together limits input before after old new (Err fault.BadHeader) = HasBadHeader sheet input before after old new
+Runs sheet together limits input before after old new (Err fault.BadCsv) = HasBadRecord sheet limits input before after old new
+Runs sheet together limits input before after old new (Err fault.Read) = HasAnsweredSome sheet limits input before after old new
+Runs sheet together limits input before after old new (Err fault.Write) = HasDoneUpTo sheet limits input before after
+Runs sheet together limits input before after old new (Err (fault.Desk stop.Memory)) = HasStopped sheet together limits input before after old new
+Runs sheet together limits input before after old new (Err (fault.Desk stop.MustReopen)) = HasStopped sheet together limits input before after old new
+-- the desk's image is ahead of what has lines
+Runs sheet together limits input before after old new (Err (fault.Desk stop.Keep)) = (settled : State) × HasStopped sheet together limits input before settled old new
+Runs sheet together limits input before after old new (Err fault.Memory) = HasAnsweredSome sheet limits input before after old new
 
--- What a run of an edit sheet gives.
+-- What a run of an edit sheet gives, one record after the other.
 abbrev pub RunsEdits : Limits → Text → State → State → Option Text → Option Text → Result Tally SheetFault → Type 0
-RunsEdits = Runs Edits
+RunsEdits = Runs Edits 1
 
--- What a run of a survey gives.
+-- What a run of a survey gives, one record after the other.
 abbrev pub RunsSurvey : Limits → Text → State → State → Option Text → Option Text → Result Tally SheetFault → Type 0
-RunsSurvey = Runs Survey
+RunsSurvey = Runs Survey 1
 
 -- the desk goes along with its keeper
 pub record GoesAlong {K : Type 0} (holds : K → Result Image Table → Type 0) (old new : DeskView K) : Type 0 where
@@ -127,23 +138,22 @@ LeavesDesk holds old new (Err fault.Memory) = GoesAlong holds old new
 abbrev pub StandsFor : Result Image Table → State → Type 0
 StandsFor content state = (image : Image) × (content ≡ Ok image) × (state_of image ≡ state)
 
--- what a keeper has stands for the state, or for the one after the record
-abbrev pub HasOldOrNext : Limits → State → List Text → Result Image Table → Type 0
-HasOldOrNext limits state fields content =
-    StandsFor content state
-    ⊎ ((reply : Reply) × (next : State) × IsReplied limits state fields reply next × StandsFor content next)
+-- what a keeper has stands for the state after some first ones of these records
+abbrev pub IsAfterRecords : Sheet → Limits → State → List (List Text) → Result Image Table → Type 0
+IsAfterRecords sheet limits state records content =
+    (k : ℕ) × (replies : List Reply) × (next : State) × Replied sheet limits state (take k records) replies next × StandsFor content next
 
--- The commit of a record failed: those before it are done.
-abbrev pub BreaksOff : Sheet → Limits → Text → State → State → Result Image Table → Type 0
-BreaksOff sheet limits input before after content =
-    (header : List Text) × (records : List (List Text)) × (fields : List Text) × (replies : List Reply) × IsHeader sheet header
-    × BeginsWith input ((header ∷ records) ++ fields ∷ []) × HaveWidth sheet records × Replied sheet limits before records replies after
-    × HasOldOrNext limits after (edit_record sheet fields) content
+-- A commit failed: some records at the front of the sheet are done, each has its line, and of those that come next some first ones may be kept.
+abbrev pub BreaksOff : Sheet → ℕ → Limits → Text → State → Option Text → Option Text → Result Image Table → Type 0
+BreaksOff sheet together limits input before old new content =
+    (header : List Text) × (records : List (List Text)) × (further : List (List Text)) × (replies : List Reply) × (settled : State) × IsHeader sheet header
+    × BeginsWith input ((header ∷ records) ++ further) × AreUndone sheet together further × AreAnswered sheet limits before records replies settled old new
+    × IsAfterRecords sheet limits settled further content
 
--- the same of an edit sheet
-abbrev pub HasBrokenOff : Limits → Text → State → State → Result Image Table → Type 0
-HasBrokenOff = BreaksOff Edits
+-- the same of an edit sheet, one record after the other
+abbrev pub HasBrokenOff : Limits → Text → State → Option Text → Option Text → Result Image Table → Type 0
+HasBrokenOff = BreaksOff Edits 1
 
 -- the same of a survey
-abbrev pub SurveyHasBrokenOff : Limits → Text → State → State → Result Image Table → Type 0
-SurveyHasBrokenOff = BreaksOff Survey
+abbrev pub SurveyHasBrokenOff : Limits → Text → State → Option Text → Option Text → Result Image Table → Type 0
+SurveyHasBrokenOff = BreaksOff Survey 1

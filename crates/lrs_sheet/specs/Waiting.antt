@@ -1,5 +1,5 @@
 -- Commands that wait, and are done together.
-use Rattle.std.specs.Prelude.{◌≡◌, ◌≤◌, ◌<◌, ◌+◌, ◌++◌, ◌⊎◌, ⊤, ℕ, List, [], ◌∷◌, Option, Some, Result, length, take, drop}
+use Rattle.std.specs.Prelude.{◌≡◌, ◌≤◌, ◌<◌, ◌+◌, ◌++◌, ◌⊎◌, ⊤, ℕ, List, [], ◌∷◌, Option, Some, None, Result, length, take, drop}
 use Rattle.std.specs.Io.KnownBytes.{Appends}
 use Rattle.lrs_machine.specs.Lines.{Text}
 use Rattle.lrs_machine.specs.declared.answer.Answer.{Answer}
@@ -23,8 +23,8 @@ use Rattle.lrs_records.specs.declared.sheet.Sheet.{Sheet}
 use Rattle.lrs_records.specs.Kinds.{edit_record, width_of}
 use Rattle.lrs_records.specs.Records.{SaysCommand}
 use Rattle.lrs_sheet.specs.Replies.{IsReplied, answer_count, counted, lines_of, tally_of}
-use Rattle.lrs_sheet.specs.Sheets.{AreAnswered, GoesAlong, HaveWidth, StandsFor}
-use Rattle.lrs_sheet.specs.Rows.{DoesRow, Gave, IsPlain}
+use Rattle.lrs_sheet.specs.Sheets.{AreAnswered, GoesAlong, HaveWidth, StandsFor, max_records}
+use Rattle.lrs_sheet.specs.Rows.{DoesRow, EndsAfter, Gave, IsPlain, IsReadFault}
 
 -- the reply of an answer, under the key of its command
 abbrev pub reply_of : Text × Command → Answer → Reply
@@ -157,3 +157,13 @@ pub record IsWaiting {R K : Type 0} (sheet : Sheet) (holds : K → Result Image 
   pub wide : HaveWidth sheet asked
   pub few : answer_count tally + length waiting ≡ turns
   pub in_turn : length records + length asked ≡ turns
+
+-- how the records come to their end: there are no more, or the next one cannot be read, or there are too many
+abbrev pub EndsBy : {R : Type 0} → (R → Option Text) → Reader R → Option SheetFault → Type 0
+EndsBy remaining last None = EndsAfter remaining last []
+EndsBy remaining last (Some e) = IsReadFault remaining last e
+
+-- The records are read to their end, so or so; of the last ones the commands wait.
+abbrev pub HasTaken : {R K : Type 0} → Sheet → (K → Result Image Table → Type 0) → (R → Option Text) → Reader R → DeskView K → DeskView K → Option Text → Option Text → Tally → List (Text × Command) → Option SheetFault → Type 0
+HasTaken {R} sheet holds remaining first before after old new tally waiting ended =
+    (last : Reader R) × (turns : ℕ) × (turns ≤ max_records) × IsWaiting sheet holds remaining first last before after old new tally waiting turns × EndsBy remaining last ended

@@ -1,5 +1,5 @@
-//! Sheets of commands, and surveys: bytes in, bytes out. Each record is read, done by a desk and answered by a line
-//! before the next one is read, so that nothing grows with the number of records.
+//! Sheets of commands, and surveys: bytes in, bytes out. Records are read, done by a desk and answered by lines, one
+//! after the other or some together, so that nothing grows with the number of records.
 #![tactic(auto)]
 
 mod fault;
@@ -12,4 +12,4 @@ mod waiting;
 pub use fault::SheetFault;
 pub use lrs_records::{ReadFault, Sheet, command_of, survey_of};
 pub use reply::{Reply, Tally};
-pub use run::{run_edits, run_sheet, run_survey};
+pub use run::{RECORDS_TOGETHER, run_edits, run_sheet, run_survey};

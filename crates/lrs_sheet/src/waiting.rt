@@ -135,7 +135,7 @@ pub(crate) fn settle<W: Write, K: Keeper>(
     Ok(())
 }
 
-/// Refuses a record whose first malformed field is this, behind those that wait.
+/// Refuses a record whose first malformed field is this, behind those that wait, and lets none wait.
 fn refuse<W: Write, K: Keeper>(
     row: &SheetRecord<'_>,
     field: Field,
@@ -147,6 +147,7 @@ fn refuse<W: Write, K: Keeper>(
     requires malformed { FirstMalformed (edit_fields row.now) (place_of field) }
     requires room { answer_count tally.old + length waiting.old.items < 2 ^ 32 }
     ensures takes { OnOk result (Takes desk.old.limits (edit_fields row.now) waiting.old.items waiting.new.items (state_of desk.old.image) (state_of desk.new.image) (W.contents writer.old) (W.contents writer.new) tally.old tally.new) }
+    ensures none { OnOk result (waiting.new.items ≡ []) }
     ensures stops { IfErr result (StopsTaking K.may_hold (edit_fields row.now) waiting.old.items desk.old desk.new (W.contents writer.old) (W.contents writer.new) tally.old) }
     ensures desk { LeavesDesk K.may_hold desk.old desk.new result }
 {
@@ -171,7 +172,9 @@ pub(crate) fn take_row<W: Write, K: Keeper>(
 ) -> Result<(), SheetFault>
     requires width { length (fields_of row.now.fields.now) ≤ width_of row.now.sheet }
     requires room { answer_count tally.old + length waiting.old.items < 2 ^ 32 }
+    requires few { length waiting.old.items < together }
     ensures takes { OnOk result (Takes desk.old.limits (edit_fields row.now) waiting.old.items waiting.new.items (state_of desk.old.image) (state_of desk.new.image) (W.contents writer.old) (W.contents writer.new) tally.old tally.new) }
+    ensures few { OnOk result (length waiting.new.items < together) }
     ensures stops { IfErr result (StopsTaking K.may_hold (edit_fields row.now) waiting.old.items desk.old desk.new (W.contents writer.old) (W.contents writer.new) tally.old) }
     ensures desk { LeavesDesk K.may_hold desk.old desk.new result }
 {

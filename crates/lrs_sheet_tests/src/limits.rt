@@ -1,8 +1,11 @@
 //! A sheet over an inventory that may hold few edits and routes: the program's own limits are beyond a test's time.
 
+ghost use Rattle.std.specs.Prelude.{◌≤◌};
+
 use lrs_desk::{Desk, Plain};
 use lrs_machine::Limits;
-use lrs_sheet::{Tally, run_edits};
+use lrs_sheet::{Sheet, Tally, run_sheet};
+use std::process::Abort;
 use std::test::Fail;
 
 const FEW: Limits = Limits {
@@ -17,14 +20,23 @@ const SHEET: &str =
 const REPLIES: &str =
     "s1,done,1\ns2,done,2\ns3,done,3\nt1,refused,TooMany:routes\nt2,refused,TooMany:routes\nt3,refused,TooMany:routes\ns4,done,4\nt4,refused,TooMany:assets\nt5,refused,TooMany:assets\ns5,done,5\ns6,done,6\nt6,refused,TooMany:edits\nt7,refused,TooMany:edits\ns6,again,6\ns6,refused,KeyUsed:6\nt8,refused,Malformed:a\n";
 
-#[test]
-fn a_full_inventory_takes_no_more(rt: HostRuntime) -> Result<(), Fail> {
+/// Does the sheet, so many records together.
+fn no_more_is_taken(rt: &(impl Abort + Print + AllocGlobal), together: usize) -> Result<(), Fail>
+    requires { 1 ≤ together }
+{
     let alloc = rt.alloc();
     let Ok(mut desk) = Desk::open(Plain::empty(alloc), FEW, alloc) else {
         return Err(Fail::from("no desk"));
     };
     let mut written = Vec::new(alloc);
-    let result = run_edits(alloc, SHEET.as_bytes(), &mut written, &mut desk);
+    let result = run_sheet(
+        alloc,
+        Sheet::Edits,
+        together,
+        SHEET.as_bytes(),
+        &mut written,
+        &mut desk,
+    );
     assert_eq!(rt; written.as_slice(), REPLIES.as_bytes());
     let tally = Tally {
         done: 6,
@@ -33,4 +45,15 @@ fn a_full_inventory_takes_no_more(rt: HostRuntime) -> Result<(), Fail> {
     };
     assert_eq!(rt; result, Ok(tally));
     Ok(())
+}
+
+#[test]
+fn a_full_inventory_takes_no_more(rt: HostRuntime) -> Result<(), Fail> {
+    no_more_is_taken(&rt, 1)
+}
+
+// Groups end at refusals.
+#[test]
+fn a_full_inventory_takes_no_more_together(rt: HostRuntime) -> Result<(), Fail> {
+    no_more_is_taken(&rt, 10)
 }

@@ -1,11 +1,14 @@
-//! A sheet of all verbs, where a growth is refused: the run ends in want of memory or in a fault of its writer, and
-//! the same sheet with memory is done: what was done before is answered again, and the rest is done.
+//! A sheet of all verbs, where a growth is refused: the run ends in want of memory, in a fault of its writer or in a
+//! failed commit, and the same sheet with memory, at a desk that is opened again, is done: what was kept before is
+//! answered again, and the rest is done.
 //!
 //! With ample memory nothing here is refused. `tests/refused_growths_test.py` runs this with one allocation refused.
 
+ghost use Rattle.std.specs.Prelude.{◌≤◌};
+
 use lrs_desk::{Desk, Plain};
 use lrs_machine::Limits;
-use lrs_sheet::{SheetFault, Tally, run_edits};
+use lrs_sheet::{Sheet, SheetFault, Tally, run_sheet};
 use std::alloc::{AllocError, Global};
 use std::process::Abort;
 
@@ -56,6 +59,14 @@ fn open(rt: &(impl Abort + Print + AllocGlobal)) -> Desk<Plain> {
     }
 }
 
+/// A desk over what a keeper has.
+fn reopened(rt: &(impl Abort + Print + AllocGlobal), desk: Desk<Plain>) -> Desk<Plain> {
+    match Desk::open(desk.into_keeper(), Limits::full(), rt.alloc()) {
+        Ok(desk) => desk,
+        Err((fault, _)) => panic!(rt; "{fault:?}"),
+    }
+}
+
 /// The sheet.
 fn sheet(alloc: Global) -> Result<String, AllocError> {
     let mut sheet = String::new(alloc);
@@ -66,27 +77,44 @@ fn sheet(alloc: Global) -> Result<String, AllocError> {
     Ok(sheet)
 }
 
-/// Runs a sheet at a desk.
-fn run(alloc: Global, sheet: &str, desk: &mut Desk<Plain>) -> Result<Tally, SheetFault> {
+/// Runs a sheet at a desk, so many records together.
+fn run(
+    alloc: Global,
+    sheet: &str,
+    together: usize,
+    desk: &mut Desk<Plain>,
+) -> Result<Tally, SheetFault>
+    requires { 1 ≤ together }
+{
     let mut written = Vec::new(alloc);
-    run_edits(alloc, sheet.as_bytes(), &mut written, desk)
+    run_sheet(
+        alloc,
+        Sheet::Edits,
+        together,
+        sheet.as_bytes(),
+        &mut written,
+        desk,
+    )
 }
 
-#[test]
-fn a_sheet_of_all_verbs_is_done(rt: HostRuntime) {
+/// Does the sheet of all verbs, so many records together.
+fn all_verbs_are_done(rt: &(impl Abort + Print + AllocGlobal), together: usize)
+    requires { 1 ≤ together }
+{
     let alloc = rt.alloc();
     let text = match sheet(alloc) {
         Ok(text) => text,
         Err(_) => {
-            refused(&rt, "sheet");
-            sheet(alloc).expect(&rt, "memory")
+            refused(rt, "sheet");
+            sheet(alloc).expect(rt, "memory")
         }
     };
-    let mut desk = open(&rt);
-    let mut ended = run(alloc, text.as_str(), &mut desk);
+    let mut desk = open(rt);
+    let mut ended = run(alloc, text.as_str(), together, &mut desk);
     if ended.is_err() {
-        refused(&rt, "run_edits");
-        ended = run(alloc, text.as_str(), &mut desk);
+        refused(rt, "run_sheet");
+        desk = reopened(rt, desk);
+        ended = run(alloc, text.as_str(), together, &mut desk);
     }
     match ended {
         Ok(tally) => {
@@ -104,4 +132,14 @@ fn a_sheet_of_all_verbs_is_done(rt: HostRuntime) {
         inventory.edits(),
     );
     assert_eq!(rt; counts, (3, 3, 4, 0, RECORDS));
+}
+
+#[test]
+fn a_sheet_of_all_verbs_is_done_one_by_one(rt: HostRuntime) {
+    all_verbs_are_done(&rt, 1);
+}
+
+#[test]
+fn a_sheet_of_all_verbs_is_done_together(rt: HostRuntime) {
+    all_verbs_are_done(&rt, 10);
 }

@@ -1,5 +1,5 @@
 -- What written changes make of what an opening may find.
-use Rattle.std.proofs.Common.{◌≡◌, ◌⊎◌, inl, inr, ℕ, ◌+◌, List, [], ◌∷◌, length, IsTrue, IfOk, Ok, Err, Result, sym, ap, subst, ◌∙◌}
+use Rattle.std.proofs.Common.{◌≡◌, ◌⊎◌, inl, inr, ℕ, ◌+◌, List, [], length, IsTrue, IfOk, Ok, Result, sym, ap, subst, ◌∙◌}
 use Rattle.sqlite_trees.specs.declared.store.Store.{Ghosts}
 use Rattle.sqlite_trees.specs.Tree.{Trees}
 use Rattle.sqlite.specs.Effect.{Database}
@@ -8,8 +8,8 @@ use Rattle.sqlite.specs.State.{State, HasCleanDisk}
 use Rattle.lrs_machine.specs.declared.image.Image.{Image}
 use Rattle.lrs_machine.specs.declared.table.Table.{Table}
 use Rattle.lrs_keep.specs.declared.change.Change.{Change}
-use Rattle.lrs_keep.specs.Change.{CanMake}
-use Rattle.lrs_keep.specs.Keeping.{IsChanged}
+use Rattle.lrs_keep.specs.Together.{apply_all, CanMakeAll, IsChangedBy, IsChangedBySome}
+use Rattle.lrs_keep.proofs.Together.{some_are_all}
 use Rattle.lrs_store.specs.Tables.{Tables}
 use Rattle.lrs_store.specs.Content.{content_of}
 use Rattle.lrs_tables.specs.Stored.{stored}
@@ -17,7 +17,6 @@ use Rattle.lrs_tables.specs.Writing.{AreWritten}
 use Rattle.lrs_tables.specs.Resting.{IsReady}
 use Rattle.lrs_table_keeper.specs.Texts.{HaveTexts}
 use Rattle.lrs_table_keeper.specs.Holding.{MayHold, HoldEdits, HasEdits}
-use Rattle.lrs_table_keeper.specs.Together.{apply_all, CanMakeAll, IsChangedBy}
 use Rattle.lrs_table_keeper.proofs.Next.{rows_after_all, all_more}
 use Rattle.lrs_table_keeper.proofs.ReadLemmas.{IsSettled}
 
@@ -80,17 +79,6 @@ unchanged s edits cs none kept x h =
     let is : x ≡ Ok held.image = sym h.1.2 ∙ held.rows.holds in
     subst (λ (l : List Change). IsChangedBy (MayHold s) l x) (sym none) (held.image, subst (MayHold s) is h, is)
 
--- with one alone
-
-module _ (c : Change) (cs : List Change) (alone : cs ≡ c ∷ []) where
-  pub can_alone : (x : Result Image Table) → IfOk x (CanMake c) → IfOk x (CanMakeAll cs)
-  can_alone (Ok image) can = subst (λ (l : List Change). CanMakeAll l image) (sym alone) (can, tt)
-  can_alone (Err table) can = tt
-
-  pub changed_alone : (may : Result Image Table → Type 0) (x : Result Image Table) → IsChangedBy may cs x → IsChanged may c x
-  changed_alone may x h =
-      let one : IsChangedBy may (c ∷ []) x = subst (λ (l : List Change). IsChangedBy may l x) alone h in
-      (Ok one.0, one.1, one.2)
-
-  pub old_or_changed_alone : (may : Result Image Table → Type 0) (x : Result Image Table) → may x ⊎ IsChangedBy may cs x → may x ⊎ IsChanged may c x
-  old_or_changed_alone may x h = elim h [ inl old ↦ inl old | inr new ↦ inr (changed_alone may x new) ]
+-- A commit of all of them or none is one of some first ones.
+pub old_or_some : (may : Result Image Table → Type 0) (cs : List Change) (x : Result Image Table) → may x ⊎ IsChangedBy may cs x → may x ⊎ IsChangedBySome may cs x
+old_or_some may cs x h = elim h [ inl old ↦ inl old | inr new ↦ inr (some_are_all may cs x new) ]

@@ -7,6 +7,8 @@ use Rattle.std.proofs.lemmas.List.Sorted.{All-permutation, length_permutation}
 use Rattle.lrs_machine.specs.declared.image.Image.{Image}
 use Rattle.lrs_keep.specs.declared.change.Change.{Change}
 use Rattle.lrs_keep.specs.Change.{apply, CanMake}
+use Rattle.lrs_keep.specs.Together.{apply_all, CanMakeAll}
+use Rattle.lrs_keep.proofs.Together.{edits_after}
 use Rattle.lrs_store.specs.Tables.{Tables}
 use Rattle.lrs_store.specs.Encoded.{encoded}
 use Rattle.lrs_store.proofs.Contents.{content_is_sound}
@@ -18,7 +20,6 @@ use Rattle.lrs_tables.specs.Writing.{IsWritten, AreWritten}
 use Rattle.lrs_written.proofs.Written.{written_is_encoded}
 use Rattle.lrs_table_keeper.specs.Texts.{HasTexts, HaveTexts}
 use Rattle.lrs_table_keeper.specs.Holding.{AreRowsOf}
-use Rattle.lrs_table_keeper.specs.Together.{apply_all, CanMakeAll}
 use Rattle.lrs_table_keeper.proofs.TextLemmas.{texts_after}
 
 -- a list of one element in any order
@@ -53,5 +54,4 @@ rows_after_all (c ∷ cs) i t after come can rows written =
     rows_after_all cs (apply c i) written.0 after come.1 can.1 (next_rows c i t written.0 come.0 can.0 rows written.1) (subst (λ (k : ℕ). AreWritten k cs written.0 after) number written.2)
 
 pub all_more : (cs : List Change) (i : Image) (n : ℕ) → length i.edits ≡ n → length (apply_all cs i).edits ≡ n + length cs
-all_more [] i n is = omega (arith, is)
-all_more (c ∷ cs) i n is = let rest = all_more cs (apply c i) (n + 1) (one_more c i n is) in omega (arith, rest)
+all_more cs i n is = edits_after cs i ∙ ap (λ k. k + length cs) is

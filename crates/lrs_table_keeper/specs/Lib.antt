@@ -1,6 +1,5 @@
 pub mod Texts
 pub mod Rows
 pub mod Holding
-pub mod Together
 pub mod Opening
 pub mod KeeperView

@@ -5,12 +5,12 @@ ghost use Rattle.sqlite.specs.State.{HasCleanDisk};
 ghost use Rattle.sqlite.specs.Held.{state};
 ghost use Rattle.lrs_machine.specs.declared.image.Image.{Image};
 ghost use Rattle.lrs_machine.specs.declared.table.Table.{Table};
+ghost use Rattle.lrs_keep.specs.Together.{CanMakeAll, IsChangedBy};
 ghost use Rattle.lrs_tables.specs.Resting.{IsReady};
 ghost use Rattle.lrs_table_keeper.specs.Holding.{MayHold, HasEdits};
-ghost use Rattle.lrs_table_keeper.specs.Together.{CanMakeAll, IsChangedBy};
 
 use crate::texts::all_texts;
-use lrs_keep::{Change, CommitFault};
+use lrs_keep::{Change, CommitFailed};
 use lrs_tables::change::write_changes;
 use sqlite::{Alter, Connection};
 
@@ -20,7 +20,7 @@ fn write_as<S: Alter>(
     n: u64,
     edits: u64,
     changes: &[Change],
-) -> Result<(), CommitFault>
+) -> Result<(), CommitFailed>
     requires autocommit { conn.old.in_transaction ≡ false }
     requires ready { IsReady (state S.Store conn.old) }
     requires next { n ≡ edits + 1 }
@@ -33,12 +33,11 @@ fn write_as<S: Alter>(
     ensures edits { OnOk result (HasEdits (edits + length changes.now) (state S.Store conn.new)) }
     ensures ok { OnOk result ((c : Result Image Table) → MayHold (state S.Store conn.new) c → IsChangedBy (MayHold (state S.Store conn.old)) changes.now c) }
     ensures err { OnErr result ((c : Result Image Table) → MayHold (state S.Store conn.new) c → MayHold (state S.Store conn.old) c ⊎ IsChangedBy (MayHold (state S.Store conn.old)) changes.now c) }
-    ensures only { OnErr result (result ≡ Result.Err CommitFault.Store) }
 {
     all_texts(changes);
     match write_changes(conn, n, changes) {
         Ok(()) => Ok(()),
-        Err(_) => Err(CommitFault::Store),
+        Err(_) => Err(CommitFailed),
     }
 }
 
@@ -48,7 +47,7 @@ pub(crate) fn write_next<S: Alter>(
     conn: &mut Connection<S>,
     edits: u64,
     changes: &[Change],
-) -> Result<u64, CommitFault>
+) -> Result<u64, CommitFailed>
     requires autocommit { conn.old.in_transaction ≡ false }
     requires ready { IsReady (state S.Store conn.old) }
     requires edits { HasEdits edits (state S.Store conn.old) }
@@ -58,16 +57,15 @@ pub(crate) fn write_next<S: Alter>(
     ensures edits { IfOk result (λ n. HasEdits n (state S.Store conn.new)) }
     ensures ok { OnOk result ((c : Result Image Table) → MayHold (state S.Store conn.new) c → IsChangedBy (MayHold (state S.Store conn.old)) changes.now c) }
     ensures err { OnErr result ((c : Result Image Table) → MayHold (state S.Store conn.new) c → MayHold (state S.Store conn.old) c ⊎ IsChangedBy (MayHold (state S.Store conn.old)) changes.now c) }
-    ensures only { OnErr result (result ≡ Result.Err CommitFault.Store) }
 {
     if changes.is_empty() {
         return Ok(edits);
     }
     let Some(n) = edits.checked_add(1) else {
-        return Err(CommitFault::Store);
+        return Err(CommitFailed);
     };
     let Some(next) = n.checked_add(changes.len() as u64) else {
-        return Err(CommitFault::Store);
+        return Err(CommitFailed);
     };
     write_as(conn, n, edits, changes)?;
     Ok(next - 1)

@@ -16,18 +16,17 @@ use crate::committing::write_next;
 use crate::memory::new_store;
 use crate::opening::make_second;
 use crate::reading::{ReadImage, Unloaded, load_from};
-use lrs_keep::{Change, CommitFault, Keeper, LoadFault};
+use lrs_keep::{Change, CommitFailed, Keeper, LoadFault};
 use lrs_machine::{Image, Table};
 use lrs_tables::tables::OpenFault;
 use sqlite::{Alter, Connection, MemStore};
 use std::alloc::Global;
 use std::marker::Model;
-use std::slice::from_ref;
 
 /// Keeps an image in the tables of a store. A commit is one transaction; loading reads all tables.
 ///
-/// After a commit or a load that failed the connection is not used again: each call answers `Store` from then
-/// on, until the store is opened anew.
+/// After a commit or a load that failed the connection is not used again: each call fails from then on, until
+/// the store is opened anew.
 #[derive(Drop)]
 pub struct TableKeeper<S: Alter, R: ReadImage> {
     conn: Connection<S>,
@@ -172,20 +171,20 @@ impl<S: Alter, R: ReadImage> Keeper for TableKeeper<S, R> {
         }
     }
 
-    fn commit(&mut self, change: &Change) -> Result<(), CommitFault> {
+    fn commit(&mut self, changes: &[Change]) -> Result<(), CommitFailed> {
         if self.is_broken {
             self.failures = self.failures.saturating_add(1);
-            return Err(CommitFault::Store);
+            return Err(CommitFailed);
         }
-        match write_next(&mut self.conn, self.edits, from_ref(change)) {
+        match write_next(&mut self.conn, self.edits, changes) {
             Ok(edits) => {
                 self.edits = edits;
                 Ok(())
             }
-            Err(fault) => {
+            Err(CommitFailed) => {
                 self.is_broken = true; // what is kept is either
                 self.failures = self.failures.saturating_add(1);
-                Err(fault)
+                Err(CommitFailed)
             }
         }
     }

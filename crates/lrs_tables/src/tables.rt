@@ -1,6 +1,6 @@
 //! A store of an inventory's tables.
 
-ghost use Rattle.std.specs.Prelude.{◌≡◌, ◌⊎◌, false, IfOk, OnOk, OnErr, Err};
+ghost use Rattle.std.specs.Prelude.{◌≡◌, ◌⊎◌, false, IfOk, OnOk, OnErr};
 ghost use Rattle.sqlite.specs.Held.{state};
 ghost use Rattle.sqlite.specs.Steps.{over_memory};
 ghost use Rattle.lrs_keep.specs.Keeping.{HasRisen};
@@ -13,7 +13,7 @@ ghost use Rattle.lrs_tables.specs.Starting.{new_rows};
 use crate::bringing_up::bring_up;
 use crate::start::make_store;
 use lrs_events::Asset;
-use lrs_keep::CommitFault;
+use lrs_keep::CommitFailed;
 use sqlite::{Alter, Connection, Error, ErrorCode, MemStore};
 use std::alloc::Global;
 
@@ -31,19 +31,18 @@ impl<S: Alter> Tables<S> {
     ///
     /// # Errors
     /// When the store fails.
-    pub fn bring_up(&mut self, assets: &[Asset]) -> Result<(), CommitFault>
+    pub fn bring_up(&mut self, assets: &[Asset]) -> Result<(), CommitFailed>
         requires ready { (self.old.conn.in_transaction ≡ false) × IsReady (state S.Store self.old.conn) }
         ensures ready { OnOk result ((self.new.conn.in_transaction ≡ false) × IsReady (state S.Store self.new.conn)) }
         ensures ok { OnOk result ((t : Stored) → HoldsOnly (state S.Store self.old.conn) t → HoldsOnly (state S.Store self.new.conn) (brought_up assets.now t)) }
-        ensures store { result ≡ Err CommitFault.Store → (t : Stored) → HoldsOnly (state S.Store self.old.conn) t → HoldsOneOf (state S.Store self.new.conn) t (brought_up assets.now t) }
-        ensures only { OnErr result (result ≡ Err CommitFault.Store) }
-        ensures cause { result ≡ Err CommitFault.Store → HasRisen self.old.failures self.new.failures }
+        ensures failed { OnErr result ((t : Stored) → HoldsOnly (state S.Store self.old.conn) t → HoldsOneOf (state S.Store self.new.conn) t (brought_up assets.now t)) }
+        ensures cause { OnErr result (HasRisen self.old.failures self.new.failures) }
     {
         match bring_up(&mut self.conn, assets) {
             Ok(()) => Ok(()),
             Err(_) => {
                 self.failures = self.failures.saturating_add(1);
-                Err(CommitFault::Store)
+                Err(CommitFailed)
             }
         }
     }

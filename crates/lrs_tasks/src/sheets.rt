@@ -1,6 +1,6 @@
 //! Sheets, from a file or the standard input, and their replies.
 
-ghost use Rattle.std.specs.Prelude.{◌≡◌, ◌⊎◌, IfOk, IfErr, IfSome};
+ghost use Rattle.std.specs.Prelude.{◌≡◌, ◌≤◌, ◌⊎◌, IfOk, IfErr, IfSome};
 ghost use Rattle.lrs_machine.specs.Image.{state_of};
 ghost use Rattle.lrs_tasks.specs.Faults.{fault_of_desk, fault_of_sheet};
 ghost use Rattle.lrs_sheet.specs.Sheets.{Runs};
@@ -8,7 +8,7 @@ ghost use Rattle.lrs_sheet.specs.Sheets.{Runs};
 use crate::fault::ProgramFault;
 use crate::progress::{Progress, Shown};
 use lrs_desk::{Desk, Fault, Keeper};
-use lrs_sheet::{Sheet, SheetFault, Tally, run_sheet};
+use lrs_sheet::{RECORDS_TOGETHER, Sheet, SheetFault, Tally, run_sheet};
 use std::alloc::Global;
 use std::io::{BufWriter, ErrorKind, LineWriter, Read, Write};
 use std::rt::Runtime;
@@ -45,46 +45,53 @@ fn sheet_fault(fault: SheetFault) -> ProgramFault
 pub enum Pace {
     // Each before the next record is read: whoever sends the records may wait for it.
     LineByLine,
+    // Those of records that are kept together, before more are done.
+    InGroups,
     // Many at once.
     InPieces,
 }
 
-// Runs a sheet's bytes with a buffer of this size in front of the writer, and gives the writer back with all
-// that was answered. So a fault of the sheet is handed out beside the writer; what fails here is the writing
+// Runs a sheet's bytes, so many records together, with a buffer of this size in front of the writer, and gives the
+// writer back with all that was answered. So a fault of the sheet is handed out beside the writer; what fails here is the writing
 // itself, or there is no memory for it.
 fn write_replies<S: Read + Drop, W: Write + Drop, K: Keeper>(
     alloc: Global,
     kind: Sheet,
     sheet: S,
+    together: usize,
     buffer: usize,
     to: W,
     desk: &mut Desk<K>,
 ) -> Result<(W, Result<Tally, SheetFault>), ProgramFault>
-    ensures runs { IfOk result (λ done. IfSome (S.remaining sheet) (λ input. Runs kind desk.old.limits input (state_of desk.old.image) (state_of desk.new.image) (W.contents to) (W.contents done.0) done.1)) }
+    requires together { 1 ≤ together }
+    ensures runs { IfOk result (λ done. IfSome (S.remaining sheet) (λ input. Runs kind together desk.old.limits input (state_of desk.old.image) (state_of desk.new.image) (W.contents to) (W.contents done.0) done.1)) }
     ensures faults { IfErr result (λ e. (e ≡ ProgramFault.Memory) ⊎ (e ≡ ProgramFault.Write)) }
 {
     let Ok(mut writer) = BufWriter::with_capacity(alloc, buffer, to) else {
         return Err(ProgramFault::Memory);
     };
-    let outcome = run_sheet(alloc, kind, sheet, &mut writer, desk);
+    let outcome = run_sheet(alloc, kind, together, sheet, &mut writer, desk);
     match writer.into_inner() {
         Ok(to) => Ok((to, outcome)),
         Err(_) => Err(ProgramFault::Write),
     }
 }
 
-// Runs a sheet's bytes, and writes each reply line before the next record is read.
+// Runs a sheet's bytes, so many records together, and writes their reply lines before more are done.
 fn write_lines<S: Read + Drop, W: Write + Drop, K: Keeper>(
     alloc: Global,
     kind: Sheet,
     sheet: S,
+    together: usize,
     to: W,
     desk: &mut Desk<K>,
-) -> Result<Tally, ProgramFault> {
+) -> Result<Tally, ProgramFault>
+    requires { 1 ≤ together }
+{
     let Ok(lines) = LineWriter::new(alloc, to) else {
         return Err(ProgramFault::Memory);
     };
-    match write_replies(alloc, kind, sheet, 0, lines, desk) {
+    match write_replies(alloc, kind, sheet, together, 0, lines, desk) {
         Ok((_, outcome)) => outcome.map_err(sheet_fault),
         Err(fault) => Err(fault),
     }
@@ -98,7 +105,7 @@ fn write_pieces<S: Read + Drop, W: Write + Drop, K: Keeper>(
     to: W,
     desk: &mut Desk<K>,
 ) -> Result<Tally, ProgramFault> {
-    match write_replies(alloc, kind, sheet, REPLY_BUFFER, to, desk) {
+    match write_replies(alloc, kind, sheet, RECORDS_TOGETHER, REPLY_BUFFER, to, desk) {
         Ok((_, outcome)) => outcome.map_err(sheet_fault),
         Err(fault) => Err(fault),
     }
@@ -122,7 +129,17 @@ fn reply_to<R: Runtime<A = Global>, S: Read + Drop, K: Keeper>(
 ) -> Result<Tally, ProgramFault> {
     let mut progress = Progress::new(io::writer(rt), rt, shown);
     let outcome = match pace {
-        Pace::LineByLine => write_lines(rt.alloc(), kind, sheet, &mut progress, desk),
+        Pace::LineByLine => write_lines(rt.alloc(), kind, sheet, 1, &mut progress, desk),
+        Pace::InGroups => {
+            write_lines(
+                rt.alloc(),
+                kind,
+                sheet,
+                RECORDS_TOGETHER,
+                &mut progress,
+                desk,
+            )
+        }
         Pace::InPieces => write_pieces(rt.alloc(), kind, sheet, &mut progress, desk),
     };
     progress.clear();

@@ -10,7 +10,7 @@ use Rattle.lrs_sheet.specs.declared.reply.Tally.{Tally}
 use Rattle.lrs_sheet.specs.declared.fault.SheetFault.{SheetFault}
 use Rattle.lrs_sheet.specs.declared.fault.SheetFault.TheVariants as fault
 use Rattle.lrs_records.specs.declared.sheet.Sheet.{Sheet}
-use Rattle.lrs_sheet.specs.Sheets.{Runs, LeavesDesk, BreaksOff}
+use Rattle.lrs_sheet.specs.Sheets.{Runs, LeavesDesk, BreaksOff, records_together}
 use Rattle.lrs_http.specs.declared.reply.ContentType.{ContentType}
 use Rattle.lrs_http.specs.declared.reply.ContentType.TheVariants.{Csv}
 use Rattle.lrs_http.specs.Text.{Answer, empty_answer}
@@ -40,11 +40,11 @@ answer_after (Err fault.Memory) lines = empty_answer 503
 
 -- a sheet is run at a desk, ends so and writes these lines
 pub record IsRun {K : Type 0} (holds : K → Result Image Table → Type 0) (sheet : Sheet) (input : Text) (old new : DeskView K) (ended : Result Tally SheetFault) (lines : Text) : Type 0 where
-  pub runs : Runs sheet old.limits input (state_of old.image) (state_of new.image) (Some []) (Some lines) ended
+  pub runs : Runs sheet records_together old.limits input (state_of old.image) (state_of new.image) (Some []) (Some lines) ended
   pub desk : LeavesDesk holds old new ended
-  -- after a failed commit: the keeper has the state of the records that were done, or that of one more
+  -- after a failed commit: the keeper has the state of the records that have lines, or that of some more
   pub broken : ended ≡ Err (fault.Desk stop.Keep) → (c : Result Image Table) → holds new.keeper c
-      → BreaksOff sheet old.limits input (state_of old.image) (state_of new.image) c
+      → BreaksOff sheet records_together old.limits input (state_of old.image) (Some []) (Some lines) c
 
 -- the reply to such a run; where memory runs out for it, there is an empty 503 in its place
 abbrev pub IsAnswerAfter : Result Tally SheetFault → Text → Answer → Type 0

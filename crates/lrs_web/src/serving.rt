@@ -1,6 +1,6 @@
 //! One request is read, done and answered.
 
-ghost use Rattle.std.specs.Prelude.{◌≡◌, ◌⊎◌, IfOk, IfSome, Err};
+ghost use Rattle.std.specs.Prelude.{◌≡◌, ◌⊎◌, IfOk, IfSome, Err, true};
 ghost use Rattle.lrs_http.specs.Task.{Asked, IsServed, asked_by};
 ghost use Rattle.lrs_http.specs.Text.{Answer, answer_of, empty_answer};
 ghost use Rattle.lrs_replies.specs.Answered.{AnswersAsked};
@@ -52,6 +52,7 @@ fn allowed_reply(verb: Verb) -> Reply
     }
 }
 
+// Once a commit has failed, the image may be ahead of what is kept.
 fn question_reply<K: Keeper>(
     alloc: Global,
     resource: Resource,
@@ -59,11 +60,15 @@ fn question_reply<K: Keeper>(
     desk: &Desk<K>,
 ) -> Reply
     requires { verb_of resource ≡ Get }
-    ensures { AnswersAsked desk.now.must_reopen desk.now.image resource argument.now (answer_of result) ⊎ (answer_of result ≡ empty_answer 503) }
+    ensures answered { AnswersAsked desk.now.must_reopen desk.now.image resource argument.now (answer_of result) ⊎ (answer_of result ≡ empty_answer 503) }
+    ensures broken { desk.now.must_reopen ≡ true → answer_of result ≡ empty_answer 503 }
 {
+    if desk.must_reopen() {
+        return Reply::empty(StatusCode::SERVICE_UNAVAILABLE);
+    }
     let kept = desk.inventory().kept();
     let counts = desk.counts();
-    match answer_asked(alloc, kept, counts, desk.must_reopen(), resource, argument) {
+    match answer_asked(alloc, kept, counts, false, resource, argument) {
         Ok(reply) => reply,
         Err(_) => Reply::empty(StatusCode::SERVICE_UNAVAILABLE),
     }

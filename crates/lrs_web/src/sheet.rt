@@ -7,7 +7,7 @@ ghost use Rattle.lrs_web.specs.Sheets.{DoesSheet, IsAnswerAfter, fault_answer, l
 use http::StatusCode;
 use lrs_desk::{Desk, Keeper};
 use lrs_http::{Content, ContentType, Reply};
-use lrs_sheet::{Sheet, SheetFault, Tally, run_sheet};
+use lrs_sheet::{RECORDS_TOGETHER, Sheet, SheetFault, Tally, run_sheet};
 use std::alloc::Global;
 
 // Where there are no lines, the reply has no body.
@@ -63,6 +63,6 @@ pub(crate) fn do_sheet<K: Keeper>(
     ensures { DoesSheet K.may_hold sheet bytes.now desk.old (answer_of result) desk.new }
 {
     let mut lines = Vec::new(alloc);
-    let ended = run_sheet(alloc, sheet, bytes, &mut lines, desk);
+    let ended = run_sheet(alloc, sheet, RECORDS_TOGETHER, bytes, &mut lines, desk);
     reply_after(ended, lines)
 }

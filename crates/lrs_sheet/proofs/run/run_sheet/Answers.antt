@@ -5,19 +5,19 @@ use Rattle.lrs_sheet.proofs.Whole.{bad-header, broke-under, empty-sheet, under-h
 use Rattle.lrs_sheet.proofs.run.run_sheet.Goals as goal
 
 pub returns-then-not-branch-clause-runs : goal.returns-then-not-branch-clause-runs
-returns-then-not-branch-clause-runs g c = empty-sheet c.args.sheet g.R.Read.remaining c.open-rows.result (g.R.Read.remaining c.args.reader) c.args.desk.now.limits (state_of c.args.desk.now.image) (g.W.Write.contents c.args.writer.now) c.default.result
+returns-then-not-branch-clause-runs g c = empty-sheet c.args.sheet c.args.together g.R.Read.remaining c.open-rows.result (g.R.Read.remaining c.args.reader) c.args.desk.now.limits (state_of c.args.desk.now.image) (g.W.Write.contents c.args.writer.now) c.default.result
     c.open-rows.ensures.start (c.in_ok-next_row.ensures.ended c.if-not-branch.true) (search rules)
 
 pub returns-then-not-is_header-clause-runs : goal.returns-then-not-is_header-clause-runs
-returns-then-not-is_header-clause-runs g c = bad-header c.args.sheet g.R.Read.remaining c.open-rows.result c.next_row.new.rows (g.R.Read.remaining c.args.reader) c.args.desk.now.limits (state_of c.args.desk.now.image) (g.W.Write.contents c.args.writer.now) (fields_of c.next_row.new.row)
+returns-then-not-is_header-clause-runs g c = bad-header c.args.sheet c.args.together g.R.Read.remaining c.open-rows.result c.next_row.new.rows (g.R.Read.remaining c.args.reader) c.args.desk.now.limits (state_of c.args.desk.now.image) (g.W.Write.contents c.args.writer.now) (fields_of c.next_row.new.row)
     c.open-rows.ensures.start (c.in_ok-next_row.ensures.found c.if-not-branch.false) (search rules)
 
 pub returns-clause-runs : goal.returns-clause-runs
-returns-clause-runs g c = under-header c.args.sheet g.R.Read.remaining c.open-rows.result c.next_row.new.rows (g.R.Read.remaining c.args.reader) c.args.desk.now.limits (state_of c.args.desk.now.image) (state_of c.do_rows.new.desk.image)
+returns-clause-runs g c = under-header c.args.sheet c.args.together g.R.Read.remaining c.open-rows.result c.next_row.new.rows (g.R.Read.remaining c.args.reader) c.args.desk.now.limits (state_of c.args.desk.now.image) (state_of c.do_rows.new.desk.image)
     (g.W.Write.contents c.args.writer.now) (g.W.Write.contents c.do_rows.new.writer) (fields_of c.next_row.new.row) c.do_rows.result
     c.open-rows.ensures.start (c.in_ok-next_row.ensures.found c.if-not-branch.false) (search rules) c.do_rows.ensures.rows
 
 pub returns-clause-broken : goal.returns-clause-broken
-returns-clause-broken g c is = λ kept found. broke-under c.args.sheet g.R.Read.remaining c.open-rows.result c.next_row.new.rows (g.R.Read.remaining c.args.reader) c.args.desk.now.limits (state_of c.args.desk.now.image) (state_of c.do_rows.new.desk.image)
-    kept (fields_of c.next_row.new.row)
+returns-clause-broken g c is = λ kept found. broke-under c.args.sheet c.args.together g.R.Read.remaining c.open-rows.result c.next_row.new.rows (g.R.Read.remaining c.args.reader) c.args.desk.now.limits (state_of c.args.desk.now.image)
+    (g.W.Write.contents c.args.writer.now) (g.W.Write.contents c.do_rows.new.writer) kept (fields_of c.next_row.new.row)
     c.open-rows.ensures.start (c.in_ok-next_row.ensures.found c.if-not-branch.false) (search rules) (c.do_rows.ensures.broken is kept found)

@@ -22,8 +22,8 @@ returns-in-Ok-clause-ok g c t holds clean db left =
     let is = g.met.S.Store.settled new.store db opens.1 left in
     subst (λ (d : Trees). AreSame (brought_up xs t) (stored d)) (sym is) (same_trans _ _ _ (steady-brought_up xs _ _ before) (c.in-Ok.ensures.brought_up clean))
 
-pub returns-in-Err-clause-store : goal.returns-in-Err-clause-store
-returns-in-Err-clause-store g c _ t holds clean db left =
+pub returns-in-Err-clause-failed : goal.returns-in-Err-clause-failed
+returns-in-Err-clause-failed g c t holds clean db left =
     let old = c.args.self.now.conn in
     let xs = c.args.assets.now in
     let early : HasCleanDisk (state g.S.Store old) = omega (arith, c.bring_up.ensures.crash.clean) in

@@ -1,0 +1,63 @@
+-- Commands that are done together: done here first, and what they change is kept then.
+use Rattle.std.specs.Prelude.{◌≡◌, ◌⊎◌, ℕ, Bool, true, List, [], ◌∷◌, ◌++◌, length, take}
+use Rattle.std.specs.List.{AllByRecursion}
+use Rattle.lrs_measure.specs.Texts.{Name}
+use Rattle.lrs_machine.specs.declared.answer.Answer.{Answer}
+use Rattle.lrs_machine.specs.declared.answer.Limits.{Limits}
+use Rattle.lrs_machine.specs.declared.command.Command.{Command}
+use Rattle.lrs_machine.specs.declared.image.Image.{Image}
+use Rattle.lrs_machine.specs.Image.{state_of}
+use Rattle.lrs_machine.specs.Machine.{Record, step, answers, state_after}
+use Rattle.lrs_machine.specs.Sound.{IsSound}
+use Rattle.lrs_keep.specs.declared.change.Change.{Change}
+use Rattle.lrs_keep.specs.Change.{apply, CanMake}
+use Rattle.lrs_keep.specs.Together.{apply_all, CanMakeAll}
+use Rattle.lrs_stops.specs.Stopped.{IsAccepted}
+use Rattle.lrs_desk.specs.Desk.{DoesFirst}
+
+-- The image is sound, and stands for the state after some first ones of these commands.
+pub record IsStage (limits : Limits) (records : List Record) (before image : Image) : Type 0 where
+  pub done : ℕ
+  pub state : state_of image ≡ state_after limits (take done records) (state_of before)
+  pub sound : IsSound image
+
+-- One more change is made of an image, and stands behind those made before it.
+pub record IsChanged (changes changes_after : List Change) (before after : Image) : Type 0 where
+  pub change : Change
+  pub can : CanMake change before
+  pub made : after ≡ apply change before
+  pub kept : changes_after ≡ changes ++ change ∷ []
+
+-- Nothing is changed, or one change is made.
+abbrev pub MayBeChanged : List Change → List Change → Image → Image → Type 0
+MayBeChanged changes changes_after before after = ((changes_after ≡ changes) × (after ≡ before)) ⊎ IsChanged changes changes_after before after
+
+-- A command is done behind others: its answer stands behind theirs, and so does what it changes. No other follows one that is refused.
+pub record DoesNext (limits : Limits) (key : Name) (command : Command) (before after : Image) (given given_after : List Answer) (changes changes_after : List Change) (goes_on : Bool) : Type 0 where
+  pub answered : given_after ≡ given ++ (step limits key command (state_of before)).answer ∷ []
+  pub state : state_of after ≡ (step limits key command (state_of before)).state
+  pub changed : MayBeChanged changes changes_after before after
+  pub accepted : goes_on ≡ true → IsAccepted (step limits key command (state_of before)).answer
+
+-- The changes are those that these commands make of an image: after any first ones of them it is that of some first commands.
+pub record IsMade (limits : Limits) (records : List Record) (before after : Image) (changes : List Change) : Type 0 where
+  pub can : CanMakeAll changes before
+  pub made : after ≡ apply_all changes before
+  pub amid : (k : ℕ) → IsStage limits records before (apply_all (take k changes) before)
+
+-- These commands are done and so answered, by these changes.
+pub record HasDone (limits : Limits) (records : List Record) (before after : Image) (given : List Answer) (changes : List Change) : Type 0 where
+  pub answered : given ≡ answers limits records (state_of before)
+  pub state : state_of after ≡ state_after limits records (state_of before)
+  pub made : IsMade limits records before after changes
+
+-- All of them were accepted, so that others may follow; without any, nothing has changed.
+pub record GoesOn (limits : Limits) (records : List Record) (before after : Image) (given : List Answer) (changes : List Change) : Type 0 where
+  pub done : HasDone limits records before after given changes
+  pub accepted : AllByRecursion IsAccepted (answers limits records (state_of before))
+  pub none : records ≡ [] → after ≡ before
+
+-- The first of these commands are done, by these changes.
+pub record IsGroup (limits : Limits) (records : List Record) (before after : Image) (given : List Answer) (changes : List Change) : Type 0 where
+  pub first : DoesFirst limits records (state_of before) (state_of after) given
+  pub made : IsMade limits (take (length given) records) before after changes

@@ -1,0 +1,129 @@
+-- What is left where not all of the records whose commands wait are done.
+use Rattle.std.proofs.Common.{◌≡◌, ℕ, zero, suc, ◌<◌, ◌≤◌, ◌+◌, List, [], ◌∷◌, ◌++◌, Option, Result, Err, length, take, drop, refl, ap, arith, append_assoc, length-append}
+use Rattle.std.specs.Io.KnownBytes.{Appends}
+use Rattle.std.proofs.lemmas.List.{length-drop, length-take-le, take-append-drop}
+use Rattle.csv.specs.declared.reader.Reader.{Reader}
+use Rattle.lrs_machine.specs.Image.{state_of}
+use Rattle.lrs_machine.specs.Lines.{Text}
+use Rattle.lrs_machine.specs.State.{State}
+use Rattle.lrs_machine.specs.declared.command.Command.{Command}
+use Rattle.lrs_machine.specs.declared.image.Image.{Image}
+use Rattle.lrs_machine.specs.declared.table.Table.{Table}
+use Rattle.lrs_desk.specs.DeskView.{DeskView}
+use Rattle.lrs_desk.specs.declared.desk.Fault.TheVariants as stop
+use Rattle.lrs_records.specs.declared.sheet.Sheet.{Sheet}
+use Rattle.lrs_sheet.specs.declared.fault.SheetFault.{SheetFault}
+use Rattle.lrs_sheet.specs.declared.fault.SheetFault.TheVariants as fault
+use Rattle.lrs_sheet.specs.declared.reply.Tally.{Tally}
+use Rattle.lrs_sheet.specs.Replies.{lines_of}
+use Rattle.lrs_sheet.specs.Rows.{Begins, BreaksAfter, DoesRows, DoesUpTo, Stops}
+use Rattle.lrs_sheet.specs.Sheets.{AreAnswered, AreUndone, HaveWidth}
+use Rattle.lrs_sheet.specs.Waiting.{BreaksOffAmong, DoesFront, IsWaiting, Say, StopsAmong, done_all, replies_to}
+use Rattle.lrs_sheet.proofs.Done.{begins}
+use Rattle.lrs_sheet.proofs.Waits.{answered-more, replied-append, replied_said, width-append}
+
+-- each of the first says its command
+
+pub say_first : (sheet : Sheet) (n : ℕ) (records : List (List Text)) (commands : List (Text × Command)) → Say sheet records commands → Say sheet (take n records) (take n commands)
+say_first sheet zero records commands say = tt
+say_first sheet (suc n) [] [] say = tt
+say_first sheet (suc n) [] (c ∷ commands) say = absurd say
+say_first sheet (suc n) (r ∷ records) [] say = absurd say
+say_first sheet (suc n) (r ∷ records) (c ∷ commands) say = (say.0, say_first sheet n records commands say.1)
+
+-- ... and each of the others
+
+pub say_rest : (sheet : Sheet) (n : ℕ) (records : List (List Text)) (commands : List (Text × Command)) → Say sheet records commands → Say sheet (drop n records) (drop n commands)
+say_rest sheet zero records commands say = say
+say_rest sheet (suc n) [] [] say = tt
+say_rest sheet (suc n) [] (c ∷ commands) say = absurd say
+say_rest sheet (suc n) (r ∷ records) [] say = absurd say
+say_rest sheet (suc n) (r ∷ records) (c ∷ commands) say = say_rest sheet n records commands say.1
+
+pub as_many_said : (sheet : Sheet) (records : List (List Text)) (commands : List (Text × Command)) → Say sheet records commands → length records ≡ length commands
+as_many_said sheet [] [] say = refl
+as_many_said sheet [] (c ∷ commands) say = absurd say
+as_many_said sheet (r ∷ records) [] say = absurd say
+as_many_said sheet (r ∷ records) (c ∷ commands) say = ap suc (as_many_said sheet records commands say.1)
+
+width_first : (sheet : Sheet) (n : ℕ) (records : List (List Text)) → HaveWidth sheet records → HaveWidth sheet (take n records)
+width_first sheet zero records wide = tt
+width_first sheet (suc n) [] wide = tt
+width_first sheet (suc n) (r ∷ records) wide = (wide.0, width_first sheet n records wide.1)
+
+width_rest : (sheet : Sheet) (n : ℕ) (records : List (List Text)) → HaveWidth sheet records → HaveWidth sheet (drop n records)
+width_rest sheet zero records wide = wide
+width_rest sheet (suc n) [] wide = tt
+width_rest sheet (suc n) (r ∷ records) wide = width_rest sheet n records wide.1
+
+module _ {K : Type 0} {holds : K → Result Image Table → Type 0} {R : Type 0} (sheet : Sheet) (together : ℕ) (rem : R → Option Text) (rows now : Reader R) (before after : DeskView K) (old new : Option Text) (tally : Tally) (commands : List (Text × Command)) (turns : ℕ)
+    (w : IsWaiting sheet holds rem rows now before after old new tally commands turns) (most : length commands ≤ together) where
+  -- the first of them are done, and have their lines
+  front_answered : (n : ℕ) (s : State) (last : Option Text) → s ≡ done_all before.limits (take n commands) (state_of after.image) → Appends new last (lines_of (replies_to before.limits (take n commands) (state_of after.image)))
+      → AreAnswered sheet before.limits (state_of before.image) (w.records ++ take n w.asked) (w.replies ++ replies_to before.limits (take n commands) (state_of after.image)) s old last
+  front_answered n s last state written =
+      answered-more sheet before.limits (state_of before.image) (state_of after.image) s w.records (take n w.asked) w.replies (take n commands) old new last w.answered (width_first sheet n w.asked w.wide) (say_first sheet n w.asked commands w.say) state written
+
+  all_read : (n : ℕ) → Begins rem rows ((w.records ++ take n w.asked) ++ drop n w.asked)
+  all_read n = rw (append_assoc w.records (take n w.asked) (drop n w.asked), take-append-drop n w.asked) (begins rem rows now (w.records ++ w.asked) w.gave)
+
+  undone : (n : ℕ) → n < length commands → AreUndone sheet together (drop n w.asked)
+  undone n few = (
+    (let same = as_many_said sheet w.asked commands w.say in let less = length-drop n w.asked in omega (arith, few, same, less)),
+    (let same = as_many_said sheet w.asked commands w.say in let less = length-drop n w.asked in omega (arith, most, same, less)),
+    width_rest sheet n w.asked w.wide,
+  )
+
+  stopped_at : (s : State) (last : Option Text) → DoesFront after.limits commands (state_of after.image) s new last → Stops sheet together rem rows before.limits (state_of before.image) s old last
+  stopped_at s last front = (
+    w.records ++ take front.done w.asked,
+    drop front.done w.asked,
+    w.replies ++ replies_to before.limits (take front.done commands) (state_of after.image),
+    undone front.done front.few,
+    front_answered front.done s last (rw w.desk.limits at front.state) (rw w.desk.limits at front.written),
+    all_read front.done,
+  )
+
+  up_to : (n : ℕ) (s : State) → 1 ≤ n → n ≤ length commands → s ≡ done_all before.limits (take n commands) (state_of after.image) → DoesUpTo sheet rem rows before.limits (state_of before.image) s
+  up_to n s some few state = (
+    w.records ++ take n w.asked,
+    drop n w.asked,
+    w.replies ++ replies_to before.limits (take n commands) (state_of after.image),
+    (let same = as_many_said sheet w.asked commands w.say in let fits : n ≤ length w.asked = omega (arith, same, few) in let one = length-append w.records (take n w.asked) in let many = length-take-le n w.asked fits in omega (arith, one, many, some)),
+    width-append sheet w.records (take n w.asked) w.answered.width (width_first sheet n w.asked w.wide),
+    rw state (replied-append sheet before.limits w.records (take n w.asked) w.replies (replies_to before.limits (take n commands) (state_of after.image)) (state_of before.image) (state_of after.image) (done_all before.limits (take n commands) (state_of after.image)) w.answered.replied
+        (replied_said sheet before.limits (take n w.asked) (take n commands) (state_of after.image) (say_first sheet n w.asked commands w.say))),
+    all_read n,
+  )
+
+  -- not all of them are done and have their lines
+  pub among : (end : DeskView K) (last : Option Text) (e : SheetFault) → StopsAmong holds commands after end new last e → DoesRows sheet together rem rows before.limits (state_of before.image) (state_of end.image) old last (Err e)
+  among end last fault.Write (n, some, few, state) = up_to n (state_of end.image) some few (rw w.desk.limits at state)
+  among end last (fault.Desk stop.Keep) stops = (stops.settled, stopped_at stops.settled last stops.front)
+  among end last (fault.Desk stop.Memory) stops = stopped_at (state_of end.image) last stops
+  among end last (fault.Desk stop.MustReopen) stops = stopped_at (state_of end.image) last stops
+  among end last fault.Memory stops = absurd stops
+  among end last fault.Read stops = absurd stops
+  among end last fault.BadHeader stops = absurd stops
+  among end last fault.BadCsv stops = absurd stops
+
+  -- their commit failed
+  pub broke : (end : DeskView K) (last : Option Text) → BreaksOffAmong holds commands after end new last → (c : Result Image Table) → holds end.keeper c → BreaksAfter sheet together rem rows before.limits (state_of before.image) old last c
+  broke end last stops c found =
+      let n = stops.front.done in
+      let (k, stands) = stops.content c found in (
+        w.records ++ take n w.asked,
+        drop n w.asked,
+        w.replies ++ replies_to before.limits (take n commands) (state_of after.image),
+        stops.settled,
+        undone n stops.front.few,
+        front_answered n stops.settled last (rw w.desk.limits at stops.front.state) (rw w.desk.limits at stops.front.written),
+        all_read n,
+        (
+          k,
+          replies_to before.limits (take k (drop n commands)) stops.settled,
+          done_all before.limits (take k (drop n commands)) stops.settled,
+          replied_said sheet before.limits (take k (drop n w.asked)) (take k (drop n commands)) stops.settled (say_first sheet k (drop n w.asked) (drop n commands) (say_rest sheet n w.asked commands w.say)),
+          rw w.desk.limits at stands,
+        ),
+      )
