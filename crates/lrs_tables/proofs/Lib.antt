@@ -4,6 +4,11 @@ pub mod Only
 pub mod InsertStatements
 pub mod Inserting
 pub mod Inserted
+pub mod EightStatements
+pub mod InsertedEight
+pub mod CellLemmas
+pub mod EntryLemmas
+pub mod EntryRows
 pub mod Answers
 pub mod DeleteLemmas
 pub mod DeleteRows

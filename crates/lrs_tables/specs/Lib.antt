@@ -1,7 +1,9 @@
 pub mod Schema
+pub mod Cells
 pub mod Stored
 pub mod Changing
 pub mod Writing
+pub mod Entries
 pub mod RowLaws
 pub mod Making
 pub mod Resting

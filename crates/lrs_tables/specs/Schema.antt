@@ -1,4 +1,4 @@
--- The tables of a store, as SQL defines them and as their definitions are read.
+-- The tables of a store, as SQL defines them and as their definitions are read. Where many rows may come, one statement puts eight of them.
 use Rattle.std.specs.Prelude.{true, false, [], ◌∷◌, None, Some, Option, codes, List, ℕ}
 use Rattle.sqlite_value.specs.declared.value.Value.TheVariants.{Null}
 use Rattle.sqlite_value.specs.declared.keys.Order.{Order}
@@ -86,6 +86,9 @@ create_asset = codes "CREATE TABLE asset (number INTEGER NOT NULL, class TEXT NO
 abbrev pub insert_asset : List ℕ
 insert_asset = codes "INSERT INTO asset VALUES (?1, ?2, ?3, ?4)"
 
+abbrev pub insert_eight_assets : List ℕ
+insert_eight_assets = codes "INSERT INTO asset VALUES (?1, ?2, ?3, ?4), (?5, ?6, ?7, ?8), (?9, ?10, ?11, ?12), (?13, ?14, ?15, ?16), (?17, ?18, ?19, ?20), (?21, ?22, ?23, ?24), (?25, ?26, ?27, ?28), (?29, ?30, ?31, ?32)"
+
 abbrev pub select_asset : List ℕ
 select_asset = codes "SELECT number, class, value, lateral FROM asset"
 
@@ -97,6 +100,9 @@ create_piece = codes "CREATE TABLE piece (route TEXT NOT NULL, n INTEGER NOT NUL
 
 abbrev pub insert_piece : List ℕ
 insert_piece = codes "INSERT INTO piece VALUES (?1, ?2, ?3, ?4, ?5, ?6)"
+
+abbrev pub insert_eight_pieces : List ℕ
+insert_eight_pieces = codes "INSERT INTO piece VALUES (?1, ?2, ?3, ?4, ?5, ?6), (?7, ?8, ?9, ?10, ?11, ?12), (?13, ?14, ?15, ?16, ?17, ?18), (?19, ?20, ?21, ?22, ?23, ?24), (?25, ?26, ?27, ?28, ?29, ?30), (?31, ?32, ?33, ?34, ?35, ?36), (?37, ?38, ?39, ?40, ?41, ?42), (?43, ?44, ?45, ?46, ?47, ?48)"
 
 abbrev pub select_piece : List ℕ
 select_piece = codes "SELECT route, n, link, a, b, dir FROM piece"
@@ -110,6 +116,9 @@ create_mark = codes "CREATE TABLE mark (route TEXT NOT NULL, n INTEGER NOT NULL,
 abbrev pub insert_mark : List ℕ
 insert_mark = codes "INSERT INTO mark VALUES (?1, ?2, ?3, ?4)"
 
+abbrev pub insert_eight_marks : List ℕ
+insert_eight_marks = codes "INSERT INTO mark VALUES (?1, ?2, ?3, ?4), (?5, ?6, ?7, ?8), (?9, ?10, ?11, ?12), (?13, ?14, ?15, ?16), (?17, ?18, ?19, ?20), (?21, ?22, ?23, ?24), (?25, ?26, ?27, ?28), (?29, ?30, ?31, ?32)"
+
 abbrev pub select_mark : List ℕ
 select_mark = codes "SELECT route, n, chainage, measure FROM mark"
 
@@ -121,6 +130,9 @@ create_ref = codes "CREATE TABLE ref (name TEXT NOT NULL, route TEXT NOT NULL, p
 
 abbrev pub insert_ref : List ℕ
 insert_ref = codes "INSERT INTO ref VALUES (?1, ?2, ?3)"
+
+abbrev pub insert_eight_refs : List ℕ
+insert_eight_refs = codes "INSERT INTO ref VALUES (?1, ?2, ?3), (?4, ?5, ?6), (?7, ?8, ?9), (?10, ?11, ?12), (?13, ?14, ?15), (?16, ?17, ?18), (?19, ?20, ?21), (?22, ?23, ?24)"
 
 abbrev pub select_ref : List ℕ
 select_ref = codes "SELECT name, route, place FROM ref"
@@ -134,6 +146,9 @@ create_span = codes "CREATE TABLE span (asset INTEGER NOT NULL REFERENCES asset,
 abbrev pub insert_span : List ℕ
 insert_span = codes "INSERT INTO span VALUES (?1, ?2, ?3, ?4, ?5)"
 
+abbrev pub insert_eight_spans : List ℕ
+insert_eight_spans = codes "INSERT INTO span VALUES (?1, ?2, ?3, ?4, ?5), (?6, ?7, ?8, ?9, ?10), (?11, ?12, ?13, ?14, ?15), (?16, ?17, ?18, ?19, ?20), (?21, ?22, ?23, ?24, ?25), (?26, ?27, ?28, ?29, ?30), (?31, ?32, ?33, ?34, ?35), (?36, ?37, ?38, ?39, ?40)"
+
 abbrev pub select_span : List ℕ
 select_span = codes "SELECT asset, route, lo, hi, side FROM span"
 
@@ -145,6 +160,9 @@ create_entered = codes "CREATE TABLE entered (edit INTEGER NOT NULL, asset INTEG
 
 abbrev pub insert_entered : List ℕ
 insert_entered = codes "INSERT INTO entered VALUES (?1, ?2, ?3, ?4, ?5, ?6)"
+
+abbrev pub insert_eight_entered : List ℕ
+insert_eight_entered = codes "INSERT INTO entered VALUES (?1, ?2, ?3, ?4, ?5, ?6), (?7, ?8, ?9, ?10, ?11, ?12), (?13, ?14, ?15, ?16, ?17, ?18), (?19, ?20, ?21, ?22, ?23, ?24), (?25, ?26, ?27, ?28, ?29, ?30), (?31, ?32, ?33, ?34, ?35, ?36), (?37, ?38, ?39, ?40, ?41, ?42), (?43, ?44, ?45, ?46, ?47, ?48)"
 
 abbrev pub select_entered : List ℕ
 select_entered = codes "SELECT edit, asset, link, lo, hi, side FROM entered"
@@ -158,6 +176,9 @@ create_gone = codes "CREATE TABLE gone (edit INTEGER NOT NULL, cause INTEGER NOT
 abbrev pub insert_gone : List ℕ
 insert_gone = codes "INSERT INTO gone VALUES (?1, ?2, ?3, ?4, ?5, ?6, ?7)"
 
+abbrev pub insert_eight_gone : List ℕ
+insert_eight_gone = codes "INSERT INTO gone VALUES (?1, ?2, ?3, ?4, ?5, ?6, ?7), (?8, ?9, ?10, ?11, ?12, ?13, ?14), (?15, ?16, ?17, ?18, ?19, ?20, ?21), (?22, ?23, ?24, ?25, ?26, ?27, ?28), (?29, ?30, ?31, ?32, ?33, ?34, ?35), (?36, ?37, ?38, ?39, ?40, ?41, ?42), (?43, ?44, ?45, ?46, ?47, ?48, ?49), (?50, ?51, ?52, ?53, ?54, ?55, ?56)"
+
 abbrev pub select_gone : List ℕ
 select_gone = codes "SELECT edit, cause, asset, link, lo, hi, side FROM gone"
 
@@ -170,6 +191,9 @@ create_edit = codes "CREATE TABLE edit (number INTEGER NOT NULL, token TEXT NOT 
 abbrev pub insert_edit : List ℕ
 insert_edit = codes "INSERT INTO edit VALUES (?1, ?2, ?3)"
 
+abbrev pub insert_eight_edits : List ℕ
+insert_eight_edits = codes "INSERT INTO edit VALUES (?1, ?2, ?3), (?4, ?5, ?6), (?7, ?8, ?9), (?10, ?11, ?12), (?13, ?14, ?15), (?16, ?17, ?18), (?19, ?20, ?21), (?22, ?23, ?24)"
+
 abbrev pub select_edit : List ℕ
 select_edit = codes "SELECT number, token, line FROM edit"
 
@@ -181,6 +205,9 @@ create_origin = codes "CREATE TABLE origin (asset INTEGER NOT NULL REFERENCES as
 
 abbrev pub insert_origin : List ℕ
 insert_origin = codes "INSERT INTO origin VALUES (?1, ?2)"
+
+abbrev pub insert_eight_origins : List ℕ
+insert_eight_origins = codes "INSERT INTO origin VALUES (?1, ?2), (?3, ?4), (?5, ?6), (?7, ?8), (?9, ?10), (?11, ?12), (?13, ?14), (?15, ?16)"
 
 abbrev pub select_origin : List ℕ
 select_origin = codes "SELECT asset, edit FROM origin"

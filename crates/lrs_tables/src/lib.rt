@@ -2,8 +2,12 @@
 #![tactic(auto)]
 
 pub mod bringing_up;
+pub mod cells;
 pub mod change;
 pub mod coming;
+pub mod entries;
+pub mod entry;
+pub mod filled;
 pub mod going;
 pub mod load;
 pub mod making;
