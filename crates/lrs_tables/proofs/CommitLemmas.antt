@@ -1,5 +1,6 @@
 -- Changes that are written in one transaction: what a crash leaves.
 use Rattle.std.proofs.Common.{◌≡◌, ℕ, ◌+◌, ◌<◌, List, [], ◌∷◌, ◌++◌, length, IsTrue, true, refl, sym, subst, arith}
+use Rattle.std.specs.List.{AllByRecursion}
 use Rattle.sqlite_trees.specs.declared.store.Store.{Ghosts}
 use Rattle.sqlite_trees.specs.Tree.{Trees}
 use Rattle.sqlite.specs.Held.{Held, state}
@@ -8,28 +9,37 @@ use Rattle.sqlite.proofs.StateLemmas.{survives_then}
 use Rattle.sqlite.proofs.Callers.{survives_begin}
 use Rattle.lrs_keep.specs.declared.change.Change.{Change}
 use Rattle.lrs_store.specs.Tables.{Tables}
-use Rattle.lrs_tables.specs.Stored.{stored, IsWriting}
-use Rattle.lrs_tables.specs.Writing.{IsWritten, AreWritten, Writes, WritesEach}
+use Rattle.lrs_tables.specs.Stored.{stored, IsWriting, Makes}
+use Rattle.lrs_tables.specs.Writing.{AreWritten, Writes, WritesEach}
+use Rattle.lrs_tables.specs.Entries.{IsEntry, with_entries}
+use Rattle.lrs_tables.proofs.Entering.{entries_written}
 use Rattle.lrs_tables.specs.Resting.{IsReady}
 
--- one more change, written of what those before it left
-written_more : (n k : ℕ) (cs : List Change) (c : Change) (before middle after : Tables) → k ≡ n + length cs → AreWritten n cs before middle → IsWritten k c middle after → AreWritten n (cs ++ c ∷ []) before after
-written_more n k [] c before middle after is same one =
+-- changes that are written of what others left
+written_behind : (n k : ℕ) (cs ds : List Change) (before middle after : Tables) → k ≡ n + length cs → AreWritten n cs before middle → AreWritten k ds middle after → AreWritten n (cs ++ ds) before after
+written_behind n k [] ds before middle after is same more =
     let number : k ≡ n = omega (arith, is) in
-    let from : IsWritten k c before after = subst (λ (t : Tables). IsWritten k c t after) (sym same) one in
-    (after, subst (λ (m : ℕ). IsWritten m c before after) number from, refl)
-written_more n k (x ∷ xs) c before middle after is all one = (all.0, all.1, written_more (n + 1) k xs c all.0 middle after (omega (arith, is)) all.2 one)
+    let from : AreWritten k ds before after = subst (λ (t : Tables). AreWritten k ds t after) (sym same) more in
+    subst (λ (m : ℕ). AreWritten m ds before after) number from
+written_behind n k (x ∷ xs) ds before middle after is all more = (all.0, all.1, written_behind (n + 1) k xs ds all.0 middle after (omega (arith, is)) all.2 more)
 
 -- no change yet
 pub writes_none : (n : ℕ) (s : State) → IsWriting s → WritesEach n [] s s
 writes_none n s writing = record { writing = writing; was_open = λ opened. opened; is_open = λ none. absurd (omega (arith, none)); rows = refl }
 
-pub writes_more : (n k : ℕ) (cs : List Change) (c : Change) (a b d : State) → k ≡ n + length cs → WritesEach n cs a b → Writes k c b d → WritesEach n (cs ++ c ∷ []) a d
-writes_more n k cs c a b d is all one = record {
-  writing = one.writing;
-  was_open = λ _. all.was_open one.was_open;
-  is_open = λ _. all.was_open one.was_open;
-  rows = written_more n k cs c _ _ _ is all.rows one.rows;
+pub writes_one : (n : ℕ) (c : Change) (a b : State) → Writes n c a b → WritesEach n (c ∷ []) a b
+writes_one n c a b one = record { writing = one.writing; was_open = λ _. one.was_open; is_open = λ _. one.was_open; rows = (stored b.now.trees, one.rows, refl) }
+
+pub writes_entries : (n : ℕ) (cs : List Change) (a b : State) → 0 < length cs → AllByRecursion IsEntry cs → IsTrue a.is_open → Makes (with_entries n cs) a b → WritesEach n cs a b
+writes_entries n cs a b some entries opened made =
+    record { writing = made.writing; was_open = λ _. opened; is_open = λ _. opened; rows = entries_written n cs (stored a.now.trees) (stored b.now.trees) some entries made.rows }
+
+pub writes_behind : (n k : ℕ) (cs ds : List Change) (a b d : State) → k ≡ n + length cs → 0 < length ds → WritesEach n cs a b → WritesEach k ds b d → WritesEach n (cs ++ ds) a d
+writes_behind n k cs ds a b d is some all more = record {
+  writing = more.writing;
+  was_open = λ _. all.was_open (more.is_open some);
+  is_open = λ _. all.was_open (more.is_open some);
+  rows = written_behind n k cs ds _ _ _ is all.rows more.rows;
 }
 
 -- a transaction that begins is over the tables

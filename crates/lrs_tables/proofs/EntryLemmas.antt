@@ -1,5 +1,5 @@
 -- Changes that are entries, and their rows.
-use Rattle.std.proofs.Common.{◌≡◌, List, [], ◌∷◌, ◌++◌, length, Option, Some, None, refl, sym, ap, subst, ◌∙◌, arith}
+use Rattle.std.proofs.Common.{◌≡◌, List, [], ◌∷◌, ◌++◌, length, Option, Some, None, refl, ap, ◌∙◌, arith}
 use Rattle.std.specs.List.{AllByRecursion}
 use Rattle.lrs_measure.specs.Texts.{Name}
 use Rattle.lrs_element.specs.declared.link.Link.{Link}
@@ -16,7 +16,7 @@ use Rattle.lrs_keep.specs.declared.change.RouteChange.{RouteChange}
 use Rattle.lrs_keep.specs.declared.change.Difference.{Difference}
 use Rattle.lrs_keep.specs.declared.change.Change.{Change}
 use Rattle.lrs_keep.specs.Change.{no_difference}
-use Rattle.lrs_tables.specs.Entries.{with_one_span, entered_with, BringsOneSpan, BringsOneAsset, IsEntry}
+use Rattle.lrs_tables.specs.Entries.{with_one_span, BringsOneSpan, BringsOneAsset, IsEntry}
 
 -- what is true of all is true of one more
 pub all_more : {X : Type 0} (P : X → Type 0) (xs : List X) (x : X) → AllByRecursion P xs → P x → AllByRecursion P (xs ++ x ∷ [])

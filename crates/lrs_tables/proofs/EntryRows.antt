@@ -1,5 +1,5 @@
 -- How many rows entries have, and what comes of putting them table by table.
-use Rattle.std.proofs.Common.{◌≡◌, ℕ, ◌+◌, List, [], ◌∷◌, ◌++◌, length, map, Option, Some, refl, sym, suc, ap, subst, ◌∙◌, append_assoc, length-append, arith}
+use Rattle.std.proofs.Common.{◌≡◌, ℕ, ◌+◌, List, [], ◌∷◌, ◌++◌, length, map, Option, refl, sym, suc, ap, subst, ◌∙◌, append_assoc, length-append, arith}
 use Rattle.std.specs.Prelude.{option_to_list}
 use Rattle.std.specs.List.{AllByRecursion, flat_map}
 use Rattle.std.specs.List.Sorted.{IsPermutation}
@@ -9,7 +9,7 @@ use Rattle.lrs_keep.specs.declared.change.RouteChange.{RouteChange}
 use Rattle.lrs_keep.specs.declared.change.Change.{Change}
 use Rattle.lrs_events.specs.declared.class.Asset.{Asset}
 use Rattle.sqlite.specs.State.{State}
-use Rattle.lrs_store.specs.Tables.{Tables, AreSame, AssetRow, OriginRow, SpanRow, EnteredRow, EditRow}
+use Rattle.lrs_store.specs.Tables.{Tables, AreSame}
 use Rattle.lrs_store.specs.Laws.{origin_row}
 use Rattle.lrs_store.specs.Encoding.{asset_row, entered_row, edit_row, numbered}
 use Rattle.lrs_tables.specs.Stored.{Makes}

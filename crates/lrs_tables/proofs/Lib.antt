@@ -9,6 +9,7 @@ pub mod InsertedEight
 pub mod CellLemmas
 pub mod EntryLemmas
 pub mod EntryRows
+pub mod Entering
 pub mod Answers
 pub mod DeleteLemmas
 pub mod DeleteRows

@@ -5,7 +5,6 @@ use Rattle.std.proofs.Math.Seq.{take-suc, split_at}
 use Rattle.sqlite_keyed.proofs.ListLemmas.{along_permutation}
 use Rattle.std.specs.Prelude.{IsTrue}
 use Rattle.std.proofs.Math.Bool.{Bool-set}
-use Rattle.lrs_element.specs.declared.link.Link.{Link}
 use Rattle.lrs_element.specs.Limits.{is_link}
 use Rattle.lrs_store.specs.Tables.{LinkRow}
 use Rattle.lrs_store.specs.Decoding.{each_of, only_if, if_true, whole, link_of}

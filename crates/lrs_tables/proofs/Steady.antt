@@ -23,7 +23,6 @@ use Rattle.lrs_store.specs.Tables.{Tables}
 use Rattle.lrs_store.specs.Laws.{origin_row, brought_up}
 use Rattle.lrs_store.specs.Tables.{AreSame}
 use Rattle.lrs_store.specs.Encoding.{link_row, class_row, asset_row, piece_row, mark_row, ref_row, span_row, entered_row, gone_row, edit_row, numbered}
-use Rattle.lrs_tables.specs.RowLaws.{same_trans}
 use Rattle.lrs_tables.specs.Changing as it
 use Rattle.lrs_tables.specs.Changing.{has_key_of}
 use Rattle.lrs_tables.specs.Writing.{with_some, new_pieces, new_marks, changed_refs, changed_spans, changed_route, new_route, with_ledgers}

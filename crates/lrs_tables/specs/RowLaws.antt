@@ -93,7 +93,7 @@ one_less {A} {X} has as_ a rows left h =
     let same = both_filters p q rows ∙ filter_same (λ r. not (p r || q r)) (λ r. not (list_any (λ s. has s r) (as_ ++ a ∷ []))) (λ r. ap not (sym (list_any-append (λ s. has s r) as_ (a ∷ [])))) rows in
     subst (λ l. IsPermutation l (filter (λ r. not (q r)) left)) same (IsPermutation-filter (λ r. not (q r)) _ left h)
 
-none_less : {X : Type 0} (rows : List X) → IsPermutation (filter (λ r. not false) rows) rows
+pub none_less : {X : Type 0} (rows : List X) → IsPermutation (filter (λ r. not false) rows) rows
 none_less rows = subst (λ l. IsPermutation l rows) (sym (none_out rows)) (IsPermutation-refl rows)
 
 pub no_less_spans : (route : Name) (t : Tables) → AreSame (less_spans route [] t) t

@@ -1,14 +1,16 @@
 //! Changes are written, as a whole.
 
-ghost use Rattle.std.specs.Prelude.{◌≡◌, ◌+◌, ◌<◌, ◌^◌, length, OnOk, IsTrue, false};
+ghost use Rattle.std.specs.Prelude.{◌≡◌, ◌+◌, ◌<◌, ◌≤◌, ◌^◌, length, take, IfOk, OnOk, IsTrue, false};
 ghost use Rattle.sqlite.specs.State.{HasCleanDisk, Survives};
 ghost use Rattle.sqlite.specs.Held.{state};
-ghost use Rattle.lrs_tables.specs.Stored.{Makes, stored, OkDoes, LeavesStore};
+ghost use Rattle.lrs_tables.specs.Stored.{IsWriting, Makes, stored, OkDoes, LeavesStore};
 ghost use Rattle.lrs_tables.specs.Writing.{MakesOf, Writes, WritesEach, AreWritten, with_some, changed_course, changed_route, new_course, new_route, with_ledgers};
 ghost use Rattle.lrs_tables.specs.Changing.{without_route, with_entered, with_gone};
 ghost use Rattle.lrs_tables.specs.Resting.{IsReady};
 
 use crate::coming::Ledger;
+use crate::entries::put_entries;
+use crate::entry::are_entries;
 use crate::named::put_named;
 use crate::put::put_edit;
 use crate::route::{change_route, drop_route, put_route};
@@ -107,7 +109,32 @@ fn write_rows<S: Alter>(tx: &mut Transaction<'_, S>, n: u64, change: &Change) ->
     Ok(())
 }
 
-/// Writes the rows of changes, one after the other: the edit of the first has this number, each next one more.
+/// Writes the rows of the first changes: of eight, if these are entries, and else of one. The edit of the first has
+/// this number, each next one more. Says how many it wrote.
+fn write_next<S: Alter>(
+    tx: &mut Transaction<'_, S>,
+    n: u64,
+    changes: &[Change],
+) -> Result<usize, Error>
+    requires some { 0 < length changes.now }
+    requires fits { n + length changes.now < 2 ^ 64 }
+    ensures same_reference { tx.new.conn.ghost_name ≡ tx.old.conn.ghost_name }
+    ensures count { IfOk result (λ count. (0 < count) × (count ≤ length changes.now)) }
+    ensures does { HasCleanDisk (state S.Store tx.new.conn.now) → IsWriting (state S.Store tx.old.conn.now) → IfOk result (λ count. WritesEach n (take count changes.now) (state S.Store tx.old.conn.now) (state S.Store tx.new.conn.now)) }
+    ensures survives { LeavesStore (state S.Store tx.old.conn.now) (state S.Store tx.new.conn.now) }
+{
+    if changes.len() >= 8 {
+        let eight = &changes[..8];
+        if are_entries(eight) {
+            put_entries(tx, n, eight)?;
+            return Ok(8);
+        }
+    }
+    write_rows(tx, n, &changes[0])?;
+    Ok(1)
+}
+
+/// Writes the rows of changes: the edit of the first has this number, each next one more.
 fn write_each<S: Alter>(
     tx: &mut Transaction<'_, S>,
     n: u64,
@@ -118,8 +145,9 @@ fn write_each<S: Alter>(
     ensures does { OkDoes result (state S.Store tx.old.conn.now) (state S.Store tx.new.conn.now) (WritesEach n changes.now) }
     ensures survives { LeavesStore (state S.Store tx.old.conn.now) (state S.Store tx.new.conn.now) }
 {
-    for i in 0..changes.len() {
-        write_rows(tx, n + i as u64, &changes[i])?;
+    let mut done = 0;
+    while done < changes.len() {
+        done += write_next(tx, n + done as u64, &changes[done..])?;
     }
     Ok(())
 }

@@ -122,12 +122,7 @@ impl Filled<Edits> for Change {
 
     ghost values = { λ of n c. edit_cells (edit_row n c.edit) };
 
-    fn fill<'a>(
-        &'a self,
-        _of: &'a Edits,
-        n: u64,
-        cells: &mut [ValueRef<'a>],
-    ) -> Result<(), Error> {
+    fn fill<'a>(&'a self, _of: &'a Edits, n: u64, cells: &mut [ValueRef<'a>]) -> Result<(), Error> {
         fill_edit(n, &self.edit, cells)
     }
 }
@@ -201,10 +196,7 @@ fn put_single_parts<S: Alter>(tx: &mut Transaction<'_, S>, entries: &[Change]) -
 }
 
 /// Puts the rows of the parts of changes, in turn.
-fn put_parts_in_turn<S: Alter>(
-    tx: &mut Transaction<'_, S>,
-    changes: &[Change],
-) -> Result<(), Error>
+fn put_parts_in_turn<S: Alter>(tx: &mut Transaction<'_, S>, changes: &[Change]) -> Result<(), Error>
     ensures same_reference { tx.new.conn.ghost_name ≡ tx.old.conn.ghost_name }
     ensures does { OkDoes result (state S.Store tx.old.conn.now) (state S.Store tx.new.conn.now) (Makes (with_parts_of changes.now)) }
     ensures survives { LeavesStore (state S.Store tx.old.conn.now) (state S.Store tx.new.conn.now) }

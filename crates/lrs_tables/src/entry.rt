@@ -26,7 +26,15 @@ fn brings_one_span(change: &RouteChange) -> bool
 fn brings_one_asset(difference: &Difference) -> bool
     ensures { IsTrue result → BringsOneAsset difference.now }
 {
-    let Difference { link, class, asset, dropped, made, gone, .. } = difference;
+    let Difference {
+        link,
+        class,
+        asset,
+        dropped,
+        made,
+        gone,
+        ..
+    } = difference;
     match (link, class, asset, dropped, made) {
         (None, None, Some(_), None, None) => gone.is_empty(),
         _ => false,

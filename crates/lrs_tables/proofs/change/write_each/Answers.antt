@@ -1,28 +1,32 @@
-use Rattle.std.proofs.Common.{◌≡◌, ◌∙◌, ◌+◌, ◌<◌, ◌++◌, ◌∷◌, [], length, take, sym, ap, subst, arith}
-use Rattle.std.proofs.lemmas.List.{take_more, length-take-le}
+use Rattle.std.proofs.Common.{◌≡◌, ◌∙◌, ◌+◌, ◌<◌, ◌≤◌, ◌-◌, length, take, drop, sym, subst, arith}
+use Rattle.std.proofs.lemmas.List.{length-take-le, length-drop, take_rest}
+use Rattle.std.proofs.Math.Seq.{take-add}
 use Rattle.sqlite.specs.Held.{state}
 use Rattle.sqlite.proofs.StateLemmas.{survives_then}
 use Rattle.lrs_tables.specs.Writing.{WritesEach}
-use Rattle.lrs_tables.proofs.CommitLemmas.{writes_more}
+use Rattle.lrs_tables.proofs.CommitLemmas.{writes_behind}
 use Rattle.lrs_tables.proofs.change.write_each.Goals as goal
 
-pub loop-i-preserved : goal.loop-i-preserved
-loop-i-preserved g c =
+pub loop-done-preserved : goal.loop-done-preserved
+loop-done-preserved g c =
     let start = state g.S.Store c.args.tx.now.conn.now in
-    let mid = state g.S.Store c.loop-i.tx.conn.now in
-    let last = state g.S.Store c.write_rows.new.tx.conn.now in
+    let mid = state g.S.Store c.loop-done.tx.conn.now in
+    let last = state g.S.Store c.write_next.new.tx.conn.now in
     let changes = c.args.changes.now in
     let n = c.args.n in
-    let i = c.loop-i.i in
-    let change = c.index-changes-i.result in
-    let bound : i < length changes = c.loop-i-test.true in
+    let done = c.loop-done.done in
+    let count = c.in_ok-done.field-0 in
+    let left = drop done changes in
+    let size : length left ≡ length changes - done = length-drop done changes in
+    let few : count ≤ length left = subst (λ cs. count ≤ length cs) (take_rest changes done) c.in_ok-done.ensures.count.1 in
     record {
-      same = c.write_rows.ensures.same_reference ∙ c.loop-i.invariant.same;
+      within = omega (arith, c.loop-done.invariant.within, size, few);
+      same = c.write_next.ensures.same_reference ∙ c.loop-done.invariant.same;
       does = λ clean writing.
-          let all = c.loop-i.invariant.does (omega (arith, c.write_rows.ensures.survives.clean)) writing in
-          let one = c.in_ok-write_rows.ensures.does clean all.writing in
-          let more : take (i + 1) changes ≡ take i changes ++ change ∷ [] = take_more changes i change bound ∙ ap (λ x. take i changes ++ x ∷ []) (sym c.index-changes-i.is) in
-          let at : n + i ≡ n + length (take i changes) = let len = length-take-le i changes (omega (arith, bound)) in omega (arith, len) in
-          subst (λ cs. WritesEach n cs start last) (sym more) (writes_more n (n + i) (take i changes) change start mid last at all one);
-      survives = survives_then start mid last _ _ (λ _. ⊥) (λ _ db none. none) (λ _ db none. none) c.loop-i.invariant.survives c.write_rows.ensures.survives;
+          let all = c.loop-done.invariant.does (omega (arith, c.write_next.ensures.survives.clean)) writing in
+          let next = subst (λ cs. WritesEach (n + done) (take count cs) mid last) (take_rest changes done) (c.in_ok-done.ensures.does clean all.writing) in
+          let at : n + done ≡ n + length (take done changes) = let len = length-take-le done changes c.loop-done.invariant.within in omega (arith, len) in
+          let some : 0 < length (take count left) = let len = length-take-le count left few in omega (arith, len, c.in_ok-done.ensures.count.0) in
+          subst (λ cs. WritesEach n cs start last) (sym (take-add done count changes)) (writes_behind n (n + done) (take done changes) (take count left) start mid last at some all next);
+      survives = survives_then start mid last _ _ (λ _. ⊥) (λ _ db none. none) (λ _ db none. none) c.loop-done.invariant.survives c.write_next.ensures.survives;
     }

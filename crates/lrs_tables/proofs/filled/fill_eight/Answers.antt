@@ -29,5 +29,5 @@ loop-i-preserved g c =
       width = c.loop-i.invariant.width;
       room = search (rules, overwrites);
       filled = subst (λ xs. take (width * (i + 1)) (bound (put_mid from span all own)) ≡ all_cells row c.args.n xs) (sym more)
-        (filled_more row c.args.n (c.args.n + i) from span (width * (i + 1)) (take i rows) item all own at to start c.loop-i.invariant.filled c.in_ok-fill.ensures.filled);
+          (filled_more row c.args.n (c.args.n + i) from span (width * (i + 1)) (take i rows) item all own at to start c.loop-i.invariant.filled c.in_ok-fill.ensures.filled);
     }
