@@ -74,7 +74,7 @@ module _ (e : Edit) (a : Asset) (route : Name) (s : Span) (ps : List Part) where
 is_written : (n : ℕ) (c : Change) (before after : Tables) → IsEntry c → AreSame (with_entry n c before) after → IsWritten n c before after
 is_written n c before after h =
     subst (λ (d : Difference). AreSame (with_entry n (record { edit = c.edit; difference = d }) before) after → IsWritten n (record { edit = c.edit; difference = d }) before after) (sym h.is)
-    (its_written c.edit h.asset h.route h.span h.parts n before after)
+    (its_written c.edit h.asset h.route h.span (h.first ∷ h.others) n before after)
 
 -- ---- several
 

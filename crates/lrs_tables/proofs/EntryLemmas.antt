@@ -1,5 +1,5 @@
 -- Changes that are entries, and their rows.
-use Rattle.std.proofs.Common.{◌≡◌, List, [], ◌∷◌, ◌++◌, length, Option, Some, None, refl, ap, ◌∙◌, arith}
+use Rattle.std.proofs.Common.{◌≡◌, List, [], ◌∷◌, ◌++◌, length, ◌<◌, Option, Some, None, refl, ap, ap₂, ◌∙◌, arith}
 use Rattle.std.specs.List.{AllByRecursion}
 use Rattle.lrs_measure.specs.Texts.{Name}
 use Rattle.lrs_element.specs.declared.link.Link.{Link}
@@ -56,14 +56,26 @@ pub brings_asset : (d : Difference) (a : Asset) → d.link ≡ None → d.class 
 brings_asset d a link class asset dropped made gone =
     record { asset = a; is = same_difference d.link d.class d.asset d.changed d.dropped d.made d.entered d.gone a link class asset dropped made (none_left d.gone gone) }
 
-pub enters : (c : Change) (r : RouteChange) → c.difference.changed ≡ Some r → BringsOneSpan r → BringsOneAsset c.difference → IsEntry c
-enters c r changed spanned named = record {
-  asset = named.asset;
-  route = r.route;
-  span = spanned.span;
-  parts = c.difference.entered;
-  is = named.is ∙ ap (λ (o : Option RouteChange). record no_difference { asset = Some named.asset; changed = o; entered = c.difference.entered }) (changed ∙ ap Some spanned.is);
-}
+pub record IsSome {X : Type 0} (xs : List X) : Type 0 where
+  pub first : X
+  pub others : List X
+  pub is : xs ≡ first ∷ others
+
+pub not_empty : {X : Type 0} (xs : List X) → 0 < length xs → IsSome xs
+not_empty [] some = absurd (omega (arith, some))
+not_empty (x ∷ xs) some = record { first = x; others = xs; is = refl }
+
+pub enters : (c : Change) (r : RouteChange) → c.difference.changed ≡ Some r → 0 < length c.difference.entered → BringsOneSpan r → BringsOneAsset c.difference → IsEntry c
+enters c r changed some spanned named =
+    let parts = not_empty c.difference.entered some in
+    record {
+      asset = named.asset;
+      route = r.route;
+      span = spanned.span;
+      first = parts.first;
+      others = parts.others;
+      is = named.is ∙ ap₂ (λ (o : Option RouteChange) (ps : List Part). record no_difference { asset = Some named.asset; changed = o; entered = ps }) (changed ∙ ap Some spanned.is) parts.is;
+    }
 
 -- what an entry has
 pub its_asset : (c : Change) (h : IsEntry c) → c.difference.asset ≡ Some h.asset
@@ -71,3 +83,6 @@ its_asset c h = ap (λ (d : Difference). d.asset) h.is
 
 pub its_change : (c : Change) (h : IsEntry c) → c.difference.changed ≡ Some (with_one_span h.route h.span)
 its_change c h = ap (λ (d : Difference). d.changed) h.is
+
+pub its_parts : (c : Change) (h : IsEntry c) → c.difference.entered ≡ h.first ∷ h.others
+its_parts c h = ap (λ (d : Difference). d.entered) h.is

@@ -1,5 +1,5 @@
 -- Entries: changes that only enter an asset, with one span of it. What several of them make of the rows of a store, table by table.
-use Rattle.std.specs.Prelude.{◌≡◌, ℕ, List, [], ◌∷◌, ◌++◌, length, map, Option, Some, None, option_to_list}
+use Rattle.std.specs.Prelude.{◌≡◌, ℕ, List, [], ◌∷◌, ◌++◌, length, take, drop, map, Option, Some, None, option_to_list}
 use Rattle.std.specs.List.{flat_map}
 use Rattle.lrs_measure.specs.Texts.{Name}
 use Rattle.lrs_events.specs.declared.class.Asset.{Asset}
@@ -30,16 +30,17 @@ pub record BringsOneAsset (d : Difference) : Type 0 where
 abbrev pub entered_with : Asset → Name → Span → List Part → Difference
 entered_with asset route span parts = record no_difference { asset = Some asset; changed = Some (with_one_span route span); entered = parts }
 
--- The change only enters an asset, with one span of it.
+-- The change only enters an asset, with one span of it: one part of the ledger or more.
 pub record IsEntry (c : Change) : Type 0 where
   pub asset : Asset
   pub route : Name
   pub span : Span
-  pub parts : List Part
-  pub is : c.difference ≡ entered_with asset route span parts
+  pub first : Part
+  pub others : List Part
+  pub is : c.difference ≡ entered_with asset route span (first ∷ others)
 
-abbrev pub HasOnePart : Change → Type 0
-HasOnePart c = length c.difference.entered ≡ 1
+abbrev pub HasTwoParts : Change → Type 0
+HasTwoParts c = length c.difference.entered ≡ 2
 
 -- the rows that it brings into some tables
 
@@ -59,6 +60,13 @@ span_rows c = spans_on c.difference.changed
 abbrev pub entered_rows : Change → List EnteredRow
 entered_rows c = map entered_row c.difference.entered
 
+-- of these the first, and the others
+abbrev pub first_rows : Change → List EnteredRow
+first_rows c = take 1 (entered_rows c)
+
+abbrev pub other_rows : Change → List EnteredRow
+other_rows c = drop 1 (entered_rows c)
+
 -- those of several, table by table
 
 abbrev pub with_assets_of : List Change → Tables → Tables
@@ -72,6 +80,12 @@ with_spans_of cs t = record t { span = flat_map span_rows cs ++ t.span }
 
 abbrev pub with_parts_of : List Change → Tables → Tables
 with_parts_of cs t = record t { entered = flat_map entered_rows cs ++ t.entered }
+
+abbrev pub with_firsts_of : List Change → Tables → Tables
+with_firsts_of cs t = record t { entered = flat_map first_rows cs ++ t.entered }
+
+abbrev pub with_others_of : List Change → Tables → Tables
+with_others_of cs t = record t { entered = flat_map other_rows cs ++ t.entered }
 
 -- the edit of the first has this number
 abbrev pub with_edits_of : ℕ → List Change → Tables → Tables

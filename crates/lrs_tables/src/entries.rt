@@ -7,11 +7,11 @@ ghost use Rattle.sqlite.specs.Held.{state};
 ghost use Rattle.lrs_store.specs.Encoding.{edit_row};
 ghost use Rattle.lrs_tables.specs.Stored.{IsWriting, Makes, OkDoes, LeavesStore};
 ghost use Rattle.lrs_tables.specs.Cells.{asset_cells, origin_cells, span_cells, entered_cells, edit_cells};
-ghost use Rattle.lrs_tables.specs.Entries.{IsEntry, HasOnePart, asset_rows, origin_rows, span_rows, entered_rows, with_assets_of, with_origins_of, with_spans_of, with_parts_of, with_edits_of, with_entries};
+ghost use Rattle.lrs_tables.specs.Entries.{IsEntry, HasTwoParts, asset_rows, origin_rows, span_rows, first_rows, other_rows, with_assets_of, with_origins_of, with_spans_of, with_firsts_of, with_others_of, with_parts_of, with_edits_of, with_entries};
 
 use crate::cells::{fill_asset, fill_edit, fill_origin, fill_part, fill_span};
 use crate::coming::Ledger;
-use crate::entry::have_one_part;
+use crate::entry::have_two_parts;
 use crate::filled::{Filled, fill_eight};
 use crate::written::write_all;
 use lrs_keep::Change;
@@ -90,24 +90,45 @@ impl Filled<Spans> for Change {
     }
 }
 
-/// The part that it enters, where it is one.
+/// The first part that it enters.
 #[derive(Clone, Copy)]
-struct Parts;
+struct FirstParts;
 
-impl Filled<Parts> for Change {
-    ghost has = { λ of c. HasOnePart c };
+impl Filled<FirstParts> for Change {
+    ghost has = { λ of c. IsEntry c };
 
     ghost columns = { 6 };
 
-    ghost values = { λ of n c. flat_map entered_cells (entered_rows c) };
+    ghost values = { λ of n c. flat_map entered_cells (first_rows c) };
 
     fn fill<'a>(
         &'a self,
-        _of: &'a Parts,
+        _of: &'a FirstParts,
         _n: u64,
         cells: &mut [ValueRef<'a>],
     ) -> Result<(), Error> {
         fill_part(&self.difference.entered.as_slice()[0], cells)
+    }
+}
+
+/// The second, where there are two.
+#[derive(Clone, Copy)]
+struct SecondParts;
+
+impl Filled<SecondParts> for Change {
+    ghost has = { λ of c. HasTwoParts c };
+
+    ghost columns = { 6 };
+
+    ghost values = { λ of n c. flat_map entered_cells (other_rows c) };
+
+    fn fill<'a>(
+        &'a self,
+        _of: &'a SecondParts,
+        _n: u64,
+        cells: &mut [ValueRef<'a>],
+    ) -> Result<(), Error> {
+        fill_part(&self.difference.entered.as_slice()[1], cells)
     }
 }
 
@@ -178,16 +199,16 @@ fn put_spans<S: Alter>(tx: &mut Transaction<'_, S>, entries: &[Change]) -> Resul
     Ok(())
 }
 
-/// Puts the rows of their parts, where each has one.
-fn put_single_parts<S: Alter>(tx: &mut Transaction<'_, S>, entries: &[Change]) -> Result<(), Error>
+/// Puts the rows of the first parts of eight entries.
+fn put_first_parts<S: Alter>(tx: &mut Transaction<'_, S>, entries: &[Change]) -> Result<(), Error>
     requires eight { length entries.now ≡ 8 }
-    requires there { AllByRecursion HasOnePart entries.now }
+    requires there { AllByRecursion IsEntry entries.now }
     ensures same_reference { tx.new.conn.ghost_name ≡ tx.old.conn.ghost_name }
-    ensures does { OkDoes result (state S.Store tx.old.conn.now) (state S.Store tx.new.conn.now) (Makes (with_parts_of entries.now)) }
+    ensures does { OkDoes result (state S.Store tx.old.conn.now) (state S.Store tx.new.conn.now) (Makes (with_firsts_of entries.now)) }
     ensures survives { LeavesStore (state S.Store tx.old.conn.now) (state S.Store tx.new.conn.now) }
 {
     let mut cells = [ValueRef::Null; 48];
-    fill_eight(&Parts, 0, entries, &mut cells)?;
+    fill_eight(&FirstParts, 0, entries, &mut cells)?;
     tx.execute(
         "INSERT INTO entered VALUES (?1, ?2, ?3, ?4, ?5, ?6), (?7, ?8, ?9, ?10, ?11, ?12), (?13, ?14, ?15, ?16, ?17, ?18), (?19, ?20, ?21, ?22, ?23, ?24), (?25, ?26, ?27, ?28, ?29, ?30), (?31, ?32, ?33, ?34, ?35, ?36), (?37, ?38, ?39, ?40, ?41, ?42), (?43, ?44, ?45, ?46, ?47, ?48)",
         &cells,
@@ -195,30 +216,66 @@ fn put_single_parts<S: Alter>(tx: &mut Transaction<'_, S>, entries: &[Change]) -
     Ok(())
 }
 
-/// Puts the rows of the parts of changes, in turn.
-fn put_parts_in_turn<S: Alter>(tx: &mut Transaction<'_, S>, changes: &[Change]) -> Result<(), Error>
+/// Puts the rows of the second parts of eight entries that have two.
+fn put_second_parts<S: Alter>(tx: &mut Transaction<'_, S>, entries: &[Change]) -> Result<(), Error>
+    requires eight { length entries.now ≡ 8 }
+    requires there { AllByRecursion HasTwoParts entries.now }
     ensures same_reference { tx.new.conn.ghost_name ≡ tx.old.conn.ghost_name }
-    ensures does { OkDoes result (state S.Store tx.old.conn.now) (state S.Store tx.new.conn.now) (Makes (with_parts_of changes.now)) }
+    ensures does { OkDoes result (state S.Store tx.old.conn.now) (state S.Store tx.new.conn.now) (Makes (with_others_of entries.now)) }
     ensures survives { LeavesStore (state S.Store tx.old.conn.now) (state S.Store tx.new.conn.now) }
 {
-    for i in 0..changes.len() {
-        write_all(tx, &Ledger, changes[i].difference.entered.as_slice())?;
+    let mut cells = [ValueRef::Null; 48];
+    fill_eight(&SecondParts, 0, entries, &mut cells)?;
+    tx.execute(
+        "INSERT INTO entered VALUES (?1, ?2, ?3, ?4, ?5, ?6), (?7, ?8, ?9, ?10, ?11, ?12), (?13, ?14, ?15, ?16, ?17, ?18), (?19, ?20, ?21, ?22, ?23, ?24), (?25, ?26, ?27, ?28, ?29, ?30), (?31, ?32, ?33, ?34, ?35, ?36), (?37, ?38, ?39, ?40, ?41, ?42), (?43, ?44, ?45, ?46, ?47, ?48)",
+        &cells,
+    )?;
+    Ok(())
+}
+
+/// Puts the rows of the other parts of entries, in turn.
+fn put_others_in_turn<S: Alter>(
+    tx: &mut Transaction<'_, S>,
+    entries: &[Change],
+) -> Result<(), Error>
+    requires there { AllByRecursion IsEntry entries.now }
+    ensures same_reference { tx.new.conn.ghost_name ≡ tx.old.conn.ghost_name }
+    ensures does { OkDoes result (state S.Store tx.old.conn.now) (state S.Store tx.new.conn.now) (Makes (with_others_of entries.now)) }
+    ensures survives { LeavesStore (state S.Store tx.old.conn.now) (state S.Store tx.new.conn.now) }
+{
+    for i in 0..entries.len() {
+        let parts = entries[i].difference.entered.as_slice();
+        write_all(tx, &Ledger, &parts[1..])?;
     }
     Ok(())
 }
 
-/// Puts the rows of the parts of eight entries: by one statement, if each has one.
+/// Puts the rows of the parts of eight entries after the first: by one statement, if each has two parts.
+fn put_other_parts<S: Alter>(tx: &mut Transaction<'_, S>, entries: &[Change]) -> Result<(), Error>
+    requires eight { length entries.now ≡ 8 }
+    requires there { AllByRecursion IsEntry entries.now }
+    ensures same_reference { tx.new.conn.ghost_name ≡ tx.old.conn.ghost_name }
+    ensures does { OkDoes result (state S.Store tx.old.conn.now) (state S.Store tx.new.conn.now) (Makes (with_others_of entries.now)) }
+    ensures survives { LeavesStore (state S.Store tx.old.conn.now) (state S.Store tx.new.conn.now) }
+{
+    if have_two_parts(entries) {
+        put_second_parts(tx, entries)
+    } else {
+        put_others_in_turn(tx, entries)
+    }
+}
+
+/// Puts the rows of the parts of eight entries.
 fn put_parts<S: Alter>(tx: &mut Transaction<'_, S>, entries: &[Change]) -> Result<(), Error>
     requires eight { length entries.now ≡ 8 }
+    requires there { AllByRecursion IsEntry entries.now }
     ensures same_reference { tx.new.conn.ghost_name ≡ tx.old.conn.ghost_name }
     ensures does { OkDoes result (state S.Store tx.old.conn.now) (state S.Store tx.new.conn.now) (Makes (with_parts_of entries.now)) }
     ensures survives { LeavesStore (state S.Store tx.old.conn.now) (state S.Store tx.new.conn.now) }
 {
-    if have_one_part(entries) {
-        put_single_parts(tx, entries)
-    } else {
-        put_parts_in_turn(tx, entries)
-    }
+    put_first_parts(tx, entries)?;
+    put_other_parts(tx, entries)?;
+    Ok(())
 }
 
 /// Puts the rows of the edits of eight entries. The first has this number, each next one more.

@@ -2,7 +2,7 @@
 
 ghost use Rattle.std.specs.Prelude.{◌≡◌, None, Some, [], length, IsTrue};
 ghost use Rattle.std.specs.List.{AllByRecursion};
-ghost use Rattle.lrs_tables.specs.Entries.{IsEntry, BringsOneSpan, BringsOneAsset, HasOnePart};
+ghost use Rattle.lrs_tables.specs.Entries.{IsEntry, BringsOneSpan, BringsOneAsset, HasTwoParts};
 
 use lrs_keep::{Change, Difference, RouteChange};
 
@@ -46,6 +46,9 @@ fn is_entry(change: &Change) -> bool
     ensures { IsTrue result → IsEntry change.now }
 {
     let difference = &change.difference;
+    if difference.entered.is_empty() {
+        return false;
+    }
     match &difference.changed {
         Some(changed) => brings_one_span(changed) && brings_one_asset(difference),
         None => false,
@@ -64,12 +67,12 @@ pub fn are_entries(changes: &[Change]) -> bool
     true
 }
 
-/// Whether each enters one part.
-pub fn have_one_part(changes: &[Change]) -> bool
-    ensures { IsTrue result → AllByRecursion HasOnePart changes.now }
+/// Whether each enters two parts.
+pub fn have_two_parts(changes: &[Change]) -> bool
+    ensures { IsTrue result → AllByRecursion HasTwoParts changes.now }
 {
     for i in 0..changes.len() {
-        if changes[i].difference.entered.len() != 1 {
+        if changes[i].difference.entered.len() != 2 {
             return false;
         }
     }
