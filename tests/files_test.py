@@ -231,9 +231,11 @@ UNSOUND = (
     ("origin", "UPDATE origin SET edit = 7 WHERE asset = 10"),
     ("origin", "DELETE FROM origin WHERE asset = 10"),
     ("origin", "INSERT INTO origin VALUES (99, 8)"),
+    # references to rows that are gone, which the kit's sqlite refuses to open
+    ("asset", "DELETE FROM class WHERE name = 'SPEED'"),
+    ("piece", "DELETE FROM link WHERE number = 1"),
+    ("span", "DELETE FROM asset WHERE number = 10"),
 )
-# a reference to no row, which the opening of a file sees before any table is read
-BROKEN_REFERENCES = ("UPDATE asset SET class", "INSERT INTO span VALUES (99", "INSERT INTO origin VALUES (99")
 
 
 def test_the_first_unsound_table_is_named():
@@ -241,8 +243,28 @@ def test_the_first_unsound_table_is_named():
         with folder() as path:
             make_full(path)
             change(path, text)
-            name = "Open" if text.startswith(BROKEN_REFERENCES) else f"Unsound:{table}"
-            refuses(path, name)
+            refuses(path, f"Unsound:{table}")
+
+
+def test_an_unsound_table_is_named_before_a_later_one():
+    for table, texts in (
+        ("class", ["UPDATE class SET kind = 3 WHERE name = 'SIGN'", "UPDATE asset SET class = 'ROAD' WHERE number = 10"]),
+        ("asset", ["DELETE FROM class WHERE name = 'SPEED'", "DELETE FROM link WHERE number = 1"]),
+        ("span", ["INSERT INTO span VALUES (99, 'A1', 0, 1, 0)", "INSERT INTO origin VALUES (99, 8)"]),
+    ):
+        with folder() as path:
+            make_full(path)
+            for text in texts:
+                change(path, text)
+            refuses(path, f"Unsound:{table}")
+
+
+def test_a_broken_reference_beside_other_tables_is_no_store():
+    with folder() as path:
+        make_full(path)
+        change(path, "CREATE TABLE other (a INTEGER)")
+        change(path, "UPDATE asset SET class = 'ROAD' WHERE number = 10")
+        refuses(path, "Open")
 
 
 # ---- what is no store

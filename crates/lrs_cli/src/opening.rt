@@ -26,6 +26,6 @@ pub fn open_file(rt: &HostRuntime, path: &str) -> Result<Desk<FileKeeper>, Progr
 {
     match open_keeper(rt, path, Unknown, Reader) {
         Ok(keeper) => open_desk(keeper, rt.alloc()),
-        Err(fault) => Err(load_fault(fault)),
+        Err(refusal) => Err(load_fault(refusal.fault)),
     }
 }

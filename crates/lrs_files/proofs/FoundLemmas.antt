@@ -1,5 +1,5 @@
 -- What files hold: the rows of their tables have numbers, and an opening leaves them.
-use Rattle.std.proofs.Common.{◌≡◌, ℕ, List, [], ◌∷◌, ap, sym, subst, ◌∙◌, inl, inr, refl, true, false, None}
+use Rattle.std.proofs.Common.{◌≡◌, ℕ, List, [], ◌∷◌, ap, sym, subst, ◌∙◌, inl, inr, refl, true, false, Option, None, Some, IfSome}
 use Rattle.std.proofs.Math.Logic.{∥∥₁_elim}
 use Rattle.std.specs.List.{AllByRecursion, AllZip}
 use Rattle.sqlite_schema.specs.declared.schema.Table.{Table}
@@ -23,10 +23,14 @@ use Rattle.sqlite_store.specs.Listed.{catalog_rows, is_listed}
 use Rattle.sqlite_store.proofs.ListingLemmas.{all_ordered, listing_shaped}
 use Rattle.sqlite.specs.State.{State, Opens, IsLive}
 use Rattle.sqlite.specs.Effect.{IsDatabase, Database}
-use Rattle.sqlite.specs.Files.{AreFoundIn, HoldsDatabase}
+use Rattle.sqlite_disk.specs.declared.Disk.{Ghosts}
+use Rattle.sqlite_disk.specs.declared.Files.{Files}
+use Rattle.sqlite.specs.declared.file.Leftover.{Leftover}
+use Rattle.sqlite.specs.declared.file.Leftover.TheVariants as left
+use Rattle.sqlite.specs.Files.{AreFoundIn, HoldsDatabase, image_of, IsCleanLeft, LeavesFiles}
 use Rattle.lrs_tables.specs.Stored.{AreNumbered}
 use Rattle.lrs_files.specs.Opening.{HasNumbers, IsTaken}
-use Rattle.lrs_files.specs.Found.{HasFound}
+use Rattle.lrs_files.specs.Found.{HasFound, IsLeftOf}
 
 int_of : (v : Value) → is_int v ≡ true → Int (id_in v) ≡ v
 int_of (Int n) h = refl
@@ -107,3 +111,16 @@ has_found image old new reads holds sound settled taken =
 pub opened_found : (image : Image) (s : State) → Opens s → IsLive s → AreFoundIn image s.committed.trees → Opens s × HasNumbers s.now
 opened_found image s opens live reads =
     (opens, found_numbers image s.now.trees s.now.schema (subst (AreFoundIn image) (sym (ap (λ (d : Database). d.trees) opens.clean)) reads) (live opens.is_open).0.lists)
+
+-- what an opening left that failed, over files
+pub left_over : {D : Type 0} {g : Ghosts D} (files : Files D) (l : Leftover D g) → (IsCleanLeft l → LeavesFiles files l) → IsLeftOf (image_of g files) l
+left_over files (left.Store store) leaves = λ clean db may. (leaves clean db may).0
+left_over files (left.Unopened unopened) leaves = tt
+left_over files (left.Files now) leaves = tt
+
+-- and over files that held what a path is said to hold
+pub left_found : {D : Type 0} {g : Ghosts D} (image : Image) (Log Db : D → Type 0) (Fails : Files D → Leftover D g → Type 0) (o : Option (Leftover D g))
+    → ((files : Files D) → Log files.log → Db files.db → image_of g files ≡ image)
+    → IfSome o (λ l. (files : Files D) × Log files.log × Db files.db × (IsCleanLeft l → Fails files l × LeavesFiles files l)) → IfSome o (IsLeftOf image)
+left_found image Log Db Fails None same h = tt
+left_found image Log Db Fails (Some l) same (files, log, db, leaves) = subst (λ i. IsLeftOf i l) (same files log db) (left_over files l (λ clean. (leaves clean).1))

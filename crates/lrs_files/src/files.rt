@@ -1,20 +1,27 @@
 //! Stores of tables in files.
 
-ghost use Rattle.std.specs.Prelude.{◌≡◌, IfOk, IsTrue, false};
+ghost use Rattle.std.specs.Prelude.{◌≡◌, IfOk, IfErr, IfSome, IsTrue, false};
 ghost use Rattle.sqlite_wal.specs.Reads.{AreClean};
 ghost use Rattle.sqlite_wal.specs.Files.{image_at};
 ghost use Rattle.sqlite.specs.State.{HasCleanDisk};
 ghost use Rattle.sqlite.specs.Files.{file_state, image_of};
 ghost use Rattle.sqlite.specs.Closing.{IsCopied};
 ghost use Rattle.lrs_tables.specs.Resting.{IsReady};
-ghost use Rattle.lrs_files.specs.Found.{HasFound};
+ghost use Rattle.lrs_files.specs.Found.{HasFound, IsLeftOf};
 
 use crate::taken::{fault_of, over};
 use lrs_tables::tables::{OpenFault, Tables};
-use sqlite::{Connection, Error, ErrorCode, FileFrom, FileStore, Files, Options, Start};
+use sqlite::{Connection, Error, ErrorCode, FileFrom, FileStore, Files, Leftover, Options, Start};
 use sqlite_disk::Disk;
 use std::alloc::Global;
 use std::rt::HostRuntime;
+
+/// Why the store in files is not opened, and what the kit's opening left of them, where it was that which failed.
+#[derive(Drop)]
+pub struct Refusal<D: Disk> {
+    pub fault: OpenFault,
+    pub left: Option<Leftover<D>>,
+}
 
 /// Opens the store in these files, or makes one where they hold none.
 ///
@@ -24,20 +31,26 @@ pub fn open_files<D: Disk + Drop>(
     alloc: Global,
     files: Files<D>,
     options: Options,
-) -> Result<Tables<FileStore<D>>, OpenFault>
+) -> Result<Tables<FileStore<D>>, Refusal<D>>
     requires log { IsTrue (D.Disk.is_usable files.log) }
     requires db { IsTrue (D.Disk.is_usable files.db) }
     ensures autocommit { IfOk result (λ t. t.conn.in_transaction ≡ false) }
     ensures ready { IfOk result (λ t. IsReady (file_state t.conn)) }
     ensures found { IfOk result (λ t. HasCleanDisk (file_state t.conn) → HasFound (image_of D.Disk files) (file_state t.conn)) }
+    ensures left { IfErr result (λ e. IfSome e.left (IsLeftOf (image_of D.Disk files))) }
 {
     let conn = match Connection::open_files(alloc, files, options) {
         Ok(conn) => conn,
-        Err((error, _)) => return Err(fault_of(error)),
+        Err((error, left)) => {
+            return Err(Refusal {
+                fault: fault_of(error),
+                left: Some(left),
+            });
+        }
     };
     match over(alloc, conn) {
         Ok(tables) => Ok(tables),
-        Err((fault, _)) => Err(fault),
+        Err((fault, _)) => Err(Refusal { fault, left: None }),
     }
 }
 
@@ -49,18 +62,24 @@ pub fn open_file<S: Start>(
     rt: &HostRuntime,
     path: &str,
     start: S,
-) -> Result<Tables<FileStore<FileFrom<S>>>, OpenFault>
+) -> Result<Tables<FileStore<FileFrom<S>>>, Refusal<FileFrom<S>>>
     ensures autocommit { IfOk result (λ t. t.conn.in_transaction ≡ false) }
     ensures ready { IfOk result (λ t. IsReady (file_state t.conn)) }
     ensures found { IfOk result (λ t. HasCleanDisk (file_state t.conn) → HasFound (image_at S.Start) (file_state t.conn)) }
+    ensures left { IfErr result (λ e. IfSome e.left (IsLeftOf (image_at S.Start))) }
 {
     let conn = match Connection::open_from(rt, path, false, start) {
         Ok(conn) => conn,
-        Err((error, _)) => return Err(fault_of(error)),
+        Err((error, left)) => {
+            return Err(Refusal {
+                fault: fault_of(error),
+                left,
+            });
+        }
     };
     match over(rt.alloc(), conn) {
         Ok(tables) => Ok(tables),
-        Err((fault, _)) => Err(fault),
+        Err((fault, _)) => Err(Refusal { fault, left: None }),
     }
 }
 

@@ -1,19 +1,22 @@
 //! A keeper over a store in files: opened, and closed.
 
-ghost use Rattle.std.specs.Prelude.{◌≡◌, false, IfOk, IsTrue};
+ghost use Rattle.std.specs.Prelude.{◌≡◌, false, IfOk, IfErr, IfSome, IsTrue};
 ghost use Rattle.sqlite_wal.specs.Files.{image_at};
 ghost use Rattle.sqlite_wal.specs.Reads.{AreClean};
 ghost use Rattle.sqlite.specs.State.{HasCleanDisk};
 ghost use Rattle.sqlite.specs.Files.{file_state, image_of};
 ghost use Rattle.sqlite.specs.Closing.{IsCopied};
 ghost use Rattle.lrs_table_keeper.specs.Opening.{IsSecond};
+ghost use Rattle.lrs_machine.specs.declared.table.Table.{Table};
 ghost use Rattle.lrs_opening.specs.Opened.{HasOpened};
+ghost use Rattle.lrs_opening.specs.Refused.{HoldsUnsound, WasJudged, WereJudged};
 
-use lrs_files::files::{CloseFault, close_files, open_file, open_files};
+use lrs_files::files::{CloseFault, Refusal, close_files, open_file, open_files};
 use lrs_keep::LoadFault;
+use lrs_refused::judging::judge;
 use lrs_table_keeper::{ReadImage, TableKeeper};
 use lrs_tables::tables::{OpenFault, Tables};
-use sqlite::{FileFrom, FileStore, Files, Options, Start};
+use sqlite::{FileFrom, FileStore, Files, Leftover, Options, Start};
 use sqlite_disk::Disk;
 use std::alloc::Global;
 use std::rt::HostRuntime;
@@ -22,6 +25,7 @@ use std::rt::HostRuntime;
 fn fault_of(fault: OpenFault) -> LoadFault
     ensures memory { result ≡ LoadFault.Memory → fault ≡ OpenFault.Memory }
     ensures store { fault ≡ OpenFault.Store → result ≡ LoadFault.Store }
+    ensures unnamed { (t : Table) → result ≡ LoadFault.Unsound t → ⊥ }
 {
     match fault {
         OpenFault::Memory => LoadFault::Memory,
@@ -29,31 +33,78 @@ fn fault_of(fault: OpenFault) -> LoadFault
     }
 }
 
+/// Why files are not opened as a keeper, and what the kit's opening left of them, where it was that which failed.
+#[derive(Drop)]
+pub struct NotOpened<D: Disk> {
+    pub fault: LoadFault,
+    pub left: Option<Leftover<D>>,
+}
+
+/// Why no keeper is there, by what the kit's opening left. It opens a store only if each row obeys its table, references
+/// too; where one does not, the rows are read without a connection, and their first unsound table is named.
+fn judge_left<D: Disk + Drop, R: ReadImage>(
+    alloc: Global,
+    left: &mut Leftover<D>,
+    reader: &R,
+) -> LoadFault
+    ensures { (t : Table) → result ≡ LoadFault.Unsound t → WasJudged t left.old left.new }
+{
+    match left {
+        Leftover::Store(store) => judge(alloc, store, reader),
+        Leftover::Files(_) | Leftover::Unopened(_) => LoadFault::Store,
+    }
+}
+
+/// Why no keeper is there, by why the tables are not opened.
+fn not_opened<D: Disk + Drop, R: ReadImage>(
+    alloc: Global,
+    refusal: Refusal<D>,
+    reader: &R,
+) -> NotOpened<D>
+    ensures judged { (t : Table) → result.fault ≡ LoadFault.Unsound t → WereJudged t refusal.left result.left }
+{
+    let Refusal { fault, left } = refusal;
+    match (fault, left) {
+        (OpenFault::Store, Some(mut left)) => {
+            let fault = judge_left(alloc, &mut left, reader);
+            NotOpened {
+                fault,
+                left: Some(left),
+            }
+        }
+        (fault, left) => NotOpened {
+            fault: fault_of(fault),
+            left,
+        },
+    }
+}
+
 /// Opens the keeper of the inventory in these files, or of a new one where they hold none. Nothing is loaded yet.
 ///
 /// # Errors
 /// `Store` if a file fails or the files hold no store of an inventory, `Unsound` with the first unsound table of
-/// rows that are not of version 2, and `Memory` if memory runs out.
+/// rows that break a rule of their tables or are not of version 2, and `Memory` if memory runs out.
 pub fn open_keeper_files<D: Disk + Drop, R: ReadImage + Drop>(
     alloc: Global,
     files: Files<D>,
     options: Options,
     reader: R,
-) -> Result<TableKeeper<FileStore<D>, R>, LoadFault>
+) -> Result<TableKeeper<FileStore<D>, R>, NotOpened<D>>
     requires log { IsTrue (D.Disk.is_usable files.log) }
     requires db { IsTrue (D.Disk.is_usable files.db) }
     ensures unloaded { IfOk result (λ k. k.is_loaded ≡ false) }
     ensures usable { IfOk result (λ k. k.is_broken ≡ false) }
     ensures second { IfOk result (λ k. IsSecond (file_state k.conn)) }
     ensures found { IfOk result (λ k. HasCleanDisk (file_state k.conn) → HasOpened (image_of D.Disk files) (file_state k.conn)) }
+    ensures unsound { IfErr result (λ e. (t : Table) → e.fault ≡ LoadFault.Unsound t → IfSome e.left (HoldsUnsound (image_of D.Disk files) t)) }
 {
     let tables = match open_files(alloc, files, options) {
         Ok(tables) => tables,
-        Err(fault) => return Err(fault_of(fault)),
+        Err(refusal) => return Err(not_opened(alloc, refusal, &reader)),
     };
     match TableKeeper::open(alloc, tables.conn, reader) {
         Ok(keeper) => Ok(keeper),
-        Err((fault, _)) => Err(fault),
+        Err((fault, _)) => Err(NotOpened { fault, left: None }),
     }
 }
 
@@ -62,25 +113,26 @@ pub fn open_keeper_files<D: Disk + Drop, R: ReadImage + Drop>(
 ///
 /// # Errors
 /// `Store` if a file fails, another program has it, or it holds no store of an inventory, `Unsound` with the first
-/// unsound table of rows that are not of version 2, and `Memory` if memory runs out.
+/// unsound table of rows that break a rule of their tables or are not of version 2, and `Memory` if memory runs out.
 pub fn open_keeper<S: Start, R: ReadImage + Drop>(
     rt: &HostRuntime,
     path: &str,
     start: S,
     reader: R,
-) -> Result<TableKeeper<FileStore<FileFrom<S>>, R>, LoadFault>
+) -> Result<TableKeeper<FileStore<FileFrom<S>>, R>, NotOpened<FileFrom<S>>>
     ensures unloaded { IfOk result (λ k. k.is_loaded ≡ false) }
     ensures usable { IfOk result (λ k. k.is_broken ≡ false) }
     ensures second { IfOk result (λ k. IsSecond (file_state k.conn)) }
     ensures found { IfOk result (λ k. HasCleanDisk (file_state k.conn) → HasOpened (image_at S.Start) (file_state k.conn)) }
+    ensures unsound { IfErr result (λ e. (t : Table) → e.fault ≡ LoadFault.Unsound t → IfSome e.left (HoldsUnsound (image_at S.Start) t)) }
 {
     let tables = match open_file(rt, path, start) {
         Ok(tables) => tables,
-        Err(fault) => return Err(fault_of(fault)),
+        Err(refusal) => return Err(not_opened(rt.alloc(), refusal, &reader)),
     };
     match TableKeeper::open(rt.alloc(), tables.conn, reader) {
         Ok(keeper) => Ok(keeper),
-        Err((fault, _)) => Err(fault),
+        Err((fault, _)) => Err(NotOpened { fault, left: None }),
     }
 }
 

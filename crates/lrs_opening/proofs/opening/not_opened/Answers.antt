@@ -1,0 +1,16 @@
+use Rattle.std.proofs.Common.{refl}
+use Rattle.lrs_opening.proofs.opening.not_opened.Goals as goal
+
+pub returns-in-Store-Some : goal.returns-in-Store-Some
+returns-in-Store-Some g c = record {
+  judged = λ t is. record {
+    before = c.in-Store-Some.left;
+    after = c.judge_left-fault.new.left;
+    was = c.in-Store-Some.is-1;
+    is = refl;
+    judged = c.judge_left-fault.ensures t is;
+  };
+}
+
+pub returns-in_default : goal.returns-in_default
+returns-in_default g c = record { judged = λ t is. absurd (c.fault_of.ensures.unnamed t is) }

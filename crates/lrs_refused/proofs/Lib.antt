@@ -1,0 +1,2 @@
+pub mod SeeingLemmas
+pub mod JudgedLemmas
