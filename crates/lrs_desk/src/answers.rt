@@ -1,4 +1,5 @@
-//! What is asked of a desk. Each question is answered from the image, and changes nothing.
+//! What is asked of a desk. Each question is answered from the image, and changes nothing. Once a commit has failed none
+//! is: the image may then be ahead of all that is ever kept.
 
 ghost use Rattle.std.specs.Prelude.{◌≡◌, ◌↔◌, IsTrue, Err, false};
 ghost use Rattle.lrs_answers.specs.Answers.{AsksRoute, IsAt, UnlessMemory};
@@ -37,10 +38,14 @@ impl<K: Keeper> Desk<K> {
     ///
     /// # Errors
     ///
-    /// `NoAsset` where no asset has this number.
+    /// `MustReopen` once a commit has failed; then `NoAsset` where no asset has this number.
     pub fn find(&self, asset: u64) -> Result<Rows<FoundRow>, AskFault>
-        ensures { IsFound (state_of self.now.image) asset result }
+        ensures reopen { (result ≡ Err AskFault.MustReopen) ↔ IsTrue self.now.must_reopen }
+        ensures answer { self.now.must_reopen ≡ false → IsFound (state_of self.now.image) asset result }
     {
+        if self.must_reopen() {
+            return Err(AskFault::MustReopen);
+        }
         lrs_finding::find(self.alloc(), self.inventory(), asset)
     }
 
@@ -48,15 +53,19 @@ impl<K: Keeper> Desk<K> {
     ///
     /// # Errors
     ///
-    /// `NoRoute`, and then those of the classes and of the side.
+    /// `MustReopen` once a commit has failed; then `NoRoute`, and then those of the classes and of the side.
     pub fn segments(
         &self,
         route: &RouteName,
         wanted: &[ClassName],
         side: Side,
     ) -> Result<Rows<Segment>, AskFault>
-        ensures { IsSegmented (state_of self.now.image) route.now wanted.now side result }
+        ensures reopen { (result ≡ Err AskFault.MustReopen) ↔ IsTrue self.now.must_reopen }
+        ensures answer { self.now.must_reopen ≡ false → IsSegmented (state_of self.now.image) route.now wanted.now side result }
     {
+        if self.must_reopen() {
+            return Err(AskFault::MustReopen);
+        }
         lrs_answers::segments(self.alloc(), self.inventory().kept(), route, wanted, side)
     }
 
@@ -65,10 +74,14 @@ impl<K: Keeper> Desk<K> {
     ///
     /// # Errors
     ///
-    /// When memory runs out.
+    /// `MustReopen` once a commit has failed; else when memory runs out.
     pub fn totals(&self) -> Result<Rows<Total>, AskFault>
-        ensures { UnlessMemory (λ totals. totals ≡ totals_of (state_of self.now.image)) result }
+        ensures reopen { (result ≡ Err AskFault.MustReopen) ↔ IsTrue self.now.must_reopen }
+        ensures answer { self.now.must_reopen ≡ false → UnlessMemory (λ totals. totals ≡ totals_of (state_of self.now.image)) result }
     {
+        if self.must_reopen() {
+            return Err(AskFault::MustReopen);
+        }
         self.inventory().prove_sound();
         self.counts().totals(self.alloc())
     }
@@ -77,15 +90,20 @@ impl<K: Keeper> Desk<K> {
     ///
     /// # Errors
     ///
-    /// `NoRoute`, and then what the position expression or its translation is refused for.
+    /// `MustReopen` once a commit has failed; then `NoRoute`, and then what the position expression or its translation is
+    /// refused for.
     pub fn translate(
         &self,
         route: &RouteName,
         expression: Expr,
         target: Target,
     ) -> Result<Expr, AskFault>
-        ensures { AsksRoute (state_of self.now.image) route.now (λ a entry_of answer. Translates a entry_of expression target answer × RoundTrip a entry_of expression target answer) result }
+        ensures reopen { (result ≡ Err AskFault.MustReopen) ↔ IsTrue self.now.must_reopen }
+        ensures answer { self.now.must_reopen ≡ false → AsksRoute (state_of self.now.image) route.now (λ a entry_of answer. Translates a entry_of expression target answer × RoundTrip a entry_of expression target answer) result }
     {
+        if self.must_reopen() {
+            return Err(AskFault::MustReopen);
+        }
         lrs_answers::translate(self.inventory().kept(), route, expression, target)
     }
 
@@ -93,10 +111,14 @@ impl<K: Keeper> Desk<K> {
     ///
     /// # Errors
     ///
-    /// `NoRoute`, and then what the position expression is refused for.
+    /// `MustReopen` once a commit has failed; then `NoRoute`, and then what the position expression is refused for.
     pub fn to_link(&self, route: &RouteName, expression: Expr) -> Result<(u32, Frac), AskFault>
-        ensures { AsksRoute (state_of self.now.image) route.now (λ a entry_of answer. IsLinkPosition a entry_of expression answer) result }
+        ensures reopen { (result ≡ Err AskFault.MustReopen) ↔ IsTrue self.now.must_reopen }
+        ensures answer { self.now.must_reopen ≡ false → AsksRoute (state_of self.now.image) route.now (λ a entry_of answer. IsLinkPosition a entry_of expression answer) result }
     {
+        if self.must_reopen() {
+            return Err(AskFault::MustReopen);
+        }
         lrs_answers::to_link(self.inventory().kept(), route, expression)
     }
 }

@@ -22,7 +22,7 @@ use Rattle.lrs_machine.specs.declared.command.Command.{Command}
 use Rattle.lrs_sheet.specs.declared.reply.Reply.{Reply}
 use Rattle.lrs_sheet.specs.declared.reply.Tally.{Tally}
 use Rattle.lrs_sheet.specs.Replies.{counted, lines_of, reply_text}
-use Rattle.lrs_sheet.specs.Waiting.{reply_of, replies_of, replies_to, counted_all, DoesAll, IsAfterSome, StopsAtFirst}
+use Rattle.lrs_sheet.specs.Waiting.{reply_of, replies_of, replies_to, counted_all, DoesAll, IsAfterSome, IsAheadBySome, StopsAtFirst}
 use Rattle.lrs_sheet.proofs.Done.{lines-more}
 
 -- one more answer
@@ -120,20 +120,34 @@ after_some limits n commands s c amid =
     let (j, same) = front_in amid.stored n (records_of commands) in
     (j, (amid.image, amid.found, amid.state ∙ ap (λ (rs : List Record). state_after limits rs s) (same ∙ front_of j commands)))
 
+-- as many commands as records
+as_many_records : (commands : List (Text × Command)) → length (records_of commands) ≡ length commands
+as_many_records commands = length-map commands (λ (c : Text × Command). let r : Record = record { key = c.0; command = c.1 } in r)
+
+-- the state after some first records is that after their commands
+ahead_by : (limits : Limits) (n : ℕ) (commands : List (Text × Command)) (before after : State) → 1 ≤ n → n ≤ length (records_of commands) → after ≡ state_after limits (take n (records_of commands)) before
+    → IsAheadBySome limits commands before after
+ahead_by limits n commands before after some few state = (
+  n,
+  some,
+  (let same = as_many_records commands in omega (arith, few, same)),
+  state ∙ ap (λ (rs : List Record). state_after limits rs before) (front_of n commands),
+)
+
 -- a desk that did nothing, or whose commit failed
 pub stops_first : {K : Type 0} (holds : K → Result Image Table → Type 0) (failures : K → ℕ) (commands : List (Text × Command)) (before after : DeskView K) (text : Option Text) (e : Fault)
     → (e ≡ stop.Memory → IsUnchanged holds before after) → (e ≡ stop.Keep → BreaksAmid holds failures (records_of commands) before after) → (e ≡ stop.MustReopen → IsUnchanged holds before after)
     → StopsAtFirst holds commands before after text text (fault.Desk e)
 stops_first holds failures commands before after text stop.Memory memory keep stays = ((memory refl).image, refl)
-stops_first holds failures commands before after text stop.Keep memory keep stays = (refl, λ c h. let broken = keep refl in after_some before.limits (broken.accepted + 1) commands (state_of before.image) c (broken.content c h))
+stops_first holds failures commands before after text stop.Keep memory keep stays =
+    let broken = keep refl in (
+      refl,
+      λ c h. after_some before.limits (broken.accepted + 1) commands (state_of before.image) c (broken.content c h),
+      ahead_by before.limits (broken.accepted + 1) commands (state_of before.image) (state_of after.image) (omega arith) (let few = broken.few in omega (arith, few)) broken.image,
+    )
 stops_first holds failures commands before after text stop.MustReopen memory keep stays = ((stays refl).image, refl)
 
 -- a desk that did some, of which not all lines are written
 pub wrote_some : {K : Type 0} (holds : K → Result Image Table → Type 0) (commands : List (Text × Command)) (given : List Answer) (before after : DeskView K) (old new : Option Text)
     → DoesFirst before.limits (records_of commands) (state_of before.image) (state_of after.image) given → StopsAtFirst holds commands before after old new fault.Write
-wrote_some holds commands given before after old new does = (
-  length given,
-  does.some,
-  omega (arith, does.few, length-map commands (λ (c : Text × Command). let r : Record = record { key = c.0; command = c.1 } in r)),
-  does.state ∙ ap (λ (rs : List Record). state_after before.limits rs (state_of before.image)) (front_of (length given) commands),
-)
+wrote_some holds commands given before after old new does = ahead_by before.limits (length given) commands (state_of before.image) (state_of after.image) does.some does.few does.state

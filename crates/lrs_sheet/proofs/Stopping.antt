@@ -16,9 +16,9 @@ use Rattle.lrs_sheet.specs.declared.fault.SheetFault.{SheetFault}
 use Rattle.lrs_sheet.specs.declared.fault.SheetFault.TheVariants as fault
 use Rattle.lrs_sheet.specs.declared.reply.Tally.{Tally}
 use Rattle.lrs_sheet.specs.Replies.{lines_of}
-use Rattle.lrs_sheet.specs.Rows.{Begins, BreaksAfter, DoesRows, DoesUpTo, Stops}
-use Rattle.lrs_sheet.specs.Sheets.{AreAnswered, AreUndone, HaveWidth}
-use Rattle.lrs_sheet.specs.Waiting.{BreaksOffAmong, DoesFront, IsWaiting, Say, StopsAmong, done_all, replies_to}
+use Rattle.lrs_sheet.specs.Rows.{Begins, BreaksAfter, DoesRows, DoesUpTo, RunsAhead, Stops}
+use Rattle.lrs_sheet.specs.Sheets.{AreAnswered, ComeNext, HaveWidth, IsAheadByRecords}
+use Rattle.lrs_sheet.specs.Waiting.{BreaksOffAmong, DoesFront, IsAheadBySome, IsWaiting, Say, StopsAmong, done_all, replies_to}
 use Rattle.lrs_sheet.proofs.Done.{begins}
 use Rattle.lrs_sheet.proofs.Waits.{answered-more, replied-append, replied_said, width-append}
 
@@ -67,8 +67,8 @@ module _ {K : Type 0} {holds : K → Result Image Table → Type 0} {R : Type 0}
   all_read : (n : ℕ) → Begins rem rows ((w.records ++ take n w.asked) ++ drop n w.asked)
   all_read n = rw (append_assoc w.records (take n w.asked) (drop n w.asked), take-append-drop n w.asked) (begins rem rows now (w.records ++ w.asked) w.gave)
 
-  undone : (n : ℕ) → n < length commands → AreUndone sheet together (drop n w.asked)
-  undone n few = (
+  come_next : (n : ℕ) → n < length commands → ComeNext sheet together (drop n w.asked)
+  come_next n few = (
     (let same = as_many_said sheet w.asked commands w.say in let less = length-drop n w.asked in omega (arith, few, same, less)),
     (let same = as_many_said sheet w.asked commands w.say in let less = length-drop n w.asked in omega (arith, most, same, less)),
     width_rest sheet n w.asked w.wide,
@@ -79,7 +79,7 @@ module _ {K : Type 0} {holds : K → Result Image Table → Type 0} {R : Type 0}
     w.records ++ take front.done w.asked,
     drop front.done w.asked,
     w.replies ++ replies_to before.limits (take front.done commands) (state_of after.image),
-    undone front.done front.few,
+    come_next front.done front.few,
     front_answered front.done s last (rw w.desk.limits at front.state) (rw w.desk.limits at front.written),
     all_read front.done,
   )
@@ -96,10 +96,33 @@ module _ {K : Type 0} {holds : K → Result Image Table → Type 0} {R : Type 0}
     all_read n,
   )
 
+  -- some of those behind the first are done
+  ahead_of : (n : ℕ) (settled s : State) → IsAheadBySome before.limits (drop n commands) settled s → IsAheadByRecords sheet before.limits settled (drop n w.asked) s
+  ahead_of n settled s (k, some, few, state) = (
+    k,
+    some,
+    (let same = as_many_said sheet (drop n w.asked) (drop n commands) (say_rest sheet n w.asked commands w.say) in omega (arith, few, same)),
+    replies_to before.limits (take k (drop n commands)) settled,
+    rw state (replied_said sheet before.limits (take k (drop n w.asked)) (take k (drop n commands)) settled (say_first sheet k (drop n w.asked) (drop n commands) (say_rest sheet n w.asked commands w.say))),
+  )
+
+  ran_ahead : (end : DeskView K) (last : Option Text) → BreaksOffAmong holds commands after end new last → RunsAhead sheet together rem rows before.limits (state_of before.image) (state_of end.image) old last
+  ran_ahead end last stops =
+      let n = stops.front.done in (
+        w.records ++ take n w.asked,
+        drop n w.asked,
+        w.replies ++ replies_to before.limits (take n commands) (state_of after.image),
+        stops.settled,
+        come_next n stops.front.few,
+        front_answered n stops.settled last (rw w.desk.limits at stops.front.state) (rw w.desk.limits at stops.front.written),
+        all_read n,
+        ahead_of n stops.settled (state_of end.image) (rw w.desk.limits at stops.ahead),
+      )
+
   -- not all of them are done and have their lines
   pub among : (end : DeskView K) (last : Option Text) (e : SheetFault) → StopsAmong holds commands after end new last e → DoesRows sheet together rem rows before.limits (state_of before.image) (state_of end.image) old last (Err e)
   among end last fault.Write (n, some, few, state) = up_to n (state_of end.image) some few (rw w.desk.limits at state)
-  among end last (fault.Desk stop.Keep) stops = (stops.settled, stopped_at stops.settled last stops.front)
+  among end last (fault.Desk stop.Keep) stops = ran_ahead end last stops
   among end last (fault.Desk stop.Memory) stops = stopped_at (state_of end.image) last stops
   among end last (fault.Desk stop.MustReopen) stops = stopped_at (state_of end.image) last stops
   among end last fault.Memory stops = absurd stops
@@ -116,7 +139,7 @@ module _ {K : Type 0} {holds : K → Result Image Table → Type 0} {R : Type 0}
         drop n w.asked,
         w.replies ++ replies_to before.limits (take n commands) (state_of after.image),
         stops.settled,
-        undone n stops.front.few,
+        come_next n stops.front.few,
         front_answered n stops.settled last (rw w.desk.limits at stops.front.state) (rw w.desk.limits at stops.front.written),
         all_read n,
         (

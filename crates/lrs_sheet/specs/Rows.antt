@@ -22,7 +22,7 @@ use Rattle.lrs_sheet.specs.declared.fault.SheetFault.TheVariants as fault
 use Rattle.lrs_records.specs.declared.sheet.Sheet.{Sheet}
 use Rattle.lrs_records.specs.Kinds.{width_of}
 use Rattle.lrs_sheet.specs.Replies.{IsReplied, Replied, answer_count, counted, reply_text, tally_of}
-use Rattle.lrs_sheet.specs.Sheets.{AreAll, AreAnswered, AreUndone, BeginsWith, GoesAlong, HaveWidth, IsAfterRecords, max_records}
+use Rattle.lrs_sheet.specs.Sheets.{AreAll, AreAnswered, BeginsWith, ComeNext, GoesAlong, HaveWidth, IsAfterRecords, IsAheadByRecords, max_records}
 
 -- the reader gives the records of a text as `csv` does by default, with no header handling and no trimming
 pub record IsPlain {R : Type 0} (reader : Reader R) : Type 0 where
@@ -79,8 +79,14 @@ AnswersSome sheet remaining reader limits before after old new =
 -- ... and those after them are not
 abbrev pub Stops : {R : Type 0} → Sheet → ℕ → (R → Option Text) → Reader R → Limits → State → State → Option Text → Option Text → Type 0
 Stops sheet together remaining reader limits before after old new =
-    (records : List (List Text)) × (further : List (List Text)) × (replies : List Reply) × AreUndone sheet together further × AreAnswered sheet limits before records replies after old new
+    (records : List (List Text)) × (further : List (List Text)) × (replies : List Reply) × ComeNext sheet together further × AreAnswered sheet limits before records replies after old new
     × Begins remaining reader (records ++ further)
+
+-- a commit failed: some of the records that come next are done and answered, and the desk's image is ahead by some first ones of those after them
+abbrev pub RunsAhead : {R : Type 0} → Sheet → ℕ → (R → Option Text) → Reader R → Limits → State → State → Option Text → Option Text → Type 0
+RunsAhead sheet together remaining reader limits before after old new =
+    (records : List (List Text)) × (further : List (List Text)) × (replies : List Reply) × (settled : State) × ComeNext sheet together further
+    × AreAnswered sheet limits before records replies settled old new × Begins remaining reader (records ++ further) × IsAheadByRecords sheet limits settled further after
 
 -- some of the records that come next are done, one at least
 abbrev pub DoesUpTo : {R : Type 0} → Sheet → (R → Option Text) → Reader R → Limits → State → State → Type 0
@@ -101,13 +107,13 @@ DoesRows sheet together remaining reader limits before after old new (Err fault.
 DoesRows sheet together remaining reader limits before after old new (Err fault.Write) = DoesUpTo sheet remaining reader limits before after
 DoesRows sheet together remaining reader limits before after old new (Err (fault.Desk stop.Memory)) = Stops sheet together remaining reader limits before after old new
 DoesRows sheet together remaining reader limits before after old new (Err (fault.Desk stop.MustReopen)) = Stops sheet together remaining reader limits before after old new
-DoesRows sheet together remaining reader limits before after old new (Err (fault.Desk stop.Keep)) = (settled : State) × Stops sheet together remaining reader limits before settled old new
+DoesRows sheet together remaining reader limits before after old new (Err (fault.Desk stop.Keep)) = RunsAhead sheet together remaining reader limits before after old new
 DoesRows sheet together remaining reader limits before after old new (Err fault.Memory) = AnswersSome sheet remaining reader limits before after old new
 
 -- a commit failed: some of the records that come next are done, and of those after them some first ones may be kept
 abbrev pub BreaksAfter : {R : Type 0} → Sheet → ℕ → (R → Option Text) → Reader R → Limits → State → Option Text → Option Text → Result Image Table → Type 0
 BreaksAfter sheet together remaining reader limits before old new content =
-    (records : List (List Text)) × (further : List (List Text)) × (replies : List Reply) × (settled : State) × AreUndone sheet together further
+    (records : List (List Text)) × (further : List (List Text)) × (replies : List Reply) × (settled : State) × ComeNext sheet together further
     × AreAnswered sheet limits before records replies settled old new × Begins remaining reader (records ++ further) × IsAfterRecords sheet limits settled further content
 
 -- a record is answered, its line is written and it is counted

@@ -74,15 +74,27 @@ HasAnsweredSome sheet limits input before after old new =
     ⊎ ((header : List Text) × (records : List (List Text)) × (replies : List Reply) × IsHeader sheet header × BeginsWith input (header ∷ records)
     × AreAnswered sheet limits before records replies after old new)
 
--- Further records, one at least and no more than are done together, are not done.
-abbrev pub AreUndone : Sheet → ℕ → List (List Text) → Type 0
-AreUndone sheet together further = (1 ≤ length further) × (length further ≤ together) × HaveWidth sheet further
+-- Further records come next, one at least and no more than are done together.
+abbrev pub ComeNext : Sheet → ℕ → List (List Text) → Type 0
+ComeNext sheet together further = (1 ≤ length further) × (length further ≤ together) × HaveWidth sheet further
 
 -- Some records at the front of the sheet are done, and each has its line; those that come next are not done.
 abbrev pub HasStopped : Sheet → ℕ → Limits → Text → State → State → Option Text → Option Text → Type 0
 HasStopped sheet together limits input before after old new =
     (header : List Text) × (records : List (List Text)) × (further : List (List Text)) × (replies : List Reply) × IsHeader sheet header
-    × BeginsWith input ((header ∷ records) ++ further) × AreUndone sheet together further × AreAnswered sheet limits before records replies after old new
+    × BeginsWith input ((header ∷ records) ++ further) × ComeNext sheet together further × AreAnswered sheet limits before records replies after old new
+
+-- the state after some first ones of these records, one at least
+abbrev pub IsAheadByRecords : Sheet → Limits → State → List (List Text) → State → Type 0
+IsAheadByRecords sheet limits before records after =
+    (ahead : ℕ) × (1 ≤ ahead) × (ahead ≤ length records) × (replies : List Reply) × Replied sheet limits before (take ahead records) replies after
+
+-- A commit failed: some records at the front of the sheet are done, and each has its line; the desk's image stands for the state after these and after some first ones, one at least, of those that come next.
+abbrev pub HasRunAhead : Sheet → ℕ → Limits → Text → State → State → Option Text → Option Text → Type 0
+HasRunAhead sheet together limits input before after old new =
+    (header : List Text) × (records : List (List Text)) × (further : List (List Text)) × (replies : List Reply) × (settled : State) × IsHeader sheet header
+    × BeginsWith input ((header ∷ records) ++ further) × ComeNext sheet together further × AreAnswered sheet limits before records replies settled old new
+    × IsAheadByRecords sheet limits settled further after
 
 -- Some records at the front of the sheet are done, one at least; not all of their lines are written whole.
 abbrev pub HasDoneUpTo : Sheet → Limits → Text → State → State → Type 0
@@ -99,8 +111,7 @@ Runs sheet together limits input before after old new (Err fault.Read) = HasAnsw
 Runs sheet together limits input before after old new (Err fault.Write) = HasDoneUpTo sheet limits input before after
 Runs sheet together limits input before after old new (Err (fault.Desk stop.Memory)) = HasStopped sheet together limits input before after old new
 Runs sheet together limits input before after old new (Err (fault.Desk stop.MustReopen)) = HasStopped sheet together limits input before after old new
--- the desk's image is ahead of what has lines
-Runs sheet together limits input before after old new (Err (fault.Desk stop.Keep)) = (settled : State) × HasStopped sheet together limits input before settled old new
+Runs sheet together limits input before after old new (Err (fault.Desk stop.Keep)) = HasRunAhead sheet together limits input before after old new
 Runs sheet together limits input before after old new (Err fault.Memory) = HasAnsweredSome sheet limits input before after old new
 
 -- What a run of an edit sheet gives, one record after the other.
@@ -147,7 +158,7 @@ IsAfterRecords sheet limits state records content =
 abbrev pub BreaksOff : Sheet → ℕ → Limits → Text → State → Option Text → Option Text → Result Image Table → Type 0
 BreaksOff sheet together limits input before old new content =
     (header : List Text) × (records : List (List Text)) × (further : List (List Text)) × (replies : List Reply) × (settled : State) × IsHeader sheet header
-    × BeginsWith input ((header ∷ records) ++ further) × AreUndone sheet together further × AreAnswered sheet limits before records replies settled old new
+    × BeginsWith input ((header ∷ records) ++ further) × ComeNext sheet together further × AreAnswered sheet limits before records replies settled old new
     × IsAfterRecords sheet limits settled further content
 
 -- the same of an edit sheet, one record after the other

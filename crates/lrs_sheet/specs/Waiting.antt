@@ -59,12 +59,16 @@ pub record DoesAll (limits : Limits) (commands : List (Text × Command)) (before
 abbrev pub IsAfterSome : Limits → List (Text × Command) → State → Result Image Table → Type 0
 IsAfterSome limits commands before c = (k : ℕ) × StandsFor c (done_all limits (take k commands) before)
 
--- The first of these commands are not done, or not all of their lines are written.
+-- the state after some first ones of these commands, one at least
+abbrev pub IsAheadBySome : Limits → List (Text × Command) → State → State → Type 0
+IsAheadBySome limits commands before after = (ahead : ℕ) × (1 ≤ ahead) × (ahead ≤ length commands) × (after ≡ done_all limits (take ahead commands) before)
+
+-- The first of these commands are not done; or they are done, and their commit failed, or not all of their lines are written.
 abbrev pub StopsAtFirst : {K : Type 0} → (K → Result Image Table → Type 0) → List (Text × Command) → DeskView K → DeskView K → Option Text → Option Text → SheetFault → Type 0
-StopsAtFirst holds commands before after old new fault.Write =
-    (n : ℕ) × (1 ≤ n) × (n ≤ length commands) × (state_of after.image ≡ done_all before.limits (take n commands) (state_of before.image))
+StopsAtFirst holds commands before after old new fault.Write = IsAheadBySome before.limits commands (state_of before.image) (state_of after.image)
 StopsAtFirst holds commands before after old new (fault.Desk stop.Keep) =
     (new ≡ old) × ((c : Result Image Table) → holds after.keeper c → IsAfterSome before.limits commands (state_of before.image) c)
+    × IsAheadBySome before.limits commands (state_of before.image) (state_of after.image)
 StopsAtFirst holds commands before after old new (fault.Desk stop.Memory) = (after.image ≡ before.image) × (new ≡ old)
 StopsAtFirst holds commands before after old new (fault.Desk stop.MustReopen) = (after.image ≡ before.image) × (new ≡ old)
 StopsAtFirst holds commands before after old new fault.Memory = ⊥
@@ -79,16 +83,16 @@ pub record DoesFront (limits : Limits) (commands : List (Text × Command)) (befo
   pub state : after ≡ done_all limits (take done commands) before
   pub written : Appends old new (lines_of (replies_to limits (take done commands) before))
 
--- ... and of the others some first ones may be kept: their commit failed
+-- ... and of the others some first ones, one at least, are done, and may be kept: their commit failed
 pub record BreaksOffAmong {K : Type 0} (holds : K → Result Image Table → Type 0) (commands : List (Text × Command)) (before after : DeskView K) (old new : Option Text) : Type 0 where
   pub settled : State
   pub front : DoesFront before.limits commands (state_of before.image) settled old new
+  pub ahead : IsAheadBySome before.limits (drop front.done commands) settled (state_of after.image)
   pub content : (c : Result Image Table) → holds after.keeper c → IsAfterSome before.limits (drop front.done commands) settled c
 
 -- Not all of these commands are done and have their lines.
 abbrev pub StopsAmong : {K : Type 0} → (K → Result Image Table → Type 0) → List (Text × Command) → DeskView K → DeskView K → Option Text → Option Text → SheetFault → Type 0
-StopsAmong holds commands before after old new fault.Write =
-    (n : ℕ) × (1 ≤ n) × (n ≤ length commands) × (state_of after.image ≡ done_all before.limits (take n commands) (state_of before.image))
+StopsAmong holds commands before after old new fault.Write = IsAheadBySome before.limits commands (state_of before.image) (state_of after.image)
 StopsAmong holds commands before after old new (fault.Desk stop.Keep) = BreaksOffAmong holds commands before after old new
 StopsAmong holds commands before after old new (fault.Desk stop.Memory) = DoesFront before.limits commands (state_of before.image) (state_of after.image) old new
 StopsAmong holds commands before after old new (fault.Desk stop.MustReopen) = DoesFront before.limits commands (state_of before.image) (state_of after.image) old new

@@ -115,7 +115,7 @@ fn do_rows<R: Read, W: Write, K: Keeper>(
 /// # Errors
 ///
 /// Those of `run_edits` for an edit sheet, and of `run_survey` for a survey. After `Desk(Keep)` some first ones of the
-/// records that have no line yet, no more than so many, may be kept.
+/// records that have no line, one at least and no more than so many, are done in the desk's image, and may be kept.
 pub fn run_sheet<R: Read + Drop, W: Write, K: Keeper>(
     alloc: Global,
     sheet: Sheet,
@@ -155,13 +155,14 @@ pub fn run_edits<R: Read + Drop, W: Write, K: Keeper>(
     writer: &mut W,
     desk: &mut Desk<K>,
 ) -> Result<Tally, SheetFault>
-    // What is done and written is the reply to the sheet, from the state that the desk's image stands for.
+    // What is done and written is the reply to the sheet, from the state that the desk's image stands for. After a
+    // failed commit this is ahead of the lines by one record.
     ensures runs { IfSome (R.remaining reader) (λ input. RunsEdits desk.old.limits input (state_of desk.old.image) (state_of desk.new.image) (W.contents writer.old) (W.contents writer.new) result) }
 
     // The keeper goes along, unless a commit failed.
     ensures desk { LeavesDesk K.may_hold desk.old desk.new result }
 
-    // After a failed commit the keeper has the state of the records that were done, or that of one more.
+    // After a failed commit the keeper has the state of the records that have lines, or that of one more.
     ensures broken { result ≡ Err (SheetFault.Desk Fault.Keep) → (c : Result ImageRows Table) → K.may_hold desk.new.keeper c → IfSome (R.remaining reader) (λ input. HasBrokenOff desk.old.limits input (state_of desk.old.image) (W.contents writer.old) (W.contents writer.new) c) }
 {
     run_sheet(alloc, Sheet::Edits, 1, reader, writer, desk)
@@ -182,13 +183,14 @@ pub fn run_survey<R: Read + Drop, W: Write, K: Keeper>(
     writer: &mut W,
     desk: &mut Desk<K>,
 ) -> Result<Tally, SheetFault>
-    // What is done and written is the reply to the survey, from the state that the desk's image stands for.
+    // What is done and written is the reply to the survey, from the state that the desk's image stands for. After a
+    // failed commit this is ahead of the lines by one record.
     ensures runs { IfSome (R.remaining reader) (λ input. RunsSurvey desk.old.limits input (state_of desk.old.image) (state_of desk.new.image) (W.contents writer.old) (W.contents writer.new) result) }
 
     // The keeper goes along, unless a commit failed.
     ensures desk { LeavesDesk K.may_hold desk.old desk.new result }
 
-    // After a failed commit the keeper has the state of the records that were done, or that of one more.
+    // After a failed commit the keeper has the state of the records that have lines, or that of one more.
     ensures broken { result ≡ Err (SheetFault.Desk Fault.Keep) → (c : Result ImageRows Table) → K.may_hold desk.new.keeper c → IfSome (R.remaining reader) (λ input. SurveyHasBrokenOff desk.old.limits input (state_of desk.old.image) (W.contents writer.old) (W.contents writer.new) c) }
 {
     run_sheet(alloc, Sheet::Survey, 1, reader, writer, desk)

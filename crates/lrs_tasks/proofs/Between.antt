@@ -10,7 +10,7 @@ use Rattle.lrs_sheet.specs.declared.fault.SheetFault.TheVariants as fault
 use Rattle.lrs_sheet.specs.declared.reply.Reply.{Reply}
 use Rattle.lrs_sheet.specs.declared.reply.Tally.{Tally}
 use Rattle.lrs_records.specs.declared.sheet.Sheet.{Sheet}
-use Rattle.lrs_sheet.specs.Sheets.{AreAnswered, HasStopped, Runs}
+use Rattle.lrs_sheet.specs.Sheets.{AreAnswered, HasRunAhead, HasStopped, Runs}
 
 -- bytes that are appended between two that are kept
 appends-between : (first old new last : Option (List ℕ)) (bytes : List ℕ) → Keeps first old → Keeps new last → Appends old new bytes → Appends first last bytes
@@ -36,7 +36,10 @@ module _ (sheet : Sheet) (together : ℕ) (limits : Limits) (input : List ℕ) (
   }
 
   stopped-between : (to : State) → HasStopped sheet together limits input before to old new → HasStopped sheet together limits input before to first last
-  stopped-between to (header, records, further, replies, is, begins, undone, answered) = (header, records, further, replies, is, begins, undone, answered-between to records replies answered)
+  stopped-between to (header, records, further, replies, is, begins, come, answered) = (header, records, further, replies, is, begins, come, answered-between to records replies answered)
+
+  ahead-between : HasRunAhead sheet together limits input before after old new → HasRunAhead sheet together limits input before after first last
+  ahead-between (header, records, further, replies, settled, is, begins, come, answered, ahead) = (header, records, further, replies, settled, is, begins, come, answered-between settled records replies answered, ahead)
 
   pub runs-between : (result : Result Tally SheetFault) → Runs sheet together limits input before after old new result → Runs sheet together limits input before after first last result
   runs-between (Ok tally) (inl (all, state, same, counts)) = inl (all, state, keeps-between first old new last kept keeps same, counts)
@@ -48,7 +51,7 @@ module _ (sheet : Sheet) (together : ℕ) (limits : Limits) (input : List ℕ) (
   runs-between (Err fault.Write) done = done
   runs-between (Err (fault.Desk stop.Memory)) done = stopped-between after done
   runs-between (Err (fault.Desk stop.MustReopen)) done = stopped-between after done
-  runs-between (Err (fault.Desk stop.Keep)) (settled, done) = (settled, stopped-between settled done)
+  runs-between (Err (fault.Desk stop.Keep)) done = ahead-between done
   runs-between (Err fault.Memory) (inl (state, same)) = inl (state, keeps-between first old new last kept keeps same)
   runs-between (Err fault.Memory) (inr (header, records, replies, is, begins, answered)) = inr (header, records, replies, is, begins, answered-between after records replies answered)
 

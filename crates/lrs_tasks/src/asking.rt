@@ -79,6 +79,7 @@ fn print_translated<K: Keeper, W: Write>(
     target: Target,
     writer: &mut W,
 ) -> Result<(), Unanswered>
+    requires open { desk.now.must_reopen ≡ false }
     ensures { IsPrinted (IsTranslated (state_of desk.now.image) route.now position target) expression_line (W.contents writer.old) (W.contents writer.new) result }
 {
     let translated = desk.translate(route, position, target)?;
@@ -93,6 +94,7 @@ fn print_on_link<K: Keeper, W: Write>(
     position: Expr,
     writer: &mut W,
 ) -> Result<(), Unanswered>
+    requires open { desk.now.must_reopen ≡ false }
     ensures { IsPrinted (IsOnLink (state_of desk.now.image) route.now position) (λ on. link_position_text on.0 on.1) (W.contents writer.old) (W.contents writer.new) result }
 {
     let (link, distance) = desk.to_link(route, position)?;
@@ -118,6 +120,7 @@ fn print_strip<K: Keeper, W: Write>(
     classes: &[ClassName],
     writer: &mut W,
 ) -> Result<(), Unanswered>
+    requires open { desk.now.must_reopen ≡ false }
     ensures { IsPrinted (IsSegmented (state_of desk.now.image) route.now classes.now side) (strip_text route.now side (length_on (state_of desk.now.image) route.now) classes.now) (W.contents writer.old) (W.contents writer.new) result }
 {
     let segments = desk.segments(route, classes, side)?;
@@ -128,6 +131,7 @@ fn print_strip<K: Keeper, W: Write>(
 
 // What there is of each class.
 fn print_totals<K: Keeper, W: Write>(desk: &Desk<K>, writer: &mut W) -> Result<(), Unanswered>
+    requires open { desk.now.must_reopen ≡ false }
     ensures { IsPrinted (AreTotals (state_of desk.now.image)) totals_text (W.contents writer.old) (W.contents writer.new) result }
 {
     let totals = desk.totals()?;
@@ -141,6 +145,7 @@ fn print_found<K: Keeper, W: Write>(
     asset: u64,
     writer: &mut W,
 ) -> Result<(), Unanswered>
+    requires open { desk.now.must_reopen ≡ false }
     ensures { IsPrinted (IsFound (state_of desk.now.image) asset) found_text (W.contents writer.old) (W.contents writer.new) result }
 {
     let found = desk.find(asset)?;
