@@ -20,27 +20,6 @@ pub insert_eight_assets_is : (command_of (understood it.inventory it.insert_eigh
 unfolding understood everything
 insert_eight_assets_is = (refl, (refl, refl))
 
-abbrev pub piece_terms : ℕ → List Term
-piece_terms k = lit Null ∷ col 0 k ∷ col 0 (k + 1) ∷ col 0 (k + 2) ∷ col 0 (k + 3) ∷ col 0 (k + 4) ∷ col 0 (k + 5) ∷ []
-
-pub insert_eight_pieces_is : (command_of (understood it.inventory it.insert_eight_pieces) ≡ Insert 4 (Values (eight_of piece_terms 6) 7)) × IsPlain (understood it.inventory it.insert_eight_pieces)
-unfolding understood everything
-insert_eight_pieces_is = (refl, (refl, refl))
-
-abbrev pub mark_terms : ℕ → List Term
-mark_terms k = lit Null ∷ col 0 k ∷ col 0 (k + 1) ∷ col 0 (k + 2) ∷ col 0 (k + 3) ∷ []
-
-pub insert_eight_marks_is : (command_of (understood it.inventory it.insert_eight_marks) ≡ Insert 5 (Values (eight_of mark_terms 4) 5)) × IsPlain (understood it.inventory it.insert_eight_marks)
-unfolding understood everything
-insert_eight_marks_is = (refl, (refl, refl))
-
-abbrev pub ref_terms : ℕ → List Term
-ref_terms k = lit Null ∷ col 0 k ∷ col 0 (k + 1) ∷ col 0 (k + 2) ∷ []
-
-pub insert_eight_refs_is : (command_of (understood it.inventory it.insert_eight_refs) ≡ Insert 6 (Values (eight_of ref_terms 3) 4)) × IsPlain (understood it.inventory it.insert_eight_refs)
-unfolding understood everything
-insert_eight_refs_is = (refl, (refl, refl))
-
 abbrev pub span_terms : ℕ → List Term
 span_terms k = lit Null ∷ col 0 k ∷ col 0 (k + 1) ∷ col 0 (k + 2) ∷ col 0 (k + 3) ∷ col 0 (k + 4) ∷ []
 
@@ -54,13 +33,6 @@ entered_terms k = lit Null ∷ col 0 k ∷ col 0 (k + 1) ∷ col 0 (k + 2) ∷ c
 pub insert_eight_entered_is : (command_of (understood it.inventory it.insert_eight_entered) ≡ Insert 8 (Values (eight_of entered_terms 6) 7)) × IsPlain (understood it.inventory it.insert_eight_entered)
 unfolding understood everything
 insert_eight_entered_is = (refl, (refl, refl))
-
-abbrev pub gone_terms : ℕ → List Term
-gone_terms k = lit Null ∷ col 0 k ∷ col 0 (k + 1) ∷ col 0 (k + 2) ∷ col 0 (k + 3) ∷ col 0 (k + 4) ∷ col 0 (k + 5) ∷ col 0 (k + 6) ∷ []
-
-pub insert_eight_gone_is : (command_of (understood it.inventory it.insert_eight_gone) ≡ Insert 9 (Values (eight_of gone_terms 7) 8)) × IsPlain (understood it.inventory it.insert_eight_gone)
-unfolding understood everything
-insert_eight_gone_is = (refl, (refl, refl))
 
 abbrev pub edit_terms : ℕ → List Term
 edit_terms k = col 0 k ∷ lit Null ∷ col 0 (k + 1) ∷ col 0 (k + 2) ∷ []

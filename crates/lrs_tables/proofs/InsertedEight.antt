@@ -9,10 +9,10 @@ use Rattle.sqlite_value.specs.Order.{Row}
 use Rattle.sqlite_value.specs.Keys.{plain}
 use Rattle.sqlite.specs.Effect.{value_rows}
 use Rattle.sqlite.specs.State.{State, ExecutesInside}
-use Rattle.lrs_store.specs.Tables.{AssetRow, PieceRow, MarkRow, RefRow, SpanRow, EnteredRow, GoneRow, EditRow, OriginRow}
+use Rattle.lrs_store.specs.Tables.{AssetRow, SpanRow, EnteredRow, EditRow, OriginRow}
 use Rattle.lrs_tables.specs.Schema.{whole, words, refers}
 use Rattle.lrs_tables.specs.Schema as it
-use Rattle.lrs_tables.specs.Cells.{asset_cells, piece_cells, mark_cells, ref_cells, span_cells, entered_cells, gone_cells, edit_cells, origin_cells}
+use Rattle.lrs_tables.specs.Cells.{asset_cells, span_cells, entered_cells, edit_cells, origin_cells}
 use Rattle.lrs_tables.specs.Stored as stored
 use Rattle.lrs_tables.specs.Stored.{IsWriting, Makes}
 use Rattle.lrs_tables.proofs.EightStatements as statement
@@ -51,33 +51,6 @@ assets_added rs old new count eight writing h =
     (λ r. refl) (λ r. refl) (λ r rows. refl) (λ r rows. refl) old new count writing h in
     record { writing = it.writing; was_open = λ opened. it.was_open; rows = only.only_asset old.now.trees new.now.trees it.others (λ rows. rs ++ rows) (shown stored.asset_in asset_cells (λ r. refl) rs _ _ it.rows) }
 
-pub pieces_added : (rs : List PieceRow) (old new : State) (count : ℕ) → length rs ≡ 8 → IsWriting old → ExecutesInside 0 it.insert_eight_pieces (flat_map piece_cells rs) old new (Ok count)
-    → Makes (λ t. record t { piece = rs ++ t.piece }) old new
-pieces_added rs old new count eight writing h =
-    let it = adds_rows 4 (codes "piece") 5 None (1 ∷ 2 ∷ []) ((1 ∷ 2 ∷ []) ∷ []) (plain ∷ []) (refers 3 (codes "link") ∷ []) (words (codes "route") ∷ whole (codes "n") ∷ whole (codes "link") ∷ whole (codes "a") ∷ whole (codes "b") ∷ whole (codes "dir") ∷ []) refl
-    it.insert_eight_pieces (flat_map piece_cells rs) (eight_of statement.piece_terms 6) 7 (λ (r : PieceRow). Null) (λ (r : PieceRow). Text r.route ∷ Int r.n ∷ Int r.link ∷ Int r.a ∷ Int r.b ∷ Int r.dir ∷ []) stored.piece_places piece_cells rs statement.insert_eight_pieces_is.0 statement.insert_eight_pieces_is.1
-    (of_eight (λ xs. value_rows (flat_map piece_cells xs ++ []) 7 (length (eight_of statement.piece_terms 6) / 7) (eight_of statement.piece_terms 6) ≡ map (λ (r : PieceRow). Null ∷ Text r.route ∷ Int r.n ∷ Int r.link ∷ Int r.a ∷ Int r.b ∷ Int r.dir ∷ []) xs) (λ a b c d e f g h. refl) rs eight)
-    (λ r. refl) (λ r. refl) (λ r rows. refl) (λ r rows. refl) old new count writing h in
-    record { writing = it.writing; was_open = λ opened. it.was_open; rows = only.only_piece old.now.trees new.now.trees it.others (λ rows. rs ++ rows) (shown stored.piece_in piece_cells (λ r. refl) rs _ _ it.rows) }
-
-pub marks_added : (rs : List MarkRow) (old new : State) (count : ℕ) → length rs ≡ 8 → IsWriting old → ExecutesInside 0 it.insert_eight_marks (flat_map mark_cells rs) old new (Ok count)
-    → Makes (λ t. record t { mark = rs ++ t.mark }) old new
-marks_added rs old new count eight writing h =
-    let it = adds_rows 5 (codes "mark") 7 None (1 ∷ 2 ∷ []) ((1 ∷ 2 ∷ []) ∷ []) (plain ∷ []) [] (words (codes "route") ∷ whole (codes "n") ∷ whole (codes "chainage") ∷ whole (codes "measure") ∷ []) refl
-    it.insert_eight_marks (flat_map mark_cells rs) (eight_of statement.mark_terms 4) 5 (λ (r : MarkRow). Null) (λ (r : MarkRow). Text r.route ∷ Int r.n ∷ Int r.chainage ∷ Int r.measure ∷ []) stored.mark_places mark_cells rs statement.insert_eight_marks_is.0 statement.insert_eight_marks_is.1
-    (of_eight (λ xs. value_rows (flat_map mark_cells xs ++ []) 5 (length (eight_of statement.mark_terms 4) / 5) (eight_of statement.mark_terms 4) ≡ map (λ (r : MarkRow). Null ∷ Text r.route ∷ Int r.n ∷ Int r.chainage ∷ Int r.measure ∷ []) xs) (λ a b c d e f g h. refl) rs eight)
-    (λ r. refl) (λ r. refl) (λ r rows. refl) (λ r rows. refl) old new count writing h in
-    record { writing = it.writing; was_open = λ opened. it.was_open; rows = only.only_mark old.now.trees new.now.trees it.others (λ rows. rs ++ rows) (shown stored.mark_in mark_cells (λ r. refl) rs _ _ it.rows) }
-
-pub refs_added : (rs : List RefRow) (old new : State) (count : ℕ) → length rs ≡ 8 → IsWriting old → ExecutesInside 0 it.insert_eight_refs (flat_map ref_cells rs) old new (Ok count)
-    → Makes (λ t. record t { ref = rs ++ t.ref }) old new
-refs_added rs old new count eight writing h =
-    let it = adds_rows 6 (codes "ref") 9 None (1 ∷ []) ((1 ∷ []) ∷ []) (plain ∷ []) [] (words (codes "name") ∷ words (codes "route") ∷ whole (codes "place") ∷ []) refl
-    it.insert_eight_refs (flat_map ref_cells rs) (eight_of statement.ref_terms 3) 4 (λ (r : RefRow). Null) (λ (r : RefRow). Text r.name ∷ Text r.route ∷ Int r.place ∷ []) stored.ref_places ref_cells rs statement.insert_eight_refs_is.0 statement.insert_eight_refs_is.1
-    (of_eight (λ xs. value_rows (flat_map ref_cells xs ++ []) 4 (length (eight_of statement.ref_terms 3) / 4) (eight_of statement.ref_terms 3) ≡ map (λ (r : RefRow). Null ∷ Text r.name ∷ Text r.route ∷ Int r.place ∷ []) xs) (λ a b c d e f g h. refl) rs eight)
-    (λ r. refl) (λ r. refl) (λ r rows. refl) (λ r rows. refl) old new count writing h in
-    record { writing = it.writing; was_open = λ opened. it.was_open; rows = only.only_ref old.now.trees new.now.trees it.others (λ rows. rs ++ rows) (shown stored.ref_in ref_cells (λ r. refl) rs _ _ it.rows) }
-
 pub spans_added : (rs : List SpanRow) (old new : State) (count : ℕ) → length rs ≡ 8 → IsWriting old → ExecutesInside 0 it.insert_eight_spans (flat_map span_cells rs) old new (Ok count)
     → Makes (λ t. record t { span = rs ++ t.span }) old new
 spans_added rs old new count eight writing h =
@@ -95,15 +68,6 @@ entered_added rs old new count eight writing h =
     (of_eight (λ xs. value_rows (flat_map entered_cells xs ++ []) 7 (length (eight_of statement.entered_terms 6) / 7) (eight_of statement.entered_terms 6) ≡ map (λ (r : EnteredRow). Null ∷ Int r.edit ∷ Int r.asset ∷ Int r.link ∷ Int r.lo ∷ Int r.hi ∷ Int r.side ∷ []) xs) (λ a b c d e f g h. refl) rs eight)
     (λ r. refl) (λ r. refl) (λ r rows. refl) (λ r rows. refl) old new count writing h in
     record { writing = it.writing; was_open = λ opened. it.was_open; rows = only.only_entered old.now.trees new.now.trees it.others (λ rows. rs ++ rows) (shown stored.entered_in entered_cells (λ r. refl) rs _ _ it.rows) }
-
-pub gone_added : (rs : List GoneRow) (old new : State) (count : ℕ) → length rs ≡ 8 → IsWriting old → ExecutesInside 0 it.insert_eight_gone (flat_map gone_cells rs) old new (Ok count)
-    → Makes (λ t. record t { gone = rs ++ t.gone }) old new
-gone_added rs old new count eight writing h =
-    let it = adds_rows 9 (codes "gone") 15 None (1 ∷ 2 ∷ 3 ∷ 4 ∷ 5 ∷ 7 ∷ []) ((1 ∷ 2 ∷ 3 ∷ 4 ∷ 5 ∷ 7 ∷ []) ∷ []) (plain ∷ []) [] (whole (codes "edit") ∷ whole (codes "cause") ∷ whole (codes "asset") ∷ whole (codes "link") ∷ whole (codes "lo") ∷ whole (codes "hi") ∷ whole (codes "side") ∷ []) refl
-    it.insert_eight_gone (flat_map gone_cells rs) (eight_of statement.gone_terms 7) 8 (λ (r : GoneRow). Null) (λ (r : GoneRow). Int r.row.edit ∷ Int r.cause ∷ Int r.row.asset ∷ Int r.row.link ∷ Int r.row.lo ∷ Int r.row.hi ∷ Int r.row.side ∷ []) stored.gone_places gone_cells rs statement.insert_eight_gone_is.0 statement.insert_eight_gone_is.1
-    (of_eight (λ xs. value_rows (flat_map gone_cells xs ++ []) 8 (length (eight_of statement.gone_terms 7) / 8) (eight_of statement.gone_terms 7) ≡ map (λ (r : GoneRow). Null ∷ Int r.row.edit ∷ Int r.cause ∷ Int r.row.asset ∷ Int r.row.link ∷ Int r.row.lo ∷ Int r.row.hi ∷ Int r.row.side ∷ []) xs) (λ a b c d e f g h. refl) rs eight)
-    (λ r. refl) (λ r. refl) (λ r rows. refl) (λ r rows. refl) old new count writing h in
-    record { writing = it.writing; was_open = λ opened. it.was_open; rows = only.only_gone old.now.trees new.now.trees it.others (λ rows. rs ++ rows) (shown stored.gone_in gone_cells (λ r. refl) rs _ _ it.rows) }
 
 pub edits_added : (rs : List EditRow) (old new : State) (count : ℕ) → length rs ≡ 8 → IsWriting old → ExecutesInside 0 it.insert_eight_edits (flat_map edit_cells rs) old new (Ok count)
     → Makes (λ t. record t { edit = rs ++ t.edit }) old new

@@ -1,4 +1,4 @@
--- The tables of a store, as SQL defines them and as their definitions are read. Where many rows may come, one statement puts eight of them.
+-- The tables of a store, as SQL defines them and as their definitions are read. The rows of eight entries are put by one statement a table.
 use Rattle.std.specs.Prelude.{true, false, [], ◌∷◌, None, Some, Option, codes, List, ℕ}
 use Rattle.sqlite_value.specs.declared.value.Value.TheVariants.{Null}
 use Rattle.sqlite_value.specs.declared.keys.Order.{Order}
@@ -101,9 +101,6 @@ create_piece = codes "CREATE TABLE piece (route TEXT NOT NULL, n INTEGER NOT NUL
 abbrev pub insert_piece : List ℕ
 insert_piece = codes "INSERT INTO piece VALUES (?1, ?2, ?3, ?4, ?5, ?6)"
 
-abbrev pub insert_eight_pieces : List ℕ
-insert_eight_pieces = codes "INSERT INTO piece VALUES (?1, ?2, ?3, ?4, ?5, ?6), (?7, ?8, ?9, ?10, ?11, ?12), (?13, ?14, ?15, ?16, ?17, ?18), (?19, ?20, ?21, ?22, ?23, ?24), (?25, ?26, ?27, ?28, ?29, ?30), (?31, ?32, ?33, ?34, ?35, ?36), (?37, ?38, ?39, ?40, ?41, ?42), (?43, ?44, ?45, ?46, ?47, ?48)"
-
 abbrev pub select_piece : List ℕ
 select_piece = codes "SELECT route, n, link, a, b, dir FROM piece"
 
@@ -116,9 +113,6 @@ create_mark = codes "CREATE TABLE mark (route TEXT NOT NULL, n INTEGER NOT NULL,
 abbrev pub insert_mark : List ℕ
 insert_mark = codes "INSERT INTO mark VALUES (?1, ?2, ?3, ?4)"
 
-abbrev pub insert_eight_marks : List ℕ
-insert_eight_marks = codes "INSERT INTO mark VALUES (?1, ?2, ?3, ?4), (?5, ?6, ?7, ?8), (?9, ?10, ?11, ?12), (?13, ?14, ?15, ?16), (?17, ?18, ?19, ?20), (?21, ?22, ?23, ?24), (?25, ?26, ?27, ?28), (?29, ?30, ?31, ?32)"
-
 abbrev pub select_mark : List ℕ
 select_mark = codes "SELECT route, n, chainage, measure FROM mark"
 
@@ -130,9 +124,6 @@ create_ref = codes "CREATE TABLE ref (name TEXT NOT NULL, route TEXT NOT NULL, p
 
 abbrev pub insert_ref : List ℕ
 insert_ref = codes "INSERT INTO ref VALUES (?1, ?2, ?3)"
-
-abbrev pub insert_eight_refs : List ℕ
-insert_eight_refs = codes "INSERT INTO ref VALUES (?1, ?2, ?3), (?4, ?5, ?6), (?7, ?8, ?9), (?10, ?11, ?12), (?13, ?14, ?15), (?16, ?17, ?18), (?19, ?20, ?21), (?22, ?23, ?24)"
 
 abbrev pub select_ref : List ℕ
 select_ref = codes "SELECT name, route, place FROM ref"
@@ -175,9 +166,6 @@ create_gone = codes "CREATE TABLE gone (edit INTEGER NOT NULL, cause INTEGER NOT
 
 abbrev pub insert_gone : List ℕ
 insert_gone = codes "INSERT INTO gone VALUES (?1, ?2, ?3, ?4, ?5, ?6, ?7)"
-
-abbrev pub insert_eight_gone : List ℕ
-insert_eight_gone = codes "INSERT INTO gone VALUES (?1, ?2, ?3, ?4, ?5, ?6, ?7), (?8, ?9, ?10, ?11, ?12, ?13, ?14), (?15, ?16, ?17, ?18, ?19, ?20, ?21), (?22, ?23, ?24, ?25, ?26, ?27, ?28), (?29, ?30, ?31, ?32, ?33, ?34, ?35), (?36, ?37, ?38, ?39, ?40, ?41, ?42), (?43, ?44, ?45, ?46, ?47, ?48, ?49), (?50, ?51, ?52, ?53, ?54, ?55, ?56)"
 
 abbrev pub select_gone : List ℕ
 select_gone = codes "SELECT edit, cause, asset, link, lo, hi, side FROM gone"
