@@ -1,4 +1,4 @@
--- The tables of a store, as SQL defines them and as their definitions are read. Where many rows may come, one statement puts eight of them.
+-- The tables of a store, as SQL defines them and as their definitions are read. The rows of eight entries are put by one statement a table.
 use Rattle.std.specs.Prelude.{true, false, [], ◌∷◌, None, Some, Option, codes, List, ℕ}
 use Rattle.sqlite_value.specs.declared.value.Value.TheVariants.{Null}
 use Rattle.sqlite_value.specs.declared.keys.Order.{Order}
