@@ -1,6 +1,7 @@
 //! A keeper over a store in files: opened, and closed.
 
-ghost use Rattle.std.specs.Prelude.{◌≡◌, false, IfOk, IfErr, IfSome, IsTrue};
+ghost use Rattle.std.specs.Prelude.{◌≡◌, false, IfOk, IfErr, IsTrue};
+ghost use Rattle.sqlite_wal.specs.Recovery as wal;
 ghost use Rattle.sqlite_wal.specs.Files.{image_at};
 ghost use Rattle.sqlite_wal.specs.Reads.{AreClean};
 ghost use Rattle.sqlite.specs.State.{HasCleanDisk};
@@ -9,14 +10,14 @@ ghost use Rattle.sqlite.specs.Closing.{IsCopied};
 ghost use Rattle.lrs_table_keeper.specs.Opening.{IsSecond};
 ghost use Rattle.lrs_machine.specs.declared.table.Table.{Table};
 ghost use Rattle.lrs_opening.specs.Opened.{HasOpened};
-ghost use Rattle.lrs_opening.specs.Refused.{HoldsUnsound, WasJudged, WereJudged};
+ghost use Rattle.lrs_opening.specs.Refused.{HoldsUnsound, HoldsStill, WasJudged, WereJudged};
 
 use lrs_files::files::{CloseFault, Refusal, close_files, open_file, open_files};
 use lrs_keep::LoadFault;
 use lrs_refused::judging::judge;
 use lrs_table_keeper::{ReadImage, TableKeeper};
 use lrs_tables::tables::{OpenFault, Tables};
-use sqlite::{FileFrom, FileStore, Files, Leftover, Options, Start};
+use sqlite::{Connection, FileFrom, FileStore, Files, Leftover, Options, Start};
 use sqlite_disk::Disk;
 use std::alloc::Global;
 use std::rt::HostRuntime;
@@ -33,11 +34,22 @@ fn fault_of(fault: OpenFault) -> LoadFault
     }
 }
 
-/// Why files are not opened as a keeper, and what the kit's opening left of them, where it was that which failed.
+/// What an opening that failed gives back of the files.
+#[derive(Drop)]
+pub enum Left<D: Disk> {
+    /// What the kit's `sqlite` gave back, which refused them.
+    Refused(Leftover<D>),
+    /// The connection that opened them: their tables are an inventory's, their rows no keeper's.
+    Opened(Connection<FileStore<D>>),
+    /// Nothing: they hold other tables, or failed before they gave anything.
+    Nothing,
+}
+
+/// Why files are not opened as a keeper, and what is left of them.
 #[derive(Drop)]
 pub struct NotOpened<D: Disk> {
     pub fault: LoadFault,
-    pub left: Option<Leftover<D>>,
+    pub left: Left<D>,
 }
 
 /// Why no keeper is there, by what the kit's opening left. It opens a store only if each row obeys its table, references
@@ -62,6 +74,7 @@ fn not_opened<D: Disk + Drop, R: ReadImage>(
     reader: &R,
 ) -> NotOpened<D>
     ensures judged { (t : Table) → result.fault ≡ LoadFault.Unsound t → WereJudged t refusal.left result.left }
+    ensures still { (image : wal.Image) → HoldsStill image result.left }
 {
     let Refusal { fault, left } = refusal;
     match (fault, left) {
@@ -69,12 +82,16 @@ fn not_opened<D: Disk + Drop, R: ReadImage>(
             let fault = judge_left(alloc, &mut left, reader);
             NotOpened {
                 fault,
-                left: Some(left),
+                left: Left::Refused(left),
             }
         }
-        (fault, left) => NotOpened {
+        (OpenFault::Memory, Some(left)) => NotOpened {
+            fault: LoadFault::Memory,
+            left: Left::Refused(left),
+        },
+        (fault, None) => NotOpened {
             fault: fault_of(fault),
-            left,
+            left: Left::Nothing,
         },
     }
 }
@@ -96,7 +113,8 @@ pub fn open_keeper_files<D: Disk + Drop, R: ReadImage + Drop>(
     ensures usable { IfOk result (λ k. k.is_broken ≡ false) }
     ensures second { IfOk result (λ k. IsSecond (file_state k.conn)) }
     ensures found { IfOk result (λ k. HasCleanDisk (file_state k.conn) → HasOpened (image_of D.Disk files) (file_state k.conn)) }
-    ensures unsound { IfErr result (λ e. (t : Table) → e.fault ≡ LoadFault.Unsound t → IfSome e.left (HoldsUnsound (image_of D.Disk files) t)) }
+    ensures unsound { IfErr result (λ e. (t : Table) → e.fault ≡ LoadFault.Unsound t → HoldsUnsound (image_of D.Disk files) t e.left) }
+    ensures still { IfErr result (λ e. HoldsStill (image_of D.Disk files) e.left) }
 {
     let tables = match open_files(alloc, files, options) {
         Ok(tables) => tables,
@@ -104,7 +122,10 @@ pub fn open_keeper_files<D: Disk + Drop, R: ReadImage + Drop>(
     };
     match TableKeeper::open(alloc, tables.conn, reader) {
         Ok(keeper) => Ok(keeper),
-        Err((fault, _)) => Err(NotOpened { fault, left: None }),
+        Err((fault, conn)) => Err(NotOpened {
+            fault,
+            left: Left::Opened(conn),
+        }),
     }
 }
 
@@ -124,7 +145,8 @@ pub fn open_keeper<S: Start, R: ReadImage + Drop>(
     ensures usable { IfOk result (λ k. k.is_broken ≡ false) }
     ensures second { IfOk result (λ k. IsSecond (file_state k.conn)) }
     ensures found { IfOk result (λ k. HasCleanDisk (file_state k.conn) → HasOpened (image_at S.Start) (file_state k.conn)) }
-    ensures unsound { IfErr result (λ e. (t : Table) → e.fault ≡ LoadFault.Unsound t → IfSome e.left (HoldsUnsound (image_at S.Start) t)) }
+    ensures unsound { IfErr result (λ e. (t : Table) → e.fault ≡ LoadFault.Unsound t → HoldsUnsound (image_at S.Start) t e.left) }
+    ensures still { IfErr result (λ e. HoldsStill (image_at S.Start) e.left) }
 {
     let tables = match open_file(rt, path, start) {
         Ok(tables) => tables,
@@ -132,7 +154,10 @@ pub fn open_keeper<S: Start, R: ReadImage + Drop>(
     };
     match TableKeeper::open(rt.alloc(), tables.conn, reader) {
         Ok(keeper) => Ok(keeper),
-        Err((fault, _)) => Err(NotOpened { fault, left: None }),
+        Err((fault, conn)) => Err(NotOpened {
+            fault,
+            left: Left::Opened(conn),
+        }),
     }
 }
 

@@ -10,7 +10,8 @@ returns-in-Store-Some g c = record {
     is = refl;
     judged = c.judge_left-fault.ensures t is;
   };
+  still = λ image. tt;
 }
 
-pub returns-in_default : goal.returns-in_default
-returns-in_default g c = record { judged = λ t is. absurd (c.fault_of.ensures.unnamed t is) }
+pub returns-in_default-None-clause-judged : goal.returns-in_default-None-clause-judged
+returns-in_default-None-clause-judged g c t is = absurd (c.fault_of.ensures.unnamed t is)
