@@ -1,5 +1,5 @@
 -- What files hold: the rows of their tables have numbers, and an opening leaves them.
-use Rattle.std.proofs.Common.{◌≡◌, ℕ, List, [], ◌∷◌, ap, sym, subst, ◌∙◌, inl, inr, refl, true, false, Option, None, Some, IfSome}
+use Rattle.std.proofs.Common.{◌≡◌, ℕ, List, [], ◌∷◌, ap, sym, subst, ◌∙◌, inl, inr, refl, Bool, true, false, IsTrue, Option, None, Some, IfSome, MatchOption}
 use Rattle.std.proofs.Math.Logic.{∥∥₁_elim}
 use Rattle.std.specs.List.{AllByRecursion, AllZip}
 use Rattle.sqlite_schema.specs.declared.schema.Table.{Table}
@@ -21,15 +21,18 @@ use Rattle.sqlite_pool.specs.File.{version_in}
 use Rattle.sqlite_store.specs.Listing.{all_shapes, all_reals, file_trees, listed_from, IsOurs}
 use Rattle.sqlite_store.specs.Listed.{catalog_rows, is_listed}
 use Rattle.sqlite_store.proofs.ListingLemmas.{all_ordered, listing_shaped}
-use Rattle.sqlite.specs.State.{State, Opens, IsLive}
+use Rattle.sqlite.specs.State.{State, Opens, IsLive, HasCleanDisk}
 use Rattle.sqlite.specs.Effect.{IsDatabase, Database}
 use Rattle.sqlite_disk.specs.declared.Disk.{Ghosts}
 use Rattle.sqlite_disk.specs.declared.Files.{Files}
 use Rattle.sqlite.specs.declared.file.Leftover.{Leftover}
-use Rattle.sqlite.specs.declared.file.Leftover.TheVariants as left
-use Rattle.sqlite.specs.Files.{AreFoundIn, HoldsDatabase, image_of, IsCleanLeft, LeavesFiles}
+use Rattle.sqlite.specs.Held.{Held}
+use Rattle.sqlite_store.specs.declared.store.FileStore.{FileStore}
+use Rattle.sqlite.specs.Files.{AreFoundIn, HoldsDatabase, image_of, IsCleanLeft, LeavesFiles, file_state}
 use Rattle.lrs_tables.specs.Stored.{AreNumbered}
-use Rattle.lrs_files.specs.Opening.{HasNumbers, IsTaken}
+use Rattle.lrs_files.specs.declared.files.Untaken.{Untaken}
+use Rattle.lrs_files.specs.declared.files.Untaken.TheVariants as untaken
+use Rattle.lrs_files.specs.Opening.{HasNumbers, IsTaken, LeavesFound}
 use Rattle.lrs_files.specs.Found.{HasFound, IsLeftOf}
 
 int_of : (v : Value) → is_int v ≡ true → Int (id_in v) ≡ v
@@ -112,15 +115,26 @@ pub opened_found : (image : Image) (s : State) → Opens s → IsLive s → AreF
 opened_found image s opens live reads =
     (opens, found_numbers image s.now.trees s.now.schema (subst (AreFoundIn image) (sym (ap (λ (d : Database). d.trees) opens.clean)) reads) (live opens.is_open).0.lists)
 
--- what an opening left that failed, over files
-pub left_over : {D : Type 0} {g : Ghosts D} (files : Files D) (l : Leftover D g) → (IsCleanLeft l → LeavesFiles files l) → IsLeftOf (image_of g files) l
-left_over files (left.Store store) leaves = λ clean db may. (leaves clean db may).0
-left_over files (left.Unopened unopened) leaves = tt
-left_over files (left.Files now) leaves = tt
+module _ {D : Type 0} {g : Ghosts D} where
+  -- what an opening left that failed, over files
+  pub left_over : (files : Files D) (l : Leftover D g) → (IsCleanLeft l → LeavesFiles files l) → IsLeftOf (image_of g files) (λ given. given ≡ files) (untaken.Refused l)
+  left_over files l leaves clean = (files, refl, refl, leaves clean)
 
--- and over files that held what a path is said to hold
-pub left_found : {D : Type 0} {g : Ghosts D} (image : Image) (Log Db : D → Type 0) (Fails : Files D → Leftover D g → Type 0) (o : Option (Leftover D g))
-    → ((files : Files D) → Log files.log → Db files.db → image_of g files ≡ image)
-    → IfSome o (λ l. (files : Files D) × Log files.log × Db files.db × (IsCleanLeft l → Fails files l × LeavesFiles files l)) → IfSome o (IsLeftOf image)
-left_found image Log Db Fails None same h = tt
-left_found image Log Db Fails (Some l) same (files, log, db, leaves) = subst (λ i. IsLeftOf i l) (same files log db) (left_over files l (λ clean. (leaves clean).1))
+  -- and over files that held what a path is said to hold
+  pub left_found : (image : Image) (Log Db : D → Type 0) (Fails : Files D → Leftover D g → Type 0) (o : Option (Leftover D g)) (r : Option (Untaken D g))
+      → MatchOption o (r ≡ None) (λ l. r ≡ Some (untaken.Refused l))
+      → ((files : Files D) → Log files.log → Db files.db → image_of g files ≡ image)
+      → IfSome o (λ l. (files : Files D) × Log files.log × Db files.db × (IsCleanLeft l → Fails files l × LeavesFiles files l)) → IfSome r (IsLeftOf image (λ files. Log files.log × Db files.db))
+  left_found image Log Db Fails None r is same h = subst (λ o. IfSome o (IsLeftOf image (λ files. Log files.log × Db files.db))) (sym is) tt
+  left_found image Log Db Fails (Some l) r is same (files, log, db, leaves) =
+      subst (λ o. IfSome o (IsLeftOf image (λ files. Log files.log × Db files.db))) (sym is) (λ clean. (files, same files log db, (log, db), (leaves clean).1))
+
+  -- a connection that wrote nothing leaves what it found
+  pub left_connected : (image : Image) (Began : Files D → Type 0) (conn back : Held (FileStore D g)) (is_unchanged : Bool) (r : Option (Untaken D g))
+      → (HasCleanDisk (file_state conn) → AreFoundIn image (file_state conn).committed.trees)
+      → (IsTrue is_unchanged → (back ≡ conn) × LeavesFound (file_state conn) (file_state back))
+      → IfSome r (λ l. IsTrue is_unchanged × (l ≡ untaken.Connected back)) → IfSome r (IsLeftOf image Began)
+  left_connected image Began conn back is_unchanged None found unchanged left = tt
+  left_connected image Began conn back is_unchanged (Some l) found unchanged (so, is) = subst (IsLeftOf image Began) (sym is) (λ clean db may.
+      let it = unchanged so in
+      subst (AreFoundIn image) (sym (it.1 clean db may)) (found (subst (λ (x : Held (FileStore D g)). HasCleanDisk (file_state x)) it.0 clean)))

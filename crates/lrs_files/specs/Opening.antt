@@ -1,6 +1,7 @@
 -- What an opening of a store makes of the rows that it finds.
 use Rattle.std.specs.Prelude.{◌≡◌, ◌⊎◌, [], IsTrue}
 use Rattle.std.specs.List.{AllByRecursion}
+use Rattle.sqlite_trees.specs.Tree.{Trees}
 use Rattle.sqlite_schema.specs.declared.schema.Table.{Table}
 use Rattle.sqlite_schema.specs.declared.schema.Schema.{Schema}
 use Rattle.sqlite_catalog.specs.Change.{KeepsRows}
@@ -31,6 +32,10 @@ HasNumbers db = AllByRecursion (λ (t : Table). AreNumbered (db.trees t.tree)) d
 -- a connection that was just opened
 abbrev pub IsFound : State → Type 0
 IsFound s = HasCleanDisk s → Opens s × HasNumbers s.now
+
+-- an opening finds what the connection found
+abbrev pub LeavesFound : State → State → Type 0
+LeavesFound old new = HasCleanDisk new → (db : Trees) → new.may_leave db → db ≡ old.committed.trees
 
 -- the table of origins is there, without a row, and the other tables have their rows
 pub record HasOrigins (old new : State) : Type 0 where

@@ -1,32 +1,62 @@
 //! Stores of tables in files.
 
-ghost use Rattle.std.specs.Prelude.{◌≡◌, IfOk, IfErr, IfSome, IsTrue, false};
+ghost use Rattle.std.specs.Prelude.{◌≡◌, None, Some, MatchOption, IfOk, IfErr, IfSome, IsSome, IsTrue, true, false};
 ghost use Rattle.sqlite_wal.specs.Reads.{AreClean};
 ghost use Rattle.sqlite_wal.specs.Files.{image_at};
+ghost use Rattle.sqlite_std_file.specs.File.{IsFresh};
 ghost use Rattle.sqlite.specs.State.{HasCleanDisk};
 ghost use Rattle.sqlite.specs.Files.{file_state, image_of};
 ghost use Rattle.sqlite.specs.Closing.{IsCopied};
 ghost use Rattle.lrs_tables.specs.Resting.{IsReady};
 ghost use Rattle.lrs_files.specs.Found.{HasFound, IsLeftOf};
 
-use crate::taken::{fault_of, over};
+use crate::taken::{NotTaken, fault_of, over};
 use lrs_tables::tables::{OpenFault, Tables};
 use sqlite::{Connection, Error, ErrorCode, FileFrom, FileStore, Files, Leftover, Options, Start};
 use sqlite_disk::Disk;
 use std::alloc::Global;
 use std::rt::HostRuntime;
 
-/// Why the store in files is not opened, and what the kit's opening left of them, where it was that which failed.
+/// What is left of files whose tables are not taken.
+#[derive(Drop)]
+pub enum Untaken<D: Disk> {
+    /// What the kit's `sqlite` gave back, which refused them.
+    Refused(Leftover<D>),
+    /// The connection that opened them, and wrote nothing: their tables are no inventory's, or memory ran out.
+    Connected(Connection<FileStore<D>>),
+}
+
+/// Why the store in files is not opened, and what is left of them: nothing where the system did not open them, or where
+/// tables were to be made in them and that failed.
 #[derive(Drop)]
 pub struct Refusal<D: Disk> {
     pub fault: OpenFault,
-    pub left: Option<Leftover<D>>,
+    pub left: Option<Untaken<D>>,
+}
+
+/// Why the tables of a connection over files are not taken.
+fn refusal_of<D: Disk + Drop>(not_taken: NotTaken<FileStore<D>>) -> Refusal<D>
+    ensures fault { result.fault ≡ not_taken.fault }
+    ensures left { IfSome result.left (λ left. IsTrue not_taken.is_unchanged × (left ≡ Untaken.Connected not_taken.conn)) }
+    ensures given { IsTrue not_taken.is_unchanged → IsSome result.left }
+{
+    let NotTaken {
+        fault,
+        conn,
+        is_unchanged,
+    } = not_taken;
+    let left = if is_unchanged {
+        Some(Untaken::Connected(conn))
+    } else {
+        None
+    };
+    Refusal { fault, left }
 }
 
 /// Opens the store in these files, or makes one where they hold none.
 ///
 /// # Errors
-/// When memory runs out, a file fails, or the files hold no store of an inventory.
+/// When memory runs out, a file fails, or the files hold no store of an inventory: they are then as they were.
 pub fn open_files<D: Disk + Drop>(
     alloc: Global,
     files: Files<D>,
@@ -37,27 +67,35 @@ pub fn open_files<D: Disk + Drop>(
     ensures autocommit { IfOk result (λ t. t.conn.in_transaction ≡ false) }
     ensures ready { IfOk result (λ t. IsReady (file_state t.conn)) }
     ensures found { IfOk result (λ t. HasCleanDisk (file_state t.conn) → HasFound (image_of D.Disk files) (file_state t.conn)) }
-    ensures left { IfErr result (λ e. IfSome e.left (IsLeftOf (image_of D.Disk files))) }
+    ensures left { IfErr result (λ e. IfSome e.left (IsLeftOf (image_of D.Disk files) (λ given. given ≡ files))) }
 {
-    let conn = match Connection::open_files(alloc, files, options) {
-        Ok(conn) => conn,
-        Err((error, left)) => {
-            return Err(Refusal {
-                fault: fault_of(error),
-                left: Some(left),
-            });
-        }
-    };
-    match over(alloc, conn) {
-        Ok(tables) => Ok(tables),
-        Err((fault, _)) => Err(Refusal { fault, left: None }),
+    match Connection::open_files(alloc, files, options) {
+        Ok(conn) => match over(alloc, conn) {
+            Ok(tables) => Ok(tables),
+            Err(not_taken) => Err(refusal_of(not_taken)),
+        },
+        Err((error, left)) => Err(Refusal {
+            fault: fault_of(error),
+            left: Some(Untaken::Refused(left)),
+        }),
+    }
+}
+
+/// What the kit's opening of a path left, if it opened the files.
+fn refused<D: Disk + Drop>(left: Option<Leftover<D>>) -> Option<Untaken<D>>
+    ensures { MatchOption left (result ≡ None) (λ l. result ≡ Some (Untaken.Refused l)) }
+{
+    match left {
+        Some(left) => Some(Untaken::Refused(left)),
+        None => None,
     }
 }
 
 /// Opens the store at a path, or makes one where there is none. `start` stands for what the files hold.
 ///
 /// # Errors
-/// When memory runs out, a file fails, another program has it, or it holds no store of an inventory.
+/// When memory runs out, a file fails, another program has it, or it holds no store of an inventory: the files are then
+/// as they were.
 pub fn open_file<S: Start>(
     rt: &HostRuntime,
     path: &str,
@@ -66,20 +104,17 @@ pub fn open_file<S: Start>(
     ensures autocommit { IfOk result (λ t. t.conn.in_transaction ≡ false) }
     ensures ready { IfOk result (λ t. IsReady (file_state t.conn)) }
     ensures found { IfOk result (λ t. HasCleanDisk (file_state t.conn) → HasFound (image_at S.Start) (file_state t.conn)) }
-    ensures left { IfErr result (λ e. IfSome e.left (IsLeftOf (image_at S.Start))) }
+    ensures left { IfErr result (λ e. IfSome e.left (IsLeftOf (image_at S.Start) (λ files. IsFresh true files.log × IsFresh false files.db))) }
 {
-    let conn = match Connection::open_from(rt, path, false, start) {
-        Ok(conn) => conn,
-        Err((error, left)) => {
-            return Err(Refusal {
-                fault: fault_of(error),
-                left,
-            });
-        }
-    };
-    match over(rt.alloc(), conn) {
-        Ok(tables) => Ok(tables),
-        Err((fault, _)) => Err(Refusal { fault, left: None }),
+    match Connection::open_from(rt, path, false, start) {
+        Ok(conn) => match over(rt.alloc(), conn) {
+            Ok(tables) => Ok(tables),
+            Err(not_taken) => Err(refusal_of(not_taken)),
+        },
+        Err((error, left)) => Err(Refusal {
+            fault: fault_of(error),
+            left: refused(left),
+        }),
     }
 }
 

@@ -5,9 +5,9 @@ ghost use Rattle.lrs_tables.specs.Schema.{inventory};
 ghost use Rattle.lrs_tables.specs.Making.{no_schema, up_to_edit};
 
 use crate::same::has_only;
-use lrs_tables::tables::{OpenFault, Tables};
+use lrs_tables::tables::Tables;
 use sqlite_schema::schema::Schema;
-use std::alloc::Global;
+use std::alloc::{AllocError, Global};
 
 /// How many of the tables version 1 has: all but the last.
 const OF_FIRST: usize = 11;
@@ -28,15 +28,14 @@ pub enum Known {
 /// The tables of version 2, as a store that is made defines them.
 ///
 /// # Errors
-/// When memory runs out.
-pub fn wanted(alloc: Global) -> Result<Schema, OpenFault>
+/// When memory runs out: making a store in memory fails for nothing else.
+pub fn wanted(alloc: Global) -> Result<Schema, AllocError>
     ensures { IfOk result (λ schema. schema ≡ inventory) }
 {
-    let made = Tables::in_memory(alloc)?;
-    match made.conn.schema().copy(alloc) {
-        Ok(schema) => Ok(schema),
-        Err(_) => Err(OpenFault::Memory),
-    }
+    let Ok(made) = Tables::in_memory(alloc) else {
+        return Err(AllocError);
+    };
+    made.conn.schema().copy(alloc)
 }
 
 /// Which tables the schema of a store has, beside those of version 2.

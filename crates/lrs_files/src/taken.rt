@@ -1,6 +1,6 @@
 //! A connection becomes a store of tables: they are made where there is none, and no row changes.
 
-ghost use Rattle.std.specs.Prelude.{◌≡◌, OnOk, IfOk, IfErr, IsTrue, false};
+ghost use Rattle.std.specs.Prelude.{◌≡◌, Ok, OnOk, IfOk, IfErr, IsTrue, false};
 ghost use Rattle.sqlite.specs.State.{HasCleanDisk, Survives};
 ghost use Rattle.sqlite.specs.Held.{state};
 ghost use Rattle.lrs_store.specs.Tables.{AreSame};
@@ -9,7 +9,7 @@ ghost use Rattle.lrs_tables.specs.Stored.{stored, LeavesStore};
 ghost use Rattle.lrs_tables.specs.Changing.{without_origins};
 ghost use Rattle.lrs_tables.specs.Making.{no_schema, up_to_edit};
 ghost use Rattle.lrs_tables.specs.Resting.{IsReady};
-ghost use Rattle.lrs_files.specs.Opening.{IsTaken, IsFound, HasOrigins, IsGrown};
+ghost use Rattle.lrs_files.specs.Opening.{IsTaken, IsFound, LeavesFound, HasOrigins, IsGrown};
 
 use crate::known::{Known, wanted, which};
 use lrs_tables::start::make_store;
@@ -101,15 +101,52 @@ fn grown<S: Alter>(mut conn: Connection<S>) -> Result<Tables<S>, (OpenFault, Con
     }
 }
 
+/// A connection whose tables are not taken, and why.
+#[derive(Drop)]
+pub struct NotTaken<S: Alter> {
+    pub fault: OpenFault,
+    pub conn: Connection<S>,
+    /// Whether nothing was written: its tables are no inventory's, or memory ran out before they were looked at.
+    pub is_unchanged: bool,
+}
+
+/// A connection as it was opened.
+fn unchanged<S: Alter>(fault: OpenFault, conn: Connection<S>) -> NotTaken<S>
+    requires found { IsFound (state S.Store conn) }
+    ensures same { result.conn ≡ conn }
+    ensures unchanged { IsTrue result.is_unchanged }
+    ensures left { LeavesFound (state S.Store conn) (state S.Store result.conn) }
+{
+    NotTaken {
+        fault,
+        conn,
+        is_unchanged: true,
+    }
+}
+
+/// The tables of a store that were to be made, if they were.
+fn unless_failed<S: Alter>(
+    made: Result<Tables<S>, (OpenFault, Connection<S>)>,
+) -> Result<Tables<S>, NotTaken<S>>
+    ensures ok { (t : _) → result ≡ Ok t → made ≡ Ok t }
+    ensures err { IfErr result (λ e. e.is_unchanged ≡ false) }
+{
+    match made {
+        Ok(tables) => Ok(tables),
+        Err((fault, conn)) => Err(NotTaken {
+            fault,
+            conn,
+            is_unchanged: false,
+        }),
+    }
+}
+
 /// The tables of a connection that was just opened. Where there is none, they are made in one transaction, with the
 /// row of the version; where those of version 1 are, the table of origins is made.
 ///
 /// # Errors
 /// When memory runs out, the store fails, or it has other tables: it is then as it was.
-pub fn over<S: Alter>(
-    alloc: Global,
-    conn: Connection<S>,
-) -> Result<Tables<S>, (OpenFault, Connection<S>)>
+pub fn over<S: Alter>(alloc: Global, conn: Connection<S>) -> Result<Tables<S>, NotTaken<S>>
     requires autocommit { conn.in_transaction ≡ false }
     requires found { IsFound (state S.Store conn) }
     ensures autocommit { IfOk result (λ t. t.conn.in_transaction ≡ false) }
@@ -117,16 +154,16 @@ pub fn over<S: Alter>(
     ensures ready { IfOk result (λ t. IsReady (state S.Store t.conn)) }
     ensures rows { IfOk result (λ t. IsTaken (state S.Store conn) (state S.Store t.conn)) }
     ensures same { (state S.Store conn).now.schema ≡ inventory → IfOk result (λ t. t.conn ≡ conn) }
-    ensures other { ((state S.Store conn).now.schema ≡ no_schema → ⊥) → ((state S.Store conn).now.schema ≡ up_to_edit → ⊥) → IfErr result (λ e. e.1 ≡ conn) }
+    ensures other { ((state S.Store conn).now.schema ≡ no_schema → ⊥) → ((state S.Store conn).now.schema ≡ up_to_edit → ⊥) → IfErr result (λ e. IsTrue e.is_unchanged) }
+    ensures unchanged { IfErr result (λ e. IsTrue e.is_unchanged → (e.conn ≡ conn) × LeavesFound (state S.Store conn) (state S.Store e.conn)) }
 {
-    let wanted = match wanted(alloc) {
-        Ok(wanted) => wanted,
-        Err(fault) => return Err((fault, conn)),
+    let Ok(wanted) = wanted(alloc) else {
+        return Err(unchanged(OpenFault::Memory, conn));
     };
     match which(conn.schema(), &wanted) {
         Known::Second => Ok(kept(conn)),
-        Known::Nothing => made(conn),
-        Known::First => grown(conn),
-        Known::Other => Err((OpenFault::Store, conn)),
+        Known::Nothing => unless_failed(made(conn)),
+        Known::First => unless_failed(grown(conn)),
+        Known::Other => Err(unchanged(OpenFault::Store, conn)),
     }
 }

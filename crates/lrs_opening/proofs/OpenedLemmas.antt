@@ -1,7 +1,9 @@
 -- The content of the rows that files held is kept.
-use Rattle.std.proofs.Common.{Option, IfSome, Result, refl, sym, subst, ◌∙◌}
+use Rattle.std.proofs.Common.{inl, inr, Option, None, Some, IfSome, Result, refl, sym, subst, ◌∙◌, arith}
 use Rattle.sqlite_disk.specs.declared.Disk.{Ghosts}
-use Rattle.sqlite_trees.proofs.Doubt.{clean_of}
+use Rattle.sqlite_disk.specs.declared.Files.{Files}
+use Rattle.sqlite_trees.proofs.Doubt.{clean_of, no_doubt}
+use Rattle.sqlite_store.specs.FileStore.{view}
 use Rattle.sqlite_wal.specs.Recovery as wal
 use Rattle.sqlite.specs.State.{State, HasCleanDisk}
 use Rattle.lrs_machine.specs.declared.image.Image.{Image}
@@ -14,13 +16,13 @@ use Rattle.lrs_tables.specs.Starting.{new_rows, NewRowsHoldNothing}
 use Rattle.lrs_tables.specs.Changing.{without_origins}
 use Rattle.lrs_tables.specs.Holding.{HoldsOnly}
 use Rattle.lrs_table_keeper.specs.Holding.{MayHold}
-use Rattle.sqlite.specs.declared.file.Leftover.{Leftover}
 use Rattle.sqlite.specs.declared.file.Leftover.TheVariants as leftover
+use Rattle.lrs_files.specs.declared.files.Untaken.{Untaken}
+use Rattle.lrs_files.specs.declared.files.Untaken.TheVariants as untaken
 use Rattle.lrs_files.specs.Found.{HasFound, IsLeftOf}
-use Rattle.lrs_opening.specs.declared.opening.Left.{Left}
-use Rattle.lrs_opening.specs.declared.opening.Left.TheVariants as left
-use Rattle.lrs_opening.specs.Refused.{HoldsUnsound, WereJudged}
 use Rattle.lrs_opening.specs.Opened.{HoldsContent, HasOpened}
+use Rattle.lrs_opening.specs.declared.opening.Left.{Left}
+use Rattle.lrs_opening.specs.Refused.{WasLookedAt, IsHandedOn, HoldsStill}
 
 hold_nothing : NewRowsHoldNothing
 unfolding content_of
@@ -48,12 +50,18 @@ has_opened image old new found content = record {
 pub holds_still : (image : wal.Image) (old new : State) → (HasCleanDisk old → HasFound image old) → ((c : Result Image Table) → MayHold new c → MayHold old c) → (c : Result Image Table) → MayHold new c → HasOpened image new
 holds_still image old new found content c may = has_opened image old new (found (content c may).0) content
 
--- what was left of files and judged was theirs
-pub holds_unsound : {D : Type 0} {g : Ghosts D} (image : wal.Image) (t : Table) (old : Option (Leftover D g)) (new : Left D g) → WereJudged t old new → IfSome old (IsLeftOf image) → HoldsUnsound image t new
-holds_unsound image t old new judged left_of = subst (HoldsUnsound image t) (sym judged.is)
-    (subst (λ it. HoldsUnsound image t (left.Refused it)) (sym judged.judged.is) (λ clean db may.
-    let it = judged.judged.judged clean in
-    (was (clean_of _ it.clean) db (it.outcomes db may), it.unsound db may)))
-  where
-    was : IsLeftOf image (leftover.Store judged.judged.before)
-    was = subst (IsLeftOf image) judged.judged.was (subst (λ o. IfSome o (IsLeftOf image)) judged.was left_of)
+module _ {D : Type 0} {g : Ghosts D} (image : wal.Image) (Began : Files D → Type 0) where
+  -- a store that was looked at holds what it held
+  still_left : (old new : Untaken D g) → WasLookedAt old new → IsLeftOf image Began old → IsLeftOf image Began new
+  still_left old new looked was = subst (IsLeftOf image Began) (sym looked.is) (λ clean.
+      let none = no_doubt (view looked.after).is_clean clean in
+      let it = held (clean_of (view looked.before).is_clean (omega (arith, none, looked.clean))) in
+      (it.0, it.1, it.2, λ db may. it.3 db (looked.outcomes db may)))
+    where
+      held : IsLeftOf image Began (untaken.Refused (leftover.Store looked.before))
+      held = subst (IsLeftOf image Began) looked.was was
+
+  pub still_refused : (o : Option (Untaken D g)) (l : Left D g) → IsHandedOn o l → IfSome o (IsLeftOf image Began) → HoldsStill image Began l
+  still_refused None l is was = subst (HoldsStill image Began) (sym is) tt
+  still_refused (Some old) l (new, is, inl same) was = subst (HoldsStill image Began) (sym is) (subst (IsLeftOf image Began) (sym same) was)
+  still_refused (Some old) l (new, is, inr looked) was = subst (HoldsStill image Began) (sym is) (still_left old new looked was)

@@ -1,48 +1,67 @@
 -- Files that no keeper takes.
-use Rattle.std.specs.Prelude.{◌≡◌, Option, Some, Result, Err, ⊤}
+use Rattle.std.specs.Prelude.{◌≡◌, ◌≤◌, ◌⊎◌, Option, None, Some, Result, Err, ⊤}
 use Rattle.sqlite_disk.specs.declared.Disk.{Ghosts}
+use Rattle.sqlite_disk.specs.declared.Files.{Files}
 use Rattle.sqlite_trees.specs.Tree.{Trees}
-use Rattle.sqlite_trees.specs.View.{IsClean}
+use Rattle.sqlite_trees.specs.View.{doubt}
 use Rattle.sqlite_wal.specs.Recovery as wal
 use Rattle.sqlite_store.specs.declared.store.FileStore.{FileStore}
-use Rattle.sqlite_store.specs.FileStore.{view, recovers}
-use Rattle.sqlite.specs.declared.file.Leftover.{Leftover}
+use Rattle.sqlite_store.specs.FileStore.{view, faults, recovers}
 use Rattle.sqlite.specs.declared.file.Leftover.TheVariants as leftover
-use Rattle.sqlite.specs.Files.{AreFoundIn, file_state}
+use Rattle.sqlite.specs.Files.{file_state}
 use Rattle.lrs_machine.specs.declared.image.Image.{Image}
 use Rattle.lrs_machine.specs.declared.table.Table.{Table}
-use Rattle.lrs_refused.specs.Judged.{IsUnsoundIn, IsJudged}
+use Rattle.lrs_files.specs.declared.files.Untaken.{Untaken}
+use Rattle.lrs_files.specs.declared.files.Untaken.TheVariants as untaken
+use Rattle.lrs_files.specs.Found.{IsLeftOf}
+use Rattle.lrs_refused.specs.Judged.{IsUnsoundThere, IsSoundThere}
 use Rattle.lrs_table_keeper.specs.Holding.{MayHold}
 use Rattle.lrs_opening.specs.declared.opening.Left.{Left}
 use Rattle.lrs_opening.specs.declared.opening.Left.TheVariants as left
 use Rattle.lrs_opening.specs.Opened.{HasOpened}
 
--- This table is the first unsound one of files that are left, if their disk is clean: of whatever a later opening may find. A store that no connection takes had it in the files; where a connection took them, HoldsStill says what they held.
-abbrev pub HoldsUnsound : {D : Type 0} {g : Ghosts D} → wal.Image → Table → Left D g → Type 0
-HoldsUnsound image t (left.Refused (leftover.Store store)) = IsClean (view store) → (db : Trees) → recovers store db → AreFoundIn image db × IsUnsoundIn t db
-HoldsUnsound image t (left.Refused (leftover.Unopened files)) = ⊥
-HoldsUnsound image t (left.Refused (leftover.Files files)) = ⊥
-HoldsUnsound image t (left.Opened conn) = (c : Result Image Table) → MayHold (file_state conn) c → c ≡ Err t
-HoldsUnsound image t left.Nothing = ⊥
+-- a store that no connection takes is left, and this is its first unsound table
+abbrev pub IsUnsoundLeft : {D : Type 0} {g : Ghosts D} → Table → Untaken D g → Type 0
+IsUnsoundLeft t (untaken.Refused (leftover.Store store)) = IsUnsoundThere view recovers t store
+IsUnsoundLeft t (untaken.Refused (leftover.Unopened files)) = ⊥
+IsUnsoundLeft t (untaken.Refused (leftover.Files files)) = ⊥
+IsUnsoundLeft t (untaken.Connected conn) = ⊥
 
--- where a connection took the files, they keep the content that they had
-abbrev pub HoldsStill : {D : Type 0} {g : Ghosts D} → wal.Image → Left D g → Type 0
-HoldsStill image (left.Opened conn) = (c : Result Image Table) → MayHold (file_state conn) c → HasOpened image (file_state conn)
-HoldsStill image (left.Refused refused) = ⊤
-HoldsStill image left.Nothing = ⊤
+-- if a store that no connection takes is left, no table of an inventory is unsound in it
+abbrev pub IsSoundLeft : {D : Type 0} {g : Ghosts D} → Untaken D g → Type 0
+IsSoundLeft (untaken.Refused (leftover.Store store)) = IsSoundThere view faults recovers store
+IsSoundLeft (untaken.Refused (leftover.Unopened files)) = ⊤
+IsSoundLeft (untaken.Refused (leftover.Files files)) = ⊤
+IsSoundLeft (untaken.Connected conn) = ⊤
 
--- a store was left, and was judged
-pub record WasJudged {D : Type 0} {g : Ghosts D} (t : Table) (old new : Leftover D g) : Type 0 where
+-- this table is the first unsound one of whatever a later opening may find in what is left
+abbrev pub HoldsUnsound : {D : Type 0} {g : Ghosts D} → Table → Left D g → Type 0
+HoldsUnsound t (left.Untaken untaken) = IsUnsoundLeft t untaken
+HoldsUnsound t (left.Opened conn) = (c : Result Image Table) → MayHold (file_state conn) c → c ≡ Err t
+HoldsUnsound t left.Nothing = ⊥
+
+-- where no tables were taken, none is unsound
+abbrev pub HoldsNoUnsound : {D : Type 0} {g : Ghosts D} → Left D g → Type 0
+HoldsNoUnsound (left.Untaken untaken) = IsSoundLeft untaken
+HoldsNoUnsound (left.Opened conn) = ⊤
+HoldsNoUnsound left.Nothing = ⊤
+
+-- What is left holds what the files held with which the opening began: their tables were not taken, or they were, and the content is what it was.
+abbrev pub HoldsStill : {D : Type 0} {g : Ghosts D} → wal.Image → (Files D → Type 0) → Left D g → Type 0
+HoldsStill image Began (left.Untaken untaken) = IsLeftOf image Began untaken
+HoldsStill image Began (left.Opened conn) = (c : Result Image Table) → MayHold (file_state conn) c → HasOpened image (file_state conn)
+HoldsStill image Began left.Nothing = ⊤
+
+-- A store that is left was looked at: no doubt of its disk is forgotten, and a later opening finds there what it might have found before.
+pub record WasLookedAt {D : Type 0} {g : Ghosts D} (old new : Untaken D g) : Type 0 where
   pub before : FileStore D g
   pub after : FileStore D g
-  pub was : old ≡ leftover.Store before
-  pub is : new ≡ leftover.Store after
-  pub judged : IsClean (view after) → IsJudged view recovers t before after
+  pub was : old ≡ untaken.Refused (leftover.Store before)
+  pub is : new ≡ untaken.Refused (leftover.Store after)
+  pub clean : doubt (view before).is_clean ≤ doubt (view after).is_clean
+  pub outcomes : (db : Trees) → recovers after db → recovers before db
 
--- so it is, where anything was left
-pub record WereJudged {D : Type 0} {g : Ghosts D} (t : Table) (old : Option (Leftover D g)) (new : Left D g) : Type 0 where
-  pub before : Leftover D g
-  pub after : Leftover D g
-  pub was : old ≡ Some before
-  pub is : new ≡ left.Refused after
-  pub judged : WasJudged t before after
+-- what was left of files whose tables were not taken is left, and was at most looked at
+abbrev pub IsHandedOn : {D : Type 0} {g : Ghosts D} → Option (Untaken D g) → Left D g → Type 0
+IsHandedOn None l = l ≡ left.Nothing
+IsHandedOn {D = D} {g = g} (Some old) l = (new : Untaken D g) × (l ≡ left.Untaken new) × ((new ≡ old) ⊎ WasLookedAt old new)

@@ -1,7 +1,7 @@
 //! A keeper over a store in files: opened, and closed.
 
-ghost use Rattle.std.specs.Prelude.{◌≡◌, false, IfOk, IfErr, IsTrue};
-ghost use Rattle.sqlite_wal.specs.Recovery as wal;
+ghost use Rattle.std.specs.Prelude.{◌≡◌, ◌⊎◌, false, true, IfOk, IfErr, IsTrue};
+ghost use Rattle.sqlite_std_file.specs.File.{IsFresh};
 ghost use Rattle.sqlite_wal.specs.Files.{image_at};
 ghost use Rattle.sqlite_wal.specs.Reads.{AreClean};
 ghost use Rattle.sqlite.specs.State.{HasCleanDisk};
@@ -10,9 +10,9 @@ ghost use Rattle.sqlite.specs.Closing.{IsCopied};
 ghost use Rattle.lrs_table_keeper.specs.Opening.{IsSecond};
 ghost use Rattle.lrs_machine.specs.declared.table.Table.{Table};
 ghost use Rattle.lrs_opening.specs.Opened.{HasOpened};
-ghost use Rattle.lrs_opening.specs.Refused.{HoldsUnsound, HoldsStill, WasJudged, WereJudged};
+ghost use Rattle.lrs_opening.specs.Refused.{IsUnsoundLeft, IsSoundLeft, WasLookedAt, IsHandedOn, HoldsUnsound, HoldsNoUnsound, HoldsStill};
 
-use lrs_files::files::{CloseFault, Refusal, close_files, open_file, open_files};
+use lrs_files::files::{CloseFault, Refusal, Untaken, close_files, open_file, open_files};
 use lrs_keep::LoadFault;
 use lrs_refused::judging::judge;
 use lrs_table_keeper::{ReadImage, TableKeeper};
@@ -37,11 +37,11 @@ fn fault_of(fault: OpenFault) -> LoadFault
 /// What an opening that failed gives back of the files.
 #[derive(Drop)]
 pub enum Left<D: Disk> {
-    /// What the kit's `sqlite` gave back, which refused them.
-    Refused(Leftover<D>),
-    /// The connection that opened them: their tables are an inventory's, their rows no keeper's.
+    /// What is left of files whose tables are not taken.
+    Untaken(Untaken<D>),
+    /// The connection that took their tables: the rows are no keeper's.
     Opened(Connection<FileStore<D>>),
-    /// Nothing: they hold other tables, or failed before they gave anything.
+    /// Nothing: the system did not open them, or tables were to be made in them, and that failed.
     Nothing,
 }
 
@@ -52,18 +52,21 @@ pub struct NotOpened<D: Disk> {
     pub left: Left<D>,
 }
 
-/// Why no keeper is there, by what the kit's opening left. It opens a store only if each row obeys its table, references
-/// too; where one does not, the rows are read without a connection, and their first unsound table is named.
+/// Why no keeper is there, by what is left of the files. The kit's `sqlite` opens a store only if each row obeys its
+/// table, references too; where one does not, the rows are read without a connection, and their first unsound table
+/// is named.
 fn judge_left<D: Disk + Drop, R: ReadImage>(
     alloc: Global,
-    left: &mut Leftover<D>,
+    left: &mut Untaken<D>,
     reader: &R,
 ) -> LoadFault
-    ensures { (t : Table) → result ≡ LoadFault.Unsound t → WasJudged t left.old left.new }
+    ensures unsound { (t : Table) → result ≡ LoadFault.Unsound t → IsUnsoundLeft t left.new }
+    ensures store { result ≡ LoadFault.Store → IsSoundLeft left.new }
+    ensures still { (left.new ≡ left.old) ⊎ WasLookedAt left.old left.new }
 {
     match left {
-        Leftover::Store(store) => judge(alloc, store, reader),
-        Leftover::Files(_) | Leftover::Unopened(_) => LoadFault::Store,
+        Untaken::Refused(Leftover::Store(store)) => judge(alloc, store, reader),
+        Untaken::Refused(_) | Untaken::Connected(_) => LoadFault::Store,
     }
 }
 
@@ -73,8 +76,9 @@ fn not_opened<D: Disk + Drop, R: ReadImage>(
     refusal: Refusal<D>,
     reader: &R,
 ) -> NotOpened<D>
-    ensures judged { (t : Table) → result.fault ≡ LoadFault.Unsound t → WereJudged t refusal.left result.left }
-    ensures still { (image : wal.Image) → HoldsStill image result.left }
+    ensures unsound { (t : Table) → result.fault ≡ LoadFault.Unsound t → HoldsUnsound t result.left }
+    ensures store { result.fault ≡ LoadFault.Store → HoldsNoUnsound result.left }
+    ensures still { IsHandedOn refusal.left result.left }
 {
     let Refusal { fault, left } = refusal;
     match (fault, left) {
@@ -82,12 +86,12 @@ fn not_opened<D: Disk + Drop, R: ReadImage>(
             let fault = judge_left(alloc, &mut left, reader);
             NotOpened {
                 fault,
-                left: Left::Refused(left),
+                left: Left::Untaken(left),
             }
         }
         (OpenFault::Memory, Some(left)) => NotOpened {
             fault: LoadFault::Memory,
-            left: Left::Refused(left),
+            left: Left::Untaken(left),
         },
         (fault, None) => NotOpened {
             fault: fault_of(fault),
@@ -100,7 +104,8 @@ fn not_opened<D: Disk + Drop, R: ReadImage>(
 ///
 /// # Errors
 /// `Store` if a file fails or the files hold no store of an inventory, `Unsound` with the first unsound table of
-/// rows that break a rule of their tables or are not of version 2, and `Memory` if memory runs out.
+/// rows that break a rule of their tables or are not of version 2, and `Memory` if memory runs out. What is left of
+/// the files holds what they held.
 pub fn open_keeper_files<D: Disk + Drop, R: ReadImage + Drop>(
     alloc: Global,
     files: Files<D>,
@@ -113,8 +118,9 @@ pub fn open_keeper_files<D: Disk + Drop, R: ReadImage + Drop>(
     ensures usable { IfOk result (λ k. k.is_broken ≡ false) }
     ensures second { IfOk result (λ k. IsSecond (file_state k.conn)) }
     ensures found { IfOk result (λ k. HasCleanDisk (file_state k.conn) → HasOpened (image_of D.Disk files) (file_state k.conn)) }
-    ensures unsound { IfErr result (λ e. (t : Table) → e.fault ≡ LoadFault.Unsound t → HoldsUnsound (image_of D.Disk files) t e.left) }
-    ensures still { IfErr result (λ e. HoldsStill (image_of D.Disk files) e.left) }
+    ensures unsound { IfErr result (λ e. (t : Table) → e.fault ≡ LoadFault.Unsound t → HoldsUnsound t e.left) }
+    ensures store { IfErr result (λ e. e.fault ≡ LoadFault.Store → HoldsNoUnsound e.left) }
+    ensures still { IfErr result (λ e. HoldsStill (image_of D.Disk files) (λ given. given ≡ files) e.left) }
 {
     let tables = match open_files(alloc, files, options) {
         Ok(tables) => tables,
@@ -135,6 +141,7 @@ pub fn open_keeper_files<D: Disk + Drop, R: ReadImage + Drop>(
 /// # Errors
 /// `Store` if a file fails, another program has it, or it holds no store of an inventory, `Unsound` with the first
 /// unsound table of rows that break a rule of their tables or are not of version 2, and `Memory` if memory runs out.
+/// What is left of the files holds what they held.
 pub fn open_keeper<S: Start, R: ReadImage + Drop>(
     rt: &HostRuntime,
     path: &str,
@@ -145,8 +152,9 @@ pub fn open_keeper<S: Start, R: ReadImage + Drop>(
     ensures usable { IfOk result (λ k. k.is_broken ≡ false) }
     ensures second { IfOk result (λ k. IsSecond (file_state k.conn)) }
     ensures found { IfOk result (λ k. HasCleanDisk (file_state k.conn) → HasOpened (image_at S.Start) (file_state k.conn)) }
-    ensures unsound { IfErr result (λ e. (t : Table) → e.fault ≡ LoadFault.Unsound t → HoldsUnsound (image_at S.Start) t e.left) }
-    ensures still { IfErr result (λ e. HoldsStill (image_at S.Start) e.left) }
+    ensures unsound { IfErr result (λ e. (t : Table) → e.fault ≡ LoadFault.Unsound t → HoldsUnsound t e.left) }
+    ensures store { IfErr result (λ e. e.fault ≡ LoadFault.Store → HoldsNoUnsound e.left) }
+    ensures still { IfErr result (λ e. HoldsStill (image_at S.Start) (λ files. IsFresh true files.log × IsFresh false files.db) e.left) }
 {
     let tables = match open_file(rt, path, start) {
         Ok(tables) => tables,

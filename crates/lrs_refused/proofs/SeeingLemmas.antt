@@ -1,7 +1,7 @@
 -- A store that is read, and then once more.
-use Rattle.std.proofs.Common.{◌≡◌, false, sym, ap, subst, ◌∙◌, arith}
+use Rattle.std.proofs.Common.{ap, subst, ◌∙◌, arith}
 use Rattle.sqlite_trees.specs.Tree.{Trees}
-use Rattle.sqlite_trees.specs.View.{View, doubt, IsClean}
+use Rattle.sqlite_trees.specs.View.{View, IsClean}
 use Rattle.lrs_refused.specs.Seeing.{HasSeen}
 
 module _ {S : Type 0} {view : S → View} {recovers : S → Trees → Type 0} where

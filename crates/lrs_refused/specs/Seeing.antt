@@ -1,7 +1,9 @@
 -- Rows that are read from the trees of a store.
-use Rattle.std.specs.Prelude.{◌≡◌, ◌≤◌, false}
+use Rattle.std.specs.Prelude.{◌≡◌, ◌≤◌, ◌⊎◌, ℕ, false, IsTrue}
 use Rattle.sqlite_trees.specs.Tree.{Trees}
 use Rattle.sqlite_trees.specs.View.{View, doubt, IsClean}
+use Rattle.sqlite_trees.specs.declared.error.StoreError.{StoreError}
+use Rattle.sqlite_trees.specs.declared.error.StoreError.TheVariants.{OutOfMemory}
 use Rattle.sqlite_exec.specs.Calls.{OnlyReads}
 use Rattle.lrs_tables.specs.Stored.{rows_of, version_places, link_places, class_places, asset_places, piece_places, mark_places, ref_places, span_places, entered_places, gone_places, edit_places, origin_places}
 use Rattle.lrs_table_keeper.specs.declared.rows.NamedRows.{NamedRows}
@@ -15,6 +17,17 @@ pub record HasSeen {S : Type 0} (view : S → View) (recovers : S → Trees → 
   pub same : IsClean (view new) → OnlyReads (view old) (view new)
   pub sound : IsClean (view new) → (view old).is_broken ≡ false
   pub seen : IsClean (view new) → P (view old).trees
+
+-- why a store is not read whose disk has not failed: memory ran out, or the store was broken
+abbrev pub StopsFor : View → StoreError → Type 0
+StopsFor v e = (e ≡ OutOfMemory) ⊎ IsTrue v.is_broken
+
+-- A store was not read: no doubt of its disk is forgotten, a crash has no new outcome, it was not shut before if it is open now, and if its disk has not failed there is a reason.
+pub record HasStopped {S : Type 0} (view : S → View) (faults : S → ℕ) (recovers : S → Trees → Type 0) (old new : S) (e : StoreError) : Type 0 where
+  pub clean : doubt (view old).is_clean ≤ doubt (view new).is_clean
+  pub outcomes : (db : Trees) → recovers new db → recovers old db
+  pub was_open : IsClean (view new) → IsTrue (view new).is_open → IsTrue (view old).is_open
+  pub cause : IsClean (view new) → faults new ≡ 0 → StopsFor (view old) e
 
 -- these are the rows of the tables
 

@@ -1,9 +1,9 @@
 //! The rows of one table, read from its tree.
 
-ghost use Rattle.std.specs.Prelude.{◌≡◌, map, IfOk};
+ghost use Rattle.std.specs.Prelude.{◌≡◌, map, IfOk, IfErr};
 ghost use Rattle.sqlite_value.specs.Order.{column};
 ghost use Rattle.lrs_tables.specs.Stored.{rows_of};
-ghost use Rattle.lrs_refused.specs.Seeing.{HasSeen};
+ghost use Rattle.lrs_refused.specs.Seeing.{HasSeen, HasStopped};
 
 use sqlite::Row;
 use sqlite_exec::check::all_rows;
@@ -53,7 +53,8 @@ pub(crate) fn read_tree<S: Store>(
     tree: u32,
     places: &[usize],
 ) -> Result<Vec<Row>, StoreError>
-    ensures { IfOk result (λ rows. HasSeen S.Store.view S.Store.recovers (λ db. rows.items ≡ rows_of db tree places.now) store.old store.new) }
+    ensures seen { IfOk result (λ rows. HasSeen S.Store.view S.Store.recovers (λ db. rows.items ≡ rows_of db tree places.now) store.old store.new) }
+    ensures err { IfErr result (HasStopped S.Store.view S.Store.faults S.Store.recovers store.old store.new) }
 {
     let mut work = Workspace::new(alloc);
     let rows = all_rows(store, &mut work, tree)?;

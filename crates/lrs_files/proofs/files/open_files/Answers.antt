@@ -1,5 +1,6 @@
+use Rattle.std.proofs.Common.{◌≡◌}
 use Rattle.sqlite.specs.Files.{file_state, image_of}
-use Rattle.lrs_files.proofs.FoundLemmas.{opened_found, has_found, left_over}
+use Rattle.lrs_files.proofs.FoundLemmas.{opened_found, has_found, left_over, left_connected}
 use Rattle.lrs_files.proofs.files.open_files.Goals as goal
 
 pub over-requires-clause-found : goal.over-requires-clause-found
@@ -13,6 +14,11 @@ returns-in-Ok-over-clause-found g c clean =
     let opened = c.in-Ok.ensures.opened early in
     let found = c.in-Ok.ensures.found early in
     has_found (image_of g.D.Disk c.args.files) (file_state c.in-Ok.conn) (file_state c.in-Ok-over.tables.conn) found.reads found.holds (opened.1 opened.0.is_open).0 opened.0.clean c.in-Ok-over.ensures.rows
+
+pub returns-in-Err-over-clause-left : goal.returns-in-Err-over-clause-left
+returns-in-Err-over-clause-left g c =
+    left_connected (image_of g.D.Disk c.args.files) (λ given. given ≡ c.args.files) c.in-Ok.conn c.in-Err-over.not_taken.conn c.in-Err-over.not_taken.is_unchanged c.refusal_of.result.left
+    (λ clean. (c.in-Ok.ensures.found clean).reads) c.in-Err-over.ensures.unchanged c.refusal_of.ensures.left
 
 pub returns-in-Err-clause-left : goal.returns-in-Err-clause-left
 returns-in-Err-clause-left g c = left_over c.args.files c.in-Err.left c.in-Err.ensures.unharmed

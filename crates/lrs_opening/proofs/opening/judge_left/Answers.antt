@@ -1,11 +1,13 @@
-use Rattle.std.proofs.Common.{refl}
+use Rattle.std.proofs.Common.{inr, refl, ap, ◌∙◌}
+use Rattle.lrs_files.specs.declared.files.Untaken.TheVariants as untaken
 use Rattle.lrs_opening.proofs.opening.judge_left.Goals as goal
 
-pub returns-in-Store : goal.returns-in-Store
-returns-in-Store g c t is = record {
-  before = c.in-Store.store;
+pub returns-in-Refused-Store-clause-still : goal.returns-in-Refused-Store-clause-still
+returns-in-Refused-Store-clause-still g c = inr (record {
+  before = c.in-Refused-Store.store;
   after = c.judge.new.store;
-  was = c.in-Store.is;
+  was = c.in-Refused-Store.is ∙ ap (λ l. untaken.Refused l) c.in-Refused-Store.field-0-is;
   is = refl;
-  judged = λ clean. c.judge.ensures.unsound t is clean;
-}
+  clean = c.judge.ensures.quiet;
+  outcomes = c.judge.ensures.outcomes;
+})

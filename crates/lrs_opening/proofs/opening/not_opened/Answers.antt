@@ -1,17 +1,10 @@
-use Rattle.std.proofs.Common.{refl}
+use Rattle.std.proofs.Common.{inl, refl, sym, subst}
+use Rattle.lrs_opening.specs.declared.opening.Left.TheVariants as left
+use Rattle.lrs_opening.specs.Refused.{IsHandedOn}
 use Rattle.lrs_opening.proofs.opening.not_opened.Goals as goal
 
-pub returns-in-Store-Some : goal.returns-in-Store-Some
-returns-in-Store-Some g c = record {
-  judged = λ t is. record {
-    before = c.in-Store-Some.left;
-    after = c.judge_left-fault.new.left;
-    was = c.in-Store-Some.is-1;
-    is = refl;
-    judged = c.judge_left-fault.ensures t is;
-  };
-  still = λ image. tt;
-}
+pub returns-in-Store-Some-clause-still : goal.returns-in-Store-Some-clause-still
+returns-in-Store-Some-clause-still g c = subst (λ o. IsHandedOn o (left.Untaken c.judge_left-fault.new.left)) (sym c.in-Store-Some.is-1) (c.judge_left-fault.new.left, refl, c.judge_left-fault.ensures.still)
 
-pub returns-in_default-None-clause-judged : goal.returns-in_default-None-clause-judged
-returns-in_default-None-clause-judged g c t is = absurd (c.fault_of.ensures.unnamed t is)
+pub returns-in-Memory-Some-clause-still : goal.returns-in-Memory-Some-clause-still
+returns-in-Memory-Some-clause-still g c = subst (λ o. IsHandedOn o (left.Untaken c.in-Memory-Some.left)) (sym c.in-Memory-Some.is-1) (c.in-Memory-Some.left, refl, inl refl)

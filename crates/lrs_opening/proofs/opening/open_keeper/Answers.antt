@@ -1,17 +1,16 @@
+use Rattle.std.proofs.Common.{true, false}
+use Rattle.sqlite_std_file.specs.File.{IsFresh}
 use Rattle.sqlite_wal.specs.Files.{image_at}
 use Rattle.sqlite.specs.Files.{file_state}
-use Rattle.lrs_opening.proofs.OpenedLemmas.{has_opened, holds_still, holds_unsound}
+use Rattle.lrs_opening.proofs.OpenedLemmas.{has_opened, holds_still, still_refused}
 use Rattle.lrs_opening.proofs.opening.open_keeper.Goals as goal
 
 pub returns-in-Ok-open-clause-found : goal.returns-in-Ok-open-clause-found
 returns-in-Ok-open-clause-found g c clean =
     has_opened (image_at g.S.Start) (file_state c.in-Ok.tables.conn) (file_state c.in-Ok-open.keeper.conn) (c.in-Ok.ensures.found (c.in-Ok-open.ensures.clean clean)) c.in-Ok-open.ensures.content
 
-pub returns-in-Err-clause-unsound : goal.returns-in-Err-clause-unsound
-returns-in-Err-clause-unsound g c t is = holds_unsound (image_at g.S.Start) t c.in-Err.refusal.left c.not_opened.result.left (c.not_opened.ensures.judged t is) c.in-Err.ensures.left
-
 pub returns-in-Err-open-clause-still : goal.returns-in-Err-open-clause-still
 returns-in-Err-open-clause-still g c = holds_still (image_at g.S.Start) (file_state c.in-Ok.tables.conn) (file_state c.in-Err-open.conn) c.in-Ok.ensures.found c.in-Err-open.ensures.err
 
 pub returns-in-Err-clause-still : goal.returns-in-Err-clause-still
-returns-in-Err-clause-still g c = c.not_opened.ensures.still (image_at g.S.Start)
+returns-in-Err-clause-still g c = still_refused (image_at g.S.Start) (λ files. IsFresh true files.log × IsFresh false files.db) c.in-Err.refusal.left c.not_opened.result.left c.not_opened.ensures.still c.in-Err.ensures.left
