@@ -246,6 +246,23 @@ def test_the_first_unsound_table_is_named():
             refuses(path, f"Unsound:{table}")
 
 
+def test_the_first_unsound_table_of_the_first_version_is_named():
+    """The rows stay as they are, whether the store has the table of origins or not; a reference to a row that is gone is told like any other."""
+    for table, text in UNSOUND:
+        if table not in ("version", "origin"):
+            with folder() as path:
+                make_full(path)
+                change(path, "DELETE FROM origin", "UPDATE version SET v = 1", text)
+                before = rows_of(path)
+                faults(edit(path, FIRST), f"Unsound:{table}")
+                assert rows_of(path) == before, text
+            with folder() as path:
+                make_full(path)
+                as_first(path)
+                change(path, text)
+                faults(edit(path, FIRST), f"Unsound:{table}")
+
+
 def test_an_unsound_table_is_named_before_a_later_one():
     for table, texts in (
         ("class", ["UPDATE class SET kind = 3 WHERE name = 'SIGN'", "UPDATE asset SET class = 'ROAD' WHERE number = 10"]),
