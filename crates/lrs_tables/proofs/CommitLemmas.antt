@@ -2,17 +2,15 @@
 use Rattle.std.proofs.Common.{◌≡◌, ℕ, ◌+◌, ◌<◌, List, [], ◌∷◌, ◌++◌, length, IsTrue, true, refl, sym, subst, arith}
 use Rattle.std.specs.List.{AllByRecursion}
 use Rattle.sqlite_trees.specs.declared.store.Store.{Ghosts}
-use Rattle.sqlite_trees.specs.Tree.{Trees}
 use Rattle.sqlite.specs.Held.{Held, state}
 use Rattle.sqlite.specs.State.{State, HasCleanDisk, Survives}
-use Rattle.sqlite.proofs.StateLemmas.{survives_then}
-use Rattle.sqlite.proofs.Callers.{survives_begin}
 use Rattle.lrs_keep.specs.declared.change.Change.{Change}
 use Rattle.lrs_store.specs.Tables.{Tables}
 use Rattle.lrs_tables.specs.Stored.{stored, IsWriting, Makes}
 use Rattle.lrs_tables.specs.Writing.{AreWritten, Writes, WritesEach}
 use Rattle.lrs_tables.specs.Entries.{IsEntry, with_entries}
 use Rattle.lrs_tables.proofs.Entering.{entries_written}
+use Rattle.lrs_tables.proofs.Transactions.{survives_transaction}
 use Rattle.lrs_tables.specs.Resting.{IsReady}
 
 -- changes that are written of what others left
@@ -54,20 +52,8 @@ begins g old ready clean = record {
 pub crash : {S : Type 0} (g : Ghosts S) (old tx mid : Held S) (last : State) (n : ℕ) (cs : List Change) → 0 < length cs → tx ≡ record old { in_transaction = true } → IsReady (state g old)
     → Survives (state g tx) (state g mid) (λ _. ⊥) → (HasCleanDisk (state g mid) → IsWriting (state g tx) → WritesEach n cs (state g tx) (state g mid)) → Survives (state g mid) last (λ db. db ≡ (state g mid).now.trees)
     → Survives (state g old) last (λ db. IsTrue (state g old).is_open × AreWritten n cs (stored (state g old).now.trees) (stored db))
-crash {S} g old tx mid last n cs some is ready one writes two = by tx (sym is) one writes
-  where
-    P : Trees → Type 0
-    P db = IsTrue (state g old).is_open × AreWritten n cs (stored (state g old).now.trees) (stored db)
-
-    begun : Held S
-    begun = record old { in_transaction = true }
-
-    at_begin : Survives (state g begun) (state g mid) (λ _. ⊥) → (HasCleanDisk (state g mid) → IsWriting (state g begun) → WritesEach n cs (state g begun) (state g mid)) → Survives (state g old) last P
-    at_begin first does = survives_begin g old last P (survives_then (state g begun) (state g mid) last (λ _. ⊥) (λ db. db ≡ (state g mid).now.trees) P (λ _ db none. absurd none) (λ clean db same.
-        let m : HasCleanDisk (state g mid) = omega (arith, two.clean) in
-        let early : HasCleanDisk (state g old) = omega (arith, m, first.clean) in
-        let w = does m (begins g old ready early) in
-        (w.is_open some, subst (λ (d : Trees). AreWritten n cs (stored (state g old).now.trees) (stored d)) (sym same) w.rows)) first two)
-
-    by : (t : Held S) → begun ≡ t → Survives (state g t) (state g mid) (λ _. ⊥) → (HasCleanDisk (state g mid) → IsWriting (state g t) → WritesEach n cs (state g t) (state g mid)) → Survives (state g old) last P
-    by t same = subst (λ (x : Held S). Survives (state g x) (state g mid) (λ _. ⊥) → (HasCleanDisk (state g mid) → IsWriting (state g x) → WritesEach n cs (state g x) (state g mid)) → Survives (state g old) last P) same at_begin
+crash g old tx mid last n cs some is ready one writes two =
+    survives_transaction g old tx mid last (λ t. HasCleanDisk (state g mid) → IsWriting (state g t) → WritesEach n cs (state g t) (state g mid))
+    (λ db. IsTrue (state g old).is_open × AreWritten n cs (stored (state g old).now.trees) (stored db)) is one writes two (λ does early m.
+    let w = does m (begins g old ready early) in
+    (w.is_open some, w.rows))

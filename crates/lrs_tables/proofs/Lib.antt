@@ -32,3 +32,4 @@ pub mod CommitLemmas
 pub mod SelectStatements
 pub mod ReadLemmas
 pub mod SaidRows
+pub mod Transactions

@@ -1,5 +1,5 @@
 -- Tables that were just made have no row.
-use Rattle.std.proofs.Common.{◌≡◌, ℕ, List, [], map, true, sym, subst, ◌∙◌}
+use Rattle.std.proofs.Common.{◌≡◌, ℕ, List, [], map, true, IsTrue, refl, sym, subst, ◌∙◌}
 use Rattle.std.specs.List.{AllByRecursion}
 use Rattle.std.specs.List.Sorted.{IsPermutation}
 use Rattle.std.proofs.lemmas.List.Sorted.{IsPermutation-refl}
@@ -10,7 +10,9 @@ use Rattle.sqlite_schema.specs.declared.schema.Constraint.TheVariants.{Datatype,
 use Rattle.sqlite_schema.specs.Rules.{passes}
 use Rattle.sqlite_trees.specs.Tree.{Trees}
 use Rattle.sqlite_keyed.proofs.ListLemmas.{all_weaker}
-use Rattle.sqlite.specs.State.{State}
+use Rattle.sqlite_trees.specs.declared.store.Store.{Ghosts}
+use Rattle.sqlite.specs.Held.{Held, state}
+use Rattle.sqlite.specs.State.{State, HasCleanDisk, Survives}
 use Rattle.lrs_store.specs.Tables.{no_rows}
 use Rattle.lrs_tables.specs.Schema.{inventory}
 use Rattle.lrs_tables.specs.Stored as it
@@ -18,10 +20,11 @@ use Rattle.lrs_store.specs.Tables.{AreSame}
 use Rattle.lrs_tables.specs.Stored.{rows_of, stored, AreNumbered, HasTables, IsWriting, Makes}
 use Rattle.lrs_tables.specs.RowLaws.{same_trans}
 use Rattle.lrs_tables.specs.Changing.{with_version}
-use Rattle.lrs_tables.specs.Making.{IsMaking, up_to_origin}
-use Rattle.lrs_tables.specs.Starting.{IsStarted}
+use Rattle.lrs_tables.specs.Making.{IsMaking, no_schema, up_to_origin}
+use Rattle.lrs_tables.specs.Starting.{new_rows, IsStarted}
 use Rattle.lrs_tables.proofs.MakeLemmas.{all_made}
 use Rattle.lrs_tables.proofs.Steady.{steady-with_version}
+use Rattle.lrs_tables.proofs.Transactions.{survives_transaction}
 
 abbrev IsEmpty : Trees → Schema → Type 0
 IsEmpty db schema = AllByRecursion (λ (t : Table). db t.tree ≡ []) schema.tables
@@ -65,8 +68,16 @@ made_writing s making = record {
   tables = λ opened. has_tables s.now.trees (all_empty s.now.trees (making.empty opened));
 }
 
-pub started : (a b : State) → IsMaking up_to_origin a → Makes (with_version 2) a b → IsStarted b
-started a b making makes = record {
+pub started : (a b : State) → IsTrue a.is_open → IsMaking up_to_origin a → Makes (with_version 2) a b → IsStarted b
+started a b opened making makes = record {
   writing = makes.writing;
-  rows = λ opened. same_trans _ _ _ (steady-with_version 2 _ _ (stored_nothing a.now.trees (all_empty a.now.trees (making.empty (makes.was_open opened))))) makes.rows;
+  rows = same_trans _ _ _ (steady-with_version 2 _ _ (stored_nothing a.now.trees (all_empty a.now.trees (making.empty opened)))) makes.rows;
 }
+
+-- what an opening finds after a crash is what it would have found before, or the rows of a new store
+pub crash : {S : Type 0} (g : Ghosts S) (old tx mid : Held S) (last : State) → tx ≡ record old { in_transaction = true } → (HasCleanDisk (state g old) → IsTrue (state g old).is_open → (state g old).now.schema ≡ no_schema)
+    → Survives (state g tx) (state g mid) (λ _. ⊥) → (HasCleanDisk (state g mid) → IsMaking no_schema (state g tx) → IsStarted (state g mid)) → Survives (state g mid) last (λ db. db ≡ (state g mid).now.trees)
+    → Survives (state g old) last (λ db. AreSame new_rows (stored db))
+crash g old tx mid last is blank one starts two =
+    survives_transaction g old tx mid last (λ t. HasCleanDisk (state g mid) → IsMaking no_schema (state g t) → IsStarted (state g mid)) (λ db. AreSame new_rows (stored db)) is one starts two (λ does early m.
+    (does m (record { begun = refl; tables = blank early; empty = λ _. tt })).rows)

@@ -1,5 +1,5 @@
 -- What is written of the same rows is the same rows.
-use Rattle.std.proofs.Common.{ℕ, List, [], ◌∷◌, map, not, pos}
+use Rattle.std.proofs.Common.{ℕ, List, [], map, not, pos}
 use Rattle.std.specs.Prelude.{Option, Some, None}
 use Rattle.std.specs.List.{list_any}
 use Rattle.std.proofs.lemmas.List.Sorted.{IsPermutation-refl, IsPermutation-cons, IsPermutation-map, IsPermutation-append_right}
@@ -20,7 +20,7 @@ use Rattle.lrs_keep.specs.declared.change.ReferentChange.{ReferentChange}
 use Rattle.lrs_keep.specs.declared.change.RouteChange.{RouteChange}
 use Rattle.lrs_keep.specs.declared.change.Difference.{Difference}
 use Rattle.lrs_store.specs.Tables.{Tables}
-use Rattle.lrs_store.specs.Laws.{origin_row, brought_up}
+use Rattle.lrs_store.specs.Laws.{origin_row}
 use Rattle.lrs_store.specs.Tables.{AreSame}
 use Rattle.lrs_store.specs.Encoding.{link_row, class_row, asset_row, piece_row, mark_row, ref_row, span_row, entered_row, gone_row, edit_row, numbered}
 use Rattle.lrs_tables.specs.Changing as it
@@ -72,9 +72,6 @@ steady-with_origins xs a b h = record { version = h.version; link = h.link; clas
 
 pub steady-without_version : IsSteady it.without_version
 steady-without_version a b h = record { version = IsPermutation-refl []; link = h.link; class = h.class; asset = h.asset; piece = h.piece; mark = h.mark; ref = h.ref; span = h.span; entered = h.entered; gone = h.gone; edit = h.edit; origin = h.origin }
-
-pub steady-brought_up : (xs : List Asset) → IsSteady (brought_up xs)
-steady-brought_up xs a b h = record { version = IsPermutation-refl (pos 2 ∷ []); link = h.link; class = h.class; asset = h.asset; piece = h.piece; mark = h.mark; ref = h.ref; span = h.span; entered = h.entered; gone = h.gone; edit = h.edit; origin = IsPermutation-refl (map origin_row xs) }
 
 pub steady-with_edit : (n : ℕ) (e : Edit) → IsSteady (it.with_edit n e)
 steady-with_edit n e a b h = record { version = h.version; link = h.link; class = h.class; asset = h.asset; piece = h.piece; mark = h.mark; ref = h.ref; span = h.span; entered = h.entered; gone = h.gone; edit = IsPermutation-cons (edit_row n e) _ _ h.edit; origin = h.origin }

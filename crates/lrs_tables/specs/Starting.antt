@@ -21,7 +21,7 @@ NewRowsHoldNothing = content_of new_rows ≡ Ok nothing
 -- The tables are there, inside a transaction, with the row of the version alone.
 pub record IsStarted (s : State) : Type 0 where
   pub writing : IsWriting s
-  pub rows : IsTrue s.is_open → AreSame new_rows (stored s.now.trees)
+  pub rows : AreSame new_rows (stored s.now.trees)
 
 -- The same, and committed.
 pub record IsNew (s : State) : Type 0 where

@@ -1,11 +1,12 @@
 //! A new store: its tables and the row of its version.
 
 ghost use Rattle.std.specs.Prelude.{◌≡◌, OnOk, IsTrue, false};
-ghost use Rattle.sqlite.specs.State.{HasCleanDisk};
+ghost use Rattle.sqlite.specs.State.{HasCleanDisk, Survives};
 ghost use Rattle.sqlite.specs.Held.{state};
-ghost use Rattle.lrs_tables.specs.Stored.{LeavesStore};
+ghost use Rattle.lrs_store.specs.Tables.{AreSame};
+ghost use Rattle.lrs_tables.specs.Stored.{stored, LeavesStore};
 ghost use Rattle.lrs_tables.specs.Making.{IsMaking, no_schema};
-ghost use Rattle.lrs_tables.specs.Starting.{IsStarted, IsNew, NewRowsHoldNothing};
+ghost use Rattle.lrs_tables.specs.Starting.{new_rows, IsStarted, IsNew, NewRowsHoldNothing};
 
 use crate::making::make_tables;
 use crate::put::put_version;
@@ -25,13 +26,13 @@ fn start<S: Alter>(tx: &mut Transaction<'_, S>) -> Result<(), Error>
 /// Makes a new store of version 2 without entries, in one transaction.
 ///
 /// # Errors
-/// When the store fails, or memory runs out.
+/// When the store fails, or memory runs out. What is stored is then as it was, or a new store.
 pub fn make_store<S: Alter>(conn: &mut Connection<S>) -> Result<(), Error>
     requires autocommit { conn.old.in_transaction ≡ false }
     requires blank { HasCleanDisk (state S.Store conn.old) → IsTrue (state S.Store conn.old).is_open → (state S.Store conn.old).now.schema ≡ no_schema }
     ensures autocommit { conn.new.in_transaction ≡ false }
     ensures made { HasCleanDisk (state S.Store conn.new) → OnOk result (IsNew (state S.Store conn.new)) }
-    ensures clean { HasCleanDisk (state S.Store conn.new) → HasCleanDisk (state S.Store conn.old) }
+    ensures crash { Survives (state S.Store conn.old) (state S.Store conn.new) (λ db. AreSame new_rows (stored db)) }
 {
     let mut tx = conn.transaction();
     start(&mut tx)?;

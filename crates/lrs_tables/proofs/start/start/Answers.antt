@@ -10,4 +10,4 @@ returns-clause-started g c clean making =
     let s2 = state g.S.Store c.put_version.new.tx.conn.now in
     let m1 : HasCleanDisk s1 = omega (arith, c.put_version.ensures.survives.clean) in
     let made = c.in_ok-make_tables.ensures.made m1 making in
-    started s1 s2 made (c.in_ok-put_version.ensures.does clean (made_writing s1 made))
+    started s1 s2 (c.in_ok-put_version.ensures.is_open clean (made_writing s1 made)) made (c.in_ok-put_version.ensures.does clean (made_writing s1 made))
