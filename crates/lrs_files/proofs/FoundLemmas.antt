@@ -1,5 +1,5 @@
 -- What files hold: the rows of their tables have numbers, and an opening leaves them.
-use Rattle.std.proofs.Common.{◌≡◌, ℕ, List, [], ◌∷◌, ap, sym, subst, ◌∙◌, inl, inr, refl, Bool, true, false, IsTrue, Option, None, Some, IfSome, MatchOption}
+use Rattle.std.proofs.Common.{◌≡◌, ℕ, List, [], ◌∷◌, ap, sym, subst, ◌∙◌, inl, inr, refl, true, false, Option, None, Some, IfSome, MatchOption}
 use Rattle.std.proofs.Math.Logic.{∥∥₁_elim}
 use Rattle.std.specs.List.{AllByRecursion, AllZip}
 use Rattle.sqlite_schema.specs.declared.schema.Table.{Table}
@@ -129,12 +129,20 @@ module _ {D : Type 0} {g : Ghosts D} where
   left_found image Log Db Fails (Some l) r is same (files, log, db, leaves) =
       subst (λ o. IfSome o (IsLeftOf image (λ files. Log files.log × Db files.db))) (sym is) (λ clean. (files, same files log db, (log, db), (leaves clean).1))
 
-  -- a connection that wrote nothing leaves what it found
-  pub left_connected : (image : Image) (Began : Files D → Type 0) (conn back : Held (FileStore D g)) (is_unchanged : Bool) (r : Option (Untaken D g))
-      → (HasCleanDisk (file_state conn) → AreFoundIn image (file_state conn).committed.trees)
-      → (IsTrue is_unchanged → (back ≡ conn) × LeavesFound (file_state conn) (file_state back))
-      → IfSome r (λ l. IsTrue is_unchanged × (l ≡ untaken.Connected back)) → IfSome r (IsLeftOf image Began)
-  left_connected image Began conn back is_unchanged None found unchanged left = tt
-  left_connected image Began conn back is_unchanged (Some l) found unchanged (so, is) = subst (IsLeftOf image Began) (sym is) (λ clean db may.
-      let it = unchanged so in
-      subst (AreFoundIn image) (sym (it.1 clean db may)) (found (subst (λ (x : Held (FileStore D g)). HasCleanDisk (file_state x)) it.0 clean)))
+  -- a connection that took no tables leaves what it found, or what tables that were to be made hold
+  pub left_connected : (image : Image) (Began : Files D → Type 0) (conn back : Held (FileStore D g)) → (HasCleanDisk (file_state conn) → Opens (file_state conn) × IsLive (file_state conn))
+      → (HasCleanDisk (file_state conn) → AreFoundIn image (file_state conn).committed.trees) → LeavesFound (file_state conn) (file_state back) → IsLeftOf image Began (untaken.Connected back)
+  left_connected image Began conn back opened found leaves clean db may =
+      let early = leaves.clean clean in
+      let opens = opened early in
+      let same : (file_state conn).now.trees ≡ (file_state conn).committed.trees = ap (λ (d : Database). d.trees) opens.0.clean in
+      elim (leaves.finds clean db may) [
+        | inl is ↦ inl (subst (AreFoundIn image) (sym is) (found early))
+        | inr begun ↦ inr (record {
+          trees = (file_state conn).now.trees;
+          schema = (file_state conn).now.schema;
+          reads = subst (AreFoundIn image) (sym same) (found early);
+          sound = (opens.1 opens.0.is_open).0;
+          begun = begun;
+        })
+      ]

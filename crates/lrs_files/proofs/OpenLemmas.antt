@@ -16,8 +16,6 @@ use Rattle.sqlite.specs.Listing.{understood}
 use Rattle.sqlite.specs.Effect.{IsDatabase}
 use Rattle.sqlite.specs.Held.{Held, state}
 use Rattle.sqlite.specs.State.{State, HasCleanDisk, Survives, ExecutesInside}
-use Rattle.sqlite.proofs.StateLemmas.{survives_then}
-use Rattle.sqlite.proofs.Callers.{survives_begin}
 use Rattle.lrs_store.specs.Tables.{AreSame}
 use Rattle.lrs_tables.specs.Schema as sql
 use Rattle.lrs_tables.specs.Schema.{inventory}
@@ -28,8 +26,9 @@ use Rattle.lrs_tables.specs.Making.{no_schema, up_to_edit, up_to_origin}
 use Rattle.lrs_tables.specs.Starting.{new_rows}
 use Rattle.lrs_tables.specs.Holding.{HoldsOnly}
 use Rattle.lrs_tables.proofs.MakeLemmas.{creates, all_made}
+use Rattle.lrs_tables.proofs.Transactions.{survives_transaction}
 use Rattle.lrs_tables.specs.Changing.{without_origins}
-use Rattle.lrs_files.specs.Opening.{IsTaken, HasNumbers, HasOrigins}
+use Rattle.lrs_files.specs.Opening.{IsTaken, IsFound, HasNumbers, HasOrigins, HasBegun, LeavesFound}
 use Rattle.lrs_files.proofs.PlainTables.{first_tables}
 
 -- a database of the tables is at rest where it is committed
@@ -130,23 +129,19 @@ pub crash : {S : Type 0} (g : Ghosts S) (old tx mid : Held S) (last : State) →
     → Survives (state g tx) (state g mid) (λ _. ⊥) → (HasCleanDisk (state g mid) → IsTrue (state g tx).in_transaction → (IsTrue (state g tx).is_open → (state g tx).now.schema ≡ up_to_edit) → HasOrigins (state g tx) (state g mid))
     → Survives (state g mid) last (λ db. db ≡ (state g mid).now.trees)
     → Survives (state g old) last (λ db. AreSame (without_origins (stored (state g old).now.trees)) (stored db))
-crash {S} g old tx mid last is first one makes two = by tx (sym is) one makes
-  where
-    P : Trees → Type 0
-    P db = AreSame (without_origins (stored (state g old).now.trees)) (stored db)
+crash g old tx mid last is first one makes two =
+    survives_transaction g old tx mid last (λ t. HasCleanDisk (state g mid) → IsTrue (state g t).in_transaction → (IsTrue (state g t).is_open → (state g t).now.schema ≡ up_to_edit) → HasOrigins (state g t) (state g mid))
+    (λ db. AreSame (without_origins (stored (state g old).now.trees)) (stored db)) is one makes two (λ does early m.
+    let has = does m refl (first early) in
+    grown_rows (state g old).now.trees (state g mid).now.trees has.others has.empty)
 
-    begun : Held S
-    begun = record old { in_transaction = true }
-
-    Made : Held S → Type 0
-    Made t = HasCleanDisk (state g mid) → IsTrue (state g t).in_transaction → (IsTrue (state g t).is_open → (state g t).now.schema ≡ up_to_edit) → HasOrigins (state g t) (state g mid)
-
-    at_begin : Survives (state g begun) (state g mid) (λ _. ⊥) → Made begun → Survives (state g old) last P
-    at_begin one does = survives_begin g old last P (survives_then (state g begun) (state g mid) last (λ _. ⊥) (λ db. db ≡ (state g mid).now.trees) P (λ _ db none. absurd none) (λ clean db same.
-        let m : HasCleanDisk (state g mid) = omega (arith, two.clean) in
-        let early : HasCleanDisk (state g old) = omega (arith, m, one.clean) in
-        let has = does m refl (first early) in
-        subst (λ (d : Trees). P d) (sym same) (grown_rows (state g old).now.trees (state g mid).now.trees has.others has.empty)) one two)
-
-    by : (t : Held S) → begun ≡ t → Survives (state g t) (state g mid) (λ _. ⊥) → Made t → Survives (state g old) last P
-    by t same = subst (λ (x : Held S). Survives (state g x) (state g mid) (λ _. ⊥) → Made x → Survives (state g old) last P) same at_begin
+-- what an opening finds of a store in which tables were to be made
+pub left_begun : (old new : State) (Commits : Trees → Type 0) → IsFound old → Survives old new Commits → ((db : Trees) → IsTrue old.is_open → old.may_leave db → db ≡ old.committed.trees)
+    → ((db : Trees) → Commits db → HasBegun old.now.schema (stored old.now.trees) (stored db)) → LeavesFound old new
+left_begun old new Commits found survives settled begun = record {
+  clean = λ clean. omega (arith, clean, survives.clean);
+  finds = λ clean db may. elim (survives.crash clean db may) [
+    | inl earlier ↦ inl (settled db (found (omega (arith, clean, survives.clean))).0.is_open earlier)
+    | inr commits ↦ inr (begun db commits)
+  ];
+}

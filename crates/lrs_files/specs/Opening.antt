@@ -7,6 +7,7 @@ use Rattle.sqlite_schema.specs.declared.schema.Schema.{Schema}
 use Rattle.sqlite_catalog.specs.Change.{KeepsRows}
 use Rattle.sqlite.specs.Effect.{Database}
 use Rattle.sqlite.specs.State.{State, HasCleanDisk, Opens}
+use Rattle.lrs_store.specs.Tables.{Tables, AreSame}
 use Rattle.lrs_tables.specs.Schema.{inventory}
 use Rattle.lrs_tables.specs.Stored.{stored, AreNumbered}
 use Rattle.lrs_tables.specs.Changing.{without_origins}
@@ -33,9 +34,14 @@ HasNumbers db = AllByRecursion (λ (t : Table). AreNumbered (db.trees t.tree)) d
 abbrev pub IsFound : State → Type 0
 IsFound s = HasCleanDisk s → Opens s × HasNumbers s.now
 
--- an opening finds what the connection found
-abbrev pub LeavesFound : State → State → Type 0
-LeavesFound old new = HasCleanDisk new → (db : Trees) → new.may_leave db → db ≡ old.committed.trees
+-- Tables were to be made in a store without one, or in one of version 1: these are the rows of a new store, or the rows that are there.
+abbrev pub HasBegun : Schema → Tables → Tables → Type 0
+HasBegun schema before after = (schema ≡ no_schema × AreSame new_rows after) ⊎ (schema ≡ up_to_edit × AreSame (without_origins before) after)
+
+-- an opening finds what the connection found, or what tables that were to be made in it hold
+pub record LeavesFound (old new : State) : Type 0 where
+  pub clean : HasCleanDisk new → HasCleanDisk old
+  pub finds : HasCleanDisk new → (db : Trees) → new.may_leave db → (db ≡ old.committed.trees) ⊎ HasBegun old.now.schema (stored old.now.trees) (stored db)
 
 -- the table of origins is there, without a row, and the other tables have their rows
 pub record HasOrigins (old new : State) : Type 0 where

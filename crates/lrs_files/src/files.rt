@@ -1,6 +1,6 @@
 //! Stores of tables in files.
 
-ghost use Rattle.std.specs.Prelude.{◌≡◌, None, Some, MatchOption, IfOk, IfErr, IfSome, IsSome, IsTrue, true, false};
+ghost use Rattle.std.specs.Prelude.{◌≡◌, None, Some, MatchOption, IfOk, IfErr, IfSome, IsSomeAnd, IsTrue, true, false};
 ghost use Rattle.sqlite_wal.specs.Reads.{AreClean};
 ghost use Rattle.sqlite_wal.specs.Files.{image_at};
 ghost use Rattle.sqlite_std_file.specs.File.{IsFresh};
@@ -10,7 +10,7 @@ ghost use Rattle.sqlite.specs.Closing.{IsCopied};
 ghost use Rattle.lrs_tables.specs.Resting.{IsReady};
 ghost use Rattle.lrs_files.specs.Found.{HasFound, IsLeftOf};
 
-use crate::taken::{NotTaken, fault_of, over};
+use crate::taken::{fault_of, over};
 use lrs_tables::tables::{OpenFault, Tables};
 use sqlite::{Connection, Error, ErrorCode, FileFrom, FileStore, Files, Leftover, Options, Start};
 use sqlite_disk::Disk;
@@ -22,35 +22,15 @@ use std::rt::HostRuntime;
 pub enum Untaken<D: Disk> {
     /// What the kit's `sqlite` gave back, which refused them.
     Refused(Leftover<D>),
-    /// The connection that opened them, and wrote nothing: their tables are no inventory's, or memory ran out.
+    /// The connection that opened them: their tables are no inventory's, memory ran out, or tables were to be made.
     Connected(Connection<FileStore<D>>),
 }
 
-/// Why the store in files is not opened, and what is left of them: nothing where the system did not open them, or where
-/// tables were to be made in them and that failed.
+/// Why the store in files is not opened, and what is left of them: nothing where the system did not open them.
 #[derive(Drop)]
 pub struct Refusal<D: Disk> {
     pub fault: OpenFault,
     pub left: Option<Untaken<D>>,
-}
-
-/// Why the tables of a connection over files are not taken.
-fn refusal_of<D: Disk + Drop>(not_taken: NotTaken<FileStore<D>>) -> Refusal<D>
-    ensures fault { result.fault ≡ not_taken.fault }
-    ensures left { IfSome result.left (λ left. IsTrue not_taken.is_unchanged × (left ≡ Untaken.Connected not_taken.conn)) }
-    ensures given { IsTrue not_taken.is_unchanged → IsSome result.left }
-{
-    let NotTaken {
-        fault,
-        conn,
-        is_unchanged,
-    } = not_taken;
-    let left = if is_unchanged {
-        Some(Untaken::Connected(conn))
-    } else {
-        None
-    };
-    Refusal { fault, left }
 }
 
 /// Opens the store in these files, or makes one where they hold none.
@@ -67,12 +47,15 @@ pub fn open_files<D: Disk + Drop>(
     ensures autocommit { IfOk result (λ t. t.conn.in_transaction ≡ false) }
     ensures ready { IfOk result (λ t. IsReady (file_state t.conn)) }
     ensures found { IfOk result (λ t. HasCleanDisk (file_state t.conn) → HasFound (image_of D.Disk files) (file_state t.conn)) }
-    ensures left { IfErr result (λ e. IfSome e.left (IsLeftOf (image_of D.Disk files) (λ given. given ≡ files))) }
+    ensures left { IfErr result (λ e. IsSomeAnd e.left (IsLeftOf (image_of D.Disk files) (λ given. given ≡ files))) }
 {
     match Connection::open_files(alloc, files, options) {
         Ok(conn) => match over(alloc, conn) {
             Ok(tables) => Ok(tables),
-            Err(not_taken) => Err(refusal_of(not_taken)),
+            Err((fault, conn)) => Err(Refusal {
+                fault,
+                left: Some(Untaken::Connected(conn)),
+            }),
         },
         Err((error, left)) => Err(Refusal {
             fault: fault_of(error),
@@ -109,7 +92,10 @@ pub fn open_file<S: Start>(
     match Connection::open_from(rt, path, false, start) {
         Ok(conn) => match over(rt.alloc(), conn) {
             Ok(tables) => Ok(tables),
-            Err(not_taken) => Err(refusal_of(not_taken)),
+            Err((fault, conn)) => Err(Refusal {
+                fault,
+                left: Some(Untaken::Connected(conn)),
+            }),
         },
         Err((error, left)) => Err(Refusal {
             fault: fault_of(error),

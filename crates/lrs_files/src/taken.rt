@@ -1,6 +1,6 @@
 //! A connection becomes a store of tables: they are made where there is none, and no row changes.
 
-ghost use Rattle.std.specs.Prelude.{◌≡◌, Ok, OnOk, IfOk, IfErr, IsTrue, false};
+ghost use Rattle.std.specs.Prelude.{◌≡◌, OnOk, IfOk, IfErr, IsTrue, false};
 ghost use Rattle.sqlite.specs.State.{HasCleanDisk, Survives};
 ghost use Rattle.sqlite.specs.Held.{state};
 ghost use Rattle.lrs_store.specs.Tables.{AreSame};
@@ -66,24 +66,29 @@ fn kept<S: Alter>(conn: Connection<S>) -> Tables<S>
     ensures rows { IsTaken (state S.Store conn) (state S.Store result.conn) }
 {
     let _live = conn.schema();
-    Tables { conn, failures: 0 }
+    Tables { conn }
 }
 
-fn made<S: Alter>(mut conn: Connection<S>) -> Result<Tables<S>, (OpenFault, Connection<S>)>
+/// A connection as it was opened, or whose tables were to be made: why they are not taken, and what an opening finds.
+type NotTaken<S> = (OpenFault, Connection<S>);
+
+fn made<S: Alter>(mut conn: Connection<S>) -> Result<Tables<S>, NotTaken<S>>
     requires autocommit { conn.in_transaction ≡ false }
+    requires found { IsFound (state S.Store conn) }
     requires nothing { (state S.Store conn).now.schema ≡ no_schema }
     ensures autocommit { IfOk result (λ t. t.conn.in_transaction ≡ false) }
     ensures clean { IfOk result (λ t. HasCleanDisk (state S.Store t.conn) → HasCleanDisk (state S.Store conn)) }
     ensures ready { IfOk result (λ t. IsReady (state S.Store t.conn)) }
     ensures rows { IfOk result (λ t. IsTaken (state S.Store conn) (state S.Store t.conn)) }
+    ensures left { IfErr result (λ e. LeavesFound (state S.Store conn) (state S.Store e.1)) }
 {
     match make_store(&mut conn) {
-        Ok(()) => Ok(Tables { conn, failures: 0 }),
+        Ok(()) => Ok(Tables { conn }),
         Err(error) => Err((fault_of(error), conn)),
     }
 }
 
-fn grown<S: Alter>(mut conn: Connection<S>) -> Result<Tables<S>, (OpenFault, Connection<S>)>
+fn grown<S: Alter>(mut conn: Connection<S>) -> Result<Tables<S>, NotTaken<S>>
     requires autocommit { conn.in_transaction ≡ false }
     requires found { IsFound (state S.Store conn) }
     requires first { (state S.Store conn).now.schema ≡ up_to_edit }
@@ -91,54 +96,24 @@ fn grown<S: Alter>(mut conn: Connection<S>) -> Result<Tables<S>, (OpenFault, Con
     ensures clean { IfOk result (λ t. HasCleanDisk (state S.Store t.conn) → HasCleanDisk (state S.Store conn)) }
     ensures ready { IfOk result (λ t. IsReady (state S.Store t.conn)) }
     ensures rows { IfOk result (λ t. IsTaken (state S.Store conn) (state S.Store t.conn)) }
+    ensures left { IfErr result (λ e. LeavesFound (state S.Store conn) (state S.Store e.1)) }
 {
     match grow(&mut conn) {
         Ok(()) => {
             let _live = conn.schema();
-            Ok(Tables { conn, failures: 0 })
+            Ok(Tables { conn })
         }
         Err(error) => Err((fault_of(error), conn)),
     }
 }
 
-/// A connection whose tables are not taken, and why.
-#[derive(Drop)]
-pub struct NotTaken<S: Alter> {
-    pub fault: OpenFault,
-    pub conn: Connection<S>,
-    /// Whether nothing was written: its tables are no inventory's, or memory ran out before they were looked at.
-    pub is_unchanged: bool,
-}
-
 /// A connection as it was opened.
 fn unchanged<S: Alter>(fault: OpenFault, conn: Connection<S>) -> NotTaken<S>
     requires found { IsFound (state S.Store conn) }
-    ensures same { result.conn ≡ conn }
-    ensures unchanged { IsTrue result.is_unchanged }
-    ensures left { LeavesFound (state S.Store conn) (state S.Store result.conn) }
+    ensures same { result.1 ≡ conn }
+    ensures left { LeavesFound (state S.Store conn) (state S.Store result.1) }
 {
-    NotTaken {
-        fault,
-        conn,
-        is_unchanged: true,
-    }
-}
-
-/// The tables of a store that were to be made, if they were.
-fn unless_failed<S: Alter>(
-    made: Result<Tables<S>, (OpenFault, Connection<S>)>,
-) -> Result<Tables<S>, NotTaken<S>>
-    ensures ok { (t : _) → result ≡ Ok t → made ≡ Ok t }
-    ensures err { IfErr result (λ e. e.is_unchanged ≡ false) }
-{
-    match made {
-        Ok(tables) => Ok(tables),
-        Err((fault, conn)) => Err(NotTaken {
-            fault,
-            conn,
-            is_unchanged: false,
-        }),
-    }
+    (fault, conn)
 }
 
 /// The tables of a connection that was just opened. Where there is none, they are made in one transaction, with the
@@ -154,16 +129,16 @@ pub fn over<S: Alter>(alloc: Global, conn: Connection<S>) -> Result<Tables<S>, N
     ensures ready { IfOk result (λ t. IsReady (state S.Store t.conn)) }
     ensures rows { IfOk result (λ t. IsTaken (state S.Store conn) (state S.Store t.conn)) }
     ensures same { (state S.Store conn).now.schema ≡ inventory → IfOk result (λ t. t.conn ≡ conn) }
-    ensures other { ((state S.Store conn).now.schema ≡ no_schema → ⊥) → ((state S.Store conn).now.schema ≡ up_to_edit → ⊥) → IfErr result (λ e. IsTrue e.is_unchanged) }
-    ensures unchanged { IfErr result (λ e. IsTrue e.is_unchanged → (e.conn ≡ conn) × LeavesFound (state S.Store conn) (state S.Store e.conn)) }
+    ensures other { ((state S.Store conn).now.schema ≡ no_schema → ⊥) → ((state S.Store conn).now.schema ≡ up_to_edit → ⊥) → IfErr result (λ e. e.1 ≡ conn) }
+    ensures left { IfErr result (λ e. LeavesFound (state S.Store conn) (state S.Store e.1)) }
 {
     let Ok(wanted) = wanted(alloc) else {
         return Err(unchanged(OpenFault::Memory, conn));
     };
     match which(conn.schema(), &wanted) {
         Known::Second => Ok(kept(conn)),
-        Known::Nothing => unless_failed(made(conn)),
-        Known::First => unless_failed(grown(conn)),
+        Known::Nothing => made(conn),
+        Known::First => grown(conn),
         Known::Other => Err(unchanged(OpenFault::Store, conn)),
     }
 }

@@ -1,5 +1,5 @@
 -- The content of the rows that files held is kept.
-use Rattle.std.proofs.Common.{inl, inr, Option, None, Some, IfSome, Result, refl, sym, subst, ◌∙◌, arith}
+use Rattle.std.proofs.Common.{◌≢◌, inl, inr, Option, None, Some, IfSome, IsSomeAnd, Result, refl, sym, subst, ◌∙◌, arith}
 use Rattle.sqlite_disk.specs.declared.Disk.{Ghosts}
 use Rattle.sqlite_disk.specs.declared.Files.{Files}
 use Rattle.sqlite_trees.proofs.Doubt.{clean_of, no_doubt}
@@ -65,3 +65,12 @@ module _ {D : Type 0} {g : Ghosts D} (image : wal.Image) (Began : Files D → Ty
   still_refused None l is was = subst (HoldsStill image Began) (sym is) tt
   still_refused (Some old) l (new, is, inl same) was = subst (HoldsStill image Began) (sym is) (subst (IsLeftOf image Began) (sym same) was)
   still_refused (Some old) l (new, is, inr looked) was = subst (HoldsStill image Began) (sym is) (still_left old new looked was)
+
+  pub still_given : (o : Option (Untaken D g)) (l : Left D g) → IsHandedOn o l → IsSomeAnd o (IsLeftOf image Began) → HoldsStill image Began l
+  still_given None l is was = absurd was
+  still_given (Some old) l handed was = still_refused (Some old) l handed was
+
+-- what is left is handed on
+pub something_left : {D : Type 0} {g : Ghosts D} (P : Untaken D g → Type 0) (o : Option (Untaken D g)) (l : Left D g) → IsHandedOn o l → IsSomeAnd o P → l ≢ left.Nothing
+something_left P None l is some = absurd some
+something_left P (Some old) l (new, is, kept) some none = absurd (let e = sym is ∙ none in cc)

@@ -1,6 +1,6 @@
 //! A keeper over a store in files: opened, and closed.
 
-ghost use Rattle.std.specs.Prelude.{◌≡◌, ◌⊎◌, false, true, IfOk, IfErr, IsTrue};
+ghost use Rattle.std.specs.Prelude.{◌≡◌, ◌≢◌, ◌⊎◌, false, true, IfOk, IfErr, IsTrue};
 ghost use Rattle.sqlite_std_file.specs.File.{IsFresh};
 ghost use Rattle.sqlite_wal.specs.Files.{image_at};
 ghost use Rattle.sqlite_wal.specs.Reads.{AreClean};
@@ -41,7 +41,7 @@ pub enum Left<D: Disk> {
     Untaken(Untaken<D>),
     /// The connection that took their tables: the rows are no keeper's.
     Opened(Connection<FileStore<D>>),
-    /// Nothing: the system did not open them, or tables were to be made in them, and that failed.
+    /// Nothing: the system did not open them.
     Nothing,
 }
 
@@ -104,8 +104,8 @@ fn not_opened<D: Disk + Drop, R: ReadImage>(
 ///
 /// # Errors
 /// `Store` if a file fails or the files hold no store of an inventory, `Unsound` with the first unsound table of
-/// rows that break a rule of their tables or are not of version 2, and `Memory` if memory runs out. What is left of
-/// the files holds what they held.
+/// rows that break a rule of their tables or are not of version 2, and `Memory` if memory runs out. The files are
+/// given back in what is left, and hold what they held.
 pub fn open_keeper_files<D: Disk + Drop, R: ReadImage + Drop>(
     alloc: Global,
     files: Files<D>,
@@ -121,6 +121,7 @@ pub fn open_keeper_files<D: Disk + Drop, R: ReadImage + Drop>(
     ensures unsound { IfErr result (λ e. (t : Table) → e.fault ≡ LoadFault.Unsound t → HoldsUnsound t e.left) }
     ensures store { IfErr result (λ e. e.fault ≡ LoadFault.Store → HoldsNoUnsound e.left) }
     ensures still { IfErr result (λ e. HoldsStill (image_of D.Disk files) (λ given. given ≡ files) e.left) }
+    ensures left { IfErr result (λ e. e.left ≢ Left.Nothing) }
 {
     let tables = match open_files(alloc, files, options) {
         Ok(tables) => tables,
@@ -182,6 +183,5 @@ pub fn close_keeper<D: Disk + Drop, R: ReadImage + Drop>(
 {
     close_files(Tables {
         conn: keeper.into_connection(),
-        failures: 0,
     })
 }

@@ -26,9 +26,7 @@ returns-in-Ok-over-clause-found g c clean =
     has_found (image_at g.S.Start) (file_state c.in-Ok.conn) (file_state c.in-Ok-over.tables.conn) found.reads found.holds (opened.1 opened.0.is_open).0 opened.0.clean c.in-Ok-over.ensures.rows
 
 pub returns-in-Err-over-clause-left : goal.returns-in-Err-over-clause-left
-returns-in-Err-over-clause-left g c =
-    left_connected (image_at g.S.Start) (λ files. IsFresh true files.log × IsFresh false files.db) c.in-Ok.conn c.in-Err-over.not_taken.conn c.in-Err-over.not_taken.is_unchanged c.refusal_of.result.left
-    (λ clean. (c.in-Ok.ensures.found clean).reads) c.in-Err-over.ensures.unchanged c.refusal_of.ensures.left
+returns-in-Err-over-clause-left g c = left_connected (image_at g.S.Start) (λ files. IsFresh true files.log × IsFresh false files.db) c.in-Ok.conn c.in-Err-over.conn c.in-Ok.ensures.opened (λ clean. (c.in-Ok.ensures.found clean).reads) c.in-Err-over.ensures.left
 
 pub returns-in-Err-clause-left : goal.returns-in-Err-clause-left
 returns-in-Err-clause-left g c =

@@ -1,4 +1,4 @@
-use Rattle.std.proofs.Common.{sym, ap, subst, ◌∙◌, arith}
+use Rattle.std.proofs.Common.{inr, sym, ap, subst, ◌∙◌, arith}
 use Rattle.sqlite_trees.specs.Tree.{Trees}
 use Rattle.sqlite.specs.Effect.{Database}
 use Rattle.sqlite.specs.Held.{state}
@@ -6,7 +6,7 @@ use Rattle.sqlite.specs.State.{HasCleanDisk}
 use Rattle.lrs_store.specs.Tables.{AreSame}
 use Rattle.lrs_tables.specs.Stored.{stored}
 use Rattle.lrs_tables.specs.Changing.{without_origins}
-use Rattle.lrs_files.proofs.OpenLemmas.{taken_first, at_rest, grown_rows, grown_numbers}
+use Rattle.lrs_files.proofs.OpenLemmas.{taken_first, at_rest, grown_rows, grown_numbers, left_begun}
 use Rattle.lrs_files.proofs.taken.grown.Goals as goal
 
 pub returns-in-Ok-clause-ready : goal.returns-in-Ok-clause-ready
@@ -24,3 +24,9 @@ returns-in-Ok-clause-rows g c = taken_first (state g.S.Store c.args.conn) (state
     let it = c.in-Ok.ensures.grown clean in
     let is = g.met.S.Store.settled c.grow.new.conn.store db it.has.is_open left ∙ ap (λ (d : Database). d.trees) (sym it.settled) in
     subst (λ (d : Trees). AreSame (without_origins (stored old.now.trees)) (stored d)) (sym is) (grown_rows old.now.trees new.now.trees it.has.others it.has.empty))
+
+pub returns-in-Err-clause-left : goal.returns-in-Err-clause-left
+returns-in-Err-clause-left g c =
+    let old = state g.S.Store c.args.conn in
+    left_begun old (state g.S.Store c.grow.new.conn) (λ db. AreSame (without_origins (stored old.now.trees)) (stored db)) c.requires.found c.grow.ensures.survives (g.met.S.Store.settled c.args.conn.store)
+    (λ db same. inr (c.requires.first, same))
