@@ -22,6 +22,7 @@ use Rattle.lrs_files.specs.declared.files.Untaken.TheVariants as untaken
 use Rattle.lrs_files.specs.Found.{HasFound, IsLeftOf}
 use Rattle.lrs_opening.specs.Opened.{HoldsContent, HasOpened}
 use Rattle.lrs_opening.specs.declared.opening.Left.{Left}
+use Rattle.lrs_opening.specs.declared.opening.Left.TheVariants as left
 use Rattle.lrs_opening.specs.Refused.{WasLookedAt, IsHandedOn, HoldsStill}
 
 hold_nothing : NewRowsHoldNothing
@@ -73,4 +74,4 @@ module _ {D : Type 0} {g : Ghosts D} (image : wal.Image) (Began : Files D → Ty
 -- what is left is handed on
 pub something_left : {D : Type 0} {g : Ghosts D} (P : Untaken D g → Type 0) (o : Option (Untaken D g)) (l : Left D g) → IsHandedOn o l → IsSomeAnd o P → l ≢ left.Nothing
 something_left P None l is some = absurd some
-something_left P (Some old) l (new, is, kept) some none = absurd (let e = sym is ∙ none in cc)
+something_left P (Some old) l (new, is, kept) some = λ none. absurd (let e = sym is ∙ none in cc)
