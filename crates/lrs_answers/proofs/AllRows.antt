@@ -18,9 +18,9 @@ use Rattle.lrs_events.specs.declared.side.LinkSide.TheVariants.{Left, Right}
 use Rattle.lrs_events.specs.declared.span.Span.{Span}
 use Rattle.lrs_events.specs.Canonical.{side_of, side_held, held_run, canonical_rows}
 use Rattle.lrs_events.specs.Spans.{are_rows, same_side, holds_by_spans}
-use Rattle.lrs_canonical.specs.Members.{is_of}
-use Rattle.lrs_canonical.specs.RunLaws.{row_run, end_within}
-use Rattle.lrs_canonical.proofs.RunLaws.{rows_are_canonical}
+use Rattle.lrs_events_rows.specs.Members.{is_of}
+use Rattle.lrs_events_rows.specs.RunLaws.{row_run, end_within}
+use Rattle.lrs_events_rows.proofs.RunLaws.{rows_are_canonical}
 use Rattle.lrs_machine.specs.declared.image.RouteEntry.{RouteEntry}
 use Rattle.lrs_machine.specs.declared.image.Image.{Image}
 use Rattle.lrs_machine.specs.Image.{state_of, route_entry}
@@ -28,10 +28,10 @@ use Rattle.lrs_machine.specs.Readings.{rows_of}
 use Rattle.lrs_machine.specs.Register.{get}
 use Rattle.lrs_machine.specs.Sound.{IsSound, asset_before, is_span}
 use Rattle.lrs_machine.proofs.Members.{In, any_found, all_at, all_weaker, two_at, find_member}
-use Rattle.lrs_keep.proofs.Tables.{assets_in_order, routes_in_order}
-use Rattle.lrs_answers.specs.declared.finding.FoundRow.{FoundRow}
+use Rattle.lrs_image.proofs.Tables.{assets_in_order, routes_in_order}
+use Rattle.lrs_answers.specs.declared.rows.FoundRow.{FoundRow}
 use Rattle.lrs_answers.specs.Finding.{found_row, all_rows_of, rows_on}
-use Rattle.lrs_routes.proofs.Holding.{alone, held_at, rows_held_at}
+use Rattle.lrs_image_laws.proofs.Holding.{alone, held_at, rows_held_at}
 use Rattle.lrs_ordered.proofs.Keys.{finds_number}
 use Rattle.lrs_machine.specs.Image.{asset_entry}
 use Rattle.lrs_machine.specs.State as state

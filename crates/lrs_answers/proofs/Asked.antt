@@ -11,7 +11,7 @@ use Rattle.std.specs.FinMap.{find}
 use Rattle.std.specs.Ordering.{eq_by_cmp}
 use Rattle.std.proofs.lemmas.Bool.{cases_Bool}
 use Rattle.lrs_measure.specs.Texts.{Name, name_cmp}
-use Rattle.lrs_position.specs.declared.locating.PlaceFault.{PlaceFault}
+use Rattle.lrs_position.specs.declared.location.PlaceFault.{PlaceFault}
 use Rattle.lrs_position.specs.Locating.{Alignment}
 use Rattle.lrs_position.specs.Translating.{alignment_of, referent_at}
 use Rattle.lrs_machine.specs.declared.image.RouteEntry.{RouteEntry}
@@ -22,11 +22,11 @@ use Rattle.lrs_machine.specs.Machine.{entry_of_referent}
 use Rattle.lrs_machine.specs.Image.{state_of, route_entry}
 use Rattle.lrs_machine.specs.Sound.{IsSound}
 use Rattle.lrs_machine.proofs.Members.{In}
-use Rattle.lrs_keep.specs.Change.{is_named}
+use Rattle.lrs_image.specs.Change.{is_named}
 use Rattle.lrs_answers.specs.declared.fault.AskFault.{AskFault}
 use Rattle.lrs_answers.specs.declared.fault.AskFault.TheVariants.{NoRoute}
 use Rattle.lrs_answers.specs.Answers.{IsRouteIn, OnRoute, AsksRoute, as_asked}
-use Rattle.lrs_routes.proofs.FromReferents.{referents_found}
+use Rattle.lrs_image_laws.proofs.FromReferents.{referents_found}
 
 -- ---- the route of a name
 

@@ -3,7 +3,7 @@ use Rattle.std.proofs.Common.{◌≡◌, ℕ, Some, Result, Ok, Err, length, ap,
 use Rattle.std.specs.Prelude.{MatchResult, slice_get}
 use Rattle.lrs_measure.specs.Texts.{Name}
 use Rattle.lrs_position.specs.declared.expression.Expr.{Expr}
-use Rattle.lrs_position.specs.declared.locating.PlaceFault.{PlaceFault}
+use Rattle.lrs_position.specs.declared.location.PlaceFault.{PlaceFault}
 use Rattle.lrs_position.specs.Locating.{Alignment, located_or_fault, cell}
 use Rattle.lrs_position.specs.Translating.{alignment_of, referent_at}
 use Rattle.lrs_machine.specs.declared.image.RouteEntry.{RouteEntry}

@@ -16,8 +16,8 @@ use Rattle.lrs_events.specs.declared.span.Span.{Span}
 use Rattle.lrs_events.specs.Canonical.{side_of}
 use Rattle.lrs_events.specs.Changes.{has_row}
 use Rattle.lrs_events.specs.Members.{has_side, stands_for}
-use Rattle.lrs_canonical.specs.OnCourse.{is_held}
-use Rattle.lrs_canonical.proofs.Differing.{has_found, has_in}
+use Rattle.lrs_events_rows.specs.OnCourse.{is_held}
+use Rattle.lrs_events_rows.proofs.Differing.{has_found, has_in}
 use Rattle.lrs_machine.specs.declared.image.RouteEntry.{RouteEntry}
 use Rattle.lrs_machine.specs.declared.image.Image.{Image}
 use Rattle.lrs_machine.specs.declared.hit.Hit.{Hit}
@@ -25,11 +25,11 @@ use Rattle.lrs_machine.specs.Image.{state_of, asset_entry}
 use Rattle.lrs_machine.specs.Readings.{hits_on, hit_of, asset_of}
 use Rattle.lrs_machine.specs.Sound.{IsSound, asset_before}
 use Rattle.lrs_machine.proofs.Members.{In, any_found, any_of, two_at}
-use Rattle.lrs_keep.proofs.Tables.{assets_in_order}
+use Rattle.lrs_image.proofs.Tables.{assets_in_order}
 use Rattle.lrs_answers.specs.Answers.{IsRouteIn}
 use Rattle.lrs_answers.specs.Hits.{hit_by}
 use Rattle.lrs_answers.proofs.Asked.{route_in, found_in, found_passes}
-use Rattle.lrs_routes.proofs.Holding.{held_at}
+use Rattle.lrs_image_laws.proofs.Holding.{held_at}
 use Rattle.lrs_answers.proofs.Joined.{joined, is_false, filter_map-same, with_key}
 
 its_sides : (s : Side) → side_of (has_side s Left) (has_side s Right) ≡ Some s

@@ -9,7 +9,7 @@ use Rattle.lrs_measure.specs.Texts.{Name, same_name}
 use Rattle.lrs_events.specs.declared.part.Part.{Part}
 use Rattle.lrs_events.specs.Parts.{has_place, has_pair, has_for, IsHadOnce}
 use Rattle.lrs_events.specs.Places.{Place, same_place, same_link_side}
-use Rattle.lrs_report.specs.Totals.{total_of}
+use Rattle.lrs_machine.specs.Totals.{total_of}
 use Rattle.lrs_machine.specs.State.{State}
 use Rattle.lrs_machine.specs.Readings.{all_places, assets_of, edits_of}
 use Rattle.lrs_machine.specs.Laws.{IsCounted}
@@ -33,8 +33,8 @@ use Rattle.lrs_events.specs.declared.part.Gone.{Gone}
 use Rattle.lrs_events.specs.Parts.{part_before}
 use Rattle.lrs_measure.specs.Lists.{each_two}
 use Rattle.std.specs.List.{list_all}
-use Rattle.lrs_keep.proofs.Tables.{passes}
-use Rattle.lrs_sound.proofs.Balancing.{apart_is_once, filled}
+use Rattle.lrs_image.proofs.Tables.{passes}
+use Rattle.lrs_image_sound.proofs.Balancing.{apart_is_once, filled}
 use Rattle.lrs_answers.specs.Totals.{is_of_class, ledger_total, parts_gone, LedgersTotal}
 use Rattle.lrs_answers.proofs.Joined.{is_false}
 

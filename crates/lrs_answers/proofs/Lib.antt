@@ -6,3 +6,9 @@ pub mod OfState
 pub mod AllRows
 pub mod AskedAt
 pub mod Ledgers
+pub mod Parted
+pub mod Naming
+pub mod Lying
+pub mod Gathering
+pub mod Everywhere
+pub mod Appending

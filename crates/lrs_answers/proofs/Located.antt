@@ -8,8 +8,8 @@ use Rattle.lrs_measure.specs.Texts.{Name}
 use Rattle.lrs_measure.specs.Fraction.{Fraction, IsLowest}
 use Rattle.lrs_position.specs.declared.expression.Expr.{Expr}
 use Rattle.lrs_position.specs.declared.expression.Expr.TheVariants.{Abs, Rel, Int}
-use Rattle.lrs_position.specs.declared.locating.PlaceFault.{PlaceFault}
-use Rattle.lrs_position.specs.declared.locating.PlaceFault.TheVariants as fault
+use Rattle.lrs_position.specs.declared.location.PlaceFault.{PlaceFault}
+use Rattle.lrs_position.specs.declared.location.PlaceFault.TheVariants as fault
 use Rattle.lrs_position.specs.declared.route.Route.{Route}
 use Rattle.lrs_position.specs.Locating.{Alignment, Locates, located, located_or_fault, lacks_referent, is_too_fine, cell}
 use Rattle.lrs_position.specs.Translating.{alignment_of, referent_at, number_of, IsAnswer, IsOnRoute}

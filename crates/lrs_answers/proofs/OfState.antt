@@ -8,25 +8,25 @@ use Rattle.lrs_events.specs.declared.class.Class.{Class}
 use Rattle.lrs_events.specs.declared.side.Side.{Side}
 use Rattle.lrs_events.specs.Spans.{are_rows, same_side}
 use Rattle.lrs_events.specs.declared.side.Side.TheVariants.{B}
-use Rattle.lrs_report.specs.declared.segments.SegFault.{SegFault}
-use Rattle.lrs_report.specs.declared.segments.SegFault.TheVariants as seg
-use Rattle.lrs_report.specs.Segments.{segment_fault, fault_at, is_class, is_exclusive_class}
+use Rattle.lrs_machine.specs.declared.segment.SegFault.{SegFault}
+use Rattle.lrs_machine.specs.declared.segment.SegFault.TheVariants as seg
+use Rattle.lrs_machine.specs.Segments.{segment_fault, fault_at, is_class, is_exclusive_class}
 use Rattle.lrs_machine.specs.declared.image.RouteEntry.{RouteEntry}
 use Rattle.lrs_machine.specs.declared.image.Image.{Image}
 use Rattle.lrs_machine.specs.Image.{state_of}
 use Rattle.lrs_machine.specs.Sound.{IsSound, RouteSpans, are_spans_of, spans_of, is_span, keeps_exclusive}
 use Rattle.lrs_machine.proofs.Members.{In, all_at, In-map}
 use Rattle.lrs_machine.proofs.SoundImages.{sound_is_lawful}
-use Rattle.lrs_keep.proofs.Tables.{passes, assets_in_order, classes_in_order}
-use Rattle.lrs_segments.specs.Along.{IsAnswer, AreExclusive}
-use Rattle.lrs_segments.specs.InState.{TellHolders}
-use Rattle.lrs_segments.specs.Along.{holders_along}
-use Rattle.lrs_segments.specs.Sweep.{run_of}
-use Rattle.lrs_segments.proofs.States.{exclusive_too, of_state}
-use Rattle.lrs_report.specs.declared.segments.Segment.{Segment}
-use Rattle.lrs_report.specs.Segments.{segments_of}
+use Rattle.lrs_image.proofs.Tables.{passes, assets_in_order, classes_in_order}
+use Rattle.lrs_report.specs.Along.{IsAnswer, AreExclusive}
+use Rattle.lrs_report.specs.InState.{TellHolders}
+use Rattle.lrs_report.specs.Along.{holders_along}
+use Rattle.lrs_report.specs.Sweep.{run_of}
+use Rattle.lrs_report.proofs.States.{exclusive_too, of_state}
+use Rattle.lrs_machine.specs.declared.segment.Segment.{Segment}
+use Rattle.lrs_machine.specs.Segments.{segments_of}
 use Rattle.lrs_events.specs.declared.side.LinkSide.{LinkSide}
-use Rattle.lrs_spans.specs.Search.{one_side}
+use Rattle.lrs_events_spans.specs.Search.{one_side}
 use Rattle.lrs_position.specs.Locating.{Alignment}
 use Rattle.lrs_position.specs.Translating.{alignment_of}
 use Rattle.lrs_machine.specs.Register.{get}
@@ -36,7 +36,7 @@ use Rattle.lrs_answers.specs.declared.fault.AskFault.TheVariants.{Seg}
 use Rattle.lrs_answers.specs.Answers.{IsRouteIn, UnlessMemory}
 use Rattle.lrs_answers.specs.Segmented.{class_list, asked_fault, IsSegmented}
 use Rattle.lrs_answers.proofs.Asked.{route_in, on_route}
-use Rattle.lrs_routes.proofs.Holding.{held_at}
+use Rattle.lrs_image_laws.proofs.Holding.{held_at}
 
 abbrev spans_entry : RouteEntry → RouteSpans
 spans_entry f = record { course = f.route.course; rows = f.spans }

@@ -3,7 +3,7 @@ use Rattle.std.specs.Prelude.{◌≡◌, ℕ, length, Option, Some, Result, Ok, 
 use Rattle.std.specs.List.{find}
 use Rattle.lrs_measure.specs.Texts.{Name}
 use Rattle.lrs_position.specs.declared.expression.Expr.{Expr}
-use Rattle.lrs_position.specs.declared.locating.PlaceFault.{PlaceFault}
+use Rattle.lrs_position.specs.declared.location.PlaceFault.{PlaceFault}
 use Rattle.lrs_position.specs.Locating.{Alignment, located_or_fault, cell}
 use Rattle.lrs_machine.specs.declared.image.Image.{Image}
 use Rattle.lrs_machine.specs.declared.image.RouteEntry.{RouteEntry}
@@ -11,7 +11,7 @@ use Rattle.lrs_machine.specs.Machine.{entry_of_referent}
 use Rattle.lrs_machine.specs.Readings.{hits_on}
 use Rattle.lrs_machine.specs.Register.{get}
 use Rattle.lrs_machine.specs.State.{State}
-use Rattle.lrs_keep.specs.Change.{is_named}
+use Rattle.lrs_image.specs.Change.{is_named}
 use Rattle.lrs_answers.specs.declared.fault.AskFault.{AskFault}
 use Rattle.lrs_answers.specs.declared.fault.AskFault.TheVariants.{NoRoute, Place, Memory}
 use Rattle.lrs_answers.specs.declared.hits.AtAnswer.{AtAnswer}

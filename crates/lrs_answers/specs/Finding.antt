@@ -5,14 +5,14 @@ use Rattle.lrs_measure.specs.Runs.{Run}
 use Rattle.lrs_measure.specs.Texts.{Name}
 use Rattle.lrs_events.specs.declared.side.Side.{Side}
 use Rattle.lrs_events.specs.declared.span.Span.{Span}
-use Rattle.lrs_canonical.specs.Members.{is_of}
+use Rattle.lrs_events_rows.specs.Members.{is_of}
 use Rattle.lrs_machine.specs.declared.image.RouteEntry.{RouteEntry}
 use Rattle.lrs_machine.specs.Readings.{rows_of}
 use Rattle.lrs_machine.specs.Register.{get, entries}
 use Rattle.lrs_machine.specs.State.{State}
 use Rattle.lrs_answers.specs.declared.fault.AskFault.{AskFault}
 use Rattle.lrs_answers.specs.declared.fault.AskFault.TheVariants.{NoAsset}
-use Rattle.lrs_answers.specs.declared.finding.FoundRow.{FoundRow}
+use Rattle.lrs_answers.specs.declared.rows.FoundRow.{FoundRow}
 use Rattle.lrs_answers.specs.Answers.{UnlessMemory}
 
 -- a canonical row on the route of a name

@@ -3,3 +3,7 @@ pub mod Hits
 pub mod Finding
 pub mod Segmented
 pub mod Totals
+pub mod Ground
+pub mod Named
+pub mod Lines
+pub mod Causes

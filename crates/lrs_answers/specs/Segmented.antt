@@ -4,15 +4,15 @@ use Rattle.lrs_measure.specs.Texts.{Name}
 use Rattle.lrs_events.specs.declared.class.Class.{Class}
 use Rattle.lrs_events.specs.declared.side.Side.{Side}
 use Rattle.lrs_events.specs.declared.side.LinkSide.{LinkSide}
-use Rattle.lrs_report.specs.declared.segments.SegFault.{SegFault}
-use Rattle.lrs_report.specs.declared.segments.SegFault.TheVariants as seg
-use Rattle.lrs_report.specs.declared.segments.Segment.{Segment}
-use Rattle.lrs_report.specs.Segments.{segment_fault}
-use Rattle.lrs_spans.specs.Search.{one_side}
+use Rattle.lrs_machine.specs.declared.segment.SegFault.{SegFault}
+use Rattle.lrs_machine.specs.declared.segment.SegFault.TheVariants as seg
+use Rattle.lrs_machine.specs.declared.segment.Segment.{Segment}
+use Rattle.lrs_machine.specs.Segments.{segment_fault}
+use Rattle.lrs_events_spans.specs.Search.{one_side}
 use Rattle.lrs_machine.specs.Readings.{segments_on}
 use Rattle.lrs_machine.specs.Register.{entries}
 use Rattle.lrs_machine.specs.State.{State}
-use Rattle.lrs_segments.specs.Sweep.{run_of}
+use Rattle.lrs_report.specs.Sweep.{run_of}
 use Rattle.lrs_answers.specs.declared.fault.AskFault.{AskFault}
 use Rattle.lrs_answers.specs.declared.fault.AskFault.TheVariants.{Seg, Memory}
 use Rattle.lrs_answers.specs.Answers.{UnlessMemory, OnRoute}

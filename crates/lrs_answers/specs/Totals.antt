@@ -6,7 +6,7 @@ use Rattle.lrs_events.specs.declared.part.Part.{Part}
 use Rattle.lrs_events.specs.declared.part.Gone.{Gone}
 use Rattle.lrs_machine.specs.declared.image.Image.{Image}
 use Rattle.lrs_machine.specs.Image.{state_of, reason_of}
-use Rattle.lrs_report.specs.declared.totals.Total.{Total}
+use Rattle.lrs_machine.specs.declared.total.Total.{Total}
 use Rattle.lrs_machine.specs.Readings.{total_entered, total_gone, total_present}
 use Rattle.lrs_machine.specs.Register.{get, entries}
 use Rattle.lrs_machine.specs.Sound.{IsSound}

@@ -1,7 +1,7 @@
 //! Why a question is refused.
 
+use lrs_machine::SegFault;
 use lrs_position::PlaceFault;
-use lrs_report::SegFault;
 use std::alloc::AllocError;
 
 /// Why a question is refused.

@@ -1,16 +1,27 @@
 //! What a road authority asks of an inventory, over the lists that are kept of it.
+//! Where an asset lies, by the ground where it was entered.
+//! The lines as which answers are printed.
 #![tactic(auto)]
 
+mod asset_rows;
+mod cause;
+mod entered_parts;
 mod fault;
-mod finding;
+mod ground_routes;
 mod hits;
 pub mod laws;
-mod routes;
-mod segmenting;
-mod standing;
+mod lines;
+mod position;
+mod route;
+mod rows;
+mod search;
+mod segmentation;
 
+pub use cause::{AskCause, cause_of};
 pub use fault::AskFault;
-pub use finding::{FoundRow, push_rows};
 pub use hits::{AtAnswer, at};
-pub use segmenting::segments;
-pub use standing::{to_link, translate};
+pub use lines::{write_at, write_expression, write_found, write_link_position, write_totals};
+pub use position::{to_link, translate};
+pub use rows::{FoundRow, push_rows};
+pub use search::find;
+pub use segmentation::segments;

@@ -1,17 +1,17 @@
 //! The program `roadlrs`: its words, what it does for them, and how it ends.
 #![tactic(auto)]
 
-mod doing;
-mod opening;
-mod serving;
+mod inventory;
+mod jobs;
+mod server;
 
-use doing::{do_in_memory, do_task};
-use lrs_opening::opening::close_keeper;
-use lrs_tasks::{
+use inventory::open_file;
+use jobs::{do_in_memory, do_task};
+use lrs_cli_tasks::{
     Ending, Pace, ProgramFault, Shown, Task, inventory_of, is_in_memory, status, task_of,
 };
-use lrs_words::{Job, QuestionFault, WordsFault, job_of};
-use opening::open_file;
+use lrs_cli_words::{Job, QuestionFault, WordsFault, job_of};
+use lrs_store::files::close_keeper;
 use std::env;
 use std::io::{ErrorKind, IsTerminal};
 use std::process::ExitCode;

@@ -15,18 +15,18 @@ use Rattle.lrs_machine.specs.declared.answer.Answer.TheVariants.{Done, Refused}
 use Rattle.lrs_machine.specs.declared.command.Command.{Command}
 use Rattle.lrs_machine.specs.declared.image.Edit.{Edit}
 use Rattle.lrs_machine.specs.declared.image.Image.{Image}
-use Rattle.lrs_verbs.specs.declared.plan.Plan.{Plan}
+use Rattle.lrs_inventory.specs.declared.plan.Plan.{Plan}
 use Rattle.lrs_machine.specs.Bounds.{most_routes, most_assets, most_edits}
 use Rattle.lrs_machine.specs.State.{State}
 use Rattle.lrs_machine.specs.State as state
 use Rattle.lrs_machine.specs.Image.{state_of, asset_entry, route_entry}
-use Rattle.lrs_keep.specs.Change.{with_difference}
-use Rattle.lrs_verbs.specs.Keys.{place_among}
+use Rattle.lrs_image.specs.Change.{with_difference}
+use Rattle.lrs_inventory.specs.Keys.{place_among}
 use Rattle.lrs_machine.specs.Lines.{line_of}
 use Rattle.lrs_machine.specs.Sound.{IsSound}
 use Rattle.lrs_machine.specs.Machine.{step, attempt, step_by_key, outcome_of, next, answer_known, line_at, place_of_key, check_room, refuse_if, ◌>>◌, needs_asset, needs_route}
-use Rattle.lrs_verbs.specs.Plans.{IsPlanOf}
-use Rattle.lrs_orderly.proofs.Making.{made_is_sound}
+use Rattle.lrs_inventory.specs.Plans.{IsPlanOf}
+use Rattle.lrs_image_laws.proofs.Making.{made_is_sound}
 use Rattle.lrs_desk.specs.Decide.{IsDoneBy, HasRoom, LacksRoom, edit_of, done_image}
 
 -- an edit as the ground machine keeps it

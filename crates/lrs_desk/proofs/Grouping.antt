@@ -12,12 +12,12 @@ use Rattle.lrs_machine.specs.Image.{state_of}
 use Rattle.lrs_machine.specs.Machine.{Record, step_record, answers, state_after}
 use Rattle.lrs_machine.specs.Sound.{IsSound}
 use Rattle.lrs_machine.specs.State.{State}
-use Rattle.lrs_keep.specs.declared.change.Change.{Change}
-use Rattle.lrs_keep.specs.Change.{apply, CanMake}
-use Rattle.lrs_keep.specs.Keeping.{HasRisen, HoldsOnly, HoldsSound}
-use Rattle.lrs_keep.specs.Together.{apply_all, CanMakeAll, IsChangedBy, IsChangedBySome}
-use Rattle.lrs_keep.proofs.Together.{apply_more, can_more}
-use Rattle.lrs_stops.specs.Stopped.{IsAccepted}
+use Rattle.lrs_image.specs.declared.change.Change.{Change}
+use Rattle.lrs_image.specs.Change.{apply, CanMake}
+use Rattle.lrs_image.specs.Keeping.{HasRisen, HoldsOnly, HoldsSound}
+use Rattle.lrs_image.specs.Together.{apply_all, CanMakeAll, IsChangedBy, IsChangedBySome}
+use Rattle.lrs_image.proofs.Together.{apply_more, can_more}
+use Rattle.lrs_machine_stops.specs.Stopped.{IsAccepted}
 use Rattle.lrs_desk.specs.Desk.{IsAmid, BreaksAmid, records_of}
 use Rattle.lrs_desk.specs.DeskView.{DeskView}
 use Rattle.lrs_desk.specs.Group.{IsStage, MayBeChanged, DoesNext, IsMade, HasDone, GoesOn, IsGroup}

@@ -8,12 +8,12 @@ use Rattle.lrs_machine.specs.declared.answer.Limits.{Limits}
 use Rattle.lrs_machine.specs.declared.command.Command.{Command}
 use Rattle.lrs_machine.specs.declared.image.Edit.{Edit}
 use Rattle.lrs_machine.specs.declared.image.Image.{Image}
-use Rattle.lrs_verbs.specs.declared.plan.Plan.{Plan}
-use Rattle.lrs_desk.specs.declared.decide.Decision.{Decision}
-use Rattle.lrs_desk.specs.declared.decide.Decision.TheVariants.{Stay, Make}
+use Rattle.lrs_inventory.specs.declared.plan.Plan.{Plan}
+use Rattle.lrs_desk.specs.declared.decision.Decision.{Decision}
+use Rattle.lrs_desk.specs.declared.decision.Decision.TheVariants.{Stay, Make}
 use Rattle.lrs_machine.specs.Image.{state_of}
-use Rattle.lrs_keep.specs.Change.{with_difference, with_edit}
-use Rattle.lrs_verbs.specs.Plans.{IsPlanOf}
+use Rattle.lrs_image.specs.Change.{with_difference, with_edit}
+use Rattle.lrs_inventory.specs.Plans.{IsPlanOf}
 use Rattle.lrs_machine.specs.Lines.{line_of}
 use Rattle.lrs_machine.specs.Machine.{step, needs_asset, needs_route}
 use Rattle.lrs_machine.specs.Sound.{IsSound}

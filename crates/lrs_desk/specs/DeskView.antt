@@ -3,9 +3,9 @@ use Rattle.std.specs.Prelude.{◌≡◌, Bool, true, false, Result}
 use Rattle.lrs_machine.specs.declared.answer.Limits.{Limits}
 use Rattle.lrs_machine.specs.declared.image.Image.{Image}
 use Rattle.lrs_machine.specs.declared.table.Table.{Table}
-use Rattle.lrs_keep.specs.Keeping.{HoldsOnly}
-use Rattle.lrs_totals.specs.declared.counts.Counts.{Counts}
-use Rattle.lrs_totals.specs.Running.{IsCounted}
+use Rattle.lrs_image.specs.Keeping.{HoldsOnly}
+use Rattle.lrs_answers_totals.specs.declared.counts.Counts.{Counts}
+use Rattle.lrs_answers_totals.specs.Running.{IsCounted}
 
 pub record DeskView (K : Type 0) : Type 0 where
   pub image : Image

@@ -9,10 +9,10 @@ use Rattle.lrs_machine.specs.declared.image.Image.{Image}
 use Rattle.lrs_machine.specs.Image.{state_of}
 use Rattle.lrs_machine.specs.Machine.{Record, step, answers, state_after}
 use Rattle.lrs_machine.specs.Sound.{IsSound}
-use Rattle.lrs_keep.specs.declared.change.Change.{Change}
-use Rattle.lrs_keep.specs.Change.{apply, CanMake}
-use Rattle.lrs_keep.specs.Together.{apply_all, CanMakeAll}
-use Rattle.lrs_stops.specs.Stopped.{IsAccepted}
+use Rattle.lrs_image.specs.declared.change.Change.{Change}
+use Rattle.lrs_image.specs.Change.{apply, CanMake}
+use Rattle.lrs_image.specs.Together.{apply_all, CanMakeAll}
+use Rattle.lrs_machine_stops.specs.Stopped.{IsAccepted}
 use Rattle.lrs_desk.specs.Desk.{DoesFirst}
 
 -- The image is sound, and stands for the state after some first ones of these commands.

@@ -13,10 +13,10 @@ ghost use Rattle.lrs_position.specs.Translating.{RoundTrip, Translates};
 use crate::desk::Desk;
 use lrs_answers::{AskFault, AtAnswer, FoundRow};
 use lrs_events::{ClassName, Side};
-use lrs_keep::Keeper;
+use lrs_image::Keeper;
+use lrs_machine::{Segment, Total};
 use lrs_measure::{Frac, Rows};
 use lrs_position::{Expr, RouteName, Target};
-use lrs_report::{Segment, Total};
 
 impl<K: Keeper> Desk<K> {
     /// The millimetre of a route in which a position stands, and who holds it, by asset number (ISO 19148: located event).
@@ -46,7 +46,7 @@ impl<K: Keeper> Desk<K> {
         if self.must_reopen() {
             return Err(AskFault::MustReopen);
         }
-        lrs_finding::find(self.alloc(), self.inventory(), asset)
+        lrs_answers::find(self.alloc(), self.inventory(), asset)
     }
 
     /// The segments of a route by these exclusive classes, on one side of it (ISO 19148: linear segment).

@@ -4,15 +4,15 @@ ghost use Rattle.std.specs.Prelude.{◌≡◌, ◌↔◌, IsTrue, ◌≤◌, IfO
 ghost use Rattle.lrs_machine.specs.declared.table.Table.{Table};
 ghost use Rattle.lrs_machine.specs.declared.image.Image.{Image as ImageRows};
 ghost use Rattle.lrs_machine.specs.Image.{state_of};
-ghost use Rattle.lrs_keep.specs.Keeping.{HasRisen, HoldsOnly};
-ghost use Rattle.lrs_totals.specs.Running.{IsCounted};
+ghost use Rattle.lrs_image.specs.Keeping.{HasRisen, HoldsOnly};
+ghost use Rattle.lrs_answers_totals.specs.Running.{IsCounted};
 ghost use Rattle.lrs_desk.specs.Desk.{IsUnchanged, DoesFirst, BreaksAmid, records_of};
 
 use crate::group::{Group, do_first};
-use lrs_keep::{CommitFailed, Keeper, LoadFault};
+use lrs_answers_totals::Counts;
+use lrs_image::{CommitFailed, Keeper, LoadFault};
+use lrs_inventory::Inventory;
 use lrs_machine::{Answer, Command, Key, Limits, Table};
-use lrs_totals::Counts;
-use lrs_verbs::Inventory;
 use std::alloc::{AllocError, AllocFailed, Global};
 use std::marker::Model;
 

@@ -1,19 +1,19 @@
 //! Commands that are done together: here first, by changes that are kept then.
 
 ghost use Rattle.std.specs.Prelude.{◌≡◌, ◌+◌, ◌<◌, ◌≤◌, ◌∷◌, ◌++◌, [], IfOk, OnOk, OnErr, length, true, vec_len, vec_capacity};
-ghost use Rattle.lrs_keep.specs.Change.{apply, CanMake};
-ghost use Rattle.lrs_stops.specs.Stopped.{IsAccepted};
-ghost use Rattle.lrs_totals.specs.Running.{IsCounted};
-ghost use Rattle.lrs_verbs.specs.Plans.{change_of, TellsGround};
+ghost use Rattle.lrs_image.specs.Change.{apply, CanMake};
+ghost use Rattle.lrs_machine_stops.specs.Stopped.{IsAccepted};
+ghost use Rattle.lrs_answers_totals.specs.Running.{IsCounted};
+ghost use Rattle.lrs_inventory.specs.Plans.{change_of, TellsGround};
 ghost use Rattle.lrs_desk.specs.Desk.{records_of};
 ghost use Rattle.lrs_desk.specs.Group.{DoesNext, IsGroup};
 
-use crate::decide::{Decision, decide};
+use crate::decision::{Decision, decide};
+use lrs_answers_totals::Counts;
 use lrs_events::Class;
-use lrs_keep::Change;
+use lrs_image::Change;
+use lrs_inventory::{Inventory, Plan};
 use lrs_machine::{Answer, Command, Edit, Key, Limits};
-use lrs_totals::Counts;
-use lrs_verbs::{Inventory, Plan};
 use std::alloc::{AllocError, Global};
 
 /// The answers to commands that are done together, and what they change, for those who keep it.

@@ -2,13 +2,14 @@
 #![tactic(auto)]
 
 mod answers;
-mod decide;
+mod decision;
 mod desk;
 mod group;
 
 pub use desk::{Desk, Fault, OpenFault};
 pub use lrs_answers::{AskFault, AtAnswer, FoundRow};
-pub use lrs_keep::{Change, CommitFailed, Difference, Keeper, LoadFault, Plain};
+pub use lrs_answers_totals::Counts;
+pub use lrs_image::{Change, CommitFailed, Difference, Keeper, LoadFault};
+pub use lrs_image_plain::Plain;
+pub use lrs_inventory::Inventory;
 pub use lrs_machine::{Answer, Cause, Command, Image, Key, Limits, Table};
-pub use lrs_totals::Counts;
-pub use lrs_verbs::Inventory;

@@ -8,7 +8,7 @@ ghost use Rattle.lrs_element.specs.Course.{lacks_link, are_in_order, is_bad_piec
 ghost use Rattle.lrs_element.specs.declared.link.Piece.{Piece};
 ghost use Rattle.lrs_element.specs.Pieces.{pieces_meet, IsFilled, IsInOrder};
 
-use crate::known::KnownLinks;
+use crate::known_links::KnownLinks;
 use crate::link::Piece;
 use std::alloc::{AllocError, Global};
 

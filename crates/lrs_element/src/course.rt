@@ -5,7 +5,7 @@ ghost use Rattle.lrs_element.specs.Pieces.{lesser_link};
 ghost use Rattle.lrs_element.specs.Course.{course_of, expand, turned, meets, share_link, is_too_long, are_in_order, lacks_link, is_bad_piece, first_repeated, IsFewest, AreGood};
 
 use crate::checks::{first_bad_piece, first_repeated, first_unlinked};
-use crate::known::KnownLinks;
+use crate::known_links::KnownLinks;
 use crate::link::{Ground, Piece};
 use crate::pieces::{fewest_of, one_meets, push_range, starts_of, starts_up_to, turned_pieces};
 use std::alloc::{AllocError, Global};

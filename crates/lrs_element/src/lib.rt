@@ -5,7 +5,7 @@
 
 mod checks;
 mod course;
-mod known;
+mod known_links;
 mod line;
 mod link;
 mod marks;
@@ -13,7 +13,7 @@ mod pieces;
 
 pub use checks::have_repeat;
 pub use course::{Course, CourseFault, JoinFault};
-pub use known::KnownLinks;
+pub use known_links::KnownLinks;
 pub use link::{Ground, Link, Piece};
 pub use marks::{Mark, MarkFault, Marks};
 pub use pieces::{starts_of, starts_up_to};

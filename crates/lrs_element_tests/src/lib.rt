@@ -4,6 +4,6 @@
 #[cfg(test)]
 mod courses;
 #[cfg(test)]
-mod refused;
+mod memory;
 #[cfg(test)]
 mod rows;

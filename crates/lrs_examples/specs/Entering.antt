@@ -5,7 +5,7 @@ use Rattle.std.specs.Fmt.{digits}
 use Rattle.std.proofs.Common.{inl, lit<, lit≤}
 use Rattle.lrs_element.specs.Marks.{chainage_at}
 use Rattle.lrs_position.specs.declared.expression.Expr.TheVariants.{Abs, Rel}
-use Rattle.lrs_position.specs.declared.locating.PlaceFault.TheVariants.{NoRef, TooFine, OffRoute}
+use Rattle.lrs_position.specs.declared.location.PlaceFault.TheVariants.{NoRef, TooFine, OffRoute}
 use Rattle.lrs_position.specs.Locating.{located, located_or_fault, Locates, snap, cell}
 use Rattle.lrs_events.specs.declared.class.Kind.TheVariants.{Exclusive}
 use Rattle.lrs_events.specs.declared.side.Side.TheVariants.{L, R, B}

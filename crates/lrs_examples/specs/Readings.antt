@@ -11,8 +11,8 @@ use Rattle.lrs_events.specs.declared.side.LinkSide.{LinkSide}
 use Rattle.lrs_events.specs.declared.side.LinkSide.TheVariants.{Left, Right}
 use Rattle.lrs_events.specs.Places.{is_among}
 use Rattle.lrs_events.specs.Canonical.{canonical_rows}
-use Rattle.lrs_report.specs.declared.segments.SegFault.TheVariants.{NoClass, NotExclusive, SideB}
-use Rattle.lrs_report.specs.Segments.{Values, segment_fault}
+use Rattle.lrs_machine.specs.declared.segment.SegFault.TheVariants.{NoClass, NotExclusive, SideB}
+use Rattle.lrs_machine.specs.Segments.{Values, segment_fault}
 use Rattle.lrs_machine.specs.declared.command.Command.TheVariants as verb
 use Rattle.lrs_machine.specs.Register.{get}
 use Rattle.lrs_machine.specs.Machine.{Record, attempt, step}

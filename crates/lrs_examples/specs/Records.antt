@@ -8,10 +8,10 @@ use Rattle.lrs_machine.specs.declared.answer.Field.TheVariants as field
 use Rattle.lrs_machine.specs.declared.command.Entry.{Entry}
 use Rattle.lrs_machine.specs.declared.command.Command.{Command}
 use Rattle.lrs_machine.specs.declared.command.Command.TheVariants as verb
-use Rattle.lrs_records.specs.Records.{FirstMalformedAmong, SaysAmong, place_of}
-use Rattle.lrs_records.specs.Surveys.{FirstMalformedEntry, SaysEntry, survey_header}
-use Rattle.lrs_records.specs.Verbs.{all_verbs}
-use Rattle.lrs_records.specs.Words.{parts_of}
+use Rattle.lrs_sheet_records.specs.Records.{FirstMalformedAmong, SaysAmong, place_of}
+use Rattle.lrs_sheet_records.specs.Surveys.{FirstMalformedEntry, SaysEntry, survey_header}
+use Rattle.lrs_sheet_records.specs.Verbs.{all_verbs}
+use Rattle.lrs_sheet_records.specs.Words.{parts_of}
 use Rattle.lrs_examples.specs.Sheet.{a1, km2, km5, speed, rail, sign, abs, past, short_of, share, between, at, link, class, forth, back, mark, plain, enter, supersede, split, join, realign, realign_away, retire}
 
 -- the fields of a line without quotes; those behind the last are empty

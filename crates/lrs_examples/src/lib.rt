@@ -5,10 +5,10 @@
 //! functions here have no bodies of their own; each stands for one of the examples.
 #![tactic(auto)]
 
-pub mod entering;
+pub mod assets;
 pub mod images;
 pub mod records;
 pub mod refusals;
-pub mod retiring;
+pub mod retirements;
 pub mod routes;
-pub mod stored;
+pub mod stored_rows;

@@ -22,13 +22,13 @@ use Rattle.lrs_element.specs.Marks.{is_inner_mark, joined_marks, is_out_of_range
 use Rattle.lrs_element.specs.Limits.{most_marks}
 use Rattle.lrs_element.specs.Pieces.{piece_len}
 use Rattle.lrs_element.proofs.Expanding.{length-expand, get_or-expand}
-use Rattle.lrs_lanes.proofs.Members.{all_places, passes_at, all-filter}
+use Rattle.lrs_events_lanes.proofs.Members.{all_places, passes_at, all-filter}
 use Rattle.lrs_position.specs.Locating.{Alignment}
 use Rattle.lrs_events.specs.declared.class.Kind.{Kind}
 use Rattle.lrs_events.specs.declared.side.Side.{Side}
 use Rattle.lrs_events.specs.declared.side.Side.TheVariants.{B}
 use Rattle.lrs_events.specs.Places.{Place, same_place, is_among, places_at, places_on}
-use Rattle.lrs_report.specs.Segments.{is_exclusive}
+use Rattle.lrs_machine.specs.Segments.{is_exclusive}
 use Rattle.lrs_machine.specs.declared.answer.Cause.{Cause}
 use Rattle.lrs_machine.specs.declared.answer.Cause.TheVariants as cause
 use Rattle.lrs_machine.specs.declared.command.Entry.{Entry}

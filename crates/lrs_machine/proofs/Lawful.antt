@@ -18,7 +18,7 @@ use Rattle.lrs_events.specs.declared.class.Kind.{Kind}
 use Rattle.lrs_events.specs.declared.class.Kind.TheVariants.{Exclusive}
 use Rattle.lrs_events.specs.Places.{Place, is_among, places_on}
 use Rattle.lrs_events.specs.declared.side.Side.TheVariants.{B}
-use Rattle.lrs_report.specs.Segments.{is_exclusive}
+use Rattle.lrs_machine.specs.Segments.{is_exclusive}
 use Rattle.lrs_machine.specs.declared.answer.Cause.{Cause}
 use Rattle.lrs_machine.specs.declared.answer.Cause.TheVariants as cause
 use Rattle.lrs_machine.specs.declared.answer.Limits.{Limits}

@@ -24,7 +24,7 @@ use Rattle.lrs_events.specs.Spans.{holds_by_spans, are_rows}
 use Rattle.lrs_element.specs.Course.{meets}
 use Rattle.lrs_position.specs.Routes.{is_route_course}
 use Rattle.lrs_events.specs.Parts.{has_place, has_pair, part_before}
-use Rattle.lrs_report.specs.Segments.{is_exclusive}
+use Rattle.lrs_machine.specs.Segments.{is_exclusive}
 use Rattle.lrs_machine.specs.declared.image.Image.{Image}
 use Rattle.lrs_machine.specs.declared.image.Edit.{Edit}
 use Rattle.lrs_machine.specs.declared.table.Table.TheVariants as table

@@ -4,7 +4,7 @@ use Rattle.std.specs.List.{range_with_len, count_by}
 use Rattle.std.proofs.lemmas.Bool.{both_ways, cases_Bool, false_from_ne_true, cases_order}
 use Rattle.std.proofs.lemmas.List.Sums.{sum_by-cons}
 use Rattle.lrs_events.specs.Places.{Place}
-use Rattle.lrs_report.specs.Totals.{total_of}
+use Rattle.lrs_machine.specs.Totals.{total_of}
 use Rattle.lrs_machine.specs.State.{State, Reason, Retired, Abandoned}
 use Rattle.lrs_machine.specs.Readings.{all_places, assets_of, edits_of, total_gone}
 use Rattle.lrs_machine.specs.Laws.{IsLawful, LawfulAddsUp}

@@ -1,3 +1,5 @@
+pub mod Totals
+pub mod Segments
 pub mod Keys
 pub mod Entered
 pub mod Bounds

@@ -19,7 +19,7 @@ use Rattle.lrs_events.specs.declared.class.Kind.{Kind}
 use Rattle.lrs_events.specs.declared.class.Kind.TheVariants.{Point, Stretch, Exclusive}
 use Rattle.lrs_events.specs.declared.side.Side.TheVariants.{B}
 use Rattle.lrs_events.specs.Places.{Place, places_on, is_among, lies_on}
-use Rattle.lrs_report.specs.Segments.{is_exclusive}
+use Rattle.lrs_machine.specs.Segments.{is_exclusive}
 use Rattle.lrs_machine.specs.declared.answer.Limits.{Limits}
 use Rattle.lrs_machine.specs.declared.answer.What.TheVariants.{Edits, Assets, Routes}
 use Rattle.lrs_machine.specs.declared.answer.Cause.{Cause}

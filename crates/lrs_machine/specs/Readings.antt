@@ -12,8 +12,8 @@ use Rattle.lrs_events.specs.declared.side.Side.{Side}
 use Rattle.lrs_events.specs.declared.side.LinkSide.{LinkSide}
 use Rattle.lrs_events.specs.Places.{Place, places_of_link, beside}
 use Rattle.lrs_events.specs.Canonical.{side_held, canonical_rows}
-use Rattle.lrs_report.specs.Totals.{total_of}
-use Rattle.lrs_report.specs.Segments.{Values, segments_of}
+use Rattle.lrs_machine.specs.Totals.{total_of}
+use Rattle.lrs_machine.specs.Segments.{Values, segments_of}
 use Rattle.lrs_machine.specs.Register.{get, entries}
 use Rattle.lrs_machine.specs.State.{State, Reason}
 use Rattle.lrs_machine.specs.State as state

@@ -20,7 +20,7 @@ use Rattle.lrs_events.specs.Places.{Place, same_link_side}
 use Rattle.lrs_events.specs.Spans.{are_rows, holds_by_spans}
 use Rattle.lrs_events.specs.Parts.{has_place, side_number, part_before}
 use Rattle.lrs_events.specs.Places.{places_of_link, differs}
-use Rattle.lrs_report.specs.Segments.{is_exclusive}
+use Rattle.lrs_machine.specs.Segments.{is_exclusive}
 use Rattle.lrs_machine.specs.declared.image.Edit.{Edit}
 use Rattle.lrs_machine.specs.declared.image.Image.{Image}
 use Rattle.lrs_machine.specs.declared.image.RouteEntry.{RouteEntry}

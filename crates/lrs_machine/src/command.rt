@@ -1,7 +1,7 @@
 //! Commands: what a record of a sheet asks for. A command is always well formed, by the types of its
 //! parts.
 
-use crate::entered::{AssetNumber, Chainage, LateralOffset, MarkList, PieceList};
+use crate::operands::{AssetNumber, Chainage, LateralOffset, MarkList, PieceList};
 use lrs_element::Link;
 use lrs_events::{Class, ClassName, Side, Value};
 use lrs_position::{EnteredPosition, EventLocation, RefName, RouteName};

@@ -6,10 +6,10 @@ use crate::key::Key;
 use crate::line::Line;
 use lrs_element::Link;
 use lrs_events::{Asset, Class, Gone, Part};
+use lrs_events_spans::Spans;
 use lrs_measure::{Rows, TryCopy};
 use lrs_ordered::{Keyed, Ordered, name_rank};
 use lrs_position::{Route, RouteName};
-use lrs_spans::Spans;
 use std::alloc::{AllocError, Global};
 use std::cmp;
 

@@ -1,3 +1,4 @@
+//! What is read off an inventory: totals by class, and segments of a route (ISO 19148, linear segment).
 //! The ground machine: commands under keys, their answers, and what they make of an inventory.
 //!
 //! What each command asks and changes is defined over a small model with one entry for each millimetre
@@ -7,22 +8,26 @@
 
 mod answer;
 mod command;
-mod entered;
-mod formed;
 mod hit;
 mod image;
 mod key;
 pub mod laws;
 mod line;
+mod operands;
+mod segment;
 mod table;
 mod texts;
+mod total;
+mod well_formed;
 
 pub use answer::{Answer, Cause, Field, Limits, What};
 pub use command::{Command, Entry};
-pub use entered::{AssetNumber, Chainage, LateralOffset, MarkList, PieceList};
-pub use formed::every_command_is_well_formed;
 pub use hit::Hit;
 pub use image::{Edit, Image, RouteEntry};
 pub use key::Key;
 pub use line::Line;
+pub use operands::{AssetNumber, Chainage, LateralOffset, MarkList, PieceList};
+pub use segment::{SegFault, Segment};
 pub use table::Table;
+pub use total::Total;
+pub use well_formed::every_command_is_well_formed;

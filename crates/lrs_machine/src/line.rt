@@ -7,7 +7,7 @@ ghost use Rattle.std.specs.Fmt.{decimal};
 ghost use Rattle.lrs_machine.specs.declared.command.Command.TheVariants as verb;
 
 use crate::command::{Command, Entry};
-use crate::entered::{AssetNumber, Chainage, MarkList, PieceList};
+use crate::operands::{AssetNumber, Chainage, MarkList, PieceList};
 use crate::texts::{
     class_text, expression_text, kind_text, location_text, marks_text, method_text, pieces_text,
     referent_text, route_text, side_text, some_pieces_text, value_text,

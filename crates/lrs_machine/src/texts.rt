@@ -7,7 +7,7 @@ ghost use Rattle.lrs_events.specs.Names;
 ghost use Rattle.lrs_machine.specs.Lines;
 ghost use Rattle.lrs_machine.specs.Texts.{after_words};
 
-use crate::entered::PieceList;
+use crate::operands::PieceList;
 use lrs_element::{Mark, Piece};
 use lrs_events::{ClassName, Kind, Side, Value};
 use lrs_measure::Frac;

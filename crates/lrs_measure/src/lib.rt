@@ -8,12 +8,12 @@ pub mod alphabet;
 mod fraction;
 pub mod laws;
 mod metres;
-mod reading;
+mod numerals;
 mod rows;
 mod text;
 
 pub use fraction::{Frac, gcd};
 pub use metres::Metres;
-pub use reading::{read_digits, read_fraction, read_signed};
+pub use numerals::{read_digits, read_fraction, read_signed};
 pub use rows::{Rows, TryCopy};
 pub use text::Text;

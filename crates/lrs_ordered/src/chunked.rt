@@ -9,12 +9,12 @@ ghost use Rattle.lrs_measure.specs.Ordered.{insert_by, insert_some, insert_all};
 ghost use Rattle.lrs_ordered.specs.Ordered.{is_split_by, are_empty};
 
 use crate::chunk::Chunk;
-use crate::find::find_among;
 use crate::firsts::Firsts;
+use crate::insertion::{put, put_last};
 use crate::iter::RowsIter;
-use crate::ordered::{Keyed, Ordered};
-use crate::put::{put, put_last};
-use crate::remove::remove_among;
+use crate::order::{Keyed, Ordered};
+use crate::removal::remove_among;
+use crate::search::find_among;
 use lrs_measure::TryCopy;
 use std::alloc::{AllocError, Global};
 use std::marker::Model;

@@ -16,8 +16,8 @@ use Rattle.lrs_element.specs.declared.link.Ground.{Ground}
 use Rattle.lrs_element.specs.Course.{Millimetre, expand, course_of, is_at, entry_of}
 use Rattle.lrs_element.specs.Pieces.{piece_len, ground_of, start_of}
 use Rattle.lrs_position.specs.declared.route.Route.{Route}
-use Rattle.lrs_position.specs.declared.locating.PlaceFault.{PlaceFault}
-use Rattle.lrs_position.specs.declared.locating.PlaceFault.TheVariants.{OffRoute}
+use Rattle.lrs_position.specs.declared.location.PlaceFault.{PlaceFault}
+use Rattle.lrs_position.specs.declared.location.PlaceFault.TheVariants.{OffRoute}
 use Rattle.lrs_position.specs.Locating.{cell}
 use Rattle.lrs_position.specs.Translating.{chainage_fault}
 use Rattle.lrs_position.specs.LinkPositions.{across, millimetre_at, route_over, link_fault, LiesOnRoute, IsRoutePosition}

@@ -12,8 +12,8 @@ use Rattle.lrs_position.specs.declared.expression.Expr.{Expr}
 use Rattle.lrs_position.specs.declared.expression.Expr.TheVariants.{Rel, Int}
 use Rattle.lrs_position.specs.declared.expression.Target.{Target}
 use Rattle.lrs_position.specs.declared.expression.Target.TheVariants as target
-use Rattle.lrs_position.specs.declared.locating.PlaceFault.{PlaceFault}
-use Rattle.lrs_position.specs.declared.locating.PlaceFault.TheVariants.{NoRef}
+use Rattle.lrs_position.specs.declared.location.PlaceFault.{PlaceFault}
+use Rattle.lrs_position.specs.declared.location.PlaceFault.TheVariants.{NoRef}
 use Rattle.lrs_position.specs.Locating.{Alignment}
 use Rattle.lrs_position.specs.Translating.{misses_referent, chainage_fault, Expresses, IsExpression}
 use Rattle.lrs_position.proofs.Located.{IsSound, distance_scaled}

@@ -12,8 +12,8 @@ use Rattle.lrs_measure.proofs.Lowest.{den_divides}
 use Rattle.lrs_element.specs.Marks.{last_mark}
 use Rattle.lrs_position.specs.declared.expression.Expr.{Expr}
 use Rattle.lrs_position.specs.declared.expression.Expr.TheVariants.{Abs, Rel, Int}
-use Rattle.lrs_position.specs.declared.locating.PlaceFault.{PlaceFault}
-use Rattle.lrs_position.specs.declared.locating.PlaceFault.TheVariants.{NoRef, TooFine, OffRoute}
+use Rattle.lrs_position.specs.declared.location.PlaceFault.{PlaceFault}
+use Rattle.lrs_position.specs.declared.location.PlaceFault.TheVariants.{NoRef, TooFine, OffRoute}
 use Rattle.lrs_position.specs.Locating.{Alignment, located, located_or_fault, lacks_referent, is_too_fine, at_measure, at_proportion, within}
 use Rattle.lrs_position.specs.Translating.{number_of, IsAnswer}
 use Rattle.lrs_position.proofs.Line.{chainage_at-den}

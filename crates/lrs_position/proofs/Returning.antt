@@ -21,8 +21,8 @@ use Rattle.lrs_measure.specs.Texts.{Name}
 use Rattle.lrs_measure.proofs.Lowest.{same_fraction}
 use Rattle.lrs_element.specs.declared.link.Link.{Link}
 use Rattle.lrs_element.proofs.LineLemmas.{natural_quotient}
-use Rattle.lrs_position.specs.declared.locating.PlaceFault.{PlaceFault}
-use Rattle.lrs_position.specs.declared.locating.PlaceFault.TheVariants.{TooFine, OffRoute}
+use Rattle.lrs_position.specs.declared.location.PlaceFault.{PlaceFault}
+use Rattle.lrs_position.specs.declared.location.PlaceFault.TheVariants.{TooFine, OffRoute}
 use Rattle.lrs_position.specs.Locating.{cell}
 use Rattle.lrs_position.specs.Translating.{chainage_fault}
 use Rattle.lrs_position.proofs.Answering.{quotient_of_same}

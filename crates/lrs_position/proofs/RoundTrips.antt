@@ -15,8 +15,8 @@ use Rattle.lrs_element.specs.Marks.{last_mark, IsOnLine}
 use Rattle.lrs_position.specs.declared.expression.Expr.{Expr}
 use Rattle.lrs_position.specs.declared.expression.Expr.TheVariants.{Abs, Rel, Int}
 use Rattle.lrs_position.specs.declared.expression.Target.{Target}
-use Rattle.lrs_position.specs.declared.locating.PlaceFault.{PlaceFault}
-use Rattle.lrs_position.specs.declared.locating.PlaceFault.TheVariants.{NoRef, OffRoute}
+use Rattle.lrs_position.specs.declared.location.PlaceFault.{PlaceFault}
+use Rattle.lrs_position.specs.declared.location.PlaceFault.TheVariants.{NoRef, OffRoute}
 use Rattle.lrs_position.specs.Expressions.{is_entered}
 use Rattle.lrs_position.specs.Locating.{Alignment, Locates, located, is_too_fine, at_measure, at_proportion, within}
 use Rattle.lrs_position.specs.Translating.{number_of, target_of, misses_referent, LocatesAt, IsAnswer, chainage_fault, Expresses, IsExpression, Translates, RoundTrip}

@@ -8,8 +8,8 @@ use Rattle.lrs_element.specs.declared.link.Ground.{Ground}
 use Rattle.lrs_element.specs.declared.link.Link.{Link}
 use Rattle.lrs_element.specs.Course.{Millimetre, entry_of}
 use Rattle.lrs_position.specs.declared.expression.Expr.{Expr}
-use Rattle.lrs_position.specs.declared.locating.PlaceFault.{PlaceFault}
-use Rattle.lrs_position.specs.declared.locating.PlaceFault.TheVariants.{OffRoute}
+use Rattle.lrs_position.specs.declared.location.PlaceFault.{PlaceFault}
+use Rattle.lrs_position.specs.declared.location.PlaceFault.TheVariants.{OffRoute}
 use Rattle.lrs_position.specs.declared.route.Route.{Route}
 use Rattle.lrs_position.specs.Locating.{Alignment, located_or_fault, cell}
 use Rattle.lrs_position.specs.Translating.{IsAnswer, IsOnRoute, chainage_fault}

@@ -5,17 +5,17 @@
 #![tactic(auto)]
 
 mod expression;
-mod linking;
-mod locating;
+mod link_position;
+mod location;
 mod name;
-mod reading;
 mod route;
-mod translating;
+mod texts;
+mod translation;
 
 pub use expression::{EnteredPosition, EventLocation, Expr, Method, Target};
-pub use linking::{link_to_route, route_to_link};
-pub use locating::{PlaceFault, cell, locate, snap};
+pub use link_position::{link_to_route, route_to_link};
+pub use location::{PlaceFault, cell, locate, snap};
 pub use name::{RefName, RouteName};
-pub use reading::{read_expr, read_method, read_target};
 pub use route::{Referent, Route};
-pub use translating::{express, translate};
+pub use texts::{read_expr, read_method, read_target};
+pub use translation::{express, translate};

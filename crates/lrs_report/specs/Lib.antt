@@ -1,2 +1,5 @@
-pub mod Totals
-pub mod Segments
+pub mod Columns
+pub mod Sweep
+pub mod Along
+pub mod InState
+pub mod Strips

@@ -1,8 +1,13 @@
-//! What is read off an inventory: totals by class, and segments of a route (ISO 19148, linear segment).
+//! Linear segments of a route by one sweep over the rows of its classes, and the strip that shows them (ISO 19148: linear
+//! segment).
 #![tactic(auto)]
 
-mod segments;
-mod totals;
+mod columns;
+pub mod laws;
+mod lookups;
+mod segmentation;
+mod strip_text;
+mod sweep;
 
-pub use segments::{SegFault, Segment};
-pub use totals::Total;
+pub use segmentation::segments;
+pub use strip_text::strip;

@@ -13,13 +13,13 @@ use Rattle.lrs_machine.specs.declared.answer.Answer.TheVariants.{Refused}
 use Rattle.lrs_machine.specs.declared.answer.Cause.TheVariants.{Malformed}
 use Rattle.lrs_machine.specs.declared.answer.Field.{Field}
 use Rattle.lrs_machine.specs.declared.answer.Limits.{Limits}
-use Rattle.lrs_records.proofs.OneCommand.{one-command, one-malformed, well-formed}
+use Rattle.lrs_sheet_records.proofs.OneCommand.{one-command, one-malformed, well-formed}
 use Rattle.lrs_sheet.specs.declared.reply.Reply.{Reply}
 use Rattle.lrs_sheet.specs.Laws.{IsOneReply, Outcome, SheetDeterminesReply}
-use Rattle.lrs_records.specs.Records.{text_at, place_of}
-use Rattle.lrs_records.specs.Verbs.{all_verbs}
-use Rattle.lrs_records.specs.declared.sheet.Sheet.{Sheet}
-use Rattle.lrs_records.specs.Kinds.{edit_record}
+use Rattle.lrs_sheet_records.specs.Records.{text_at, place_of}
+use Rattle.lrs_sheet_records.specs.Verbs.{all_verbs}
+use Rattle.lrs_sheet_records.specs.declared.sheet.Sheet.{Sheet}
+use Rattle.lrs_sheet_records.specs.Kinds.{edit_record}
 use Rattle.lrs_sheet.specs.Replies.{IsAnswered, IsReplied, Replied, lines_of, tally_of}
 use Rattle.lrs_sheet.specs.Sheets.{AnswersAll, AreAll}
 

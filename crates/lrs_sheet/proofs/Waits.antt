@@ -14,15 +14,15 @@ use Rattle.lrs_machine.specs.declared.command.Command.{Command}
 use Rattle.lrs_machine.specs.declared.image.Image.{Image}
 use Rattle.lrs_machine.specs.declared.table.Table.{Table}
 use Rattle.lrs_desk.specs.DeskView.{DeskView}
-use Rattle.lrs_records.specs.Kinds.{edit_record, width_of}
-use Rattle.lrs_records.specs.Records.{FirstMalformed, SaysCommand, place_of, text_at}
+use Rattle.lrs_sheet_records.specs.Kinds.{edit_record, width_of}
+use Rattle.lrs_sheet_records.specs.Records.{FirstMalformed, SaysCommand, place_of, text_at}
 use Rattle.std.specs.Option.{SomeIff}
 use Rattle.std.specs.Prelude.{IsTrue}
 use Rattle.lrs_machine.specs.Keys.{is_key}
 use Rattle.lrs_machine.specs.declared.answer.Answer.TheVariants.{Refused}
 use Rattle.lrs_machine.specs.declared.answer.Cause.TheVariants.{Malformed}
 use Rattle.lrs_machine.specs.declared.answer.Field.{Field}
-use Rattle.lrs_records.specs.declared.sheet.Sheet.{Sheet}
+use Rattle.lrs_sheet_records.specs.declared.sheet.Sheet.{Sheet}
 use Rattle.lrs_sheet.specs.declared.reply.Reply.{Reply}
 use Rattle.lrs_sheet.specs.declared.reply.Tally.{Tally}
 use Rattle.lrs_sheet.specs.Replies.{IsReplied, Replied, lines_of, tally_of}

@@ -12,8 +12,8 @@ use Rattle.lrs_sheet.specs.declared.fault.SheetFault.{SheetFault}
 use Rattle.lrs_sheet.specs.declared.fault.SheetFault.TheVariants as fault
 use Rattle.lrs_desk.specs.declared.desk.Fault.TheVariants as stop
 use Rattle.lrs_sheet.specs.Replies.{tally_of}
-use Rattle.lrs_records.specs.declared.sheet.Sheet.{Sheet}
-use Rattle.lrs_records.specs.Kinds.{IsHeader}
+use Rattle.lrs_sheet_records.specs.declared.sheet.Sheet.{Sheet}
+use Rattle.lrs_sheet_records.specs.Kinds.{IsHeader}
 use Rattle.lrs_sheet.specs.Sheets.{BreaksOff, HasAnsweredSome, HasDoneUpTo, HasRunAhead, HasStopped, Runs}
 use Rattle.lrs_sheet.specs.Rows.{AnswersSome, BreaksAfter, DoesRows, DoesUpTo, EndsAfter, Gave, HasRead, RunsAhead, Stops}
 

@@ -4,7 +4,7 @@ use Rattle.lrs_machine.specs.Lines.{Text}
 use Rattle.lrs_machine.specs.State.{State}
 use Rattle.lrs_machine.specs.declared.answer.Limits.{Limits}
 use Rattle.lrs_sheet.specs.declared.reply.Tally.{Tally}
-use Rattle.lrs_records.specs.declared.sheet.Sheet.{Sheet}
+use Rattle.lrs_sheet_records.specs.declared.sheet.Sheet.{Sheet}
 use Rattle.lrs_sheet.specs.Sheets.{Runs}
 
 -- what a run without a fault leaves, from what a writer had to what it has

@@ -15,9 +15,9 @@ use Rattle.lrs_machine.specs.declared.answer.Limits.{Limits}
 use Rattle.lrs_machine.specs.declared.command.Command.{Command}
 use Rattle.lrs_sheet.specs.declared.reply.Reply.{Reply}
 use Rattle.lrs_sheet.specs.declared.reply.Tally.{Tally}
-use Rattle.lrs_records.specs.declared.sheet.Sheet.{Sheet}
-use Rattle.lrs_records.specs.Kinds.{edit_record}
-use Rattle.lrs_records.specs.Records.{SaysCommand, FirstMalformed, place_of, text_at}
+use Rattle.lrs_sheet_records.specs.declared.sheet.Sheet.{Sheet}
+use Rattle.lrs_sheet_records.specs.Kinds.{edit_record}
+use Rattle.lrs_sheet_records.specs.Records.{SaysCommand, FirstMalformed, place_of, text_at}
 
 -- a key, or a dash where the key itself is malformed
 abbrev pub name_text : Option Text → Text

@@ -12,15 +12,15 @@ use Rattle.lrs_machine.specs.declared.answer.Limits.{Limits}
 use Rattle.lrs_machine.specs.declared.image.Image.{Image}
 use Rattle.lrs_machine.specs.declared.table.Table.{Table}
 use Rattle.lrs_desk.specs.DeskView.{DeskView}
-use Rattle.lrs_keep.specs.Keeping.{HoldsOnly}
+use Rattle.lrs_image.specs.Keeping.{HoldsOnly}
 use Rattle.lrs_desk.specs.declared.desk.Fault.TheVariants as stop
 use Rattle.lrs_sheet.specs.declared.reply.Reply.{Reply}
 use Rattle.lrs_sheet.specs.declared.reply.Tally.{Tally}
 use Rattle.lrs_sheet.specs.declared.fault.SheetFault.{SheetFault}
 use Rattle.lrs_sheet.specs.declared.fault.SheetFault.TheVariants as fault
-use Rattle.lrs_records.specs.declared.sheet.Sheet.{Sheet}
-use Rattle.lrs_records.specs.declared.sheet.Sheet.TheVariants.{Edits, Survey}
-use Rattle.lrs_records.specs.Kinds.{IsHeader, edit_record, width_of}
+use Rattle.lrs_sheet_records.specs.declared.sheet.Sheet.{Sheet}
+use Rattle.lrs_sheet_records.specs.declared.sheet.Sheet.TheVariants.{Edits, Survey}
+use Rattle.lrs_sheet_records.specs.Kinds.{IsHeader, edit_record, width_of}
 use Rattle.lrs_sheet.specs.Replies.{Replied, lines_of, tally_of}
 
 -- The records of the input begin with these, by the rules of `csv`.

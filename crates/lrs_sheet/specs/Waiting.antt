@@ -19,9 +19,9 @@ use Rattle.lrs_sheet.specs.declared.fault.SheetFault.{SheetFault}
 use Rattle.lrs_sheet.specs.declared.fault.SheetFault.TheVariants as fault
 use Rattle.csv.specs.Reading.{expected_len}
 use Rattle.csv.specs.declared.reader.Reader.{Reader}
-use Rattle.lrs_records.specs.declared.sheet.Sheet.{Sheet}
-use Rattle.lrs_records.specs.Kinds.{edit_record, width_of}
-use Rattle.lrs_records.specs.Records.{SaysCommand}
+use Rattle.lrs_sheet_records.specs.declared.sheet.Sheet.{Sheet}
+use Rattle.lrs_sheet_records.specs.Kinds.{edit_record, width_of}
+use Rattle.lrs_sheet_records.specs.Records.{SaysCommand}
 use Rattle.lrs_sheet.specs.Replies.{IsReplied, answer_count, counted, lines_of, tally_of}
 use Rattle.lrs_sheet.specs.Sheets.{AreAnswered, GoesAlong, HaveWidth, StandsFor, max_records}
 use Rattle.lrs_sheet.specs.Rows.{DoesRow, EndsAfter, Gave, IsPlain, IsReadFault}

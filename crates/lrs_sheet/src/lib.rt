@@ -4,12 +4,12 @@
 
 mod fault;
 pub mod laws;
+mod queue;
 mod reply;
 mod rows;
 mod run;
-mod waiting;
 
 pub use fault::SheetFault;
-pub use lrs_records::{ReadFault, Sheet, command_of, survey_of};
+pub use lrs_sheet_records::{ReadFault, Sheet, command_of, survey_of};
 pub use reply::{Reply, Tally};
 pub use run::{RECORDS_TOGETHER, run_edits, run_sheet, run_survey};

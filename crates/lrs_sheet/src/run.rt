@@ -5,20 +5,20 @@ ghost use Rattle.csv.specs.Reading.{expected_len};
 ghost use Rattle.lrs_machine.specs.Image.{state_of};
 ghost use Rattle.lrs_machine.specs.declared.image.Image.{Image as ImageRows};
 ghost use Rattle.lrs_machine.specs.declared.table.Table.{Table};
-ghost use Rattle.lrs_records.specs.Kinds.{width_of};
+ghost use Rattle.lrs_sheet_records.specs.Kinds.{width_of};
 ghost use Rattle.lrs_sheet.specs.Replies.{tally_of};
 ghost use Rattle.lrs_sheet.specs.Sheets.{Runs, RunsEdits, RunsSurvey, LeavesDesk, BreaksOff, HasBrokenOff, SurveyHasBrokenOff};
 ghost use Rattle.lrs_sheet.specs.Rows.{IsPlain, DoesRows, BreaksAfter};
 ghost use Rattle.lrs_sheet.specs.Waiting.{HasTaken};
 
 use crate::fault::SheetFault;
+use crate::queue::{settle, take_row};
 use crate::reply::Tally;
 use crate::rows::{next_row, open};
-use crate::waiting::{settle, take_row};
 use csv::{ByteRecord, Reader};
 use lrs_desk::{Desk, Fault, Keeper};
 use lrs_machine::{Command, Key};
-use lrs_records::{Sheet, SheetRecord, is_header};
+use lrs_sheet_records::{Sheet, SheetRecord, is_header};
 use std::alloc::Global;
 use std::io::{Read, Write};
 

@@ -4,4 +4,4 @@
 #[cfg(test)]
 mod limits;
 #[cfg(test)]
-mod refused;
+mod memory;

@@ -1,3 +1,3 @@
-pub mod Entries
-pub mod Contents
-pub mod BroughtUp
+pub mod SeeingLemmas
+pub mod JudgedLemmas
+pub mod OpenedLemmas

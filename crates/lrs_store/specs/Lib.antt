@@ -1,6 +1,4 @@
-pub mod Tables
-pub mod Decoding
-pub mod Content
-pub mod Encoding
-pub mod Encoded
-pub mod Laws
+pub mod Seeing
+pub mod Judged
+pub mod Opened
+pub mod Refused

@@ -1,4 +1,8 @@
-//! The tables of a store: which rows stand for a sound image, and which table is the first unsound one.
+//! Stores that no connection takes, since their rows break a rule of their tables: which of these is unsound.
+//! Files are opened as the keeper of an inventory.
 #![tactic(auto)]
 
-pub mod laws;
+pub mod files;
+mod rows;
+mod trees;
+pub mod verdict;

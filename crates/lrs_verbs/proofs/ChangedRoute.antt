@@ -2,17 +2,17 @@
 use Rattle.std.proofs.Common.{◌≡◌, [], ◌∷◌, Some, None, sym, ap, subst, ◌∙◌}
 use Rattle.std.specs.List.{find, cons_option}
 use Rattle.std.specs.Option.{option_map}
-use Rattle.lrs_verbs.specs.Prelude.{each_two, Command, Image, RouteEntry, state_of, route_before, IsSound, State, Makes, RouteChange, Difference, is_named, entry_after, with_difference, CanDiffer, rerouting}
+use Rattle.lrs_inventory.specs.Prelude.{each_two, Command, Image, RouteEntry, state_of, route_before, IsSound, State, Makes, RouteChange, Difference, is_named, entry_after, with_difference, CanDiffer, rerouting}
 use Rattle.lrs_machine.proofs.Members.{In}
-use Rattle.lrs_keep.specs.Change.{CanBecome}
-use Rattle.lrs_routes.specs.Differences.{KeepsFromDropped}
-use Rattle.lrs_routes.specs.Rewriting.{rewritten, with_routes, AreFit}
-use Rattle.lrs_routes.proofs.Alike.{IsAlike, fit, same_state, named_ours, stays}
-use Rattle.lrs_routes.proofs.Differences.{difference_rewrites, reroutes}
-use Rattle.lrs_routes.proofs.Naming.{found_in}
-use Rattle.lrs_routes.proofs.Rewriting.{new_order}
-use Rattle.lrs_verbs.specs.Changes.{route_on}
-use Rattle.lrs_verbs.specs.Plans.{plan_of, IsPlanOf}
+use Rattle.lrs_image.specs.Change.{CanBecome}
+use Rattle.lrs_image_laws.specs.Differences.{KeepsFromDropped}
+use Rattle.lrs_image_laws.specs.Rewriting.{rewritten, with_routes, AreFit}
+use Rattle.lrs_image_laws.proofs.Alike.{IsAlike, fit, same_state, named_ours, stays}
+use Rattle.lrs_image_laws.proofs.Differences.{difference_rewrites, reroutes}
+use Rattle.lrs_image_laws.proofs.Naming.{found_in}
+use Rattle.lrs_image_laws.proofs.Rewriting.{new_order}
+use Rattle.lrs_inventory.specs.Changes.{route_on}
+use Rattle.lrs_inventory.specs.Plans.{plan_of, IsPlanOf}
 
 module _ (c : RouteChange) (i : Image) (r : RouteEntry) (s : IsSound i) (found : find (is_named c.route) i.routes ≡ Some r) where
   abbrev d : Difference

@@ -7,27 +7,27 @@ use Rattle.std.proofs.lemmas.List.{append-nil}
 use Rattle.std.specs.Prelude.{is_some, nat_lt}
 use Rattle.std.specs.Option.{option_map, ok_or}
 use Rattle.std.specs.Cmp.Lexicographic.{bytes_decides}
-use Rattle.lrs_verbs.specs.Prelude.{each_two, Name, same_name, Ground, Piece, Millimetre, course_of, runs_over, IsFilled, Referent, Alignment, referent_before, Gone, holds_by_spans, Cause, Image, RouteEntry, state_of, route_entry, referent_entry, referents_on, attempt, ◌>>=◌, IsSound, State, Makes, Difference, is_named, with_difference, AreGone}
+use Rattle.lrs_inventory.specs.Prelude.{each_two, Name, same_name, Ground, Piece, Millimetre, course_of, runs_over, IsFilled, Referent, Alignment, referent_before, Gone, holds_by_spans, Cause, Image, RouteEntry, state_of, route_entry, referent_entry, referents_on, attempt, ◌>>=◌, IsSound, State, Makes, Difference, is_named, with_difference, AreGone}
 use Rattle.lrs_machine.specs.declared.answer.Cause.TheVariants as cause
 use Rattle.lrs_machine.specs.declared.command.Command.TheVariants as verb
 use Rattle.lrs_machine.specs.Machine.{abandon, drop_route}
 use Rattle.lrs_machine.specs.State.{Abandoned}
 use Rattle.lrs_machine.proofs.Members.{In, any_found, any_of, all_at, In-map, map_found}
-use Rattle.lrs_sound.proofs.Fitting.{fits}
-use Rattle.lrs_keep.proofs.Tables.{routes_in_order}
-use Rattle.lrs_routes.specs.Running.{is_run_by}
-use Rattle.lrs_routes.proofs.Naming.{found_in, only_one, without_one}
-use Rattle.lrs_routes.proofs.Running.{runs_there, moves_ground}
-use Rattle.lrs_routes.proofs.Standing.{named_of, found_option}
-use Rattle.lrs_leaving.specs.Leaving.{with_left}
-use Rattle.lrs_leaving.proofs.Closing.{nothing_fits, same_state, close_makes}
-use Rattle.lrs_leaving.proofs.Leaving.{stands_on}
-use Rattle.lrs_leaving.proofs.Named.{AreNamed, named_leave}
-use Rattle.lrs_verbs.specs.Changes.{route_on}
+use Rattle.lrs_image_sound.proofs.Fitting.{fits}
+use Rattle.lrs_image.proofs.Tables.{routes_in_order}
+use Rattle.lrs_image_laws.specs.Running.{is_run_by}
+use Rattle.lrs_image_laws.proofs.Naming.{found_in, only_one, without_one}
+use Rattle.lrs_image_laws.proofs.Running.{runs_there, moves_ground}
+use Rattle.lrs_image_laws.proofs.Standing.{named_of, found_option}
+use Rattle.lrs_image_laws.specs.Leaving.{with_left}
+use Rattle.lrs_image_laws.proofs.Closing.{nothing_fits, same_state, close_makes}
+use Rattle.lrs_image_laws.proofs.Leaving.{stands_on}
+use Rattle.lrs_image_laws.proofs.Named.{AreNamed, named_leave}
+use Rattle.lrs_inventory.specs.Changes.{route_on}
 use Rattle.lrs_verbs.specs.Closings.{names_of, without_route, closing}
-use Rattle.lrs_verbs.specs.Plans.{IsPlanOf}
-use Rattle.lrs_routes.proofs.FromReferents.{ground_there}
-use Rattle.lrs_verbs.proofs.Known.{route_value}
+use Rattle.lrs_inventory.specs.Plans.{IsPlanOf}
+use Rattle.lrs_image_laws.proofs.FromReferents.{ground_there}
+use Rattle.lrs_inventory.proofs.Known.{route_value}
 
 -- ---- what the verb does
 

@@ -4,9 +4,9 @@ use Rattle.std.proofs.lemmas.Bool.{leb-true, leb-false, ne_eqb, cases_Bool}
 use Rattle.std.proofs.lemmas.List.{length-take, length-drop}
 use Rattle.std.specs.Prelude.{◌||◌, ◌&&◌, nat_eq, nat_le}
 use Rattle.std.specs.Option.{ok_or}
-use Rattle.lrs_verbs.specs.Prelude.{Ground, Alignment, Kind, places_on, is_among, Cause, Entry, contains_key, ◌>>=◌, ◌>>◌, refuse_at, Extent, extent_of, part_of, attempt, State, Retired}
+use Rattle.lrs_inventory.specs.Prelude.{Ground, Alignment, Kind, places_on, is_among, Cause, Entry, contains_key, ◌>>=◌, ◌>>◌, refuse_at, Extent, extent_of, part_of, attempt, State, Retired}
 use Rattle.lrs_measure.specs.Lists.{is_nothing}
-use Rattle.lrs_report.specs.Segments.{is_exclusive}
+use Rattle.lrs_machine.specs.Segments.{is_exclusive}
 use Rattle.lrs_machine.specs.declared.answer.Cause.TheVariants as cause
 use Rattle.lrs_machine.specs.declared.command.Command.TheVariants as verb
 use Rattle.lrs_machine.specs.Register.{get}

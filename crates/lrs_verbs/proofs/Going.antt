@@ -3,13 +3,13 @@ use Rattle.std.proofs.Common.{◌≡◌, Bool, true, inl, inr, List, [], ◌∷�
 use Rattle.std.proofs.lemmas.Bool.{and_from}
 use Rattle.std.specs.List.{list_any, list_all}
 use Rattle.std.specs.Cmp.Lexicographic.{bytes_decides}
-use Rattle.lrs_verbs.specs.Prelude.{Referent, Span, has_row, IsPlan}
+use Rattle.lrs_inventory.specs.Prelude.{Referent, Span, has_row, IsPlan}
 use Rattle.lrs_events.specs.declared.change.SpanChange.{SpanChange}
-use Rattle.lrs_canonical.specs.Order.{In}
-use Rattle.lrs_canonical.proofs.Differing.{has_in}
+use Rattle.lrs_events_rows.specs.Order.{In}
+use Rattle.lrs_events_rows.proofs.Differing.{has_in}
 use Rattle.lrs_machine.proofs.Members as members
-use Rattle.lrs_keep.specs.Change.{refers_to}
-use Rattle.lrs_routes.proofs.Listed.{In-filter}
+use Rattle.lrs_image.specs.Change.{refers_to}
+use Rattle.lrs_image_laws.proofs.Listed.{In-filter}
 
 -- each row that was there is one of the rows
 pub rows_there : (rows gone : List Span) → ((r : Span) → In r gone → In r rows) → list_all (has_row rows) gone ≡ true

@@ -10,22 +10,22 @@ use Rattle.std.proofs.lemmas.Map.Lookups.{exact_bytes}
 use Rattle.std.specs.Option.{option_map}
 use Rattle.std.specs.Ordering.{eq_by_cmp}
 use Rattle.std.specs.Cmp.Lexicographic.{bytes_decides}
-use Rattle.lrs_verbs.specs.Prelude.{each_two, Name, name_cmp, same_name, Ground, Millimetre, meets, runs_over, Referent, is_route, is_route_course, have_marks, are_referents, referent_before, Image, RouteEntry, state_of, referent_entry, referents_on, attempt, ◌>>◌, IsSound, changed_refs}
+use Rattle.lrs_inventory.specs.Prelude.{each_two, Name, name_cmp, same_name, Ground, Millimetre, meets, runs_over, Referent, is_route, is_route_course, have_marks, are_referents, referent_before, Image, RouteEntry, state_of, referent_entry, referents_on, attempt, ◌>>◌, IsSound, changed_refs}
 use Rattle.lrs_element.specs.Course.{ground_at, is_at}
 use Rattle.lrs_machine.specs.declared.answer.Cause.TheVariants as cause
 use Rattle.lrs_machine.specs.declared.command.Command.TheVariants as verb
 use Rattle.lrs_machine.specs.Machine.{refuse_if, set_referent}
 use Rattle.lrs_machine.proofs.Members.{In, any_found, any_of, all_at, In-append_left, In-flat_map, flat_map_found, find_found}
 use Rattle.lrs_machine.proofs.SoundImages.{and_three}
-use Rattle.lrs_lanes.proofs.Members.{all-filter, each_two-filter}
-use Rattle.lrs_keep.specs.Change.{refers_to}
-use Rattle.lrs_verbs.specs.Changes.{route_on}
-use Rattle.lrs_verbs.specs.Plans.{IsPlanOf}
+use Rattle.lrs_events_lanes.proofs.Members.{all-filter, each_two-filter}
+use Rattle.lrs_image.specs.Change.{refers_to}
+use Rattle.lrs_inventory.specs.Changes.{route_on}
+use Rattle.lrs_inventory.specs.Plans.{IsPlanOf}
 use Rattle.lrs_verbs.specs.RouteReferents.{plan_of_referents, without_one, nowhere}
-use Rattle.lrs_routes.proofs.FromReferents.{row_of, cross, rear_of, apart_courses, other_names, refs_of, courses_apart, names_once}
-use Rattle.lrs_routes.proofs.InOrder.{is_false}
-use Rattle.lrs_verbs.proofs.NamedEntries.{names_exact}
-use Rattle.lrs_routes.proofs.Apart.{at_is}
+use Rattle.lrs_image_laws.proofs.FromReferents.{row_of, cross, rear_of, apart_courses, other_names, refs_of, courses_apart, names_once}
+use Rattle.lrs_image_laws.proofs.InOrder.{is_false}
+use Rattle.lrs_inventory.proofs.NamedEntries.{names_exact}
+use Rattle.lrs_image_laws.proofs.Apart.{at_is}
 use Rattle.lrs_verbs.proofs.InPlace.{DifferAt, made_filtered}
 use Rattle.lrs_verbs.proofs.RouteReferents.{new, became, after, in_its_place, is_plan}
 

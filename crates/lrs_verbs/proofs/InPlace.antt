@@ -8,15 +8,15 @@ use Rattle.std.proofs.lemmas.List.Concat.{flat_map-append}
 use Rattle.std.specs.Prelude.{◌||◌, not}
 use Rattle.std.specs.Option.{option_map}
 use Rattle.std.specs.Cmp.Lexicographic.{bytes_decides}
-use Rattle.lrs_verbs.specs.Prelude.{each_two, insert_by, Name, Millimetre, runs_over, RouteEntry, route_before, is_named, without}
+use Rattle.lrs_inventory.specs.Prelude.{each_two, insert_by, Name, Millimetre, runs_over, RouteEntry, route_before, is_named, without}
 use Rattle.lrs_measure.specs.Texts.{name_before}
 use Rattle.lrs_machine.proofs.Members.{In, all_at, all_of}
 use Rattle.lrs_machine.proofs.Pairs.{each_two-map}
-use Rattle.lrs_lanes.proofs.Members.{filter_all}
-use Rattle.lrs_keep.proofs.Named.{name_apart}
-use Rattle.lrs_keep.proofs.PutBack.{none_goes, found_passes}
-use Rattle.lrs_verbs.specs.Changes.{route_on}
-use Rattle.lrs_routes.proofs.InOrder.{is_false}
+use Rattle.lrs_events_lanes.proofs.Members.{filter_all}
+use Rattle.lrs_image.proofs.Named.{name_apart}
+use Rattle.lrs_image.proofs.PutBack.{none_goes, found_passes}
+use Rattle.lrs_inventory.specs.Changes.{route_on}
+use Rattle.lrs_image_laws.proofs.InOrder.{is_false}
 
 -- ---- lists that differ at one place
 

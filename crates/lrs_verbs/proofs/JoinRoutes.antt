@@ -6,36 +6,36 @@ use Rattle.std.proofs.lemmas.List.{length-append, length-map, length-drop}
 use Rattle.std.specs.Prelude.{◌||◌, ◌&&◌, not, is_some, nat_lt, nat_le, nat_eq, unwrap_or}
 use Rattle.std.specs.Option.{option_map, ok_or}
 use Rattle.std.specs.Cmp.Lexicographic.{bytes_decides}
-use Rattle.lrs_verbs.specs.Prelude.{each_two, Name, same_name, Ground, Piece, Mark, course_of, runs_over, is_too_long, longest_route, IsFilled, Referent, Alignment, is_route, referent_before, Asset, Span, are_rows, Cause, Image, RouteEntry, state_of, route_entry, State, attempt, ◌>>◌, ◌>>=◌, set_route, asset_before, is_span, are_spans_of, route_before, IsSound, Makes, RouteChange, Difference, is_named, changed_refs, fits_after, route_after, entry_after, with_difference, CanDiffer, are_names_of, rerouting}
+use Rattle.lrs_inventory.specs.Prelude.{each_two, Name, same_name, Ground, Piece, Mark, course_of, runs_over, is_too_long, longest_route, IsFilled, Referent, Alignment, is_route, referent_before, Asset, Span, are_rows, Cause, Image, RouteEntry, state_of, route_entry, State, attempt, ◌>>◌, ◌>>=◌, set_route, asset_before, is_span, are_spans_of, route_before, IsSound, Makes, RouteChange, Difference, is_named, changed_refs, fits_after, route_after, entry_after, with_difference, CanDiffer, are_names_of, rerouting}
 use Rattle.lrs_measure.specs.Ordered.{insert_all}
 use Rattle.lrs_element.specs.Course.{piece_count}
 use Rattle.lrs_element.specs.Limits.{most_marks, most_pieces}
 use Rattle.lrs_element.specs.Lines.{moved_on}
 use Rattle.lrs_element.specs.Marks.{joined_marks, is_out_of_range, first_mark, last_mark}
-use Rattle.lrs_canonical.specs.Joins.{is_of_one_class}
-use Rattle.lrs_lanes.proofs.Members.{filter_all}
+use Rattle.lrs_events_rows.specs.Joins.{is_of_one_class}
+use Rattle.lrs_events_lanes.proofs.Members.{filter_all}
 use Rattle.lrs_machine.specs.declared.answer.Cause.TheVariants as cause
 use Rattle.lrs_machine.specs.declared.command.Command.TheVariants as verb
 use Rattle.lrs_machine.specs.Machine.{refuse_if, drop_route, do_join, do_join_of}
 use Rattle.lrs_machine.proofs.Members.{In, any_found, all_at, all_of, two_at, In-map}
-use Rattle.lrs_sound.proofs.Fitting.{fits}
-use Rattle.lrs_keep.proofs.Becoming.{HasBecome, becomes}
-use Rattle.lrs_keep.proofs.Tables.{assets_in_order, routes_in_order}
-use Rattle.lrs_routes.specs.Differences.{changed_route, KeepsFromDropped}
-use Rattle.lrs_routes.specs.Joining.{on_by, joined_refs, AreUnlike, IsJoined}
-use Rattle.lrs_routes.specs.Rewriting.{rewritten, with_routes}
-use Rattle.lrs_routes.proofs.Differences.{difference_rewrites, reroutes}
-use Rattle.lrs_routes.proofs.Joined.{joins_are_routes, joins_have_rows}
-use Rattle.lrs_routes.proofs.Joining.{join_makes, moves, same_state}
-use Rattle.lrs_routes.proofs.Listed.{In-insert_all, insert_all-In, made_two}
-use Rattle.lrs_routes.proofs.Naming.{same_either, found_in, order_stays}
-use Rattle.lrs_routes.proofs.Rewriting.{are_unlike, refs_at, old_spans, old_unlike}
-use Rattle.lrs_routes.proofs.Running.{runs_there}
-use Rattle.lrs_verbs.specs.Changes.{route_on}
+use Rattle.lrs_image_sound.proofs.Fitting.{fits}
+use Rattle.lrs_image.proofs.Becoming.{HasBecome, becomes}
+use Rattle.lrs_image.proofs.Tables.{assets_in_order, routes_in_order}
+use Rattle.lrs_image_laws.specs.Differences.{changed_route, KeepsFromDropped}
+use Rattle.lrs_image_laws.specs.Joining.{on_by, joined_refs, AreUnlike, IsJoined}
+use Rattle.lrs_image_laws.specs.Rewriting.{rewritten, with_routes}
+use Rattle.lrs_image_laws.proofs.Differences.{difference_rewrites, reroutes}
+use Rattle.lrs_image_laws.proofs.Joined.{joins_are_routes, joins_have_rows}
+use Rattle.lrs_image_laws.proofs.Joining.{join_makes, moves, same_state}
+use Rattle.lrs_image_laws.proofs.Listed.{In-insert_all, insert_all-In, made_two}
+use Rattle.lrs_image_laws.proofs.Naming.{same_either, found_in, order_stays}
+use Rattle.lrs_image_laws.proofs.Rewriting.{are_unlike, refs_at, old_spans, old_unlike}
+use Rattle.lrs_image_laws.proofs.Running.{runs_there}
+use Rattle.lrs_inventory.specs.Changes.{route_on}
 use Rattle.lrs_verbs.specs.Checks.{join_plan}
 use Rattle.lrs_verbs.specs.Joins.{joined_course, joined_line, CanGoOn, GoesOn}
-use Rattle.lrs_verbs.specs.Plans.{IsPlanOf}
-use Rattle.lrs_verbs.proofs.Known.{route_value}
+use Rattle.lrs_inventory.specs.Plans.{IsPlanOf}
+use Rattle.lrs_inventory.proofs.Known.{route_value}
 
 -- ---- what the checks say
 

@@ -1,11 +1,3 @@
-pub mod NamedEntries
-pub mod Positions
-pub mod Keyed
-pub mod Standing
-pub mod Filed
-pub mod NewCourse
-pub mod Located
-pub mod FirstHolder
 pub mod InPlace
 pub mod Going
 pub mod RowsInPlace
@@ -22,10 +14,7 @@ pub mod Unmoved
 pub mod NewLink
 pub mod NewClass
 pub mod NewRoute
-pub mod Known
-pub mod Grounds
 pub mod Stopping
-pub mod Indexing
 pub mod ChangedRoute
 pub mod Rerouted
 pub mod Recalibrated

@@ -1,8 +1,8 @@
 -- What a plan makes is sound.
-use Rattle.lrs_verbs.specs.Prelude.{Edit, with_difference, same_name}
-use Rattle.lrs_orderly.proofs.Making.{made_is_sound}
-use Rattle.lrs_verbs.specs.Plans.{PlansCanBeMade}
-use Rattle.lrs_verbs.proofs.Positions.{none_passes}
+use Rattle.lrs_inventory.specs.Prelude.{Edit, with_difference, same_name}
+use Rattle.lrs_image_laws.proofs.Making.{made_is_sound}
+use Rattle.lrs_inventory.specs.Plans.{PlansCanBeMade}
+use Rattle.lrs_inventory.proofs.Positions.{none_passes}
 
 pub plans_can_be_made : PlansCanBeMade
 plans_can_be_made command i p e s plan room none few = record {

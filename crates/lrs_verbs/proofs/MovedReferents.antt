@@ -5,20 +5,20 @@ use Rattle.std.specs.Prelude.{not, nat_lt}
 use Rattle.std.specs.List.{list_any, list_all}
 use Rattle.std.specs.Ordering.{eq_by_cmp}
 use Rattle.std.specs.Cmp.Lexicographic.{nat_list_cmp_total, texts_ties}
-use Rattle.lrs_verbs.specs.Prelude.{each_two, insert_by, name_cmp, same_name, Referent, are_referents, referent_before, RouteEntry, changed_refs}
+use Rattle.lrs_inventory.specs.Prelude.{each_two, insert_by, name_cmp, same_name, Referent, are_referents, referent_before, RouteEntry, changed_refs}
 use Rattle.lrs_measure.specs.Ordered.{insert_all}
-use Rattle.lrs_lanes.proofs.Members.{each_two-filter}
+use Rattle.lrs_events_lanes.proofs.Members.{each_two-filter}
 use Rattle.lrs_machine.proofs.Members.{In, any_found, all_at, all_of, two_at, In-map, map_found}
 use Rattle.lrs_machine.proofs.Pairs.{each_two-map}
-use Rattle.lrs_sound.proofs.Fitting.{fits}
-use Rattle.lrs_routes.specs.Splitting.{is_ahead}
-use Rattle.lrs_routes.proofs.InOrder.{is_false, each_two-insert_by, before-chain, before-comparable}
-use Rattle.lrs_routes.proofs.Listed.{In-filter, filter-In, In-insert, In-insert_all, insert_all-In, all-insert_all}
-use Rattle.lrs_routes.proofs.Naming.{same_either}
-use Rattle.lrs_routes.proofs.Renaming.{own_names}
-use Rattle.lrs_routes.proofs.Rewriting.{are_unlike}
-use Rattle.lrs_leaving.specs.Realigning.{is_off, moved}
-use Rattle.lrs_leaving.proofs.Realigning.{off_from, off_is}
+use Rattle.lrs_image_sound.proofs.Fitting.{fits}
+use Rattle.lrs_image_laws.specs.Splitting.{is_ahead}
+use Rattle.lrs_image_laws.proofs.InOrder.{is_false, each_two-insert_by, before-chain, before-comparable}
+use Rattle.lrs_image_laws.proofs.Listed.{In-filter, filter-In, In-insert, In-insert_all, insert_all-In, all-insert_all}
+use Rattle.lrs_image_laws.proofs.Naming.{same_either}
+use Rattle.lrs_image_laws.proofs.Renaming.{own_names}
+use Rattle.lrs_image_laws.proofs.Rewriting.{are_unlike}
+use Rattle.lrs_image_laws.specs.Realigning.{is_off, moved}
+use Rattle.lrs_image_laws.proofs.Realigning.{off_from, off_is}
 use Rattle.lrs_verbs.specs.Realignments.{on_from, referents_moved}
 use Rattle.lrs_verbs.specs.Splits.{refs_behind}
 use Rattle.lrs_verbs.proofs.SplitRoute.{names, filter_alike, goes_behind}

@@ -5,7 +5,7 @@ use Rattle.std.specs.Prelude.{nat_le, ◌&&◌}
 use Rattle.std.specs.List.{list_any, list_all}
 use Rattle.std.specs.Ordering.{eq_by_cmp}
 use Rattle.std.specs.Cmp.Lexicographic.{nat_list_cmp_total}
-use Rattle.lrs_verbs.specs.Prelude.{each_two, insert_by, Name, name_cmp, same_name, Asset, Kind, Image, contains_key, state_of, attempt, ◌>>◌, asset_before, IsSound, with_difference, IsOrderly}
+use Rattle.lrs_inventory.specs.Prelude.{each_two, insert_by, Name, name_cmp, same_name, Asset, Kind, Image, contains_key, state_of, attempt, ◌>>◌, asset_before, IsSound, with_difference, IsOrderly}
 use Rattle.lrs_events.specs.declared.class.Class.{Class}
 use Rattle.lrs_machine.specs.declared.answer.Cause.TheVariants as cause
 use Rattle.lrs_machine.specs.declared.command.Command.TheVariants as verb
@@ -15,11 +15,11 @@ use Rattle.lrs_machine.specs.Register.{insert}
 use Rattle.lrs_machine.specs.Machine.{refuse_if}
 use Rattle.lrs_machine.specs.Sound.{class_before, is_asset, are_assets}
 use Rattle.lrs_machine.proofs.Members.{all_weaker}
-use Rattle.lrs_orderly.proofs.Ordering.{sound_is_orderly}
-use Rattle.lrs_verbs.specs.Plans.{plan_of, IsPlanOf}
-use Rattle.lrs_verbs.proofs.NamedEntries.{names_exact}
-use Rattle.lrs_verbs.proofs.Filed.{is_some-find_row, put-insert_by, names_tie}
-use Rattle.lrs_routes.proofs.InOrder.{and_weaker, any-insert_by, each_two-insert_by, before-chain, before-comparable}
+use Rattle.lrs_image_laws.proofs.Ordering.{sound_is_orderly}
+use Rattle.lrs_inventory.specs.Plans.{plan_of, IsPlanOf}
+use Rattle.lrs_inventory.proofs.NamedEntries.{names_exact}
+use Rattle.lrs_inventory.proofs.Filed.{is_some-find_row, put-insert_by, names_tie}
+use Rattle.lrs_image_laws.proofs.InOrder.{and_weaker, any-insert_by, each_two-insert_by, before-chain, before-comparable}
 use Rattle.lrs_verbs.proofs.Unmoved.{adding, can_differ, tells}
 
 -- the image with the class

@@ -11,15 +11,15 @@ use Rattle.std.specs.Prelude.{is_some, ◌||◌, ◌&&◌, not, nat_eq, nat_lt, 
 use Rattle.std.specs.List.{list_any, list_all}
 use Rattle.std.specs.Ordering.{nat_cmp, eq_by_cmp}
 use Rattle.std.specs.Cmp.Lexicographic.{bytes_decides}
-use Rattle.lrs_verbs.specs.Prelude.{each_two, insert_by, name_cmp, same_name, longest_route, is_too_long, is_route_course, have_marks, are_referents, Asset, Kind, Part, Span, Place, is_among, places_on, span_before, are_rows, Entry, RouteEntry, Image, Edit, state_of, holds_on, route_entry, referents_on, asset_entry, Extent, part_of, refuse_at, attempt, contains_key, route_before, asset_before, is_span, are_spans_of, is_on_a_link, are_courses, IsSound, RouteCourse, is_named, without, with_difference, IsOrderly}
+use Rattle.lrs_inventory.specs.Prelude.{each_two, insert_by, name_cmp, same_name, longest_route, is_too_long, is_route_course, have_marks, are_referents, Asset, Kind, Part, Span, Place, is_among, places_on, span_before, are_rows, Entry, RouteEntry, Image, Edit, state_of, holds_on, route_entry, referents_on, asset_entry, Extent, part_of, refuse_at, attempt, contains_key, route_before, asset_before, is_span, are_spans_of, is_on_a_link, are_courses, IsSound, RouteCourse, is_named, without, with_difference, IsOrderly}
 use Rattle.lrs_measure.specs.Lists.{is_nothing}
 use Rattle.lrs_element.specs.Limits.{most_pieces}
 use Rattle.lrs_element.specs.Course.{piece_count}
 use Rattle.lrs_events.specs.Changes.{changed}
 use Rattle.lrs_events.specs.Parts.{has_pair, part_before}
 use Rattle.lrs_events.specs.Spans.{is_row, holds_by_span}
-use Rattle.lrs_report.specs.Segments.{is_exclusive}
-use Rattle.lrs_canonical.proofs.Changing.{any_insert}
+use Rattle.lrs_machine.specs.Segments.{is_exclusive}
+use Rattle.lrs_events_rows.proofs.Changing.{any_insert}
 use Rattle.lrs_machine.specs.declared.answer.Cause.TheVariants as cause
 use Rattle.lrs_machine.specs.declared.command.Command.TheVariants as verb
 use Rattle.lrs_machine.specs.Bounds.{most_pairs, most_assets, most_edits}
@@ -29,32 +29,32 @@ use Rattle.lrs_machine.specs.Sound.{is_asset, are_assets, spans_of, is_part, sha
 use Rattle.lrs_machine.proofs.Members.{In, any_found, any_of, all_at, all_weaker, all_of}
 use Rattle.lrs_machine.proofs.SoundImages.{and_three}
 use Rattle.lrs_ordered.specs.Laws.{numbers_agree}
-use Rattle.lrs_keep.specs.Change.{routes_after}
-use Rattle.lrs_keep.proofs.Tables.{passes, routes_in_order}
-use Rattle.lrs_orderly.specs.Orderly.{is_filled, share_nothing_in_an_edit}
-use Rattle.lrs_orderly.proofs.Found.{each_two_from}
-use Rattle.lrs_orderly.proofs.Ordering.{sound_is_orderly}
+use Rattle.lrs_image.specs.Change.{routes_after}
+use Rattle.lrs_image.proofs.Tables.{passes, routes_in_order}
+use Rattle.lrs_image_laws.specs.Orderly.{is_filled, share_nothing_in_an_edit}
+use Rattle.lrs_image_laws.proofs.Found.{each_two_from}
+use Rattle.lrs_image_laws.proofs.Ordering.{sound_is_orderly}
 use Rattle.lrs_verbs.specs.Entering.{asset_of, row_of, with_row, entering, AreInLimits, AreEntered, IsEntering}
 use Rattle.lrs_verbs.specs.Wanted.{IsWanted}
-use Rattle.lrs_verbs.specs.Extents.{IsRouteIn}
-use Rattle.lrs_verbs.specs.declared.plan.Plan.{Plan}
-use Rattle.lrs_verbs.specs.Plans.{plan_of, IsPlanOf}
+use Rattle.lrs_inventory.specs.Extents.{IsRouteIn}
+use Rattle.lrs_inventory.specs.declared.plan.Plan.{Plan}
+use Rattle.lrs_inventory.specs.Plans.{plan_of, IsPlanOf}
 use Rattle.lrs_verbs.proofs.EntryChecks.{then_held}
-use Rattle.lrs_verbs.proofs.Filed.{is_some-find_row, put-insert_by}
-use Rattle.lrs_lanes.proofs.Inserted.{length-insert_by}
-use Rattle.lrs_routes.proofs.InOrder.{and_weaker, all-insert_by, any-insert_by, each_two-insert_by, is_comparable}
-use Rattle.lrs_routes.proofs.Apart.{nat_eq-comm}
+use Rattle.lrs_inventory.proofs.Filed.{is_some-find_row, put-insert_by}
+use Rattle.lrs_events_lanes.proofs.Inserted.{length-insert_by}
+use Rattle.lrs_image_laws.proofs.InOrder.{and_weaker, all-insert_by, any-insert_by, each_two-insert_by, is_comparable}
+use Rattle.lrs_image_laws.proofs.Apart.{nat_eq-comm}
 use Rattle.lrs_verbs.proofs.NewClass as new_class
-use Rattle.lrs_gone.proofs.Appended.{each_two-append}
-use Rattle.lrs_verbs.proofs.Located.{route_in}
-use Rattle.lrs_routes.proofs.Holding.{alone}
-use Rattle.lrs_verbs.proofs.FirstHolder.{spans_entry}
+use Rattle.lrs_image_laws.proofs.Appended.{each_two-append}
+use Rattle.lrs_inventory.proofs.Located.{route_in}
+use Rattle.lrs_image_laws.proofs.Holding.{alone}
+use Rattle.lrs_inventory.proofs.FirstHolder.{spans_entry}
 use Rattle.lrs_verbs.proofs.InPlace.{DifferAt, map_same, made_same, any_more, all_still}
 use Rattle.lrs_verbs.proofs.RowsInPlace.{keep_all, routes_are, differ, can, tells}
 use Rattle.lrs_verbs.proofs.NewRow.{IsNew, still_rows}
-use Rattle.lrs_gone.proofs.Once.{parts_apart}
+use Rattle.lrs_image_laws.proofs.Once.{parts_apart}
 use Rattle.lrs_verbs.proofs.NewParts.{of_edit, of_asset, few}
-use Rattle.lrs_gone.proofs.Appended.{all-append, later_part, apart_by_edit, no_pairs, pairs-append}
+use Rattle.lrs_image_laws.proofs.Appended.{all-append, later_part, apart_by_edit, no_pairs, pairs-append}
 
 -- a route is no longer than the longest
 longest : (r : RouteEntry) → length r.route.course ≤ longest_route

@@ -9,7 +9,7 @@ use Rattle.std.proofs.lemmas.List.{append-nil}
 use Rattle.std.specs.Prelude.{◌||◌, ◌&&◌, not, nat_eq, nat_lt, nat_le}
 use Rattle.std.specs.List.{list_any, list_all}
 use Rattle.std.specs.Ordering.{nat_cmp, eq_by_cmp}
-use Rattle.lrs_verbs.specs.Prelude.{each_two, insert_by, Link, Ground, meets, is_route_course, differs, Image, contains_key, state_of, attempt, ◌>>◌, is_on_a_link, RouteCourse, are_courses, IsSound, with_difference, IsOrderly}
+use Rattle.lrs_inventory.specs.Prelude.{each_two, insert_by, Link, Ground, meets, is_route_course, differs, Image, contains_key, state_of, attempt, ◌>>◌, is_on_a_link, RouteCourse, are_courses, IsSound, with_difference, IsOrderly}
 use Rattle.lrs_machine.specs.declared.answer.Cause.TheVariants as cause
 use Rattle.lrs_machine.specs.declared.command.Command.TheVariants as verb
 use Rattle.lrs_machine.specs.Bounds.{most_routes}
@@ -18,11 +18,11 @@ use Rattle.lrs_machine.specs.Image.{link_entry}
 use Rattle.lrs_machine.specs.Machine.{refuse_if}
 use Rattle.lrs_machine.specs.Sound.{link_before, is_course, course_before, courses_of}
 use Rattle.lrs_machine.proofs.Members.{all_weaker}
-use Rattle.lrs_orderly.proofs.Ordering.{sound_is_orderly}
-use Rattle.lrs_verbs.specs.Plans.{plan_of, IsPlanOf}
-use Rattle.lrs_verbs.proofs.Filed.{is_some-find_row, put-insert_by}
+use Rattle.lrs_image_laws.proofs.Ordering.{sound_is_orderly}
+use Rattle.lrs_inventory.specs.Plans.{plan_of, IsPlanOf}
+use Rattle.lrs_inventory.proofs.Filed.{is_some-find_row, put-insert_by}
 use Rattle.lrs_ordered.specs.Laws.{numbers_agree}
-use Rattle.lrs_routes.proofs.InOrder.{and_weaker, any-insert_by, is_comparable, each_two-insert_by}
+use Rattle.lrs_image_laws.proofs.InOrder.{and_weaker, any-insert_by, is_comparable, each_two-insert_by}
 use Rattle.lrs_verbs.proofs.Unmoved.{adding, can_differ, tells}
 
 -- the image with the link

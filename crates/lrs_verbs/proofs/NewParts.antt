@@ -5,7 +5,7 @@ use Rattle.std.proofs.lemmas.List.{length-take}
 use Rattle.std.proofs.lemmas.List.Sums.{sum_by-cons}
 use Rattle.std.specs.Prelude.{◌&&◌, nat_eq, nat_lt, nat_le, slice_range}
 use Rattle.std.specs.List.{list_any, list_all}
-use Rattle.lrs_verbs.specs.Prelude.{each_two, Link, Ground, longest_route, Part, B, Span, Place, is_among, places_on, is_on_a_link}
+use Rattle.lrs_inventory.specs.Prelude.{each_two, Link, Ground, longest_route, Part, B, Span, Place, is_among, places_on, is_on_a_link}
 use Rattle.lrs_events.specs.declared.side.Side.{Side}
 use Rattle.lrs_events.specs.declared.side.Side.TheVariants.{L, R}
 use Rattle.lrs_events.specs.Parts.{has_pair, has_place}
@@ -15,9 +15,9 @@ use Rattle.lrs_machine.specs.Bounds.{most_pairs}
 use Rattle.lrs_machine.specs.Sound.{link_before, pairs_of, has_asset_place}
 use Rattle.lrs_machine.proofs.Members.{In, any_found, any_of, all_at, map_found, In-map, all_of}
 use Rattle.lrs_machine.proofs.Pairs.{held, same_side_is, is_same_side}
-use Rattle.lrs_orderly.proofs.Counted.{is_on_its_link, fewer}
-use Rattle.lrs_orderly.proofs.Sounding.{has_its_pair}
-use Rattle.lrs_gone.proofs.Once.{has_own, had, parts_apart}
+use Rattle.lrs_image_laws.proofs.Counted.{is_on_its_link, fewer}
+use Rattle.lrs_image_laws.proofs.Sounding.{has_its_pair}
+use Rattle.lrs_image_laws.proofs.Once.{has_own, had, parts_apart}
 use Rattle.lrs_verbs.specs.Entering.{AreEntered}
 
 -- ---- how many places a row has

@@ -10,9 +10,9 @@ use Rattle.std.specs.List.{list_any, list_all, position, flat_map, filter_map, A
 use Rattle.std.specs.Option.{option_map}
 use Rattle.std.specs.Ordering.{eq_by_cmp}
 use Rattle.std.specs.Cmp.Lexicographic.{nat_list_cmp_total}
-use Rattle.lrs_verbs.specs.Prelude.{each_two, Name, name_cmp, same_name, insert_by, Piece, Ground, Mark, Millimetre, expand, course_of, runs_over, meets, is_too_long, IsFilled, is_route_course, have_marks, are_referents, Referent, Place, differs, holds_by_spans, Cause, Image, RouteEntry, contains_key, state_of, route_entry, referent_entry, referents_on, holds_on, State, attempt, refuse_at, ◌>>◌, ◌>>=◌, set_route, RouteCourse, is_on_a_link, are_courses, are_spans_of, route_before, IsSound, no_difference, with_difference, IsOrderly, is_run_once}
+use Rattle.lrs_inventory.specs.Prelude.{each_two, Name, name_cmp, same_name, insert_by, Piece, Ground, Mark, Millimetre, expand, course_of, runs_over, meets, is_too_long, IsFilled, is_route_course, have_marks, are_referents, Referent, Place, differs, holds_by_spans, Cause, Image, RouteEntry, contains_key, state_of, route_entry, referent_entry, referents_on, holds_on, State, attempt, refuse_at, ◌>>◌, ◌>>=◌, set_route, RouteCourse, is_on_a_link, are_courses, are_spans_of, route_before, IsSound, no_difference, with_difference, IsOrderly, is_run_once}
 use Rattle.lrs_element.specs.Course.{is_at}
-use Rattle.lrs_lanes.proofs.Inserted.{length-insert_by}
+use Rattle.lrs_events_lanes.proofs.Inserted.{length-insert_by}
 use Rattle.lrs_machine.specs.declared.answer.Cause.TheVariants as cause
 use Rattle.lrs_machine.specs.declared.command.Command.TheVariants as verb
 use Rattle.lrs_machine.specs.Bounds.{most_routes}
@@ -20,16 +20,18 @@ use Rattle.lrs_machine.specs.Machine.{refuse_if, check_pieces, check_free, check
 use Rattle.lrs_machine.specs.Sound.{course_before, is_course, courses_of, RouteMarks, RouteReferents, are_all_referents, referents_of, RouteSpans}
 use Rattle.lrs_machine.proofs.Members.{In, any_of, any_found, all_of, list_any-map}
 use Rattle.lrs_machine.proofs.SoundImages.{and_three}
-use Rattle.lrs_orderly.proofs.Ordering.{sound_is_orderly}
-use Rattle.lrs_verbs.specs.Changes.{route_on, ground_after}
-use Rattle.lrs_verbs.specs.Plans.{TellsGround, IsPlanOf}
-use Rattle.lrs_verbs.specs.Checks.{new_course, new_marks, IsEntryOf, route_plan}
-use Rattle.lrs_verbs.proofs.NamedEntries.{names_exact}
-use Rattle.lrs_verbs.proofs.Filed.{is_some-find_row, put-insert_by, names_tie}
-use Rattle.lrs_routes.proofs.InOrder.{none_found, is_false, and_weaker, all-insert_by, each_two-insert_by, before-chain, before-comparable, any-insert_by_other, find-insert_by, each_two-insert_among, made-insert_by_none, all_mapped-insert_by, map-insert_by}
-use Rattle.lrs_routes.proofs.Apart.{at_is, apart_too}
-use Rattle.lrs_verbs.proofs.NewCourse.{no_place, fails_at, once, on_links, apart_from, IsMade, made_of, marks_of}
+use Rattle.lrs_image_laws.proofs.Ordering.{sound_is_orderly}
+use Rattle.lrs_inventory.specs.Changes.{route_on, ground_after}
+use Rattle.lrs_inventory.specs.Plans.{TellsGround, IsPlanOf}
+use Rattle.lrs_inventory.specs.NewCourses.{new_course, new_marks}
+use Rattle.lrs_verbs.specs.Checks.{IsEntryOf, route_plan}
+use Rattle.lrs_inventory.proofs.NamedEntries.{names_exact}
+use Rattle.lrs_inventory.proofs.Filed.{is_some-find_row, put-insert_by, names_tie}
+use Rattle.lrs_image_laws.proofs.InOrder.{none_found, is_false, and_weaker, all-insert_by, each_two-insert_by, before-chain, before-comparable, any-insert_by_other, find-insert_by, each_two-insert_among, made-insert_by_none, all_mapped-insert_by, map-insert_by}
+use Rattle.lrs_image_laws.proofs.Apart.{at_is, apart_too}
+use Rattle.lrs_inventory.proofs.NewCourse.{no_place, fails_at, once, on_links, apart_from, IsMade, made_of, marks_of}
 use Rattle.lrs_verbs.proofs.Unmoved.{can_differ}
+use Rattle.lrs_inventory.proofs.Grounds.{taken_is}
 
 -- the image with the route
 abbrev pub with_route : RouteEntry → Image → Image
@@ -143,10 +145,6 @@ nothing_taken i pieces h = by (position (λ p. is_taken (state_of i) (expand p))
     by : (o : Option ℕ) → position (λ p. is_taken (state_of i) (expand p)) pieces ≡ o → refuse_at o cause.Taken ≡ Ok tt → position (λ p. is_taken (state_of i) (expand p)) pieces ≡ None
     by None e k = e
     by (Some x) e k = absurd (cc k)
-
-pub taken_is : (i : Image) (p : Piece) → is_taken (state_of i) (expand p) ≡ list_any (λ e. meets (expand p) e.route.course) i.routes
-unfolding state_of
-taken_is i p = list_any-map (λ route. meets (expand p) route.1.course) route_entry i.routes
 
 module _ (e : RouteEntry) (pieces : List Piece) (i : Image) (fresh : list_any (has_name e.route.name) i.routes ≡ false) (made : IsMade i pieces e.route.course) (free : check_free (state_of i) pieces ≡ Ok tt)
     (no_refs : e.route.refs ≡ []) (no_spans : e.spans ≡ []) (o : IsOrderly i) where

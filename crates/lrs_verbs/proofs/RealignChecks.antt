@@ -4,28 +4,28 @@ use Rattle.std.specs.List.{find, list_all}
 use Rattle.std.proofs.lemmas.Bool.{not-true, and_parts, or_left, or_right, or_cases, or_parts, ltb-true, ltb-false, lt-ltb, leb-true, le-leb}
 use Rattle.std.specs.Prelude.{◌||◌, ◌&&◌, not, nat_lt, nat_le, nat_eq, slice_range, unwrap_or}
 use Rattle.std.specs.Option.{option_map, ok_or}
-use Rattle.lrs_verbs.specs.Prelude.{each_two, Name, Ground, Piece, Mark, course_of, is_too_long, longest_route, Referent, Alignment, referent_before, Span, are_rows, end_by, Cause, Image, RouteEntry, state_of, route_entry, attempt, ◌>>=◌, ◌>>◌, set_route, is_span, are_spans_of, IsSound, State, is_named}
+use Rattle.lrs_inventory.specs.Prelude.{each_two, Name, Ground, Piece, Mark, course_of, is_too_long, longest_route, Referent, Alignment, referent_before, Span, are_rows, end_by, Cause, Image, RouteEntry, state_of, route_entry, attempt, ◌>>=◌, ◌>>◌, set_route, is_span, are_spans_of, IsSound, State, is_named}
 use Rattle.lrs_measure.specs.Lists.{is_nothing}
 use Rattle.lrs_element.specs.Course.{continues, piece_count}
 use Rattle.lrs_element.specs.Limits.{most_pieces}
-use Rattle.lrs_canonical.proofs.Members.{all_at, all_from}
-use Rattle.lrs_realign.specs.Realigning.{have_room_behind}
+use Rattle.lrs_events_rows.proofs.Members.{all_at, all_from}
+use Rattle.lrs_events_spans.specs.Realigning.{have_room_behind}
 use Rattle.lrs_machine.specs.declared.answer.Cause.TheVariants as cause
 use Rattle.lrs_machine.specs.declared.command.Command.TheVariants as verb
 use Rattle.lrs_machine.specs.Machine.{refuse_if, check_pieces, check_free, check_marks, abandon}
 use Rattle.lrs_machine.proofs.Members as members
 use Rattle.lrs_machine.proofs.Members.{all_of}
-use Rattle.lrs_sound.proofs.Fitting.{fits}
-use Rattle.lrs_routes.proofs.Rewriting.{old_spans}
-use Rattle.lrs_leaving.specs.Realigning.{replaced}
-use Rattle.lrs_leaving.proofs.Replaced.{replaced_length}
-use Rattle.lrs_verbs.specs.declared.plan.Stop.{Stop}
-use Rattle.lrs_verbs.specs.declared.plan.Stop.TheVariants.{Refused, Memory}
+use Rattle.lrs_image_sound.proofs.Fitting.{fits}
+use Rattle.lrs_image_laws.proofs.Rewriting.{old_spans}
+use Rattle.lrs_image_laws.specs.Realigning.{replaced}
+use Rattle.lrs_image_laws.proofs.Replaced.{replaced_length}
+use Rattle.lrs_inventory.specs.declared.plan.Stop.{Stop}
+use Rattle.lrs_inventory.specs.declared.plan.Stop.TheVariants.{Refused, Memory}
 use Rattle.lrs_verbs.specs.declared.verbs.realign.NewLine.{NewLine}
-use Rattle.lrs_verbs.specs.Checks.{new_course, new_marks}
-use Rattle.lrs_verbs.specs.Plans.{Answers}
+use Rattle.lrs_inventory.specs.NewCourses.{new_course, new_marks}
+use Rattle.lrs_inventory.specs.Plans.{Answers}
 use Rattle.lrs_verbs.specs.Realignments.{check_stretch, short_course, free_course, new_line}
-use Rattle.lrs_verbs.proofs.Known.{route_value}
+use Rattle.lrs_inventory.proofs.Known.{route_value}
 use Rattle.lrs_verbs.proofs.Stopping.{refusal}
 
 -- ---- one answer after another

@@ -6,46 +6,47 @@ use Rattle.std.proofs.lemmas.List.Folds.{list_any-append}
 use Rattle.std.specs.Prelude.{◌||◌, ◌&&◌, not, is_some, nat_lt, slice_get, slice_range, unwrap_or}
 use Rattle.std.specs.Option.{option_map, option_or}
 use Rattle.std.specs.Cmp.Lexicographic.{bytes_decides}
-use Rattle.lrs_verbs.specs.Prelude.{each_two, Name, same_name, Ground, Piece, Mark, Millimetre, course_of, expand, runs_over, meets, is_run_once, Referent, is_route, is_route_course, have_marks, are_referents, referent_before, differs, is_within, Image, RouteEntry, state_of, referent_entry, referents_on, set_route, are_spans_of, route_before, IsSound, State, Makes, RouteChange, Difference, is_named, changed_refs, fits_after, route_after, entry_after, with_difference, CanDiffer, are_names_of, rerouting}
+use Rattle.lrs_inventory.specs.Prelude.{each_two, Name, same_name, Ground, Piece, Mark, Millimetre, course_of, expand, runs_over, meets, is_run_once, Referent, is_route, is_route_course, have_marks, are_referents, referent_before, differs, is_within, Image, RouteEntry, state_of, referent_entry, referents_on, set_route, are_spans_of, route_before, IsSound, State, Makes, RouteChange, Difference, is_named, changed_refs, fits_after, route_after, entry_after, with_difference, CanDiffer, are_names_of, rerouting}
 use Rattle.lrs_element.specs.Course.{is_at}
-use Rattle.lrs_index.proofs.Pieces.{across, behind}
-use Rattle.lrs_realign.specs.Realigning.{IsRealigned}
+use Rattle.lrs_position_index.proofs.Pieces.{across, behind}
+use Rattle.lrs_events_spans.specs.Realigning.{IsRealigned}
 use Rattle.lrs_machine.specs.declared.command.Command.TheVariants as verb
 use Rattle.lrs_machine.specs.Machine.{is_taken, do_realign, abandon}
 use Rattle.lrs_machine.proofs.Members.{In, any_found, any_of, all_at, two_at, In-map, map_found}
-use Rattle.lrs_sound.proofs.Fitting.{fits}
-use Rattle.lrs_keep.specs.declared.change.ReferentChange.{ReferentChange}
-use Rattle.lrs_keep.proofs.Becoming.{HasBecome, becomes}
-use Rattle.lrs_keep.proofs.Tables.{routes_in_order}
-use Rattle.lrs_routes.specs.Differences.{KeepsFromDropped}
-use Rattle.lrs_routes.specs.Rewriting.{rewritten, with_routes, AreFit}
-use Rattle.lrs_routes.specs.Running.{runs_on, is_run_by}
-use Rattle.lrs_routes.proofs.Apart.{meet_at}
-use Rattle.lrs_routes.proofs.Differences.{difference_rewrites, reroutes}
-use Rattle.lrs_routes.proofs.InOrder.{is_false, none_found}
-use Rattle.lrs_routes.proofs.Listed.{In-filter, filter-In}
-use Rattle.lrs_routes.proofs.Naming.{found_in, only_one}
-use Rattle.lrs_routes.proofs.Renaming.{own_names}
-use Rattle.lrs_routes.proofs.Rewriting.{are_unlike, its_course, old_spans, new_order}
-use Rattle.lrs_routes.proofs.Running.{runs_there, moves_ground}
-use Rattle.lrs_routes.proofs.Standing.{option_found, found_option}
-use Rattle.lrs_leaving.specs.Leaving.{with_left}
-use Rattle.lrs_leaving.specs.Realigning.{replaced, IsTaken, IsRealignment}
-use Rattle.lrs_leaving.proofs.Named.{AreNamed, named_leave}
-use Rattle.lrs_leaving.proofs.Realigning.{realign_makes, realigned_has_rows, fit, same_state, under, is_on, is_clear}
-use Rattle.lrs_leaving.proofs.Replaced.{three_parts, replaced_length}
+use Rattle.lrs_image_sound.proofs.Fitting.{fits}
+use Rattle.lrs_image.specs.declared.change.ReferentChange.{ReferentChange}
+use Rattle.lrs_image.proofs.Becoming.{HasBecome, becomes}
+use Rattle.lrs_image.proofs.Tables.{routes_in_order}
+use Rattle.lrs_image_laws.specs.Differences.{KeepsFromDropped}
+use Rattle.lrs_image_laws.specs.Rewriting.{rewritten, with_routes, AreFit}
+use Rattle.lrs_image_laws.specs.Running.{runs_on, is_run_by}
+use Rattle.lrs_image_laws.proofs.Apart.{meet_at}
+use Rattle.lrs_image_laws.proofs.Differences.{difference_rewrites, reroutes}
+use Rattle.lrs_image_laws.proofs.InOrder.{is_false, none_found}
+use Rattle.lrs_image_laws.proofs.Listed.{In-filter, filter-In}
+use Rattle.lrs_image_laws.proofs.Naming.{found_in, only_one}
+use Rattle.lrs_image_laws.proofs.Renaming.{own_names}
+use Rattle.lrs_image_laws.proofs.Rewriting.{are_unlike, its_course, old_spans, new_order}
+use Rattle.lrs_image_laws.proofs.Running.{runs_there, moves_ground}
+use Rattle.lrs_image_laws.proofs.Standing.{option_found, found_option}
+use Rattle.lrs_image_laws.specs.Leaving.{with_left}
+use Rattle.lrs_image_laws.specs.Realigning.{replaced, IsTaken, IsRealignment}
+use Rattle.lrs_image_laws.proofs.Named.{AreNamed, named_leave}
+use Rattle.lrs_image_laws.proofs.Realigning.{realign_makes, realigned_has_rows, fit, same_state, under, is_on, is_clear}
+use Rattle.lrs_image_laws.proofs.Replaced.{three_parts, replaced_length}
 use Rattle.lrs_verbs.specs.declared.verbs.realign.NewLine.{NewLine}
 use Rattle.lrs_verbs.specs.declared.verbs.realign.Realigned.{Realigned}
-use Rattle.lrs_verbs.specs.Changes.{route_on}
-use Rattle.lrs_verbs.specs.Plans.{IsPlanOf}
+use Rattle.lrs_inventory.specs.Changes.{route_on}
+use Rattle.lrs_inventory.specs.Plans.{IsPlanOf}
 use Rattle.lrs_verbs.specs.Realignments.{check_stretch, new_line, refs_on, referents_moved, realigned_plan, IsOnNewLine}
-use Rattle.lrs_routes.proofs.FromReferents.{ground_there}
+use Rattle.lrs_image_laws.proofs.FromReferents.{ground_there}
 use Rattle.lrs_verbs.proofs.MovedReferents as moved
-use Rattle.lrs_verbs.proofs.NewCourse.{no_place, fails_at, once, on_links, apart_from, IsMade, made_of, marks_of, good_line, fits_alone}
-use Rattle.lrs_verbs.proofs.NewRoute.{nothing_taken, taken_is}
+use Rattle.lrs_inventory.proofs.NewCourse.{no_place, fails_at, once, on_links, apart_from, IsMade, made_of, marks_of, good_line, fits_alone}
+use Rattle.lrs_verbs.proofs.NewRoute.{nothing_taken}
+use Rattle.lrs_inventory.proofs.Grounds.{taken_is}
 use Rattle.lrs_verbs.proofs.RealignChecks.{IsLine, line_is, lies, free_is, writes}
 use Rattle.lrs_verbs.proofs.Going.{names_kept}
-use Rattle.lrs_routes.specs.Splitting.{is_ahead}
+use Rattle.lrs_image_laws.specs.Splitting.{is_ahead}
 
 module _ (route : Name) (from to : ℕ) (given : Option (List Piece)) (marks : List Mark) (i : Image) (r : RouteEntry) (l : NewLine) (h : Realigned) (s : IsSound i) (found : find (is_named route) i.routes ≡ Some r)
     (good : check_stretch (length r.route.course) from to (unwrap_or given []) ≡ Ok tt) (made : new_line (state_of i) r.route.course from to (unwrap_or given []) marks ≡ Ok l) (is : IsOnNewLine (length i.edits + 1) r from to l h) where
@@ -154,7 +155,7 @@ module _ (route : Name) (from to : ℕ) (given : Option (List Piece)) (marks : L
     course = course_now;
     marks_are = marks_now;
     refs_of = λ q m. moved.refs_of r from to (length come) (length new) low high size_is q (subst (In q) refs_now m);
-    refs_are = λ x m off. subst (In (Rattle.lrs_leaving.specs.Realigning.moved from to (length come) x)) (sym refs_now) (moved.refs_are r from to (length come) (length new) low high size_is x m off);
+    refs_are = λ x m off. subst (In (Rattle.lrs_image_laws.specs.Realigning.moved from to (length come) x)) (sym refs_now) (moved.refs_are r from to (length come) (length new) low high size_is x m off);
     spans = ap (λ g. are_spans_of i.assets (record { course = g; rows = w.spans })) course_now
         ∙ realigned_has_rows i.assets old come from to r.spans w.spans low high is.rows rows_now (all_at (λ (e : RouteEntry). are_spans_of i.assets (record { course = e.route.course; rows = e.spans })) r i.routes (old_spans i s) there);
     realigned = rows_now;

@@ -3,18 +3,19 @@ use Rattle.std.proofs.Common.{◌≡◌, ℕ, true, List, length, Option, Some, 
 use Rattle.std.specs.Prelude.{is_none}
 use Rattle.std.specs.List.{find}
 use Rattle.std.specs.Option.{option_map, ok_or}
-use Rattle.lrs_verbs.specs.Prelude.{Name, Mark, Alignment, Cause, Image, RouteEntry, state_of, route_entry, State, attempt, ◌>>◌, ◌>>=◌, set_route, IsSound, Makes, RouteChange, is_named}
+use Rattle.lrs_inventory.specs.Prelude.{Name, Mark, Alignment, Cause, Image, RouteEntry, state_of, route_entry, State, attempt, ◌>>◌, ◌>>=◌, set_route, IsSound, Makes, RouteChange, is_named}
 use Rattle.lrs_element.specs.Marks.{bad_mark}
 use Rattle.lrs_machine.specs.declared.answer.Cause.TheVariants as cause
 use Rattle.lrs_machine.specs.declared.command.Command.TheVariants as verb
 use Rattle.lrs_machine.specs.Machine.{check_marks}
-use Rattle.lrs_routes.specs.Renaming.{HasSame}
-use Rattle.lrs_routes.proofs.Renaming.{recalibrate_makes, alike}
-use Rattle.lrs_verbs.specs.Checks.{new_marks, recalibrated}
-use Rattle.lrs_verbs.specs.Plans.{IsPlanOf}
+use Rattle.lrs_image_laws.specs.Renaming.{HasSame}
+use Rattle.lrs_image_laws.proofs.Renaming.{recalibrate_makes, alike}
+use Rattle.lrs_inventory.specs.NewCourses.{new_marks}
+use Rattle.lrs_verbs.specs.Checks.{recalibrated}
+use Rattle.lrs_inventory.specs.Plans.{IsPlanOf}
 use Rattle.lrs_verbs.proofs.ChangedRoute.{new, at, own_name, plans_alike}
-use Rattle.lrs_verbs.proofs.Known.{route_value}
-use Rattle.lrs_verbs.proofs.NewCourse.{marks_of, good_line}
+use Rattle.lrs_inventory.proofs.Known.{route_value}
+use Rattle.lrs_inventory.proofs.NewCourse.{marks_of, good_line}
 use Rattle.lrs_verbs.proofs.Rerouted.{relabelled, after, same, new_name, new_marks_are, can_become}
 
 -- ---- what the verb does

@@ -4,22 +4,22 @@ use Rattle.std.specs.Prelude.{is_none, is_some}
 use Rattle.std.specs.List.{find, list_any, AllByRecursion}
 use Rattle.std.proofs.lemmas.Bool.{false≢true}
 use Rattle.std.specs.Option.{option_map, ok_or}
-use Rattle.lrs_verbs.specs.Prelude.{Name, same_name, Piece, course_of, runs_over, IsFilled, Alignment, Cause, Image, RouteEntry, state_of, route_entry, State, attempt, ◌>>◌, ◌>>=◌, set_route, contains_key, IsSound, Makes, RouteChange, is_named}
+use Rattle.lrs_inventory.specs.Prelude.{Name, same_name, Piece, course_of, runs_over, IsFilled, Alignment, Cause, Image, RouteEntry, state_of, route_entry, State, attempt, ◌>>◌, ◌>>=◌, set_route, contains_key, IsSound, Makes, RouteChange, is_named}
 use Rattle.lrs_element.specs.Marks.{bad_mark}
 use Rattle.lrs_machine.specs.declared.answer.Cause.TheVariants as cause
 use Rattle.lrs_machine.specs.declared.command.Command.TheVariants as verb
 use Rattle.lrs_machine.specs.Machine.{refuse_if, drop_route}
 use Rattle.lrs_machine.proofs.Members.{In}
-use Rattle.lrs_sound.proofs.Fitting.{fits}
-use Rattle.lrs_routes.specs.Renaming.{HasSame}
-use Rattle.lrs_routes.proofs.Alike.{IsAlike, fit, same_state, moves}
-use Rattle.lrs_routes.proofs.Renaming.{renumber_makes, own_if_new, alike}
-use Rattle.lrs_routes.proofs.Running.{runs_there}
-use Rattle.lrs_verbs.specs.Changes.{route_on}
+use Rattle.lrs_image_sound.proofs.Fitting.{fits}
+use Rattle.lrs_image_laws.specs.Renaming.{HasSame}
+use Rattle.lrs_image_laws.proofs.Alike.{IsAlike, fit, same_state, moves}
+use Rattle.lrs_image_laws.proofs.Renaming.{renumber_makes, own_if_new, alike}
+use Rattle.lrs_image_laws.proofs.Running.{runs_there}
+use Rattle.lrs_inventory.specs.Changes.{route_on}
 use Rattle.lrs_verbs.specs.Checks.{renumbered}
-use Rattle.lrs_verbs.specs.Plans.{IsPlanOf}
+use Rattle.lrs_inventory.specs.Plans.{IsPlanOf}
 use Rattle.lrs_verbs.proofs.ChangedRoute.{new, at, own_name, image_is, differs_so}
-use Rattle.lrs_verbs.proofs.Known.{route_value}
+use Rattle.lrs_inventory.proofs.Known.{route_value}
 use Rattle.lrs_verbs.proofs.NewRoute.{knows}
 use Rattle.lrs_verbs.proofs.Rerouted.{relabelled, after, same, new_name, new_marks_are, can_become}
 

@@ -3,14 +3,14 @@ use Rattle.std.proofs.Common.{◌≡◌, true, List, [], ◌∷◌, filter, Opti
 use Rattle.std.specs.List.{find, list_all}
 use Rattle.std.proofs.lemmas.Bool.{and_from, and_parts}
 use Rattle.std.specs.Prelude.{◌&&◌, length, unwrap_or}
-use Rattle.lrs_verbs.specs.Prelude.{Name, Mark, is_route, is_route_course, have_marks, are_referents, are_rows, Image, RouteEntry, is_span, are_spans_of, IsSound, RouteChange, is_named, changed_refs, fits_after, route_after, spans_after, entry_after}
+use Rattle.lrs_inventory.specs.Prelude.{Name, Mark, is_route, is_route_course, have_marks, are_referents, are_rows, Image, RouteEntry, is_span, are_spans_of, IsSound, RouteChange, is_named, changed_refs, fits_after, route_after, spans_after, entry_after}
 use Rattle.lrs_machine.proofs.Members.{all_at}
-use Rattle.lrs_sound.proofs.Fitting.{fits}
-use Rattle.lrs_keep.specs.Change.{CanBecome}
-use Rattle.lrs_keep.proofs.Becoming.{HasBecome, becomes}
-use Rattle.lrs_routes.specs.Differences.{no_change}
-use Rattle.lrs_routes.specs.Renaming.{HasSame}
-use Rattle.lrs_routes.proofs.Rewriting.{old_spans}
+use Rattle.lrs_image_sound.proofs.Fitting.{fits}
+use Rattle.lrs_image.specs.Change.{CanBecome}
+use Rattle.lrs_image.proofs.Becoming.{HasBecome, becomes}
+use Rattle.lrs_image_laws.specs.Differences.{no_change}
+use Rattle.lrs_image_laws.specs.Renaming.{HasSame}
+use Rattle.lrs_image_laws.proofs.Rewriting.{old_spans}
 use Rattle.lrs_verbs.proofs.ChangedRoute.{at}
 
 -- where nothing goes all stays

@@ -3,7 +3,7 @@ use Rattle.std.proofs.Common.{◌≡◌, ℕ, Bool, true, false, Option, Some, N
 use Rattle.std.specs.Prelude.{◌||◌, not}
 use Rattle.std.specs.List.{list_any}
 use Rattle.std.specs.Option.{ok_or}
-use Rattle.lrs_verbs.specs.Prelude.{Name, Alignment, Kind, B, places_on, Cause, ◌>>=◌, ◌>>◌, Extent, extent_of, part_of, attempt, State, Retired}
+use Rattle.lrs_inventory.specs.Prelude.{Name, Alignment, Kind, B, places_on, Cause, ◌>>=◌, ◌>>◌, Extent, extent_of, part_of, attempt, State, Retired}
 use Rattle.lrs_position.specs.Expressions.{Ends}
 use Rattle.lrs_machine.specs.declared.answer.Cause.TheVariants as cause
 use Rattle.lrs_machine.specs.declared.command.Command.TheVariants as verb

@@ -6,26 +6,26 @@ use Rattle.std.proofs.lemmas.Bool.{false≢true, and_parts, and_from, cases_Bool
 use Rattle.std.specs.Prelude.{◌&&◌, not, nat_eq, nat_le, nat_lt, slice_get}
 use Rattle.std.specs.List.{list_any}
 use Rattle.std.specs.Cmp.Lexicographic.{bytes_decides}
-use Rattle.lrs_verbs.specs.Prelude.{same_name, Ground, Asset, B, Span, Place, places_on, holds_by_spans, Removal, is_within, IsRemoval, Image, RouteEntry, state_of, asset_entry, holds_on, Extent, part_of, IsSound}
+use Rattle.lrs_inventory.specs.Prelude.{same_name, Ground, Asset, B, Span, Place, places_on, holds_by_spans, Removal, is_within, IsRemoval, Image, RouteEntry, state_of, asset_entry, holds_on, Extent, part_of, IsSound}
 use Rattle.lrs_measure.specs.Lists.{is_nothing}
 use Rattle.lrs_element.specs.Course.{is_at}
 use Rattle.lrs_events.specs.declared.side.LinkSide.{LinkSide}
 use Rattle.lrs_events.specs.Members.{is_member}
 use Rattle.lrs_events.specs.Places.{beside, places_at, lies_on}
-use Rattle.lrs_canonical.specs.OnCourse.{is_held}
-use Rattle.lrs_canonical.specs.Removals.{Taken}
+use Rattle.lrs_events_rows.specs.OnCourse.{is_held}
+use Rattle.lrs_events_rows.specs.Removals.{Taken}
 use Rattle.lrs_machine.specs.State as state
 use Rattle.lrs_machine.specs.Register.{get}
 use Rattle.lrs_machine.specs.Machine.{belongs_to}
 use Rattle.lrs_machine.proofs.Ledgers.{among_passes}
 use Rattle.lrs_machine.proofs.Members.{In, any_found, any_of, flat_map_found, find_numbered}
 use Rattle.lrs_machine.proofs.Pairs.{beside_ground}
-use Rattle.lrs_keep.proofs.Tables.{assets_in_order}
-use Rattle.lrs_routes.proofs.Halved.{side_at, its_end, filled_in}
-use Rattle.lrs_routes.proofs.Parted.{member_held}
+use Rattle.lrs_image.proofs.Tables.{assets_in_order}
+use Rattle.lrs_image_laws.proofs.Halved.{side_at, its_end, filled_in}
+use Rattle.lrs_image_laws.proofs.Parted.{member_held}
 use Rattle.lrs_verbs.specs.Taking.{of_asset_within}
-use Rattle.lrs_routes.proofs.FromReferents.{ground_there}
-use Rattle.lrs_routes.proofs.Holding.{alone, rows_held_at}
+use Rattle.lrs_image_laws.proofs.FromReferents.{ground_there}
+use Rattle.lrs_image_laws.proofs.Holding.{alone, rows_held_at}
 use Rattle.lrs_verbs.proofs.TakenInPlace.{IsTakenSo, among_at, on_both_sides, on_stretch, handed_back}
 
 module _ (i : Image) (r : RouteEntry) (asset : Asset) (x : Extent) (s : IsSound i) (m : In r i.routes) (known : get (state_of i).assets asset.number ≡ Some (asset_entry asset).1) where

@@ -3,7 +3,7 @@ use Rattle.std.proofs.Common.{◌≡◌, ℕ, ◌+◌, ◌≤◌, Bool, true, fa
 use Rattle.std.specs.List.{find, list_any}
 use Rattle.std.specs.Option.{option_and_then, option_map}
 use Rattle.std.specs.Prelude.{◌||◌, not}
-use Rattle.lrs_verbs.specs.Prelude.{Name, alignment_of, Asset, Kind, B, places_on, Removal, IsRemoval, IsPlan, Cause, Image, RouteEntry, state_of, asset_entry, route_entry, ◌>>◌, Extent, part_of, extent_of, attempt, IsSound, Retired, is_named}
+use Rattle.lrs_inventory.specs.Prelude.{Name, alignment_of, Asset, Kind, B, places_on, Removal, IsRemoval, IsPlan, Cause, Image, RouteEntry, state_of, asset_entry, route_entry, ◌>>◌, Extent, part_of, extent_of, attempt, IsSound, Retired, is_named}
 use Rattle.lrs_measure.specs.Lists.{is_nothing}
 use Rattle.lrs_position.specs.Expressions.{Ends}
 use Rattle.lrs_machine.specs.declared.answer.Cause.TheVariants as cause
@@ -12,11 +12,11 @@ use Rattle.lrs_machine.specs.Register.{get}
 use Rattle.lrs_machine.specs.Machine.{refuse_if, belongs_to, is_empty_extent, is_wrong_kind, kind_of_asset}
 use Rattle.lrs_machine.specs.State as state
 use Rattle.lrs_machine.proofs.Members.{In}
-use Rattle.lrs_verbs.specs.declared.plan.Plan.{Plan}
-use Rattle.lrs_verbs.specs.Plans.{IsPlanOf}
+use Rattle.lrs_inventory.specs.declared.plan.Plan.{Plan}
+use Rattle.lrs_inventory.specs.Plans.{IsPlanOf}
 use Rattle.lrs_verbs.specs.Taking.{of_asset_within, HasAsset, IsTaking}
-use Rattle.lrs_verbs.proofs.Known.{none_found, route_value}
-use Rattle.lrs_verbs.proofs.Located.{route_in}
+use Rattle.lrs_inventory.proofs.Known.{none_found, route_value}
+use Rattle.lrs_inventory.proofs.Located.{route_in}
 use Rattle.lrs_verbs.proofs.RetireChecks as checks
 use Rattle.lrs_verbs.proofs.RetiredPlaces.{taken_so, some_is_left}
 use Rattle.lrs_verbs.proofs.TakenInPlace.{takes_in_place}

@@ -6,22 +6,22 @@ use Rattle.std.proofs.lemmas.Bool.{and_parts, and_from}
 use Rattle.std.proofs.lemmas.List.{append-nil}
 use Rattle.std.proofs.lemmas.List.Folds.{list_all-map, flat_map-map}
 use Rattle.std.specs.Option.{option_map}
-use Rattle.lrs_verbs.specs.Prelude.{each_two, Name, name_cmp, insert_by, Millimetre, is_route, is_route_course, have_marks, are_referents, Place, are_rows, holds_by_spans, Command, Image, RouteEntry, state_of, route_entry, referents_on, holds_on, attempt, are_courses, are_spans_of, is_span, route_before, IsSound, RouteChange, changed_refs, entry_after, is_named, without, with_difference, CanDiffer, are_names_of, IsOrderly}
+use Rattle.lrs_inventory.specs.Prelude.{each_two, Name, name_cmp, insert_by, Millimetre, is_route, is_route_course, have_marks, are_referents, Place, are_rows, holds_by_spans, Command, Image, RouteEntry, state_of, route_entry, referents_on, holds_on, attempt, are_courses, are_spans_of, is_span, route_before, IsSound, RouteChange, changed_refs, entry_after, is_named, without, with_difference, CanDiffer, are_names_of, IsOrderly}
 use Rattle.lrs_measure.specs.Ordered.{insert_some}
 use Rattle.lrs_machine.specs.Sound.{RouteReferents, RouteSpans, are_all_marks, are_all_referents, referents_of, spans_of}
 use Rattle.lrs_machine.proofs.Members.{In, In-map, all_at}
 use Rattle.lrs_machine.proofs.SoundImages.{and_three}
-use Rattle.lrs_lanes.proofs.Members.{filter_all}
-use Rattle.lrs_keep.specs.declared.change.ReferentChange.{ReferentChange}
-use Rattle.lrs_keep.specs.Change.{CanBecome}
-use Rattle.lrs_keep.proofs.Becoming.{HasBecome, becomes}
-use Rattle.lrs_keep.proofs.Tables.{routes_in_order}
-use Rattle.lrs_orderly.proofs.Ordering.{sound_is_orderly}
-use Rattle.lrs_verbs.specs.declared.plan.ReferentPlaces.{ReferentPlaces}
-use Rattle.lrs_verbs.specs.Changes.{route_on, referents_after, IsNewReferent}
-use Rattle.lrs_verbs.specs.Plans.{TellsGround, IsPlanOf}
+use Rattle.lrs_events_lanes.proofs.Members.{filter_all}
+use Rattle.lrs_image.specs.declared.change.ReferentChange.{ReferentChange}
+use Rattle.lrs_image.specs.Change.{CanBecome}
+use Rattle.lrs_image.proofs.Becoming.{HasBecome, becomes}
+use Rattle.lrs_image.proofs.Tables.{routes_in_order}
+use Rattle.lrs_image_laws.proofs.Ordering.{sound_is_orderly}
+use Rattle.lrs_inventory.specs.declared.plan.ReferentPlaces.{ReferentPlaces}
+use Rattle.lrs_inventory.specs.Changes.{route_on, referents_after, IsNewReferent}
+use Rattle.lrs_inventory.specs.Plans.{TellsGround, IsPlanOf}
 use Rattle.lrs_verbs.specs.RouteReferents.{change_of_referents, difference_of_referents, plan_of_referents}
-use Rattle.lrs_routes.proofs.FromReferents.{other_names, refs_of}
+use Rattle.lrs_image_laws.proofs.FromReferents.{other_names, refs_of}
 use Rattle.lrs_verbs.proofs.InPlace.{DifferAt, found_by_name, in_place, map_same, any_same, all_still, names_stay, ground_stays}
 
 some_is : (a b : RouteEntry) → Some a ≡ Some b → a ≡ b

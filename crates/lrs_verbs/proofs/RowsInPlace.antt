@@ -4,15 +4,15 @@ use Rattle.std.specs.List as list
 use Rattle.std.specs.FinMap.{find}
 use Rattle.std.specs.List.{flat_map}
 use Rattle.std.specs.Option.{option_map}
-use Rattle.lrs_verbs.specs.Prelude.{each_two, insert_by, Name, name_cmp, is_route, Asset, Part, Gone, Span, span_before, are_rows, RouteEntry, Image, state_of, referents_on, route_before, RouteChange, Difference, no_difference, is_named, without, entry_after, fits_after, CanDiffer}
+use Rattle.lrs_inventory.specs.Prelude.{each_two, insert_by, Name, name_cmp, is_route, Asset, Part, Gone, Span, span_before, are_rows, RouteEntry, Image, state_of, referents_on, route_before, RouteChange, Difference, no_difference, is_named, without, entry_after, fits_after, CanDiffer}
 use Rattle.lrs_measure.specs.Ordered.{insert_some}
 use Rattle.lrs_events.specs.Changes.{changed}
-use Rattle.lrs_lanes.proofs.Members.{filter_all}
-use Rattle.lrs_keep.specs.Change.{routes_after, are_rows_of}
-use Rattle.lrs_keep.proofs.Becoming.{has_become}
-use Rattle.lrs_routes.specs.Differences.{no_change}
-use Rattle.lrs_verbs.specs.Changes.{route_on}
-use Rattle.lrs_verbs.specs.Plans.{plan_of, TellsGround}
+use Rattle.lrs_events_lanes.proofs.Members.{filter_all}
+use Rattle.lrs_image.specs.Change.{routes_after, are_rows_of}
+use Rattle.lrs_image.proofs.Becoming.{has_become}
+use Rattle.lrs_image_laws.specs.Differences.{no_change}
+use Rattle.lrs_inventory.specs.Changes.{route_on}
+use Rattle.lrs_inventory.specs.Plans.{plan_of, TellsGround}
 use Rattle.lrs_verbs.proofs.InPlace.{DifferAt, made_same, in_place, names_stay, ground_stays}
 
 pub keep_all : {X : Type 0} (xs : List X) → filter (λ x. true) xs ≡ xs

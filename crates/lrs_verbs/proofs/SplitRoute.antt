@@ -7,7 +7,7 @@ use Rattle.std.proofs.lemmas.List.Folds.{list_any-append}
 use Rattle.std.specs.Prelude.{◌&&◌, not, is_some, nat_lt, nat_eq, unwrap_or}
 use Rattle.std.specs.Option.{option_map, ok_or}
 use Rattle.std.specs.Cmp.Lexicographic.{bytes_decides}
-use Rattle.lrs_verbs.specs.Prelude.{each_two, Name, same_name, Piece, Mark, Millimetre, course_of, runs_over, is_too_long, IsFilled, Referent, Alignment, is_route, Cause, Image, RouteEntry, state_of, route_entry, State, attempt, ◌>>◌, ◌>>=◌, set_route, contains_key, are_spans_of, route_before, IsSound, Makes, RouteChange, Difference, is_named, changed_refs, fits_after, route_after, entry_after, with_difference, CanDiffer, are_names_of, rerouting}
+use Rattle.lrs_inventory.specs.Prelude.{each_two, Name, same_name, Piece, Mark, Millimetre, course_of, runs_over, is_too_long, IsFilled, Referent, Alignment, is_route, Cause, Image, RouteEntry, state_of, route_entry, State, attempt, ◌>>◌, ◌>>=◌, set_route, contains_key, are_spans_of, route_before, IsSound, Makes, RouteChange, Difference, is_named, changed_refs, fits_after, route_after, entry_after, with_difference, CanDiffer, are_names_of, rerouting}
 use Rattle.lrs_element.specs.Course.{is_at}
 use Rattle.lrs_element.specs.Marks.{is_inner_mark, marks_to, marks_from}
 use Rattle.lrs_element.proofs.LineLemmas.{KeepRules-from_none, ends_at}
@@ -15,25 +15,25 @@ use Rattle.lrs_machine.specs.declared.answer.Cause.TheVariants as cause
 use Rattle.lrs_machine.specs.declared.command.Command.TheVariants as verb
 use Rattle.lrs_machine.specs.Machine.{refuse_if}
 use Rattle.lrs_machine.proofs.Members.{In, any_found, any_of, all_at, two_at, In-map, map_found}
-use Rattle.lrs_sound.proofs.Fitting.{fits}
-use Rattle.lrs_keep.proofs.Becoming.{HasBecome, becomes}
-use Rattle.lrs_routes.specs.Differences.{KeepsFromDropped}
-use Rattle.lrs_routes.specs.Rewriting.{rewritten, with_routes}
-use Rattle.lrs_routes.specs.Splitting.{is_ahead, IsSplit}
-use Rattle.lrs_routes.proofs.Differences.{difference_rewrites, reroutes}
-use Rattle.lrs_routes.proofs.Halved.{parts_are_routes, parts_have_rows}
-use Rattle.lrs_routes.proofs.Listed.{In-filter, filter-In}
-use Rattle.lrs_routes.proofs.Naming.{found_in, same_either}
-use Rattle.lrs_routes.proofs.Renaming.{own_names}
-use Rattle.lrs_routes.proofs.Rewriting.{are_unlike, old_spans}
-use Rattle.lrs_routes.proofs.Running.{runs_there}
-use Rattle.lrs_routes.proofs.Splitting.{split_makes, moves, front_order, same_state}
+use Rattle.lrs_image_sound.proofs.Fitting.{fits}
+use Rattle.lrs_image.proofs.Becoming.{HasBecome, becomes}
+use Rattle.lrs_image_laws.specs.Differences.{KeepsFromDropped}
+use Rattle.lrs_image_laws.specs.Rewriting.{rewritten, with_routes}
+use Rattle.lrs_image_laws.specs.Splitting.{is_ahead, IsSplit}
+use Rattle.lrs_image_laws.proofs.Differences.{difference_rewrites, reroutes}
+use Rattle.lrs_image_laws.proofs.Halved.{parts_are_routes, parts_have_rows}
+use Rattle.lrs_image_laws.proofs.Listed.{In-filter, filter-In}
+use Rattle.lrs_image_laws.proofs.Naming.{found_in, same_either}
+use Rattle.lrs_image_laws.proofs.Renaming.{own_names}
+use Rattle.lrs_image_laws.proofs.Rewriting.{are_unlike, old_spans}
+use Rattle.lrs_image_laws.proofs.Running.{runs_there}
+use Rattle.lrs_image_laws.proofs.Splitting.{split_makes, moves, front_order, same_state}
 use Rattle.lrs_verbs.specs.declared.verbs.split.Halves.{Halves}
-use Rattle.lrs_verbs.specs.Changes.{route_on}
-use Rattle.lrs_verbs.specs.Plans.{IsPlanOf}
+use Rattle.lrs_inventory.specs.Changes.{route_on}
+use Rattle.lrs_inventory.specs.Plans.{IsPlanOf}
 use Rattle.lrs_verbs.specs.Checks.{split_plan}
 use Rattle.lrs_verbs.specs.Splits.{is_inside, refs_behind, IsHalved}
-use Rattle.lrs_verbs.proofs.Known.{route_value}
+use Rattle.lrs_inventory.proofs.Known.{route_value}
 use Rattle.lrs_verbs.proofs.NewRoute.{knows}
 use Rattle.lrs_verbs.proofs.Going.{names_kept}
 

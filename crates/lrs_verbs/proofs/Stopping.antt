@@ -1,10 +1,10 @@
 -- Where a verb stops.
 use Rattle.std.proofs.Common.{◌≡◌, ◌+◌, Bool, true, false, length, Result, Ok, Err, refl, sym, ap, ◌∙◌}
 use Rattle.std.specs.Prelude.{if◌then◌else◌}
-use Rattle.lrs_verbs.specs.Prelude.{Cause, Command, Image, state_of, attempt, State}
-use Rattle.lrs_verbs.specs.declared.plan.Stop.{Stop}
-use Rattle.lrs_verbs.specs.declared.plan.Stop.TheVariants.{Refused, Memory}
-use Rattle.lrs_verbs.specs.Plans.{Answers, Plans}
+use Rattle.lrs_inventory.specs.Prelude.{Cause, Command, Image, state_of, attempt, State}
+use Rattle.lrs_inventory.specs.declared.plan.Stop.{Stop}
+use Rattle.lrs_inventory.specs.declared.plan.Stop.TheVariants.{Refused, Memory}
+use Rattle.lrs_inventory.specs.Plans.{Answers, Plans}
 
 -- what `refuse_if` gives
 abbrev pub refusal : Bool → Cause → Result (Unit {0}) Stop

@@ -8,7 +8,7 @@ use Rattle.std.proofs.lemmas.List.Folds.{list_all-map, list_any-append}
 use Rattle.std.specs.Prelude.{◌||◌, ◌&&◌, not, nat_eq, slice_get, slice_range}
 use Rattle.std.specs.List.{list_any, list_all}
 use Rattle.std.specs.Cmp.Lexicographic.{bytes_decides}
-use Rattle.lrs_verbs.specs.Prelude.{each_two, insert_by, Name, name_cmp, same_name, Ground, meets, Asset, Gone, B, Span, Place, places_on, is_among, differs, holds_by_spans, Removal, IsRemoval, IsPlan, Command, Image, RouteEntry, state_of, holds_on, route_entry, referents_on, attempt, route_before, are_spans_of, are_courses, IsSound, RouteCourse, without, with_difference, IsOrderly, AreGone}
+use Rattle.lrs_inventory.specs.Prelude.{each_two, insert_by, Name, name_cmp, same_name, Ground, meets, Asset, Gone, B, Span, Place, places_on, is_among, differs, holds_by_spans, Removal, IsRemoval, IsPlan, Command, Image, RouteEntry, state_of, holds_on, route_entry, referents_on, attempt, route_before, are_spans_of, are_courses, IsSound, RouteCourse, without, with_difference, IsOrderly, AreGone}
 use Rattle.lrs_element.specs.Course.{is_at}
 use Rattle.lrs_events.specs.declared.side.Side.{Side}
 use Rattle.lrs_events.specs.declared.side.LinkSide.{LinkSide}
@@ -17,31 +17,31 @@ use Rattle.lrs_events.specs.Changes.{changed_rows}
 use Rattle.lrs_events.specs.Members.{between, stands_for, has_member, is_member}
 use Rattle.lrs_events.specs.Parts.{has_pair}
 use Rattle.lrs_events.specs.Places.{same_link_side, along_link, beside, lies_on}
-use Rattle.lrs_canonical.specs.OnCourse.{is_held}
-use Rattle.lrs_canonical.specs.Removals.{Taken}
-use Rattle.lrs_canonical.proofs.Picked.{row_holds}
+use Rattle.lrs_events_rows.specs.OnCourse.{is_held}
+use Rattle.lrs_events_rows.specs.Removals.{Taken}
+use Rattle.lrs_events_rows.proofs.Picked.{row_holds}
 use Rattle.lrs_machine.specs.State.{Reason, same_reason}
 use Rattle.lrs_machine.specs.Image.{reason_of}
 use Rattle.lrs_machine.specs.Machine.{take_away}
 use Rattle.lrs_machine.specs.Sound.{spans_of, are_all_marks, are_all_referents, RouteMarks, RouteReferents}
 use Rattle.lrs_machine.proofs.Members.{In, any_found, any_of, In-append_right, In-take, In-drop}
 use Rattle.lrs_machine.proofs.Pairs.{held, each_two-map}
-use Rattle.lrs_keep.proofs.Tables.{routes_in_order}
-use Rattle.lrs_orderly.proofs.Ordering.{sound_is_orderly}
-use Rattle.lrs_gone.specs.Gone.{AreInOrder}
-use Rattle.lrs_gone.proofs.GoneInOrder.{gone_stays_in_order}
-use Rattle.lrs_routes.proofs.Apart.{nat_eq-comm}
-use Rattle.lrs_routes.proofs.Halved.{fewer_have_rows}
-use Rattle.lrs_routes.proofs.InOrder.{is_false}
-use Rattle.lrs_routes.proofs.Parted.{held_alike}
-use Rattle.lrs_verbs.specs.Extents.{IsRouteIn}
-use Rattle.lrs_verbs.specs.Plans.{plan_of, IsPlanOf}
+use Rattle.lrs_image.proofs.Tables.{routes_in_order}
+use Rattle.lrs_image_laws.proofs.Ordering.{sound_is_orderly}
+use Rattle.lrs_image_laws.specs.Gone.{AreInOrder}
+use Rattle.lrs_image_laws.proofs.GoneInOrder.{gone_stays_in_order}
+use Rattle.lrs_image_laws.proofs.Apart.{nat_eq-comm}
+use Rattle.lrs_image_laws.proofs.Halved.{fewer_have_rows}
+use Rattle.lrs_image_laws.proofs.InOrder.{is_false}
+use Rattle.lrs_image_laws.proofs.Parted.{held_alike}
+use Rattle.lrs_inventory.specs.Extents.{IsRouteIn}
+use Rattle.lrs_inventory.specs.Plans.{plan_of, IsPlanOf}
 use Rattle.lrs_verbs.specs.Taking.{taking}
-use Rattle.lrs_verbs.proofs.FirstHolder.{spans_entry, row_tests, asset_of}
-use Rattle.lrs_routes.proofs.FromReferents.{apart_courses}
-use Rattle.lrs_routes.proofs.Holding.{IsAlone, alone, picked_at, rows_held_at, held_among}
+use Rattle.lrs_inventory.proofs.FirstHolder.{spans_entry, row_tests, asset_of}
+use Rattle.lrs_image_laws.proofs.FromReferents.{apart_courses}
+use Rattle.lrs_image_laws.proofs.Holding.{IsAlone, alone, picked_at, rows_held_at, held_among}
 use Rattle.lrs_verbs.proofs.InPlace.{DifferAt, map_same, made_same, any_same, all_still, in_place}
-use Rattle.lrs_verbs.proofs.Located.{route_in}
+use Rattle.lrs_inventory.proofs.Located.{route_in}
 use Rattle.lrs_verbs.proofs.RowsInPlace.{routes_are, can, tells}
 use Rattle.lrs_verbs.proofs.Going.{rows_there}
 

@@ -1,11 +1,11 @@
 -- Plans that leave the routes as they are.
 use Rattle.std.proofs.Common.{◌≡◌, Option, refl, sym, ap, subst, ◌∙◌}
 use Rattle.std.specs.Prelude.{None}
-use Rattle.lrs_verbs.specs.Prelude.{each_two, Link, Image, state_of, route_before, IsSound, RouteChange, Difference, no_difference, CanDiffer}
+use Rattle.lrs_inventory.specs.Prelude.{each_two, Link, Image, state_of, route_before, IsSound, RouteChange, Difference, no_difference, CanDiffer}
 use Rattle.lrs_events.specs.declared.class.Class.{Class}
-use Rattle.lrs_keep.specs.Change.{routes_after, CanChangeRoute, GoesApart}
-use Rattle.lrs_keep.proofs.Tables.{routes_in_order}
-use Rattle.lrs_verbs.specs.Plans.{plan_of, TellsGround}
+use Rattle.lrs_image.specs.Change.{routes_after, CanChangeRoute, GoesApart}
+use Rattle.lrs_image.proofs.Tables.{routes_in_order}
+use Rattle.lrs_inventory.specs.Plans.{plan_of, TellsGround}
 
 -- a difference of links and classes alone
 abbrev pub adding : Option Link → Option Class → Difference

@@ -1,25 +1,12 @@
--- What checks of pieces and marks give where they pass, and the plans that verbs of routes make of it.
+-- The plans that verbs of routes make of the courses and marks that passed their checks.
 use Rattle.std.specs.Prelude.{◌≡◌, ℕ, List, [], Some, None, Result, Ok}
-use Rattle.lrs_verbs.specs.Prelude.{Name, Piece, Ground, Mark, course_of, is_too_long, Cause, RouteEntry, ◌>>◌, State, RouteChange, no_difference, rerouting}
+use Rattle.lrs_inventory.specs.Prelude.{Name, Piece, Ground, Mark, course_of, is_too_long, Cause, RouteEntry, ◌>>◌, State, RouteChange, no_difference, rerouting}
 use Rattle.lrs_machine.specs.declared.answer.Cause.TheVariants as cause
 use Rattle.lrs_machine.specs.Machine.{refuse_if, check_pieces, check_marks}
-use Rattle.lrs_routes.specs.Differences.{no_change}
-use Rattle.lrs_verbs.specs.declared.plan.Plan.{Plan}
+use Rattle.lrs_image_laws.specs.Differences.{no_change}
+use Rattle.lrs_inventory.specs.declared.plan.Plan.{Plan}
 use Rattle.lrs_verbs.specs.declared.verbs.split.Halves.{Halves}
-use Rattle.lrs_verbs.specs.Plans.{plan_of}
-
--- The course of these pieces.
-abbrev pub new_course : State → List Piece → Result (List Ground) Cause
-new_course s pieces = do
-  check_pieces s pieces
-  refuse_if (is_too_long (course_of pieces)) cause.TooLong
-  Ok (course_of pieces)
-
--- These marks, for a course of this length.
-abbrev pub new_marks : ℕ → List Mark → Result (List Mark) Cause
-new_marks len marks = do
-  check_marks len marks
-  Ok marks
+use Rattle.lrs_inventory.specs.Plans.{plan_of}
 
 -- a route of this name, ground and measure line, on which nothing lies
 pub record IsEntryOf (route : Name) (ground : List Ground) (line : List Mark) (e : RouteEntry) : Type 0 where

@@ -1,8 +1,8 @@
 -- What a close changes.
 use Rattle.std.specs.Prelude.{List, [], map, Some, None}
-use Rattle.lrs_verbs.specs.Prelude.{Name, Piece, Referent, Gone, Difference, no_difference}
-use Rattle.lrs_verbs.specs.declared.plan.Plan.{Plan}
-use Rattle.lrs_verbs.specs.Plans.{plan_of}
+use Rattle.lrs_inventory.specs.Prelude.{Name, Piece, Referent, Gone, Difference, no_difference}
+use Rattle.lrs_inventory.specs.declared.plan.Plan.{Plan}
+use Rattle.lrs_inventory.specs.Plans.{plan_of}
 
 -- the names of referents
 abbrev pub names_of : List Referent → List Name

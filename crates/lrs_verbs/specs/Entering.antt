@@ -1,14 +1,14 @@
 -- What an entry changes: an asset, a row on its route, and the rows of a ledger for it.
 use Rattle.std.specs.Prelude.{◌≡◌, ℕ, ◌&&◌, true, false, nat_eq, nat_lt, List, [], ◌∷◌, Some, None}
 use Rattle.std.specs.List.{list_any, list_all}
-use Rattle.lrs_verbs.specs.Prelude.{each_two, Name, Ground, alignment_of, Asset, Kind, Part, Span, Place, Entry, Image, RouteEntry, state_of, contains_key, Extent, Difference, RouteChange, no_difference}
+use Rattle.lrs_inventory.specs.Prelude.{each_two, Name, Ground, alignment_of, Asset, Kind, Part, Span, Place, Entry, Image, RouteEntry, state_of, contains_key, Extent, Difference, RouteChange, no_difference}
 use Rattle.lrs_events.specs.Parts.{has_pair, IsHadOnce, part_before}
 use Rattle.lrs_events.specs.Spans.{holds_by_span}
 use Rattle.lrs_machine.specs.Entered.{is_asset_number, is_lateral_offset}
 use Rattle.lrs_machine.specs.Register.{get}
-use Rattle.lrs_verbs.specs.declared.plan.Plan.{Plan}
-use Rattle.lrs_verbs.specs.Extents.{IsRouteIn}
-use Rattle.lrs_verbs.specs.Plans.{plan_of}
+use Rattle.lrs_inventory.specs.declared.plan.Plan.{Plan}
+use Rattle.lrs_inventory.specs.Extents.{IsRouteIn}
+use Rattle.lrs_inventory.specs.Plans.{plan_of}
 
 -- the asset that an edit enters
 abbrev pub asset_of : ℕ → Entry → Asset

@@ -1,13 +1,13 @@
 -- A route that goes on as another.
 use Rattle.std.specs.Prelude.{◌++◌, ◌≡◌, true, nat_lt, List, [], map, length, Some, Result, Ok}
 use Rattle.std.specs.List.{list_all}
-use Rattle.lrs_verbs.specs.Prelude.{each_two, Ground, Mark, is_too_long, has_row, are_rows, span_before, end_by, Cause, RouteEntry, ◌>>◌, RouteChange, spans_after}
+use Rattle.lrs_inventory.specs.Prelude.{each_two, Ground, Mark, is_too_long, has_row, are_rows, span_before, end_by, Cause, RouteEntry, ◌>>◌, RouteChange, spans_after}
 use Rattle.lrs_element.specs.Limits.{most_marks}
 use Rattle.lrs_element.specs.Marks.{joined_marks, is_out_of_range}
-use Rattle.lrs_canonical.specs.Joins.{have_room, are_of_one_class, IsJoin}
+use Rattle.lrs_events_rows.specs.Joins.{have_room, are_of_one_class, IsJoin}
 use Rattle.lrs_machine.specs.declared.answer.Cause.TheVariants as cause
 use Rattle.lrs_machine.specs.Machine.{refuse_if}
-use Rattle.lrs_routes.specs.Joining.{on_by}
+use Rattle.lrs_image_laws.specs.Joining.{on_by}
 
 -- The course of two routes as one.
 abbrev pub joined_course : List Ground → List Ground → Result (List Ground) Cause

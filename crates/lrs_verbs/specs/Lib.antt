@@ -1,12 +1,4 @@
-pub mod Prelude
-pub mod Keys
-pub mod Places
-pub mod Changes
-pub mod Indexes
-pub mod Inventory
-pub mod Plans
 pub mod Checks
-pub mod Extents
 pub mod RouteReferents
 pub mod Entering
 pub mod Wanted

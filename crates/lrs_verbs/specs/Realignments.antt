@@ -1,21 +1,21 @@
 -- What the checks of a realignment give, and what it changes.
 use Rattle.std.specs.Prelude.{◌-◌, filter, ◌≡◌, ℕ, ◌+◌, ◌||◌, ◌&&◌, true, false, nat_lt, nat_eq, List, [], map, length, slice_range, Option, Some, None, Result, Ok}
 use Rattle.std.specs.List.{AllByRecursion, list_all}
-use Rattle.lrs_verbs.specs.Prelude.{each_two, Name, Ground, Piece, Mark, course_of, is_too_long, IsFilled, Referent, has_row, Span, are_rows, span_before, holds_by_spans, is_within, Cause, RouteEntry, ◌>>=◌, ◌>>◌, State, Difference, spans_after, AreGone, rerouting}
+use Rattle.lrs_inventory.specs.Prelude.{each_two, Name, Ground, Piece, Mark, course_of, is_too_long, IsFilled, Referent, has_row, Span, are_rows, span_before, holds_by_spans, is_within, Cause, RouteEntry, ◌>>=◌, ◌>>◌, State, Difference, spans_after, AreGone, rerouting}
 use Rattle.lrs_measure.specs.Lists.{is_nothing}
-use Rattle.lrs_canonical.specs.Removals.{IsThat}
-use Rattle.lrs_realign.specs.Realigning.{IsRealigned}
+use Rattle.lrs_events_rows.specs.Removals.{IsThat}
+use Rattle.lrs_events_spans.specs.Realigning.{IsRealigned}
 use Rattle.lrs_machine.specs.declared.answer.Cause.TheVariants as cause
 use Rattle.lrs_machine.specs.Machine.{refuse_if, check_pieces, check_free}
 use Rattle.lrs_machine.specs.State.{Abandoned}
-use Rattle.lrs_keep.specs.declared.change.ReferentChange.{ReferentChange}
-use Rattle.lrs_leaving.specs.Realigning.{replaced}
-use Rattle.lrs_verbs.specs.declared.plan.GroundChange.{GroundChange}
-use Rattle.lrs_verbs.specs.declared.plan.ReferentPlaces.{ReferentPlaces}
-use Rattle.lrs_verbs.specs.declared.plan.Plan.{Plan}
+use Rattle.lrs_image.specs.declared.change.ReferentChange.{ReferentChange}
+use Rattle.lrs_image_laws.specs.Realigning.{replaced}
+use Rattle.lrs_inventory.specs.declared.plan.GroundChange.{GroundChange}
+use Rattle.lrs_inventory.specs.declared.plan.ReferentPlaces.{ReferentPlaces}
+use Rattle.lrs_inventory.specs.declared.plan.Plan.{Plan}
 use Rattle.lrs_verbs.specs.declared.verbs.realign.NewLine.{NewLine}
 use Rattle.lrs_verbs.specs.declared.verbs.realign.Realigned.{Realigned}
-use Rattle.lrs_verbs.specs.Checks.{new_marks}
+use Rattle.lrs_inventory.specs.NewCourses.{new_marks}
 use Rattle.lrs_verbs.specs.Splits.{refs_behind}
 
 -- The stretch lies on a course of this length, and something comes for it or something goes.

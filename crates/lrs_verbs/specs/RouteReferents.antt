@@ -1,10 +1,10 @@
 -- What changes where the referents of one route change, and nothing else.
 use Rattle.std.specs.Prelude.{[], ◌∷◌, Some, None}
-use Rattle.lrs_verbs.specs.Prelude.{Name, Millimetre, Referent, RouteChange, Difference, no_difference}
-use Rattle.lrs_keep.specs.declared.change.ReferentChange.{ReferentChange}
-use Rattle.lrs_verbs.specs.declared.plan.Plan.{Plan}
-use Rattle.lrs_verbs.specs.declared.plan.ReferentPlaces.{ReferentPlaces}
-use Rattle.lrs_verbs.specs.Plans.{plan_of}
+use Rattle.lrs_inventory.specs.Prelude.{Name, Millimetre, Referent, RouteChange, Difference, no_difference}
+use Rattle.lrs_image.specs.declared.change.ReferentChange.{ReferentChange}
+use Rattle.lrs_inventory.specs.declared.plan.Plan.{Plan}
+use Rattle.lrs_inventory.specs.declared.plan.ReferentPlaces.{ReferentPlaces}
+use Rattle.lrs_inventory.specs.Plans.{plan_of}
 
 -- the route keeps its name, its course, its marks and its rows
 abbrev pub change_of_referents : Name → ReferentChange → RouteChange

@@ -1,10 +1,10 @@
 -- A route in two parts.
 use Rattle.std.specs.Prelude.{Bool, filter, take, drop, ◌≡◌, ℕ, true, false, ◌&&◌, not, nat_lt, nat_eq, List, [], map, Some}
 use Rattle.std.specs.List.{list_any, list_all}
-use Rattle.lrs_verbs.specs.Prelude.{each_two, Name, Mark, is_too_long, Referent, has_row, are_rows, span_before, RouteEntry, spans_after}
+use Rattle.lrs_inventory.specs.Prelude.{each_two, Name, Mark, is_too_long, Referent, has_row, are_rows, span_before, RouteEntry, spans_after}
 use Rattle.lrs_element.specs.Marks.{marks_to, marks_from}
-use Rattle.lrs_canonical.specs.Cuts.{IsCut}
-use Rattle.lrs_routes.specs.Splitting.{back_by, is_ahead}
+use Rattle.lrs_events_rows.specs.Cuts.{IsCut}
+use Rattle.lrs_image_laws.specs.Splitting.{back_by, is_ahead}
 use Rattle.lrs_verbs.specs.declared.verbs.split.Halves.{Halves}
 
 -- whether a mark stands at a chainage inside a course of this length

@@ -1,13 +1,13 @@
 -- What an asset changes that takes the places of others of its class.
 use Rattle.std.specs.Prelude.{◌++◌, ◌≡◌, ℕ, ◌&&◌, List, [], ◌∷◌, Some}
-use Rattle.lrs_verbs.specs.Prelude.{Name, same_name, Ground, Part, Gone, Span, holds_by_spans, Removal, is_within, Entry, Extent, Retired, Difference, RouteChange, AreGone}
+use Rattle.lrs_inventory.specs.Prelude.{Name, same_name, Ground, Part, Gone, Span, holds_by_spans, Removal, is_within, Entry, Extent, Retired, Difference, RouteChange, AreGone}
 use Rattle.lrs_events.specs.declared.change.SpanChange.{SpanChange}
 use Rattle.lrs_events.specs.Members.{has_side}
-use Rattle.lrs_canonical.specs.Removals.{Taken}
-use Rattle.lrs_routes.specs.Differences.{no_change}
-use Rattle.lrs_verbs.specs.declared.plan.Plan.{Plan}
+use Rattle.lrs_events_rows.specs.Removals.{Taken}
+use Rattle.lrs_image_laws.specs.Differences.{no_change}
+use Rattle.lrs_inventory.specs.declared.plan.Plan.{Plan}
 use Rattle.lrs_verbs.specs.Entering.{row_of, entering, AreEntered}
-use Rattle.lrs_verbs.specs.Plans.{plan_of}
+use Rattle.lrs_inventory.specs.Plans.{plan_of}
 
 -- what assets of the entry's class have of the stretch that it wants, on its side
 abbrev pub of_class_there : Entry → Extent → Taken

@@ -1,14 +1,14 @@
 -- What an edit takes away on a route: rows that go and come there, and the rows of a ledger for what is handed back.
 use Rattle.std.specs.Prelude.{◌≡◌, ℕ, ◌&&◌, nat_eq, List, Some}
-use Rattle.lrs_verbs.specs.Prelude.{Name, same_name, Asset, Kind, Gone, holds_by_spans, Removal, is_within, Image, RouteEntry, state_of, asset_entry, Extent, RouteChange, Difference, no_difference, AreGone}
+use Rattle.lrs_inventory.specs.Prelude.{Name, same_name, Asset, Kind, Gone, holds_by_spans, Removal, is_within, Image, RouteEntry, state_of, asset_entry, Extent, RouteChange, Difference, no_difference, AreGone}
 use Rattle.lrs_events.specs.declared.change.SpanChange.{SpanChange}
-use Rattle.lrs_canonical.specs.Removals.{Taken}
+use Rattle.lrs_events_rows.specs.Removals.{Taken}
 use Rattle.lrs_machine.specs.Register.{get}
 use Rattle.lrs_machine.specs.State.{Reason}
-use Rattle.lrs_routes.specs.Differences.{no_change}
-use Rattle.lrs_verbs.specs.declared.plan.Plan.{Plan}
-use Rattle.lrs_verbs.specs.Extents.{IsRouteIn}
-use Rattle.lrs_verbs.specs.Plans.{plan_of}
+use Rattle.lrs_image_laws.specs.Differences.{no_change}
+use Rattle.lrs_inventory.specs.declared.plan.Plan.{Plan}
+use Rattle.lrs_inventory.specs.Extents.{IsRouteIn}
+use Rattle.lrs_inventory.specs.Plans.{plan_of}
 
 -- a route of which these rows go and come
 abbrev pub with_rows : Name → SpanChange → RouteChange

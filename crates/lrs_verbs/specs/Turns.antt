@@ -1,11 +1,11 @@
 -- A route seen from its other end, as its plan makes it.
 use Rattle.std.specs.Prelude.{◌≡◌, true, false, map, length, Some}
 use Rattle.std.specs.List.{list_all}
-use Rattle.lrs_verbs.specs.Prelude.{each_two, is_too_long, has_row, are_rows, span_before, RouteEntry, RouteChange, spans_after}
+use Rattle.lrs_inventory.specs.Prelude.{each_two, is_too_long, has_row, are_rows, span_before, RouteEntry, RouteChange, spans_after}
 use Rattle.lrs_element.specs.Course.{turned}
 use Rattle.lrs_element.specs.Marks.{mirrored}
-use Rattle.lrs_canonical.specs.Turns.{IsTurned}
-use Rattle.lrs_routes.specs.Turning.{from_end}
+use Rattle.lrs_events_rows.specs.Turns.{IsTurned}
+use Rattle.lrs_image_laws.specs.Turning.{from_end}
 
 -- What becomes of the route of an entry: all its referents go, and come where they are from its other end.
 pub record IsTurnedBy (e : RouteEntry) (c : RouteChange) : Type 0 where

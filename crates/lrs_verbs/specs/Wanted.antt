@@ -1,12 +1,12 @@
 -- What an entry asks for: a stretch of a route, for an asset of a class of a kind.
 use Rattle.std.specs.Prelude.{Bool, ◌≡◌, ◌<◌, ◌&&◌, not, length, Ok, Err}
-use Rattle.lrs_verbs.specs.Prelude.{Kind, places_on, Entry, Image, RouteEntry, state_of, Extent, part_of}
-use Rattle.lrs_report.specs.Segments.{is_exclusive}
+use Rattle.lrs_inventory.specs.Prelude.{Kind, places_on, Entry, Image, RouteEntry, state_of, Extent, part_of}
+use Rattle.lrs_machine.specs.Segments.{is_exclusive}
 use Rattle.lrs_machine.specs.Machine.{wanted_of}
-use Rattle.lrs_verbs.specs.declared.plan.Stop.{Stop}
+use Rattle.lrs_inventory.specs.declared.plan.Stop.{Stop}
 use Rattle.lrs_verbs.specs.Entering.{HasBegun}
-use Rattle.lrs_verbs.specs.Extents.{EndsBy}
-use Rattle.lrs_verbs.specs.Plans.{Answers}
+use Rattle.lrs_inventory.specs.Extents.{EndsBy}
+use Rattle.lrs_inventory.specs.Plans.{Answers}
 
 -- whether a kind is left out where only exclusive classes are taken
 abbrev pub is_left_out : Bool → Kind → Bool

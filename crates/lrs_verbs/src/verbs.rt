@@ -1,14 +1,14 @@
 //! The verbs, a file each: what a command would change, or the first check of its verb that fails.
 
-ghost use Rattle.lrs_verbs.specs.Plans.{Plans};
+ghost use Rattle.lrs_inventory.specs.Plans.{Plans};
 
-mod changes;
 mod checks;
 mod class;
 mod close;
 mod enter;
 mod join;
 mod link;
+mod location;
 mod new_referent;
 mod realign;
 mod recalibrate;
@@ -16,19 +16,18 @@ mod referents;
 mod renumber;
 mod retire;
 mod route;
+mod route_changes;
 mod split;
 mod supersede;
 mod turn;
 mod unref;
-mod wanted;
 
-use crate::inventory::Inventory;
-use crate::plan::{Plan, Stop};
 use class::plan_class;
 use close::plan_close;
 use enter::plan_enter;
 use join::plan_join;
 use link::plan_link;
+use lrs_inventory::{Inventory, Plan, Stop};
 use lrs_machine::Command;
 use new_referent::plan_ref;
 use realign::plan_realign;

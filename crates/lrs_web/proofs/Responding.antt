@@ -3,9 +3,9 @@ use Rattle.std.proofs.Common.{ℕ, List, Option, None, Some, IfSome, Result, Ok,
 use Rattle.lrs_machine.specs.declared.image.Image.{Image}
 use Rattle.lrs_machine.specs.declared.table.Table.{Table}
 use Rattle.lrs_desk.specs.DeskView.{DeskView}
-use Rattle.lrs_http.specs.Task.{Asked, Asks, refused}
-use Rattle.lrs_http.specs.Text.{Answer, empty_answer}
-use Rattle.lrs_web.specs.declared.serving.WebFault.{WebFault}
+use Rattle.lrs_web_requests.specs.Task.{Asked, Asks, refused}
+use Rattle.lrs_web_requests.specs.Text.{Answer, empty_answer}
+use Rattle.lrs_web.specs.declared.request.WebFault.{WebFault}
 use Rattle.lrs_web.specs.Serving.{Does, Responds, Serves, Writes}
 
 serves : {K : Type 0} (holds : K → Result Image Table → Type 0) (a : Option (List ℕ)) (asked : Asked) (old new : DeskView K) (answer : Answer)

@@ -5,8 +5,8 @@ use Rattle.lrs_machine.specs.Lines.{Text}
 use Rattle.lrs_machine.specs.declared.image.Image.{Image}
 use Rattle.lrs_machine.specs.declared.table.Table.{Table}
 use Rattle.lrs_desk.specs.DeskView.{DeskView}
-use Rattle.lrs_http.specs.Task.{Asked, Asks}
-use Rattle.lrs_http.specs.Text.{Answer}
+use Rattle.lrs_web_requests.specs.Task.{Asked, Asks}
+use Rattle.lrs_web_requests.specs.Text.{Answer}
 use Rattle.lrs_web.specs.Serving.{Does, Responds}
 use Rattle.lrs_web.specs.Door.{Gives, KeepsAll}
 use Rattle.lrs_web.specs.Visits.{HasVisited, IsCut, IsFull, Visited, Visits, nobody, full_visit, cut_visit}

@@ -5,14 +5,14 @@ use Rattle.lrs_machine.specs.Lines.{Text}
 use Rattle.lrs_machine.specs.declared.image.Image.{Image}
 use Rattle.lrs_machine.specs.declared.table.Table.{Table}
 use Rattle.lrs_desk.specs.DeskView.{DeskView}
-use Rattle.lrs_records.specs.declared.sheet.Sheet.{Sheet}
-use Rattle.lrs_records.specs.declared.sheet.Sheet.TheVariants.{Edits, Survey}
-use Rattle.lrs_http.specs.declared.paths.Resource.{Resource}
-use Rattle.lrs_http.specs.declared.paths.Resource.TheVariants as resource
-use Rattle.lrs_http.specs.declared.reply.Verb.{Verb}
-use Rattle.lrs_http.specs.Task.{Asked, Asks, refused, not_allowed, query, sheet}
-use Rattle.lrs_http.specs.Text.{Answer, answer_text, empty_answer}
-use Rattle.lrs_replies.specs.Answered.{AnswersAsked}
+use Rattle.lrs_sheet_records.specs.declared.sheet.Sheet.{Sheet}
+use Rattle.lrs_sheet_records.specs.declared.sheet.Sheet.TheVariants.{Edits, Survey}
+use Rattle.lrs_web_requests.specs.declared.paths.Resource.{Resource}
+use Rattle.lrs_web_requests.specs.declared.paths.Resource.TheVariants as resource
+use Rattle.lrs_web_requests.specs.declared.reply.Verb.{Verb}
+use Rattle.lrs_web_requests.specs.Task.{Asked, Asks, refused, not_allowed, query, sheet}
+use Rattle.lrs_web_requests.specs.Text.{Answer, answer_text, empty_answer}
+use Rattle.lrs_web_replies.specs.Answered.{AnswersAsked}
 use Rattle.lrs_web.specs.Sheets.{DoesSheet}
 
 -- the kind of sheet that a resource does

@@ -9,11 +9,11 @@ use Rattle.lrs_desk.specs.declared.desk.Fault.TheVariants as stop
 use Rattle.lrs_sheet.specs.declared.reply.Tally.{Tally}
 use Rattle.lrs_sheet.specs.declared.fault.SheetFault.{SheetFault}
 use Rattle.lrs_sheet.specs.declared.fault.SheetFault.TheVariants as fault
-use Rattle.lrs_records.specs.declared.sheet.Sheet.{Sheet}
+use Rattle.lrs_sheet_records.specs.declared.sheet.Sheet.{Sheet}
 use Rattle.lrs_sheet.specs.Sheets.{Runs, LeavesDesk, BreaksOff, records_together}
-use Rattle.lrs_http.specs.declared.reply.ContentType.{ContentType}
-use Rattle.lrs_http.specs.declared.reply.ContentType.TheVariants.{Csv}
-use Rattle.lrs_http.specs.Text.{Answer, empty_answer}
+use Rattle.lrs_web_requests.specs.declared.reply.ContentType.{ContentType}
+use Rattle.lrs_web_requests.specs.declared.reply.ContentType.TheVariants.{Csv}
+use Rattle.lrs_web_requests.specs.Text.{Answer, empty_answer}
 
 -- the content type of lines; where there are none, the reply has no body and names no type
 abbrev pub type_of_lines : Text → Option ContentType

@@ -1,14 +1,14 @@
 //! Connections are served one after another.
 
 ghost use Rattle.std.specs.Prelude.{ℕ, ◌≡◌, ◌+◌, IfOk, IfErr, OnErr, IsTrue};
-ghost use Rattle.lrs_http.specs.Routes.{rows};
-ghost use Rattle.lrs_http.specs.Task.{Asked};
+ghost use Rattle.lrs_web_requests.specs.Routes.{rows};
+ghost use Rattle.lrs_web_requests.specs.Task.{Asked};
 ghost use Rattle.lrs_web.specs.Door.{HasRisen};
 ghost use Rattle.lrs_web.specs.Visits.{IsCut, IsFull, Visited};
 
-use crate::serving::{refuse, respond};
+use crate::request::{refuse, respond};
 use lrs_desk::{Desk, Keeper};
-use lrs_http::{BodyFault, Resource, receive, routes};
+use lrs_web_requests::{BodyFault, Resource, receive, routes};
 use matchit::Router;
 use std::alloc::Global;
 use std::io::{Read, Write};

@@ -2,8 +2,8 @@
 #![tactic(auto)]
 
 mod door;
-mod serving;
+mod request;
 mod sheet;
 
 pub use door::{Door, DoorFault, Served, serve_all};
-pub use serving::{WebFault, serve_one};
+pub use request::{WebFault, serve_one};

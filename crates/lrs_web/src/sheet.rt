@@ -1,13 +1,13 @@
 //! Sheets are done at a desk, and what they are answered.
 
 ghost use Rattle.std.specs.Prelude.{◌≡◌, ◌⊎◌};
-ghost use Rattle.lrs_http.specs.Text.{answer_of, empty_answer};
+ghost use Rattle.lrs_web_requests.specs.Text.{answer_of, empty_answer};
 ghost use Rattle.lrs_web.specs.Sheets.{DoesSheet, IsAnswerAfter, fault_answer, lines_answer};
 
 use http::StatusCode;
 use lrs_desk::{Desk, Keeper};
-use lrs_http::{Content, ContentType, Reply};
 use lrs_sheet::{RECORDS_TOGETHER, Sheet, SheetFault, Tally, run_sheet};
+use lrs_web_requests::{Content, ContentType, Reply};
 use std::alloc::Global;
 
 // Where there are no lines, the reply has no body.

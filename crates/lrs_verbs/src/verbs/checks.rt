@@ -2,17 +2,16 @@
 
 ghost use Rattle.std.specs.Prelude.{IfErr, ◌≡◌, Some, None, IfOk};
 ghost use Rattle.std.specs.List.{find};
-ghost use Rattle.lrs_verbs.specs.Prelude.{is_named, state_of};
+ghost use Rattle.lrs_inventory.specs.Prelude.{is_named, state_of};
 ghost use Rattle.lrs_machine.specs.declared.answer.Cause.TheVariants as cause;
 ghost use Rattle.lrs_machine.specs.Machine.{check_free, is_wrong_kind};
-ghost use Rattle.lrs_verbs.specs.Checks.{new_marks};
-ghost use Rattle.lrs_verbs.specs.Plans.{Answers};
-ghost use Rattle.lrs_verbs.specs.declared.plan.Stop.TheVariants as stop;
+ghost use Rattle.lrs_inventory.specs.NewCourses.{new_marks};
+ghost use Rattle.lrs_inventory.specs.Plans.{Answers};
+ghost use Rattle.lrs_inventory.specs.declared.plan.Stop.TheVariants as stop;
 
-use crate::inventory::Inventory;
-use crate::plan::Stop;
 use lrs_element::{Mark, MarkFault, Marks, Piece};
 use lrs_events::Kind;
+use lrs_inventory::{Inventory, Stop};
 use lrs_machine::{Cause, RouteEntry};
 use lrs_position::{EventLocation, RouteName};
 use std::alloc::Global;

@@ -1,11 +1,10 @@
 //! A new class.
 
 ghost use Rattle.lrs_machine.specs.declared.command.Command.TheVariants as verb;
-ghost use Rattle.lrs_verbs.specs.Plans.{Plans};
+ghost use Rattle.lrs_inventory.specs.Plans.{Plans};
 
-use crate::inventory::Inventory;
-use crate::plan::{Plan, Stop, refuse_if};
 use lrs_events::Class;
+use lrs_inventory::{Inventory, Plan, Stop, refuse_if};
 use lrs_machine::Cause;
 use std::alloc::Global;
 

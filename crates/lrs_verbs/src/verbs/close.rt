@@ -3,15 +3,14 @@
 ghost use Rattle.std.specs.Prelude.{◌≡◌};
 ghost use Rattle.lrs_machine.specs.declared.command.Command.TheVariants as verb;
 ghost use Rattle.lrs_verbs.specs.Closings.{closing};
-ghost use Rattle.lrs_verbs.specs.Plans.{Plans};
+ghost use Rattle.lrs_inventory.specs.Plans.{Plans};
 
-use crate::inventory::Inventory;
-use crate::plan::{GroundChange, Plan, Stop};
-use crate::verbs::changes::{names_of, pieces_of};
 use crate::verbs::checks::route_named;
+use crate::verbs::route_changes::{names_of, pieces_of};
 use lrs_element::Piece;
 use lrs_events::Gone;
-use lrs_gone::taken_away;
+use lrs_image_laws::taken_away;
+use lrs_inventory::{GroundChange, Inventory, Plan, Stop};
 use lrs_measure::Rows;
 use lrs_position::{RefName, RouteName};
 use std::alloc::{AllocError, Global};

@@ -1,26 +1,25 @@
 //! An asset that comes to hold places.
 
 ghost use Rattle.std.specs.Prelude.{◌≡◌, ◌<◌, false, if◌then◌else◌, IfOk, IsTrue, None, true, length};
-ghost use Rattle.lrs_verbs.specs.Prelude.{each_two, differs, places_on, state_of, part_of, refuse_at};
+ghost use Rattle.lrs_inventory.specs.Prelude.{each_two, differs, places_on, state_of, part_of, refuse_at};
 ghost use Rattle.lrs_events.specs.Spans.{is_row};
-ghost use Rattle.lrs_report.specs.Segments.{is_exclusive};
+ghost use Rattle.lrs_machine.specs.Segments.{is_exclusive};
 ghost use Rattle.lrs_machine.specs.declared.answer.Cause.TheVariants as cause;
 ghost use Rattle.lrs_machine.specs.declared.command.Command.TheVariants as verb;
 ghost use Rattle.lrs_machine.specs.Machine.{first_holder};
 ghost use Rattle.lrs_verbs.specs.Entering.{asset_of, row_of, with_row, AreInLimits, AreEntered, IsEntering};
-ghost use Rattle.lrs_verbs.specs.Extents.{IsRouteIn, EndsBy};
-ghost use Rattle.lrs_verbs.specs.Plans.{Answers, Plans};
+ghost use Rattle.lrs_inventory.specs.Extents.{IsRouteIn, EndsBy};
+ghost use Rattle.lrs_inventory.specs.Plans.{Answers, Plans};
 ghost use Rattle.lrs_verbs.specs.Wanted.{IsWanted};
 
-use crate::inventory::{Inventory, Stretch};
-use crate::plan::{Plan, Stop};
-use crate::verbs::wanted::wanted_of;
+use crate::verbs::location::wanted_of;
 use lrs_element::Course;
 use lrs_events::{Asset, Kind, Part, Span};
-use lrs_keep::{ReferentChange, RouteChange};
+use lrs_events_parts::parts;
+use lrs_image::{ReferentChange, RouteChange};
+use lrs_inventory::{Inventory, Plan, Stop, Stretch};
 use lrs_machine::{Cause, Entry, RouteEntry};
 use lrs_measure::Rows;
-use lrs_parts::parts;
 use lrs_position::RouteName;
 use std::alloc::{AllocError, Global};
 

@@ -2,20 +2,19 @@
 
 ghost use Rattle.std.specs.Prelude.{◌++◌, ◌≡◌, ◌+◌, ◌≤◌, IfOk, map, length, nat_lt, true};
 ghost use Rattle.std.specs.List.{list_all};
-ghost use Rattle.lrs_verbs.specs.Prelude.{longest_route};
+ghost use Rattle.lrs_inventory.specs.Prelude.{longest_route};
 ghost use Rattle.lrs_element.specs.Marks.{joined_marks};
 ghost use Rattle.lrs_machine.specs.declared.command.Command.TheVariants as verb;
-ghost use Rattle.lrs_routes.specs.Joining.{on_by};
+ghost use Rattle.lrs_image_laws.specs.Joining.{on_by};
 ghost use Rattle.lrs_verbs.specs.Checks.{join_plan};
 ghost use Rattle.lrs_verbs.specs.Joins.{joined_course, joined_line, CanGoOn, GoesOn};
-ghost use Rattle.lrs_verbs.specs.Plans.{Answers, Plans};
+ghost use Rattle.lrs_inventory.specs.Plans.{Answers, Plans};
 
-use crate::inventory::Inventory;
-use crate::plan::{GroundChange, Plan, Stop, refuse_if};
-use crate::verbs::changes::{no_change, pieces_of};
 use crate::verbs::checks::route_named;
+use crate::verbs::route_changes::{no_change, pieces_of};
 use lrs_element::{Course, JoinFault, Marks, Piece};
-use lrs_keep::RouteChange;
+use lrs_image::RouteChange;
+use lrs_inventory::{GroundChange, Inventory, Plan, Stop, refuse_if};
 use lrs_machine::{Cause, RouteEntry};
 use lrs_measure::Rows;
 use lrs_position::{Referent, Route, RouteName};

@@ -2,26 +2,25 @@
 
 ghost use Rattle.std.specs.Prelude.{◌≡◌, ◌+◌, ◌≤◌, IsTrue, IfOk, [], true, length, map, nat_lt, slice_range, unwrap_or};
 ghost use Rattle.std.specs.List.{list_all, AllByRecursion};
-ghost use Rattle.lrs_verbs.specs.Prelude.{each_two, course_of, longest_route, IsFilled, differs, end_by, state_of};
+ghost use Rattle.lrs_inventory.specs.Prelude.{each_two, course_of, longest_route, IsFilled, differs, end_by, state_of};
 ghost use Rattle.lrs_machine.specs.declared.command.Command.TheVariants as verb;
-ghost use Rattle.lrs_leaving.specs.Realigning.{replaced};
+ghost use Rattle.lrs_image_laws.specs.Realigning.{replaced};
 ghost use Rattle.lrs_verbs.specs.Realignments.{check_stretch, free_course, short_course, new_line, refs_on, on_from, referents_moved, realigned_plan, IsOnNewLine};
 ghost use Rattle.lrs_verbs.specs.Splits.{refs_behind};
-ghost use Rattle.lrs_verbs.specs.Plans.{Answers, Plans};
+ghost use Rattle.lrs_inventory.specs.Plans.{Answers, Plans};
 
-use crate::inventory::Inventory;
-use crate::plan::{GroundChange, Plan, Stop, refuse_if};
-use crate::verbs::changes::{no_change, pieces_of};
 use crate::verbs::checks::{check_free, new_marks, route_named};
+use crate::verbs::route_changes::{no_change, pieces_of};
 use crate::verbs::split::names_behind;
 use lrs_element::{Course, JoinFault, Mark, Marks, Piece};
 use lrs_events::Gone;
-use lrs_gone::taken_away;
-use lrs_keep::{ReferentChange, RouteChange};
+use lrs_events_spans::realignment::{Realigned as RealignedRows, plan_realign as plan_rows};
+use lrs_image::{ReferentChange, RouteChange};
+use lrs_image_laws::taken_away;
+use lrs_inventory::{GroundChange, Inventory, Plan, Stop, refuse_if};
 use lrs_machine::{Cause, PieceList, RouteEntry};
 use lrs_measure::Rows;
 use lrs_position::{RefName, Referent, RouteName};
-use lrs_realign::realigning::{Realigned as RealignedRows, plan_realign as plan_rows};
 use std::alloc::{AllocError, Global};
 
 pub fn plan_realign(

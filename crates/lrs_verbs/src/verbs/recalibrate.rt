@@ -3,13 +3,12 @@
 ghost use Rattle.std.specs.Prelude.{◌≡◌};
 ghost use Rattle.lrs_machine.specs.declared.command.Command.TheVariants as verb;
 ghost use Rattle.lrs_verbs.specs.Checks.{recalibrated};
-ghost use Rattle.lrs_verbs.specs.Plans.{Plans};
+ghost use Rattle.lrs_inventory.specs.Plans.{Plans};
 
-use crate::inventory::Inventory;
-use crate::plan::{Plan, Stop};
-use crate::verbs::changes::no_change;
 use crate::verbs::checks::{new_marks, route_named};
+use crate::verbs::route_changes::no_change;
 use lrs_element::{Mark, Marks};
+use lrs_inventory::{Inventory, Plan, Stop};
 use lrs_position::RouteName;
 use std::alloc::Global;
 

@@ -3,8 +3,8 @@
 ghost use Rattle.std.specs.Prelude.{◌≡◌, ◌∷◌, [], IfOk};
 ghost use Rattle.lrs_verbs.specs.RouteReferents.{plan_of_referents};
 
-use crate::plan::{Plan, ReferentPlaces};
-use lrs_keep::{ReferentChange, RouteChange};
+use lrs_image::{ReferentChange, RouteChange};
+use lrs_inventory::{Plan, ReferentPlaces};
 use lrs_measure::Rows;
 use lrs_position::{RefName, Referent, RouteName};
 use std::alloc::{AllocError, Global};

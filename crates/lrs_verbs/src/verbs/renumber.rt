@@ -3,13 +3,12 @@
 ghost use Rattle.std.specs.Prelude.{◌≡◌};
 ghost use Rattle.lrs_machine.specs.declared.command.Command.TheVariants as verb;
 ghost use Rattle.lrs_verbs.specs.Checks.{renumbered};
-ghost use Rattle.lrs_verbs.specs.Plans.{Plans};
+ghost use Rattle.lrs_inventory.specs.Plans.{Plans};
 
-use crate::inventory::Inventory;
-use crate::plan::{GroundChange, Plan, Stop, refuse_if};
-use crate::verbs::changes::{no_change, pieces_of};
 use crate::verbs::checks::route_named;
+use crate::verbs::route_changes::{no_change, pieces_of};
 use lrs_element::Piece;
+use lrs_inventory::{GroundChange, Inventory, Plan, Stop, refuse_if};
 use lrs_machine::Cause;
 use lrs_measure::Rows;
 use lrs_position::RouteName;

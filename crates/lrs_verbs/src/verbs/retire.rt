@@ -1,19 +1,18 @@
 //! An asset gives up what it holds on a part of a route.
 
 ghost use Rattle.std.specs.Prelude.{◌≡◌, ◌<◌, IsTrue, IfOk, true};
-ghost use Rattle.lrs_verbs.specs.Prelude.{each_two, differs, are_rows, IsRemoval, Retired, IsPlan};
+ghost use Rattle.lrs_inventory.specs.Prelude.{each_two, differs, are_rows, IsRemoval, Retired, IsPlan};
 ghost use Rattle.lrs_measure.specs.Lists.{is_nothing};
 ghost use Rattle.lrs_machine.specs.declared.command.Command.TheVariants as verb;
-ghost use Rattle.lrs_verbs.specs.Plans.{Plans};
+ghost use Rattle.lrs_inventory.specs.Plans.{Plans};
 ghost use Rattle.lrs_verbs.specs.Taking.{of_asset_within, HasAsset, IsTaking};
 
-use crate::inventory::{Inventory, Stretch};
-use crate::plan::{Plan, Stop, refuse_if};
-use crate::verbs::changes::no_change;
 use crate::verbs::checks::{is_wrong_kind, route_named};
-use lrs_canonical::removing::Removal;
+use crate::verbs::route_changes::no_change;
 use lrs_events::{Asset, Kind, Span};
-use lrs_gone::taken_away;
+use lrs_events_rows::removals::Removal;
+use lrs_image_laws::taken_away;
+use lrs_inventory::{Inventory, Plan, Stop, Stretch, refuse_if};
 use lrs_machine::{AssetNumber, Cause, RouteEntry};
 use lrs_measure::Rows;
 use lrs_position::{EventLocation, RouteName};

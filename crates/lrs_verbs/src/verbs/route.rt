@@ -4,17 +4,16 @@ ghost use Rattle.std.specs.Prelude.{◌≡◌, None, length};
 ghost use Rattle.lrs_element.specs.Marks.{bad_mark};
 ghost use Rattle.lrs_machine.specs.declared.command.Command.TheVariants as verb;
 ghost use Rattle.lrs_verbs.specs.Checks.{IsEntryOf, route_plan};
-ghost use Rattle.lrs_verbs.specs.Plans.{Plans};
+ghost use Rattle.lrs_inventory.specs.Plans.{Plans};
 
-use crate::inventory::Inventory;
-use crate::plan::{GroundChange, Plan, Stop, refuse_if};
-use crate::verbs::changes::pieces_of;
 use crate::verbs::checks::{check_free, new_marks};
+use crate::verbs::route_changes::pieces_of;
 use lrs_element::{Course, Mark, Marks, Piece};
+use lrs_events_spans::Spans;
+use lrs_inventory::{GroundChange, Inventory, Plan, Stop, refuse_if};
 use lrs_machine::{Cause, RouteEntry};
 use lrs_measure::Rows;
 use lrs_position::{Route, RouteName};
-use lrs_spans::Spans;
 use std::alloc::Global;
 
 pub fn plan_route(

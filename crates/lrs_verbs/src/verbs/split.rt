@@ -2,25 +2,24 @@
 
 ghost use Rattle.std.specs.Prelude.{◌≡◌, ◌≤◌, IsTrue, IfOk, map, true, length, nat_eq};
 ghost use Rattle.std.specs.List.{list_any};
-ghost use Rattle.lrs_verbs.specs.Prelude.{is_route};
+ghost use Rattle.lrs_inventory.specs.Prelude.{is_route};
 ghost use Rattle.lrs_element.specs.Marks.{is_inner_mark};
 ghost use Rattle.lrs_machine.specs.declared.command.Command.TheVariants as verb;
-ghost use Rattle.lrs_routes.specs.Splitting.{back_by};
+ghost use Rattle.lrs_image_laws.specs.Splitting.{back_by};
 ghost use Rattle.lrs_verbs.specs.Checks.{split_plan};
 ghost use Rattle.lrs_verbs.specs.Splits.{is_inside, refs_behind, IsHalved};
-ghost use Rattle.lrs_verbs.specs.Plans.{Plans};
+ghost use Rattle.lrs_inventory.specs.Plans.{Plans};
 
-use crate::inventory::Inventory;
-use crate::plan::{GroundChange, Plan, Stop, refuse_if};
-use crate::verbs::changes::{no_change, pieces_of};
 use crate::verbs::checks::route_named;
-use lrs_canonical::cutting::Cut;
+use crate::verbs::route_changes::{no_change, pieces_of};
 use lrs_element::{Course, Mark, Marks, Piece};
-use lrs_keep::RouteChange;
+use lrs_events_rows::cuts::Cut;
+use lrs_events_spans::Spans;
+use lrs_image::RouteChange;
+use lrs_inventory::{GroundChange, Inventory, Plan, Stop, refuse_if};
 use lrs_machine::{Cause, RouteEntry};
 use lrs_measure::Rows;
 use lrs_position::{RefName, Referent, Route, RouteName};
-use lrs_spans::Spans;
 use std::alloc::{AllocError, Global};
 
 pub fn plan_split(

@@ -1,24 +1,23 @@
 //! An asset that takes the places of others of its class.
 
 ghost use Rattle.std.specs.Prelude.{◌≡◌, IfOk, IsTrue, true};
-ghost use Rattle.lrs_verbs.specs.Prelude.{each_two, differs, are_rows};
+ghost use Rattle.lrs_inventory.specs.Prelude.{each_two, differs, are_rows};
 ghost use Rattle.lrs_events.specs.Spans.{is_row};
 ghost use Rattle.lrs_machine.specs.declared.command.Command.TheVariants as verb;
 ghost use Rattle.lrs_verbs.specs.Entering.{row_of, AreInLimits};
-ghost use Rattle.lrs_verbs.specs.Plans.{Plans};
+ghost use Rattle.lrs_inventory.specs.Plans.{Plans};
 ghost use Rattle.lrs_verbs.specs.Wanted.{IsWanted};
 ghost use Rattle.lrs_verbs.specs.Superseding.{with_rows_and_one, IsSuperseding};
 
-use crate::inventory::{Inventory, Stretch};
-use crate::plan::{Plan, Stop};
-use crate::verbs::changes::no_change;
 use crate::verbs::enter::{asset_of, entered_parts, row_of};
-use crate::verbs::wanted::wanted_of;
-use lrs_canonical::removing::Removal;
+use crate::verbs::location::wanted_of;
+use crate::verbs::route_changes::no_change;
 use lrs_element::Course;
 use lrs_events::{Kind, Span, SpanChange};
-use lrs_gone::taken_away;
-use lrs_keep::RouteChange;
+use lrs_events_rows::removals::Removal;
+use lrs_image::RouteChange;
+use lrs_image_laws::taken_away;
+use lrs_inventory::{Inventory, Plan, Stop, Stretch};
 use lrs_machine::{Entry, RouteEntry};
 use lrs_measure::Rows;
 use lrs_position::RouteName;

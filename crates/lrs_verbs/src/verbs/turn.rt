@@ -1,26 +1,25 @@
 //! A route runs the other way.
 
 ghost use Rattle.std.specs.Prelude.{◌≡◌, ◌≤◌, IsTrue, IfOk, Some, None, map, length};
-ghost use Rattle.lrs_verbs.specs.Prelude.{end_by, longest_route, rerouting, IsPlan};
-ghost use Rattle.lrs_canonical.specs.Turns.{IsTurned};
+ghost use Rattle.lrs_inventory.specs.Prelude.{end_by, longest_route, rerouting, IsPlan};
+ghost use Rattle.lrs_events_rows.specs.Turns.{IsTurned};
 ghost use Rattle.lrs_events.specs.Changes.{changed_rows};
 ghost use Rattle.lrs_machine.specs.declared.command.Command.TheVariants as verb;
-ghost use Rattle.lrs_routes.specs.Turning.{from_end};
+ghost use Rattle.lrs_image_laws.specs.Turning.{from_end};
 ghost use Rattle.lrs_verbs.specs.Turns.{IsTurnedBy};
-ghost use Rattle.lrs_verbs.specs.Plans.{plan_of, Plans};
+ghost use Rattle.lrs_inventory.specs.Plans.{plan_of, Plans};
 
-use crate::inventory::Inventory;
-use crate::plan::{Plan, Stop};
-use crate::verbs::changes::{names_of, no_change};
 use crate::verbs::checks::route_named;
-use lrs_canonical::change::difference;
-use lrs_canonical::turning::turned;
+use crate::verbs::route_changes::{names_of, no_change};
 use lrs_events::SpanChange;
-use lrs_keep::{ReferentChange, RouteChange};
+use lrs_events_rows::change::difference;
+use lrs_events_rows::turns::turned;
+use lrs_events_spans::Spans;
+use lrs_image::{ReferentChange, RouteChange};
+use lrs_inventory::{Inventory, Plan, Stop};
 use lrs_machine::RouteEntry;
 use lrs_measure::Rows;
 use lrs_position::{Referent, RouteName};
-use lrs_spans::Spans;
 use std::alloc::{AllocError, Global};
 
 pub fn plan_turn(alloc: Global, inventory: &Inventory, route: RouteName) -> Result<Plan, Stop>

@@ -1,12 +1,11 @@
 //! A referent goes, by the verb `unref`.
 
 ghost use Rattle.lrs_machine.specs.declared.command.Command.TheVariants as verb;
-ghost use Rattle.lrs_verbs.specs.Plans.{Plans};
+ghost use Rattle.lrs_inventory.specs.Plans.{Plans};
 
-use crate::inventory::Inventory;
-use crate::plan::{Plan, ReferentPlaces, Stop};
 use crate::verbs::referents::{one_name, plan_of_referents};
-use lrs_keep::ReferentChange;
+use lrs_image::ReferentChange;
+use lrs_inventory::{Inventory, Plan, ReferentPlaces, Stop};
 use lrs_machine::Cause;
 use lrs_measure::Rows;
 use lrs_position::RefName;

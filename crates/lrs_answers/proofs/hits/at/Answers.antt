@@ -1,4 +1,4 @@
-use Rattle.lrs_keep.specs.Kept.{image_of}
+use Rattle.lrs_image.specs.Kept.{image_of}
 use Rattle.lrs_answers.proofs.AskedAt.{stands, no_memory, refused}
 use Rattle.lrs_answers.proofs.hits.at.Goals as goal
 

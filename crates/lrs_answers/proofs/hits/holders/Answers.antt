@@ -1,5 +1,5 @@
-use Rattle.lrs_keep.specs.Kept.{image_of}
-use Rattle.lrs_keep.proofs.Tables.{assets_in_order}
+use Rattle.lrs_image.specs.Kept.{image_of}
+use Rattle.lrs_image.proofs.Tables.{assets_in_order}
 use Rattle.lrs_answers.proofs.HeldBy.{holders_are}
 use Rattle.lrs_answers.proofs.hits.holders.Goals as goal
 

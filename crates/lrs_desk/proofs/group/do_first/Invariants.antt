@@ -1,5 +1,5 @@
 use Rattle.std.proofs.Common.{take}
-use Rattle.lrs_totals.specs.Running.{IsCounted}
+use Rattle.lrs_answers_totals.specs.Running.{IsCounted}
 use Rattle.lrs_desk.specs.Desk.{records_of}
 use Rattle.lrs_desk.specs.Group.{GoesOn}
 use Rattle.lrs_desk.proofs.group.do_first.Given as goal

@@ -1,8 +1,8 @@
 use Rattle.std.proofs.Common.{◌∷◌, [], arith, length-append, ◌∙◌, sym, subst}
-use Rattle.lrs_orderly.proofs.Tables.{few_edits}
+use Rattle.lrs_image_laws.proofs.Tables.{few_edits}
 use Rattle.lrs_machine.specs.Sound.{IsSound}
-use Rattle.lrs_keep.specs.Change.{apply}
-use Rattle.lrs_verbs.specs.Plans.{change_of}
+use Rattle.lrs_image.specs.Change.{apply}
+use Rattle.lrs_inventory.specs.Plans.{change_of}
 use Rattle.lrs_desk.proofs.group.make.Goals as goal
 
 pub overflow_add-number : goal.overflow_add-number

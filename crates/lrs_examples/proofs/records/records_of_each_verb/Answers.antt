@@ -1,6 +1,6 @@
 use Rattle.std.proofs.Common.{refl}
 use Rattle.csv.specs.Records.{field_at}
-use Rattle.lrs_records.proofs.Judging.{says-from}
+use Rattle.lrs_sheet_records.proofs.Judging.{says-from}
 use Rattle.lrs_examples.proofs.records.records_of_each_verb.Goals as goal
 
 pub returns : goal.returns

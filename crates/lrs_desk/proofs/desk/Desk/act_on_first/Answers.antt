@@ -1,5 +1,5 @@
 use Rattle.std.proofs.Common.{◌≡◌, List, refl, sym, subst, true}
-use Rattle.lrs_keep.specs.declared.change.Change.{Change}
+use Rattle.lrs_image.specs.declared.change.Change.{Change}
 use Rattle.lrs_desk.specs.Desk.{BreaksAmid, records_of}
 use Rattle.lrs_desk.specs.DeskView.{DeskView}
 use Rattle.lrs_desk.specs.Group.{IsGroup}

@@ -1,15 +1,15 @@
 use Rattle.std.proofs.Common.{ℕ, ◌+◌, Err, List, rules, sym, ap, subst, ◌∙◌}
 use Rattle.std.proofs.lemmas.Result.{err_from_is_err_and}
-use Rattle.lrs_verbs.specs.Prelude.{Referent, Span, holds_by_spans, AreGone}
+use Rattle.lrs_inventory.specs.Prelude.{Referent, Span, holds_by_spans, AreGone}
 use Rattle.lrs_machine.specs.declared.command.Command.TheVariants as verb
 use Rattle.lrs_machine.specs.State.{Abandoned}
-use Rattle.lrs_orderly.proofs.Tables.{few_edits}
-use Rattle.lrs_routes.proofs.Naming.{found_in}
-use Rattle.lrs_routes.proofs.Rewriting.{its_course}
-use Rattle.lrs_verbs.specs.declared.plan.Plan.{Plan}
-use Rattle.lrs_verbs.specs.declared.plan.Stop.{Stop}
+use Rattle.lrs_image_laws.proofs.Tables.{few_edits}
+use Rattle.lrs_image_laws.proofs.Naming.{found_in}
+use Rattle.lrs_image_laws.proofs.Rewriting.{its_course}
+use Rattle.lrs_inventory.specs.declared.plan.Plan.{Plan}
+use Rattle.lrs_inventory.specs.declared.plan.Stop.{Stop}
 use Rattle.lrs_verbs.specs.Closings.{names_of, closing}
-use Rattle.lrs_verbs.specs.Plans.{IsPlanOf, Plans}
+use Rattle.lrs_inventory.specs.Plans.{IsPlanOf, Plans}
 use Rattle.lrs_verbs.proofs.Closed.{refuses_route, closes}
 use Rattle.lrs_verbs.proofs.verbs.close.plan_close.Goals as goal
 

@@ -1,12 +1,12 @@
 use Rattle.std.proofs.Common.{ℕ, ◌+◌, length, rules, ap, subst}
 use Rattle.std.proofs.lemmas.Result.{err_from_is_err_and}
 use Rattle.lrs_machine.specs.declared.command.Command.TheVariants as verb
-use Rattle.lrs_verbs.specs.Prelude.{state_of}
-use Rattle.lrs_orderly.proofs.Tables.{few_edits}
+use Rattle.lrs_inventory.specs.Prelude.{state_of}
+use Rattle.lrs_image_laws.proofs.Tables.{few_edits}
 use Rattle.lrs_verbs.specs.Entering.{IsEntering}
 use Rattle.lrs_verbs.proofs.Stopping.{stopped}
-use Rattle.lrs_verbs.proofs.Located.{route_in}
-use Rattle.lrs_routes.proofs.Holding.{alone}
+use Rattle.lrs_inventory.proofs.Located.{route_in}
+use Rattle.lrs_image_laws.proofs.Holding.{alone}
 use Rattle.lrs_verbs.proofs.EntryChecks.{then_held}
 use Rattle.lrs_verbs.proofs.NewEntry.{enters}
 use Rattle.lrs_verbs.proofs.verbs.enter.enter_on.Goals as goal

@@ -1,7 +1,7 @@
 use Rattle.std.proofs.Common.{ℕ, ◌+◌, ◌≤◌, List, length, sym, ap, subst, ◌∙◌}
 use Rattle.std.specs.Prelude.{nat_lt}
 use Rattle.std.specs.List.{list_all}
-use Rattle.lrs_verbs.specs.Prelude.{longest_route, Referent}
+use Rattle.lrs_inventory.specs.Prelude.{longest_route, Referent}
 use Rattle.lrs_verbs.proofs.JoinRoutes.{refs_have_room}
 use Rattle.lrs_verbs.proofs.verbs.join.lengthened.Goals as goal
 

@@ -2,11 +2,11 @@ use Rattle.std.proofs.Common.{Err, sym, subst, ◌∙◌}
 use Rattle.std.proofs.lemmas.Result.{err_from_is_err_and}
 use Rattle.lrs_machine.specs.declared.answer.Cause.TheVariants as cause
 use Rattle.lrs_machine.specs.declared.command.Command.TheVariants as verb
-use Rattle.lrs_routes.proofs.Naming.{found_in}
-use Rattle.lrs_verbs.specs.declared.plan.Plan.{Plan}
-use Rattle.lrs_verbs.specs.declared.plan.Stop.{Stop}
+use Rattle.lrs_image_laws.proofs.Naming.{found_in}
+use Rattle.lrs_inventory.specs.declared.plan.Plan.{Plan}
+use Rattle.lrs_inventory.specs.declared.plan.Stop.{Stop}
 use Rattle.lrs_verbs.specs.Joins.{joined_course, joined_line}
-use Rattle.lrs_verbs.specs.Plans.{IsPlanOf, Plans}
+use Rattle.lrs_inventory.specs.Plans.{IsPlanOf, Plans}
 use Rattle.lrs_verbs.proofs.Stopping.{refused, passed, stopped}
 use Rattle.lrs_verbs.proofs.JoinRoutes.{course_is, line_is, room_for, can_go_on, refuses_first, refuses_second, refuses_same, refuses_course, refuses_marks, makes_one}
 use Rattle.lrs_verbs.proofs.verbs.join.plan_join.Goals as goal

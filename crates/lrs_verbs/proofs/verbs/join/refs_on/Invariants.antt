@@ -1,5 +1,5 @@
 use Rattle.std.proofs.Common.{◌≡◌, ◌++◌, drop, map}
-use Rattle.lrs_routes.specs.Joining.{on_by}
+use Rattle.lrs_image_laws.specs.Joining.{on_by}
 use Rattle.lrs_verbs.proofs.verbs.join.refs_on.Given as goal
 
 abbrev pub invariant-loop-referent : goal.invariant-loop-referent

@@ -3,8 +3,8 @@ use Rattle.std.proofs.lemmas.Result.{err_from_is_err_and}
 use Rattle.std.specs.Prelude.{is_some}
 use Rattle.lrs_machine.specs.declared.answer.Cause.TheVariants as cause
 use Rattle.lrs_machine.specs.declared.command.Command.TheVariants as verb
-use Rattle.lrs_verbs.specs.declared.plan.Plan.{Plan}
-use Rattle.lrs_verbs.specs.Plans.{IsPlanOf}
+use Rattle.lrs_inventory.specs.declared.plan.Plan.{Plan}
+use Rattle.lrs_inventory.specs.Plans.{IsPlanOf}
 use Rattle.lrs_verbs.proofs.Stopping.{refused, passed}
 use Rattle.lrs_verbs.proofs.NewLink.{refuses_known, makes}
 use Rattle.lrs_verbs.proofs.verbs.link.plan_link.Goals as goal

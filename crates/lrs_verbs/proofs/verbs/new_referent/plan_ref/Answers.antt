@@ -4,15 +4,15 @@ use Rattle.std.specs.List.{find}
 use Rattle.std.proofs.lemmas.Result.{err_from_is_err_and}
 use Rattle.std.specs.Prelude.{is_some}
 use Rattle.std.specs.Option.{option_map}
-use Rattle.lrs_verbs.specs.Prelude.{Name, Ground, Millimetre, Alignment, alignment_of, Image, RouteEntry, state_of, route_entry, is_named}
+use Rattle.lrs_inventory.specs.Prelude.{Name, Ground, Millimetre, Alignment, alignment_of, Image, RouteEntry, state_of, route_entry, is_named}
 use Rattle.lrs_machine.specs.declared.answer.Cause.TheVariants as cause
 use Rattle.lrs_machine.specs.declared.command.Command.TheVariants as verb
 use Rattle.lrs_machine.specs.Register.{get}
-use Rattle.lrs_verbs.specs.declared.plan.Plan.{Plan}
-use Rattle.lrs_verbs.specs.Extents.{IsRouteIn, located_cell}
-use Rattle.lrs_verbs.specs.Plans.{Answers, IsPlanOf}
+use Rattle.lrs_inventory.specs.declared.plan.Plan.{Plan}
+use Rattle.lrs_inventory.specs.Extents.{IsRouteIn, located_cell}
+use Rattle.lrs_inventory.specs.Plans.{Answers, IsPlanOf}
 use Rattle.lrs_verbs.specs.RouteReferents.{plan_of_referents, with_one, standing_at}
-use Rattle.lrs_verbs.proofs.Located.{route_in}
+use Rattle.lrs_inventory.proofs.Located.{route_in}
 use Rattle.lrs_verbs.proofs.NewReferent.{refuses_known, refuses_route, refuses_position, puts, makes}
 use Rattle.lrs_verbs.proofs.Stopping.{refused, passed, stopped}
 use Rattle.lrs_verbs.proofs.verbs.new_referent.plan_ref.Goals as goal

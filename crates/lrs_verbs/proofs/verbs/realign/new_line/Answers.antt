@@ -1,9 +1,9 @@
 use Rattle.std.proofs.Common.{ap}
 use Rattle.std.proofs.lemmas.Result.{err_from_is_err_and}
-use Rattle.lrs_verbs.specs.Prelude.{state_of}
+use Rattle.lrs_inventory.specs.Prelude.{state_of}
 use Rattle.lrs_measure.specs.Lists.{is_nothing}
 use Rattle.lrs_machine.specs.declared.answer.Cause.TheVariants as cause
-use Rattle.lrs_leaving.specs.Realigning.{replaced}
+use Rattle.lrs_image_laws.specs.Realigning.{replaced}
 use Rattle.lrs_verbs.specs.Realignments.{short_course, free_course}
 use Rattle.lrs_verbs.proofs.RealignChecks.{stops_there, refused_there, then_marks, then_course}
 use Rattle.lrs_verbs.proofs.verbs.realign.new_line.Goals as goal

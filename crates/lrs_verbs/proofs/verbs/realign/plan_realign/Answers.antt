@@ -1,13 +1,13 @@
 use Rattle.std.proofs.Common.{ℕ, ◌+◌, List, Err, rules, sym, ap, subst, ◌∙◌}
 use Rattle.std.proofs.lemmas.Result.{err_from_is_err_and}
-use Rattle.lrs_verbs.specs.Prelude.{Piece, state_of}
+use Rattle.lrs_inventory.specs.Prelude.{Piece, state_of}
 use Rattle.lrs_machine.specs.declared.command.Command.TheVariants as verb
-use Rattle.lrs_orderly.proofs.Tables.{few_edits}
-use Rattle.lrs_routes.proofs.Naming.{found_in}
-use Rattle.lrs_routes.proofs.Rewriting.{its_course}
-use Rattle.lrs_verbs.specs.declared.plan.Plan.{Plan}
-use Rattle.lrs_verbs.specs.declared.plan.Stop.{Stop}
-use Rattle.lrs_verbs.specs.Plans.{IsPlanOf, Plans}
+use Rattle.lrs_image_laws.proofs.Tables.{few_edits}
+use Rattle.lrs_image_laws.proofs.Naming.{found_in}
+use Rattle.lrs_image_laws.proofs.Rewriting.{its_course}
+use Rattle.lrs_inventory.specs.declared.plan.Plan.{Plan}
+use Rattle.lrs_inventory.specs.declared.plan.Stop.{Stop}
+use Rattle.lrs_inventory.specs.Plans.{IsPlanOf, Plans}
 use Rattle.lrs_verbs.specs.Realignments.{check_stretch, new_line, IsOnNewLine}
 use Rattle.lrs_verbs.proofs.RealignChecks.{refuses_route, refuses_stretch, refuses_line, line_is, end_there}
 use Rattle.lrs_verbs.proofs.RealignRoute.{realigns}

@@ -1,8 +1,8 @@
 use Rattle.std.proofs.Common.{◌≡◌, ℕ, ◌+◌, ◌≤◌, true, subst, sym, ap, ◌∙◌}
 use Rattle.std.specs.Prelude.{nat_lt}
 use Rattle.std.specs.List.{list_all}
-use Rattle.lrs_verbs.specs.Prelude.{Referent, longest_route}
-use Rattle.lrs_realign.specs.Realigning.{have_room_behind}
+use Rattle.lrs_inventory.specs.Prelude.{Referent, longest_route}
+use Rattle.lrs_events_spans.specs.Realigning.{have_room_behind}
 use Rattle.lrs_verbs.proofs.RealignChecks.{limit, room, in_limits}
 use Rattle.lrs_verbs.proofs.verbs.realign.realign_route.Goals as goal
 

@@ -1,10 +1,10 @@
 use Rattle.std.proofs.Common.{ℕ, Err, sym, ap, subst, ◌∙◌}
 use Rattle.std.proofs.lemmas.Result.{err_from_is_err_and}
 use Rattle.lrs_machine.specs.declared.command.Command.TheVariants as verb
-use Rattle.lrs_verbs.specs.declared.plan.Plan.{Plan}
-use Rattle.lrs_verbs.specs.declared.plan.Stop.{Stop}
-use Rattle.lrs_verbs.specs.Checks.{new_marks}
-use Rattle.lrs_verbs.specs.Plans.{IsPlanOf, Plans}
+use Rattle.lrs_inventory.specs.declared.plan.Plan.{Plan}
+use Rattle.lrs_inventory.specs.declared.plan.Stop.{Stop}
+use Rattle.lrs_inventory.specs.NewCourses.{new_marks}
+use Rattle.lrs_inventory.specs.Plans.{IsPlanOf, Plans}
 use Rattle.lrs_verbs.proofs.Stopping.{stopped}
 use Rattle.lrs_verbs.proofs.Recalibrated.{refuses_route, refuses_marks, recalibrates}
 use Rattle.lrs_verbs.proofs.verbs.recalibrate.plan_recalibrate.Goals as goal

@@ -2,12 +2,12 @@ use Rattle.std.proofs.Common.{Err, sym, subst, ◌∙◌}
 use Rattle.std.proofs.lemmas.Result.{err_from_is_err_and}
 use Rattle.lrs_machine.specs.declared.answer.Cause.TheVariants as cause
 use Rattle.lrs_machine.specs.declared.command.Command.TheVariants as verb
-use Rattle.lrs_verbs.specs.Prelude.{state_of}
+use Rattle.lrs_inventory.specs.Prelude.{state_of}
 use Rattle.lrs_machine.specs.Register.{get}
-use Rattle.lrs_verbs.specs.declared.plan.Plan.{Plan}
-use Rattle.lrs_verbs.specs.declared.plan.Stop.{Stop}
-use Rattle.lrs_verbs.specs.Plans.{IsPlanOf, Plans}
-use Rattle.lrs_verbs.proofs.Known.{same_known}
+use Rattle.lrs_inventory.specs.declared.plan.Plan.{Plan}
+use Rattle.lrs_inventory.specs.declared.plan.Stop.{Stop}
+use Rattle.lrs_inventory.specs.Plans.{IsPlanOf, Plans}
+use Rattle.lrs_inventory.proofs.Known.{same_known}
 use Rattle.lrs_verbs.proofs.Stopping.{refused, passed}
 use Rattle.lrs_verbs.proofs.Renumbered.{refuses_route, refuses_known, renumbers}
 use Rattle.lrs_verbs.proofs.verbs.renumber.plan_renumber.Goals as goal

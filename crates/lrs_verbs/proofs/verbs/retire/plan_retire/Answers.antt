@@ -1,11 +1,11 @@
 use Rattle.std.proofs.Common.{ℕ, Err, sym, ap, subst, ◌∙◌}
 use Rattle.std.specs.List.{find}
 use Rattle.std.proofs.lemmas.Result.{err_from_is_err_and}
-use Rattle.lrs_verbs.specs.Prelude.{Name, is_named}
+use Rattle.lrs_inventory.specs.Prelude.{Name, is_named}
 use Rattle.lrs_machine.specs.declared.command.Command.TheVariants as verb
-use Rattle.lrs_routes.proofs.Naming.{found_in}
-use Rattle.lrs_verbs.specs.declared.plan.Stop.{Stop}
-use Rattle.lrs_verbs.specs.Plans.{Plans}
+use Rattle.lrs_image_laws.proofs.Naming.{found_in}
+use Rattle.lrs_inventory.specs.declared.plan.Stop.{Stop}
+use Rattle.lrs_inventory.specs.Plans.{Plans}
 use Rattle.lrs_verbs.proofs.Retirement.{found_asset, its_kind, refuses_unknown, refuses_class, refuses_route}
 use Rattle.lrs_verbs.proofs.verbs.retire.plan_retire.Goals as goal
 

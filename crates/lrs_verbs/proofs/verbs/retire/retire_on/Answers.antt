@@ -1,14 +1,14 @@
 use Rattle.std.proofs.Common.{ℕ, ◌+◌, rules, sym, ap, subst, ◌∙◌}
 use Rattle.std.proofs.lemmas.Result.{err_from_is_err_and}
-use Rattle.lrs_verbs.specs.Prelude.{alignment_of, state_of, extent_of, Retired}
+use Rattle.lrs_inventory.specs.Prelude.{alignment_of, state_of, extent_of, Retired}
 use Rattle.lrs_measure.specs.Lists.{is_nothing}
 use Rattle.lrs_machine.specs.declared.answer.Cause.TheVariants as cause
 use Rattle.lrs_machine.specs.declared.command.Command.TheVariants as verb
-use Rattle.lrs_orderly.proofs.Tables.{few_edits}
+use Rattle.lrs_image_laws.proofs.Tables.{few_edits}
 use Rattle.lrs_verbs.specs.Taking.{IsTaking}
 use Rattle.lrs_verbs.proofs.Stopping.{refused, passed, stopped}
-use Rattle.lrs_verbs.proofs.Located.{route_in}
-use Rattle.lrs_routes.proofs.Holding.{alone}
+use Rattle.lrs_inventory.proofs.Located.{route_in}
+use Rattle.lrs_image_laws.proofs.Holding.{alone}
 use Rattle.lrs_verbs.proofs.Retirement.{refuses_kind, refuses_extent, refuses_empty, refuses_bare, retires}
 use Rattle.lrs_verbs.proofs.verbs.retire.retire_on.Goals as goal
 

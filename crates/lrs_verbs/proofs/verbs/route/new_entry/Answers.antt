@@ -1,6 +1,6 @@
 use Rattle.std.proofs.Common.{◌≡◌, List, true, subst, sym}
-use Rattle.lrs_verbs.specs.Prelude.{Referent, is_route}
-use Rattle.lrs_verbs.proofs.NewCourse.{fits_alone}
+use Rattle.lrs_inventory.specs.Prelude.{Referent, is_route}
+use Rattle.lrs_inventory.proofs.NewCourse.{fits_alone}
 use Rattle.lrs_verbs.proofs.verbs.route.new_entry.Goals as goal
 
 pub invariant_of-route : goal.invariant_of-route

@@ -2,15 +2,15 @@ use Rattle.std.proofs.Common.{◌≡◌, ℕ, Ok, length, sym, ap, subst, ◌∙
 use Rattle.std.proofs.lemmas.Result.{err_from_is_err_and}
 use Rattle.lrs_machine.specs.declared.answer.Cause.TheVariants as cause
 use Rattle.lrs_machine.specs.declared.command.Command.TheVariants as verb
-use Rattle.lrs_verbs.specs.Prelude.{state_of}
+use Rattle.lrs_inventory.specs.Prelude.{state_of}
 use Rattle.lrs_machine.specs.Machine.{check_free}
 use Rattle.lrs_machine.specs.Register.{get}
-use Rattle.lrs_verbs.specs.declared.plan.Plan.{Plan}
-use Rattle.lrs_verbs.specs.Checks.{new_course, new_marks}
-use Rattle.lrs_verbs.specs.Plans.{IsPlanOf, Answers}
-use Rattle.lrs_verbs.proofs.Known.{same_known}
+use Rattle.lrs_inventory.specs.declared.plan.Plan.{Plan}
+use Rattle.lrs_inventory.specs.NewCourses.{new_course, new_marks}
+use Rattle.lrs_inventory.specs.Plans.{IsPlanOf, Answers}
+use Rattle.lrs_inventory.proofs.Known.{same_known}
 use Rattle.lrs_verbs.proofs.Stopping.{refused, passed, stopped}
-use Rattle.lrs_verbs.proofs.NewCourse.{good_line}
+use Rattle.lrs_inventory.proofs.NewCourse.{good_line}
 use Rattle.lrs_verbs.proofs.NewRoute.{refuses_known, refuses_pieces, refuses_ground, refuses_marks, makes}
 use Rattle.lrs_verbs.proofs.verbs.route.plan_route.Goals as goal
 

@@ -1,7 +1,7 @@
 use Rattle.std.proofs.Common.{List, map, ap, sym, ◌∙◌}
-use Rattle.lrs_verbs.specs.Prelude.{is_too_long, Referent, is_route}
-use Rattle.lrs_routes.specs.Splitting.{back_by}
-use Rattle.lrs_routes.proofs.Halved.{parts_are_routes}
+use Rattle.lrs_inventory.specs.Prelude.{is_too_long, Referent, is_route}
+use Rattle.lrs_image_laws.specs.Splitting.{back_by}
+use Rattle.lrs_image_laws.proofs.Halved.{parts_are_routes}
 use Rattle.lrs_verbs.specs.Splits.{refs_behind}
 use Rattle.lrs_verbs.proofs.verbs.split.cut_route.Goals as goal
 

@@ -2,15 +2,15 @@ use Rattle.std.proofs.Common.{◌≡◌, Bool, true, false, Err, length, refl, s
 use Rattle.std.proofs.lemmas.Bool.{false≢true}
 use Rattle.std.proofs.lemmas.Result.{err_from_is_err_and}
 use Rattle.std.specs.Prelude.{not}
-use Rattle.lrs_verbs.specs.Prelude.{state_of}
+use Rattle.lrs_inventory.specs.Prelude.{state_of}
 use Rattle.lrs_machine.specs.declared.answer.Cause.TheVariants as cause
 use Rattle.lrs_machine.specs.declared.command.Command.TheVariants as verb
 use Rattle.lrs_machine.specs.Register.{get}
-use Rattle.lrs_verbs.specs.declared.plan.Plan.{Plan}
-use Rattle.lrs_verbs.specs.declared.plan.Stop.{Stop}
-use Rattle.lrs_verbs.specs.Plans.{IsPlanOf, Plans}
+use Rattle.lrs_inventory.specs.declared.plan.Plan.{Plan}
+use Rattle.lrs_inventory.specs.declared.plan.Stop.{Stop}
+use Rattle.lrs_inventory.specs.Plans.{IsPlanOf, Plans}
 use Rattle.lrs_verbs.specs.Splits.{is_inside}
-use Rattle.lrs_verbs.proofs.Known.{same_known}
+use Rattle.lrs_inventory.proofs.Known.{same_known}
 use Rattle.lrs_verbs.proofs.Stopping.{refused, passed}
 use Rattle.lrs_verbs.proofs.SplitRoute.{inside_is_inner, refuses_route, refuses_known, refuses_mark, splits}
 use Rattle.lrs_verbs.proofs.verbs.split.plan_split.Goals as goal

@@ -1,5 +1,5 @@
 use Rattle.std.proofs.Common.{◌≡◌, ◌++◌, drop, map}
-use Rattle.lrs_routes.specs.Splitting.{back_by}
+use Rattle.lrs_image_laws.specs.Splitting.{back_by}
 use Rattle.lrs_verbs.specs.Splits.{refs_behind}
 use Rattle.lrs_verbs.proofs.verbs.split.refs_behind.Given as goal
 

@@ -1,8 +1,8 @@
 use Rattle.std.proofs.Common.{ℕ, ◌+◌, rules, ap, subst}
-use Rattle.lrs_orderly.proofs.Tables.{few_edits}
+use Rattle.lrs_image_laws.proofs.Tables.{few_edits}
 use Rattle.lrs_verbs.specs.Superseding.{IsSuperseding}
-use Rattle.lrs_verbs.proofs.Located.{route_in}
-use Rattle.lrs_routes.proofs.Holding.{alone}
+use Rattle.lrs_inventory.proofs.Located.{route_in}
+use Rattle.lrs_image_laws.proofs.Holding.{alone}
 use Rattle.lrs_verbs.proofs.Superseded.{removed_there, supersedes}
 use Rattle.lrs_verbs.proofs.verbs.supersede.supersede_on.Goals as goal
 

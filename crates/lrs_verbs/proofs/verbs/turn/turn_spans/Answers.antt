@@ -1,5 +1,5 @@
 use Rattle.std.proofs.Common.{List, subst}
-use Rattle.lrs_verbs.specs.Prelude.{Span, IsPlan}
+use Rattle.lrs_inventory.specs.Prelude.{Span, IsPlan}
 use Rattle.lrs_verbs.proofs.TurnedRoute.{plan_of_rows}
 use Rattle.lrs_verbs.proofs.verbs.turn.turn_spans.Goals as goal
 

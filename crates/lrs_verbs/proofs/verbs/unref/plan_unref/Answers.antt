@@ -1,8 +1,8 @@
 use Rattle.std.proofs.Common.{◌≡◌, Some, None, sym, subst, ◌∙◌}
-use Rattle.lrs_verbs.specs.Prelude.{Name}
+use Rattle.lrs_inventory.specs.Prelude.{Name}
 use Rattle.lrs_machine.specs.declared.command.Command.TheVariants as verb
-use Rattle.lrs_verbs.specs.declared.plan.Plan.{Plan}
-use Rattle.lrs_verbs.specs.Plans.{IsPlanOf}
+use Rattle.lrs_inventory.specs.declared.plan.Plan.{Plan}
+use Rattle.lrs_inventory.specs.Plans.{IsPlanOf}
 use Rattle.lrs_verbs.specs.RouteReferents.{plan_of_referents}
 use Rattle.lrs_verbs.proofs.GoneReferent.{of_route, refuses_unknown, makes}
 use Rattle.lrs_verbs.proofs.verbs.unref.plan_unref.Goals as goal

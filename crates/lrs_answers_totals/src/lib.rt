@@ -1,0 +1,7 @@
+//! Running totals: what was entered, retired and abandoned of each class, counted edit by edit.
+#![tactic(auto)]
+
+mod counts;
+mod tally;
+
+pub use counts::Counts;

@@ -1,0 +1,36 @@
+//! The inventory, served over HTTP.
+
+ghost use Rattle.std.specs.Prelude.{ℕ, ◌≡◌, ◌+◌};
+ghost use Rattle.lrs_cli.specs.Services.{fault_of_service};
+ghost use Rattle.lrs_web.specs.Visits.{HasVisited};
+
+use lrs_cli_tasks::{Ending, ProgramFault};
+use lrs_cli_words::Service;
+use lrs_desk::{Desk, Keeper};
+use lrs_web_server::{ServiceFault, serve};
+use std::alloc::Global;
+use std::net::Net;
+use std::rt::Runtime;
+
+fn service_fault(fault: ServiceFault) -> ProgramFault
+    ensures { result ≡ fault_of_service fault }
+{
+    match fault {
+        ServiceFault::Door => ProgramFault::Door,
+        ServiceFault::Write => ProgramFault::Write,
+    }
+}
+
+/// Serves a desk until the last connection has ended. It is done where as many were served as the service says.
+pub fn do_service<R: Runtime<A = Global> + Net, K: Keeper>(
+    rt: &R,
+    desk: &mut Desk<K>,
+    service: Service,
+) -> Ending
+    ensures { result ≡ Ending.Done → (full : ℕ) × (cut : ℕ) × (full + cut ≡ service.max) × HasVisited K.may_hold full cut desk.old desk.new }
+{
+    match serve(rt, service.port, service.max, desk) {
+        Ok(_) => Ending::Done,
+        Err(fault) => Ending::Stopped(service_fault(fault)),
+    }
+}

@@ -1,0 +1,62 @@
+-- A run of a sheet over a writer that is put before another and taken away again.
+use Rattle.std.proofs.Common.{◌≡◌, ◌⊎◌, ◌∙◌, ℕ, List, ◌++◌, Option, Some, None, Result, Ok, Err, ap, inl, inr}
+use Rattle.std.specs.Prelude.{IfSome}
+use Rattle.std.specs.Io.KnownBytes.{Appends, Keeps}
+use Rattle.lrs_machine.specs.State.{State}
+use Rattle.lrs_machine.specs.declared.answer.Limits.{Limits}
+use Rattle.lrs_desk.specs.declared.desk.Fault.TheVariants as stop
+use Rattle.lrs_sheet.specs.declared.fault.SheetFault.{SheetFault}
+use Rattle.lrs_sheet.specs.declared.fault.SheetFault.TheVariants as fault
+use Rattle.lrs_sheet.specs.declared.reply.Reply.{Reply}
+use Rattle.lrs_sheet.specs.declared.reply.Tally.{Tally}
+use Rattle.lrs_sheet_records.specs.declared.sheet.Sheet.{Sheet}
+use Rattle.lrs_sheet.specs.Sheets.{AreAnswered, HasRunAhead, HasStopped, Runs}
+
+-- bytes that are appended between two that are kept
+appends-between : (first old new last : Option (List ℕ)) (bytes : List ℕ) → Keeps first old → Keeps new last → Appends old new bytes → Appends first last bytes
+appends-between None old new last bytes kept keeps appends = tt
+appends-between (Some xs) None new last bytes kept keeps appends = absurd kept
+appends-between (Some xs) (Some ys) None last bytes kept keeps appends = absurd appends
+appends-between (Some xs) (Some ys) (Some zs) None bytes kept keeps appends = absurd keeps
+appends-between (Some xs) (Some ys) (Some zs) (Some rest) bytes kept keeps appends = keeps ∙ appends ∙ ap (λ (text : List ℕ). text ++ bytes) kept
+
+keeps-between : (first old new last : Option (List ℕ)) → Keeps first old → Keeps new last → Keeps old new → Keeps first last
+keeps-between None old new last kept keeps same = tt
+keeps-between (Some xs) None new last kept keeps same = absurd kept
+keeps-between (Some xs) (Some ys) None last kept keeps same = absurd same
+keeps-between (Some xs) (Some ys) (Some zs) None kept keeps same = absurd keeps
+keeps-between (Some xs) (Some ys) (Some zs) (Some rest) kept keeps same = keeps ∙ same ∙ kept
+
+module _ (sheet : Sheet) (together : ℕ) (limits : Limits) (input : List ℕ) (before after : State) (first old new last : Option (List ℕ)) (kept : Keeps first old) (keeps : Keeps new last) where
+  answered-between : (to : State) (records : List (List (List ℕ))) (replies : List Reply) → AreAnswered sheet limits before records replies to old new → AreAnswered sheet limits before records replies to first last
+  answered-between to records replies answered = record {
+    width = answered.width;
+    replied = answered.replied;
+    written = appends-between first old new last _ kept keeps answered.written;
+  }
+
+  stopped-between : (to : State) → HasStopped sheet together limits input before to old new → HasStopped sheet together limits input before to first last
+  stopped-between to (header, records, further, replies, is, begins, come, answered) = (header, records, further, replies, is, begins, come, answered-between to records replies answered)
+
+  ahead-between : HasRunAhead sheet together limits input before after old new → HasRunAhead sheet together limits input before after first last
+  ahead-between (header, records, further, replies, settled, is, begins, come, answered, ahead) = (header, records, further, replies, settled, is, begins, come, answered-between settled records replies answered, ahead)
+
+  pub runs-between : (result : Result Tally SheetFault) → Runs sheet together limits input before after old new result → Runs sheet together limits input before after first last result
+  runs-between (Ok tally) (inl (all, state, same, counts)) = inl (all, state, keeps-between first old new last kept keeps same, counts)
+  runs-between (Ok tally) (inr (header, records, replies, is, all, answered, counts, few)) = inr (header, records, replies, is, all, answered-between after records replies answered, counts, few)
+  runs-between (Err fault.BadHeader) (header, begins, other, state, same) = (header, begins, other, state, keeps-between first old new last kept keeps same)
+  runs-between (Err fault.BadCsv) (header, records, fields, replies, is, begins, differs, answered) = (header, records, fields, replies, is, begins, differs, answered-between after records replies answered)
+  runs-between (Err fault.Read) (inl (state, same)) = inl (state, keeps-between first old new last kept keeps same)
+  runs-between (Err fault.Read) (inr (header, records, replies, is, begins, answered)) = inr (header, records, replies, is, begins, answered-between after records replies answered)
+  runs-between (Err fault.Write) done = done
+  runs-between (Err (fault.Desk stop.Memory)) done = stopped-between after done
+  runs-between (Err (fault.Desk stop.MustReopen)) done = stopped-between after done
+  runs-between (Err (fault.Desk stop.Keep)) done = ahead-between done
+  runs-between (Err fault.Memory) (inl (state, same)) = inl (state, keeps-between first old new last kept keeps same)
+  runs-between (Err fault.Memory) (inr (header, records, replies, is, begins, answered)) = inr (header, records, replies, is, begins, answered-between after records replies answered)
+
+-- the same where it may be unknown what the reader has left
+pub known-between : (known : Option (List ℕ)) (sheet : Sheet) (together : ℕ) (limits : Limits) (before after : State) (first old new last : Option (List ℕ)) (result : Result Tally SheetFault) → Keeps first old → Keeps new last
+    → IfSome known (λ input. Runs sheet together limits input before after old new result) → IfSome known (λ input. Runs sheet together limits input before after first last result)
+known-between None sheet together limits before after first old new last result kept keeps runs = tt
+known-between (Some input) sheet together limits before after first old new last result kept keeps runs = runs-between sheet together limits input before after first old new last kept keeps result runs

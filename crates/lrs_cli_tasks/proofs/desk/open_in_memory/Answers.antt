@@ -1,0 +1,14 @@
+use Rattle.std.proofs.Common.{◌≡◌, ◌∙◌, ap, Ok, Result, rules, refl, subst, sym}
+use Rattle.std.specs.Prelude.{IfOk}
+use Rattle.lrs_machine.specs.declared.image.Image.{Image}
+use Rattle.lrs_machine.specs.declared.table.Table.{Table}
+use Rattle.lrs_machine.specs.Image.{nothing}
+use Rattle.lrs_image_plain.specs.Plain.{PlainView}
+use Rattle.lrs_cli_tasks.proofs.desk.open_in_memory.Goals as goal
+
+pub returns-in-Ok-clause-fresh : goal.returns-in-Ok-clause-fresh
+returns-in-Ok-clause-fresh c =
+    let kept : Result Image Table = c.in-Ok.desk.keeper.content in
+    let same = sym (c.in-Ok.ensures.content kept refl) ∙ c.in-Ok.ensures.image kept refl in
+    let P : Result Image Table → Type 0 = λ r. IfOk r (λ i. i ≡ nothing) in
+    (subst P same (subst P (sym (ap (λ (v : PlainView). v.content) c.empty.ensures)) refl), search rules)

@@ -1,0 +1,28 @@
+-- What a job has the program do.
+use Rattle.std.specs.Prelude.{◌≡◌}
+use Rattle.clap.specs.Words.{Text}
+use Rattle.lrs_sheet_records.specs.declared.sheet.Sheet.TheVariants.{Edits, Survey}
+use Rattle.lrs_cli_words.specs.declared.job.Job.{Job}
+use Rattle.lrs_cli_words.specs.declared.job.Job.TheVariants as job
+use Rattle.lrs_cli_words.specs.Questions.{Asks, SaysService}
+use Rattle.lrs_cli_tasks.specs.declared.task.Task.{Task}
+use Rattle.lrs_cli_tasks.specs.declared.task.Task.TheVariants as task
+
+-- the inventory that it names
+abbrev pub inventory_of : Job → Text
+inventory_of (job.Edit db sheet) = db.now
+inventory_of (job.Survey db sheet) = db.now
+inventory_of (job.At db route method position) = db.now
+inventory_of (job.Translate db route method position to) = db.now
+inventory_of (job.Strip db route side classes) = db.now
+inventory_of (job.Totals db) = db.now
+inventory_of (job.Find db asset) = db.now
+inventory_of (job.Serve db port max) = db.now
+
+-- `edit` does an edit sheet, `survey` a survey, `serve` serves where its words say, and every other job asks what they say
+abbrev pub IsTaskOf : Job → Task → Type 0
+IsTaskOf (job.Edit db sheet) (task.Sheet kind from) = (kind ≡ Edits) × (from.now ≡ sheet.now)
+IsTaskOf (job.Survey db sheet) (task.Sheet kind from) = (kind ≡ Survey) × (from.now ≡ sheet.now)
+IsTaskOf (job.Serve db port max) (task.Service service) = SaysService port.now max.now service
+IsTaskOf j (task.Question question) = Asks j question
+IsTaskOf j t = ⊥

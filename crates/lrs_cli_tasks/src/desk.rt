@@ -1,0 +1,69 @@
+//! The desk of the inventory that the words name.
+
+ghost use Rattle.std.specs.Prelude.{◌≡◌, ◌↔◌, IfOk, IfErr, IsTrue, codes, false};
+ghost use Rattle.lrs_machine.specs.Bounds.{most_assets, most_edits, most_routes};
+ghost use Rattle.lrs_machine.specs.Image.{nothing};
+ghost use Rattle.lrs_image.specs.Keeping.{HoldsOnly};
+ghost use Rattle.lrs_cli_tasks.specs.Faults.{HasNoDesk, fault_of_load, fault_of_open};
+
+use crate::fault::ProgramFault;
+use lrs_desk::{Desk, Keeper, LoadFault, OpenFault, Plain};
+use lrs_machine::Limits;
+use std::alloc::Global;
+
+/// Whether a word names a fresh inventory in memory.
+pub fn is_in_memory(db: &str) -> bool
+    ensures { IsTrue result ↔ (db.now ≡ codes ":memory:") }
+{
+    db == ":memory:"
+}
+
+/// Opens a fresh inventory in memory, which ends with the program.
+pub fn open_in_memory(alloc: Global) -> Result<Desk<Plain>, ProgramFault>
+    ensures fresh { IfOk result (λ desk. (desk.image ≡ nothing) × (desk.must_reopen ≡ false)) }
+    ensures limits { IfOk result (λ desk. (desk.limits.routes ≡ most_routes) × (desk.limits.assets ≡ most_assets) × (desk.limits.edits ≡ most_edits)) }
+    ensures memory { IfErr result (λ e. e ≡ ProgramFault.Memory) }
+{
+    match Desk::open(Plain::empty(alloc), Limits::full(), alloc) {
+        Ok(desk) => Ok(desk),
+        Err(_) => Err(ProgramFault::Memory),
+    }
+}
+
+/// Why the program stops where no keeper is there.
+pub fn load_fault(fault: LoadFault) -> ProgramFault
+    ensures { result ≡ fault_of_load fault }
+{
+    match fault {
+        LoadFault::Memory => ProgramFault::Memory,
+        LoadFault::Store => ProgramFault::Open,
+        LoadFault::Unsound(table) => ProgramFault::Unsound(table),
+    }
+}
+
+// Why the program stops where no desk is opened.
+fn open_fault(fault: OpenFault) -> ProgramFault
+    ensures { result ≡ fault_of_open fault }
+{
+    match fault {
+        OpenFault::Memory => ProgramFault::Memory,
+        OpenFault::Keep => ProgramFault::Open,
+        OpenFault::Unsound(table) => ProgramFault::Unsound(table),
+    }
+}
+
+/// Opens a desk with full limits over a keeper. It acts on what an opening of the keeper may find, and on nothing else.
+///
+/// # Errors
+/// `Unsound` with the first unsound table of what is kept, `Open` if the keeper fails, and `Memory` if memory runs out.
+pub fn open_desk<K: Keeper + Drop>(keeper: K, alloc: Global) -> Result<Desk<K>, ProgramFault>
+    ensures kept { IfOk result (λ desk. HoldsOnly (K.may_hold desk.keeper) desk.image) }
+    ensures open { IfOk result (λ desk. desk.must_reopen ≡ false) }
+    ensures limits { IfOk result (λ desk. (desk.limits.routes ≡ most_routes) × (desk.limits.assets ≡ most_assets) × (desk.limits.edits ≡ most_edits)) }
+    ensures fault { IfErr result (HasNoDesk K.failures K.may_hold keeper) }
+{
+    match Desk::open(keeper, Limits::full(), alloc) {
+        Ok(desk) => Ok(desk),
+        Err((fault, _)) => Err(open_fault(fault)),
+    }
+}

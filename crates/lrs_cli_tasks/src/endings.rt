@@ -1,0 +1,52 @@
+//! How the program ends, and what it says of it.
+
+ghost use Rattle.std.specs.Prelude.{◌≡◌};
+ghost use Rattle.lrs_cli_tasks.specs.Endings.{status_of};
+
+use crate::fault::ProgramFault;
+use lrs_answers::AskCause;
+use lrs_cli_words::BadWord;
+use std::fmt;
+
+/// How the program ends.
+#[derive(Clone, Copy, Debug, PartialEq, Eq)]
+pub enum Ending {
+    Done,
+    /// A record of a sheet was refused, as its reply line says.
+    RecordsRefused,
+    QuestionRefused(AskCause),
+    /// A word is not what it should be.
+    Unreadable(BadWord),
+    /// The words are not understood. What is wrong with them was said where that was seen.
+    Misused,
+    Stopped(ProgramFault),
+}
+
+/// The status with which the program ends.
+pub fn status(ending: Ending) -> u8
+    ensures { result ≡ status_of ending }
+{
+    match ending {
+        Ending::Done => 0,
+        Ending::RecordsRefused | Ending::QuestionRefused(_) => 1,
+        Ending::Unreadable(_) | Ending::Misused => 2,
+        Ending::Stopped(_) => 3,
+    }
+}
+
+/// What is said of it on standard error: a line, or nothing.
+impl fmt::Display for Ending {
+    ghost use Rattle.std.specs.Prelude.{Some};
+    ghost use Rattle.lrs_cli_tasks.specs.Endings.{last_words};
+
+    ghost output = { λ ending. Some (last_words ending) };
+
+    fn fmt<W: fmt::Write>(&self, f: &mut fmt::Formatter<W>) -> fmt::Result {
+        match self {
+            Ending::Done | Ending::RecordsRefused | Ending::Misused => Ok(()),
+            Ending::QuestionRefused(cause) => writeln!(f, "roadlrs: {cause}"),
+            Ending::Unreadable(word) => writeln!(f, "error: {word}"),
+            Ending::Stopped(fault) => writeln!(f, "roadlrs: fault {fault}"),
+        }
+    }
+}

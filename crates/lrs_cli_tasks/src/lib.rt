@@ -1,0 +1,18 @@
+//! What the program does with an inventory for a job, whatever keeps the inventory, and how it ends.
+#![tactic(auto)]
+
+mod desk;
+mod endings;
+mod fault;
+mod progress;
+mod questions;
+mod sheets;
+mod task;
+
+pub use desk::{is_in_memory, load_fault, open_desk, open_in_memory};
+pub use endings::{Ending, status};
+pub use fault::ProgramFault;
+pub use progress::Shown;
+pub use questions::{answer, do_question};
+pub use sheets::{Pace, do_sheet};
+pub use task::{Task, inventory_of, task_of};

@@ -1,0 +1,163 @@
+-- Where `clap` finds no fault with the words, they name a job, and each of its words is there.
+use Rattle.std.proofs.Common.{◌≡◌, ◌∙◌, ◌++◌, ◌||◌, ℕ, Bool, true, false, true≢false, not, cond, List, [], ◌∷◌, Option, Some, None, is_some, map, option_map, refl, sym, ap, subst, codes}
+use Rattle.std.specs.List.{find, list_any}
+use Rattle.std.specs.Option.{option_map_or}
+use Rattle.std.specs.Str.{bytes_eq}
+use Rattle.std.proofs.lemmas.Slice.Eq.{bytes_eq-Decides}
+use Rattle.clap.specs.Walk.{Row, Rule, Text, answers_to, arg_by_long, arg_by_short, finished, has_long, has_short, nothing_held, walk, walk_from}
+use Rattle.clap.specs.Takes.{is_given}
+use Rattle.clap.specs.Faults.{is_simple_and_free, check_fault, defaults_fault, entered_fault, fault_of, level_fault, settle_fault, walk_fault}
+use Rattle.clap.specs.Simple.{App, HasMatchesOf, Shape, built, built_leaf, is_simple, subcommand_rows_of, entered, filled, help_rule, help_shape, inherited, label_of, marked_built, names_of, rows_at, subcommand_of, with_leaf_noted}
+use Rattle.clap.specs.declared.ArgMatches.{ArgMatches}
+use Rattle.clap.specs.declared.error.ErrorKind.TheVariants as kind
+use Rattle.lrs_cli_words.specs.declared.job.JobName.{JobName}
+use Rattle.lrs_cli_words.specs.declared.job.JobName.TheVariants as job
+use Rattle.lrs_cli_words.specs.Words.{AreGiven, HasJobWords, jobs, line_of_job, line_of_program, rules_of}
+use Rattle.lrs_cli_words.proofs.JobNames.{first_none, names_help, no_kinds, second_none, walk_stops}
+use Rattle.lrs_cli_words.proofs.JobValues.{Filled, HasFlag, flag_if, given_first, rows-filled}
+
+abbrev program : App
+program = built line_of_program
+
+-- the line of a job, and that of the help on jobs, as they are built
+abbrev shape_at : JobName → Shape
+shape_at j = built_leaf (inherited (with_leaf_noted (marked_built line_of_program.top)) (line_of_job j))
+
+abbrev help_at : Shape
+help_at = built_leaf help_shape
+
+-- ---- each line has one flag, which asks for help
+
+abbrev help_flag : Rule
+help_flag = filled help_rule
+
+flag_in : (c : List Rule) → ((name : Text) → arg_by_long c name ≡ flag_if help_flag (has_long help_flag name))
+    → ((x : ℕ) → arg_by_short c x ≡ flag_if help_flag (has_short help_flag x)) → HasFlag c
+flag_in c long short = record {
+  flag = help_flag;
+  is = record { takes_none = refl; leaves = λ rows. refl };
+  is_long = λ name. has_long help_flag name;
+  long = long;
+  is_short = λ x. has_short help_flag x;
+  short = short;
+}
+
+has_flag : (j : JobName) → HasFlag (shape_at j).rules
+has_flag job.Edit = flag_in _ (λ name. refl) (λ x. refl)
+has_flag job.Survey = flag_in _ (λ name. refl) (λ x. refl)
+has_flag job.At = flag_in _ (λ name. refl) (λ x. refl)
+has_flag job.Translate = flag_in _ (λ name. refl) (λ x. refl)
+has_flag job.Strip = flag_in _ (λ name. refl) (λ x. refl)
+has_flag job.Totals = flag_in _ (λ name. refl) (λ x. refl)
+has_flag job.Find = flag_in _ (λ name. refl) (λ x. refl)
+has_flag job.Serve = flag_in _ (λ name. refl) (λ x. refl)
+
+-- ---- no word is missing
+
+given_of : (d b : Bool) → (not d || b) ≡ false → d ≡ true
+given_of true b e = refl
+given_of false b e = absurd (true≢false e)
+
+others_of : (d b : Bool) → (not d || b) ≡ false → b ≡ false
+others_of true b e = e
+others_of false b e = absurd (true≢false e)
+
+missing_none : (b : Bool) → cond b (kind.MissingRequiredArgument ∷ []) [] ≡ [] → b ≡ false
+missing_none false e = refl
+missing_none true e = no_kinds kind.MissingRequiredArgument [] e
+
+all_given : (rs : List Rule) (rows : List Row) → Filled rows → list_any (λ r. not (is_given r.id rows)) rs ≡ false → AreGiven rs rows
+all_given [] rows f e = tt
+all_given (r ∷ rs) rows f e =
+    let b = list_any (λ r. not (is_given r.id rows)) rs in
+    (given_first r.id rows f (given_of (is_given r.id rows) b e), all_given rs rows f (others_of (is_given r.id rows) b e))
+
+none_missing : (j : JobName) (rows : List Row) → check_fault (shape_at j) rows false ≡ [] → list_any (λ r. not (is_given r.id rows)) (rules_of j) ≡ false
+none_missing job.Edit rows e = missing_none _ e
+none_missing job.Survey rows e = missing_none _ e
+none_missing job.At rows e = missing_none _ e
+none_missing job.Translate rows e = missing_none _ e
+none_missing job.Strip rows e = missing_none _ e
+none_missing job.Totals rows e = missing_none _ e
+none_missing job.Find rows e = missing_none _ e
+none_missing job.Serve rows e = missing_none _ e
+
+job_words : (j : JobName) (words : List Text) → level_fault (shape_at j) [] nothing_held words false [] ≡ [] → HasJobWords (Some (rows_at (shape_at j) words))
+job_words j words e =
+    let s = shape_at j in
+    let end = (walk s.rules [] nothing_held words).held in
+    let rows = finished s.rules end in
+    let after_walk = second_none (walk_fault s [] (walk_from nothing_held) words) _ e in
+    let after_settling = second_none (settle_fault s.rules s.args_override_self end) _ after_walk in
+    let checked : check_fault s rows false ≡ [] = second_none (defaults_fault _ s.rules) _ after_settling in
+    let filled = rows-filled s.rules [] (walk_from nothing_held) words (has_flag j) (record { rows = refl; pending = refl }) in
+    (j, refl, all_given (rules_of j) rows filled (none_missing j rows checked))
+
+-- ---- a line is met
+
+-- the line that was met, if one was, has no fault
+abbrev NoFaultBelow : Option Shape → List Text → Type 0
+NoFaultBelow met words = option_map_or (λ s. level_fault s [] nothing_held words false []) met [] ≡ []
+
+-- nor has the line of the program
+abbrev NoFaultAbove : Option Shape → List Text → List Row → Type 0
+NoFaultAbove met words rows = check_fault program.top rows (is_some (option_map (λ s. rows_at s words) met)) ≡ []
+
+abbrev Meets : Option Shape → List Text → Type 0
+Meets met words = HasJobWords (option_map (λ s. rows_at s words) met)
+
+pick_one : (b : Bool) (j : JobName) (others : Option Shape) (words : List Text) (rows : List Row)
+    → NoFaultBelow (cond b (Some (shape_at j)) others) words → NoFaultAbove (cond b (Some (shape_at j)) others) words rows
+    → (NoFaultBelow others words → NoFaultAbove others words rows → Meets others words) → Meets (cond b (Some (shape_at j)) others) words
+pick_one true j others words rows below above go = job_words j words below
+pick_one false j others words rows below above go = go below above
+
+pick_help : (b : Bool) (words : List Text) (rows : List Row) → (b ≡ true → ⊥) → NoFaultAbove (cond b (Some help_at) None) words rows → Meets (cond b (Some help_at) None) words
+pick_help true words rows other above = absurd (other refl)
+pick_help false words rows other above = no_kinds kind.MissingSubcommand [] above
+
+abbrev met_among : Text → List JobName → Option Shape
+met_among name js = find (λ s. answers_to name (label_of s)) (map shape_at js ++ help_at ∷ [])
+
+pick : (js : List JobName) (name : Text) (words : List Text) (rows : List Row) → (answers_to name (label_of help_at) ≡ true → ⊥)
+    → NoFaultBelow (met_among name js) words → NoFaultAbove (met_among name js) words rows → Meets (met_among name js) words
+pick [] name words rows other below above = pick_help (answers_to name (label_of help_at)) words rows other above
+pick (j ∷ js) name words rows other below above =
+    pick_one (answers_to name (label_of (shape_at j))) j (met_among name js) words rows below above (pick js name words rows other)
+
+or_false : (b : Bool) → (b || false) ≡ true → b ≡ true
+or_false true e = e
+or_false false e = e
+
+help_met : (name : Text) → (bytes_eq (codes "help") name || false) ≡ true → bytes_eq name (codes "help") ≡ true
+help_met name h = (bytes_eq-Decides name (codes "help")).1 (sym ((bytes_eq-Decides (codes "help") name).0 (or_false (bytes_eq (codes "help") name) h)))
+
+at_stop : (stop : Option (Text × List Text)) (rows : List Row) → names_help stop ≡ false → entered_fault program stop ≡ []
+    → check_fault program.top rows (is_some (entered program stop)) ≡ [] → HasJobWords (entered program stop)
+at_stop None rows other below checked = no_kinds kind.MissingSubcommand [] checked
+at_stop (Some p) rows other below checked = pick jobs p.0 p.1 rows (λ h. true≢false (sym (help_met p.0 h) ∙ other)) below checked
+
+pub has_job_words : (words : List Text) → fault_of line_of_program words ≡ [] → HasJobWords (subcommand_of line_of_program words)
+has_job_words words none =
+    let w = walk program.top.rules (names_of program) nothing_held words in
+    let after_walk = second_none (walk_fault program.top (names_of program) (walk_from nothing_held) words) _ none in
+    let below = first_none (entered_fault program w.stopped) _ after_walk in
+    let after_job = second_none (entered_fault program w.stopped) _ after_walk in
+    let after_settling = second_none (settle_fault program.top.rules program.top.args_override_self w.held) _ after_job in
+    let checked = second_none (defaults_fault _ program.top.rules) _ after_settling in
+    let other = walk_stops program.top (names_of program) (walk_from nothing_held) words refl
+    (first_none (walk_fault program.top (names_of program) (walk_from nothing_held) words) _ none) refl in
+    at_stop w.stopped (finished program.top.rules w.held) other below checked
+
+-- the matches of a parse are those of the line of the program
+pub met_rows : (a : App) (words : List Text) (m : ArgMatches) → a ≡ line_of_program → HasMatchesOf a words m → subcommand_rows_of m ≡ subcommand_of line_of_program words
+met_rows a words m same found =
+    let simple : is_simple a ≡ true = ap is_simple same ∙ refl in
+    (found simple).1 ∙ ap (λ (x : App). subcommand_of x words) same
+
+-- the matches of a parse that succeeded have a job's words
+pub met_words : (a : App) (words : List Text) (m : ArgMatches) → a ≡ line_of_program → (is_simple_and_free a ≡ true → fault_of a words ≡ []) → HasMatchesOf a words m
+    → HasJobWords (subcommand_rows_of m)
+met_words a words m same none found =
+    let free : is_simple_and_free a ≡ true = ap is_simple_and_free same ∙ refl in
+    subst HasJobWords (sym (met_rows a words m same found)) (has_job_words words (sym (ap (λ (x : App). fault_of x words) same) ∙ none free))

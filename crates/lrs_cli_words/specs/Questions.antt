@@ -1,0 +1,125 @@
+-- What a job's words ask of an inventory, and which of them cannot be read.
+use Rattle.std.specs.Prelude.{◌≡◌, ◌⊎◌, ⊤, ℕ, ◌≤◌, IsTrue, IsSomeAnd, List, map, codes, slice_get}
+use Rattle.std.specs.Str.Parse.{IsNumeral, digits_value}
+use Rattle.clap.specs.Words.{Text}
+use Rattle.lrs_measure.specs.Texts.{Name}
+use Rattle.lrs_position.specs.declared.expression.Expr.{Expr}
+use Rattle.lrs_position.specs.declared.expression.Method.{Method}
+use Rattle.lrs_position.specs.Names.{is_route_name}
+use Rattle.lrs_position.specs.Readings.{IsNamed, States, method_text, target_text}
+use Rattle.lrs_events.specs.declared.side.Side.{Side}
+use Rattle.lrs_events.specs.Names.{is_class_name, side_text}
+use Rattle.lrs_cli_words.specs.declared.job.Job.{Job}
+use Rattle.lrs_cli_words.specs.declared.job.Job.TheVariants as job
+use Rattle.lrs_cli_words.specs.declared.question.BadWord.{BadWord}
+use Rattle.lrs_cli_words.specs.declared.question.BadWord.TheVariants as word
+use Rattle.lrs_cli_words.specs.declared.question.Destination.{Destination}
+use Rattle.lrs_cli_words.specs.declared.question.Destination.TheVariants as destination
+use Rattle.lrs_cli_words.specs.declared.question.Question.{Question}
+use Rattle.lrs_cli_words.specs.declared.question.Question.TheVariants as question
+use Rattle.lrs_cli_words.specs.declared.question.Service.{Service}
+use Rattle.lrs_cli_words.specs.declared.question.QuestionFault.{QuestionFault}
+use Rattle.lrs_cli_words.specs.declared.question.QuestionFault.TheVariants.{Unreadable, Memory}
+
+-- ---- what a text says
+
+abbrev pub SaysRoute : Text → Name → Type 0
+SaysRoute text route = (route ≡ text) × IsTrue (is_route_name text)
+
+abbrev pub SaysMethod : Text → Method → Type 0
+SaysMethod text m = text ≡ method_text m
+
+-- a position by the method that the first text names
+abbrev pub SaysPosition : Text → Text → Expr → Type 0
+SaysPosition method text e = (m : Method) × SaysMethod method m × States m text e
+
+-- a method and what it needs, or `link`
+abbrev pub SaysDestination : Text → Destination → Type 0
+SaysDestination text (destination.Method t) = (text ≡ target_text t) × IsNamed t
+SaysDestination text destination.Link = text ≡ codes "link"
+
+abbrev pub SaysSide : Text → Side → Type 0
+SaysSide text side = text ≡ side_text side
+
+abbrev pub SaysClass : Text → Name → Type 0
+SaysClass text class = (class ≡ text) × IsTrue (is_class_name text)
+
+-- digits of a number between these bounds
+pub record SaysNumber (least greatest : ℕ) (text : Text) (number : ℕ) : Type 0 where
+  pub digits : IsNumeral 10 text
+  pub value : number ≡ digits_value 10 text
+  pub above : least ≤ number
+  pub below : number ≤ greatest
+
+abbrev pub SaysAsset : Text → ℕ → Type 0
+SaysAsset = SaysNumber 1 1_000_000_000_000
+
+abbrev pub SaysPort : Text → ℕ → Type 0
+SaysPort = SaysNumber 1 65_535
+
+-- how many connections
+abbrev pub SaysMost : Text → ℕ → Type 0
+SaysMost = SaysNumber 0 1_000_000
+
+-- the port and how many connections, as these words say
+abbrev pub SaysService : Text → Text → Service → Type 0
+SaysService port max service = SaysPort port service.port × SaysMost max service.max
+
+-- ---- questions
+
+-- the job asks nothing: it does a sheet, or serves
+abbrev pub AsksNothing : Job → Type 0
+AsksNothing (job.Edit db sheet) = ⊤
+AsksNothing (job.Survey db sheet) = ⊤
+AsksNothing (job.Serve db port max) = ⊤
+AsksNothing _ = ⊥
+
+-- the question is what the job's words say
+abbrev pub Asks : Job → Question → Type 0
+Asks (job.At db route method position) (question.At r e) = SaysRoute route.now r × SaysPosition method.now position.now e
+Asks (job.Translate db route method position to) (question.Translate r e d) = SaysRoute route.now r × SaysPosition method.now position.now e × SaysDestination to.now d
+Asks (job.Strip db route side classes) (question.Strip r s names) = SaysRoute route.now r × SaysSide side.now s × (names ≡ map (λ w. w.now) classes.items)
+Asks (job.Totals db) question.Totals = ⊤
+Asks (job.Find db asset) (question.Find n) = SaysAsset asset.now n
+Asks _ q = ⊥
+
+-- ---- words that cannot be read
+
+-- the fault is this word, which says nothing of its kind
+abbrev pub Cannot : {A : Type 0} → BadWord → (A → Type 0) → QuestionFault → Type 0
+Cannot {A} w Says fault = (fault ≡ Unreadable w) × ((x : A) → Says x → ⊥)
+
+-- the method, or the position by it
+abbrev pub CannotPosition : Text → Text → QuestionFault → Type 0
+CannotPosition method text fault = Cannot word.Method (SaysMethod method) fault ⊎ ((m : Method) × SaysMethod method m × Cannot word.Position (States m text) fault)
+
+-- one of the classes
+abbrev pub CannotClass : List Text → QuestionFault → Type 0
+CannotClass texts fault = (i : ℕ) × IsSomeAnd (slice_get texts i) (λ text. Cannot word.Class (SaysClass text) fault)
+
+-- the port, or how many connections
+abbrev pub CannotServe : Text → Text → QuestionFault → Type 0
+CannotServe port max fault = Cannot word.Port (SaysPort port) fault ⊎ Cannot word.Max (SaysMost max) fault
+
+-- the fault is a word of the job that cannot be read, or want of memory for the classes
+abbrev pub IsFaultOf : Job → QuestionFault → Type 0
+IsFaultOf (job.At db route method position) fault = Cannot word.Route (SaysRoute route.now) fault ⊎ CannotPosition method.now position.now fault
+IsFaultOf (job.Translate db route method position to) fault =
+    Cannot word.Route (SaysRoute route.now) fault ⊎ CannotPosition method.now position.now fault ⊎ Cannot word.Destination (SaysDestination to.now) fault
+IsFaultOf (job.Strip db route side classes) fault =
+    Cannot word.Route (SaysRoute route.now) fault ⊎ Cannot word.Side (SaysSide side.now) fault ⊎ (fault ≡ Memory) ⊎ CannotClass (map (λ w. w.now) classes.items) fault
+IsFaultOf (job.Find db asset) fault = Cannot word.Asset (SaysAsset asset.now) fault
+IsFaultOf (job.Serve db port max) fault = CannotServe port.now max.now fault
+IsFaultOf _ fault = ⊥
+
+-- what a word is not
+abbrev pub bad_word_text : BadWord → Text
+bad_word_text word.Route = codes "ROUTE is no route name"
+bad_word_text word.Method = codes "METHOD is none of abs, rel and int"
+bad_word_text word.Position = codes "POS is no position by this method"
+bad_word_text word.Destination = codes "TO is none of abs, int, rel:NAME and link"
+bad_word_text word.Side = codes "SIDE is none of L, R and B"
+bad_word_text word.Class = codes "CLASS is no class name"
+bad_word_text word.Asset = codes "ASSET is no asset number"
+bad_word_text word.Port = codes "PORT is no port number"
+bad_word_text word.Max = codes "MAX is no number of connections"

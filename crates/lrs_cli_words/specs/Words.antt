@@ -1,0 +1,132 @@
+-- The words of the program: its command line as `clap` reads it, and what a job says of the words.
+use Rattle.std.specs.Prelude.{◌≡◌, ◌≢◌, ⊤, List, [], ◌∷◌, Option, Some, codes, map, fold, true, is_some, IsSomeAnd}
+use Rattle.clap.specs.Lexer.{usize_max}
+use Rattle.clap.specs.Words.{App, IsAmong, Row, Rule, Shape, Text, all_of, fault_of, first_of, new_app, new_rule, subcommand_of, with_subcommand}
+use Rattle.clap.specs.Simple.{new_shape}
+use Rattle.clap.specs.declared.error.ErrorKind.{ErrorKind}
+use Rattle.clap.specs.declared.error.ErrorKind.TheVariants as kind
+use Rattle.lrs_cli_words.specs.declared.job.JobName.{JobName}
+use Rattle.lrs_cli_words.specs.declared.job.JobName.TheVariants as job
+use Rattle.lrs_cli_words.specs.declared.job.Job.{Job}
+use Rattle.lrs_cli_words.specs.declared.job.Job.TheVariants.{Edit, Survey, At, Translate, Strip, Totals, Find, Serve}
+
+-- ---- the command line
+
+-- a word that has to be there
+abbrev pub required : Text → Rule
+required id = record (new_rule id) { required = true }
+
+-- the same, and more of its kind may follow it
+abbrev pub several : Text → Rule
+several id = record (required id) { range = Some (record { start_inclusive = 1; end_inclusive = usize_max }) }
+
+abbrev pub name_text : JobName → Text
+name_text job.Edit = codes "edit"
+name_text job.Survey = codes "survey"
+name_text job.At = codes "at"
+name_text job.Translate = codes "translate"
+name_text job.Strip = codes "strip"
+name_text job.Totals = codes "totals"
+name_text job.Find = codes "find"
+name_text job.Serve = codes "serve"
+
+-- what the words of a job are called, in their order
+abbrev pub rules_of : JobName → List Rule
+rules_of job.Edit = required (codes "DB") ∷ required (codes "SHEET") ∷ []
+rules_of job.Survey = required (codes "DB") ∷ required (codes "SHEET") ∷ []
+rules_of job.At = required (codes "DB") ∷ required (codes "ROUTE") ∷ required (codes "METHOD") ∷ required (codes "POS") ∷ []
+rules_of job.Translate = required (codes "DB") ∷ required (codes "ROUTE") ∷ required (codes "METHOD") ∷ required (codes "POS") ∷ required (codes "TO") ∷ []
+rules_of job.Strip = required (codes "DB") ∷ required (codes "ROUTE") ∷ required (codes "SIDE") ∷ several (codes "CLASS") ∷ []
+rules_of job.Totals = required (codes "DB") ∷ []
+rules_of job.Find = required (codes "DB") ∷ required (codes "ASSET") ∷ []
+rules_of job.Serve = required (codes "DB") ∷ required (codes "PORT") ∷ required (codes "MAX") ∷ []
+
+-- the line of a job: its name and its words
+abbrev pub line_of_job : JobName → Shape
+line_of_job j = record (new_shape (name_text j)) { rules = rules_of j }
+
+abbrev pub app_of_job : JobName → App
+app_of_job j = record { top = line_of_job j; subs = [] }
+
+-- a line that may go on as that of a job
+abbrev pub with_job : App → JobName → App
+with_job a j = with_subcommand a (line_of_job j)
+
+-- all jobs
+abbrev pub jobs : List JobName
+jobs = job.Edit ∷ job.Survey ∷ job.At ∷ job.Translate ∷ job.Strip ∷ job.Totals ∷ job.Find ∷ job.Serve ∷ []
+
+abbrev pub bare_line : App
+bare_line = record (new_app (codes "roadlrs")) {
+  top = record (new_shape (codes "roadlrs")) { no_binary_name = true; subcommand_required = true; has_version = true };
+}
+
+-- `roadlrs`, followed by one of its jobs
+abbrev pub line_of_program : App
+line_of_program = fold with_job bare_line jobs
+
+-- ---- jobs
+
+abbrev pub job_name : Job → JobName
+job_name (Edit db sheet) = job.Edit
+job_name (Survey db sheet) = job.Survey
+job_name (At db route method position) = job.At
+job_name (Translate db route method position to) = job.Translate
+job_name (Strip db route side classes) = job.Strip
+job_name (Totals db) = job.Totals
+job_name (Find db asset) = job.Find
+job_name (Serve db port max) = job.Serve
+
+-- its words that come once, each with what it is called
+abbrev pub words_of : Job → List (Text × Text)
+words_of (Edit db sheet) = (codes "DB", db.now) ∷ (codes "SHEET", sheet.now) ∷ []
+words_of (Survey db sheet) = (codes "DB", db.now) ∷ (codes "SHEET", sheet.now) ∷ []
+words_of (At db route method position) = (codes "DB", db.now) ∷ (codes "ROUTE", route.now) ∷ (codes "METHOD", method.now) ∷ (codes "POS", position.now) ∷ []
+words_of (Translate db route method position to) =
+    (codes "DB", db.now) ∷ (codes "ROUTE", route.now) ∷ (codes "METHOD", method.now) ∷ (codes "POS", position.now) ∷ (codes "TO", to.now) ∷ []
+words_of (Strip db route side classes) = (codes "DB", db.now) ∷ (codes "ROUTE", route.now) ∷ (codes "SIDE", side.now) ∷ []
+words_of (Totals db) = (codes "DB", db.now) ∷ []
+words_of (Find db asset) = (codes "DB", db.now) ∷ (codes "ASSET", asset.now) ∷ []
+words_of (Serve db port max) = (codes "DB", db.now) ∷ (codes "PORT", port.now) ∷ (codes "MAX", max.now) ∷ []
+
+-- the classes of a strip are all the words of their place
+abbrev pub HasClasses : Job → List Row → Type 0
+HasClasses (Strip db route side classes) rows = all_of (codes "CLASS") rows ≡ Some (map (λ w. w.now) classes.items)
+HasClasses _ rows = ⊤
+
+-- its words stand in their places
+abbrev pub HasWords : Job → List Row → Type 0
+HasWords j rows = (map (λ w. first_of w.0 rows) (words_of j) ≡ map (λ w. Some w.1) (words_of j)) × HasClasses j rows
+
+-- the job that was met has this name and these rows
+abbrev pub IsMet : Job → Option (Text × List Row) → Type 0
+IsMet j met = IsSomeAnd met (λ m. (m.0 ≡ name_text (job_name j)) × HasWords j m.1)
+
+-- the words, read by `clap`, are those of this job
+abbrev pub IsJobOf : List Text → Job → Type 0
+IsJobOf words j = IsMet j (subcommand_of line_of_program words)
+
+-- ---- words that are no job
+
+-- the words ask for help
+abbrev pub AsksForHelp : List Text → Type 0
+AsksForHelp words = IsAmong kind.DisplayHelp (fault_of line_of_program words)
+
+-- the words ask for the version
+abbrev pub AsksForVersion : List Text → Type 0
+AsksForVersion words = IsAmong kind.DisplayVersion (fault_of line_of_program words)
+
+-- `clap` has another fault to find with the words
+abbrev pub IsMisused : List Text → Type 0
+IsMisused words = (k : ErrorKind) × (k ≢ kind.DisplayHelp) × (k ≢ kind.DisplayVersion) × IsAmong k (fault_of line_of_program words)
+
+-- ---- what is there
+
+-- each of these words was given
+abbrev pub AreGiven : List Rule → List Row → Type 0
+AreGiven [] rows = ⊤
+AreGiven (r ∷ rs) rows = (is_some (first_of r.id rows) ≡ true) × AreGiven rs rows
+
+-- a job was met, and each of its words was given
+abbrev pub HasJobWords : Option (Text × List Row) → Type 0
+HasJobWords met = IsSomeAnd met (λ m. (j : JobName) × (m.0 ≡ name_text j) × AreGiven (rules_of j) m.1)

@@ -1,0 +1,88 @@
+//! What the program can be asked for.
+
+ghost use Rattle.std.specs.Prelude.{◌≡◌, Some, IfSome};
+ghost use Rattle.lrs_cli_words.specs.declared.job.JobName.{JobName as DeclaredName};
+ghost use Rattle.lrs_cli_words.specs.Words.{name_text};
+
+/// What the program can be asked for.
+#[derive(Clone, Copy, Debug, PartialEq, Eq)]
+pub enum JobName {
+    Edit,
+    Survey,
+    At,
+    Translate,
+    Strip,
+    Totals,
+    Find,
+    Serve,
+}
+
+/// A job, with its words as they were given. `db` is the inventory.
+#[derive(Debug, Drop)]
+pub enum Job<'a> {
+    /// Does the edit sheet `sheet`.
+    Edit {
+        db: &'a str,
+        sheet: &'a str,
+    },
+    /// Does the survey `sheet`.
+    Survey {
+        db: &'a str,
+        sheet: &'a str,
+    },
+    /// Says who holds a millimetre of a route.
+    At {
+        db: &'a str,
+        route: &'a str,
+        method: &'a str,
+        position: &'a str,
+    },
+    /// Says a position on a route by another method, or on a link.
+    Translate {
+        db: &'a str,
+        route: &'a str,
+        method: &'a str,
+        position: &'a str,
+        to: &'a str,
+    },
+    /// Shows the segments of a route by classes.
+    Strip {
+        db: &'a str,
+        route: &'a str,
+        side: &'a str,
+        classes: Vec<&'a str>,
+    },
+    /// Counts side millimetres by class.
+    Totals {
+        db: &'a str,
+    },
+    /// Says where an asset lies.
+    Find {
+        db: &'a str,
+        asset: &'a str,
+    },
+    /// Serves `max` connections over HTTP on a port of this machine.
+    Serve {
+        db: &'a str,
+        port: &'a str,
+        max: &'a str,
+    },
+}
+
+/// The job of this name.
+pub(crate) fn read_job(name: &str) -> Option<JobName>
+    ensures read { IfSome result (λ job. name.now ≡ name_text job) }
+    ensures found { (job : DeclaredName) → name.now ≡ name_text job → result ≡ Some job }
+{
+    match name {
+        "edit" => Some(JobName::Edit),
+        "survey" => Some(JobName::Survey),
+        "at" => Some(JobName::At),
+        "translate" => Some(JobName::Translate),
+        "strip" => Some(JobName::Strip),
+        "totals" => Some(JobName::Totals),
+        "find" => Some(JobName::Find),
+        "serve" => Some(JobName::Serve),
+        _ => None,
+    }
+}

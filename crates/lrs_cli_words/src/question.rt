@@ -1,0 +1,309 @@
+//! Which question a job asks: each word, read by the reader of its text.
+
+ghost use Rattle.std.specs.Prelude.{◌≡◌, ◌⊎◌, IfOk, IfErr, IfNone, IfSome, map};
+ghost use Rattle.lrs_position.specs.Readings.{States};
+ghost use Rattle.lrs_cli_words.specs.Questions.{Asks, AsksNothing, Cannot, CannotClass, CannotPosition, CannotServe, IsFaultOf, SaysAsset, SaysClass, SaysDestination, SaysMethod, SaysMost, SaysNumber, SaysPort, SaysPosition, SaysRoute, SaysService, SaysSide};
+
+use crate::job::Job;
+use lrs_events::{ClassName, Side, read_side};
+use lrs_measure::{Rows, read_digits};
+use lrs_position::{Expr, Method, RouteName, Target, read_expr, read_method, read_target};
+use std::alloc::{AllocError, Global};
+use std::fmt;
+
+/// The greatest number of an asset.
+const GREATEST_ASSET: u64 = 1_000_000_000_000;
+
+/// The greatest port.
+const GREATEST_PORT: u64 = 65_535;
+
+/// The most connections that are served before the program ends.
+const MOST_CONNECTIONS: u64 = 1_000_000;
+
+/// How a position is to be said.
+#[derive(Clone, Copy, PartialEq, Eq)]
+pub enum Destination {
+    /// By a method, on its route.
+    Method(Target),
+    /// On the link under it.
+    Link,
+}
+
+/// What is asked of an inventory.
+#[derive(Drop)]
+pub enum Question {
+    At {
+        route: RouteName,
+        position: Expr,
+    },
+    Translate {
+        route: RouteName,
+        position: Expr,
+        to: Destination,
+    },
+    Strip {
+        route: RouteName,
+        side: Side,
+        classes: Rows<ClassName>,
+    },
+    Totals,
+    Find {
+        asset: u64,
+    },
+}
+
+/// Where an inventory is served: a port of this machine, for so many connections.
+#[derive(Clone, Copy, Debug, PartialEq, Eq)]
+pub struct Service {
+    pub port: u16,
+    pub max: u32,
+}
+
+/// A word that cannot be read.
+#[derive(Clone, Copy, Debug, PartialEq, Eq)]
+pub enum BadWord {
+    Route,
+    Method,
+    Position,
+    Destination,
+    Side,
+    Class,
+    Asset,
+    Port,
+    Max,
+}
+
+/// What the word is not.
+impl fmt::Display for BadWord {
+    ghost use Rattle.std.specs.Prelude.{Some};
+    ghost use Rattle.lrs_cli_words.specs.Questions.{bad_word_text};
+
+    ghost output = { λ word. Some (bad_word_text word) };
+
+    fn fmt<W: fmt::Write>(&self, f: &mut fmt::Formatter<W>) -> fmt::Result {
+        match self {
+            BadWord::Route => f.write_str("ROUTE is no route name"),
+            BadWord::Method => f.write_str("METHOD is none of abs, rel and int"),
+            BadWord::Position => f.write_str("POS is no position by this method"),
+            BadWord::Destination => f.write_str("TO is none of abs, int, rel:NAME and link"),
+            BadWord::Side => f.write_str("SIDE is none of L, R and B"),
+            BadWord::Class => f.write_str("CLASS is no class name"),
+            BadWord::Asset => f.write_str("ASSET is no asset number"),
+            BadWord::Port => f.write_str("PORT is no port number"),
+            BadWord::Max => f.write_str("MAX is no number of connections"),
+        }
+    }
+}
+
+/// Why a job's words are no question.
+#[derive(Clone, Copy, Debug, PartialEq, Eq)]
+pub enum QuestionFault {
+    Unreadable(BadWord),
+    Memory,
+}
+
+impl From<AllocError> for QuestionFault {
+    ghost use Rattle.lrs_cli_words.specs.declared.question.QuestionFault.TheVariants.{Memory};
+
+    ghost from_gives = { λ _ e. e ≡ Memory };
+
+    fn from(_: AllocError) -> Self {
+        QuestionFault::Memory
+    }
+}
+
+fn route_of(text: &str) -> Result<RouteName, QuestionFault>
+    ensures read { IfOk result (SaysRoute text.now) }
+    ensures unread { IfErr result (Cannot BadWord.Route (SaysRoute text.now)) }
+{
+    match RouteName::new(text.as_bytes()) {
+        Some(route) => Ok(route),
+        None => Err(QuestionFault::Unreadable(BadWord::Route)),
+    }
+}
+
+fn method_of(text: &str) -> Result<Method, QuestionFault>
+    ensures read { IfOk result (SaysMethod text.now) }
+    ensures unread { IfErr result (Cannot BadWord.Method (SaysMethod text.now)) }
+{
+    match read_method(text.as_bytes()) {
+        Some(method) => Ok(method),
+        None => Err(QuestionFault::Unreadable(BadWord::Method)),
+    }
+}
+
+fn position_by(method: Method, text: &str) -> Result<Expr, QuestionFault>
+    ensures read { IfOk result (States method text.now) }
+    ensures unread { IfErr result (Cannot BadWord.Position (States method text.now)) }
+{
+    match read_expr(method, text.as_bytes()) {
+        Some(position) => Ok(position),
+        None => Err(QuestionFault::Unreadable(BadWord::Position)),
+    }
+}
+
+fn position_of(method: &str, text: &str) -> Result<Expr, QuestionFault>
+    ensures read { IfOk result (SaysPosition method.now text.now) }
+    ensures unread { IfErr result (CannotPosition method.now text.now) }
+{
+    let by = method_of(method)?;
+    position_by(by, text)
+}
+
+fn destination_of(text: &str) -> Result<Destination, QuestionFault>
+    ensures read { IfOk result (SaysDestination text.now) }
+    ensures unread { IfErr result (Cannot BadWord.Destination (SaysDestination text.now)) }
+{
+    if text == "link" {
+        return Ok(Destination::Link);
+    }
+    match read_target(text.as_bytes()) {
+        Some(target) => Ok(Destination::Method(target)),
+        None => Err(QuestionFault::Unreadable(BadWord::Destination)),
+    }
+}
+
+fn side_of(text: &str) -> Result<Side, QuestionFault>
+    ensures read { IfOk result (SaysSide text.now) }
+    ensures unread { IfErr result (Cannot BadWord.Side (SaysSide text.now)) }
+{
+    match read_side(text.as_bytes()) {
+        Some(side) => Ok(side),
+        None => Err(QuestionFault::Unreadable(BadWord::Side)),
+    }
+}
+
+fn class_of(text: &str) -> Result<ClassName, QuestionFault>
+    ensures read { IfOk result (SaysClass text.now) }
+    ensures unread { IfErr result (Cannot BadWord.Class (SaysClass text.now)) }
+{
+    match ClassName::new(text.as_bytes()) {
+        Some(class) => Ok(class),
+        None => Err(QuestionFault::Unreadable(BadWord::Class)),
+    }
+}
+
+fn classes_of(alloc: Global, texts: &[&str]) -> Result<Rows<ClassName>, QuestionFault>
+    ensures read { IfOk result (λ names. names ≡ map (λ t. t.now) texts.now) }
+    ensures unread { IfErr result (λ e. (e ≡ QuestionFault.Memory) ⊎ CannotClass (map (λ t. t.now) texts.now) e) }
+{
+    let mut names = Vec::new(alloc);
+    for text in texts {
+        match class_of(text) {
+            Ok(name) => {
+                if names.push(name).is_err() {
+                    return Err(QuestionFault::Memory);
+                }
+            }
+            Err(fault) => return Err(fault),
+        }
+    }
+    Ok(Rows::from_vec(names))
+}
+
+/// The number between these bounds that a word says.
+fn number_of(text: &str, least: u64, greatest: u64, fault: BadWord) -> Result<u64, QuestionFault>
+    ensures read { IfOk result (SaysNumber least greatest text.now) }
+    ensures unread { IfErr result (Cannot fault (SaysNumber least greatest text.now)) }
+{
+    match read_digits(text.as_bytes(), greatest) {
+        Some(number) if number >= least => Ok(number),
+        _ => Err(QuestionFault::Unreadable(fault)),
+    }
+}
+
+fn asset_of(text: &str) -> Result<u64, QuestionFault>
+    ensures read { IfOk result (SaysAsset text.now) }
+    ensures unread { IfErr result (Cannot BadWord.Asset (SaysAsset text.now)) }
+{
+    number_of(text, 1, GREATEST_ASSET, BadWord::Asset)
+}
+
+fn port_of(text: &str) -> Result<u16, QuestionFault>
+    ensures read { IfOk result (SaysPort text.now) }
+    ensures unread { IfErr result (Cannot BadWord.Port (SaysPort text.now)) }
+{
+    let port = number_of(text, 1, GREATEST_PORT, BadWord::Port)?;
+    Ok(port as u16)
+}
+
+fn most_of(text: &str) -> Result<u32, QuestionFault>
+    ensures read { IfOk result (SaysMost text.now) }
+    ensures unread { IfErr result (Cannot BadWord.Max (SaysMost text.now)) }
+{
+    let max = number_of(text, 0, MOST_CONNECTIONS, BadWord::Max)?;
+    Ok(max as u32)
+}
+
+/// Where an inventory is served, as these words say.
+///
+/// # Errors
+/// The first word that cannot be read.
+pub fn service_of(port: &str, max: &str) -> Result<Service, QuestionFault>
+    ensures read { IfOk result (SaysService port.now max.now) }
+    ensures unread { IfErr result (CannotServe port.now max.now) }
+{
+    let port = port_of(port)?;
+    let max = most_of(max)?;
+    Ok(Service { port, max })
+}
+
+/// What a job asks of its inventory; none where it does a sheet, or serves.
+///
+/// # Errors
+/// The first word that cannot be read, and `Memory`.
+pub fn question_of(alloc: Global, job: &Job<'_>) -> Result<Option<Question>, QuestionFault>
+    ensures none { IfOk result (λ asked. IfNone asked (AsksNothing job.now)) }
+    ensures read { IfOk result (λ asked. IfSome asked (Asks job.now)) }
+    ensures unread { IfErr result (IsFaultOf job.now) }
+{
+    match job {
+        Job::Edit { .. } | Job::Survey { .. } | Job::Serve { .. } => Ok(None),
+        Job::At {
+            route,
+            method,
+            position,
+            ..
+        } => {
+            let route = route_of(route)?;
+            let position = position_of(method, position)?;
+            Ok(Some(Question::At { route, position }))
+        }
+        Job::Translate {
+            route,
+            method,
+            position,
+            to,
+            ..
+        } => {
+            let route = route_of(route)?;
+            let position = position_of(method, position)?;
+            let to = destination_of(to)?;
+            Ok(Some(Question::Translate {
+                route,
+                position,
+                to,
+            }))
+        }
+        Job::Strip {
+            route,
+            side,
+            classes,
+            ..
+        } => {
+            let route = route_of(route)?;
+            let side = side_of(side)?;
+            let classes = classes_of(alloc, classes.as_slice())?;
+            Ok(Some(Question::Strip {
+                route,
+                side,
+                classes,
+            }))
+        }
+        Job::Totals { .. } => Ok(Some(Question::Totals)),
+        Job::Find { asset, .. } => {
+            let asset = asset_of(asset)?;
+            Ok(Some(Question::Find { asset }))
+        }
+    }
+}

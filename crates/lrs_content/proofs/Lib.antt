@@ -1,5 +1,0 @@
-pub mod Unordered
-pub mod Sorts
-pub mod Orders
-pub mod Reading
-pub mod Stored

@@ -1,6 +1,0 @@
-pub mod Owned
-pub mod Alike
-pub mod Rewritten
-pub mod MarksBack
-pub mod Undone
-pub mod RowsBack

@@ -1,0 +1,10 @@
+mod Putting
+mod Holding
+mod Tying
+mod Loading
+mod ClassPlaces
+mod Finding
+mod SearchFree
+mod Behind
+mod Gathering
+pub mod GoneOn

@@ -1,0 +1,19 @@
+//! What assets hold on one route: the canonical rows of a set of (class, asset, millimetre, side), found by search
+//! (ISO 19148, linearly located events).
+//! The rows of a route of which a stretch is replaced by other ground.
+#![tactic(auto)]
+
+mod class_places;
+mod edits;
+mod lanes;
+mod open_spans;
+mod overlaps;
+mod plans;
+mod queries;
+pub mod realignment;
+mod search;
+mod spans;
+
+pub use lanes::ClassLanes;
+pub use open_spans::OpenSpans;
+pub use spans::Spans;

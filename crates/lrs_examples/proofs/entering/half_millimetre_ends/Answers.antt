@@ -1,8 +1,0 @@
-use Rattle.std.proofs.Common.{refl}
-use Rattle.std.specs.Fmt.{digits}
-use Rattle.lrs_machine.specs.Machine.{step, attempt}
-use Rattle.lrs_examples.proofs.entering.half_millimetre_ends.Goals as goal
-
-pub returns : goal.returns
-unfolding digits step attempt
-returns c = (refl, refl, refl, refl)

@@ -1,0 +1,8 @@
+use Rattle.std.proofs.Common.{refl}
+use Rattle.std.specs.Fmt.{digits}
+use Rattle.lrs_machine.specs.Machine.{step, attempt}
+use Rattle.lrs_examples.proofs.retirements.superseded_on_one_side.Goals as goal
+
+pub returns : goal.returns
+unfolding digits step attempt
+returns c = (refl, refl, refl, refl)

@@ -1,4 +1,0 @@
-pub mod Appended
-pub mod Once
-pub mod GoneInOrder
-pub mod GoneParts

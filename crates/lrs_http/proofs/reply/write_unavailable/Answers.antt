@@ -1,7 +1,0 @@
-use Rattle.std.specs.Fmt.{digits}
-use Rattle.lrs_http.specs.Text.{head_text}
-use Rattle.lrs_http.proofs.reply.write_unavailable.Goals as goal
-
-pub returns : goal.returns
-unfolding head_text digits
-returns g c = c.write_all.ensures.bytes

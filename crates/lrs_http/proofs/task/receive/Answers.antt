@@ -1,5 +1,0 @@
-use Rattle.lrs_http.proofs.TaskLemmas.{received}
-use Rattle.lrs_http.proofs.task.receive.Goals as goal
-
-pub returns-in-Complete-clause-asked : goal.returns-in-Complete-clause-asked
-returns-in-Complete-clause-asked g c = received c.read_on_from.result _ _ _ c.in_ok-reading.ensures.consumed c.read_on_from.ensures.asked

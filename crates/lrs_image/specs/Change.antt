@@ -1,0 +1,144 @@
+-- What a change makes of an image: rows that go and rows that come, table by table.
+use Rattle.std.specs.Prelude.{◌≡◌, Bool, true, false, not, List, [], ◌∷◌, ◌++◌, filter, Option, Some, None, unwrap_or, ⊤}
+use Rattle.std.specs.List.{list_any, list_all, find}
+use Rattle.std.specs.Option.{option_map}
+use Rattle.lrs_measure.specs.Lists.{each_two}
+use Rattle.lrs_measure.specs.Ordered.{insert_some, insert_all}
+use Rattle.lrs_measure.specs.Texts.{Name, same_name}
+use Rattle.lrs_element.specs.declared.link.Ground.{Ground}
+use Rattle.lrs_element.specs.declared.marks.Mark.{Mark}
+use Rattle.lrs_position.specs.declared.route.Referent.{Referent}
+use Rattle.lrs_position.specs.declared.route.Route.{Route}
+use Rattle.lrs_position.specs.Routes.{is_route, referent_before}
+use Rattle.lrs_events.specs.declared.span.Span.{Span}
+use Rattle.lrs_events.specs.Changes.{has_row, changed}
+use Rattle.lrs_events.specs.Spans.{are_rows, span_before}
+use Rattle.lrs_machine.specs.declared.image.RouteEntry.{RouteEntry}
+use Rattle.lrs_machine.specs.declared.image.Edit.{Edit}
+use Rattle.lrs_machine.specs.declared.image.Image.{Image}
+use Rattle.lrs_machine.specs.Sound.{link_before, class_before, asset_before, route_before, IsSound}
+use Rattle.lrs_image.specs.declared.change.ReferentChange.{ReferentChange}
+use Rattle.lrs_image.specs.declared.change.RouteChange.{RouteChange}
+use Rattle.lrs_image.specs.declared.change.Difference.{Difference}
+use Rattle.lrs_image.specs.declared.change.Change.{Change}
+
+-- one route that stays
+
+-- the referents without those that go, with those that come in their places
+abbrev pub changed_refs : ReferentChange → List Referent → List Referent
+changed_refs c refs = insert_all referent_before c.come (filter (λ r. not (list_any (same_name r.name) c.gone)) refs)
+
+abbrev pub course_after : RouteChange → Route → List Ground
+course_after c r = unwrap_or c.course r.course
+
+abbrev pub marks_after : RouteChange → Route → List Mark
+marks_after c r = unwrap_or c.marks r.marks
+
+-- whether course, marks and referents after the change are those of a route
+abbrev pub fits_after : RouteChange → Route → Bool
+fits_after c r = is_route (course_after c r) (marks_after c r) (changed_refs c.refs r.refs)
+
+abbrev pub route_if : (c : RouteChange) (r : Route) → (b : Bool) → fits_after c r ≡ b → Route
+route_if c r true fits = record { name = c.name; course = course_after c r; marks = marks_after c r; refs = changed_refs c.refs r.refs; fits = fits }
+route_if c r false misfits = r
+
+-- the route after the change; one that would be no route stays as it is
+abbrev pub route_after : RouteChange → Route → Route
+route_after c r = route_if c r (fits_after c r) (λ i. fits_after c r)
+
+abbrev pub spans_after : RouteChange → List Span → List Span
+spans_after c rows = changed span_before c.spans_gone c.spans_come rows
+
+abbrev pub entry_after : RouteChange → RouteEntry → RouteEntry
+entry_after c e = record { route = route_after c e.route; spans = spans_after c e.spans }
+
+-- all routes
+
+abbrev pub is_named : Name → RouteEntry → Bool
+is_named name e = same_name e.route.name name
+
+-- the routes of other names
+abbrev pub without : Name → List RouteEntry → List RouteEntry
+without name routes = filter (λ e. not (is_named name e)) routes
+
+abbrev pub without_some : Option Name → List RouteEntry → List RouteEntry
+without_some None routes = routes
+without_some (Some name) routes = without name routes
+
+-- the routes after a change of one, which is then in the place of its new name
+abbrev pub routes_after : Option RouteChange → List RouteEntry → List RouteEntry
+routes_after None routes = routes
+routes_after (Some c) routes = insert_some route_before (option_map (entry_after c) (find (is_named c.route) routes)) (without c.route routes)
+
+-- the image
+
+-- the difference that changes nothing
+abbrev pub no_difference : Difference
+no_difference = record { link = None; class = None; asset = None; changed = None; dropped = None; made = None; entered = []; gone = [] }
+
+-- The image with this difference: what comes is put in its order, and the ledgers grow at their end.
+abbrev pub with_difference : Difference → Image → Image
+with_difference d i = record i {
+  links = insert_some link_before d.link i.links;
+  classes = insert_some class_before d.class i.classes;
+  assets = insert_some asset_before d.asset i.assets;
+  routes = insert_some route_before d.made (without_some d.dropped (routes_after d.changed i.routes));
+  entered = i.entered ++ d.entered;
+  gone = i.gone ++ d.gone;
+}
+
+abbrev pub with_edit : Edit → Image → Image
+with_edit e i = record i { edits = i.edits ++ e ∷ [] }
+
+-- The image after a change.
+abbrev pub apply : Change → Image → Image
+apply c i = with_edit c.edit (with_difference c.difference i)
+
+-- which changes can be made
+
+-- a referent has the name
+abbrev pub refers_to : Name → Referent → Bool
+refers_to name r = same_name r.name name
+
+-- the rows that go are rows of the route
+abbrev pub are_rows_of : RouteEntry → List Span → Bool
+are_rows_of e gone = list_all (has_row e.spans) gone
+
+-- the names that go are those of referents of the route
+abbrev pub are_names_of : RouteEntry → List Name → Bool
+are_names_of e gone = list_all (λ name. list_any (refers_to name) e.route.refs) gone
+
+-- The rows that go are of the route and told apart, the referents that go are of the route, and course, marks, referents and rows after the change are those of a route.
+pub record CanBecome (c : RouteChange) (e : RouteEntry) : Type 0 where
+  pub fits : fits_after c e.route ≡ true
+  pub rows : are_rows (spans_after c e.spans) ≡ true
+  pub gone : each_two span_before c.spans_gone ≡ true
+  pub there : are_rows_of e c.spans_gone ≡ true
+  pub named : are_names_of e c.refs.gone ≡ true
+
+-- The route that changes is there, and can become what the change says.
+pub record CanChange (c : RouteChange) (routes : List RouteEntry) : Type 0 where
+  pub entry : RouteEntry
+  pub found : find (is_named c.route) routes ≡ Some entry
+  pub becomes : CanBecome c entry
+
+abbrev pub CanChangeRoute : Option RouteChange → List RouteEntry → Type 0
+CanChangeRoute None routes = ⊤
+CanChangeRoute (Some c) routes = CanChange c routes
+
+-- The route that goes is another than the one that changes, under its old name and under its new one.
+abbrev pub GoesApart : Option RouteChange → Option Name → Type 0
+GoesApart None dropped = ⊤
+GoesApart (Some c) None = ⊤
+GoesApart (Some c) (Some name) = (same_name c.route name ≡ false) × (same_name c.name name ≡ false)
+
+-- The difference can be made: what a route becomes is a route, another one goes, and the names of the routes stay in order.
+pub record CanDiffer (d : Difference) (i : Image) : Type 0 where
+  pub route : CanChangeRoute d.changed i.routes
+  pub apart : GoesApart d.changed d.dropped
+  pub names : each_two route_before (routes_after d.changed i.routes) ≡ true
+
+-- The change can be made, and leaves the image sound.
+pub record CanMake (c : Change) (i : Image) : Type 0 where
+  pub differ : CanDiffer c.difference i
+  pub sound : IsSound (apply c i)

@@ -1,0 +1,4 @@
+pub mod Change
+pub mod Kept
+pub mod Keeping
+pub mod Together

@@ -1,0 +1,145 @@
+//! What an accepted command changes: rows that go and rows that come, table by table.
+
+ghost use Rattle.std.specs.Prelude.{◌≡◌, IfOk};
+ghost use Rattle.lrs_image.specs.Change as change;
+
+use lrs_element::{Course, Link, Marks};
+use lrs_events::{Asset, Class, Gone, Part, Span};
+use lrs_machine::{Edit, RouteEntry};
+use lrs_measure::{Rows, TryCopy};
+use lrs_position::{RefName, Referent, RouteName};
+use std::alloc::{AllocError, Global};
+
+/// Referents of a route that go, by their names in order, and referents that come.
+#[derive(Drop)]
+pub struct ReferentChange {
+    pub gone: Rows<RefName>,
+    pub come: Rows<Referent>,
+}
+
+impl TryCopy for ReferentChange {
+    fn copy(&self, alloc: Global) -> Result<ReferentChange, AllocError> {
+        Ok(ReferentChange {
+            gone: self.gone.copy(alloc)?,
+            come: self.come.copy(alloc)?,
+        })
+    }
+}
+
+/// What changes on one route that stays. What is not given stays as it is.
+#[derive(Drop)]
+pub struct RouteChange {
+    /// Which route.
+    pub route: RouteName,
+    /// Its name from now on.
+    pub name: RouteName,
+    pub course: Option<Course>,
+    pub marks: Option<Marks>,
+    pub refs: ReferentChange,
+    pub spans_gone: Rows<Span>,
+    pub spans_come: Rows<Span>,
+}
+
+impl TryCopy for RouteChange {
+    fn copy(&self, alloc: Global) -> Result<RouteChange, AllocError> {
+        Ok(RouteChange {
+            route: self.route,
+            name: self.name,
+            course: copy_course(&self.course)?,
+            marks: copy_marks(&self.marks)?,
+            refs: self.refs.copy(alloc)?,
+            spans_gone: self.spans_gone.copy(alloc)?,
+            spans_come: self.spans_come.copy(alloc)?,
+        })
+    }
+}
+
+fn copy_course(course: &Option<Course>) -> Result<Option<Course>, AllocError>
+    ensures { IfOk result (λ copy. copy ≡ course.now) }
+{
+    match course {
+        Some(course) => Ok(Some(course.copy()?)),
+        None => Ok(None),
+    }
+}
+
+fn copy_marks(marks: &Option<Marks>) -> Result<Option<Marks>, AllocError>
+    ensures { IfOk result (λ copy. copy ≡ marks.now) }
+{
+    match marks {
+        Some(marks) => Ok(Some(marks.copy()?)),
+        None => Ok(None),
+    }
+}
+
+fn copy_some<T: TryCopy>(value: &Option<T>, alloc: Global) -> Result<Option<T>, AllocError>
+    ensures { IfOk result (λ copy. copy ≡ value.now) }
+{
+    match value {
+        Some(value) => Ok(Some(value.copy(alloc)?)),
+        None => Ok(None),
+    }
+}
+
+/// What an accepted command changes. Of the routes at most one stays and changes, one goes, and one comes;
+/// they do so in this order.
+#[derive(Drop)]
+pub struct Difference {
+    pub link: Option<Link>,
+    pub class: Option<Class>,
+    pub asset: Option<Asset>,
+    pub changed: Option<RouteChange>,
+    pub dropped: Option<RouteName>,
+    pub made: Option<RouteEntry>,
+    pub entered: Rows<Part>,
+    pub gone: Rows<Gone>,
+}
+
+impl Difference {
+    /// The difference that changes nothing. It takes no memory.
+    pub fn none(alloc: Global) -> Difference
+        ensures { result ≡ change.no_difference }
+    {
+        Difference {
+            link: None,
+            class: None,
+            asset: None,
+            changed: None,
+            dropped: None,
+            made: None,
+            entered: Rows::new(alloc),
+            gone: Rows::new(alloc),
+        }
+    }
+}
+
+impl TryCopy for Difference {
+    fn copy(&self, alloc: Global) -> Result<Difference, AllocError> {
+        Ok(Difference {
+            link: self.link,
+            class: self.class,
+            asset: self.asset,
+            changed: copy_some(&self.changed, alloc)?,
+            dropped: self.dropped,
+            made: copy_some(&self.made, alloc)?,
+            entered: self.entered.copy(alloc)?,
+            gone: self.gone.copy(alloc)?,
+        })
+    }
+}
+
+/// An accepted command, and what it changes.
+#[derive(Drop)]
+pub struct Change {
+    pub edit: Edit,
+    pub difference: Difference,
+}
+
+impl TryCopy for Change {
+    fn copy(&self, alloc: Global) -> Result<Change, AllocError> {
+        Ok(Change {
+            edit: self.edit.copy(alloc)?,
+            difference: self.difference.copy(alloc)?,
+        })
+    }
+}

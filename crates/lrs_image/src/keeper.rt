@@ -1,0 +1,80 @@
+//! Where an image is kept.
+
+use crate::change::Change;
+use lrs_machine::{Image, Table};
+use std::alloc::{AllocError, Global};
+
+/// Why an image is not loaded.
+#[derive(Clone, Copy, Debug, PartialEq, Eq)]
+pub enum LoadFault {
+    /// There is too little memory.
+    Memory,
+    /// The device failed.
+    Store,
+    /// What is kept is no sound image: this is its first unsound table.
+    Unsound(Table),
+}
+
+impl From<AllocError> for LoadFault {
+    ghost use Rattle.std.specs.Prelude.{◌≡◌};
+    ghost use Rattle.lrs_image.specs.declared.keeper.LoadFault.TheVariants.{Memory};
+
+    ghost from_gives = { λ _ e. e ≡ Memory };
+
+    fn from(_: AllocError) -> Self {
+        LoadFault::Memory
+    }
+}
+
+/// Changes are not made, as the device failed. What is kept is as it was, or with some first ones of them.
+#[derive(Clone, Copy, Debug, PartialEq, Eq)]
+pub struct CommitFailed;
+
+/// Keeps an image, on a device that may fail.
+pub trait Keeper {
+    ghost use Rattle.std.specs.Prelude.{◌≡◌, ◌≤◌, ℕ, Bool, true, Ok, Err, Result, IfOk, OnOk, OnErr, ◌⊎◌};
+    ghost use Rattle.lrs_machine.specs.declared.image.Image.{Image};
+    ghost use Rattle.lrs_machine.specs.declared.table.Table.{Table};
+    ghost use Rattle.lrs_machine.specs.Sound.{IsSound};
+    ghost use Rattle.lrs_image.specs.Keeping.{HasRisen, HoldsSound};
+    ghost use Rattle.lrs_image.specs.Together.{CanMakeAll, IsChangedBy, IsChangedBySome};
+
+    // What an opening at this moment may find: a sound image, or the first unsound table.
+    ghost may_hold: { Self → Result Image Table → Type 0 };
+
+    // Whether the device gives back what it was given: an opening then finds something.
+    ghost is_clean: { Self → Type 0 };
+
+    /// Whether the last `load` answered Ok.
+    ghost is_loaded: { Self → Bool };
+
+    /// How often the device has failed.
+    ghost failures: { Self → ℕ };
+
+    /// Reads the image. It leaves the content as it is, whatever it answers.
+    fn load(&mut self, alloc: Global) -> Result<Image, LoadFault>
+        ensures image { IfOk result (λ image. (c : Result Image Table) → may_hold self.new c → c ≡ Ok image) }
+        ensures sound { IfOk result (λ image. IsSound image) }
+        ensures loaded { OnOk result (is_loaded self.new ≡ true) }
+        ensures unsound { (t : Table) → result ≡ Err (LoadFault.Unsound t) → (c : Result Image Table) → may_hold self.new c → c ≡ Err t }
+        ensures store { result ≡ Err LoadFault.Store → HasRisen (failures self.old) (failures self.new) }
+        ensures quiet { (result ≡ Err LoadFault.Store → ⊥) → failures self.new ≡ failures self.old }
+        ensures counts { failures self.old ≤ failures self.new }
+        ensures found { HoldsSound (may_hold self.new) }
+        ensures content { (c : Result Image Table) → may_hold self.new c → may_hold self.old c };
+
+    /// Makes changes, each of what those before it made. Want of memory counts as a failure of the device.
+    fn commit(&mut self, changes: &[Change]) -> Result<(), CommitFailed>
+        requires loaded { is_loaded self.old ≡ true }
+        requires sound { HoldsSound (may_hold self.old) }
+        requires can { (c : Result Image Table) → may_hold self.old c → IfOk c (CanMakeAll changes.now) }
+        ensures ok { OnOk result ((c : Result Image Table) → may_hold self.new c → IsChangedBy (may_hold self.old) changes.now c) }
+        ensures failed { OnErr result ((c : Result Image Table) → may_hold self.new c → may_hold self.old c ⊎ IsChangedBySome (may_hold self.old) changes.now c) }
+        ensures cause { OnErr result (HasRisen (failures self.old) (failures self.new)) }
+        ensures counts { failures self.old ≤ failures self.new }
+        ensures found { HoldsSound (may_hold self.new) }
+        ensures loaded { is_loaded self.new ≡ true };
+
+    // Where the device is clean something may be found, so a keeper cannot promise everything of nothing.
+    ghost finds: { (keeper : Self) → is_clean keeper → (c : Result Image Table) × may_hold keeper c };
+}

@@ -1,0 +1,14 @@
+//! What is kept, and how it changes: changes as differences, images open for a change, and keepers.
+#![tactic(auto)]
+
+mod change;
+mod keeper;
+mod kept_image;
+mod lists;
+mod open_route;
+mod routes;
+
+pub use change::{Change, Difference, ReferentChange, RouteChange};
+pub use keeper::{CommitFailed, Keeper, LoadFault};
+pub use kept_image::KeptImage;
+pub use open_route::OpenRoute;

@@ -1,0 +1,13 @@
+pub mod Orderly
+pub mod Made
+pub mod Gone
+pub mod Rewriting
+pub mod Standing
+pub mod Running
+pub mod Differences
+pub mod Renaming
+pub mod Splitting
+pub mod Joining
+pub mod Turning
+pub mod Leaving
+pub mod Realigning

@@ -1,0 +1,5 @@
+#![tactic(auto)]
+
+mod plain;
+
+pub use plain::Plain;

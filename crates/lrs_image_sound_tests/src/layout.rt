@@ -1,0 +1,139 @@
+//! Routes and what lies on them, laid where they keep the limits.
+
+ghost use Rattle.std.specs.Prelude.{◌≡◌, true, IsTrue, IfSome, None};
+ghost use Rattle.lrs_element.specs.Course.{are_in_order};
+ghost use Rattle.lrs_element.specs.Marks.{bad_mark};
+ghost use Rattle.lrs_events.specs.Spans.{is_row};
+ghost use Rattle.lrs_position.specs.Routes.{are_referents};
+
+use lrs_element::{Course, CourseFault, Link, Mark, Marks, Piece};
+use lrs_events::Span;
+use lrs_events_spans::Spans;
+use lrs_image_sound::are_links;
+use lrs_machine::RouteEntry;
+use lrs_measure::Rows;
+use lrs_position::{Referent, Route, RouteName};
+use std::alloc::{AllocError, Global};
+
+/// The length of the longest link in millimetres.
+pub const LONGEST_LINK: u32 = 1_000_000_000;
+
+/// The length of the longest route in millimetres.
+pub const LONGEST_ROUTE: u64 = 10_000_000_000;
+
+/// The link of this number and length, if it can have them.
+pub fn link(number: u32, length: u32) -> Option<Link> {
+    let numbered = 1 <= number && number <= 999_999;
+    if numbered && 1 <= length && length <= LONGEST_LINK {
+        Some(Link { number, length })
+    } else {
+        None
+    }
+}
+
+/// The course over these pieces of links, which may run over a millimetre twice.
+fn course_by_pieces(alloc: Global, links: &[Link], pieces: &[Piece]) -> Option<Course>
+    requires { IsTrue (are_in_order links.now) }
+{
+    let mut course = Course::new(alloc, &[], &links).ok()?;
+    for piece in pieces {
+        let next = Course::new(alloc, &[*piece], &links).ok()?;
+        course.concat(&next).ok()?;
+    }
+    Some(course)
+}
+
+/// The course over these pieces, also where it runs over a millimetre twice; none where a piece is not of these links.
+pub fn course(alloc: Global, links: &[Link], pieces: &[Piece]) -> Option<Course> {
+    if !are_links(links) {
+        return None;
+    }
+    match Course::new(alloc, pieces, &links) {
+        Ok(course) => Some(course),
+        Err(CourseFault::Twice(_)) => course_by_pieces(alloc, links, pieces),
+        Err(_) => None,
+    }
+}
+
+/// Marks at both ends of a route of this length, which measure it from 0.
+fn plain_marks(alloc: Global, length: u64) -> Option<Marks>
+    ensures { IfSome result (λ marks. bad_mark length marks ≡ None) }
+{
+    let start = Mark {
+        chainage: 0,
+        measure: 0,
+    };
+    let end = Mark {
+        chainage: length,
+        measure: length,
+    };
+    let list = Vec::from_slice(alloc, &[start, end]).ok()?;
+    match Marks::new(list, length) {
+        Ok(marks) => Some(marks),
+        Err(_) => None,
+    }
+}
+
+/// The referents of a route of this length with at most one.
+fn referents(alloc: Global, referent: Option<Referent>, length: u64) -> Option<Vec<Referent>>
+    ensures { IfSome result (λ refs. are_referents length refs.items ≡ true) }
+{
+    let Some(referent) = referent else {
+        return Some(Vec::new(alloc));
+    };
+    if length <= referent.at {
+        return None;
+    }
+    Vec::from_slice(alloc, &[referent]).ok()
+}
+
+/// A route of this name along a course, measured from 0.
+pub fn route(
+    alloc: Global,
+    name: &[u8],
+    course: Course,
+    referent: Option<Referent>,
+) -> Option<Route> {
+    let name = RouteName::new(name)?;
+    if course.is_empty() {
+        return None;
+    }
+    let length = course.len();
+    let marks = plain_marks(alloc, length)?;
+    let refs = referents(alloc, referent, length)?;
+    Some(Route {
+        name,
+        course,
+        marks,
+        refs: Rows::from_vec(refs),
+    })
+}
+
+fn is_row(span: &Span) -> bool
+    ensures { result ≡ is_row span.now }
+{
+    span.from < span.to && span.to <= LONGEST_ROUTE
+}
+
+/// Adds the span where it is one and its asset holds none of it, and answers whether it was added.
+///
+/// # Errors
+/// When memory runs out.
+pub fn add(spans: &mut Spans, alloc: Global, span: Span) -> Result<bool, AllocError> {
+    if !is_row(&span) || !spans.is_free(&span) {
+        return Ok(false);
+    }
+    spans.add(alloc, span)?;
+    Ok(true)
+}
+
+/// A route with these rows on it, none where one of them can't be added.
+pub fn entry(alloc: Global, route: Route, rows: &[Span]) -> Option<RouteEntry> {
+    let mut spans = Spans::empty(alloc);
+    for row in rows {
+        if !add(&mut spans, alloc, *row).ok()? {
+            return None;
+        }
+    }
+    Some(RouteEntry { route, spans })
+}

@@ -1,0 +1,11 @@
+pub mod NamedEntries
+pub mod Positions
+pub mod Keyed
+pub mod Standing
+pub mod Filed
+pub mod NewCourse
+pub mod Located
+pub mod FirstHolder
+pub mod Known
+pub mod Grounds
+pub mod Indexing

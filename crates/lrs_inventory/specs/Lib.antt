@@ -1,0 +1,9 @@
+pub mod Prelude
+pub mod Keys
+pub mod Places
+pub mod Changes
+pub mod Indexes
+pub mod Inventory
+pub mod Plans
+pub mod NewCourses
+pub mod Extents

@@ -1,0 +1,51 @@
+-- The words of the crates below that many modules of this crate cite, passed on from one place. Declares nothing. The words of std come from std itself, as a reader expects them to.
+pub use Rattle.lrs_events_rows.specs.Joins.{end_by}
+pub use Rattle.lrs_events_rows.specs.Removals.{is_within, IsRemoval}
+pub use Rattle.lrs_events_rows.specs.declared.removals.Removal.{Removal}
+pub use Rattle.lrs_element.specs.Course.{Millimetre, course_of, runs_over, is_too_long, meets, expand}
+pub use Rattle.lrs_element.specs.Limits.{longest_route}
+pub use Rattle.lrs_element.specs.Pieces.{IsFilled}
+pub use Rattle.lrs_element.specs.declared.link.Ground.{Ground}
+pub use Rattle.lrs_element.specs.declared.link.Link.{Link}
+pub use Rattle.lrs_element.specs.declared.link.Piece.{Piece}
+pub use Rattle.lrs_element.specs.declared.marks.Mark.{Mark}
+pub use Rattle.lrs_events.specs.Changes.{has_row}
+pub use Rattle.lrs_events.specs.Places.{places_on, differs, Place, is_among}
+pub use Rattle.lrs_events.specs.Spans.{are_rows, holds_by_spans, span_before}
+pub use Rattle.lrs_events.specs.declared.class.Asset.{Asset}
+pub use Rattle.lrs_events.specs.declared.class.Kind.{Kind}
+pub use Rattle.lrs_events.specs.declared.part.Gone.{Gone}
+pub use Rattle.lrs_events.specs.declared.part.Part.{Part}
+pub use Rattle.lrs_events.specs.declared.side.Side.TheVariants.{B}
+pub use Rattle.lrs_events.specs.declared.span.Span.{Span}
+pub use Rattle.lrs_image_laws.specs.Gone.{AreGone}
+pub use Rattle.lrs_position_index.specs.Ground.{is_run_once, Stretches}
+pub use Rattle.lrs_position_index.specs.Routes.{IsGroundOf}
+pub use Rattle.lrs_image.specs.Change.{is_named, with_difference, changed_refs, no_difference, CanDiffer, entry_after, fits_after, without, route_after, are_names_of, spans_after}
+pub use Rattle.lrs_image.specs.Kept.{image_of}
+pub use Rattle.lrs_image.specs.declared.change.Difference.{Difference}
+pub use Rattle.lrs_image.specs.declared.change.RouteChange.{RouteChange}
+unfoldable pub use Rattle.lrs_machine.specs.Image.{state_of}
+pub use Rattle.lrs_machine.specs.Image.{route_entry, referents_on, referent_entry, asset_entry, holds_on}
+unfoldable pub use Rattle.lrs_machine.specs.Machine.{attempt}
+pub use Rattle.lrs_machine.specs.Machine.{◌>>◌, ◌>>=◌, Extent, part_of, set_route, extent_of, refuse_at}
+pub use Rattle.lrs_machine.specs.Register.{contains_key}
+pub use Rattle.lrs_machine.specs.Sound.{IsSound, route_before, are_spans_of, is_span, is_on_a_link, RouteCourse, asset_before, are_courses}
+pub use Rattle.lrs_machine.specs.State.{State, Retired}
+pub use Rattle.lrs_machine.specs.declared.answer.Cause.{Cause}
+pub use Rattle.lrs_machine.specs.declared.command.Command.{Command}
+pub use Rattle.lrs_machine.specs.declared.command.Entry.{Entry}
+pub use Rattle.lrs_machine.specs.declared.image.Edit.{Edit}
+pub use Rattle.lrs_machine.specs.declared.image.Image.{Image}
+pub use Rattle.lrs_machine.specs.declared.image.RouteEntry.{RouteEntry}
+pub use Rattle.lrs_measure.specs.Lists.{each_two}
+pub use Rattle.lrs_measure.specs.Ordered.{insert_by}
+pub use Rattle.lrs_measure.specs.Texts.{Name, same_name, name_cmp}
+pub use Rattle.lrs_image_laws.specs.Made.{Makes}
+pub use Rattle.lrs_image_laws.specs.Orderly.{IsOrderly}
+pub use Rattle.lrs_position.specs.Locating.{Alignment}
+pub use Rattle.lrs_position.specs.Routes.{is_route, is_route_course, are_referents, have_marks, referent_before}
+pub use Rattle.lrs_position.specs.Translating.{alignment_of}
+pub use Rattle.lrs_position.specs.declared.route.Referent.{Referent}
+pub use Rattle.lrs_image_laws.specs.Differences.{rerouting}
+pub use Rattle.lrs_events_spans.specs.Plans.{IsPlan}

@@ -1,0 +1,156 @@
+//! Where positions are on a route of an inventory, and what lies there.
+
+ghost use Rattle.std.specs.Prelude.{◌≡◌, ◌<◌, ◌≤◌, nat_le, length, IfOk};
+ghost use Rattle.lrs_inventory.specs.Prelude.{alignment_of, places_on, state_of, extent_of, part_of};
+ghost use Rattle.lrs_measure.specs.Fraction.{IsLowest};
+ghost use Rattle.lrs_position.specs.Translating.{IsOnRoute};
+ghost use Rattle.lrs_machine.specs.Machine.{first_holder, is_empty_extent};
+ghost use Rattle.lrs_inventory.specs.Extents.{cause_of, IsRouteIn, LocatesAs, located_cell, located_end, EndsBy};
+ghost use Rattle.lrs_inventory.specs.Plans.{Answers};
+
+use crate::inventory::Inventory;
+use crate::plan::Stop;
+use lrs_events::{ClassName, Side};
+use lrs_machine::{Cause, RouteEntry};
+use lrs_measure::Frac;
+use lrs_position::{EnteredPosition, EventLocation, PlaceFault, cell, locate, snap};
+use std::marker::Model;
+
+/// The millimetres of a route from one chainage up to another.
+#[derive(Clone, Copy, Debug, PartialEq, Eq)]
+pub struct Stretch {
+    from: u64,
+    to: u64,
+}
+
+impl Model for Stretch {
+    ghost use Rattle.lrs_machine.specs.Machine.{Extent};
+
+    ghost Value = { Extent };
+
+    ghost view = { λ stretch. record { from = stretch.from; to = stretch.to } };
+
+    ghost inverse = { λ extent. record { from = extent.from; to = extent.to } };
+}
+
+impl Stretch {
+    /// The chainage at which it begins, in millimetres.
+    pub fn from(self) -> u64
+        ensures { result ≡ self.from }
+    {
+        self.from
+    }
+
+    /// The chainage at which it ends, in millimetres.
+    pub fn to(self) -> u64
+        ensures { result ≡ self.to }
+    {
+        self.to
+    }
+
+    /// Whether it has no millimetre.
+    pub fn is_empty(self) -> bool
+        ensures { result ≡ is_empty_extent self }
+    {
+        self.to <= self.from
+    }
+}
+
+/// The cause that a fault of a position is. A position that is entered is never too fine.
+fn cause_of(fault: PlaceFault) -> Cause
+    ensures { result ≡ cause_of fault }
+{
+    match fault {
+        PlaceFault::NoRef => Cause::NoRef,
+        PlaceFault::TooFine | PlaceFault::OffRoute => Cause::OffRoute,
+    }
+}
+
+impl Inventory {
+    /// The chainage in millimetres that a position locates on a route.
+    ///
+    /// # Errors
+    /// `NoRef` where it counts from a referent that is not on the route, and then `OffRoute`.
+    fn located(&self, entry: &RouteEntry, position: EnteredPosition) -> Result<Frac, Stop>
+        requires known { IsRouteIn self.now entry.now }
+        ensures answer { LocatesAs (state_of self.now) (alignment_of entry.now.route) position result }
+        ensures lowest { IfOk result (λ chainage. IsLowest chainage) }
+        ensures on_route { IfOk result (λ chainage. IsOnRoute (length entry.now.route.course) chainage) }
+    {
+        self.prove_sound();
+        match locate(&entry.route, position.expression()) {
+            Ok(chainage) => Ok(chainage),
+            Err(fault) => Err(Stop::Refused(cause_of(fault))),
+        }
+    }
+
+    /// The millimetre of a route that a position stands in.
+    ///
+    /// # Errors
+    /// Those of `located`.
+    pub fn cell(&self, entry: &RouteEntry, position: EnteredPosition) -> Result<u64, Stop>
+        requires known { IsRouteIn self.now entry.now }
+        ensures answer { Answers (located_cell (state_of self.now) (alignment_of entry.now.route) (length entry.now.route.course) position) result }
+        ensures within { IfOk result (λ at. at < length entry.now.route.course) }
+    {
+        let chainage = self.located(entry, position)?;
+        Ok(cell(chainage, entry.route.length()))
+    }
+
+    /// The whole millimetre of a route's chainage that a position goes to where a stretch begins or ends.
+    ///
+    /// # Errors
+    /// Those of `located`.
+    pub fn end(&self, entry: &RouteEntry, position: EnteredPosition) -> Result<u64, Stop>
+        requires known { IsRouteIn self.now entry.now }
+        ensures answer { Answers (located_end (state_of self.now) (alignment_of entry.now.route) position) result }
+        ensures within { IfOk result (λ at. at ≤ length entry.now.route.course) }
+    {
+        let chainage = self.located(entry, position)?;
+        Ok(snap(chainage))
+    }
+
+    /// Over which millimetres of a route an event at a location lies: a point over the one that it stands in,
+    /// a stretch between its snapped ends. It may have none.
+    ///
+    /// # Errors
+    /// Those of `located`, of its first position and then of its end.
+    pub fn extent(&self, entry: &RouteEntry, location: EventLocation) -> Result<Stretch, Stop>
+        requires known { IsRouteIn self.now entry.now }
+        ensures answer { Answers (extent_of (state_of self.now) (alignment_of entry.now.route) location) result }
+        ensures within { IfOk result (λ extent. EndsBy (length entry.now.route.course) extent) }
+    {
+        match location.to() {
+            None => {
+                let at = self.cell(entry, location.from())?;
+                Ok(Stretch {
+                    from: at,
+                    to: at + 1,
+                })
+            }
+            Some(end) => {
+                let from = self.end(entry, location.from())?;
+                let to = self.end(entry, end)?;
+                Ok(Stretch { from, to })
+            }
+        }
+    }
+
+    /// The least asset of a class that holds a place of a stretch of a route, on a side that it shares with
+    /// this one.
+    pub fn first_holder(
+        &self,
+        entry: &RouteEntry,
+        class: ClassName,
+        stretch: Stretch,
+        side: Side,
+    ) -> Option<u64>
+        requires known { IsRouteIn self.now entry.now }
+        requires filled { stretch.from < stretch.to }
+        requires within { EndsBy (length entry.now.route.course) stretch }
+        ensures { result ≡ first_holder (state_of self.now) class (places_on side (part_of entry.now.route.course stretch)) }
+    {
+        self.prove_sound();
+        entry.spans.over(stretch.from, stretch.to, class, side)
+    }
+}

@@ -1,5 +1,0 @@
-pub mod Change
-pub mod Kept
-pub mod Keeping
-pub mod Plain
-pub mod Together

@@ -1,5 +1,0 @@
-pub mod Leaving
-pub mod Named
-pub mod Closing
-pub mod Replaced
-pub mod Realigning

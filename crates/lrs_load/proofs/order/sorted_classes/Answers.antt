@@ -1,8 +1,0 @@
-use Rattle.std.proofs.Common.{rules}
-use Rattle.std.proofs.lemmas.Fn.{always_returns_same}
-use Rattle.lrs_machine.specs.Sound.{class_before}
-use Rattle.lrs_content.proofs.Orders.{classes_rank}
-use Rattle.lrs_load.proofs.order.sorted_classes.Goals as goal
-
-pub returns-clause-sorted : goal.returns-clause-sorted
-returns-clause-sorted c = c.sort_unstable_by.ensures.sorted class_before classes_rank (always_returns_same _ _ _ (λ a r f' k. search rules))

@@ -1,9 +1,0 @@
-pub mod Each
-pub mod Grouped
-pub mod Coursing
-pub mod Naming
-pub mod Fewest
-pub mod Reading
-pub mod Searching
-pub mod Measuring
-pub mod Referring

@@ -1,0 +1,107 @@
+-- What holds of every run that stops.
+use Rattle.std.specs.Prelude.{◌≡◌, ◌⊎◌, ◌≤◌, ◌+◌, ◌-◌, ℕ, max, nat_lt, Bool, true, List, [], ◌∷◌, ◌++◌, length, take, Some}
+use Rattle.std.specs.List.{count_by, AllByRecursion}
+use Rattle.lrs_measure.specs.Texts.{Name, same_name}
+use Rattle.lrs_machine.specs.declared.answer.Answer.{Answer}
+use Rattle.lrs_machine.specs.declared.answer.Answer.TheVariants.{Done, Again}
+use Rattle.lrs_machine.specs.declared.answer.Limits.{Limits}
+use Rattle.lrs_machine.specs.State.{State}
+use Rattle.lrs_machine.specs.Machine.{Record, step_record, answers, state_after}
+use Rattle.lrs_machine.specs.Laws.{IsLawful}
+use Rattle.lrs_machine_stops.specs.Stopped.{Step, Open, Act, Unserved, StopWithin, Stop, Moment, at_rest, IsRun, IsAccepted, Keeps, acknowledged, SendsFirst}
+
+-- The open desk acts on what is stored.
+abbrev pub DeskIsStored : Type 0
+DeskIsStored = (limits : Limits) (start s : State) (xs : List Step) (m : Moment) → IsRun limits (at_rest start) xs m → m.desk ≡ Some s → s ≡ m.stored
+
+-- what is stored is made of these commands
+pub record IsMadeBy (limits : Limits) (start : State) (xs : List Step) (found : State) : Type 0 where
+  pub commands : List Record
+  pub kept : Keeps xs commands
+  pub stored : found ≡ state_after limits commands start
+
+-- What is stored, and so what an opening finds, is the fold over the commands that were answered, with some first ones of those that were in flight, at their point.
+abbrev pub StoredIsFold : Type 0
+StoredIsFold = (limits : Limits) (start : State) (xs : List Step) (m : Moment) → IsRun limits (at_rest start) xs m → IsMadeBy limits start xs m.stored
+
+-- an answer is the ground machine's after some commands
+pub record IsAnswerAfter (limits : Limits) (start : State) (xs : List Step) (r : Record) (a : Answer) : Type 0 where
+  pub commands : List Record
+  pub kept : Keeps xs commands
+  pub answer : a ≡ (step_record limits r (state_after limits commands start)).answer
+
+-- So is each answer that was given.
+abbrev pub AnswersAreOfFold : Type 0
+AnswersAreOfFold = (limits : Limits) (start : State) (xs ys : List Step) (r : Record) (a : Answer) (m : Moment) → IsRun limits (at_rest start) (xs ++ Act r a ∷ ys) m → IsAnswerAfter limits start xs r a
+
+-- An answer that is given in place of another: the same one, or, where the command was in flight before, `Again` with the edit's number in place of `Done`.
+pub data StandsIn : Bool → Answer → Answer → Type 0 where
+  same : (in_flight : Bool) (a : Answer) → StandsIn in_flight a a
+  again : (n : ℕ) → StandsIn true (Again n) (Done n)
+
+-- The answers that were given stand in for the expected ones; the count is of the next commands that were in flight before.
+abbrev pub StandInFor : ℕ → List Step → List Answer → Type 0
+StandInFor count [] expected = expected ≡ []
+StandInFor count (Act r given ∷ xs) expected = (a : Answer) × (rest : List Answer) × (expected ≡ a ∷ rest) × StandsIn (nat_lt 0 count) given a × StandInFor (count - 1) xs rest
+StandInFor count (StopWithin rs r ∷ xs) expected = StandInFor (max count (length rs + 1)) xs expected
+StandInFor count (Open ∷ xs) expected = StandInFor count xs expected
+StandInFor count (Unserved r ∷ xs) expected = StandInFor count xs expected
+StandInFor count (Stop ∷ xs) expected = StandInFor count xs expected
+
+-- as if nothing had stopped
+pub record IsUnstopped (limits : Limits) (start : State) (xs : List Step) (found : State) : Type 0 where
+  pub stored : found ≡ state_after limits (acknowledged xs) start
+  pub given : StandInFor 0 xs (answers limits (acknowledged xs) start)
+
+-- Where those in flight are sent first afterwards, in their order, and the rest follows, state and answers are those of the same commands without a stop.
+abbrev pub SentFirstIsUnstopped : Type 0
+SentFirstIsUnstopped = (limits : Limits) (start : State) (xs : List Step) (m : Moment) → IsRun limits (at_rest start) xs m → SendsFirst xs → IsUnstopped limits start xs m.stored
+
+-- the answer says that the command is this edit
+abbrev pub Accepts : Answer → ℕ → Type 0
+Accepts a n = (a ≡ Done n) ⊎ (a ≡ Again n)
+
+-- sent again, the command is answered again, and changes nothing
+pub record IsKnown (limits : Limits) (r : Record) (n : ℕ) (s : State) : Type 0 where
+  pub answer : (step_record limits r s).answer ≡ Again n
+  pub state : (step_record limits r s).state ≡ s
+
+-- No command that was answered as an edit is lost: whatever follows, it is that edit.
+abbrev pub NoneIsLost : Type 0
+NoneIsLost = (limits : Limits) (start : State) (xs ys : List Step) (r : Record) (a : Answer) (n : ℕ) (m : Moment)
+    → IsRun limits (at_rest start) (xs ++ Act r a ∷ ys) m → Accepts a n → IsKnown limits r n m.stored
+
+-- No key is of two edits.
+abbrev pub HasKeysOnce : State → Type 0
+HasKeysOnce s = (key : Name) → count_by (λ e. same_name e.key key) s.done ≤ 1
+
+-- No command is doubled, whether it was answered, in flight, or sent again.
+abbrev pub NoneIsDoubled : Type 0
+NoneIsDoubled = (limits : Limits) (start : State) (xs : List Step) (m : Moment) → HasKeysOnce start → IsRun limits (at_rest start) xs m → HasKeysOnce m.stored
+
+-- What is stored is lawful, if it was at the start: balanced, exclusive, its ledgers named, and its ground known.
+abbrev pub StoredIsLawful : Type 0
+StoredIsLawful = (limits : Limits) (start : State) (xs : List Step) (m : Moment) → IsLawful start → IsRun limits (at_rest start) xs m → IsLawful m.stored
+
+-- Where a desk is open and a command is sent alone, a run may stop with what was stored, and with the next state.
+pub record BothCanBe (limits : Limits) (start : State) (xs : List Step) (r : Record) (s : State) : Type 0 where
+  pub old : IsRun limits (at_rest start) (xs ++ StopWithin [] r ∷ []) (at_rest s)
+  pub next : IsRun limits (at_rest start) (xs ++ StopWithin [] r ∷ []) (at_rest (step_record limits r s).state)
+
+abbrev pub StopsHaveBothOutcomes : Type 0
+StopsHaveBothOutcomes = (limits : Limits) (start s : State) (xs : List Step) (r : Record) (m : Moment) → IsRun limits (at_rest start) xs m → m.desk ≡ Some s → BothCanBe limits start xs r s
+
+-- Where commands are sent together, all but the last of them accepted, a run may stop with any first ones of them stored.
+abbrev pub StopsHaveEachOutcome : Type 0
+StopsHaveEachOutcome = (limits : Limits) (start s : State) (xs : List Step) (rs : List Record) (r : Record) (k : ℕ) (m : Moment)
+    → IsRun limits (at_rest start) xs m → m.desk ≡ Some s → AllByRecursion IsAccepted (answers limits rs s)
+    → IsRun limits (at_rest start) (xs ++ StopWithin rs r ∷ []) (at_rest (state_after limits (take k (rs ++ r ∷ [])) s))
+
+-- There is a run of any commands that stops nowhere.
+pub record IsServed (limits : Limits) (start : State) (rs : List Record) : Type 0 where
+  pub steps : List Step
+  pub run : IsRun limits (at_rest start) (Open ∷ steps) (record { stored = state_after limits rs start; desk = Some (state_after limits rs start) })
+  pub commands : acknowledged steps ≡ rs
+
+abbrev pub RunsAreThere : Type 0
+RunsAreThere = (limits : Limits) (start : State) (rs : List Record) → IsServed limits start rs

@@ -1,0 +1,24 @@
+//! Worked runs that stop.
+
+ghost use Rattle.lrs_machine_stops.specs.Worked.{OneLinkOrTwo, BothEndAlike, TwoInFlight, Excluded};
+
+/// A stop while a link is in flight leaves it out or keeps it, and nothing else can be.
+pub fn one_link_or_two()
+    ensures { OneLinkOrTwo }
+{}
+
+/// Where that link is sent first, both runs end with the same state.
+pub fn both_end_alike()
+    ensures { BothEndAlike }
+{}
+
+/// Two links that are in flight together are stored in their order; where both were, and both are sent first,
+/// each is answered again, and the run ends with the same state too.
+pub fn two_in_flight()
+    ensures { TwoInFlight }
+{}
+
+/// Nothing is forgotten at a stop, and nothing acts before an opening.
+pub fn what_cannot_be()
+    ensures { Excluded }
+{}

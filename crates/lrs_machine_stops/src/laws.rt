@@ -1,0 +1,58 @@
+//! Laws of runs that stop.
+
+ghost use Rattle.lrs_machine_stops.specs.Laws.{DeskIsStored, StoredIsFold, AnswersAreOfFold, SentFirstIsUnstopped, NoneIsLost, NoneIsDoubled, StoredIsLawful, StopsHaveBothOutcomes, StopsHaveEachOutcome, RunsAreThere};
+
+/// The open desk acts on what is stored.
+pub fn the_desk_acts_on_what_is_stored()
+    ensures { DeskIsStored }
+{}
+
+/// What is stored, and so what an opening finds, is the fold over the commands that were answered, in
+/// order, with some first ones of those that were in flight, at their point.
+pub fn what_is_stored_is_a_fold()
+    ensures { StoredIsFold }
+{}
+
+/// Each answer that was given is the ground machine's after such a fold.
+pub fn answers_are_of_the_fold()
+    ensures { AnswersAreOfFold }
+{}
+
+/// Where those in flight are sent first after the opening, in their order, under their keys, and the rest
+/// follows, the state is that of the same commands without a stop, and so is each answer, but for `Again`
+/// with the edit's number in place of `Done` where the command had been in flight.
+pub fn sent_first_is_as_without_stops()
+    ensures { SentFirstIsUnstopped }
+{}
+
+/// A command that was answered as an edit is that edit from then on: sent again, whatever happened
+/// since, it is answered `Again` with that number, and changes nothing.
+pub fn no_acknowledged_command_is_lost()
+    ensures { NoneIsLost }
+{}
+
+/// No two edits have one key, however often a command was sent and wherever the run stopped.
+pub fn no_command_is_doubled()
+    ensures { NoneIsDoubled }
+{}
+
+/// Whatever stops, what is stored stays lawful: balanced, no place held by two assets of one exclusive
+/// class, its ledgers named.
+pub fn what_is_stored_is_lawful()
+    ensures { StoredIsLawful }
+{}
+
+/// A run can stop within any command, with what was stored before it and with its next state.
+pub fn stops_have_both_outcomes()
+    ensures { StopsHaveBothOutcomes }
+{}
+
+/// A run can stop within any commands that are sent together, with any first ones of them stored.
+pub fn stops_have_each_outcome()
+    ensures { StopsHaveEachOutcome }
+{}
+
+/// For any commands there is a run that stops nowhere.
+pub fn runs_are_there()
+    ensures { RunsAreThere }
+{}

@@ -1,4 +1,0 @@
-//! Files are opened as the keeper of an inventory.
-#![tactic(auto)]
-
-pub mod opening;

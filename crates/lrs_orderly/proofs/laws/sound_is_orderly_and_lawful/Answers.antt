@@ -1,5 +1,0 @@
-use Rattle.lrs_orderly.proofs.Making.{sound_is_orderly_lawful}
-use Rattle.lrs_orderly.proofs.laws.sound_is_orderly_and_lawful.Goals as goal
-
-pub returns : goal.returns
-returns c = sound_is_orderly_lawful

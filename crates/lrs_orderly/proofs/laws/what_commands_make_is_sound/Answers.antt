@@ -1,5 +1,0 @@
-use Rattle.lrs_orderly.proofs.Making.{made_is_sound}
-use Rattle.lrs_orderly.proofs.laws.what_commands_make_is_sound.Goals as goal
-
-pub returns : goal.returns
-returns c = made_is_sound

@@ -1,5 +1,0 @@
-use Rattle.lrs_position.proofs.Entries.{HasWalked}
-use Rattle.lrs_position.proofs.linking.entry_of.Given as goal
-
-abbrev pub invariant-loop-piece : goal.invariant-loop-piece
-invariant-loop-piece l = HasWalked l.piece-items (l.link, l.mm) l.piece-index l.start

@@ -1,6 +1,0 @@
-use Rattle.std.proofs.Common.{◌≡◌, map, take}
-use Rattle.lrs_tables.specs.Stored.{mark_in}
-use Rattle.lrs_reader.proofs.cells.marks.Given as goal
-
-abbrev pub invariant-loop-row : goal.invariant-loop-row
-invariant-loop-row l = l.found.items ≡ map mark_in (take l.row-index l.rows)

@@ -1,6 +1,0 @@
-use Rattle.std.proofs.Common.{◌≡◌, map, take}
-use Rattle.lrs_tables.specs.Stored.{piece_in}
-use Rattle.lrs_reader.proofs.cells.pieces.Given as goal
-
-abbrev pub invariant-loop-row : goal.invariant-loop-row
-invariant-loop-row l = l.found.items ≡ map piece_in (take l.row-index l.rows)

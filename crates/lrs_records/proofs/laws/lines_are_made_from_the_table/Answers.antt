@@ -1,5 +1,0 @@
-use Rattle.lrs_records.proofs.TableLines.{lines_are_the_tables}
-use Rattle.lrs_records.proofs.laws.lines_are_made_from_the_table.Goals as goal
-
-pub returns : goal.returns
-returns c = lines_are_the_tables

@@ -1,2 +1,0 @@
-pub mod SeeingLemmas
-pub mod JudgedLemmas

@@ -1,7 +1,0 @@
-//! Replies to questions over HTTP.
-#![tactic(auto)]
-
-mod question;
-mod reply;
-
-pub use question::answer_asked;

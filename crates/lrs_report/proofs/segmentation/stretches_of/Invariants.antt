@@ -1,0 +1,7 @@
+use Rattle.std.proofs.Common.{◌≡◌, ◌++◌, drop}
+use Rattle.lrs_report.specs.Along.{asset_value}
+use Rattle.lrs_report.proofs.Following.{stretches_from}
+use Rattle.lrs_report.proofs.segmentation.stretches_of.Given as goal
+
+abbrev pub invariant-loop-row : goal.invariant-loop-row
+invariant-loop-row l = l.stretches.items ++ stretches_from (asset_value l.assets.rows) l.from l.len (drop l.row-index l.rows) ≡ stretches_from (asset_value l.assets.rows) 0 l.len l.rows

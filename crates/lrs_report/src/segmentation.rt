@@ -1,0 +1,156 @@
+//! The segments of a route, from the lanes of the classes asked for.
+
+ghost use Rattle.std.specs.Prelude.{◌≡◌, ℕ, ◌<◌, ◌++◌, true, map, IfOk, OnOk};
+ghost use Rattle.std.specs.List.{AllByRecursion, list_all};
+ghost use Rattle.lrs_measure.specs.Lists.{each_two};
+ghost use Rattle.lrs_events.specs.declared.side.LinkSide.{LinkSide as DeclaredSide};
+ghost use Rattle.lrs_machine.specs.Sound.{asset_before, class_before, is_span};
+ghost use Rattle.lrs_machine.specs.Segments.{is_exclusive_class, segment_fault, segments_of, value_of, values_of};
+ghost use Rattle.lrs_events_spans.specs.Search.{one_side};
+ghost use Rattle.lrs_report.specs.Along.{is_holder, holders_along, HasOneHolder, AreExclusive, IsAnswer, FollowOn, row_value};
+ghost use Rattle.lrs_report.specs.Columns.{IsColumn, gap, value_at, values_at};
+ghost use Rattle.lrs_report.specs.Sweep.{run_of};
+
+use crate::columns::{Column, Stretch};
+use crate::lookups::{asset_value, fault_of};
+use crate::sweep::sweep;
+use lrs_events::{Asset, Class, ClassName, LinkSide, Side, Span};
+use lrs_events_spans::Spans;
+use lrs_machine::{SegFault, Segment};
+use lrs_ordered::Chunked;
+use std::alloc::{AllocError, Global};
+
+/// Adds the stretch between two chainages, if there is something between them.
+fn push_gap(stretches: &mut Vec<Stretch>, from: u64, to: u64) -> Result<(), AllocError>
+    ensures { OnOk result (stretches.new.items ≡ stretches.old.items ++ gap from to) }
+{
+    if from < to {
+        stretches.push(Stretch { to, value: None })?;
+    }
+    Ok(())
+}
+
+/// The stretches of rows that follow one another, and those between them.
+fn stretches_of(
+    alloc: Global,
+    rows: &[Span],
+    assets: &Chunked<Asset>,
+    len: u64,
+) -> Result<Vec<Stretch>, AllocError>
+    requires order { each_two asset_before assets.now.rows ≡ true }
+    requires rows { FollowOn 0 len rows.now }
+    ensures column { IfOk result (λ found. IsColumn 0 len found.items) }
+    ensures values { IfOk result (λ found. (j : ℕ) → j < len → value_at found.items j ≡ row_value assets.now.rows rows.now j) }
+{
+    let mut stretches = Vec::new(alloc);
+    let mut from = 0;
+    for row in rows {
+        push_gap(&mut stretches, from, row.from)?;
+        stretches.push(Stretch {
+            to: row.to,
+            value: asset_value(assets, row.asset),
+        })?;
+        from = row.to;
+    }
+    push_gap(&mut stretches, from, len)?;
+    Ok(stretches)
+}
+
+/// What a class has along a route on one side, where no two of its assets hold one millimetre.
+fn column_of(
+    alloc: Global,
+    class: ClassName,
+    side: LinkSide,
+    spans: &Spans,
+    assets: &Chunked<Asset>,
+    len: u64,
+) -> Result<Column, AllocError>
+    requires order { each_two asset_before assets.now.rows ≡ true }
+    requires rows { list_all (is_span assets.now.rows len) spans.now ≡ true }
+    requires one { HasOneHolder spans.now class }
+    ensures column { IfOk result (λ column. IsColumn 0 len column) }
+    ensures values { IfOk result (λ column. (j : ℕ) → j < len → value_at column j ≡ value_of assets.now.rows (is_holder spans.now side j) class) }
+{
+    let _canonical = spans.rows();
+    let lane = spans.lane(class, side);
+    let stretches = stretches_of(alloc, lane, assets, len)?;
+    Ok(Column::new(stretches))
+}
+
+/// What each of these classes has along a route on one side.
+fn columns_of(
+    alloc: Global,
+    wanted: &[ClassName],
+    side: LinkSide,
+    spans: &Spans,
+    assets: &Chunked<Asset>,
+    len: u64,
+) -> Result<Vec<Column>, AllocError>
+    requires order { each_two asset_before assets.now.rows ≡ true }
+    requires rows { list_all (is_span assets.now.rows len) spans.now ≡ true }
+    requires one { AllByRecursion (HasOneHolder spans.now) wanted.now }
+    ensures columns { IfOk result (λ columns. AllByRecursion (IsColumn 0 len) columns.items) }
+    ensures values { IfOk result (λ columns. (j : ℕ) → j < len → values_at columns.items j ≡ values_of assets.now.rows wanted.now (is_holder spans.now side j)) }
+{
+    let mut columns = Vec::with_capacity(alloc, wanted.len())?;
+    for class in wanted {
+        columns.push(column_of(alloc, *class, side, spans, assets, len)?)?;
+    }
+    Ok(columns)
+}
+
+/// The segments of these classes on one side of a route.
+fn segments_on(
+    alloc: Global,
+    wanted: &[ClassName],
+    side: LinkSide,
+    spans: &Spans,
+    assets: &Chunked<Asset>,
+    len: u64,
+) -> Result<Vec<Segment>, AllocError>
+    requires order { each_two asset_before assets.now.rows ≡ true }
+    requires rows { list_all (is_span assets.now.rows len) spans.now ≡ true }
+    requires one { AllByRecursion (HasOneHolder spans.now) wanted.now }
+    ensures { IfOk result (λ found. map run_of found.items ≡ segments_of assets.now.rows wanted.now (holders_along spans.now side len)) }
+{
+    let columns = columns_of(alloc, wanted, side, spans, assets, len)?;
+    sweep(alloc, columns, len)
+}
+
+/// The segments of a route of this length on one side of it: the maximal runs of its millimetres over which each class asked
+/// for has one value or none. They follow one another from the route's start to its end, also where no class has a value.
+///
+/// The assets are those of the inventory, in the order of their numbers, and the classes in the order of their names; each row
+/// of the route lies on it and is of a known asset and of its class, and of an exclusive class no two assets hold one
+/// millimetre on one side, as in each sound inventory.
+///
+/// # Errors
+/// Those that `segment_fault` names, before any memory is taken, and `Memory`.
+pub fn segments(
+    alloc: Global,
+    len: u64,
+    spans: &Spans,
+    assets: &Chunked<Asset>,
+    classes: &Chunked<Class>,
+    wanted: &[ClassName],
+    side: Side,
+) -> Result<Vec<Segment>, SegFault>
+    requires assets_order { each_two asset_before assets.now.rows ≡ true }
+    requires classes_order { each_two class_before classes.now.rows ≡ true }
+    requires rows { list_all (is_span assets.now.rows len) spans.now ≡ true }
+    requires exclusive { AreExclusive classes.now.rows spans.now }
+    ensures { IsAnswer (segment_fault classes.now.rows wanted.now side) (λ found. (s : DeclaredSide) → side ≡ one_side s → map run_of found.items ≡ segments_of assets.now.rows wanted.now (holders_along spans.now s len)) result }
+{
+    if let Some(fault) = fault_of(classes, wanted, side) {
+        return Err(fault);
+    }
+    let on = match side {
+        Side::L => LinkSide::Left,
+        Side::R => LinkSide::Right,
+        Side::B => return Err(SegFault::SideB),
+    };
+    match segments_on(alloc, wanted, on, spans, assets, len) {
+        Ok(found) => Ok(found),
+        Err(AllocError) => Err(SegFault::Memory),
+    }
+}

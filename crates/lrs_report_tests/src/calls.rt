@@ -1,0 +1,163 @@
+//! The calls of `Spans`, each made only where what it requires is seen to hold.
+
+ghost use Rattle.std.specs.Prelude.{◌≡◌, ◌+◌, nat_le};
+ghost use Rattle.std.specs.List.{list_all};
+ghost use Rattle.lrs_events.specs.Spans.{is_row};
+ghost use Rattle.lrs_events_rows.specs.Joins.{end_by, have_room, is_of_one_class, are_of_one_class};
+ghost use Rattle.lrs_events_rows.specs.Members.{leaves_free, is_free};
+
+use lrs_events::{Span, SpanChange};
+use lrs_events_rows::removals::Removal;
+use lrs_events_spans::Spans;
+use std::alloc::{AllocError, Global};
+
+// The length of the longest route in millimetres.
+const LONGEST_ROUTE: u64 = 10_000_000_000;
+
+fn is_row(span: &Span) -> bool
+    ensures { result ≡ is_row span.now }
+{
+    span.from < span.to && span.to <= LONGEST_ROUTE
+}
+
+fn leaves_free(row: &Span, span: &Span) -> bool
+    ensures { result ≡ leaves_free span.now row.now }
+{
+    row.asset != span.asset
+        || (row.class == span.class && (row.to <= span.from || span.to <= row.from))
+}
+
+/// Whether the span's asset has no other class and nothing of its millimetres.
+pub fn is_free(rows: &[Span], span: &Span) -> bool
+    ensures { result ≡ is_free rows.now span.now }
+{
+    rows.iter().all(|row| leaves_free(row, span))
+}
+
+fn end_by(rows: &[Span], at: u64) -> bool
+    ensures { result ≡ end_by at rows.now }
+{
+    rows.iter().all(|row| row.to <= at)
+}
+
+fn has_room(row: &Span, shift: u64) -> bool
+    ensures { result ≡ nat_le (row.now.to + shift) 10000000000 }
+{
+    shift <= LONGEST_ROUTE && row.to <= LONGEST_ROUTE - shift
+}
+
+fn have_room(rows: &[Span], shift: u64) -> bool
+    ensures { result ≡ have_room shift rows.now }
+{
+    rows.iter().all(|row| has_room(row, shift))
+}
+
+fn is_of_one_class(row: &Span, other: &Span) -> bool
+    ensures { result ≡ is_of_one_class row.now other.now }
+{
+    row.asset != other.asset || row.class == other.class
+}
+
+fn each_is_of_one_class(row: &Span, others: &[Span]) -> bool
+    ensures { result ≡ list_all (is_of_one_class row.now) others.now }
+{
+    others.iter().all(|other| is_of_one_class(row, other))
+}
+
+fn are_of_one_class(rows: &[Span], others: &[Span]) -> bool
+    ensures { result ≡ are_of_one_class rows.now others.now }
+{
+    rows.iter().all(|row| each_is_of_one_class(row, others))
+}
+
+/// Adds the span where it is free, and answers whether it was.
+pub fn add(spans: &mut Spans, alloc: Global, span: &Span) -> Result<bool, AllocError> {
+    if !is_row(span) || !is_free(spans.rows(), span) {
+        return Ok(false);
+    }
+    spans.add(alloc, *span)?;
+    Ok(true)
+}
+
+/// Plans to add the span and makes that change, where it is free.
+pub fn apply_add(spans: &mut Spans, alloc: Global, span: &Span) -> Result<bool, AllocError> {
+    if !is_row(span) || !is_free(spans.rows(), span) {
+        return Ok(false);
+    }
+    let change = spans.plan_add(alloc, *span)?;
+    spans.apply(&change)?;
+    Ok(true)
+}
+
+/// Plans to take away what lies on the stretch and makes that change.
+pub fn apply_remove_within(
+    spans: &mut Spans,
+    alloc: Global,
+    low: u64,
+    high: u64,
+) -> Result<bool, AllocError> {
+    if low >= high {
+        return Ok(false);
+    }
+    let removal = spans.plan_remove_within(alloc, low, high)?;
+    spans.apply(&removal.change)?;
+    Ok(true)
+}
+
+/// Takes away what lies on the stretch, if it has a millimetre.
+pub fn remove_within(
+    spans: &mut Spans,
+    alloc: Global,
+    low: u64,
+    high: u64,
+) -> Result<Option<Removal>, AllocError> {
+    if low >= high {
+        return Ok(None);
+    }
+    let removal = spans.remove_within(alloc, low, high)?;
+    Ok(Some(removal))
+}
+
+/// Takes away what the span's asset has on its stretch, if that has a millimetre.
+pub fn remove_asset_within(
+    spans: &mut Spans,
+    alloc: Global,
+    span: &Span,
+) -> Result<Option<Removal>, AllocError> {
+    if span.from >= span.to {
+        return Ok(None);
+    }
+    let removal = spans.remove_asset_within(alloc, span.class, span.asset, span.from, span.to)?;
+    Ok(Some(removal))
+}
+
+/// Lets the route go on as the other, where that can be, and answers whether it could.
+pub fn concat(
+    spans: &mut Spans,
+    alloc: Global,
+    other: &Spans,
+    shift: u64,
+) -> Result<bool, AllocError> {
+    if !end_by(spans.rows(), shift)
+        || !have_room(other.rows(), shift)
+        || !are_of_one_class(spans.rows(), other.rows())
+    {
+        return Ok(false);
+    }
+    spans.concat(alloc, other, shift)?;
+    Ok(true)
+}
+
+/// The spans from the other end of a route of this length, if none ends behind it.
+pub fn turned(spans: &Spans, alloc: Global, len: u64) -> Result<Option<Spans>, AllocError> {
+    if len > LONGEST_ROUTE || !end_by(spans.rows(), len) {
+        return Ok(None);
+    }
+    let turned = spans.turned(alloc, len)?;
+    Ok(Some(turned))
+}
+
+/// The spans of a list of the same rows.
+pub fn again(spans: &Spans, alloc: Global) -> Result<Spans, AllocError> {
+    Spans::of_rows(alloc, Vec::from_slice(alloc, spans.rows())?)
+}

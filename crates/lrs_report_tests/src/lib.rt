@@ -1,0 +1,19 @@
+//! Tests of lrs_events_spans: random calls beside a plain table of what assets hold, and each growth of a list refused.
+//! Tests of segments.
+#![tactic(auto)]
+
+#[cfg(test)]
+mod calls;
+pub mod draws;
+#[cfg(test)]
+mod segments;
+#[cfg(test)]
+mod segments_memory;
+#[cfg(test)]
+mod span_queries;
+#[cfg(test)]
+mod spans;
+#[cfg(test)]
+mod spans_memory;
+#[cfg(test)]
+mod table;

@@ -1,0 +1,179 @@
+//! Segments of a route, and their strip.
+
+ghost use Rattle.std.specs.Prelude.{◌≡◌, ◌∷◌, [], IfOk};
+
+use lrs_events::{Asset, Class, ClassName, Kind, Side, Span, Value};
+use lrs_events_spans::Spans;
+use lrs_machine::{SegFault, Segment};
+use lrs_ordered::Chunked;
+use lrs_position::RouteName;
+use lrs_report::{segments, strip};
+use std::alloc::{AllocError, AllocGlobal, Global};
+use std::process::Abort;
+
+/// A stretch of asset 10 on the right.
+fn stretch(class: ClassName, from: u64, to: u64) -> Span
+    ensures { result ≡ record { asset = 10; class = class; from = from; to = to; side = Side.R } }
+{
+    Span {
+        asset: 10,
+        class,
+        from,
+        to,
+        side: Side::R,
+    }
+}
+
+/// Asset 10 on the right, from 2.5 m to 4 m and from 6 m to 8 m.
+fn two_stretches(alloc: Global, class: ClassName) -> Result<Spans, AllocError>
+    ensures { IfOk result (λ spans. spans ≡ record { asset = 10; class = class; from = 2500; to = 4000; side = Side.R } ∷ record { asset = 10; class = class; from = 6000; to = 8000; side = Side.R } ∷ []) }
+{
+    let rows = [stretch(class, 2500, 4000), stretch(class, 6000, 8000)];
+    Spans::of_rows(alloc, Vec::from_slice(alloc, &rows)?)
+}
+
+fn one_asset(alloc: Global, class: ClassName, value: Value) -> Result<Chunked<Asset>, AllocError>
+    ensures { IfOk result (λ assets. assets.rows ≡ record { number = 10; class = class; value = value; lateral = 0; entry = 1 } ∷ []) }
+{
+    let mut assets = Chunked::new(alloc);
+    assets.push(Asset {
+        number: 10,
+        class,
+        value,
+        lateral: 0,
+        entry: 1,
+    })?;
+    Ok(assets)
+}
+
+fn one_class(alloc: Global, name: ClassName, kind: Kind) -> Result<Chunked<Class>, AllocError>
+    ensures { IfOk result (λ classes. classes.rows ≡ record { name = name; kind = kind } ∷ []) }
+{
+    let mut classes = Chunked::new(alloc);
+    classes.push(Class { name, kind })?;
+    Ok(classes)
+}
+
+/// Those stretches, tried again where memory was refused.
+fn spans_of(rt: &(impl Abort + AllocGlobal), class: ClassName) -> Spans
+    ensures { result ≡ record { asset = 10; class = class; from = 2500; to = 4000; side = Side.R } ∷ record { asset = 10; class = class; from = 6000; to = 8000; side = Side.R } ∷ [] }
+{
+    match two_stretches(rt.alloc(), class) {
+        Ok(spans) => spans,
+        Err(_) => two_stretches(rt.alloc(), class).expect(rt, "memory"),
+    }
+}
+
+fn assets_of(rt: &(impl Abort + AllocGlobal), class: ClassName, value: Value) -> Chunked<Asset>
+    ensures { result.rows ≡ record { number = 10; class = class; value = value; lateral = 0; entry = 1 } ∷ [] }
+{
+    match one_asset(rt.alloc(), class, value) {
+        Ok(assets) => assets,
+        Err(_) => one_asset(rt.alloc(), class, value).expect(rt, "memory"),
+    }
+}
+
+fn classes_of(rt: &(impl Abort + AllocGlobal), name: ClassName, kind: Kind) -> Chunked<Class>
+    ensures { result.rows ≡ record { name = name; kind = kind } ∷ [] }
+{
+    match one_class(rt.alloc(), name, kind) {
+        Ok(classes) => classes,
+        Err(_) => one_class(rt.alloc(), name, kind).expect(rt, "memory"),
+    }
+}
+
+pub(super) fn name(rt: &impl Abort, text: &[u8]) -> ClassName {
+    ClassName::new(text).expect(rt, "a class name")
+}
+
+/// The segments of a route of 8 m, along which a speed of 80 holds on two stretches.
+pub(super) fn segments_of(
+    rt: &(impl Abort + AllocGlobal),
+    kind: Kind,
+    wanted: &[ClassName],
+    side: Side,
+) -> Result<Vec<Segment>, SegFault> {
+    let alloc = rt.alloc();
+    let class = name(rt, b"SPEED");
+    let value = Value::new(b"80").expect(rt, "a value");
+    let spans = spans_of(rt, class);
+    let assets = assets_of(rt, class, value);
+    let classes = classes_of(rt, class, kind);
+    segments(alloc, 8000, &spans, &assets, &classes, wanted, side)
+}
+
+/// The strip of such segments.
+fn strip_of(
+    rt: &(impl Abort + AllocGlobal),
+    found: &[Segment],
+    wanted: &[ClassName],
+    side: Side,
+) -> Vec<u8> {
+    let route = RouteName::new(b"A1").expect(rt, "a route name");
+    let mut written = Vec::new(rt.alloc());
+    strip(&mut written, &route, side, 8000, wanted, found).expect(rt, "memory");
+    written
+}
+
+#[test]
+fn each_side_has_its_strip(rt: HostRuntime) {
+    let wanted = [name(&rt, b"SPEED")];
+    let right =
+        "STRIP A1 R 8.000\n        FROM           TO        SPEED\n       0.000        2.500            -\n       2.500        4.000           80\n       4.000        6.000            -\n       6.000        8.000           80\n";
+    let left =
+        "STRIP A1 L 8.000\n        FROM           TO        SPEED\n       0.000        8.000            -\n";
+    for (side, text) in [(Side::R, right), (Side::L, left)] {
+        let found = segments_of(&rt, Kind::Exclusive, &wanted, side).expect(&rt, "segments");
+        let written = strip_of(&rt, &found, &wanted, side);
+        assert_eq!(rt; written.as_slice(), text.as_bytes());
+    }
+}
+
+#[test]
+fn a_class_can_be_asked_for_twice_or_not_at_all(rt: HostRuntime) {
+    let speed = name(&rt, b"SPEED");
+    let twice = [speed, speed];
+    let found = segments_of(&rt, Kind::Exclusive, &twice, Side::R).expect(&rt, "segments");
+    let written = strip_of(&rt, &found, &twice, Side::R);
+    let text =
+        "STRIP A1 R 8.000\n        FROM           TO        SPEED        SPEED\n       0.000        2.500            -            -\n       2.500        4.000           80           80\n       4.000        6.000            -            -\n       6.000        8.000           80           80\n";
+    assert_eq!(rt; written.as_slice(), text.as_bytes());
+    let found = segments_of(&rt, Kind::Exclusive, &[], Side::R).expect(&rt, "segments");
+    let written = strip_of(&rt, &found, &[], Side::R);
+    let text = "STRIP A1 R 8.000\n        FROM           TO\n       0.000        8.000\n";
+    assert_eq!(rt; written.as_slice(), text.as_bytes());
+}
+
+#[test]
+fn a_route_without_assets_has_one_segment(rt: HostRuntime) {
+    let speed = name(&rt, b"SPEED");
+    let classes = classes_of(&rt, speed, Kind::Exclusive);
+    let spans = Spans::empty(rt.alloc());
+    let assets = Chunked::new(rt.alloc());
+    let found = segments(
+        rt.alloc(),
+        8000,
+        &spans,
+        &assets,
+        &classes,
+        &[speed],
+        Side::L,
+    )
+    .expect(&rt, "segments");
+    let written = strip_of(&rt, &found, &[speed], Side::L);
+    let text =
+        "STRIP A1 L 8.000\n        FROM           TO        SPEED\n       0.000        8.000            -\n";
+    assert_eq!(rt; written.as_slice(), text.as_bytes());
+}
+
+#[test]
+fn faults_come_in_their_order(rt: HostRuntime) {
+    let speed = name(&rt, b"SPEED");
+    let width = name(&rt, b"WIDTH");
+    let unknown = segments_of(&rt, Kind::Stretch, &[speed, width], Side::B);
+    assert_eq!(rt; unknown.err(), Some(SegFault::NoClass(1)));
+    let shared = segments_of(&rt, Kind::Stretch, &[speed], Side::B);
+    assert_eq!(rt; shared.err(), Some(SegFault::NotExclusive(0)));
+    let both = segments_of(&rt, Kind::Exclusive, &[speed], Side::B);
+    assert_eq!(rt; both.err(), Some(SegFault::SideB));
+}

@@ -1,6 +1,0 @@
-use Rattle.std.proofs.Common.{sym, ◌∙◌}
-use Rattle.lrs_segments.proofs.Faults.{holders_are_one}
-use Rattle.lrs_segments.proofs.segmenting.segments.Goals as goal
-
-pub segments_on-requires-clause-one : goal.segments_on-requires-clause-one
-segments_on-requires-clause-one c = holders_are_one c.args.classes.now.rows c.args.spans.now c.args.wanted.now c.args.side c.requires.exclusive (sym c.fault_of.ensures ∙ c.in_default.is)

@@ -1,6 +1,0 @@
-use Rattle.std.proofs.Common.{◌≡◌, map, take}
-use Rattle.lrs_segments.specs.Columns.{first_value}
-use Rattle.lrs_segments.proofs.sweeping.first_values.Given as goal
-
-abbrev pub invariant-loop-column : goal.invariant-loop-column
-invariant-loop-column l = l.values.items ≡ map first_value (take l.column-index l.columns)

@@ -1,6 +1,0 @@
-use Rattle.std.proofs.Common.{arith}
-use Rattle.lrs_segments.proofs.Passing.{least_within}
-use Rattle.lrs_segments.proofs.sweeping.least_end.Goals as goal
-
-pub loop-column-init : goal.loop-column-init
-loop-column-init c = let w = least_within c.args.len c.args.columns.now in record { least = omega (arith, w); within = omega arith }

@@ -1,9 +1,0 @@
-use Rattle.std.proofs.Common.{◌≡◌, ◌≤◌, drop, min}
-use Rattle.lrs_segments.specs.Columns.{least_end}
-use Rattle.lrs_segments.proofs.sweeping.least_end.Given as goal
-
-abbrev pub invariant-loop-column : goal.invariant-loop-column
-invariant-loop-column l = record {
-  least : min l.least (least_end l.len (drop l.column-index l.columns)) ≡ least_end l.len l.columns;
-  within : l.least ≤ l.len;
-}

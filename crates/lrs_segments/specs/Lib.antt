@@ -1,5 +1,0 @@
-pub mod Columns
-pub mod Sweep
-pub mod Along
-pub mod InState
-pub mod Strips

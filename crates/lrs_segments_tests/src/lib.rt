@@ -1,7 +1,0 @@
-//! Tests of segments.
-#![tactic(auto)]
-
-#[cfg(test)]
-mod refused;
-#[cfg(test)]
-mod segments;

@@ -1,0 +1,90 @@
+-- The fields of a record by their places.
+use Rattle.std.proofs.Common.{Ok, Err, Result, ◌∙◌, Option, ◌-◌, sym, subst, ◌≡◌, ℕ, zero, suc, ◌≤◌, ◌<◌, ◌+◌, List, [], ◌∷◌, length, arith, refl, inl, inr, Some, None}
+use Rattle.std.specs.Prelude.{slice_get, Contains, IsTrue}
+use Rattle.std.specs.List.{AllByRecursion}
+use Rattle.csv.specs.Records.{field_at}
+use Rattle.lrs_sheet_records.specs.Records.{FirstMalformedAmong, IsWellFormedAmong, Refuses, place_of, text_at, texts_of}
+use Rattle.lrs_sheet_records.specs.Shapes.{Fits, Shape}
+use Rattle.lrs_sheet_records.specs.Verbs.{IsVerb, all_verbs, shapes_of}
+use Rattle.lrs_sheet_records.specs.Fields.{FirstMisfit, ReadsArguments, ReadsCommand}
+use Rattle.lrs_machine.specs.declared.command.Command.{Command}
+use Rattle.lrs_sheet_records.specs.declared.fault.ReadFault.{ReadFault}
+use Rattle.lrs_sheet_records.specs.declared.fault.ReadFault.TheVariants as fault
+use Rattle.lrs_machine.specs.Keys.{is_key}
+
+-- there is nothing past the end
+pub text_at-past : (fields : List (List ℕ)) (i : ℕ) → length fields ≤ i → text_at fields i ≡ []
+unfolding field_at
+text_at-past [] i h = refl
+text_at-past (f ∷ fs) zero h = absurd (omega arith)
+text_at-past (f ∷ fs) (suc i) h = text_at-past fs i (omega arith)
+
+-- a field at an equal place
+pub fits-along : (fields : List (List ℕ)) (shape : Option Shape) (a b : ℕ) → a ≡ b → Fits (texts_of fields) shape (text_at fields a) → Fits (texts_of fields) shape (text_at fields b)
+fits-along fields shape a b e h = subst (λ (p : ℕ). Fits (texts_of fields) shape (text_at fields p)) e h
+
+-- the first misfit, by its place among the shapes
+pub misfit-at : (fields : List (List ℕ)) (place : ℕ) (shapes : List Shape) (m : ℕ) → FirstMisfit fields place shapes m
+    → (j : ℕ) × (m ≡ place + j) × (Fits (texts_of fields) (slice_get shapes j) (text_at fields (place + j)) → ⊥)
+    × ((i : ℕ) → i < j → Fits (texts_of fields) (slice_get shapes i) (text_at fields (place + i)))
+misfit-at fields place [] m h =
+    let e : m ≡ place + (m - place) = omega (arith, h.0) in (
+      m - place,
+      e,
+      (λ none. h.2 (fits-along fields None (place + (m - place)) m (sym e) none)),
+      (λ i below. h.1 (place + i) (omega arith) (omega arith)),
+    )
+misfit-at fields place (shape ∷ shapes) m (inl h) = (
+  0,
+  omega (arith, h.0),
+  (λ fits. h.1 (fits-along fields (Some shape) (place + 0) place (omega arith) fits)),
+  (λ i below. absurd (omega arith)),
+)
+misfit-at fields place (shape ∷ shapes) m (inr h) =
+    let (j, e, bad, earlier) = misfit-at fields (place + 1) shapes m h.1 in (
+      suc j,
+      omega arith,
+      (λ fits. bad (fits-along fields (slice_get shapes j) (place + suc j) (place + 1 + j) (omega arith) fits)),
+      from h.0 j earlier,
+    )
+  where
+    from : Fits (texts_of fields) (Some shape) (text_at fields place) → (j : ℕ) → ((i : ℕ) → i < j → Fits (texts_of fields) (slice_get shapes i) (text_at fields (place + 1 + i)))
+        → (i : ℕ) → i < suc j → Fits (texts_of fields) (slice_get (shape ∷ shapes) i) (text_at fields (place + i))
+    from first j earlier zero below = fits-along fields (Some shape) place (place + 0) (omega arith) first
+    from first j earlier (suc i) below = fits-along fields (slice_get shapes i) (place + 1 + i) (place + suc i) (omega arith) (earlier i (omega arith))
+
+-- where the key and the verb are well formed, the first misfit is the first malformed field
+pub misfit-malformed : (names fields : List (List ℕ)) (m : ℕ) → IsTrue (is_key (text_at fields 0)) → Contains names (text_at fields 1)
+    → FirstMisfit fields 2 (shapes_of (text_at fields 1)) m → FirstMalformedAmong names fields m
+misfit-malformed names fields m key verb h =
+    let (j, e, bad, earlier) = misfit-at fields 2 (shapes_of (text_at fields 1)) m h in
+    let at : m ≡ suc (suc j) = omega arith in
+    rw at (record { malformed = bad; earlier = before j earlier })
+  where
+    before : (j : ℕ) → ((i : ℕ) → i < j → Fits (texts_of fields) (slice_get (shapes_of (text_at fields 1)) i) (text_at fields (2 + i)))
+        → (i : ℕ) → i < suc (suc j) → IsWellFormedAmong names fields i
+    before j earlier zero below = key
+    before j earlier (suc zero) below = verb
+    before j earlier (suc (suc i)) below = earlier i (omega arith)
+
+-- a name that differs from each of a list is not among them
+pub not-among : (names : List (List ℕ)) (name : List ℕ) → AllByRecursion (λ other. name ≡ other → ⊥) names → Contains names name → ⊥
+not-among [] name h (k, below, is) = absurd (omega arith)
+not-among (other ∷ names) name h (zero, below, is) = h.0 (sym is)
+not-among (other ∷ names) name h (suc k, below, is) = not-among names name h.1 (k, omega arith, is)
+
+-- a fault of the fields after a well formed key
+pub refuses : (fields : List (List ℕ)) (e : ReadFault) → IsTrue (is_key (text_at fields 0)) → ReadsCommand fields (Err e) → Refuses fields e
+refuses fields fault.Memory key reads = tt
+refuses fields (fault.Field at) key (inl (is, unknown)) = rw is (record { malformed = unknown; earlier = λ i below. first i below })
+  where
+    first : (i : ℕ) → i < 1 → IsWellFormedAmong all_verbs fields i
+    first zero below = key
+    first (suc i) below = absurd (omega arith)
+refuses fields (fault.Field at) key (inr (known, misfit)) = misfit-malformed all_verbs fields (place_of at) key known misfit
+
+-- the fields of a verb that there is
+pub reads-verb : (fields : List (List ℕ)) (verb : List ℕ) (result : Result Command ReadFault) → IsVerb verb → text_at fields 1 ≡ verb → ReadsArguments fields verb result → ReadsCommand fields result
+reads-verb fields verb (Ok command) known is reads = (rw is known, is ∙ sym reads.0, rw reads.0 reads.1)
+reads-verb fields verb (Err (fault.Field field)) known is reads = inr (rw is known, rw is reads)
+reads-verb fields verb (Err fault.Memory) known is reads = tt

@@ -1,0 +1,70 @@
+-- What one field of a record may say: its shape, and the argument that a text of that shape says.
+use Rattle.std.specs.Prelude.{◌≡◌, ℕ, List, [], Option, Some, None, IsTrue}
+use Rattle.lrs_element.specs.declared.link.Piece.{Piece}
+use Rattle.lrs_element.specs.declared.marks.Mark.{Mark}
+use Rattle.lrs_position.specs.Names.{is_route_name, is_referent_name}
+use Rattle.lrs_position.specs.Readings.{States, method_text}
+use Rattle.lrs_position.specs.declared.expression.Expr.{Expr}
+use Rattle.lrs_position.specs.declared.expression.Method.{Method}
+use Rattle.lrs_events.specs.Names.{is_class_name, is_value, kind_text, side_text}
+use Rattle.lrs_events.specs.declared.class.Kind.{Kind}
+use Rattle.lrs_events.specs.declared.side.Side.{Side}
+use Rattle.lrs_machine.specs.Entered.{are_entered_pieces, are_entered_marks}
+use Rattle.lrs_machine.specs.Lines.{Text}
+use Rattle.lrs_machine.specs.declared.answer.Field.{Field}
+use Rattle.lrs_sheet_records.specs.Words.{AreSaid, IsMarkText, IsPieceText, SaysNumber, words_of}
+
+-- an argument of a command, or that there is nothing in its place
+pub data Argument : Type 0 where
+  Nothing : Argument
+  Number : ℕ → Argument
+  Word : Text → Argument
+  KindOf : Kind → Argument
+  SideOf : Side → Argument
+  MethodOf : Method → Argument
+  At : Expr → Argument
+  PiecesOf : List Piece → Argument
+  MarksOf : List Mark → Argument
+
+-- what a field may say: a number between two bounds, a name of one of the alphabets, one of the words for kinds, sides and methods, a position by the method that another field names, a list, or one of these that may be missing
+pub data Shape : Type 0 where
+  Whole : ℕ → ℕ → Shape
+  ClassName : Shape
+  RouteName : Shape
+  ReferentName : Shape
+  AssetValue : Shape
+  ClassKind : Shape
+  RouteSide : Shape
+  MethodName : Shape
+  PositionBy : Field → Shape
+  Pieces : Shape
+  Marks : Shape
+  OrNothing : Shape → Shape
+
+-- The text states the expression by the method of this name.
+abbrev pub StatesBy : Text → Text → Expr → Type 0
+StatesBy name text e = (method : Method) × (name ≡ method_text method) × States method text e
+
+-- The text says this argument, where the record's fields have these texts.
+abbrev pub Says : (Field → Text) → Shape → Text → Argument → Type 0
+Says texts (Whole low high) text (Number n) = SaysNumber low high text n
+Says texts ClassName text (Word name) = IsTrue (is_class_name text) × (name ≡ text)
+Says texts RouteName text (Word name) = IsTrue (is_route_name text) × (name ≡ text)
+Says texts ReferentName text (Word name) = IsTrue (is_referent_name text) × (name ≡ text)
+Says texts AssetValue text (Word value) = IsTrue (is_value text) × (value ≡ text)
+Says texts ClassKind text (KindOf kind) = text ≡ kind_text kind
+Says texts RouteSide text (SideOf side) = text ≡ side_text side
+Says texts MethodName text (MethodOf method) = text ≡ method_text method
+Says texts (PositionBy field) text (At e) = StatesBy (texts field) text e
+Says texts Pieces text (PiecesOf pieces) = AreSaid IsPieceText (words_of text) pieces × IsTrue (are_entered_pieces pieces)
+Says texts Marks text (MarksOf marks) = AreSaid IsMarkText (words_of text) marks × IsTrue (are_entered_marks marks)
+-- an empty text says that there is nothing
+Says texts (OrNothing shape) text Nothing = text ≡ []
+Says texts (OrNothing shape) text argument = Says texts shape text argument
+-- no other argument is said
+Says texts _ text _ = ⊥
+
+-- the text says an argument of the shape, and where no shape is wanted it is empty
+abbrev pub Fits : (Field → Text) → Option Shape → Text → Type 0
+Fits texts None text = text ≡ []
+Fits texts (Some shape) text = (argument : Argument) × Says texts shape text argument

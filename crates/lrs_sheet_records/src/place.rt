@@ -1,0 +1,155 @@
+//! What the fields of a record say of sides, values, numbers and positions.
+
+ghost use Rattle.std.specs.Prelude.{◌≡◌, IsTrue};
+ghost use Rattle.lrs_position.specs.Expressions.{are_alike};
+ghost use Rattle.lrs_sheet_records.specs.Kinds.{edit_fields};
+ghost use Rattle.lrs_position.specs.Readings.{method_text};
+ghost use Rattle.lrs_sheet_records.specs.Records as spec;
+ghost use Rattle.lrs_sheet_records.specs.Shapes;
+ghost use Rattle.lrs_sheet_records.specs.Shapes.{Number, Word, SideOf, MethodOf, At, PiecesOf, PositionBy, OrNothing};
+ghost use Rattle.lrs_sheet_records.specs.Verbs.{asset_number, chainage, or_nothing};
+ghost use Rattle.lrs_sheet_records.specs.Fields.{ReadsField, ReadsList};
+
+use crate::fault::ReadFault;
+use crate::shape::{pieces_at, place_of, whole_at};
+use crate::sheet::{SheetRecord, text_at};
+use lrs_events::{Side, Value, read_side};
+use lrs_machine::{AssetNumber, Chainage, Field, LateralOffset, PieceList};
+use lrs_position::{EnteredPosition, EventLocation, Method, RefName, read_expr, read_method};
+use std::alloc::Global;
+
+/// The name of a referent.
+pub(crate) fn referent_name_at(row: &SheetRecord<'_>, field: Field) -> Result<RefName, ReadFault>
+    ensures { ReadsField Shapes.ReferentName Word (edit_fields row.now) field result }
+{
+    match RefName::new(text_at(row, place_of(field))) {
+        Some(name) => Ok(name),
+        None => Err(ReadFault::Field(field)),
+    }
+}
+
+/// A value.
+pub(crate) fn value_at(row: &SheetRecord<'_>, field: Field) -> Result<Value, ReadFault>
+    ensures { ReadsField Shapes.AssetValue Word (edit_fields row.now) field result }
+{
+    match Value::new(text_at(row, place_of(field))) {
+        Some(value) => Ok(value),
+        None => Err(ReadFault::Field(field)),
+    }
+}
+
+/// A side of a route.
+pub(crate) fn side_at(row: &SheetRecord<'_>, field: Field) -> Result<Side, ReadFault>
+    ensures { ReadsField Shapes.RouteSide SideOf (edit_fields row.now) field result }
+{
+    match read_side(text_at(row, place_of(field))) {
+        Some(side) => Ok(side),
+        None => Err(ReadFault::Field(field)),
+    }
+}
+
+/// The number of an asset.
+pub(crate) fn asset_at(row: &SheetRecord<'_>, field: Field) -> Result<AssetNumber, ReadFault>
+    ensures { ReadsField asset_number Number (edit_fields row.now) field result }
+{
+    match AssetNumber::new(whole_at(row, field, 1, 1_000_000_000_000)?) {
+        Some(asset) => Ok(asset),
+        None => unreachable!(),
+    }
+}
+
+/// A chainage.
+pub(crate) fn chainage_at(row: &SheetRecord<'_>, field: Field) -> Result<Chainage, ReadFault>
+    ensures { ReadsField chainage Number (edit_fields row.now) field result }
+{
+    match Chainage::new(whole_at(row, field, 0, 10_000_000_000)?) {
+        Some(at) => Ok(at),
+        None => unreachable!(),
+    }
+}
+
+/// A lateral offset.
+pub(crate) fn offset_at(row: &SheetRecord<'_>, field: Field) -> Result<LateralOffset, ReadFault>
+    ensures { ReadsField (Shapes.Whole 0 100_000) Number (edit_fields row.now) field result }
+{
+    match LateralOffset::new(whole_at(row, field, 0, 100_000)? as u32) {
+        Some(offset) => Ok(offset),
+        None => unreachable!(),
+    }
+}
+
+/// A method.
+pub(crate) fn method_at(row: &SheetRecord<'_>, field: Field) -> Result<Method, ReadFault>
+    ensures { ReadsField Shapes.MethodName MethodOf (edit_fields row.now) field result }
+{
+    match read_method(text_at(row, place_of(field))) {
+        Some(method) => Ok(method),
+        None => Err(ReadFault::Field(field)),
+    }
+}
+
+/// A position by the method that the field `by` names.
+pub(crate) fn position_at(
+    row: &SheetRecord<'_>,
+    by: Field,
+    method: Method,
+    field: Field,
+) -> Result<EnteredPosition, ReadFault>
+    requires { spec.texts_of (edit_fields row.now) by ≡ method_text method }
+    ensures { ReadsField (PositionBy by) At (edit_fields row.now) field result }
+{
+    match read_expr(method, text_at(row, place_of(field))) {
+        Some(expression) => match EnteredPosition::new(expression) {
+            Some(position) => Ok(position),
+            None => unreachable!(),
+        },
+        None => Err(ReadFault::Field(field)),
+    }
+}
+
+/// The same, or none where the field is empty.
+pub(crate) fn end_at(
+    row: &SheetRecord<'_>,
+    by: Field,
+    method: Method,
+    field: Field,
+) -> Result<Option<EnteredPosition>, ReadFault>
+    requires { spec.texts_of (edit_fields row.now) by ≡ method_text method }
+    ensures { ReadsField (OrNothing (PositionBy by)) (or_nothing At) (edit_fields row.now) field result }
+{
+    if text_at(row, place_of(field)).is_empty() {
+        return Ok(None);
+    }
+    match position_at(row, by, method, field) {
+        Ok(end) => Ok(Some(end)),
+        Err(fault) => Err(fault),
+    }
+}
+
+/// A list of pieces, or none where the field is empty.
+pub(crate) fn some_pieces_at(
+    alloc: Global,
+    row: &SheetRecord<'_>,
+    field: Field,
+) -> Result<Option<PieceList>, ReadFault>
+    ensures { ReadsList (OrNothing Shapes.Pieces) (or_nothing PiecesOf) (edit_fields row.now) field result }
+{
+    if text_at(row, place_of(field)).is_empty() {
+        return Ok(None);
+    }
+    match pieces_at(alloc, row, field) {
+        Ok(pieces) => Ok(Some(pieces)),
+        Err(fault) => Err(fault),
+    }
+}
+
+/// The location from a position to an end by the same method.
+pub(crate) fn location(start: EnteredPosition, end: Option<EnteredPosition>) -> EventLocation
+    requires { IsTrue (are_alike start end) }
+    ensures { result ≡ record { from = start; to = end } }
+{
+    match EventLocation::new(start, end) {
+        Some(location) => location,
+        None => unreachable!(),
+    }
+}

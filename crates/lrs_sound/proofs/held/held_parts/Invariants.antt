@@ -1,6 +1,0 @@
-use Rattle.std.proofs.Common.{take}
-use Rattle.lrs_sound.proofs.Rowed.{AreMade}
-use Rattle.lrs_sound.proofs.held.held_parts.Given as goal
-
-abbrev pub invariant-loop-entry : goal.invariant-loop-entry
-invariant-loop-entry l = AreMade (take l.entry-index l.routes) l.held.items

@@ -1,5 +1,0 @@
-use Rattle.lrs_sound.proofs.Balancing.{balanced_is_alike}
-use Rattle.lrs_sound.proofs.laws.balanced_is_alike.Goals as goal
-
-pub returns : goal.returns
-returns c = balanced_is_alike

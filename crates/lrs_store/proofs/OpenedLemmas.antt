@@ -1,0 +1,77 @@
+-- The content of the rows that files held is kept.
+use Rattle.std.proofs.Common.{◌≢◌, inl, inr, Option, None, Some, IfSome, IsSomeAnd, Result, refl, sym, subst, ◌∙◌, arith}
+use Rattle.sqlite_disk.specs.declared.Disk.{Ghosts}
+use Rattle.sqlite_disk.specs.declared.Files.{Files}
+use Rattle.sqlite_trees.proofs.Doubt.{clean_of, no_doubt}
+use Rattle.sqlite_store.specs.FileStore.{view}
+use Rattle.sqlite_wal.specs.Recovery as wal
+use Rattle.sqlite.specs.State.{State, HasCleanDisk}
+use Rattle.lrs_machine.specs.declared.image.Image.{Image}
+use Rattle.lrs_machine.specs.declared.table.Table.{Table}
+use Rattle.lrs_store_rows.specs.Tables.{Tables}
+use Rattle.lrs_store_rows.specs.Content.{content_of}
+use Rattle.lrs_store_rows.proofs.Stored.{content_is_of_rows}
+use Rattle.lrs_store_tables.specs.Stored.{stored}
+use Rattle.lrs_store_tables.specs.Starting.{new_rows, NewRowsHoldNothing}
+use Rattle.lrs_store_tables.specs.Changing.{without_origins}
+use Rattle.lrs_store_tables.specs.Holding.{HoldsOnly}
+use Rattle.lrs_store_keeper.specs.Holding.{MayHold}
+use Rattle.sqlite.specs.declared.file.Leftover.TheVariants as leftover
+use Rattle.lrs_store_files.specs.declared.files.Untaken.{Untaken}
+use Rattle.lrs_store_files.specs.declared.files.Untaken.TheVariants as untaken
+use Rattle.lrs_store_files.specs.Found.{HasFound, IsLeftOf}
+use Rattle.lrs_store.specs.Opened.{HoldsContent, HasOpened}
+use Rattle.lrs_store.specs.declared.files.Left.{Left}
+use Rattle.lrs_store.specs.declared.files.Left.TheVariants as left
+use Rattle.lrs_store.specs.Refused.{WasLookedAt, IsHandedOn, HoldsStill}
+
+hold_nothing : NewRowsHoldNothing
+unfolding content_of
+hold_nothing = refl
+
+pub has_opened : (image : wal.Image) (old new : State) → HasFound image old → ((c : Result Image Table) → MayHold new c → MayHold old c) → HasOpened image new
+has_opened image old new found content = record {
+  trees = found.trees;
+  schema = found.schema;
+  reads = found.reads;
+  holds = found.holds;
+  sound = found.sound;
+  known = found.known;
+  made = λ is c h. holds_only new_rows (found.made is) c h ∙ hold_nothing;
+  grown = λ is. holds_only (without_origins (stored found.trees)) (found.grown is);
+  kept = λ is. holds_only (stored found.trees) (found.kept is);
+}
+  where
+    holds_only : (t : Tables) → HoldsOnly old t → HoldsContent new (content_of t)
+    holds_only t only c h =
+        let before = content c h in
+        sym before.1.2 ∙ sym (content_is_of_rows t (stored before.1.0) (only before.0 before.1.0 before.1.1))
+
+-- a connection that took files keeps what they held, whatever else it refuses
+pub holds_still : (image : wal.Image) (old new : State) → (HasCleanDisk old → HasFound image old) → ((c : Result Image Table) → MayHold new c → MayHold old c) → (c : Result Image Table) → MayHold new c → HasOpened image new
+holds_still image old new found content c may = has_opened image old new (found (content c may).0) content
+
+module _ {D : Type 0} {g : Ghosts D} (image : wal.Image) (Began : Files D → Type 0) where
+  -- a store that was looked at holds what it held
+  still_left : (old new : Untaken D g) → WasLookedAt old new → IsLeftOf image Began old → IsLeftOf image Began new
+  still_left old new looked was = subst (IsLeftOf image Began) (sym looked.is) (λ clean.
+      let none = no_doubt (view looked.after).is_clean clean in
+      let it = held (clean_of (view looked.before).is_clean (omega (arith, none, looked.clean))) in
+      (it.0, it.1, it.2, λ db may. it.3 db (looked.outcomes db may)))
+    where
+      held : IsLeftOf image Began (untaken.Refused (leftover.Store looked.before))
+      held = subst (IsLeftOf image Began) looked.was was
+
+  pub still_refused : (o : Option (Untaken D g)) (l : Left D g) → IsHandedOn o l → IfSome o (IsLeftOf image Began) → HoldsStill image Began l
+  still_refused None l is was = subst (HoldsStill image Began) (sym is) tt
+  still_refused (Some old) l (new, is, inl same) was = subst (HoldsStill image Began) (sym is) (subst (IsLeftOf image Began) (sym same) was)
+  still_refused (Some old) l (new, is, inr looked) was = subst (HoldsStill image Began) (sym is) (still_left old new looked was)
+
+  pub still_given : (o : Option (Untaken D g)) (l : Left D g) → IsHandedOn o l → IsSomeAnd o (IsLeftOf image Began) → HoldsStill image Began l
+  still_given None l is was = absurd was
+  still_given (Some old) l handed was = still_refused (Some old) l handed was
+
+-- what is left is handed on
+pub something_left : {D : Type 0} {g : Ghosts D} (P : Untaken D g → Type 0) (o : Option (Untaken D g)) (l : Left D g) → IsHandedOn o l → IsSomeAnd o P → l ≢ left.Nothing
+something_left P None l is some = absurd some
+something_left P (Some old) l (new, is, kept) some = λ none. absurd (let e = sym is ∙ none in cc)

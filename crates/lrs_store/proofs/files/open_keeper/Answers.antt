@@ -1,0 +1,16 @@
+use Rattle.std.proofs.Common.{true, false}
+use Rattle.sqlite_std_file.specs.File.{IsFresh}
+use Rattle.sqlite_wal.specs.Files.{image_at}
+use Rattle.sqlite.specs.Files.{file_state}
+use Rattle.lrs_store.proofs.OpenedLemmas.{has_opened, holds_still, still_refused}
+use Rattle.lrs_store.proofs.files.open_keeper.Goals as goal
+
+pub returns-in-Ok-open-clause-found : goal.returns-in-Ok-open-clause-found
+returns-in-Ok-open-clause-found g c clean =
+    has_opened (image_at g.S.Start) (file_state c.in-Ok.tables.conn) (file_state c.in-Ok-open.keeper.conn) (c.in-Ok.ensures.found (c.in-Ok-open.ensures.clean clean)) c.in-Ok-open.ensures.content
+
+pub returns-in-Err-open-clause-still : goal.returns-in-Err-open-clause-still
+returns-in-Err-open-clause-still g c = holds_still (image_at g.S.Start) (file_state c.in-Ok.tables.conn) (file_state c.in-Err-open.conn) c.in-Ok.ensures.found c.in-Err-open.ensures.err
+
+pub returns-in-Err-clause-still : goal.returns-in-Err-clause-still
+returns-in-Err-clause-still g c = still_refused (image_at g.S.Start) (λ files. IsFresh true files.log × IsFresh false files.db) c.in-Err.refusal.left c.not_opened.result.left c.not_opened.ensures.still c.in-Err.ensures.left

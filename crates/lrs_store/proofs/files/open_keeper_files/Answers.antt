@@ -1,0 +1,17 @@
+use Rattle.std.proofs.Common.{◌≡◌}
+use Rattle.sqlite.specs.Files.{file_state, image_of}
+use Rattle.lrs_store.proofs.OpenedLemmas.{has_opened, holds_still, still_given, something_left}
+use Rattle.lrs_store.proofs.files.open_keeper_files.Goals as goal
+
+pub returns-in-Ok-open-clause-found : goal.returns-in-Ok-open-clause-found
+returns-in-Ok-open-clause-found g c clean =
+    has_opened (image_of g.D.Disk c.args.files) (file_state c.in-Ok.tables.conn) (file_state c.in-Ok-open.keeper.conn) (c.in-Ok.ensures.found (c.in-Ok-open.ensures.clean clean)) c.in-Ok-open.ensures.content
+
+pub returns-in-Err-open-clause-still : goal.returns-in-Err-open-clause-still
+returns-in-Err-open-clause-still g c = holds_still (image_of g.D.Disk c.args.files) (file_state c.in-Ok.tables.conn) (file_state c.in-Err-open.conn) c.in-Ok.ensures.found c.in-Err-open.ensures.err
+
+pub returns-in-Err-clause-still : goal.returns-in-Err-clause-still
+returns-in-Err-clause-still g c = still_given (image_of g.D.Disk c.args.files) (λ given. given ≡ c.args.files) c.in-Err.refusal.left c.not_opened.result.left c.not_opened.ensures.still c.in-Err.ensures.left
+
+pub returns-in-Err-clause-left : goal.returns-in-Err-clause-left
+returns-in-Err-clause-left g c = something_left _ c.in-Err.refusal.left c.not_opened.result.left c.not_opened.ensures.still c.in-Err.ensures.left

@@ -1,0 +1,67 @@
+-- Files that no keeper takes.
+use Rattle.std.specs.Prelude.{◌≡◌, ◌≤◌, ◌⊎◌, Option, None, Some, Result, Err, ⊤}
+use Rattle.sqlite_disk.specs.declared.Disk.{Ghosts}
+use Rattle.sqlite_disk.specs.declared.Files.{Files}
+use Rattle.sqlite_trees.specs.Tree.{Trees}
+use Rattle.sqlite_trees.specs.View.{doubt}
+use Rattle.sqlite_wal.specs.Recovery as wal
+use Rattle.sqlite_store.specs.declared.store.FileStore.{FileStore}
+use Rattle.sqlite_store.specs.FileStore.{view, faults, recovers}
+use Rattle.sqlite.specs.declared.file.Leftover.TheVariants as leftover
+use Rattle.sqlite.specs.Files.{file_state}
+use Rattle.lrs_machine.specs.declared.image.Image.{Image}
+use Rattle.lrs_machine.specs.declared.table.Table.{Table}
+use Rattle.lrs_store_files.specs.declared.files.Untaken.{Untaken}
+use Rattle.lrs_store_files.specs.declared.files.Untaken.TheVariants as untaken
+use Rattle.lrs_store_files.specs.Found.{IsLeftOf}
+use Rattle.lrs_store.specs.Judged.{IsUnsoundThere, IsSoundThere}
+use Rattle.lrs_store_keeper.specs.Holding.{MayHold}
+use Rattle.lrs_store.specs.declared.files.Left.{Left}
+use Rattle.lrs_store.specs.declared.files.Left.TheVariants as left
+use Rattle.lrs_store.specs.Opened.{HasOpened}
+
+-- a store that no connection takes is left, and this is its first unsound table
+abbrev pub IsUnsoundLeft : {D : Type 0} {g : Ghosts D} → Table → Untaken D g → Type 0
+IsUnsoundLeft t (untaken.Refused (leftover.Store store)) = IsUnsoundThere view recovers t store
+IsUnsoundLeft t (untaken.Refused (leftover.Unopened files)) = ⊥
+IsUnsoundLeft t (untaken.Refused (leftover.Files files)) = ⊥
+IsUnsoundLeft t (untaken.Connected conn) = ⊥
+
+-- if a store that no connection takes is left, no table of an inventory is unsound in it
+abbrev pub IsSoundLeft : {D : Type 0} {g : Ghosts D} → Untaken D g → Type 0
+IsSoundLeft (untaken.Refused (leftover.Store store)) = IsSoundThere view faults recovers store
+IsSoundLeft (untaken.Refused (leftover.Unopened files)) = ⊤
+IsSoundLeft (untaken.Refused (leftover.Files files)) = ⊤
+IsSoundLeft (untaken.Connected conn) = ⊤
+
+-- this table is the first unsound one of whatever a later opening may find in what is left
+abbrev pub HoldsUnsound : {D : Type 0} {g : Ghosts D} → Table → Left D g → Type 0
+HoldsUnsound t (left.Untaken untaken) = IsUnsoundLeft t untaken
+HoldsUnsound t (left.Opened conn) = (c : Result Image Table) → MayHold (file_state conn) c → c ≡ Err t
+HoldsUnsound t left.Nothing = ⊥
+
+-- where no tables were taken, none is unsound
+abbrev pub HoldsNoUnsound : {D : Type 0} {g : Ghosts D} → Left D g → Type 0
+HoldsNoUnsound (left.Untaken untaken) = IsSoundLeft untaken
+HoldsNoUnsound (left.Opened conn) = ⊤
+HoldsNoUnsound left.Nothing = ⊤
+
+-- What is left holds what the files held with which the opening began: their tables were not taken, or they were, and the content is what it was.
+abbrev pub HoldsStill : {D : Type 0} {g : Ghosts D} → wal.Image → (Files D → Type 0) → Left D g → Type 0
+HoldsStill image Began (left.Untaken untaken) = IsLeftOf image Began untaken
+HoldsStill image Began (left.Opened conn) = (c : Result Image Table) → MayHold (file_state conn) c → HasOpened image (file_state conn)
+HoldsStill image Began left.Nothing = ⊤
+
+-- A store that is left was looked at: no doubt of its disk is forgotten, and a later opening finds there what it might have found before.
+pub record WasLookedAt {D : Type 0} {g : Ghosts D} (old new : Untaken D g) : Type 0 where
+  pub before : FileStore D g
+  pub after : FileStore D g
+  pub was : old ≡ untaken.Refused (leftover.Store before)
+  pub is : new ≡ untaken.Refused (leftover.Store after)
+  pub clean : doubt (view before).is_clean ≤ doubt (view after).is_clean
+  pub outcomes : (db : Trees) → recovers after db → recovers before db
+
+-- what was left of files whose tables were not taken is left, and was at most looked at
+abbrev pub IsHandedOn : {D : Type 0} {g : Ghosts D} → Option (Untaken D g) → Left D g → Type 0
+IsHandedOn None l = l ≡ left.Nothing
+IsHandedOn {D = D} {g = g} (Some old) l = (new : Untaken D g) × (l ≡ left.Untaken new) × ((new ≡ old) ⊎ WasLookedAt old new)

@@ -1,0 +1,187 @@
+//! A keeper over a store in files: opened, and closed.
+
+ghost use Rattle.std.specs.Prelude.{◌≡◌, ◌≢◌, ◌⊎◌, false, true, IfOk, IfErr, IsTrue};
+ghost use Rattle.sqlite_std_file.specs.File.{IsFresh};
+ghost use Rattle.sqlite_wal.specs.Files.{image_at};
+ghost use Rattle.sqlite_wal.specs.Reads.{AreClean};
+ghost use Rattle.sqlite.specs.State.{HasCleanDisk};
+ghost use Rattle.sqlite.specs.Files.{file_state, image_of};
+ghost use Rattle.sqlite.specs.Closing.{IsCopied};
+ghost use Rattle.lrs_store_keeper.specs.Opening.{IsSecond};
+ghost use Rattle.lrs_machine.specs.declared.table.Table.{Table};
+ghost use Rattle.lrs_store.specs.Opened.{HasOpened};
+ghost use Rattle.lrs_store.specs.Refused.{IsUnsoundLeft, IsSoundLeft, WasLookedAt, IsHandedOn, HoldsUnsound, HoldsNoUnsound, HoldsStill};
+
+use crate::verdict::judge;
+use lrs_image::LoadFault;
+use lrs_store_files::files::{CloseFault, Refusal, Untaken, close_files, open_file, open_files};
+use lrs_store_keeper::{ReadImage, TableKeeper};
+use lrs_store_tables::tables::{OpenFault, Tables};
+use sqlite::{Connection, FileFrom, FileStore, Files, Leftover, Options, Start};
+use sqlite_disk::Disk;
+use std::alloc::Global;
+use std::rt::HostRuntime;
+
+/// Why no keeper is there, by why the tables are not opened.
+fn fault_of(fault: OpenFault) -> LoadFault
+    ensures memory { result ≡ LoadFault.Memory → fault ≡ OpenFault.Memory }
+    ensures store { fault ≡ OpenFault.Store → result ≡ LoadFault.Store }
+    ensures unnamed { (t : Table) → result ≡ LoadFault.Unsound t → ⊥ }
+{
+    match fault {
+        OpenFault::Memory => LoadFault::Memory,
+        OpenFault::Store => LoadFault::Store,
+    }
+}
+
+/// What an opening that failed gives back of the files.
+#[derive(Drop)]
+pub enum Left<D: Disk> {
+    /// What is left of files whose tables are not taken.
+    Untaken(Untaken<D>),
+    /// The connection that took their tables: the rows are no keeper's.
+    Opened(Connection<FileStore<D>>),
+    /// Nothing: the system did not open them.
+    Nothing,
+}
+
+/// Why files are not opened as a keeper, and what is left of them.
+#[derive(Drop)]
+pub struct NotOpened<D: Disk> {
+    pub fault: LoadFault,
+    pub left: Left<D>,
+}
+
+/// Why no keeper is there, by what is left of the files. The kit's `sqlite` opens a store only if each row obeys its
+/// table, references too; where one does not, the rows are read without a connection, and their first unsound table
+/// is named.
+fn judge_left<D: Disk + Drop, R: ReadImage>(
+    alloc: Global,
+    left: &mut Untaken<D>,
+    reader: &R,
+) -> LoadFault
+    ensures unsound { (t : Table) → result ≡ LoadFault.Unsound t → IsUnsoundLeft t left.new }
+    ensures store { result ≡ LoadFault.Store → IsSoundLeft left.new }
+    ensures still { (left.new ≡ left.old) ⊎ WasLookedAt left.old left.new }
+{
+    match left {
+        Untaken::Refused(Leftover::Store(store)) => judge(alloc, store, reader),
+        Untaken::Refused(_) | Untaken::Connected(_) => LoadFault::Store,
+    }
+}
+
+/// Why no keeper is there, by why the tables are not opened.
+fn not_opened<D: Disk + Drop, R: ReadImage>(
+    alloc: Global,
+    refusal: Refusal<D>,
+    reader: &R,
+) -> NotOpened<D>
+    ensures unsound { (t : Table) → result.fault ≡ LoadFault.Unsound t → HoldsUnsound t result.left }
+    ensures store { result.fault ≡ LoadFault.Store → HoldsNoUnsound result.left }
+    ensures still { IsHandedOn refusal.left result.left }
+{
+    let Refusal { fault, left } = refusal;
+    match (fault, left) {
+        (OpenFault::Store, Some(mut left)) => {
+            let fault = judge_left(alloc, &mut left, reader);
+            NotOpened {
+                fault,
+                left: Left::Untaken(left),
+            }
+        }
+        (OpenFault::Memory, Some(left)) => NotOpened {
+            fault: LoadFault::Memory,
+            left: Left::Untaken(left),
+        },
+        (fault, None) => NotOpened {
+            fault: fault_of(fault),
+            left: Left::Nothing,
+        },
+    }
+}
+
+/// Opens the keeper of the inventory in these files, or of a new one where they hold none. Nothing is loaded yet.
+///
+/// # Errors
+/// `Store` if a file fails or the files hold no store of an inventory, `Unsound` with the first unsound table of
+/// rows that break a rule of their tables or are not of version 2, and `Memory` if memory runs out. The files are
+/// given back in what is left, and hold what they held.
+pub fn open_keeper_files<D: Disk + Drop, R: ReadImage + Drop>(
+    alloc: Global,
+    files: Files<D>,
+    options: Options,
+    reader: R,
+) -> Result<TableKeeper<FileStore<D>, R>, NotOpened<D>>
+    requires log { IsTrue (D.Disk.is_usable files.log) }
+    requires db { IsTrue (D.Disk.is_usable files.db) }
+    ensures unloaded { IfOk result (λ k. k.is_loaded ≡ false) }
+    ensures usable { IfOk result (λ k. k.is_broken ≡ false) }
+    ensures second { IfOk result (λ k. IsSecond (file_state k.conn)) }
+    ensures found { IfOk result (λ k. HasCleanDisk (file_state k.conn) → HasOpened (image_of D.Disk files) (file_state k.conn)) }
+    ensures unsound { IfErr result (λ e. (t : Table) → e.fault ≡ LoadFault.Unsound t → HoldsUnsound t e.left) }
+    ensures store { IfErr result (λ e. e.fault ≡ LoadFault.Store → HoldsNoUnsound e.left) }
+    ensures still { IfErr result (λ e. HoldsStill (image_of D.Disk files) (λ given. given ≡ files) e.left) }
+    ensures left { IfErr result (λ e. e.left ≢ Left.Nothing) }
+{
+    let tables = match open_files(alloc, files, options) {
+        Ok(tables) => tables,
+        Err(refusal) => return Err(not_opened(alloc, refusal, &reader)),
+    };
+    match TableKeeper::open(alloc, tables.conn, reader) {
+        Ok(keeper) => Ok(keeper),
+        Err((fault, conn)) => Err(NotOpened {
+            fault,
+            left: Left::Opened(conn),
+        }),
+    }
+}
+
+/// Opens the keeper of the inventory in the file at a path, or of a new one where there is none. `start` stands for
+/// what the files hold. Nothing is loaded yet.
+///
+/// # Errors
+/// `Store` if a file fails, another program has it, or it holds no store of an inventory, `Unsound` with the first
+/// unsound table of rows that break a rule of their tables or are not of version 2, and `Memory` if memory runs out.
+/// What is left of the files holds what they held.
+pub fn open_keeper<S: Start, R: ReadImage + Drop>(
+    rt: &HostRuntime,
+    path: &str,
+    start: S,
+    reader: R,
+) -> Result<TableKeeper<FileStore<FileFrom<S>>, R>, NotOpened<FileFrom<S>>>
+    ensures unloaded { IfOk result (λ k. k.is_loaded ≡ false) }
+    ensures usable { IfOk result (λ k. k.is_broken ≡ false) }
+    ensures second { IfOk result (λ k. IsSecond (file_state k.conn)) }
+    ensures found { IfOk result (λ k. HasCleanDisk (file_state k.conn) → HasOpened (image_at S.Start) (file_state k.conn)) }
+    ensures unsound { IfErr result (λ e. (t : Table) → e.fault ≡ LoadFault.Unsound t → HoldsUnsound t e.left) }
+    ensures store { IfErr result (λ e. e.fault ≡ LoadFault.Store → HoldsNoUnsound e.left) }
+    ensures still { IfErr result (λ e. HoldsStill (image_at S.Start) (λ files. IsFresh true files.log × IsFresh false files.db) e.left) }
+{
+    let tables = match open_file(rt, path, start) {
+        Ok(tables) => tables,
+        Err(refusal) => return Err(not_opened(rt.alloc(), refusal, &reader)),
+    };
+    match TableKeeper::open(rt.alloc(), tables.conn, reader) {
+        Ok(keeper) => Ok(keeper),
+        Err((fault, conn)) => Err(NotOpened {
+            fault,
+            left: Left::Opened(conn),
+        }),
+    }
+}
+
+/// Closes a keeper and gives its files back. What was committed last is in the database file, and the log says
+/// nothing any more.
+///
+/// # Errors
+/// When memory runs out, or the store fails. The log then has what the database lacks.
+pub fn close_keeper<D: Disk + Drop, R: ReadImage + Drop>(
+    keeper: TableKeeper<FileStore<D>, R>,
+) -> Result<Files<D>, CloseFault>
+    ensures usable { IfOk result (λ files. IsTrue (D.Disk.is_usable files.log) × IsTrue (D.Disk.is_usable files.db)) }
+    ensures copied { IfOk result (λ files. AreClean D.Disk files.log files.db → IsCopied keeper.conn files) }
+{
+    close_files(Tables {
+        conn: keeper.into_connection(),
+    })
+}

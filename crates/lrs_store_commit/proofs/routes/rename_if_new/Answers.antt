@@ -1,0 +1,14 @@
+use Rattle.std.proofs.Common.{◌≡◌, rules, subst}
+use Rattle.sqlite.specs.Held.{state}
+use Rattle.lrs_store_tables.specs.Changing.{renamed_route}
+use Rattle.lrs_store_tables.specs.Stored.{Makes}
+use Rattle.lrs_store_commit.proofs.Then.{makes_nothing}
+use Rattle.lrs_store_commit.proofs.SameName.{renamed_itself}
+use Rattle.lrs_store_commit.proofs.routes.rename_if_new.Goals as goal
+
+pub returns-then-eq-clause-does : goal.returns-then-eq-clause-does
+returns-then-eq-clause-does g c clean writing =
+    let s = state g.S.Store c.args.tx.now.conn.now in
+    let same : c.args.route.now ≡ c.args.name.now = search rules in
+    let own = c.args.route.now in
+    subst (λ name. Makes (renamed_route own name) s s) same (makes_nothing (renamed_route own own) s (renamed_itself own) writing)

@@ -1,0 +1,179 @@
+//! Changes are written, as a whole.
+
+ghost use Rattle.std.specs.Prelude.{◌≡◌, ◌+◌, ◌<◌, ◌≤◌, ◌^◌, length, take, IfOk, OnOk, IsTrue, false};
+ghost use Rattle.sqlite.specs.State.{HasCleanDisk, Survives};
+ghost use Rattle.sqlite.specs.Held.{state};
+ghost use Rattle.lrs_store_tables.specs.Stored.{IsWriting, Makes, stored, OkDoes, LeavesStore};
+ghost use Rattle.lrs_store_tables.specs.Writing.{MakesOf, Writes, WritesEach, AreWritten, with_some, changed_course, changed_route, new_course, new_route, with_ledgers};
+ghost use Rattle.lrs_store_tables.specs.Changing.{without_route, with_entered, with_gone};
+ghost use Rattle.lrs_store_tables.specs.Resting.{IsReady};
+
+use crate::insert_assets::put_entries;
+use crate::insert_lists::Ledger;
+use crate::insert_named::put_named;
+use crate::lists::write_all;
+use crate::new_assets::are_entries;
+use crate::routes::{change_route, drop_route, put_route};
+use lrs_events::{Gone, Part};
+use lrs_image::{Change, Difference, RouteChange};
+use lrs_machine::RouteEntry;
+use lrs_measure::Rows;
+use lrs_position::RouteName;
+use lrs_store_tables::insert::put_edit;
+use sqlite::{Alter, Connection, Error, Transaction};
+
+/// A route goes, if one does.
+fn drop_some<S: Alter>(tx: &mut Transaction<'_, S>, route: &Option<RouteName>) -> Result<(), Error>
+    ensures same_reference { tx.new.conn.ghost_name ≡ tx.old.conn.ghost_name }
+    ensures does { OkDoes result (state S.Store tx.old.conn.now) (state S.Store tx.new.conn.now) (Makes (with_some without_route route.now)) }
+    ensures survives { LeavesStore (state S.Store tx.old.conn.now) (state S.Store tx.new.conn.now) }
+{
+    match route {
+        Some(route) => drop_route(tx, route),
+        None => Ok(()),
+    }
+}
+
+/// A route that stays changes, if one does.
+fn change_some<S: Alter>(
+    tx: &mut Transaction<'_, S>,
+    change: &Option<RouteChange>,
+) -> Result<(), Error>
+    ensures same_reference { tx.new.conn.ghost_name ≡ tx.old.conn.ghost_name }
+    ensures does { OkDoes result (state S.Store tx.old.conn.now) (state S.Store tx.new.conn.now) (MakesOf (changed_course change.now) (λ pieces. with_some (λ c. changed_route c pieces) change.now)) }
+    ensures survives { LeavesStore (state S.Store tx.old.conn.now) (state S.Store tx.new.conn.now) }
+{
+    match change {
+        Some(change) => change_route(tx, change),
+        None => Ok(()),
+    }
+}
+
+/// A route comes, if one does.
+fn put_some<S: Alter>(tx: &mut Transaction<'_, S>, entry: &Option<RouteEntry>) -> Result<(), Error>
+    ensures same_reference { tx.new.conn.ghost_name ≡ tx.old.conn.ghost_name }
+    ensures does { OkDoes result (state S.Store tx.old.conn.now) (state S.Store tx.new.conn.now) (MakesOf (new_course entry.now) (λ pieces. with_some (λ e. new_route e pieces) entry.now)) }
+    ensures survives { LeavesStore (state S.Store tx.old.conn.now) (state S.Store tx.new.conn.now) }
+{
+    match entry {
+        Some(entry) => put_route(tx, entry),
+        None => Ok(()),
+    }
+}
+
+/// Puts rows of the ledger of what was entered.
+fn put_entered<S: Alter>(tx: &mut Transaction<'_, S>, parts: &Rows<Part>) -> Result<(), Error>
+    ensures same_reference { tx.new.conn.ghost_name ≡ tx.old.conn.ghost_name }
+    ensures does { OkDoes result (state S.Store tx.old.conn.now) (state S.Store tx.new.conn.now) (Makes (with_entered parts.now)) }
+    ensures survives { LeavesStore (state S.Store tx.old.conn.now) (state S.Store tx.new.conn.now) }
+{
+    write_all(tx, &Ledger, parts.as_slice())?;
+    Ok(())
+}
+
+/// Puts rows of the ledger of what is gone.
+fn put_gone<S: Alter>(tx: &mut Transaction<'_, S>, gone: &Rows<Gone>) -> Result<(), Error>
+    ensures same_reference { tx.new.conn.ghost_name ≡ tx.old.conn.ghost_name }
+    ensures does { OkDoes result (state S.Store tx.old.conn.now) (state S.Store tx.new.conn.now) (Makes (with_gone gone.now)) }
+    ensures survives { LeavesStore (state S.Store tx.old.conn.now) (state S.Store tx.new.conn.now) }
+{
+    write_all(tx, &Ledger, gone.as_slice())?;
+    Ok(())
+}
+
+/// Puts the rows that come into the ledgers.
+fn put_ledgers<S: Alter>(tx: &mut Transaction<'_, S>, difference: &Difference) -> Result<(), Error>
+    ensures same_reference { tx.new.conn.ghost_name ≡ tx.old.conn.ghost_name }
+    ensures does { OkDoes result (state S.Store tx.old.conn.now) (state S.Store tx.new.conn.now) (Makes (with_ledgers difference.now)) }
+    ensures survives { LeavesStore (state S.Store tx.old.conn.now) (state S.Store tx.new.conn.now) }
+{
+    put_entered(tx, &difference.entered)?;
+    put_gone(tx, &difference.gone)?;
+    Ok(())
+}
+
+/// Writes the rows of a change, whose edit has this number. The route that goes does so first: the route that
+/// changes may get its referents, and a name is in the table once.
+fn write_rows<S: Alter>(tx: &mut Transaction<'_, S>, n: u64, change: &Change) -> Result<(), Error>
+    ensures same_reference { tx.new.conn.ghost_name ≡ tx.old.conn.ghost_name }
+    ensures does { OkDoes result (state S.Store tx.old.conn.now) (state S.Store tx.new.conn.now) (Writes n change.now) }
+    ensures survives { LeavesStore (state S.Store tx.old.conn.now) (state S.Store tx.new.conn.now) }
+{
+    let difference = &change.difference;
+    put_named(tx, difference)?;
+    drop_some(tx, &difference.dropped)?;
+    change_some(tx, &difference.changed)?;
+    put_some(tx, &difference.made)?;
+    put_ledgers(tx, difference)?;
+    put_edit(tx, n, &change.edit)?;
+    Ok(())
+}
+
+/// Writes the rows of the first changes: of eight, if these are entries, and else of one. The edit of the first has
+/// this number, each next one more. Says how many it wrote.
+fn write_next<S: Alter>(
+    tx: &mut Transaction<'_, S>,
+    n: u64,
+    changes: &[Change],
+) -> Result<usize, Error>
+    requires some { 0 < length changes.now }
+    requires fits { n + length changes.now < 2 ^ 64 }
+    ensures same_reference { tx.new.conn.ghost_name ≡ tx.old.conn.ghost_name }
+    ensures count { IfOk result (λ count. (0 < count) × (count ≤ length changes.now)) }
+    ensures does { HasCleanDisk (state S.Store tx.new.conn.now) → IsWriting (state S.Store tx.old.conn.now) → IfOk result (λ count. WritesEach n (take count changes.now) (state S.Store tx.old.conn.now) (state S.Store tx.new.conn.now)) }
+    ensures survives { LeavesStore (state S.Store tx.old.conn.now) (state S.Store tx.new.conn.now) }
+{
+    if changes.len() >= 8 {
+        let eight = &changes[..8];
+        if are_entries(eight) {
+            put_entries(tx, n, eight)?;
+            return Ok(8);
+        }
+    }
+    write_rows(tx, n, &changes[0])?;
+    Ok(1)
+}
+
+/// Writes the rows of changes: the edit of the first has this number, each next one more.
+fn write_each<S: Alter>(
+    tx: &mut Transaction<'_, S>,
+    n: u64,
+    changes: &[Change],
+) -> Result<(), Error>
+    requires fits { n + length changes.now < 2 ^ 64 }
+    ensures same_reference { tx.new.conn.ghost_name ≡ tx.old.conn.ghost_name }
+    ensures does { OkDoes result (state S.Store tx.old.conn.now) (state S.Store tx.new.conn.now) (WritesEach n changes.now) }
+    ensures survives { LeavesStore (state S.Store tx.old.conn.now) (state S.Store tx.new.conn.now) }
+{
+    let mut done = 0;
+    while done < changes.len() {
+        done += write_next(tx, n + done as u64, &changes[done..])?;
+    }
+    Ok(())
+}
+
+/// Writes changes in one transaction: the edit of the first has this number, each next one more. It writes all of
+/// them or nothing, and asks nothing of the store after the commit. With no change a commit would say nothing of
+/// a store that was shut, so there is at least one.
+///
+/// # Errors
+/// When the store fails, or a number is too large for it. What is stored is then as it was, or with all changes.
+pub fn write_changes<S: Alter>(
+    conn: &mut Connection<S>,
+    n: u64,
+    changes: &[Change],
+) -> Result<(), Error>
+    requires autocommit { conn.old.in_transaction ≡ false }
+    requires ready { IsReady (state S.Store conn.old) }
+    requires some { 0 < length changes.now }
+    requires fits { n + length changes.now < 2 ^ 64 }
+    ensures autocommit { conn.new.in_transaction ≡ false }
+    ensures written { HasCleanDisk (state S.Store conn.new) → OnOk result (AreWritten n changes.now (stored (state S.Store conn.old).now.trees) (stored (state S.Store conn.new).committed.trees)) }
+    ensures is_open { HasCleanDisk (state S.Store conn.new) → OnOk result (IsTrue (state S.Store conn.old).is_open × IsTrue (state S.Store conn.new).is_open) }
+    ensures ready { OnOk result (IsReady (state S.Store conn.new)) }
+    ensures crash { Survives (state S.Store conn.old) (state S.Store conn.new) (λ db. IsTrue (state S.Store conn.old).is_open × AreWritten n changes.now (stored (state S.Store conn.old).now.trees) (stored db)) }
+{
+    let mut tx = conn.transaction();
+    write_each(&mut tx, n, changes)?;
+    tx.commit()
+}

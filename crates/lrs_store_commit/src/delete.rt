@@ -1,0 +1,107 @@
+//! Rows that go: all of a route in a table, or some by their keys.
+
+ghost use Rattle.std.specs.Prelude.{◌≡◌};
+ghost use Rattle.sqlite.specs.Held.{state};
+ghost use Rattle.lrs_store_tables.specs.Stored.{Makes, OkDoes, LeavesStore};
+ghost use Rattle.lrs_store_tables.specs.Changing.{without_pieces, without_marks, without_refs, without_spans, less_spans, less_refs};
+ghost use Rattle.lrs_store_tables.specs.RowLaws.{no_less_spans, no_less_refs, less_spans_more, less_refs_more};
+
+use crate::lists::Written;
+use lrs_events::Span;
+use lrs_position::{RefName, RouteName};
+use lrs_store_tables::number::number;
+use sqlite::types::ValueRef;
+use sqlite::{Alter, Error, Transaction};
+
+/// The pieces of a route go.
+pub fn drop_pieces<S: Alter>(tx: &mut Transaction<'_, S>, route: &RouteName) -> Result<(), Error>
+    ensures same_reference { tx.new.conn.ghost_name ≡ tx.old.conn.ghost_name }
+    ensures does { OkDoes result (state S.Store tx.old.conn.now) (state S.Store tx.new.conn.now) (Makes (without_pieces route.now)) }
+    ensures survives { LeavesStore (state S.Store tx.old.conn.now) (state S.Store tx.new.conn.now) }
+{
+    let name = ValueRef::Text(route.bytes());
+    tx.execute("DELETE FROM piece WHERE route = ?1", &[name])?;
+    Ok(())
+}
+
+/// The marks of a route go.
+pub fn drop_marks<S: Alter>(tx: &mut Transaction<'_, S>, route: &RouteName) -> Result<(), Error>
+    ensures same_reference { tx.new.conn.ghost_name ≡ tx.old.conn.ghost_name }
+    ensures does { OkDoes result (state S.Store tx.old.conn.now) (state S.Store tx.new.conn.now) (Makes (without_marks route.now)) }
+    ensures survives { LeavesStore (state S.Store tx.old.conn.now) (state S.Store tx.new.conn.now) }
+{
+    let name = ValueRef::Text(route.bytes());
+    tx.execute("DELETE FROM mark WHERE route = ?1", &[name])?;
+    Ok(())
+}
+
+/// The referents of a route go.
+pub fn drop_refs<S: Alter>(tx: &mut Transaction<'_, S>, route: &RouteName) -> Result<(), Error>
+    ensures same_reference { tx.new.conn.ghost_name ≡ tx.old.conn.ghost_name }
+    ensures does { OkDoes result (state S.Store tx.old.conn.now) (state S.Store tx.new.conn.now) (Makes (without_refs route.now)) }
+    ensures survives { LeavesStore (state S.Store tx.old.conn.now) (state S.Store tx.new.conn.now) }
+{
+    let name = ValueRef::Text(route.bytes());
+    tx.execute("DELETE FROM ref WHERE route = ?1", &[name])?;
+    Ok(())
+}
+
+/// The spans of a route go.
+pub fn drop_spans<S: Alter>(tx: &mut Transaction<'_, S>, route: &RouteName) -> Result<(), Error>
+    ensures same_reference { tx.new.conn.ghost_name ≡ tx.old.conn.ghost_name }
+    ensures does { OkDoes result (state S.Store tx.old.conn.now) (state S.Store tx.new.conn.now) (Makes (without_spans route.now)) }
+    ensures survives { LeavesStore (state S.Store tx.old.conn.now) (state S.Store tx.new.conn.now) }
+{
+    let name = ValueRef::Text(route.bytes());
+    tx.execute("DELETE FROM span WHERE route = ?1", &[name])?;
+    Ok(())
+}
+
+/// The route of which some rows go.
+#[derive(Clone, Copy)]
+pub struct Going {
+    pub route: RouteName,
+}
+
+impl Written<Going> for Span {
+    ghost all = { λ of n spans. less_spans of.route spans };
+
+    fn write<S: Alter>(
+        &self,
+        tx: &mut Transaction<'_, S>,
+        of: &Going,
+        _n: u64,
+    ) -> Result<(), Error> {
+        let asset = number(self.asset)?;
+        let route = ValueRef::Text(of.route.bytes());
+        let from = number(self.from)?;
+        tx.execute(
+            "DELETE FROM span WHERE asset = ?1 AND route = ?2 AND lo = ?3",
+            &[asset, route, from],
+        )?;
+        Ok(())
+    }
+
+    ghost none = { λ of n t. no_less_spans of.route t };
+
+    ghost more = { λ of n k xs x t u at same. less_spans_more of.route xs x t u same };
+}
+
+impl Written<Going> for RefName {
+    ghost all = { λ of n names. less_refs names };
+
+    fn write<S: Alter>(
+        &self,
+        tx: &mut Transaction<'_, S>,
+        _of: &Going,
+        _n: u64,
+    ) -> Result<(), Error> {
+        let name = ValueRef::Text(self.bytes());
+        tx.execute("DELETE FROM ref WHERE name = ?1", &[name])?;
+        Ok(())
+    }
+
+    ghost none = { λ of n t. no_less_refs t };
+
+    ghost more = { λ of n k xs x t u at same. less_refs_more xs x t u same };
+}

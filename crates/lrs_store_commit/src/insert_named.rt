@@ -1,0 +1,75 @@
+//! Links, classes and assets that come.
+
+ghost use Rattle.std.specs.Prelude.{◌≡◌};
+ghost use Rattle.sqlite.specs.Held.{state};
+ghost use Rattle.lrs_store_tables.specs.Stored.{Makes, OkDoes, LeavesStore};
+ghost use Rattle.lrs_store_tables.specs.Changing.{with_link, with_class, with_asset};
+ghost use Rattle.lrs_store_tables.specs.Writing.{with_some, with_named};
+
+use lrs_element::Link;
+use lrs_events::{Asset, Class};
+use lrs_image::Difference;
+use lrs_store_tables::insert::{put_asset, put_class, put_link, put_origin};
+use sqlite::{Alter, Error, Transaction};
+
+/// Puts the row of a link that comes.
+fn put_some_link<S: Alter>(tx: &mut Transaction<'_, S>, link: &Option<Link>) -> Result<(), Error>
+    ensures same_reference { tx.new.conn.ghost_name ≡ tx.old.conn.ghost_name }
+    ensures does { OkDoes result (state S.Store tx.old.conn.now) (state S.Store tx.new.conn.now) (Makes (with_some with_link link.now)) }
+    ensures survives { LeavesStore (state S.Store tx.old.conn.now) (state S.Store tx.new.conn.now) }
+{
+    match link {
+        Some(link) => put_link(tx, link),
+        None => Ok(()),
+    }
+}
+
+/// Puts the row of a class that comes.
+fn put_some_class<S: Alter>(tx: &mut Transaction<'_, S>, class: &Option<Class>) -> Result<(), Error>
+    ensures same_reference { tx.new.conn.ghost_name ≡ tx.old.conn.ghost_name }
+    ensures does { OkDoes result (state S.Store tx.old.conn.now) (state S.Store tx.new.conn.now) (Makes (with_some with_class class.now)) }
+    ensures survives { LeavesStore (state S.Store tx.old.conn.now) (state S.Store tx.new.conn.now) }
+{
+    match class {
+        Some(class) => put_class(tx, class),
+        None => Ok(()),
+    }
+}
+
+/// Puts the rows of an asset: itself, and the edit that entered it.
+fn put_entered_asset<S: Alter>(tx: &mut Transaction<'_, S>, asset: &Asset) -> Result<(), Error>
+    ensures same_reference { tx.new.conn.ghost_name ≡ tx.old.conn.ghost_name }
+    ensures does { OkDoes result (state S.Store tx.old.conn.now) (state S.Store tx.new.conn.now) (Makes (with_asset asset.now)) }
+    ensures survives { LeavesStore (state S.Store tx.old.conn.now) (state S.Store tx.new.conn.now) }
+{
+    put_asset(tx, asset)?;
+    put_origin(tx, asset)?;
+    Ok(())
+}
+
+/// Puts the rows of an asset that comes.
+fn put_some_asset<S: Alter>(tx: &mut Transaction<'_, S>, asset: &Option<Asset>) -> Result<(), Error>
+    ensures same_reference { tx.new.conn.ghost_name ≡ tx.old.conn.ghost_name }
+    ensures does { OkDoes result (state S.Store tx.old.conn.now) (state S.Store tx.new.conn.now) (Makes (with_some with_asset asset.now)) }
+    ensures survives { LeavesStore (state S.Store tx.old.conn.now) (state S.Store tx.new.conn.now) }
+{
+    match asset {
+        Some(asset) => put_entered_asset(tx, asset),
+        None => Ok(()),
+    }
+}
+
+/// Puts the rows of the link, the class and the asset that come.
+pub fn put_named<S: Alter>(
+    tx: &mut Transaction<'_, S>,
+    difference: &Difference,
+) -> Result<(), Error>
+    ensures same_reference { tx.new.conn.ghost_name ≡ tx.old.conn.ghost_name }
+    ensures does { OkDoes result (state S.Store tx.old.conn.now) (state S.Store tx.new.conn.now) (Makes (with_named difference.now)) }
+    ensures survives { LeavesStore (state S.Store tx.old.conn.now) (state S.Store tx.new.conn.now) }
+{
+    put_some_link(tx, &difference.link)?;
+    put_some_class(tx, &difference.class)?;
+    put_some_asset(tx, &difference.asset)?;
+    Ok(())
+}

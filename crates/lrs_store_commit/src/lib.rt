@@ -1,0 +1,14 @@
+#![tactic(auto)]
+
+pub mod cells;
+pub mod commit;
+pub mod delete;
+pub mod eight_rows;
+pub mod insert_assets;
+pub mod insert_lists;
+pub mod insert_named;
+pub mod lists;
+pub mod migration;
+pub mod new_assets;
+pub mod routes;
+pub mod update;

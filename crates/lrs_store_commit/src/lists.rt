@@ -1,0 +1,44 @@
+//! Lists of values whose rows come or go.
+
+ghost use Rattle.std.specs.Prelude.{◌≡◌, ℕ, List, [], ◌∷◌};
+ghost use Rattle.sqlite.specs.Held.{state};
+ghost use Rattle.lrs_store_tables.specs.Stored.{Makes, OkDoes, LeavesStore};
+
+use sqlite::{Alter, Error, Transaction};
+
+/// A value for which a row is written, beside what else the row says.
+pub trait Written<C> {
+    ghost use Rattle.std.specs.Prelude.{◌+◌, ◌++◌, length};
+    ghost use Rattle.lrs_store_rows.specs.Tables.{Tables};
+    ghost use Rattle.lrs_store_rows.specs.Tables.{AreSame};
+
+    // What these values, of which the first has this number, make of the rows of a store.
+    ghost all: { C → ℕ → List Self → Tables → Tables };
+
+    /// Writes the row of the value, which has this number in its list.
+    fn write<S: Alter>(&self, tx: &mut Transaction<'_, S>, of: &C, n: u64) -> Result<(), Error>
+        ensures same_reference { tx.new.conn.ghost_name ≡ tx.old.conn.ghost_name }
+        ensures does { OkDoes result (state S.Store tx.old.conn.now) (state S.Store tx.new.conn.now) (Makes (all of.now n (self.now ∷ []))) }
+        ensures survives { LeavesStore (state S.Store tx.old.conn.now) (state S.Store tx.new.conn.now) };
+
+    // No value changes nothing, and one more value makes its change of what the others made.
+    ghost none: { (c : C) (n : ℕ) (t : Tables) → AreSame (all c n [] t) t };
+
+    ghost more: { (c : C) (n k : ℕ) (xs : List Self) (x : Self) (t u : Tables) → k ≡ n + length xs → AreSame (all c n xs t) u → AreSame (all c n (xs ++ x ∷ []) t) (all c k (x ∷ []) u) };
+}
+
+/// Writes the rows of a list, in turn.
+pub fn write_all<C, R: Written<C>, S: Alter>(
+    tx: &mut Transaction<'_, S>,
+    of: &C,
+    rows: &[R],
+) -> Result<(), Error>
+    ensures same_reference { tx.new.conn.ghost_name ≡ tx.old.conn.ghost_name }
+    ensures does { OkDoes result (state S.Store tx.old.conn.now) (state S.Store tx.new.conn.now) (Makes (R.all of.now 0 rows.now)) }
+    ensures survives { LeavesStore (state S.Store tx.old.conn.now) (state S.Store tx.new.conn.now) }
+{
+    for i in 0..rows.len() {
+        rows[i].write(tx, of, i as u64)?;
+    }
+    Ok(())
+}

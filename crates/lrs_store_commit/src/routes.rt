@@ -1,0 +1,285 @@
+//! Routes that change, go and come.
+
+ghost use Rattle.std.specs.Prelude.{◌≡◌, Some};
+ghost use Rattle.sqlite.specs.Held.{state};
+ghost use Rattle.lrs_store_tables.specs.Stored.{Makes, OkDoes, LeavesStore};
+ghost use Rattle.lrs_store_tables.specs.Changing.{with_pieces, with_marks, with_refs, with_spans, without_route, less_spans, less_refs, renamed_route};
+ghost use Rattle.lrs_store_tables.specs.Writing.{MakesOf, with_some, new_pieces, new_marks, changed_refs, changed_spans, changed_line, changed_route, new_route};
+
+use crate::delete::{Going, drop_marks, drop_pieces, drop_refs, drop_spans};
+use crate::insert_lists::Coming;
+use crate::lists::write_all;
+use crate::update::{rename_marks, rename_pieces, rename_refs, rename_spans};
+use lrs_element::{Course, Marks};
+use lrs_events::Span;
+use lrs_image::{ReferentChange, RouteChange};
+use lrs_machine::RouteEntry;
+use lrs_measure::Rows;
+use lrs_position::{RefName, Referent, RouteName};
+use sqlite::{Alter, Error, Transaction};
+
+/// Puts the pieces of a route.
+fn put_pieces<S: Alter>(
+    tx: &mut Transaction<'_, S>,
+    route: &RouteName,
+    course: &Course,
+) -> Result<(), Error>
+    ensures same_reference { tx.new.conn.ghost_name ≡ tx.old.conn.ghost_name }
+    ensures does { OkDoes result (state S.Store tx.old.conn.now) (state S.Store tx.new.conn.now) (MakesOf (Some course.now) (with_some (with_pieces route.now 0))) }
+    ensures survives { LeavesStore (state S.Store tx.old.conn.now) (state S.Store tx.new.conn.now) }
+{
+    let of = Coming { route: *route };
+    write_all(tx, &of, course.pieces())?;
+    Ok(())
+}
+
+/// Puts the marks of a route.
+fn put_marks<S: Alter>(
+    tx: &mut Transaction<'_, S>,
+    route: &RouteName,
+    marks: &Marks,
+) -> Result<(), Error>
+    ensures same_reference { tx.new.conn.ghost_name ≡ tx.old.conn.ghost_name }
+    ensures does { OkDoes result (state S.Store tx.old.conn.now) (state S.Store tx.new.conn.now) (Makes (with_marks route.now 0 marks.now)) }
+    ensures survives { LeavesStore (state S.Store tx.old.conn.now) (state S.Store tx.new.conn.now) }
+{
+    let of = Coming { route: *route };
+    write_all(tx, &of, marks.list())?;
+    Ok(())
+}
+
+/// Puts referents of a route.
+fn put_refs<S: Alter>(
+    tx: &mut Transaction<'_, S>,
+    route: &RouteName,
+    refs: &Rows<Referent>,
+) -> Result<(), Error>
+    ensures same_reference { tx.new.conn.ghost_name ≡ tx.old.conn.ghost_name }
+    ensures does { OkDoes result (state S.Store tx.old.conn.now) (state S.Store tx.new.conn.now) (Makes (with_refs route.now refs.now)) }
+    ensures survives { LeavesStore (state S.Store tx.old.conn.now) (state S.Store tx.new.conn.now) }
+{
+    let of = Coming { route: *route };
+    write_all(tx, &of, refs.as_slice())?;
+    Ok(())
+}
+
+/// Puts spans of a route.
+fn put_spans<S: Alter>(
+    tx: &mut Transaction<'_, S>,
+    route: &RouteName,
+    spans: &[Span],
+) -> Result<(), Error>
+    ensures same_reference { tx.new.conn.ghost_name ≡ tx.old.conn.ghost_name }
+    ensures does { OkDoes result (state S.Store tx.old.conn.now) (state S.Store tx.new.conn.now) (Makes (with_spans route.now spans.now)) }
+    ensures survives { LeavesStore (state S.Store tx.old.conn.now) (state S.Store tx.new.conn.now) }
+{
+    let of = Coming { route: *route };
+    write_all(tx, &of, spans)?;
+    Ok(())
+}
+
+/// Deletes referents by their names.
+fn take_refs<S: Alter>(
+    tx: &mut Transaction<'_, S>,
+    route: &RouteName,
+    names: &Rows<RefName>,
+) -> Result<(), Error>
+    ensures same_reference { tx.new.conn.ghost_name ≡ tx.old.conn.ghost_name }
+    ensures does { OkDoes result (state S.Store tx.old.conn.now) (state S.Store tx.new.conn.now) (Makes (less_refs names.now)) }
+    ensures survives { LeavesStore (state S.Store tx.old.conn.now) (state S.Store tx.new.conn.now) }
+{
+    let of = Going { route: *route };
+    write_all(tx, &of, names.as_slice())?;
+    Ok(())
+}
+
+/// Deletes spans of a route by their keys.
+fn take_spans<S: Alter>(
+    tx: &mut Transaction<'_, S>,
+    route: &RouteName,
+    spans: &Rows<Span>,
+) -> Result<(), Error>
+    ensures same_reference { tx.new.conn.ghost_name ≡ tx.old.conn.ghost_name }
+    ensures does { OkDoes result (state S.Store tx.old.conn.now) (state S.Store tx.new.conn.now) (Makes (less_spans route.now spans.now)) }
+    ensures survives { LeavesStore (state S.Store tx.old.conn.now) (state S.Store tx.new.conn.now) }
+{
+    let of = Going { route: *route };
+    write_all(tx, &of, spans.as_slice())?;
+    Ok(())
+}
+
+/// Puts other pieces of a route.
+fn put_new_pieces<S: Alter>(
+    tx: &mut Transaction<'_, S>,
+    route: &RouteName,
+    course: &Course,
+) -> Result<(), Error>
+    ensures same_reference { tx.new.conn.ghost_name ≡ tx.old.conn.ghost_name }
+    ensures does { OkDoes result (state S.Store tx.old.conn.now) (state S.Store tx.new.conn.now) (MakesOf (Some course.now) (with_some (new_pieces route.now))) }
+    ensures survives { LeavesStore (state S.Store tx.old.conn.now) (state S.Store tx.new.conn.now) }
+{
+    drop_pieces(tx, route)?;
+    put_pieces(tx, route, course)?;
+    Ok(())
+}
+
+/// Puts other pieces of a route, where its course changes.
+fn replace_pieces<S: Alter>(
+    tx: &mut Transaction<'_, S>,
+    route: &RouteName,
+    course: &Option<Course>,
+) -> Result<(), Error>
+    ensures same_reference { tx.new.conn.ghost_name ≡ tx.old.conn.ghost_name }
+    ensures does { OkDoes result (state S.Store tx.old.conn.now) (state S.Store tx.new.conn.now) (MakesOf course.now (with_some (new_pieces route.now))) }
+    ensures survives { LeavesStore (state S.Store tx.old.conn.now) (state S.Store tx.new.conn.now) }
+{
+    match course {
+        Some(course) => put_new_pieces(tx, route, course),
+        None => Ok(()),
+    }
+}
+
+/// Puts other marks of a route.
+fn put_new_marks<S: Alter>(
+    tx: &mut Transaction<'_, S>,
+    route: &RouteName,
+    marks: &Marks,
+) -> Result<(), Error>
+    ensures same_reference { tx.new.conn.ghost_name ≡ tx.old.conn.ghost_name }
+    ensures does { OkDoes result (state S.Store tx.old.conn.now) (state S.Store tx.new.conn.now) (Makes (new_marks route.now marks.now)) }
+    ensures survives { LeavesStore (state S.Store tx.old.conn.now) (state S.Store tx.new.conn.now) }
+{
+    drop_marks(tx, route)?;
+    put_marks(tx, route, marks)?;
+    Ok(())
+}
+
+/// Puts other marks of a route, where they change.
+fn replace_marks<S: Alter>(
+    tx: &mut Transaction<'_, S>,
+    route: &RouteName,
+    marks: &Option<Marks>,
+) -> Result<(), Error>
+    ensures same_reference { tx.new.conn.ghost_name ≡ tx.old.conn.ghost_name }
+    ensures does { OkDoes result (state S.Store tx.old.conn.now) (state S.Store tx.new.conn.now) (Makes (with_some (new_marks route.now) marks.now)) }
+    ensures survives { LeavesStore (state S.Store tx.old.conn.now) (state S.Store tx.new.conn.now) }
+{
+    match marks {
+        Some(marks) => put_new_marks(tx, route, marks),
+        None => Ok(()),
+    }
+}
+
+/// Deletes the referents that go, and puts those that come.
+fn change_refs<S: Alter>(
+    tx: &mut Transaction<'_, S>,
+    route: &RouteName,
+    refs: &ReferentChange,
+) -> Result<(), Error>
+    ensures same_reference { tx.new.conn.ghost_name ≡ tx.old.conn.ghost_name }
+    ensures does { OkDoes result (state S.Store tx.old.conn.now) (state S.Store tx.new.conn.now) (Makes (changed_refs route.now refs.now)) }
+    ensures survives { LeavesStore (state S.Store tx.old.conn.now) (state S.Store tx.new.conn.now) }
+{
+    take_refs(tx, route, &refs.gone)?;
+    put_refs(tx, route, &refs.come)?;
+    Ok(())
+}
+
+/// Deletes the spans that go, and puts those that come.
+fn change_spans<S: Alter>(tx: &mut Transaction<'_, S>, change: &RouteChange) -> Result<(), Error>
+    ensures same_reference { tx.new.conn.ghost_name ≡ tx.old.conn.ghost_name }
+    ensures does { OkDoes result (state S.Store tx.old.conn.now) (state S.Store tx.new.conn.now) (Makes (changed_spans change.now)) }
+    ensures survives { LeavesStore (state S.Store tx.old.conn.now) (state S.Store tx.new.conn.now) }
+{
+    take_spans(tx, &change.route, &change.spans_gone)?;
+    put_spans(tx, &change.route, change.spans_come.as_slice())?;
+    Ok(())
+}
+
+/// A route gets its new name.
+fn rename_route<S: Alter>(
+    tx: &mut Transaction<'_, S>,
+    route: &RouteName,
+    name: &RouteName,
+) -> Result<(), Error>
+    ensures same_reference { tx.new.conn.ghost_name ≡ tx.old.conn.ghost_name }
+    ensures does { OkDoes result (state S.Store tx.old.conn.now) (state S.Store tx.new.conn.now) (Makes (renamed_route route.now name.now)) }
+    ensures survives { LeavesStore (state S.Store tx.old.conn.now) (state S.Store tx.new.conn.now) }
+{
+    rename_pieces(tx, route, name)?;
+    rename_marks(tx, route, name)?;
+    rename_refs(tx, route, name)?;
+    rename_spans(tx, route, name)?;
+    Ok(())
+}
+
+/// A route gets its new name, if it has one.
+fn rename_if_new<S: Alter>(
+    tx: &mut Transaction<'_, S>,
+    route: &RouteName,
+    name: &RouteName,
+) -> Result<(), Error>
+    ensures same_reference { tx.new.conn.ghost_name ≡ tx.old.conn.ghost_name }
+    ensures does { OkDoes result (state S.Store tx.old.conn.now) (state S.Store tx.new.conn.now) (Makes (renamed_route route.now name.now)) }
+    ensures survives { LeavesStore (state S.Store tx.old.conn.now) (state S.Store tx.new.conn.now) }
+{
+    if route == name {
+        return Ok(());
+    }
+    rename_route(tx, route, name)?;
+    Ok(())
+}
+
+/// Puts other pieces and marks of a route, where they change.
+fn change_line<S: Alter>(tx: &mut Transaction<'_, S>, change: &RouteChange) -> Result<(), Error>
+    ensures same_reference { tx.new.conn.ghost_name ≡ tx.old.conn.ghost_name }
+    ensures does { OkDoes result (state S.Store tx.old.conn.now) (state S.Store tx.new.conn.now) (MakesOf change.now.course (changed_line change.now)) }
+    ensures survives { LeavesStore (state S.Store tx.old.conn.now) (state S.Store tx.new.conn.now) }
+{
+    replace_pieces(tx, &change.route, &change.course)?;
+    replace_marks(tx, &change.route, &change.marks)?;
+    Ok(())
+}
+
+/// A route that stays changes, with what lies on it.
+pub fn change_route<S: Alter>(
+    tx: &mut Transaction<'_, S>,
+    change: &RouteChange,
+) -> Result<(), Error>
+    ensures same_reference { tx.new.conn.ghost_name ≡ tx.old.conn.ghost_name }
+    ensures does { OkDoes result (state S.Store tx.old.conn.now) (state S.Store tx.new.conn.now) (MakesOf change.now.course (changed_route change.now)) }
+    ensures survives { LeavesStore (state S.Store tx.old.conn.now) (state S.Store tx.new.conn.now) }
+{
+    change_line(tx, change)?;
+    change_refs(tx, &change.route, &change.refs)?;
+    change_spans(tx, change)?;
+    rename_if_new(tx, &change.route, &change.name)?;
+    Ok(())
+}
+
+/// A route goes, with what lies on it.
+pub fn drop_route<S: Alter>(tx: &mut Transaction<'_, S>, route: &RouteName) -> Result<(), Error>
+    ensures same_reference { tx.new.conn.ghost_name ≡ tx.old.conn.ghost_name }
+    ensures does { OkDoes result (state S.Store tx.old.conn.now) (state S.Store tx.new.conn.now) (Makes (without_route route.now)) }
+    ensures survives { LeavesStore (state S.Store tx.old.conn.now) (state S.Store tx.new.conn.now) }
+{
+    drop_pieces(tx, route)?;
+    drop_marks(tx, route)?;
+    drop_refs(tx, route)?;
+    drop_spans(tx, route)?;
+    Ok(())
+}
+
+/// A route comes, with what lies on it.
+pub fn put_route<S: Alter>(tx: &mut Transaction<'_, S>, entry: &RouteEntry) -> Result<(), Error>
+    ensures same_reference { tx.new.conn.ghost_name ≡ tx.old.conn.ghost_name }
+    ensures does { OkDoes result (state S.Store tx.old.conn.now) (state S.Store tx.new.conn.now) (MakesOf (Some entry.now.route.course) (new_route entry.now)) }
+    ensures survives { LeavesStore (state S.Store tx.old.conn.now) (state S.Store tx.new.conn.now) }
+{
+    let route = &entry.route;
+    put_pieces(tx, &route.name, &route.course)?;
+    put_marks(tx, &route.name, &route.marks)?;
+    put_refs(tx, &route.name, &route.refs)?;
+    put_spans(tx, &route.name, entry.spans.rows())?;
+    Ok(())
+}

@@ -1,0 +1,144 @@
+//! A connection becomes a store of tables: they are made where there is none, and no row changes.
+
+ghost use Rattle.std.specs.Prelude.{◌≡◌, OnOk, IfOk, IfErr, IsTrue, false};
+ghost use Rattle.sqlite.specs.State.{HasCleanDisk, Survives};
+ghost use Rattle.sqlite.specs.Held.{state};
+ghost use Rattle.lrs_store_rows.specs.Tables.{AreSame};
+ghost use Rattle.lrs_store_tables.specs.Schema.{inventory};
+ghost use Rattle.lrs_store_tables.specs.Stored.{stored, LeavesStore};
+ghost use Rattle.lrs_store_tables.specs.Changing.{without_origins};
+ghost use Rattle.lrs_store_tables.specs.Making.{no_schema, up_to_edit};
+ghost use Rattle.lrs_store_tables.specs.Resting.{IsReady};
+ghost use Rattle.lrs_store_files.specs.Opening.{IsTaken, IsFound, LeavesFound, HasOrigins, IsGrown};
+
+use crate::table_list::{Known, wanted, which};
+use lrs_store_tables::new_store::make_store;
+use lrs_store_tables::tables::{OpenFault, Tables};
+use sqlite::{Alter, Connection, Error, ErrorCode, Transaction};
+use std::alloc::Global;
+
+/// Makes the table of origins, without a row.
+fn make_origins<S: Alter>(tx: &mut Transaction<'_, S>) -> Result<(), Error>
+    ensures same_reference { tx.new.conn.ghost_name ≡ tx.old.conn.ghost_name }
+    ensures made { HasCleanDisk (state S.Store tx.new.conn.now) → IsTrue (state S.Store tx.old.conn.now).in_transaction → (IsTrue (state S.Store tx.old.conn.now).is_open → (state S.Store tx.old.conn.now).now.schema ≡ up_to_edit) → OnOk result (HasOrigins (state S.Store tx.old.conn.now) (state S.Store tx.new.conn.now)) }
+    ensures survives { LeavesStore (state S.Store tx.old.conn.now) (state S.Store tx.new.conn.now) }
+{
+    tx.execute(
+        "CREATE TABLE origin (asset INTEGER NOT NULL REFERENCES asset, edit INTEGER NOT NULL, PRIMARY KEY (asset)) STRICT",
+        &[],
+    )?;
+    Ok(())
+}
+
+/// Makes the table of origins in a store of version 1, in one transaction.
+///
+/// # Errors
+/// When the store fails, or memory runs out. The rows are as they were.
+pub fn grow<S: Alter>(conn: &mut Connection<S>) -> Result<(), Error>
+    requires autocommit { conn.old.in_transaction ≡ false }
+    requires first { HasCleanDisk (state S.Store conn.old) → IsTrue (state S.Store conn.old).is_open → (state S.Store conn.old).now.schema ≡ up_to_edit }
+    ensures autocommit { conn.new.in_transaction ≡ false }
+    ensures grown { HasCleanDisk (state S.Store conn.new) → OnOk result (IsGrown (state S.Store conn.old) (state S.Store conn.new)) }
+    ensures survives { Survives (state S.Store conn.old) (state S.Store conn.new) (λ db. AreSame (without_origins (stored (state S.Store conn.old).now.trees)) (stored db)) }
+{
+    let mut tx = conn.transaction();
+    make_origins(&mut tx)?;
+    tx.commit()
+}
+
+/// Why a store is not opened, by what its connection answered.
+pub fn fault_of(error: Error) -> OpenFault
+    ensures memory { error ≡ Error.SqliteFailure ErrorCode.OutOfMemory → result ≡ OpenFault.Memory }
+    ensures only { result ≡ OpenFault.Memory → error ≡ Error.SqliteFailure ErrorCode.OutOfMemory }
+{
+    match error {
+        Error::SqliteFailure(ErrorCode::OutOfMemory) => OpenFault::Memory,
+        _ => OpenFault::Store,
+    }
+}
+
+fn kept<S: Alter>(conn: Connection<S>) -> Tables<S>
+    requires autocommit { conn.in_transaction ≡ false }
+    requires found { IsFound (state S.Store conn) }
+    requires second { (state S.Store conn).now.schema ≡ inventory }
+    ensures same { result.conn ≡ conn }
+    ensures ready { IsReady (state S.Store result.conn) }
+    ensures rows { IsTaken (state S.Store conn) (state S.Store result.conn) }
+{
+    let _live = conn.schema();
+    Tables { conn }
+}
+
+/// A connection as it was opened, or whose tables were to be made: why they are not taken, and what an opening finds.
+type NotTaken<S> = (OpenFault, Connection<S>);
+
+fn made<S: Alter>(mut conn: Connection<S>) -> Result<Tables<S>, NotTaken<S>>
+    requires autocommit { conn.in_transaction ≡ false }
+    requires found { IsFound (state S.Store conn) }
+    requires nothing { (state S.Store conn).now.schema ≡ no_schema }
+    ensures autocommit { IfOk result (λ t. t.conn.in_transaction ≡ false) }
+    ensures clean { IfOk result (λ t. HasCleanDisk (state S.Store t.conn) → HasCleanDisk (state S.Store conn)) }
+    ensures ready { IfOk result (λ t. IsReady (state S.Store t.conn)) }
+    ensures rows { IfOk result (λ t. IsTaken (state S.Store conn) (state S.Store t.conn)) }
+    ensures left { IfErr result (λ e. LeavesFound (state S.Store conn) (state S.Store e.1)) }
+{
+    match make_store(&mut conn) {
+        Ok(()) => Ok(Tables { conn }),
+        Err(error) => Err((fault_of(error), conn)),
+    }
+}
+
+fn grown<S: Alter>(mut conn: Connection<S>) -> Result<Tables<S>, NotTaken<S>>
+    requires autocommit { conn.in_transaction ≡ false }
+    requires found { IsFound (state S.Store conn) }
+    requires first { (state S.Store conn).now.schema ≡ up_to_edit }
+    ensures autocommit { IfOk result (λ t. t.conn.in_transaction ≡ false) }
+    ensures clean { IfOk result (λ t. HasCleanDisk (state S.Store t.conn) → HasCleanDisk (state S.Store conn)) }
+    ensures ready { IfOk result (λ t. IsReady (state S.Store t.conn)) }
+    ensures rows { IfOk result (λ t. IsTaken (state S.Store conn) (state S.Store t.conn)) }
+    ensures left { IfErr result (λ e. LeavesFound (state S.Store conn) (state S.Store e.1)) }
+{
+    match grow(&mut conn) {
+        Ok(()) => {
+            let _live = conn.schema();
+            Ok(Tables { conn })
+        }
+        Err(error) => Err((fault_of(error), conn)),
+    }
+}
+
+/// A connection as it was opened.
+fn unchanged<S: Alter>(fault: OpenFault, conn: Connection<S>) -> NotTaken<S>
+    requires found { IsFound (state S.Store conn) }
+    ensures same { result.1 ≡ conn }
+    ensures left { LeavesFound (state S.Store conn) (state S.Store result.1) }
+{
+    (fault, conn)
+}
+
+/// The tables of a connection that was just opened. Where there is none, they are made in one transaction, with the
+/// row of the version; where those of version 1 are, the table of origins is made.
+///
+/// # Errors
+/// When memory runs out, the store fails, or it has other tables: it is then as it was.
+pub fn over<S: Alter>(alloc: Global, conn: Connection<S>) -> Result<Tables<S>, NotTaken<S>>
+    requires autocommit { conn.in_transaction ≡ false }
+    requires found { IsFound (state S.Store conn) }
+    ensures autocommit { IfOk result (λ t. t.conn.in_transaction ≡ false) }
+    ensures clean { IfOk result (λ t. HasCleanDisk (state S.Store t.conn) → HasCleanDisk (state S.Store conn)) }
+    ensures ready { IfOk result (λ t. IsReady (state S.Store t.conn)) }
+    ensures rows { IfOk result (λ t. IsTaken (state S.Store conn) (state S.Store t.conn)) }
+    ensures same { (state S.Store conn).now.schema ≡ inventory → IfOk result (λ t. t.conn ≡ conn) }
+    ensures other { ((state S.Store conn).now.schema ≡ no_schema → ⊥) → ((state S.Store conn).now.schema ≡ up_to_edit → ⊥) → IfErr result (λ e. e.1 ≡ conn) }
+    ensures left { IfErr result (λ e. LeavesFound (state S.Store conn) (state S.Store e.1)) }
+{
+    let Ok(wanted) = wanted(alloc) else {
+        return Err(unchanged(OpenFault::Memory, conn));
+    };
+    match which(conn.schema(), &wanted) {
+        Known::Second => Ok(kept(conn)),
+        Known::Nothing => made(conn),
+        Known::First => grown(conn),
+        Known::Other => Err(unchanged(OpenFault::Store, conn)),
+    }
+}

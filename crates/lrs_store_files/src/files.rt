@@ -1,0 +1,141 @@
+//! Stores of tables in files.
+
+ghost use Rattle.std.specs.Prelude.{◌≡◌, None, Some, MatchOption, IfOk, IfErr, IfSome, IsSomeAnd, IsTrue, true, false};
+ghost use Rattle.sqlite_wal.specs.Reads.{AreClean};
+ghost use Rattle.sqlite_wal.specs.Files.{image_at};
+ghost use Rattle.sqlite_std_file.specs.File.{IsFresh};
+ghost use Rattle.sqlite.specs.State.{HasCleanDisk};
+ghost use Rattle.sqlite.specs.Files.{file_state, image_of};
+ghost use Rattle.sqlite.specs.Closing.{IsCopied};
+ghost use Rattle.lrs_store_tables.specs.Resting.{IsReady};
+ghost use Rattle.lrs_store_files.specs.Found.{HasFound, IsLeftOf};
+
+use crate::connection::{fault_of, over};
+use lrs_store_tables::tables::{OpenFault, Tables};
+use sqlite::{Connection, Error, ErrorCode, FileFrom, FileStore, Files, Leftover, Options, Start};
+use sqlite_disk::Disk;
+use std::alloc::Global;
+use std::rt::HostRuntime;
+
+/// What is left of files whose tables are not taken.
+#[derive(Drop)]
+pub enum Untaken<D: Disk> {
+    /// What the kit's `sqlite` gave back, which refused them.
+    Refused(Leftover<D>),
+    /// The connection that opened them: their tables are no inventory's, memory ran out, or tables were to be made.
+    Connected(Connection<FileStore<D>>),
+}
+
+/// Why the store in files is not opened, and what is left of them: nothing where the system did not open them.
+#[derive(Drop)]
+pub struct Refusal<D: Disk> {
+    pub fault: OpenFault,
+    pub left: Option<Untaken<D>>,
+}
+
+/// Opens the store in these files, or makes one where they hold none.
+///
+/// # Errors
+/// When memory runs out, a file fails, or the files hold no store of an inventory: they are then as they were.
+pub fn open_files<D: Disk + Drop>(
+    alloc: Global,
+    files: Files<D>,
+    options: Options,
+) -> Result<Tables<FileStore<D>>, Refusal<D>>
+    requires log { IsTrue (D.Disk.is_usable files.log) }
+    requires db { IsTrue (D.Disk.is_usable files.db) }
+    ensures autocommit { IfOk result (λ t. t.conn.in_transaction ≡ false) }
+    ensures ready { IfOk result (λ t. IsReady (file_state t.conn)) }
+    ensures found { IfOk result (λ t. HasCleanDisk (file_state t.conn) → HasFound (image_of D.Disk files) (file_state t.conn)) }
+    ensures left { IfErr result (λ e. IsSomeAnd e.left (IsLeftOf (image_of D.Disk files) (λ given. given ≡ files))) }
+{
+    match Connection::open_files(alloc, files, options) {
+        Ok(conn) => match over(alloc, conn) {
+            Ok(tables) => Ok(tables),
+            Err((fault, conn)) => Err(Refusal {
+                fault,
+                left: Some(Untaken::Connected(conn)),
+            }),
+        },
+        Err((error, left)) => Err(Refusal {
+            fault: fault_of(error),
+            left: Some(Untaken::Refused(left)),
+        }),
+    }
+}
+
+/// What the kit's opening of a path left, if it opened the files.
+fn refused<D: Disk + Drop>(left: Option<Leftover<D>>) -> Option<Untaken<D>>
+    ensures { MatchOption left (result ≡ None) (λ l. result ≡ Some (Untaken.Refused l)) }
+{
+    match left {
+        Some(left) => Some(Untaken::Refused(left)),
+        None => None,
+    }
+}
+
+/// Opens the store at a path, or makes one where there is none. `start` stands for what the files hold.
+///
+/// # Errors
+/// When memory runs out, a file fails, another program has it, or it holds no store of an inventory: the files are then
+/// as they were.
+pub fn open_file<S: Start>(
+    rt: &HostRuntime,
+    path: &str,
+    start: S,
+) -> Result<Tables<FileStore<FileFrom<S>>>, Refusal<FileFrom<S>>>
+    ensures autocommit { IfOk result (λ t. t.conn.in_transaction ≡ false) }
+    ensures ready { IfOk result (λ t. IsReady (file_state t.conn)) }
+    ensures found { IfOk result (λ t. HasCleanDisk (file_state t.conn) → HasFound (image_at S.Start) (file_state t.conn)) }
+    ensures left { IfErr result (λ e. IfSome e.left (IsLeftOf (image_at S.Start) (λ files. IsFresh true files.log × IsFresh false files.db))) }
+{
+    match Connection::open_from(rt, path, false, start) {
+        Ok(conn) => match over(rt.alloc(), conn) {
+            Ok(tables) => Ok(tables),
+            Err((fault, conn)) => Err(Refusal {
+                fault,
+                left: Some(Untaken::Connected(conn)),
+            }),
+        },
+        Err((error, left)) => Err(Refusal {
+            fault: fault_of(error),
+            left: refused(left),
+        }),
+    }
+}
+
+/// Why a store is not closed.
+#[derive(Clone, Copy, Debug, PartialEq, Eq)]
+pub enum CloseFault {
+    /// There is too little memory.
+    Memory,
+    /// The store failed.
+    Store,
+}
+
+fn close_fault_of(error: Error) -> CloseFault
+    ensures memory { error ≡ Error.SqliteFailure ErrorCode.OutOfMemory → result ≡ CloseFault.Memory }
+    ensures only { result ≡ CloseFault.Memory → error ≡ Error.SqliteFailure ErrorCode.OutOfMemory }
+{
+    match error {
+        Error::SqliteFailure(ErrorCode::OutOfMemory) => CloseFault::Memory,
+        _ => CloseFault::Store,
+    }
+}
+
+/// Closes a store and gives its files back. What was committed last is in the database file.
+///
+/// # Errors
+/// When memory runs out, or the store fails.
+pub fn close_files<D: Disk + Drop>(tables: Tables<FileStore<D>>) -> Result<Files<D>, CloseFault>
+    ensures usable { IfOk result (λ files. IsTrue (D.Disk.is_usable files.log) × IsTrue (D.Disk.is_usable files.db)) }
+    ensures copied { IfOk result (λ files. AreClean D.Disk files.log files.db → IsCopied tables.conn files) }
+{
+    match tables.conn.close_files() {
+        Ok(files) => Ok(files),
+        Err((error, store)) => {
+            drop(store.close());
+            Err(close_fault_of(error))
+        }
+    }
+}

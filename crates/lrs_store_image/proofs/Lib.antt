@@ -1,0 +1,11 @@
+pub mod Sorted
+pub mod Asks
+pub mod Said
+pub mod Counted
+pub mod OriginRows
+pub mod Entered
+pub mod Loaded
+pub mod Chained
+pub mod InParts
+pub mod OfEntries
+pub mod OfContent

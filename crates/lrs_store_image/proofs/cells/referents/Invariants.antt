@@ -1,0 +1,6 @@
+use Rattle.std.proofs.Common.{◌≡◌, map, take}
+use Rattle.lrs_store_tables.specs.Stored.{ref_in}
+use Rattle.lrs_store_image.proofs.cells.referents.Given as goal
+
+abbrev pub invariant-loop-row : goal.invariant-loop-row
+invariant-loop-row l = l.found.items ≡ map ref_in (take l.row-index l.rows)

@@ -1,0 +1,6 @@
+use Rattle.std.proofs.Common.{◌≡◌, map, take}
+use Rattle.lrs_store_tables.specs.Stored.{span_in}
+use Rattle.lrs_store_image.proofs.cells.spans.Given as goal
+
+abbrev pub invariant-loop-row : goal.invariant-loop-row
+invariant-loop-row l = l.found.items ≡ map span_in (take l.row-index l.rows)

@@ -1,0 +1,8 @@
+use Rattle.std.proofs.Common.{rules}
+use Rattle.std.proofs.lemmas.Fn.{always_returns_same}
+use Rattle.lrs_machine.specs.Sound.{class_before}
+use Rattle.lrs_store_rows.proofs.Orders.{classes_rank}
+use Rattle.lrs_store_image.proofs.order.sorted_classes.Goals as goal
+
+pub returns-clause-sorted : goal.returns-clause-sorted
+returns-clause-sorted c = c.sort_unstable_by.ensures.sorted class_before classes_rank (always_returns_same _ _ _ (λ a r f' k. search rules))

@@ -1,0 +1,3 @@
+pub mod Loading
+pub mod Entering
+pub mod Reading

@@ -1,0 +1,77 @@
+-- What the rows of a store are read as, in three parts: what has names, what lies on routes, and the ledgers.
+use Rattle.std.specs.Prelude.{List, [], map, Result, Ok, Err}
+use Rattle.sqlite_value.specs.Order.{Row}
+use Rattle.lrs_events.specs.Parts.{part_before}
+use Rattle.lrs_machine.specs.declared.image.Image.{Image}
+use Rattle.lrs_machine.specs.declared.image.RouteEntry.{RouteEntry}
+use Rattle.lrs_machine.specs.declared.table.Table.{Table}
+use Rattle.lrs_machine.specs.declared.table.Table.TheVariants as table
+use Rattle.lrs_machine.specs.Sound.{link_before, are_links, class_before, are_classes, asset_before, are_assets, are_courses, are_entered, gone_before, are_gone, are_edits}
+use Rattle.lrs_image_sound.specs.Tables.{route_spans}
+use Rattle.lrs_image.specs.declared.keeper.LoadFault.{LoadFault}
+use Rattle.lrs_image.specs.declared.keeper.LoadFault.TheVariants as load
+use Rattle.lrs_store_rows.specs.Tables.{Tables, LinkRow, ClassRow, AssetRow, PieceRow, MarkRow, RefRow, SpanRow, EnteredRow, GoneRow, EditRow}
+use Rattle.lrs_store_rows.specs.Decoding.{each_sorted, link_of, class_of, asset_of, part_of, gone_of}
+use Rattle.lrs_store_rows.specs.Content.{◌>>=◌, read, courses_of, measured_of, routes_of, entries_of, edits_of, with_entry}
+use Rattle.lrs_store_routes.specs.Measuring.{are_all_measured}
+use Rattle.lrs_store_routes.specs.Referring.{are_all_referred}
+use Rattle.lrs_store_routes.specs.Spans.{are_sound}
+use Rattle.lrs_store_routes.specs.declared.fault.ReadFault.{ReadFault}
+use Rattle.lrs_store_routes.specs.declared.fault.ReadFault.TheVariants.{Memory, Unsound}
+use Rattle.lrs_store_tables.specs.Stored.{link_in, class_in, asset_in, piece_in, mark_in, ref_in, span_in, entered_in, gone_in, edit_in}
+use Rattle.lrs_store_keeper.specs.declared.rows.NamedRows.{NamedRows}
+use Rattle.lrs_store_keeper.specs.declared.rows.RouteRows.{RouteRows}
+use Rattle.lrs_store_image.specs.declared.registers.Named.{Named}
+use Rattle.lrs_store_image.specs.declared.ledgers.Ledgers.{Ledgers}
+
+-- the same rows, or the same fault
+abbrev pub of_read : {V A : Type 0} → (V → A) → Result V ReadFault → Result A LoadFault
+of_read f (Ok x) = Ok (f x)
+of_read f (Err Memory) = Err load.Memory
+of_read f (Err (Unsound t)) = Err (load.Unsound t)
+
+-- links, classes and assets, or the first of their tables that is unsound
+abbrev pub named_read : List LinkRow → List ClassRow → List AssetRow → Result Named Table
+named_read links classes assets =
+    read table.Link (each_sorted link_before link_of links) are_links >>= (λ links.
+    read table.Class (each_sorted class_before class_of classes) are_classes >>= (λ classes.
+    read table.Asset (each_sorted asset_before asset_of assets) (are_assets classes) >>= (λ assets.
+    Ok (record { links = links; classes = classes; assets = assets }))))
+
+-- the routes with all that lies on them, or the first of their tables that is unsound
+abbrev pub entries_read : Named → List PieceRow → List MarkRow → List RefRow → List SpanRow → Result (List RouteEntry) Table
+entries_read n pieces marks refs spans =
+    read table.Piece (courses_of pieces) (are_courses n.links) >>= (λ courses.
+    read table.Mark (measured_of marks courses) are_all_measured >>= (λ measured.
+    read table.Ref (routes_of refs measured) are_all_referred >>= (λ routes.
+    read table.Span (entries_of n.assets spans routes) (are_sound n.links n.classes n.assets))))
+
+-- the ledgers and the edits, or the first of their tables that is unsound
+abbrev pub ledgers_read : Named → List RouteEntry → List EnteredRow → List GoneRow → List EditRow → Result Ledgers Table
+ledgers_read n routes entered gone edits =
+    read table.Entered (each_sorted part_before part_of entered) (are_entered n.links n.assets) >>= (λ entered.
+    read table.Gone (each_sorted gone_before gone_of gone) (are_gone n.links n.assets (route_spans routes) entered) >>= (λ gone.
+    read table.Edit (edits_of edits) (are_edits entered gone) >>= (λ edits.
+    Ok (record { entered = entered; gone = gone; edits = edits }))))
+
+-- the image of what was read; the ledger tells which edit entered an asset
+abbrev pub with_entries_of : Named → List RouteEntry → Ledgers → Image
+with_entries_of n routes l =
+    record { links = n.links; classes = n.classes; assets = map (with_entry l.entered) n.assets; routes = routes; entered = l.entered; gone = l.gone; edits = l.edits }
+
+-- rows of the tables beside those of the version and of origins
+abbrev pub tables_beside : NamedRows → RouteRows → List Row → List Row → List Row → Tables
+tables_beside n r entered gone edits = record {
+  version = [];
+  link = map link_in n.link.items;
+  class = map class_in n.class.items;
+  asset = map asset_in n.asset.items;
+  piece = map piece_in r.piece.items;
+  mark = map mark_in r.mark.items;
+  ref = map ref_in r.referent.items;
+  span = map span_in r.span.items;
+  entered = map entered_in entered;
+  gone = map gone_in gone;
+  edit = map edit_in edits;
+  origin = [];
+}

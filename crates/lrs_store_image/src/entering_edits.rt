@@ -1,0 +1,88 @@
+//! The edit that entered each asset, which the ledger of what was entered tells.
+
+ghost use Rattle.std.specs.Prelude.{◌≡◌, ◌<◌, [], map, length, get_or, set, true, IfOk};
+ghost use Rattle.lrs_measure.specs.Lists.{each_two};
+ghost use Rattle.lrs_machine.specs.Sound.{asset_before};
+ghost use Rattle.lrs_store_rows.specs.Content.{with_entry};
+ghost use Rattle.lrs_store_image.specs.Entering.{entered_by, entered_all, IsPlaceOf};
+
+use lrs_events::{Asset, Part};
+use lrs_measure::Rows;
+use std::alloc::{AllocError, Global};
+
+/// Where the asset of this number stands, by binary search.
+fn place_of(assets: &[Asset], number: u64) -> Option<usize>
+    requires order { each_two asset_before assets.now ≡ true }
+    ensures { IsPlaceOf number assets.now result }
+{
+    match assets.binary_search_by_key(&number, |asset| asset.number) {
+        Ok(at) => Some(at),
+        Err(_) => None,
+    }
+}
+
+fn set_entry(assets: &mut Vec<Asset>, at: usize, edit: u64)
+    requires { at < length assets.old.items }
+    ensures { assets.new.items ≡ set assets.old.items at (record (get_or assets.old.items at (record { number = 0; class = []; value = []; lateral = 0; entry = 0 })) { entry = edit }) }
+{
+    let asset = Asset {
+        entry: edit,
+        ..assets[at]
+    };
+    assets[at] = asset;
+}
+
+/// Notes the edit of a part with its asset.
+fn enter(assets: &mut Vec<Asset>, part: &Part)
+    requires order { each_two asset_before assets.old.items ≡ true }
+    ensures { assets.new.items ≡ map (entered_by part.now) assets.old.items }
+{
+    match place_of(assets, part.asset) {
+        Some(at) => set_entry(assets, at, part.edit),
+        None => {}
+    }
+}
+
+/// Notes the edits of parts with their assets, that of the first part of an asset last.
+fn enter_all(assets: &mut Vec<Asset>, entered: &[Part])
+    requires order { each_two asset_before assets.old.items ≡ true }
+    ensures { assets.new.items ≡ entered_all entered.now assets.old.items }
+{
+    for i in (0..entered.len()).rev() {
+        enter(assets, &entered[i]);
+    }
+}
+
+fn without_entry(asset: &Asset) -> Asset
+    ensures { result ≡ with_entry [] asset.now }
+{
+    Asset { entry: 0, ..*asset }
+}
+
+fn without_entries(alloc: Global, assets: &[Asset]) -> Result<Vec<Asset>, AllocError>
+    ensures { IfOk result (λ found. found.items ≡ map (with_entry []) assets.now) }
+{
+    let mut found = Vec::with_capacity(alloc, assets.len())?;
+    for asset in assets {
+        found.push(without_entry(asset))?;
+    }
+    Ok(found)
+}
+
+/// The assets, each with the edit of the first of these parts that is of it, or 0. For n assets and m parts it
+/// takes time O(n + m log n).
+///
+/// # Errors
+/// When memory runs out.
+pub fn with_entries(
+    alloc: Global,
+    entered: &[Part],
+    assets: &[Asset],
+) -> Result<Rows<Asset>, AllocError>
+    requires order { each_two asset_before assets.now ≡ true }
+    ensures { IfOk result (λ found. found ≡ map (with_entry entered.now) assets.now) }
+{
+    let mut found = without_entries(alloc, assets)?;
+    enter_all(&mut found, entered);
+    Ok(Rows::from_vec(found))
+}

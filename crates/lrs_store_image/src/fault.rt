@@ -1,0 +1,19 @@
+//! Why nothing is read.
+
+ghost use Rattle.std.specs.Prelude.{◌≡◌};
+ghost use Rattle.lrs_store_image.specs.Reading.{of_read};
+
+use lrs_image::LoadFault;
+use lrs_measure::Rows;
+use lrs_store_routes::ReadFault;
+
+/// What the rows of a table give, in the terms of a keeper.
+pub(crate) fn as_loaded<T>(found: Result<Vec<T>, ReadFault>) -> Result<Rows<T>, LoadFault>
+    ensures { result ≡ of_read (λ v. v.items) found }
+{
+    match found {
+        Ok(rows) => Ok(Rows::from_vec(rows)),
+        Err(ReadFault::Memory) => Err(LoadFault::Memory),
+        Err(ReadFault::Unsound(table)) => Err(LoadFault::Unsound(table)),
+    }
+}

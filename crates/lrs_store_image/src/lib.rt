@@ -1,0 +1,22 @@
+//! The tables of a store, loaded one by one.
+//! The image that the rows of a store hold, or the first table that is unsound.
+#![tactic(auto)]
+
+mod cells;
+pub mod edits;
+mod emptiness;
+pub mod entering_edits;
+mod fault;
+mod inventory;
+mod ledgers;
+mod order;
+pub mod origins;
+mod reader;
+mod registers;
+mod route_lists;
+mod routes;
+pub mod rows;
+mod table_fault;
+pub mod tests;
+
+pub use reader::Reader;

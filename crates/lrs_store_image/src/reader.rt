@@ -1,0 +1,25 @@
+//! The reader of the image that the tables of a store hold.
+
+ghost use Rattle.lrs_store_keeper.specs.Rows.{tables_of};
+ghost use Rattle.lrs_store_keeper.specs.Holding.{Tells};
+
+use crate::emptiness::has_no_rows;
+use crate::inventory::read_image;
+use lrs_image::LoadFault;
+use lrs_machine::Image;
+use lrs_store_keeper::ReadImage;
+use lrs_store_keeper::rows::StoredRows;
+use std::alloc::Global;
+
+/// Reads the image that the rows of a store hold, each table beside those before it.
+#[derive(Clone, Copy)]
+pub struct Reader;
+
+impl ReadImage for Reader {
+    fn read(&self, alloc: Global, rows: StoredRows) -> Result<Image, LoadFault> {
+        if has_no_rows(&rows) {
+            return Ok(Image::empty(alloc));
+        }
+        read_image(alloc, rows)
+    }
+}

@@ -1,0 +1,18 @@
+use Rattle.std.proofs.Common.{rules}
+use Rattle.sqlite.specs.Held.{state}
+use Rattle.lrs_store_rows.specs.Tables.{AreSame}
+use Rattle.lrs_store_keeper.specs.Rows.{tables_of}
+use Rattle.lrs_store_keeper.proofs.ReadLemmas.{told_if, rests_if}
+use Rattle.lrs_store_keeper.proofs.image.read_alone.Goals as goal
+
+pub returns-clause-ready : goal.returns-clause-ready
+returns-clause-ready g c =
+    let h = rests_if g.S.Store c.args.conn.now c.transaction-tx.result.conn.now c.read_rows-rows.new.tx.conn.now (state g.S.Store c.rollback.new.self.0) (λ x t. AreSame t (tables_of x)) c.read_rows-rows.result
+    c.transaction-tx.ensures.begun c.requires.ready c.read_rows-rows.ensures.survives c.read_rows-rows.ensures.read c.rollback.ensures.survives c.rollback.ensures.undone in
+    search rules
+
+pub returns-clause-rows : goal.returns-clause-rows
+returns-clause-rows g c =
+    let h = told_if g.S.Store g.met.S.Store.settled c.args.conn.now c.transaction-tx.result.conn.now c.read_rows-rows.new.tx.conn.now (state g.S.Store c.rollback.new.self.0) (λ x t. AreSame t (tables_of x)) c.read_rows-rows.result
+    c.transaction-tx.ensures.begun c.requires.ready c.read_rows-rows.ensures.survives c.read_rows-rows.ensures.read c.rollback.ensures.survives in
+    search rules

@@ -1,0 +1,16 @@
+use Rattle.std.proofs.Common.{Ok, Err, Result, ap}
+use Rattle.sqlite.specs.Held.{state}
+use Rattle.lrs_image.specs.declared.keeper.LoadFault.{LoadFault}
+use Rattle.lrs_image.specs.declared.keeper.LoadFault.TheVariants.{Memory}
+use Rattle.lrs_store_keeper.proofs.OpeningLemmas.{found_before}
+use Rattle.lrs_store_keeper.proofs.migration.rewrite.Goals as goal
+
+abbrev fault_in : {A : Type 0} → Result A LoadFault → LoadFault
+fault_in (Ok x) = Memory
+fault_in (Err fault) = fault
+
+pub returns-in-Ok-clause-content : goal.returns-in-Ok-clause-content
+returns-in-Ok-clause-content g c x h = found_before (state g.S.Store c.args.conn.now) (state g.S.Store c.held_image.new.conn) c.held_image.ensures.survives x (c.write_second.ensures.content x h)
+
+pub returns-in-Err-clause-unsound : goal.returns-in-Err-clause-unsound
+returns-in-Err-clause-unsound g c t e = c.in-Err.ensures.unsound t (ap (λ f. Err f) (ap fault_in e))

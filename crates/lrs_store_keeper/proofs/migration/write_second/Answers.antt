@@ -1,0 +1,20 @@
+use Rattle.std.proofs.Common.{arith}
+use Rattle.sqlite.specs.State.{HasCleanDisk}
+use Rattle.sqlite.specs.Held.{state}
+use Rattle.lrs_store_keeper.proofs.OpeningLemmas.{kept, second}
+use Rattle.lrs_store_keeper.proofs.migration.write_second.Goals as goal
+
+pub returns-in-Ok-clause-second : goal.returns-in-Ok-clause-second
+returns-in-Ok-clause-second g c =
+    let early : HasCleanDisk (state g.S.Store c.bring_up.new.conn) → HasCleanDisk (state g.S.Store c.args.conn.now) = λ clean. omega (arith, clean, c.bring_up.ensures.crash.clean) in
+    second g.S.Store g.met.S.Store.stays g.met.S.Store.settled c.args.conn.now c.bring_up.new.conn c.args.image.now c.as_slice.result.now c.as_slice.ensures c.requires.ready c.requires.image early c.in-Ok.ensures.is_open c.in-Ok.ensures.brought_up
+
+pub returns-in-Ok-clause-content : goal.returns-in-Ok-clause-content
+returns-in-Ok-clause-content g c =
+    let early : HasCleanDisk (state g.S.Store c.bring_up.new.conn) → HasCleanDisk (state g.S.Store c.args.conn.now) = λ clean. omega (arith, clean, c.bring_up.ensures.crash.clean) in
+    kept g.S.Store g.met.S.Store.stays g.met.S.Store.settled c.args.conn.now c.bring_up.new.conn c.args.image.now c.as_slice.result.now c.as_slice.ensures c.requires.ready c.requires.image early c.bring_up.ensures.crash.crash
+
+pub returns-in-Err-clause-content : goal.returns-in-Err-clause-content
+returns-in-Err-clause-content g c =
+    let early : HasCleanDisk (state g.S.Store c.bring_up.new.conn) → HasCleanDisk (state g.S.Store c.args.conn.now) = λ clean. omega (arith, clean, c.bring_up.ensures.crash.clean) in
+    kept g.S.Store g.met.S.Store.stays g.met.S.Store.settled c.args.conn.now c.bring_up.new.conn c.args.image.now c.as_slice.result.now c.as_slice.ensures c.requires.ready c.requires.image early c.bring_up.ensures.crash.crash

@@ -1,0 +1,30 @@
+use Rattle.std.proofs.Common.{arith, map, IsPermutation}
+use Rattle.sqlite.specs.State.{HasCleanDisk}
+use Rattle.sqlite.specs.Held.{state}
+use Rattle.lrs_store_rows.specs.Tables.{Tables}
+use Rattle.lrs_store_tables.specs.Stored.{entered_in, gone_in, edit_in, origin_in}
+use Rattle.lrs_store_keeper.specs.Rows.{HasRead}
+use Rattle.lrs_store_keeper.proofs.RowLemmas.{reads_then, still}
+use Rattle.lrs_store_keeper.proofs.rows.read_ledgers.Goals as goal
+
+pub returns-clause-read : goal.returns-clause-read
+returns-clause-read g c clean writing =
+    let s0 = state g.S.Store c.args.tx.now.conn.now in
+    let s1 = state g.S.Store c.read_entered.new.tx.conn.now in
+    let s2 = state g.S.Store c.read_gone.new.tx.conn.now in
+    let s3 = state g.S.Store c.read_edits.new.tx.conn.now in
+    let s4 = state g.S.Store c.read_origins.new.tx.conn.now in
+    let m3 : HasCleanDisk s3 = omega (arith, clean, c.read_origins.ensures.survives.clean) in
+    let m2 : HasCleanDisk s2 = omega (arith, m3, c.read_edits.ensures.survives.clean) in
+    let m1 : HasCleanDisk s1 = omega (arith, m2, c.read_gone.ensures.survives.clean) in
+    let r1 : HasRead (λ (t : Tables). IsPermutation t.entered (map entered_in c.in_ok-entered.entered.items)) s0 s1 = record { rows = c.in_ok-entered.ensures.rows m1 writing; same = c.in_ok-entered.ensures.same m1 writing } in
+    let w1 = still s0 s1 writing r1.same in
+    let r2 : HasRead (λ (t : Tables). IsPermutation t.gone (map gone_in c.in_ok-gone.gone.items)) s1 s2 = record { rows = c.in_ok-gone.ensures.rows m2 w1; same = c.in_ok-gone.ensures.same m2 w1 } in
+    let w2 = still s1 s2 w1 r2.same in
+    let r3 : HasRead (λ (t : Tables). IsPermutation t.edit (map edit_in c.in_ok-edit.edit.items)) s2 s3 = record { rows = c.in_ok-edit.ensures.rows m3 w2; same = c.in_ok-edit.ensures.same m3 w2 } in
+    let w3 = still s2 s3 w2 r3.same in
+    let r4 : HasRead (λ (t : Tables). IsPermutation t.origin (map origin_in c.in_ok-origin.origin.items)) s3 s4 = record { rows = c.in_ok-origin.ensures.rows clean w3; same = c.in_ok-origin.ensures.same clean w3 } in
+    let b34 = reads_then (λ (t : Tables). IsPermutation t.edit (map edit_in c.in_ok-edit.edit.items)) (λ (t : Tables). IsPermutation t.origin (map origin_in c.in_ok-origin.origin.items)) s2 s3 s4 r3 r4 in
+    let b24 = reads_then (λ (t : Tables). IsPermutation t.gone (map gone_in c.in_ok-gone.gone.items)) _ s1 s2 s4 r2 b34 in
+    let b14 = reads_then (λ (t : Tables). IsPermutation t.entered (map entered_in c.in_ok-entered.entered.items)) _ s0 s1 s4 r1 b24 in
+    record { rows = record { entered = b14.rows.0; gone = b14.rows.1.0; edit = b14.rows.1.1.0; origin = b14.rows.1.1.1 }; same = b14.same }

@@ -1,0 +1,30 @@
+use Rattle.std.proofs.Common.{arith, map, IsPermutation}
+use Rattle.sqlite.specs.State.{HasCleanDisk}
+use Rattle.sqlite.specs.Held.{state}
+use Rattle.lrs_store_rows.specs.Tables.{Tables}
+use Rattle.lrs_store_tables.specs.Stored.{version_in, link_in, class_in, asset_in}
+use Rattle.lrs_store_keeper.specs.Rows.{HasRead}
+use Rattle.lrs_store_keeper.proofs.RowLemmas.{reads_then, still}
+use Rattle.lrs_store_keeper.proofs.rows.read_named.Goals as goal
+
+pub returns-clause-read : goal.returns-clause-read
+returns-clause-read g c clean writing =
+    let s0 = state g.S.Store c.args.tx.now.conn.now in
+    let s1 = state g.S.Store c.read_versions.new.tx.conn.now in
+    let s2 = state g.S.Store c.read_links.new.tx.conn.now in
+    let s3 = state g.S.Store c.read_classes.new.tx.conn.now in
+    let s4 = state g.S.Store c.read_assets.new.tx.conn.now in
+    let m3 : HasCleanDisk s3 = omega (arith, clean, c.read_assets.ensures.survives.clean) in
+    let m2 : HasCleanDisk s2 = omega (arith, m3, c.read_classes.ensures.survives.clean) in
+    let m1 : HasCleanDisk s1 = omega (arith, m2, c.read_links.ensures.survives.clean) in
+    let r1 : HasRead (λ (t : Tables). IsPermutation t.version (map version_in c.in_ok-version.version.items)) s0 s1 = record { rows = c.in_ok-version.ensures.rows m1 writing; same = c.in_ok-version.ensures.same m1 writing } in
+    let w1 = still s0 s1 writing r1.same in
+    let r2 : HasRead (λ (t : Tables). IsPermutation t.link (map link_in c.in_ok-link.link.items)) s1 s2 = record { rows = c.in_ok-link.ensures.rows m2 w1; same = c.in_ok-link.ensures.same m2 w1 } in
+    let w2 = still s1 s2 w1 r2.same in
+    let r3 : HasRead (λ (t : Tables). IsPermutation t.class (map class_in c.in_ok-class.class.items)) s2 s3 = record { rows = c.in_ok-class.ensures.rows m3 w2; same = c.in_ok-class.ensures.same m3 w2 } in
+    let w3 = still s2 s3 w2 r3.same in
+    let r4 : HasRead (λ (t : Tables). IsPermutation t.asset (map asset_in c.in_ok-asset.asset.items)) s3 s4 = record { rows = c.in_ok-asset.ensures.rows clean w3; same = c.in_ok-asset.ensures.same clean w3 } in
+    let b34 = reads_then (λ (t : Tables). IsPermutation t.class (map class_in c.in_ok-class.class.items)) (λ (t : Tables). IsPermutation t.asset (map asset_in c.in_ok-asset.asset.items)) s2 s3 s4 r3 r4 in
+    let b24 = reads_then (λ (t : Tables). IsPermutation t.link (map link_in c.in_ok-link.link.items)) _ s1 s2 s4 r2 b34 in
+    let b14 = reads_then (λ (t : Tables). IsPermutation t.version (map version_in c.in_ok-version.version.items)) _ s0 s1 s4 r1 b24 in
+    record { rows = record { version = b14.rows.0; link = b14.rows.1.0; class = b14.rows.1.1.0; asset = b14.rows.1.1.1 }; same = b14.same }

@@ -1,0 +1,54 @@
+-- What an opening of the tables of a store may find, and what a keeper over them knows.
+use Rattle.std.specs.Prelude.{◌≡◌, ℕ, pos, Bool, true, false, [], ◌∷◌, length, Result, Ok, Err, IsTrue, ⊤}
+use Rattle.std.proofs.Common.{refl}
+use Rattle.sqlite_trees.specs.Tree.{Trees}
+use Rattle.sqlite.specs.State.{State, HasCleanDisk}
+use Rattle.lrs_machine.specs.declared.image.Image.{Image}
+use Rattle.lrs_machine.specs.declared.table.Table.{Table}
+use Rattle.lrs_image.specs.declared.keeper.LoadFault.{LoadFault}
+use Rattle.lrs_image.specs.declared.keeper.LoadFault.TheVariants.{Memory, Store, Unsound}
+use Rattle.lrs_store_rows.specs.Tables.{Tables}
+use Rattle.lrs_store_rows.specs.Content.{content_of}
+use Rattle.lrs_store_tables.specs.Stored.{stored}
+use Rattle.lrs_store_tables.specs.Resting.{IsReady}
+
+-- An opening at this moment, after a crash too, may find this: the disk gives back what it was given, and these are the contents of rows that may be left.
+abbrev pub MayHold : State → Result Image Table → Type 0
+MayHold s c = HasCleanDisk s × ((db : Trees) × s.may_leave db × (content_of (stored db) ≡ c))
+
+-- The store finds something: it is open, and its disk is clean.
+pub record IsSafe (s : State) : Type 0 where
+  pub clean : HasCleanDisk s
+  pub is_open : IsTrue s.is_open
+
+-- what was committed last is found there
+pub finds_left : {s : State} → IsSafe s → s.may_leave s.committed.trees → (c : Result Image Table) × MayHold s c
+finds_left {s} safe left = (content_of (stored s.committed.trees), (safe.clean, (s.committed.trees, left, refl)))
+
+-- rows of version 2 that hold this image
+pub record AreRowsOf (i : Image) (t : Tables) : Type 0 where
+  pub version : t.version ≡ pos 2 ∷ []
+  pub holds : content_of t ≡ Ok i
+
+-- rows of version 2 that hold an image with so many edits
+pub record HoldEdits (n : ℕ) (t : Tables) : Type 0 where
+  pub image : Image
+  pub rows : AreRowsOf image t
+  pub edits : length image.edits ≡ n
+
+-- whatever may be found has so many edits
+abbrev pub HasEdits : ℕ → State → Type 0
+HasEdits n s = HasCleanDisk s → (db : Trees) → s.may_leave db → HoldEdits n (stored db)
+
+-- A keeper can use its connection: it is at rest, outside a transaction, and once the image is loaded the edits are counted.
+pub record IsUsable (s : State) (in_transaction is_loaded : Bool) (edits : ℕ) : Type 0 where
+  pub autocommit : in_transaction ≡ false
+  pub ready : IsReady s
+  pub loaded : is_loaded ≡ true → HasEdits edits s
+
+-- What an image is read as: what the rows hold, unless memory runs out.
+abbrev pub Tells : Result Image LoadFault → Tables → Type 0
+Tells (Ok image) t = content_of t ≡ Ok image
+Tells (Err Memory) t = ⊤
+Tells (Err Store) t = ⊥
+Tells (Err (Unsound table)) t = content_of t ≡ Err table

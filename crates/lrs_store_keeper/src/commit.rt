@@ -1,0 +1,72 @@
+//! Changes are committed to the tables of a store as its next edits.
+
+ghost use Rattle.std.specs.Prelude.{◌≡◌, ◌+◌, ◌<◌, ◌^◌, ◌⊎◌, length, IfOk, OnOk, OnErr, Result, false};
+ghost use Rattle.sqlite.specs.State.{HasCleanDisk};
+ghost use Rattle.sqlite.specs.Held.{state};
+ghost use Rattle.lrs_machine.specs.declared.image.Image.{Image};
+ghost use Rattle.lrs_machine.specs.declared.table.Table.{Table};
+ghost use Rattle.lrs_image.specs.Together.{CanMakeAll, IsChangedBy};
+ghost use Rattle.lrs_store_tables.specs.Resting.{IsReady};
+ghost use Rattle.lrs_store_keeper.specs.Holding.{MayHold, HasEdits};
+
+use crate::texts::all_texts;
+use lrs_image::{Change, CommitFailed};
+use lrs_store_commit::commit::write_changes;
+use sqlite::{Alter, Connection};
+
+/// Writes changes, of which the first is the edit of this number.
+fn write_as<S: Alter>(
+    conn: &mut Connection<S>,
+    n: u64,
+    edits: u64,
+    changes: &[Change],
+) -> Result<(), CommitFailed>
+    requires autocommit { conn.old.in_transaction ≡ false }
+    requires ready { IsReady (state S.Store conn.old) }
+    requires next { n ≡ edits + 1 }
+    requires some { 0 < length changes.now }
+    requires fits { n + length changes.now < 2 ^ 64 }
+    requires edits { HasEdits edits (state S.Store conn.old) }
+    requires can { (c : Result Image Table) → MayHold (state S.Store conn.old) c → IfOk c (CanMakeAll changes.now) }
+    ensures autocommit { conn.new.in_transaction ≡ false }
+    ensures ready { OnOk result (IsReady (state S.Store conn.new)) }
+    ensures edits { OnOk result (HasEdits (edits + length changes.now) (state S.Store conn.new)) }
+    ensures ok { OnOk result ((c : Result Image Table) → MayHold (state S.Store conn.new) c → IsChangedBy (MayHold (state S.Store conn.old)) changes.now c) }
+    ensures err { OnErr result ((c : Result Image Table) → MayHold (state S.Store conn.new) c → MayHold (state S.Store conn.old) c ⊎ IsChangedBy (MayHold (state S.Store conn.old)) changes.now c) }
+{
+    all_texts(changes);
+    match write_changes(conn, n, changes) {
+        Ok(()) => Ok(()),
+        Err(_) => Err(CommitFailed),
+    }
+}
+
+/// Writes changes as the next edits after so many, all of them or none, and answers the number of the last edit.
+/// With no change it does nothing.
+pub(crate) fn write_next<S: Alter>(
+    conn: &mut Connection<S>,
+    edits: u64,
+    changes: &[Change],
+) -> Result<u64, CommitFailed>
+    requires autocommit { conn.old.in_transaction ≡ false }
+    requires ready { IsReady (state S.Store conn.old) }
+    requires edits { HasEdits edits (state S.Store conn.old) }
+    requires can { (c : Result Image Table) → MayHold (state S.Store conn.old) c → IfOk c (CanMakeAll changes.now) }
+    ensures autocommit { conn.new.in_transaction ≡ false }
+    ensures ready { OnOk result (IsReady (state S.Store conn.new)) }
+    ensures edits { IfOk result (λ n. HasEdits n (state S.Store conn.new)) }
+    ensures ok { OnOk result ((c : Result Image Table) → MayHold (state S.Store conn.new) c → IsChangedBy (MayHold (state S.Store conn.old)) changes.now c) }
+    ensures err { OnErr result ((c : Result Image Table) → MayHold (state S.Store conn.new) c → MayHold (state S.Store conn.old) c ⊎ IsChangedBy (MayHold (state S.Store conn.old)) changes.now c) }
+{
+    if changes.is_empty() {
+        return Ok(edits);
+    }
+    let Some(n) = edits.checked_add(1) else {
+        return Err(CommitFailed);
+    };
+    let Some(next) = n.checked_add(changes.len() as u64) else {
+        return Err(CommitFailed);
+    };
+    write_as(conn, n, edits, changes)?;
+    Ok(next - 1)
+}

@@ -1,0 +1,137 @@
+//! An image is read from the rows of a store.
+
+ghost use Rattle.std.specs.Prelude.{◌≡◌, [], ◌∷◌, pos, map, length, IfOk, IfErr, OnOk, IsTrue, true, false, Result, Ok, Err};
+ghost use Rattle.sqlite_trees.specs.Tree.{Trees};
+ghost use Rattle.sqlite.specs.State.{HasCleanDisk};
+ghost use Rattle.sqlite.specs.Held.{state};
+ghost use Rattle.lrs_machine.specs.Sound.{IsSound};
+ghost use Rattle.lrs_machine.specs.declared.image.Image.{Image as ImageRows};
+ghost use Rattle.lrs_machine.specs.declared.table.Table.{Table as DeclaredTable};
+ghost use Rattle.lrs_store_rows.specs.Tables.{AreSame};
+ghost use Rattle.lrs_store_rows.specs.Content.{content_of};
+ghost use Rattle.lrs_store_tables.specs.Stored.{stored, version_in, LeavesStore};
+ghost use Rattle.lrs_store_tables.specs.Resting.{IsReady};
+ghost use Rattle.lrs_store_keeper.specs.Rows.{tables_of};
+ghost use Rattle.lrs_store_keeper.specs.Holding.{AreRowsOf, MayHold, HasEdits, Tells};
+
+use crate::rows::{StoredRows, read_rows};
+use lrs_image::LoadFault;
+use lrs_machine::Image;
+use sqlite::types::ValueRef;
+use sqlite::{Alter, Connection, Error, ErrorCode, Row};
+use std::alloc::Global;
+
+/// Reads the image that the rows of a store hold.
+pub trait ReadImage {
+    /// The image that the rows hold.
+    ///
+    /// # Errors
+    /// `Unsound` with the first unsound table, or `Memory`; never `Store`.
+    fn read(&self, alloc: Global, rows: StoredRows) -> Result<Image, LoadFault>
+        ensures { Tells result (tables_of rows) };
+}
+
+/// The rows of all tables, read in a transaction of its own, which is rolled back.
+pub(crate) fn read_alone<S: Alter>(conn: &mut Connection<S>) -> Result<StoredRows, Error>
+    requires autocommit { conn.old.in_transaction ≡ false }
+    requires ready { IsReady (state S.Store conn.old) }
+    ensures autocommit { conn.new.in_transaction ≡ false }
+    ensures ready { OnOk result (IsReady (state S.Store conn.new)) }
+    ensures rows { HasCleanDisk (state S.Store conn.new) → (db : Trees) → (state S.Store conn.new).may_leave db → IfOk result (λ r. AreSame (stored db) (tables_of r)) }
+    ensures survives { LeavesStore (state S.Store conn.old) (state S.Store conn.new) }
+{
+    let mut tx = conn.transaction();
+    let rows = read_rows(&mut tx);
+    tx.rollback();
+    rows
+}
+
+/// Whether a row of the version says 2.
+fn says_two(row: &Row) -> bool
+    ensures { IsTrue result → version_in row.now ≡ pos 2 }
+{
+    match row.get_ref(0) {
+        Ok(ValueRef::Int(n)) => n == 2,
+        _ => false,
+    }
+}
+
+/// Whether the version is 2.
+pub(crate) fn is_second(rows: &[Row]) -> bool
+    ensures { IsTrue result → map version_in rows.now ≡ pos 2 ∷ [] }
+{
+    match rows {
+        [row] => says_two(row),
+        _ => false,
+    }
+}
+
+/// The image that rows of version 2 hold.
+///
+/// # Errors
+/// `Unsound` with the first unsound table, `Store` where the version is another, or `Memory`.
+pub(crate) fn image_of<R: ReadImage>(
+    reader: &R,
+    alloc: Global,
+    rows: StoredRows,
+) -> Result<Image, LoadFault>
+    ensures image { IfOk result (λ image. AreRowsOf image (tables_of rows)) }
+    ensures unsound { (t : DeclaredTable) → result ≡ Err (LoadFault.Unsound t) → content_of (tables_of rows) ≡ Err t }
+{
+    if !is_second(rows.named.version.as_slice()) {
+        return Err(LoadFault::Store);
+    }
+    reader.read(alloc, rows)
+}
+
+/// Why rows are not read.
+pub(crate) fn read_fault(error: Error) -> LoadFault
+    ensures { (t : DeclaredTable) → result ≡ LoadFault.Unsound t → ⊥ }
+{
+    match error {
+        Error::SqliteFailure(ErrorCode::OutOfMemory) => LoadFault::Memory,
+        _ => LoadFault::Store,
+    }
+}
+
+/// Why no image is loaded, and whether the store must be opened anew, since its rows were not read.
+#[derive(Clone, Copy)]
+pub(crate) struct Unloaded {
+    pub fault: LoadFault,
+    pub must_reopen: bool,
+}
+
+/// The image that the tables hold.
+pub(crate) fn load_from<S: Alter, R: ReadImage>(
+    reader: &R,
+    alloc: Global,
+    conn: &mut Connection<S>,
+) -> Result<Image, Unloaded>
+    requires autocommit { conn.old.in_transaction ≡ false }
+    requires ready { IsReady (state S.Store conn.old) }
+    ensures autocommit { conn.new.in_transaction ≡ false }
+    ensures ready { OnOk result (IsReady (state S.Store conn.new)) }
+    ensures unbroken { IfErr result (λ e. e.must_reopen ≡ false → IsReady (state S.Store conn.new)) }
+    ensures image { IfOk result (λ image. (c : Result ImageRows DeclaredTable) → MayHold (state S.Store conn.new) c → c ≡ Ok image) }
+    ensures edits { IfOk result (λ image. HasEdits (length image.edits) (state S.Store conn.new)) }
+    ensures sound { IfOk result IsSound }
+    ensures unsound { IfErr result (λ e. (t : DeclaredTable) → e.fault ≡ LoadFault.Unsound t → (c : Result ImageRows DeclaredTable) → MayHold (state S.Store conn.new) c → c ≡ Err t) }
+    ensures survives { LeavesStore (state S.Store conn.old) (state S.Store conn.new) }
+{
+    let rows = match read_alone(conn) {
+        Ok(rows) => rows,
+        Err(error) => {
+            return Err(Unloaded {
+                fault: read_fault(error),
+                must_reopen: true,
+            });
+        }
+    };
+    match image_of(reader, alloc, rows) {
+        Ok(image) => Ok(image),
+        Err(fault) => Err(Unloaded {
+            fault,
+            must_reopen: false,
+        }),
+    }
+}

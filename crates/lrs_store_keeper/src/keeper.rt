@@ -1,0 +1,205 @@
+//! The tables of a store as a keeper.
+
+ghost use Rattle.std.specs.Prelude.{◌≡◌, ◌≤◌, IfOk, IfErr, true, false, Ok, Err, Result};
+ghost use Rattle.sqlite.specs.State.{HasCleanDisk};
+ghost use Rattle.sqlite.specs.Held.{state};
+ghost use Rattle.sqlite.specs.Steps.{over_memory};
+ghost use Rattle.lrs_machine.specs.declared.image.Image.{Image as ImageRows};
+ghost use Rattle.lrs_machine.specs.declared.table.Table.{Table as DeclaredTable};
+ghost use Rattle.lrs_machine.specs.Image.{nothing};
+ghost use Rattle.lrs_image.specs.Keeping.{HasRisen, HoldsOnly};
+ghost use Rattle.lrs_store_tables.specs.Resting.{IsReady};
+ghost use Rattle.lrs_store_keeper.specs.Holding.{MayHold, IsSafe};
+ghost use Rattle.lrs_store_keeper.specs.Opening.{IsSecond};
+
+use crate::commit::write_next;
+use crate::image::{ReadImage, Unloaded, load_from};
+use crate::memory::new_store;
+use crate::migration::make_second;
+use lrs_image::{Change, CommitFailed, Keeper, LoadFault};
+use lrs_machine::{Image, Table};
+use lrs_store_tables::tables::OpenFault;
+use sqlite::{Alter, Connection, MemStore};
+use std::alloc::Global;
+use std::marker::Model;
+
+/// Keeps an image in the tables of a store. A commit is one transaction; loading reads all tables.
+///
+/// After a commit or a load that failed the connection is not used again: each call fails from then on, until
+/// the store is opened anew.
+#[derive(Drop)]
+pub struct TableKeeper<S: Alter, R: ReadImage> {
+    conn: Connection<S>,
+    reader: R,
+    edits: u64,
+    is_loaded: bool,
+    is_broken: bool,
+    failures: u64,
+}
+
+impl<S: Alter, R: ReadImage> Model for TableKeeper<S, R> {
+    ghost use Rattle.std.specs.Prelude.{◌≡◌, false};
+    ghost use Rattle.sqlite.specs.Held.{state};
+    ghost use Rattle.lrs_store_keeper.specs.KeeperView.{KeeperView, view_code};
+    ghost use Rattle.lrs_store_keeper.specs.Holding.{IsUsable};
+
+    ghost Value = { KeeperView S R };
+
+    ghost coded = { view_code S.code R.code };
+
+    ghost view = { λ k. record {
+      conn = k.conn;
+      reader = k.reader;
+      edits = k.edits;
+      is_loaded = k.is_loaded;
+      is_broken = k.is_broken;
+      failures = k.failures;
+    } };
+
+    ghost invariant = { λ k. k.is_broken ≡ false → IsUsable (state S.Store k.conn) k.conn.in_transaction k.is_loaded k.edits };
+}
+
+impl<S: Alter, R: ReadImage> TableKeeper<S, R> {
+    /// Keeps what the tables of a store hold, of which nothing is loaded yet.
+    pub fn over(conn: Connection<S>, reader: R) -> TableKeeper<S, R>
+        requires autocommit { conn.in_transaction ≡ false }
+        requires ready { IsReady (state S.Store conn) }
+        ensures same { result.conn ≡ conn }
+        ensures unloaded { result.is_loaded ≡ false }
+        ensures usable { result.is_broken ≡ false }
+    {
+        TableKeeper {
+            conn,
+            reader,
+            edits: 0,
+            is_loaded: false,
+            is_broken: false,
+            failures: 0,
+        }
+    }
+}
+
+impl<S: Alter, R: ReadImage + Drop> TableKeeper<S, R> {
+    /// Keeps what the tables of a store hold. Rows of version 1, and those of a store that has none, become rows
+    /// of version 2, in one transaction, and hold the same image. Nothing is loaded yet.
+    ///
+    /// # Errors
+    /// `Unsound` with the first unsound table of rows that are not of version 2, which stay as they are; `Store` if
+    /// the store fails, and `Memory` if memory runs out. The connection is given back, and holds what it held.
+    pub fn open(
+        alloc: Global,
+        mut conn: Connection<S>,
+        reader: R,
+    ) -> Result<TableKeeper<S, R>, (LoadFault, Connection<S>)>
+        requires autocommit { conn.in_transaction ≡ false }
+        requires ready { IsReady (state S.Store conn) }
+        ensures unloaded { IfOk result (λ k. k.is_loaded ≡ false) }
+        ensures usable { IfOk result (λ k. k.is_broken ≡ false) }
+        ensures clean { IfOk result (λ k. HasCleanDisk (state S.Store k.conn) → HasCleanDisk (state S.Store conn)) }
+        ensures second { IfOk result (λ k. IsSecond (state S.Store k.conn)) }
+        ensures content { IfOk result (λ k. (c : Result ImageRows DeclaredTable) → MayHold (state S.Store k.conn) c → MayHold (state S.Store conn) c) }
+        ensures unsound { IfErr result (λ e. (t : DeclaredTable) → e.0 ≡ LoadFault.Unsound t → (c : Result ImageRows DeclaredTable) → MayHold (state S.Store e.1) c → c ≡ Err t) }
+        ensures err { IfErr result (λ e. (c : Result ImageRows DeclaredTable) → MayHold (state S.Store e.1) c → MayHold (state S.Store conn) c) }
+    {
+        match make_second(&reader, alloc, &mut conn) {
+            Ok(()) => Ok(TableKeeper::over(conn, reader)),
+            Err(fault) => Err((fault, conn)),
+        }
+    }
+
+    /// Gives the connection back, with no call of the store.
+    pub fn into_connection(self) -> Connection<S>
+        ensures { result ≡ self.conn }
+    {
+        let TableKeeper { conn, .. } = self;
+        conn
+    }
+}
+
+impl<R: ReadImage + Drop> TableKeeper<MemStore, R> {
+    /// Keeps the image without entries in a new store in memory. Nothing has to be loaded before the first commit.
+    ///
+    /// # Errors
+    /// When memory runs out.
+    pub fn in_memory(alloc: Global, reader: R) -> Result<TableKeeper<MemStore, R>, OpenFault>
+        ensures empty { IfOk result (λ k. HoldsOnly (MayHold (state over_memory k.conn)) nothing) }
+        ensures safe { IfOk result (λ k. IsSafe (state over_memory k.conn)) }
+        ensures loaded { IfOk result (λ k. k.is_loaded ≡ true) }
+        ensures usable { IfOk result (λ k. k.is_broken ≡ false) }
+    {
+        let conn = new_store(alloc)?;
+        Ok(TableKeeper {
+            conn,
+            reader,
+            edits: 0,
+            is_loaded: true,
+            is_broken: false,
+            failures: 0,
+        })
+    }
+}
+
+impl<S: Alter, R: ReadImage> Keeper for TableKeeper<S, R> {
+    ghost use Rattle.sqlite.specs.Held.{state};
+    ghost use Rattle.lrs_store_keeper.specs.Holding.{MayHold, IsSafe, finds_left};
+
+    ghost may_hold = { λ k c. MayHold (state S.Store k.conn) c };
+
+    ghost is_clean = { λ k. IsSafe (state S.Store k.conn) };
+
+    ghost is_loaded = { λ k. k.is_loaded };
+
+    ghost failures = { λ k. k.failures };
+
+    fn load(&mut self, alloc: Global) -> Result<Image, LoadFault> {
+        if self.is_broken {
+            self.failures = self.failures.saturating_add(1);
+            return Err(LoadFault::Store);
+        }
+        match load_from(&self.reader, alloc, &mut self.conn) {
+            Ok(image) => {
+                self.edits = image.edits.len() as u64;
+                self.is_loaded = true;
+                Ok(image)
+            }
+            Err(Unloaded { fault, must_reopen }) => {
+                self.is_loaded = false;
+                self.is_broken = must_reopen;
+                self.failures = failures_after(self.failures, &fault);
+                Err(fault)
+            }
+        }
+    }
+
+    fn commit(&mut self, changes: &[Change]) -> Result<(), CommitFailed> {
+        if self.is_broken {
+            self.failures = self.failures.saturating_add(1);
+            return Err(CommitFailed);
+        }
+        match write_next(&mut self.conn, self.edits, changes) {
+            Ok(edits) => {
+                self.edits = edits;
+                Ok(())
+            }
+            Err(CommitFailed) => {
+                self.is_broken = true; // what is kept is either
+                self.failures = self.failures.saturating_add(1);
+                Err(CommitFailed)
+            }
+        }
+    }
+
+    ghost finds = { λ k safe. finds_left safe (S.Store.stays k.conn.store safe.is_open) };
+}
+
+/// The count of failures after a fault of loading.
+fn failures_after(failures: u64, fault: &LoadFault) -> u64
+    ensures store { fault.now ≡ LoadFault.Store → HasRisen failures result }
+    ensures quiet { (fault.now ≡ LoadFault.Store → ⊥) → result ≡ failures }
+    ensures counts { failures ≤ result }
+{
+    match fault {
+        LoadFault::Store => failures.saturating_add(1),
+        LoadFault::Memory | LoadFault::Unsound(_) => failures,
+    }
+}

@@ -1,0 +1,91 @@
+//! The texts that come with changes.
+
+ghost use Rattle.std.specs.Prelude.{IsTrue, IfSome};
+ghost use Rattle.std.specs.List.{list_all};
+ghost use Rattle.std.specs.Str.{IsUtf8};
+ghost use Rattle.lrs_position.specs.Names.{is_route_name, is_referent_name};
+ghost use Rattle.lrs_events.specs.Names.{is_class_name, is_value};
+ghost use Rattle.lrs_machine.specs.Keys.{is_key};
+ghost use Rattle.lrs_store_keeper.specs.Texts.{HasTexts, HaveTexts, AreNames, MakesTexts, ChangesTexts};
+
+use lrs_events::{Asset, Class};
+use lrs_image::{Change, RouteChange};
+use lrs_machine::{Edit, RouteEntry};
+use lrs_position::Referent;
+
+/// Each name of a referent is one.
+fn referents(refs: &[Referent])
+    ensures { AreNames refs.now }
+{
+    for referent in refs {
+        let _name = referent.name.bytes();
+    }
+}
+
+/// The name of a class that comes is one.
+fn class(class: &Option<Class>)
+    ensures { IfSome class.now (λ c. IsTrue (is_class_name c.name)) }
+{
+    if let Some(class) = class {
+        let _name = class.name.bytes();
+    }
+}
+
+/// The value of an asset that comes is one.
+fn asset(asset: &Option<Asset>)
+    ensures { IfSome asset.now (λ a. IsTrue (is_value a.value)) }
+{
+    if let Some(asset) = asset {
+        let _value = asset.value.bytes();
+    }
+}
+
+/// The names on a route that comes are names.
+fn made(entry: &Option<RouteEntry>)
+    ensures { IfSome entry.now MakesTexts }
+{
+    if let Some(entry) = entry {
+        let _name = entry.route.name.bytes();
+        referents(entry.route.refs.as_slice());
+    }
+}
+
+/// The names that a route gets are names.
+fn changed(change: &Option<RouteChange>)
+    ensures { IfSome change.now ChangesTexts }
+{
+    if let Some(change) = change {
+        let _name = change.name.bytes();
+        referents(change.refs.come.as_slice());
+    }
+}
+
+/// The key of an edit is one, and its line is a text.
+fn edit(edit: &Edit)
+    ensures key { IsTrue (is_key edit.now.key) }
+    ensures line { IsUtf8 edit.now.line }
+{
+    let _key = edit.key.bytes();
+    let _line = edit.line.as_str().as_bytes();
+}
+
+/// Each text that comes with a change is of its kind, as its type says.
+fn texts(change: &Change)
+    ensures { HasTexts change.now }
+{
+    let difference = &change.difference;
+    class(&difference.class);
+    asset(&difference.asset);
+    changed(&difference.changed);
+    made(&difference.made);
+    edit(&change.edit);
+}
+
+/// So is each text that comes with one of the changes. It does nothing: a contract names it.
+pub(crate) fn all_texts(changes: &[Change])
+    ensures { HaveTexts changes.now }
+{
+    for change in changes {
+        texts(change);
+    }
+}

@@ -1,0 +1,12 @@
+pub mod Each
+pub mod Grouped
+pub mod Coursing
+pub mod Naming
+pub mod Fewest
+pub mod Reading
+pub mod Searching
+pub mod Measuring
+pub mod Referring
+pub mod Found
+pub mod Fitting
+pub mod Entering

@@ -1,0 +1,22 @@
+use Rattle.std.proofs.Common.{◌≡◌, ◌<◌, ◌+◌, ◌∙◌, length, take, Some, sym, ap, subst, rules}
+use Rattle.lrs_store_rows.specs.Decoding.{each_of, mark_of}
+use Rattle.lrs_store_routes.specs.Measuring.{known, is_name_of}
+use Rattle.lrs_store_routes.proofs.Each.{each_of-more, each_of-at}
+use Rattle.lrs_store_routes.proofs.marks.marks_said.Goals as goal
+
+pub returns-in_default : goal.returns-in_default
+returns-in_default c =
+    let rows = c.args.rows.now in
+    let i = c.loop-row.row-index in
+    let bound : i < length rows = search rules in
+    let said = known mark_of (is_name_of c.args.names.now) in
+    sym (each_of-at said rows i c.row-item.result bound (ap said (sym c.row-item.is) ∙ sym c.known_mark.ensures ∙ c.in_default.is))
+
+pub loop-row-preserved : goal.loop-row-preserved
+loop-row-preserved c =
+    let rows = c.args.rows.now in
+    let i = c.loop-row.row-index in
+    let bound : i < length rows = search rules in
+    let said = known mark_of (is_name_of c.args.names.now) in
+    let more = each_of-more said rows i c.row-item.result c.in-Some.said c.loop-row.found.items bound c.loop-row.invariant (ap said (sym c.row-item.is) ∙ sym c.known_mark.ensures ∙ c.in-Some.is) in
+    subst (λ zs. each_of said (take (i + 1) rows) ≡ Some zs) (sym c.in_ok-push.ensures.items) more

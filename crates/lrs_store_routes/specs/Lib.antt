@@ -1,0 +1,5 @@
+pub mod Grouping
+pub mod Courses
+pub mod Measuring
+pub mod Referring
+pub mod Spans

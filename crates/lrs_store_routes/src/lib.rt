@@ -1,0 +1,26 @@
+//! The routes of a store from the rows of its tables: pieces, marks, referents and spans, in any order.
+//! The spans of a store from the rows of their table, in any order, beside the routes that they lie on.
+#![tactic(auto)]
+
+mod canonical_rows;
+mod cells;
+mod courses;
+mod decode;
+mod decode_spans;
+mod decoded_rows;
+mod fault;
+mod groups;
+mod known_routes;
+mod marks;
+mod referents;
+mod spans;
+
+pub use cells::{MarkCells, PieceCells, RefCells, SpanCells};
+pub use courses::{RouteCourse, read_courses};
+pub use decode::whole;
+pub use decoded_rows::OfRoute;
+pub use fault::ReadFault;
+pub use groups::{said_of, sort_by_route};
+pub use marks::{Measured, read_marks};
+pub use referents::read_referents;
+pub use spans::read_spans;

@@ -1,0 +1,6 @@
+//! The tables of a store: which rows stand for a sound image, and which table is the first unsound one.
+//! What a store holds does not hang on the order of its rows.
+#![tactic(auto)]
+
+pub mod laws;
+pub mod order_laws;

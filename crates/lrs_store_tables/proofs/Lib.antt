@@ -1,0 +1,13 @@
+pub mod Rows
+pub mod MakeLemmas
+pub mod Only
+pub mod InsertStatements
+pub mod Inserting
+pub mod Inserted
+pub mod Answers
+pub mod Steady
+pub mod StartLemmas
+pub mod SelectStatements
+pub mod ReadLemmas
+pub mod SaidRows
+pub mod Transactions

@@ -1,0 +1,13 @@
+use Rattle.std.proofs.Common.{arith}
+use Rattle.sqlite.specs.State.{HasCleanDisk}
+use Rattle.sqlite.specs.Held.{state}
+use Rattle.lrs_store_tables.proofs.StartLemmas.{made_writing, started}
+use Rattle.lrs_store_tables.proofs.new_store.start.Goals as goal
+
+pub returns-clause-started : goal.returns-clause-started
+returns-clause-started g c clean making =
+    let s1 = state g.S.Store c.make_tables.new.tx.conn.now in
+    let s2 = state g.S.Store c.put_version.new.tx.conn.now in
+    let m1 : HasCleanDisk s1 = omega (arith, c.put_version.ensures.survives.clean) in
+    let made = c.in_ok-make_tables.ensures.made m1 making in
+    started s1 s2 (c.in_ok-put_version.ensures.is_open clean (made_writing s1 made)) made (c.in_ok-put_version.ensures.does clean (made_writing s1 made))

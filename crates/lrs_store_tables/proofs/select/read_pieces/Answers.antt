@@ -1,0 +1,18 @@
+use Rattle.std.proofs.Common.{[], ◌∷◌, refl, codes}
+use Rattle.std.proofs.lemmas.List.Sorted.{IsPermutation-map}
+use Rattle.sqlite.specs.Held.{state}
+use Rattle.lrs_store_tables.specs.Schema.{select_piece}
+use Rattle.lrs_store_tables.specs.Stored.{piece_in, piece_places}
+use Rattle.lrs_store_tables.proofs.SelectStatements.{piece_shows, select_piece_is}
+use Rattle.lrs_store_tables.proofs.ReadLemmas.{reads}
+use Rattle.lrs_store_tables.proofs.select.read_pieces.Goals as goal
+
+pub returns-clause-rows : goal.returns-clause-rows
+returns-clause-rows g c clean writing =
+    IsPermutation-map piece_in _ _ (reads select_piece (codes "route" ∷ codes "n" ∷ codes "link" ∷ codes "a" ∷ codes "b" ∷ codes "dir" ∷ []) 5 piece_shows piece_places select_piece_is (λ r. refl)
+    (state g.S.Store c.args.tx.now.conn.now) (state g.S.Store c.query_all.new.self.conn.now) c.in_ok-rows.rows.items writing (c.in_ok-rows.ensures.ok clean)).0
+
+pub returns-clause-same : goal.returns-clause-same
+returns-clause-same g c clean writing =
+    (reads select_piece (codes "route" ∷ codes "n" ∷ codes "link" ∷ codes "a" ∷ codes "b" ∷ codes "dir" ∷ []) 5 piece_shows piece_places select_piece_is (λ r. refl)
+    (state g.S.Store c.args.tx.now.conn.now) (state g.S.Store c.query_all.new.self.conn.now) c.in_ok-rows.rows.items writing (c.in_ok-rows.ensures.ok clean)).1

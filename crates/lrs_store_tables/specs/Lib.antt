@@ -1,0 +1,10 @@
+pub mod Schema
+pub mod Cells
+pub mod Stored
+pub mod Changing
+pub mod Writing
+pub mod RowLaws
+pub mod Making
+pub mod Resting
+pub mod Starting
+pub mod Holding

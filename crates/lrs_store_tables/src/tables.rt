@@ -1,0 +1,47 @@
+//! A store of an inventory's tables.
+
+ghost use Rattle.std.specs.Prelude.{◌≡◌, false, IfOk};
+ghost use Rattle.sqlite.specs.Held.{state};
+ghost use Rattle.sqlite.specs.Steps.{over_memory};
+ghost use Rattle.lrs_store_tables.specs.Resting.{IsReady};
+ghost use Rattle.lrs_store_tables.specs.Holding.{HoldsOnly};
+ghost use Rattle.lrs_store_tables.specs.Starting.{new_rows};
+
+use crate::new_store::make_store;
+use sqlite::{Alter, Connection, Error, ErrorCode, MemStore};
+use std::alloc::Global;
+
+/// The tables of an inventory in a store.
+#[derive(Drop)]
+pub struct Tables<S: Alter> {
+    pub conn: Connection<S>,
+}
+
+/// Why a store is not opened.
+#[derive(Clone, Copy, Debug, PartialEq, Eq)]
+pub enum OpenFault {
+    /// There is too little memory.
+    Memory,
+    /// The store failed.
+    Store,
+}
+
+impl Tables<MemStore> {
+    /// A new store in memory, without entries.
+    ///
+    /// # Errors
+    /// When memory runs out.
+    pub fn in_memory(alloc: Global) -> Result<Tables<MemStore>, OpenFault>
+        ensures ready { IfOk result (λ t. (t.conn.in_transaction ≡ false) × IsReady (state over_memory t.conn)) }
+        ensures empty { IfOk result (λ t. HoldsOnly (state over_memory t.conn) new_rows) }
+    {
+        let Ok(mut conn) = Connection::open_in_memory(alloc) else {
+            return Err(OpenFault::Memory);
+        };
+        match make_store(&mut conn) {
+            Ok(()) => Ok(Tables { conn }),
+            Err(Error::SqliteFailure(ErrorCode::OutOfMemory)) => Err(OpenFault::Memory),
+            Err(_) => Err(OpenFault::Store),
+        }
+    }
+}

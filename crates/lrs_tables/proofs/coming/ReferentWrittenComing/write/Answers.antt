@@ -1,9 +1,0 @@
-use Rattle.sqlite.specs.Held.{state}
-use Rattle.lrs_store.specs.Encoding.{ref_row}
-use Rattle.lrs_tables.proofs.Inserted.{ref_added}
-use Rattle.lrs_tables.proofs.coming.ReferentWrittenComing.write.Goals as goal
-
-pub returns-clause-does : goal.returns-clause-does
-returns-clause-does g c clean writing =
-    ref_added (ref_row c.args.of.now.route c.args.self.now) (state g.S.Store c.args.tx.now.conn.now) (state g.S.Store c.execute.new.self.conn.now) c.in_ok-execute.field-0 writing
-    (rw (c.bytes.ensures.text, c.bytes-2.ensures.text, c.in_ok-at.ensures) at (c.in_ok-execute.ensures.runs clean writing.begun))

@@ -1,7 +1,0 @@
-use Rattle.std.proofs.Common.{take}
-use Rattle.std.specs.List.{AllByRecursion}
-use Rattle.lrs_tables.specs.Entries.{HasTwoParts}
-use Rattle.lrs_tables.proofs.entry.have_two_parts.Given as goal
-
-abbrev pub invariant-loop-i : goal.invariant-loop-i
-invariant-loop-i l = AllByRecursion HasTwoParts (take l.i l.changes)

@@ -1,8 +1,0 @@
-use Rattle.sqlite.specs.Held.{state}
-use Rattle.lrs_tables.proofs.Deleted.{ref_taken}
-use Rattle.lrs_tables.proofs.going.RefNameWrittenGoing.write.Goals as goal
-
-pub returns-clause-does : goal.returns-clause-does
-returns-clause-does g c clean writing =
-    ref_taken c.args.self.now (state g.S.Store c.args.tx.now.conn.now) (state g.S.Store c.execute.new.self.conn.now) c.in_ok-execute.field-0 writing
-    (rw (c.bytes.ensures.text) at (c.in_ok-execute.ensures.runs clean writing.begun))

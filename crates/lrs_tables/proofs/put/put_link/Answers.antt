@@ -1,9 +1,0 @@
-use Rattle.sqlite.specs.Held.{state}
-use Rattle.lrs_store.specs.Encoding.{link_row}
-use Rattle.lrs_tables.proofs.Inserted.{link_added}
-use Rattle.lrs_tables.proofs.put.put_link.Goals as goal
-
-pub returns-clause-does : goal.returns-clause-does
-returns-clause-does g c clean writing =
-    link_added (link_row c.args.link.now) (state g.S.Store c.args.tx.now.conn.now) (state g.S.Store c.execute.new.self.conn.now) c.in_ok-execute.field-0 writing
-    (rw (c.in_ok-own.ensures, c.in_ok-length.ensures) at (c.in_ok-execute.ensures.runs clean writing.begun))

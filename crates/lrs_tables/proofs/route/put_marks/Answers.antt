@@ -1,4 +1,0 @@
-use Rattle.lrs_tables.proofs.route.put_marks.Goals as goal
-
-pub returns-clause-does : goal.returns-clause-does
-returns-clause-does g c clean writing = rw (c.list.ensures.list) at (c.in_ok-write_all.ensures.does clean writing)

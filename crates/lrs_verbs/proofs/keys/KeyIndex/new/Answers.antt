@@ -1,5 +1,0 @@
-use Rattle.lrs_verbs.proofs.Keyed.{IsIndex-empty}
-use Rattle.lrs_verbs.proofs.keys.KeyIndex.new.Goals as goal
-
-pub returns : goal.returns
-returns c = IsIndex-empty (record { newest = c.new.result; earlier = c.new-2.result }) c.new.ensures.empty c.new-2.ensures.empty

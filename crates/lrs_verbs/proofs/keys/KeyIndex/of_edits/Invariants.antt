@@ -1,6 +1,0 @@
-use Rattle.std.proofs.Common.{take}
-use Rattle.lrs_verbs.specs.Keys.{IsIndex}
-use Rattle.lrs_verbs.proofs.keys.KeyIndex.of_edits.Given as goal
-
-abbrev pub invariant-loop-i : goal.invariant-loop-i
-invariant-loop-i l = IsIndex l.keys (take l.i l.edits)

@@ -1,7 +1,0 @@
-use Rattle.lrs_verbs.specs.Keys.{digest}
-use Rattle.lrs_verbs.proofs.keys.digest_of.Goals as goal
-use Rattle.std.proofs.Common.{rules}
-
-pub returns : goal.returns
-unfolding digest
-returns c = search rules

@@ -1,9 +1,0 @@
-use Rattle.std.proofs.Common.{take}
-use Rattle.std.specs.FinMap.{empty}
-use Rattle.std.specs.List.{flat_map}
-use Rattle.lrs_verbs.specs.Prelude.{referents_on}
-use Rattle.lrs_verbs.specs.Places.{HaveCome}
-use Rattle.lrs_verbs.proofs.referents.ReferentIndex.of_routes.Given as goal
-
-abbrev pub invariant-loop-entry : goal.invariant-loop-entry
-invariant-loop-entry l = HaveCome empty l.places (flat_map referents_on (take l.entry-index l.routes))

@@ -1,5 +1,0 @@
-use Rattle.std.proofs.Common.{refl}
-use Rattle.lrs_web.proofs.serving.do_task.Goals as goal
-
-pub returns-in-Query : goal.returns-in-Query
-returns-in-Query g c = rw c.in-Query.is (refl, (rw c.as_slice.ensures.value at c.question_reply.ensures.answered), c.question_reply.ensures.broken)

@@ -1,0 +1,161 @@
+//! One request is read, done and answered.
+
+ghost use Rattle.std.specs.Prelude.{◌≡◌, ◌⊎◌, IfOk, IfSome, Err, true};
+ghost use Rattle.lrs_web_requests.specs.Task.{Asked, IsServed, asked_by};
+ghost use Rattle.lrs_web_requests.specs.Text.{Answer, answer_of, empty_answer};
+ghost use Rattle.lrs_web_replies.specs.Answered.{AnswersAsked};
+ghost use Rattle.lrs_web_requests.specs.Task.{verb_of};
+ghost use Rattle.lrs_web_requests.specs.declared.reply.Verb.TheVariants.{Get};
+ghost use Rattle.lrs_web.specs.Serving.{Does, Responds, Serves, Writes, allowed_answer, sheet_at};
+
+use crate::sheet::do_sheet;
+use http::StatusCode;
+use lrs_desk::{Desk, Keeper};
+use lrs_sheet::Sheet;
+use lrs_web_replies::answer_asked;
+use lrs_web_requests::{
+    BodyFault, Reply, Resource, Task, Verb, receive, routes, write_reply, write_unavailable,
+};
+use std::alloc::Global;
+use std::io::{Read, Write};
+
+/// Why a request has no reply.
+#[derive(Debug, Clone, Copy, PartialEq, Eq)]
+pub enum WebFault {
+    /// The reader failed, and nothing was done.
+    Read,
+    /// The writer failed; what was asked for is done.
+    Write,
+}
+
+fn sheet_of(resource: Resource) -> Sheet
+    ensures { result ≡ sheet_at resource }
+{
+    match resource {
+        Resource::Surveys => Sheet::Survey,
+        Resource::At
+        | Resource::Route
+        | Resource::Segments
+        | Resource::Totals
+        | Resource::Translate
+        | Resource::Edits => Sheet::Edits,
+    }
+}
+
+fn allowed_reply(verb: Verb) -> Reply
+    ensures { answer_of result ≡ allowed_answer verb }
+{
+    Reply {
+        status: StatusCode::METHOD_NOT_ALLOWED,
+        allow: Some(verb),
+        content: None,
+    }
+}
+
+// Once a commit has failed, the image may be ahead of what is kept.
+fn question_reply<K: Keeper>(
+    alloc: Global,
+    resource: Resource,
+    argument: &[u8],
+    desk: &Desk<K>,
+) -> Reply
+    requires { verb_of resource ≡ Get }
+    ensures answered { AnswersAsked desk.now.must_reopen desk.now.image resource argument.now (answer_of result) ⊎ (answer_of result ≡ empty_answer 503) }
+    ensures broken { desk.now.must_reopen ≡ true → answer_of result ≡ empty_answer 503 }
+{
+    if desk.must_reopen() {
+        return Reply::empty(StatusCode::SERVICE_UNAVAILABLE);
+    }
+    let kept = desk.inventory().kept();
+    let counts = desk.counts();
+    match answer_asked(alloc, kept, counts, false, resource, argument) {
+        Ok(reply) => reply,
+        Err(_) => Reply::empty(StatusCode::SERVICE_UNAVAILABLE),
+    }
+}
+
+/// Does what is asked for.
+fn do_task<K: Keeper>(alloc: Global, task: &Task, desk: &mut Desk<K>) -> Reply
+    requires { IsServed (asked_by task.now) }
+    ensures { Does K.may_hold (asked_by task.now) desk.old (answer_of result) desk.new }
+{
+    match task {
+        Task::Refused(status) => Reply::empty(*status),
+        Task::NotAllowed(verb) => allowed_reply(*verb),
+        Task::Query(resource, argument) => {
+            question_reply(alloc, *resource, argument.as_slice(), desk)
+        }
+        Task::Sheet(resource, bytes) => {
+            do_sheet(alloc, sheet_of(*resource), bytes.as_slice(), desk)
+        }
+    }
+}
+
+fn write_to<W: Write>(alloc: Global, reply: &Reply, writer: &mut W) -> Result<u16, WebFault>
+    ensures written { IfOk result (λ status. (answer : Answer)
+        × ((answer ≡ answer_of reply.now) ⊎ (answer ≡ empty_answer 503))
+        × Writes (W.contents writer.old) (W.contents writer.new) status answer) }
+    ensures fault { result ≡ Err WebFault.Read → ⊥ }
+{
+    match write_reply(alloc, writer, reply) {
+        Ok(status) => Ok(status),
+        Err(_) => Err(WebFault::Write),
+    }
+}
+
+pub(crate) fn refuse<W: Write>(writer: &mut W) -> Result<u16, WebFault>
+    ensures written { IfOk result (λ status. Writes (W.contents writer.old) (W.contents writer.new) status (empty_answer 503)) }
+    ensures fault { result ≡ Err WebFault.Read → ⊥ }
+{
+    match write_unavailable(writer) {
+        Ok(()) => Ok(503),
+        Err(_) => Err(WebFault::Write),
+    }
+}
+
+/// Does what is asked for, and writes the reply.
+pub(crate) fn respond<W: Write, K: Keeper>(
+    alloc: Global,
+    task: &Task,
+    writer: &mut W,
+    desk: &mut Desk<K>,
+) -> Result<u16, WebFault>
+    requires { IsServed (asked_by task.now) }
+    ensures written { IfOk result (λ status. (answer : Answer) × Writes (W.contents writer.old) (W.contents writer.new) status answer
+        × Responds K.may_hold (asked_by task.now) desk.old answer desk.new) }
+    ensures done { (due : Answer) × Does K.may_hold (asked_by task.now) desk.old due desk.new }
+    ensures fault { result ≡ Err WebFault.Read → ⊥ }
+{
+    let reply = do_task(alloc, task, desk);
+    write_to(alloc, &reply, writer)
+}
+
+/// Serves the request at the front of the input: reads it, does it at the desk and writes the reply, whose status is
+/// answered. Bytes behind the request play no part. Where memory runs out, an empty 503 is written.
+///
+/// # Errors
+/// `Read` if the reader fails before the request is whole: nothing is done. `Write` if the writer fails: what was asked
+/// for is done, or for want of memory nothing; the keys of a sheet make sending it again safe.
+pub fn serve_one<R: Read, W: Write, K: Keeper>(
+    alloc: Global,
+    reader: &mut R,
+    writer: &mut W,
+    desk: &mut Desk<K>,
+) -> Result<u16, WebFault>
+    ensures served { IfOk result (λ status. (answer : Answer) × Writes (W.contents writer.old) (W.contents writer.new) status answer
+        × IfSome (R.remaining reader.old) (λ input. Serves K.may_hold input desk.old answer desk.new)) }
+    ensures write { result ≡ Err WebFault.Write → IfSome (R.remaining reader.old) (λ input. (answer : Answer) × Serves K.may_hold input desk.old answer desk.new) }
+    ensures read { result ≡ Err WebFault.Read → desk.new ≡ desk.old }
+
+    // Whatever the reader tells of its bytes, the desk is as some request leaves it.
+    ensures left { (asked : Asked) × (due : Answer) × Does K.may_hold asked desk.old due desk.new }
+{
+    let Ok(router) = routes(alloc) else {
+        return refuse(writer);
+    };
+    match receive(alloc, &router, reader) {
+        Ok(task) => respond(alloc, &task, writer, desk),
+        Err(BodyFault::Memory) => refuse(writer),
+        Err(BodyFault::Read(_)) => Err(WebFault::Read),
+    }
+}

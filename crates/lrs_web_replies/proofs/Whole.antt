@@ -1,0 +1,50 @@
+-- What is shown has no float.
+use Rattle.std.proofs.Common.{◌≡◌, ℕ, List, [], ◌∷◌, Bool, false, ◌||◌, map, refl, sym, ap, ◌∙◌, Option, None, Some}
+use Rattle.serde_json.specs.Data.{Data}
+use Rattle.serde_json.specs.Written.{has_float}
+use Rattle.lrs_measure.specs.Texts.{Name}
+use Rattle.lrs_element.specs.declared.link.Ground.{Ground}
+use Rattle.lrs_element.specs.declared.link.Piece.{Piece}
+use Rattle.lrs_position.specs.declared.route.Route.{Route}
+use Rattle.lrs_events.specs.declared.side.Side.{Side}
+use Rattle.lrs_machine.specs.declared.segment.Segment.{Segment}
+use Rattle.lrs_machine.specs.declared.total.Total.{Total}
+use Rattle.lrs_machine.specs.declared.hit.Hit.{Hit}
+use Rattle.lrs_web_replies.specs.Shown.{each}
+use Rattle.lrs_web_replies.specs.Answers.{at_data, hit_data, mark_data, piece_data, referent_data, route_data, ShowsRoute, value_data, segment_data, segments_data, total_data, totals_data}
+
+neither : (a b : Bool) → a ≡ false → b ≡ false → (a || b) ≡ false
+neither a b p q = ap (λ x. x || b) p ∙ q
+
+-- a list of what has none
+each_whole : {A : Type 0} (shown : A → Data) → ((x : A) → has_float (shown x) ≡ false) → (xs : List A) → has_float (each shown xs) ≡ false
+each_whole shown whole [] = refl
+each_whole shown whole (x ∷ xs) = neither (has_float (shown x)) (has_float (each shown xs)) (whole x) (each_whole shown whole xs)
+
+value_whole : (o : Option Name) → has_float (value_data o) ≡ false
+value_whole None = refl
+value_whole (Some value) = refl
+
+segment_whole : (s : Segment) → has_float (segment_data s) ≡ false
+segment_whole s = neither (has_float (each value_data s.values)) false (each_whole value_data value_whole s.values) refl
+
+pub at_whole : (d : Data) (route : Name) (at : ℕ) (entry : Ground) (hits : List Hit) → d ≡ at_data route at entry hits → has_float d ≡ false
+at_whole d route at entry hits is =
+    ap has_float is ∙ neither (has_float (each hit_data hits)) false (each_whole hit_data (λ h. refl) hits) refl
+
+route_with : (r : Route) (pieces : List Piece) → has_float (route_data r pieces) ≡ false
+route_with r pieces =
+    let refs = neither (has_float (each referent_data r.refs)) false (each_whole referent_data (λ x. refl) r.refs) refl in
+    let both = neither (has_float (each piece_data pieces)) (has_float (each referent_data r.refs) || false) (each_whole piece_data (λ p. refl) pieces) refs in
+    neither (has_float (each mark_data r.marks)) (has_float (each piece_data pieces) || (has_float (each referent_data r.refs) || false)) (each_whole mark_data (λ m. refl) r.marks) both
+
+pub route_whole : (d : Data) (r : Route) → ShowsRoute r d → has_float d ≡ false
+route_whole d r shows = ap has_float shows.is ∙ route_with r shows.pieces
+
+pub segments_whole : (d : Data) (route : Name) (side : Side) (segments : List Segment) → d ≡ segments_data route side segments → has_float d ≡ false
+segments_whole d route side segments is =
+    ap has_float is ∙ neither (has_float (each segment_data segments)) false (each_whole segment_data segment_whole segments) refl
+
+pub totals_whole : (d : Data) (totals : List Total) → d ≡ totals_data totals → has_float d ≡ false
+totals_whole d totals is =
+    ap has_float is ∙ neither (has_float (each total_data totals)) false (each_whole total_data (λ t. refl) totals) refl

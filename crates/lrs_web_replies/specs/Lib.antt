@@ -1,0 +1,6 @@
+pub mod Shown
+pub mod Answers
+pub mod Questions
+pub mod Faults
+pub mod Replies
+pub mod Answered

@@ -1,0 +1,125 @@
+-- What the parameters of a query ask of an inventory.
+use Rattle.std.specs.Prelude.{◌≡◌, ⊤, ◌⊎◌, IsTrue, Bool, false, List, [], ◌∷◌, codes, Option, None, Some}
+use Rattle.std.specs.List.{list_all}
+use Rattle.lrs_measure.specs.Texts.{Name}
+use Rattle.lrs_position.specs.declared.expression.Expr.{Expr}
+use Rattle.lrs_position.specs.declared.expression.Method.{Method}
+use Rattle.lrs_position.specs.Names.{is_route_name}
+use Rattle.lrs_position.specs.Readings.{IsNamed, States, method_text, target_text}
+use Rattle.lrs_events.specs.declared.side.Side.{Side}
+use Rattle.lrs_events.specs.Names.{is_class_name, side_text}
+use Rattle.lrs_web_requests.specs.Query.{parameter, parameters}
+use Rattle.lrs_web_requests.specs.declared.paths.Resource.{Resource}
+use Rattle.lrs_web_requests.specs.declared.paths.Resource.TheVariants as path
+use Rattle.lrs_web_replies.specs.declared.question.Destination.{Destination}
+use Rattle.lrs_web_replies.specs.declared.question.Destination.TheVariants as destination
+use Rattle.lrs_web_replies.specs.declared.question.Parameter.{Parameter}
+use Rattle.lrs_web_replies.specs.declared.question.Parameter.TheVariants.{Route, Method as Way, Position, To, Side as Hand, Class}
+use Rattle.lrs_web_replies.specs.declared.question.Question.{Question}
+use Rattle.lrs_web_replies.specs.declared.question.Question.TheVariants as question
+use Rattle.lrs_web_replies.specs.declared.question.QuestionFault.{QuestionFault}
+use Rattle.lrs_web_replies.specs.declared.question.QuestionFault.TheVariants.{Malformed, NoRoute, Memory}
+
+abbrev pub Text : Type 0
+Text = Name
+
+-- ---- what a text says
+
+abbrev pub SaysRoute : Text → Name → Type 0
+SaysRoute text route = (route ≡ text) × IsTrue (is_route_name text)
+
+abbrev pub SaysMethod : Text → Method → Type 0
+SaysMethod text m = text ≡ method_text m
+
+abbrev pub SaysSide : Text → Side → Type 0
+SaysSide text side = text ≡ side_text side
+
+-- a method and what it needs, or `link`
+abbrev pub SaysDestination : Text → Destination → Type 0
+SaysDestination text (destination.Method t) = (text ≡ target_text t) × IsNamed t
+SaysDestination text destination.Link = text ≡ codes "link"
+
+-- one name at least, and each the name of a class
+abbrev pub are_class_names : List Text → Bool
+are_class_names [] = false
+are_class_names (text ∷ texts) = list_all is_class_name (text ∷ texts)
+
+-- ---- what a query gives
+
+-- the text that a parameter has, if it has one, says this
+abbrev pub Said : {A : Type 0} → (Text → A → Type 0) → Option Text → A → Type 0
+Said Says None x = ⊥
+Said Says (Some text) x = Says text x
+
+abbrev pub GivesRoute : Text → Name → Type 0
+GivesRoute query = Said SaysRoute (parameter (codes "route") query)
+
+abbrev pub GivesMethod : Text → Method → Type 0
+GivesMethod query = Said SaysMethod (parameter (codes "method") query)
+
+-- by this method
+abbrev pub GivesPositionBy : Text → Method → Expr → Type 0
+GivesPositionBy query m = Said (States m) (parameter (codes "pos") query)
+
+-- by the method that is given
+abbrev pub GivesPosition : Text → Expr → Type 0
+GivesPosition query e = (m : Method) × GivesMethod query m × GivesPositionBy query m e
+
+abbrev pub GivesDestination : Text → Destination → Type 0
+GivesDestination query = Said SaysDestination (parameter (codes "to") query)
+
+abbrev pub GivesSide : Text → Side → Type 0
+GivesSide query = Said SaysSide (parameter (codes "side") query)
+
+-- all that are given, in their order
+abbrev pub GivesClasses : Text → List Name → Type 0
+GivesClasses query classes = (classes ≡ parameters (codes "class") query) × IsTrue (are_class_names (parameters (codes "class") query))
+
+-- ---- what is asked
+
+-- What a resource is asked by this argument: a route by its name, any other by the parameters of its query.
+abbrev pub AsksOf : Resource → Text → Question → Type 0
+AsksOf path.At query (question.At route e) = GivesRoute query route × GivesPosition query e
+AsksOf path.Route name (question.Route route) = SaysRoute name route
+AsksOf path.Segments query (question.Segments route side classes) = GivesRoute query route × GivesSide query side × GivesClasses query classes
+AsksOf path.Translate query (question.Translate route e to) = GivesRoute query route × GivesPosition query e × GivesDestination query to
+AsksOf path.Totals query question.Totals = ⊤
+AsksOf _ argument q = ⊥
+
+-- ---- what cannot be asked
+
+-- the parameters of each path, in the order in which they are read
+abbrev pub parameters_of : Resource → List Parameter
+parameters_of path.At = Route ∷ Way ∷ Position ∷ []
+parameters_of path.Segments = Route ∷ Hand ∷ Class ∷ []
+parameters_of path.Translate = Route ∷ Way ∷ Position ∷ To ∷ []
+parameters_of _ = []
+
+abbrev pub parameter_text : Parameter → Text
+parameter_text Route = codes "route"
+parameter_text Way = codes "method"
+parameter_text Position = codes "pos"
+parameter_text To = codes "to"
+parameter_text Hand = codes "side"
+parameter_text Class = codes "class"
+
+-- the parameter is there, and can be read
+abbrev pub IsGiven : Text → Parameter → Type 0
+IsGiven query Route = (route : Name) × GivesRoute query route
+IsGiven query Way = (m : Method) × GivesMethod query m
+IsGiven query Position = (e : Expr) × GivesPosition query e
+IsGiven query To = (to : Destination) × GivesDestination query to
+IsGiven query Hand = (side : Side) × GivesSide query side
+IsGiven query Class = (classes : List Name) × GivesClasses query classes
+
+-- the first of these that is not
+abbrev pub IsFirstMalformed : Text → List Parameter → Parameter → Type 0
+IsFirstMalformed query [] p = ⊥
+IsFirstMalformed query (q ∷ qs) p = ((p ≡ q) × (IsGiven query q → ⊥)) ⊎ (IsGiven query q × IsFirstMalformed query qs p)
+
+-- why a resource is asked nothing by this argument
+abbrev pub CannotAsk : Resource → Text → QuestionFault → Type 0
+CannotAsk resource query (Malformed p) = IsFirstMalformed query (parameters_of resource) p
+CannotAsk path.Route name NoRoute = IsTrue (is_route_name name) → ⊥
+CannotAsk resource argument NoRoute = ⊥
+CannotAsk resource argument Memory = ⊤

@@ -1,0 +1,53 @@
+-- Replies with a body: JSON, and why there is no answer.
+use Rattle.std.specs.Prelude.{ℕ, ◌++◌, Option, None, Some, Result, Ok, Err, codes}
+use Rattle.serde_json.specs.Data.{Data}
+use Rattle.serde_json.specs.Written.{compact_text}
+use Rattle.lrs_machine.specs.Lines.{Text}
+use Rattle.lrs_answers.specs.declared.fault.AskFault.{AskFault}
+use Rattle.lrs_answers.specs.declared.cause.AskCause.{AskCause}
+use Rattle.lrs_answers.specs.declared.cause.AskCause.TheVariants as cause
+use Rattle.lrs_answers.specs.Causes.{cause_of, cause_text}
+use Rattle.lrs_web_requests.specs.declared.reply.ContentType.TheVariants.{Json}
+use Rattle.lrs_web_requests.specs.Text.{Answer, empty_answer}
+use Rattle.lrs_web_replies.specs.Answers.{error_data}
+use Rattle.lrs_web_replies.specs.Questions.{parameter_text}
+use Rattle.lrs_web_replies.specs.declared.question.QuestionFault.{QuestionFault}
+use Rattle.lrs_web_replies.specs.declared.question.QuestionFault.TheVariants.{Malformed, NoRoute, Memory}
+
+-- these bytes are JSON
+abbrev pub json_bytes : ℕ → Text → Answer
+json_bytes status bytes = record { status = status; content_type = Some Json; allow = None; body = bytes }
+
+abbrev pub json_answer : ℕ → Data → Answer
+json_answer status d = json_bytes status (compact_text d)
+
+abbrev pub error_answer : ℕ → Text → Answer
+error_answer status cause = json_answer status (error_data cause)
+
+-- memory ran out, or what is kept has to be opened again
+abbrev pub unavailable : Answer
+unavailable = empty_answer 503
+
+-- no such route is 404, and any other refusal 422
+abbrev pub status_of : AskCause → ℕ
+status_of cause.NoRoute = 404
+status_of _ = 422
+
+abbrev pub cause_answer : Option AskCause → Answer
+cause_answer None = unavailable
+cause_answer (Some c) = error_answer (status_of c) (cause_text c)
+
+-- a question is refused
+abbrev pub refusal : AskFault → Answer
+refusal fault = cause_answer (cause_of fault)
+
+-- what is found is shown, or why there is nothing to show
+abbrev pub shown : {A : Type 0} → (A → Data) → Result A AskFault → Answer
+shown data_of (Ok found) = json_answer 200 (data_of found)
+shown data_of (Err fault) = refusal fault
+
+-- nothing is asked
+abbrev pub unasked : QuestionFault → Answer
+unasked (Malformed p) = error_answer 400 (codes "Malformed:" ++ parameter_text p)
+unasked NoRoute = error_answer 404 (codes "NoRoute")
+unasked Memory = unavailable

@@ -1,0 +1,18 @@
+//! Answers to questions, as JSON (RFC 8259).
+//! Which question the parameters of a query ask.
+//! Replies to questions over HTTP.
+#![tactic(auto)]
+
+mod answers;
+mod list;
+mod parameters;
+mod parts;
+mod question;
+mod replies;
+mod reply;
+
+pub use answers::{
+    at_json, error_json, link_json, route_json, segments_json, totals_json, translated_json,
+};
+pub use question::{Destination, Parameter, Question, QuestionFault, question_of};
+pub use replies::answer_asked;

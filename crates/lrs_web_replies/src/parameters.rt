@@ -1,0 +1,140 @@
+//! The parameters of a query, each read by the reader of its text.
+
+ghost use Rattle.std.specs.Prelude.{◌≡◌, ◌⊎◌, IfOk, IfErr, IfSome, IfNone, IsTrue, map};
+ghost use Rattle.std.specs.Cow.{cow_str_bytes};
+ghost use Rattle.lrs_position.specs.declared.expression.Expr.{Expr as Expression};
+ghost use Rattle.lrs_web_replies.specs.Questions.{SaysDestination, GivesClasses, GivesDestination, GivesMethod, GivesPosition, GivesPositionBy, GivesRoute, GivesSide, are_class_names};
+ghost use Rattle.lrs_web_replies.specs.Faults.{Lacks, LacksPosition};
+
+use crate::question::{Destination, Parameter, QuestionFault};
+use lrs_events::{ClassName, Side, read_side};
+use lrs_measure::Rows;
+use lrs_position::{Expr, Method, RouteName, read_expr, read_method, read_target};
+use lrs_web_requests::{value_of, values_of};
+use std::alloc::Global;
+use std::borrow::CowStr;
+
+const NO_ROUTE: QuestionFault = QuestionFault::Malformed(Parameter::Route);
+
+const NO_METHOD: QuestionFault = QuestionFault::Malformed(Parameter::Method);
+
+const NO_POSITION: QuestionFault = QuestionFault::Malformed(Parameter::Position);
+
+const NO_DESTINATION: QuestionFault = QuestionFault::Malformed(Parameter::To);
+
+const NO_SIDE: QuestionFault = QuestionFault::Malformed(Parameter::Side);
+
+const NO_CLASS: QuestionFault = QuestionFault::Malformed(Parameter::Class);
+
+pub(crate) fn route_in(alloc: Global, query: &[u8]) -> Result<RouteName, QuestionFault>
+    ensures read { IfOk result (GivesRoute query.now) }
+    ensures unread { IfErr result (Lacks Parameter.Route query.now) }
+{
+    match value_of(alloc, query, "route")? {
+        Some(text) => match RouteName::new(text.as_str().as_bytes()) {
+            Some(route) => Ok(route),
+            None => Err(NO_ROUTE),
+        },
+        None => Err(NO_ROUTE),
+    }
+}
+
+fn method_in(alloc: Global, query: &[u8]) -> Result<Method, QuestionFault>
+    ensures read { IfOk result (GivesMethod query.now) }
+    ensures unread { IfErr result (Lacks Parameter.Method query.now) }
+{
+    match value_of(alloc, query, "method")? {
+        Some(text) => match read_method(text.as_str().as_bytes()) {
+            Some(method) => Ok(method),
+            None => Err(NO_METHOD),
+        },
+        None => Err(NO_METHOD),
+    }
+}
+
+fn position_by(alloc: Global, query: &[u8], method: Method) -> Result<Expr, QuestionFault>
+    ensures read { IfOk result (GivesPositionBy query.now method) }
+    ensures unread { IfErr result (λ e. (e ≡ QuestionFault.Memory) ⊎ ((e ≡ QuestionFault.Malformed Parameter.Position) × ((position : Expression) → GivesPositionBy query.now method position → ⊥))) }
+{
+    match value_of(alloc, query, "pos")? {
+        Some(text) => match read_expr(method, text.as_str().as_bytes()) {
+            Some(position) => Ok(position),
+            None => Err(NO_POSITION),
+        },
+        None => Err(NO_POSITION),
+    }
+}
+
+pub(crate) fn position_in(alloc: Global, query: &[u8]) -> Result<Expr, QuestionFault>
+    ensures read { IfOk result (GivesPosition query.now) }
+    ensures unread { IfErr result (LacksPosition query.now) }
+{
+    let method = method_in(alloc, query)?;
+    position_by(alloc, query, method)
+}
+
+/// The destination of a text.
+fn read_destination(text: &str) -> Option<Destination>
+    ensures read { IfSome result (SaysDestination text.now) }
+    ensures unread { IfNone result ((to : _) → SaysDestination text.now to → ⊥) }
+{
+    if text == "link" {
+        return Some(Destination::Link);
+    }
+    match read_target(text.as_bytes()) {
+        Some(target) => Some(Destination::Method(target)),
+        None => None,
+    }
+}
+
+pub(crate) fn destination_in(alloc: Global, query: &[u8]) -> Result<Destination, QuestionFault>
+    ensures read { IfOk result (GivesDestination query.now) }
+    ensures unread { IfErr result (Lacks Parameter.To query.now) }
+{
+    match value_of(alloc, query, "to")? {
+        Some(text) => match read_destination(text.as_str()) {
+            Some(to) => Ok(to),
+            None => Err(NO_DESTINATION),
+        },
+        None => Err(NO_DESTINATION),
+    }
+}
+
+pub(crate) fn side_in(alloc: Global, query: &[u8]) -> Result<Side, QuestionFault>
+    ensures read { IfOk result (GivesSide query.now) }
+    ensures unread { IfErr result (Lacks Parameter.Side query.now) }
+{
+    match value_of(alloc, query, "side")? {
+        Some(text) => match read_side(text.as_str().as_bytes()) {
+            Some(side) => Ok(side),
+            None => Err(NO_SIDE),
+        },
+        None => Err(NO_SIDE),
+    }
+}
+
+/// The classes that these texts name.
+fn class_names(alloc: Global, texts: &[CowStr<'_>]) -> Result<Rows<ClassName>, QuestionFault>
+    ensures read { IfOk result (λ names. (names ≡ map cow_str_bytes texts.now) × IsTrue (are_class_names (map cow_str_bytes texts.now))) }
+    ensures unread { IfErr result (λ e. (e ≡ QuestionFault.Memory) ⊎ ((e ≡ QuestionFault.Malformed Parameter.Class) × (IsTrue (are_class_names (map cow_str_bytes texts.now)) → ⊥))) }
+{
+    if texts.is_empty() {
+        return Err(NO_CLASS);
+    }
+    let mut names = Vec::new(alloc);
+    for text in texts {
+        match ClassName::new(text.as_str().as_bytes()) {
+            Some(name) => names.push(name)?,
+            None => return Err(NO_CLASS),
+        }
+    }
+    Ok(Rows::from_vec(names))
+}
+
+pub(crate) fn classes_in(alloc: Global, query: &[u8]) -> Result<Rows<ClassName>, QuestionFault>
+    ensures read { IfOk result (GivesClasses query.now) }
+    ensures unread { IfErr result (Lacks Parameter.Class query.now) }
+{
+    let texts = values_of(alloc, query, "class")?;
+    class_names(alloc, texts.as_slice())
+}

@@ -1,0 +1,110 @@
+//! What the lists of answers are of, as JSON.
+
+ghost use Rattle.std.specs.Prelude.{◌≡◌, IfOk, string_bytes};
+ghost use Rattle.std.specs.Str.{IsAscii};
+ghost use Rattle.serde_json.specs.View.{view};
+ghost use Rattle.lrs_machine.specs.Lines.{piece_text};
+
+use crate::list::{Shown, list_value};
+use lrs_element::{Mark, Piece};
+use lrs_events::Value as AssetValue;
+use lrs_machine::{Hit, Segment, Total};
+use lrs_position::Referent;
+use serde_json::{Value, json};
+use std::alloc::{AllocError, Global};
+
+impl Shown for Hit {
+    ghost use Rattle.lrs_web_replies.specs.Answers.{hit_data};
+
+    ghost shown = { hit_data };
+
+    fn value(&self, alloc: Global) -> Result<Value, AllocError> {
+        let class = self.asset.class;
+        let side = self.side;
+        let value = self.asset.value;
+        let class = format!(in alloc; "{class}")?;
+        let side = format!(in alloc; "{side}")?;
+        let value = format!(in alloc; "{value}")?;
+        json!(in alloc; {"asset": self.asset.number, "class": class, "entry": self.asset.entry, "offset": self.asset.lateral, "side": side, "value": value})
+    }
+}
+
+impl Shown for Mark {
+    ghost use Rattle.lrs_web_replies.specs.Answers.{mark_data};
+
+    ghost shown = { mark_data };
+
+    fn value(&self, alloc: Global) -> Result<Value, AllocError> {
+        json!(in alloc; [self.chainage, self.measure])
+    }
+}
+
+impl Shown for Piece {
+    ghost use Rattle.lrs_web_replies.specs.Answers.{piece_data};
+
+    ghost shown = { piece_data };
+
+    fn value(&self, alloc: Global) -> Result<Value, AllocError> {
+        let text = text_of_piece(alloc, self)?;
+        Ok(Value::from(text))
+    }
+}
+
+fn text_of_piece(alloc: Global, piece: &Piece) -> Result<String, AllocError>
+    ensures { IfOk result (λ text. string_bytes text ≡ piece_text piece.now) }
+{
+    let Piece { link, from, to, .. } = *piece;
+    let direction = if piece.forward { "+" } else { "-" };
+    format!(in alloc; "{link}:{from}:{to}:{direction}")
+}
+
+impl Shown for Referent {
+    ghost use Rattle.lrs_web_replies.specs.Answers.{referent_data};
+
+    ghost shown = { referent_data };
+
+    fn value(&self, alloc: Global) -> Result<Value, AllocError> {
+        let name = self.name;
+        let name = format!(in alloc; "{name}")?;
+        json!(in alloc; {"at": self.at, "name": name})
+    }
+}
+
+impl Shown for Option<AssetValue> {
+    ghost use Rattle.lrs_web_replies.specs.Answers.{value_data};
+
+    ghost shown = { value_data };
+
+    fn value(&self, alloc: Global) -> Result<Value, AllocError> {
+        match self {
+            Some(value) => {
+                let text = format!(in alloc; "{value}")?;
+                Ok(Value::from(text))
+            }
+            None => Value::try_from_str(alloc, "-"),
+        }
+    }
+}
+
+impl Shown for Segment {
+    ghost use Rattle.lrs_web_replies.specs.Answers.{segment_data};
+
+    ghost shown = { segment_data };
+
+    fn value(&self, alloc: Global) -> Result<Value, AllocError> {
+        let values = list_value(alloc, self.values.as_slice())?;
+        json!(in alloc; {"from": self.from, "to": self.to, "values": values})
+    }
+}
+
+impl Shown for Total {
+    ghost use Rattle.lrs_web_replies.specs.Answers.{total_data};
+
+    ghost shown = { total_data };
+
+    fn value(&self, alloc: Global) -> Result<Value, AllocError> {
+        let class = self.class;
+        let class = format!(in alloc; "{class}")?;
+        json!(in alloc; {"abandoned": self.abandoned, "class": class, "entered": self.entered, "present": self.present, "retired": self.retired})
+    }
+}

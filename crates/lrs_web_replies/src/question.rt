@@ -1,0 +1,183 @@
+//! Questions, and how they are asked by parameters.
+
+ghost use Rattle.std.specs.Prelude.{◌≡◌, IfOk, IfErr};
+ghost use Rattle.lrs_web_requests.specs.declared.reply.Verb.TheVariants as verb;
+ghost use Rattle.lrs_web_requests.specs.Task.{verb_of};
+ghost use Rattle.lrs_web_replies.specs.Questions.{AsksOf, CannotAsk, parameter_text};
+
+use crate::parameters::{classes_in, destination_in, position_in, route_in, side_in};
+use lrs_events::{ClassName, Side};
+use lrs_measure::Rows;
+use lrs_position::{Expr, RouteName, Target};
+use lrs_web_requests::Resource;
+use std::alloc::{AllocError, AllocFailed, Global};
+
+/// How a position is to be said.
+#[derive(Clone, Copy, PartialEq, Eq)]
+pub enum Destination {
+    /// By a method, on its route.
+    Method(Target),
+    /// On the link under it.
+    Link,
+}
+
+/// What is asked of an inventory.
+#[derive(Drop)]
+pub enum Question {
+    /// Where a position stands, and who holds the place.
+    At {
+        route: RouteName,
+        position: Expr,
+    },
+    /// What a route is.
+    Route {
+        route: RouteName,
+    },
+    /// The segments of a side of a route by these classes.
+    Segments {
+        route: RouteName,
+        side: Side,
+        classes: Rows<ClassName>,
+    },
+    /// A position said otherwise.
+    Translate {
+        route: RouteName,
+        position: Expr,
+        to: Destination,
+    },
+    /// What there is of each class.
+    Totals,
+}
+
+/// A parameter of a query.
+#[derive(Clone, Copy, Debug, PartialEq, Eq)]
+pub enum Parameter {
+    Route,
+    Method,
+    Position,
+    To,
+    Side,
+    Class,
+}
+
+impl Parameter {
+    /// Its name in a query.
+    pub fn name(self) -> &'static str
+        ensures { result.now ≡ parameter_text self }
+    {
+        match self {
+            Parameter::Route => "route",
+            Parameter::Method => "method",
+            Parameter::Position => "pos",
+            Parameter::To => "to",
+            Parameter::Side => "side",
+            Parameter::Class => "class",
+        }
+    }
+}
+
+/// Why nothing is asked.
+#[derive(Clone, Copy, Debug, PartialEq, Eq)]
+pub enum QuestionFault {
+    /// The first parameter that is missing or cannot be read.
+    Malformed(Parameter),
+    /// The name in the path is none that a route can have.
+    NoRoute,
+    /// Memory ran out.
+    Memory,
+}
+
+impl From<AllocError> for QuestionFault {
+    ghost use Rattle.lrs_web_replies.specs.declared.question.QuestionFault.TheVariants.{Memory};
+
+    ghost from_gives = { λ _ e. e ≡ Memory };
+
+    fn from(_: AllocError) -> Self {
+        QuestionFault::Memory
+    }
+}
+
+impl<T: Drop> From<AllocFailed<T>> for QuestionFault {
+    ghost use Rattle.lrs_web_replies.specs.declared.question.QuestionFault.TheVariants.{Memory};
+
+    ghost from_gives = { λ _ e. e ≡ Memory };
+
+    fn from(_: AllocFailed<T>) -> Self {
+        QuestionFault::Memory
+    }
+}
+
+#[tactic(auto, using(crate::proofs::FirstFaults::at_route, crate::proofs::FirstFaults::at_position))]
+fn at_question(alloc: Global, query: &[u8]) -> Result<Question, QuestionFault>
+    ensures asked { IfOk result (AsksOf Resource.At query.now) }
+    ensures unasked { IfErr result (CannotAsk Resource.At query.now) }
+{
+    let route = route_in(alloc, query)?;
+    let position = position_in(alloc, query)?;
+    Ok(Question::At { route, position })
+}
+
+fn route_question(name: &[u8]) -> Result<Question, QuestionFault>
+    ensures asked { IfOk result (AsksOf Resource.Route name.now) }
+    ensures unasked { IfErr result (CannotAsk Resource.Route name.now) }
+{
+    match RouteName::new(name) {
+        Some(route) => Ok(Question::Route { route }),
+        None => Err(QuestionFault::NoRoute),
+    }
+}
+
+#[tactic(auto, using(crate::proofs::FirstFaults::segments_route, crate::proofs::FirstFaults::segments_side, crate::proofs::FirstFaults::segments_class))]
+fn segments_question(alloc: Global, query: &[u8]) -> Result<Question, QuestionFault>
+    ensures asked { IfOk result (AsksOf Resource.Segments query.now) }
+    ensures unasked { IfErr result (CannotAsk Resource.Segments query.now) }
+{
+    let route = route_in(alloc, query)?;
+    let side = side_in(alloc, query)?;
+    let classes = classes_in(alloc, query)?;
+    Ok(Question::Segments {
+        route,
+        side,
+        classes,
+    })
+}
+
+#[tactic(auto, using(crate::proofs::FirstFaults::translate_route, crate::proofs::FirstFaults::translate_position, crate::proofs::FirstFaults::translate_to))]
+fn translate_question(alloc: Global, query: &[u8]) -> Result<Question, QuestionFault>
+    ensures asked { IfOk result (AsksOf Resource.Translate query.now) }
+    ensures unasked { IfErr result (CannotAsk Resource.Translate query.now) }
+{
+    let route = route_in(alloc, query)?;
+    let position = position_in(alloc, query)?;
+    let to = destination_in(alloc, query)?;
+    Ok(Question::Translate {
+        route,
+        position,
+        to,
+    })
+}
+
+/// What a resource is asked: a route by its name, any other by the parameters of a query. Unknown parameters are passed
+/// over; of several of one name the first counts, but of classes all do.
+///
+/// # Errors
+/// `Malformed` with the first parameter that is missing or cannot be read, `NoRoute` at a text that is no route's name,
+/// and `Memory`.
+pub fn question_of(
+    alloc: Global,
+    resource: Resource,
+    argument: &[u8],
+) -> Result<Question, QuestionFault>
+    requires { verb_of resource ≡ verb.Get }
+    ensures asked { IfOk result (AsksOf resource argument.now) }
+    ensures unasked { IfErr result (CannotAsk resource argument.now) }
+{
+    match resource {
+        Resource::At => at_question(alloc, argument),
+        Resource::Route => route_question(argument),
+        Resource::Segments => segments_question(alloc, argument),
+        Resource::Translate => translate_question(alloc, argument),
+        Resource::Totals => Ok(Question::Totals),
+        Resource::Edits | Resource::Surveys => unreachable!(),
+    }
+}

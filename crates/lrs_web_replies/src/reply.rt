@@ -1,0 +1,85 @@
+//! Replies that are JSON.
+
+ghost use Rattle.std.specs.Prelude.{◌≡◌, IfOk};
+ghost use Rattle.lrs_web_requests.specs.Text.{answer_of};
+ghost use Rattle.lrs_web_replies.specs.Replies as spec;
+
+use crate::{Parameter, QuestionFault, error_json};
+use http::StatusCode;
+use lrs_answers::{AskCause, AskFault, cause_of};
+use lrs_web_requests::{Content, ContentType, Reply};
+use std::alloc::{AllocError, Global};
+
+/// A reply with these bytes of JSON.
+pub(crate) fn json_reply(status: StatusCode, bytes: Vec<u8>) -> Reply
+    ensures { answer_of result ≡ spec.json_bytes status bytes.items }
+{
+    let content = Content {
+        kind: ContentType::Json,
+        bytes,
+    };
+    Reply {
+        status,
+        allow: None,
+        content: Some(content),
+    }
+}
+
+/// A reply that names why there is no answer.
+pub(crate) fn error_reply(
+    alloc: Global,
+    status: StatusCode,
+    cause: &str,
+) -> Result<Reply, AllocError>
+    ensures { IfOk result (λ reply. answer_of reply ≡ spec.error_answer status cause.now) }
+{
+    let bytes = error_json(alloc, cause)?;
+    Ok(json_reply(status, bytes))
+}
+
+fn status_for(cause: AskCause) -> StatusCode
+    ensures { result ≡ spec.status_of cause }
+{
+    match cause {
+        AskCause::NoRoute => StatusCode::NOT_FOUND,
+        AskCause::NoAsset
+        | AskCause::NoRef
+        | AskCause::TooFine
+        | AskCause::OffRoute
+        | AskCause::NoClass(_)
+        | AskCause::NotExclusive(_)
+        | AskCause::SideB => StatusCode::UNPROCESSABLE_ENTITY,
+    }
+}
+
+/// The reply to a question that is refused.
+pub(crate) fn refusal(alloc: Global, fault: AskFault) -> Result<Reply, AllocError>
+    ensures { IfOk result (λ reply. answer_of reply ≡ spec.refusal fault) }
+{
+    match cause_of(fault) {
+        Some(cause) => {
+            let text = format!(in alloc; "{cause}")?;
+            error_reply(alloc, status_for(cause), text.as_str())
+        }
+        None => Ok(Reply::empty(StatusCode::SERVICE_UNAVAILABLE)),
+    }
+}
+
+fn malformed(alloc: Global, parameter: Parameter) -> Result<Reply, AllocError>
+    ensures { IfOk result (λ reply. answer_of reply ≡ spec.unasked (QuestionFault.Malformed parameter)) }
+{
+    let name = parameter.name();
+    let cause = format!(in alloc; "Malformed:{name}")?;
+    error_reply(alloc, StatusCode::BAD_REQUEST, cause.as_str())
+}
+
+/// The reply where nothing is asked.
+pub(crate) fn unasked(alloc: Global, fault: QuestionFault) -> Result<Reply, AllocError>
+    ensures { IfOk result (λ reply. answer_of reply ≡ spec.unasked fault) }
+{
+    match fault {
+        QuestionFault::Malformed(parameter) => malformed(alloc, parameter),
+        QuestionFault::NoRoute => error_reply(alloc, StatusCode::NOT_FOUND, "NoRoute"),
+        QuestionFault::Memory => Ok(Reply::empty(StatusCode::SERVICE_UNAVAILABLE)),
+    }
+}

@@ -1,0 +1,36 @@
+-- Which resource a path names: six paths stand for themselves, and the path of a route ends in the route's name.
+use Rattle.std.specs.Prelude.{◌≡◌, ◌≢◌, ◌⊎◌, ◌↔◌, ℕ, List, [], ◌∷◌, ◌++◌, codes, None, Some, Contains}
+use Rattle.lrs_web_requests.specs.declared.paths.Resource.{Resource}
+use Rattle.lrs_web_requests.specs.declared.paths.Resource.TheVariants.{At, Route, Segments, Totals, Translate, Edits, Surveys}
+use Rattle.lrs_web_requests.specs.Routes.{resource_at}
+
+-- the paths that stand for themselves
+abbrev pub literal_paths : List (List ℕ × Resource)
+literal_paths =
+    (codes "/v1/at", At) ∷ (codes "/v1/edits", Edits) ∷ (codes "/v1/segments", Segments) ∷ (codes "/v1/surveys", Surveys)
+    ∷ (codes "/v1/totals", Totals) ∷ (codes "/v1/translate", Translate) ∷ []
+
+-- the code of a slash
+abbrev pub slash : ℕ
+slash = 47
+
+-- a name is at least one byte, and none of its bytes is a slash
+pub record IsName (name : List ℕ) : Type 0 where
+  pub some_byte : name ≢ []
+  pub no_slash : Contains name slash → ⊥
+
+-- the path of a route: this text, and a name behind it
+abbrev pub IsOfRoute : List ℕ → Type 0
+IsOfRoute path = (name : List ℕ) × (path ≡ codes "/v1/route/" ++ name) × IsName name
+
+-- what a path names
+abbrev pub Names : List ℕ → Resource → Type 0
+Names path resource = Contains literal_paths (path, resource) ⊎ ((resource ≡ Route) × IsOfRoute path)
+
+-- The router finds a resource exactly by the paths that name it.
+abbrev pub FindsWhatIsNamed : Type 0
+FindsWhatIsNamed = (path : List ℕ) (resource : Resource) → (resource_at path ≡ Some resource) ↔ Names path resource
+
+-- The router finds nothing exactly by the paths that name nothing.
+abbrev pub FindsNothingElse : Type 0
+FindsNothingElse = (path : List ℕ) → (resource_at path ≡ None) ↔ ((resource : Resource) → Names path resource → ⊥)

@@ -1,0 +1,108 @@
+-- What a request asks for.
+use Rattle.std.specs.Prelude.{◌≡◌, ⊤, ℕ, ◌≤◌, ◌⊎◌, Bool, List, length, drop, map, codes, Option, None, Some, Result, Ok, Err, if◌then◌else◌, ◌==◌, bytes_eq}
+use Rattle.std.specs.List.{before_first, after_first}
+use Rattle.httparse.specs.Grammar.{RequestHead, ReadsRequest, print_request}
+use Rattle.httparse.specs.Spans.{name_and_value}
+use Rattle.lrs_web_requests.specs.Reading.{IsTooLarge, IsUnreadable}
+use Rattle.lrs_web_requests.specs.Body.{body_at}
+use Rattle.lrs_web_requests.specs.Framing.{Field, body_length}
+use Rattle.lrs_web_requests.specs.declared.reply.Verb.{Verb}
+use Rattle.lrs_web_requests.specs.declared.reply.Verb.TheVariants.{Get, Post}
+use Rattle.lrs_web_requests.specs.Text.{method_name}
+use Rattle.lrs_web_requests.specs.declared.paths.Resource.{Resource}
+use Rattle.lrs_web_requests.specs.declared.paths.Resource.TheVariants.{At, Route, Segments, Totals, Translate, Edits, Surveys}
+use Rattle.lrs_web_requests.specs.Routes.{resource_at}
+use Rattle.lrs_web_requests.specs.declared.task.Task.{Task}
+use Rattle.lrs_web_requests.specs.declared.task.Task.TheVariants as task
+
+-- what is asked for: nothing that is served, an answer to a question, with what it is asked by, or that a sheet is done
+pub data Asked : Type 0 where
+  refused : ℕ → Asked
+  not_allowed : Verb → Asked
+  query : Resource → List ℕ → Asked
+  sheet : Resource → List ℕ → Asked
+
+abbrev pub asked_by : Task → Asked
+asked_by (task.Refused status) = refused status
+asked_by (task.NotAllowed verb) = not_allowed verb
+asked_by (task.Query resource text) = query resource text.items
+asked_by (task.Sheet resource bytes) = sheet resource bytes.items
+
+abbrev pub is_question_mark : ℕ → Bool
+is_question_mark b = b == 63
+
+-- the target up to its first question mark
+abbrev pub path_of : List ℕ → List ℕ
+path_of target = before_first is_question_mark target
+
+-- what stands behind that question mark, or nothing
+abbrev pub query_of : List ℕ → List ℕ
+query_of target = after_first is_question_mark target
+
+-- the name in the path of a route
+abbrev pub name_in : List ℕ → List ℕ
+name_in path = drop (length (codes "/v1/route/")) path
+
+-- what a resource is asked by: a route by the name in its path, any other by the query
+abbrev pub argument_of : Resource → List ℕ → List ℕ
+argument_of Route target = name_in (path_of target)
+argument_of _ target = query_of target
+
+-- the method that serves a resource
+abbrev pub verb_of : Resource → Verb
+verb_of At = Get
+verb_of Route = Get
+verb_of Segments = Get
+verb_of Totals = Get
+verb_of Translate = Get
+verb_of Edits = Post
+verb_of Surveys = Post
+
+abbrev pub with_body : Resource → Option (List ℕ) → Asked
+with_body resource None = refused 400
+with_body resource (Some body) = sheet resource body
+
+abbrev pub with_length : Resource → Result ℕ ℕ → List ℕ → Asked
+with_length resource (Err status) rest = refused status
+with_length resource (Ok length) rest = with_body resource (body_at length rest)
+
+-- by the verb of the resource; rest is what follows the head
+abbrev pub by_verb : Verb → Resource → List ℕ → List Field → List ℕ → Asked
+by_verb Get resource target fields rest = query resource (argument_of resource target)
+by_verb Post resource target fields rest = with_length resource (body_length fields) rest
+
+abbrev pub at_resource : Option Resource → List ℕ → List ℕ → List Field → List ℕ → Asked
+at_resource None method target fields rest = refused 404
+at_resource (Some resource) method target fields rest =
+    if bytes_eq method (method_name (verb_of resource)) then by_verb (verb_of resource) resource target fields rest
+    else not_allowed (verb_of resource)
+
+-- what a head and the bytes after it ask for
+abbrev pub asked_at : List ℕ → List ℕ → List Field → List ℕ → Asked
+asked_at method target fields rest = at_resource (resource_at (path_of target)) method target fields rest
+
+abbrev pub most_head : ℕ
+most_head = 8192
+
+abbrev pub most_fields : ℕ
+most_fields = 64
+
+-- a head within the limits at the front of the input asks for this
+pub record AsksByHead (input : List ℕ) (asked : Asked) (h : RequestHead) (rest : List ℕ) : Type 0 where
+  pub reads : ReadsRequest input h rest
+  pub bytes : length (print_request h) ≤ most_head
+  pub fields : length h.fields ≤ most_fields
+  pub asks : asked ≡ asked_at h.method h.target (map name_and_value h.fields) rest
+
+-- a question is put to a resource that answers, and a sheet is given to one that does it
+abbrev pub IsServed : Asked → Type 0
+IsServed (refused status) = ⊤
+IsServed (not_allowed verb) = ⊤
+IsServed (query resource argument) = verb_of resource ≡ Get
+IsServed (sheet resource bytes) = verb_of resource ≡ Post
+
+-- what an input asks for; one whose head has several faults may be refused for either
+abbrev pub Asks : List ℕ → Asked → Type 0
+Asks input asked =
+    ((asked ≡ refused 431) × IsTooLarge most_head most_fields input) ⊎ ((asked ≡ refused 400) × IsUnreadable input)
+    ⊎ ((h : RequestHead) × (rest : List ℕ) × AsksByHead input asked h rest)

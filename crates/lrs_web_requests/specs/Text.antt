@@ -1,0 +1,70 @@
+-- The bytes of a reply (RFC 9112, section 4).
+use Rattle.std.specs.Prelude.{ℕ, List, [], ◌∷◌, ◌++◌, length, Option, Some, None, option_map, unwrap_or, codes, decimal}
+use Rattle.http.specs.StatusCode.{code_digits, reason_phrase}
+use Rattle.lrs_web_requests.specs.declared.reply.ContentType.{ContentType}
+use Rattle.lrs_web_requests.specs.declared.reply.ContentType.TheVariants.{Json, Csv}
+use Rattle.lrs_web_requests.specs.declared.reply.Verb.{Verb}
+use Rattle.lrs_web_requests.specs.declared.reply.Verb.TheVariants.{Get, Post}
+use Rattle.lrs_web_requests.specs.declared.reply.Content.{Content}
+use Rattle.lrs_web_requests.specs.declared.reply.Reply.{Reply}
+
+-- a reply without where it lies in memory
+pub record Answer : Type 0 where
+  pub status : ℕ
+  pub content_type : Option ContentType
+  pub allow : Option Verb
+  pub body : List ℕ
+
+-- a status and nothing else
+abbrev pub empty_answer : ℕ → Answer
+empty_answer status = record { status = status; content_type = None; allow = None; body = [] }
+
+abbrev pub crlf : List ℕ
+crlf = 13 ∷ 10 ∷ []
+
+abbrev pub media_type : ContentType → List ℕ
+media_type Json = codes "application/json"
+media_type Csv = codes "text/csv"
+
+abbrev pub method_name : Verb → List ℕ
+method_name Get = codes "GET"
+method_name Post = codes "POST"
+
+abbrev pub status_line : ℕ → List ℕ
+status_line status = codes "HTTP/1.1 " ++ code_digits status ++ codes " " ++ unwrap_or (reason_phrase status) [] ++ crlf
+
+abbrev pub content_type_line : Option ContentType → List ℕ
+content_type_line None = []
+content_type_line (Some kind) = codes "Content-Type: " ++ media_type kind ++ crlf
+
+abbrev pub allow_line : Option Verb → List ℕ
+allow_line None = []
+allow_line (Some verb) = codes "Allow: " ++ method_name verb ++ crlf
+
+abbrev pub content_length_line : ℕ → List ℕ
+content_length_line length = codes "Content-Length: " ++ decimal length ++ crlf
+
+abbrev pub connection_line : List ℕ
+connection_line = codes "Connection: close" ++ crlf
+
+-- the status line, the fields, and the empty line
+unfoldable pub head_text : Answer → List ℕ
+head_text a =
+    status_line a.status ++ content_type_line a.content_type ++ allow_line a.allow
+    ++ content_length_line (length a.body) ++ (connection_line ++ crlf)
+
+abbrev pub answer_text : Answer → List ℕ
+answer_text a = head_text a ++ a.body
+
+abbrev pub content_body : Option Content → List ℕ
+content_body None = []
+content_body (Some content) = content.bytes.items
+
+-- what a reply says
+abbrev pub answer_of : Reply → Answer
+answer_of reply = record {
+  status = reply.status;
+  content_type = option_map (λ content. content.kind) reply.content;
+  allow = reply.allow;
+  body = content_body reply.content;
+}

@@ -1,0 +1,45 @@
+//! Which resource a path names.
+
+ghost use Rattle.std.specs.Prelude.{◌≡◌, IfOk};
+ghost use Rattle.lrs_web_requests.specs.Routes.{rows, resource_at};
+
+use matchit::{InsertError, Router};
+use std::alloc::Global;
+
+/// What can be asked for.
+#[derive(Debug, Clone, Copy, PartialEq, Eq)]
+pub enum Resource {
+    At,
+    Route,
+    Segments,
+    Totals,
+    Translate,
+    Edits,
+    Surveys,
+}
+
+/// A router of all the paths.
+pub fn routes(alloc: Global) -> Result<Router<Resource>, InsertError>
+    ensures { IfOk result (λ router. router ≡ rows) }
+{
+    let mut router = Router::new(alloc);
+    router.insert("/v1/at", Resource::At)?;
+    router.insert("/v1/route/{name}", Resource::Route)?;
+    router.insert("/v1/segments", Resource::Segments)?;
+    router.insert("/v1/totals", Resource::Totals)?;
+    router.insert("/v1/translate", Resource::Translate)?;
+    router.insert("/v1/edits", Resource::Edits)?;
+    router.insert("/v1/surveys", Resource::Surveys)?;
+    Ok(router)
+}
+
+/// The resource that a path names.
+pub fn find(router: &Router<Resource>, path: &str) -> Option<Resource>
+    requires { router.now ≡ rows }
+    ensures { result ≡ resource_at path.now }
+{
+    match router.at(path) {
+        Ok(found) => Some(*found.value),
+        Err(_) => None,
+    }
+}

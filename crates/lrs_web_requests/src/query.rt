@@ -1,0 +1,44 @@
+//! The parameters of a query.
+
+ghost use Rattle.std.specs.Prelude.{◌≡◌, IfOk, map, option_map};
+ghost use Rattle.std.specs.Cow.{cow_str_bytes};
+ghost use Rattle.lrs_web_requests.specs.Query.{parameter, parameters};
+
+use form_urlencoded::parse;
+use std::alloc::{AllocError, Global};
+use std::borrow::CowStr;
+
+/// The value of a parameter: that of the first pair of its name.
+pub fn value_of<'q>(
+    alloc: Global,
+    query: &'q [u8],
+    name: &str,
+) -> Result<Option<CowStr<'q>>, AllocError>
+    ensures { IfOk result (λ value. option_map cow_str_bytes value ≡ parameter name.now query.now) }
+{
+    for pair in parse(alloc, query) {
+        let (key, value) = pair?;
+        if key.as_str() == name {
+            return Ok(Some(value));
+        }
+    }
+    Ok(None)
+}
+
+/// The values of a parameter: those of all pairs of its name, in their order.
+pub fn values_of<'q>(
+    alloc: Global,
+    query: &'q [u8],
+    name: &str,
+) -> Result<Vec<CowStr<'q>>, AllocError>
+    ensures { IfOk result (λ values. map cow_str_bytes values.items ≡ parameters name.now query.now) }
+{
+    let mut values = Vec::new(alloc);
+    for pair in parse(alloc, query) {
+        let (key, value) = pair?;
+        if key.as_str() == name {
+            values.push(value)?;
+        }
+    }
+    Ok(values)
+}

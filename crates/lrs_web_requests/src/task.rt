@@ -1,0 +1,204 @@
+//! Reads what a request asks for.
+
+ghost use Rattle.std.specs.Prelude.{ℕ, List, ◌≡◌, ◌≤◌, ◌++◌, length, map, All, IfOk, IfSome, IsUtf8};
+ghost use Rattle.httparse.specs.Grammar.{RequestHead};
+ghost use Rattle.httparse.specs.Spans.{header_bytes, IsHeaderWithin, IsRequestOf, IsRequestWithin};
+ghost use Rattle.lrs_web_requests.specs.Routes.{rows};
+ghost use Rattle.lrs_web_requests.specs.Framing.{body_length};
+ghost use Rattle.lrs_web_requests.specs.declared.reply.Verb.TheVariants.{Post};
+ghost use Rattle.lrs_web_requests.specs.Task.{asked_by, asked_at, Asks, AsksByHead, most_head, most_fields, path_of, query_of, argument_of, name_in, verb_of, with_length, by_verb, IsServed};
+
+use crate::body::{BodyFault, read_body};
+use crate::framing::length_of_body;
+use crate::head::{Outcome, read_head};
+use crate::paths::{Resource, find};
+use crate::reply::Verb;
+use http::StatusCode;
+use httparse::spans::{EMPTY_HEADER_SPAN, HeaderSpan, RequestSpans};
+use matchit::Router;
+use std::alloc::{AllocError, Global};
+use std::io::{self, Read};
+
+const MOST_HEAD: usize = 8192;
+
+const MOST_FIELDS: usize = 64;
+
+/// The bytes of `/v1/route/`, behind which a route's path has the name.
+const BEFORE_NAME: usize = 10;
+
+/// What a request asks for.
+#[derive(Drop)]
+pub enum Task {
+    /// Nothing that is served: the status that says so.
+    Refused(StatusCode),
+    /// The path has only this method.
+    NotAllowed(Verb),
+    /// An answer: to a query, or of a route to the name in its path.
+    Query(Resource, Vec<u8>),
+    /// That the sheet in the body is done.
+    Sheet(Resource, Vec<u8>),
+}
+
+fn verb_for(resource: Resource) -> Verb
+    ensures { result ≡ verb_of resource }
+{
+    match resource {
+        Resource::At
+        | Resource::Route
+        | Resource::Segments
+        | Resource::Totals
+        | Resource::Translate => Verb::Get,
+        Resource::Edits | Resource::Surveys => Verb::Post,
+    }
+}
+
+/// The path and the query of a target.
+fn split_target(target: &str) -> (&str, &str)
+    ensures path { result.0.now ≡ path_of target.now }
+    ensures query { result.1.now ≡ query_of target.now }
+{
+    match target.split_once('?') {
+        Some((path, query)) => (path, query),
+        None => (target, ""),
+    }
+}
+
+/// The name in the path of a route.
+fn name_of(path: &str) -> &[u8]
+    ensures { result.now ≡ name_in path.now }
+{
+    let bytes = path.as_bytes();
+    if bytes.len() < BEFORE_NAME {
+        return &[];
+    }
+    &bytes[BEFORE_NAME..]
+}
+
+/// What a resource is asked by: a route by the name in its path, any other by the query.
+fn argument(resource: Resource, target: &str) -> &[u8]
+    ensures { result.now ≡ argument_of resource target.now }
+{
+    let (path, query) = split_target(target);
+    match resource {
+        Resource::Route => name_of(path),
+        Resource::At
+        | Resource::Segments
+        | Resource::Totals
+        | Resource::Translate
+        | Resource::Edits
+        | Resource::Surveys => query.as_bytes(),
+    }
+}
+
+/// The parts of a head, and the front of what follows it.
+#[derive(Clone, Copy)]
+struct Head<'b> {
+    method: &'b [u8],
+    target: &'b str,
+    text: &'b [u8],
+    fields: &'b [HeaderSpan],
+    front: &'b [u8],
+}
+
+fn read_sheet<R: Read>(
+    alloc: Global,
+    reader: &mut R,
+    resource: Resource,
+    head: Head<'_>,
+) -> Result<Task, BodyFault>
+    requires fields { All (IsHeaderWithin (length head.text.now)) head.fields.now }
+    requires verb { verb_of resource ≡ Post }
+    ensures served { IfOk result (λ task. IsServed (asked_by task)) }
+    ensures asked { IfOk result (λ task. IfSome (R.remaining reader.old) (λ more.
+        asked_by task ≡ with_length resource (body_length (map (header_bytes head.entry.text.now) head.entry.fields.now)) (head.entry.front.now ++ more))) }
+{
+    let length = match length_of_body(head.text, head.fields) {
+        Ok(length) => length,
+        Err(status) => return Ok(Task::Refused(status)),
+    };
+    match read_body(alloc, reader, head.front, length)? {
+        Some(body) => Ok(Task::Sheet(resource, body)),
+        None => Ok(Task::Refused(StatusCode::BAD_REQUEST)),
+    }
+}
+
+fn read_task<R: Read>(
+    alloc: Global,
+    router: &Router<Resource>,
+    reader: &mut R,
+    head: Head<'_>,
+) -> Result<Task, BodyFault>
+    requires router { router.now ≡ rows }
+    requires fields { All (IsHeaderWithin (length head.text.now)) head.fields.now }
+    ensures served { IfOk result (λ task. IsServed (asked_by task)) }
+    ensures asked { IfOk result (λ task. IfSome (R.remaining reader.old) (λ more.
+        asked_by task ≡ asked_at head.entry.method.now head.entry.target.now (map (header_bytes head.entry.text.now) head.entry.fields.now) (head.entry.front.now ++ more))) }
+{
+    let (path, _) = split_target(head.target);
+    let Some(resource) = find(router, path) else {
+        return Ok(Task::Refused(StatusCode::NOT_FOUND));
+    };
+    let verb = verb_for(resource);
+    if head.method != verb.name().as_bytes() {
+        return Ok(Task::NotAllowed(verb));
+    }
+    match verb {
+        Verb::Get => {
+            let asked_by = argument(resource, head.target);
+            Ok(Task::Query(resource, Vec::from_slice(alloc, asked_by)?))
+        }
+        Verb::Post => read_sheet(alloc, reader, resource, head),
+    }
+}
+
+/// What a request asks for whose head has been read.
+fn read_on_from<R: Read>(
+    alloc: Global,
+    router: &Router<Resource>,
+    reader: &mut R,
+    text: &[u8],
+    spans: &[HeaderSpan],
+    head: RequestSpans,
+) -> Result<Task, BodyFault>
+    requires router { router.now ≡ rows }
+    requires bytes { length text.now ≤ most_head }
+    requires fields { length spans.now ≤ most_fields }
+    requires within { IsRequestWithin text.now spans.now head }
+    requires parsed { IsRequestOf text.now spans.now head }
+    ensures served { IfOk result (λ task. IsServed (asked_by task)) }
+    ensures asked { IfOk result (λ task. IfSome (R.remaining reader.old) (λ more.
+        (h : RequestHead) × (rest : List ℕ) × AsksByHead (text.now ++ more) (asked_by task) h rest)) }
+{
+    let Ok(target) = str::from_utf8(head.path.of(text)) else {
+        unreachable!()
+    };
+    let head = Head {
+        method: head.method.of(text),
+        target,
+        text,
+        fields: &spans[..head.headers],
+        front: &text[head.len..],
+    };
+    read_task(alloc, router, reader, head)
+}
+
+/// What the request at the front of the input asks for.
+pub fn receive<R: Read>(
+    alloc: Global,
+    router: &Router<Resource>,
+    reader: &mut R,
+) -> Result<Task, BodyFault>
+    requires { router.now ≡ rows }
+    ensures asked { IfOk result (λ task. IfSome (R.remaining reader.old) (λ input. Asks input (asked_by task))) }
+    ensures served { IfOk result (λ task. IsServed (asked_by task)) }
+{
+    let mut buffer = [0u8; MOST_HEAD];
+    let mut spans = [EMPTY_HEADER_SPAN; MOST_FIELDS];
+    let reading = read_head(reader, &mut buffer, &mut spans)?;
+    let text = &buffer[..reading.filled];
+    match reading.outcome {
+        Outcome::TooLarge => Ok(Task::Refused(StatusCode::REQUEST_HEADER_FIELDS_TOO_LARGE)),
+        Outcome::Unreadable => Ok(Task::Refused(StatusCode::BAD_REQUEST)),
+        Outcome::Complete(head) => read_on_from(alloc, router, reader, text, &spans, head),
+    }
+}
