@@ -21,7 +21,7 @@ use Rattle.lrs_events.specs.Spans.{are_rows, same_side, holds_by_spans}
 use Rattle.lrs_events_rows.specs.Members.{is_of}
 use Rattle.lrs_events_rows.specs.RunLaws.{row_run, end_within}
 use Rattle.lrs_events_rows.proofs.RunLaws.{rows_are_canonical}
-use Rattle.lrs_machine.specs.declared.image.RouteEntry.{RouteEntry}
+use Rattle.lrs_machine.specs.declared.image.RouteRow.{RouteRow}
 use Rattle.lrs_machine.specs.declared.image.Image.{Image}
 use Rattle.lrs_machine.specs.Image.{state_of, route_entry}
 use Rattle.lrs_machine.specs.Readings.{rows_of}
@@ -72,7 +72,7 @@ module _ (i : Image) (sound : IsSound i) (a : Asset) (known : In a i.assets) whe
       by (inr (inl w)) = absurd (not_below b.number a.number e w)
       by (inr (inr w)) = absurd (not_below a.number b.number (sym e) w)
 
-  module _ (r : RouteEntry) (m : In r i.routes) where
+  module _ (r : RouteRow) (m : In r i.routes) where
     -- a row of the asset is of its class
     of_class : (q : Span) → In q r.spans → nat_eq q.asset a.number ≡ is_of a.class a.number q
     of_class q n = by (cases_Bool (nat_eq q.asset a.number))
@@ -97,7 +97,7 @@ module _ (i : Image) (sound : IsSound i) (a : Asset) (known : In a i.assets) whe
 
     route_get : get (state_of i).routes r.route.name ≡ Some (route_entry r).1
     unfolding state_of
-    route_get = find_member nat_list_cmp_total (λ (e : RouteEntry). e.route.name) (λ e. (route_entry e).1) r i.routes (routes_in_order i sound) m
+    route_get = find_member nat_list_cmp_total (λ (e : RouteRow). e.route.name) (λ e. (route_entry e).1) r i.routes (routes_in_order i sound) m
 
     rows_are : map row_run (filter (is_of a.class a.number) r.spans) ≡ rows_of (state_of i) r.route.name a.number
     rows_are =

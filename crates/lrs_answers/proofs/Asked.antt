@@ -14,11 +14,11 @@ use Rattle.lrs_measure.specs.Texts.{Name, name_cmp}
 use Rattle.lrs_position.specs.declared.location.PlaceFault.{PlaceFault}
 use Rattle.lrs_position.specs.Locating.{Alignment}
 use Rattle.lrs_position.specs.Translating.{alignment_of, referent_at}
-use Rattle.lrs_machine.specs.declared.image.RouteEntry.{RouteEntry}
+use Rattle.lrs_machine.specs.declared.image.RouteRow.{RouteRow}
 use Rattle.lrs_machine.specs.declared.image.Image.{Image}
 use Rattle.lrs_machine.specs.State.{State}
 use Rattle.lrs_machine.specs.Register.{get}
-use Rattle.lrs_machine.specs.Machine.{entry_of_referent}
+use Rattle.lrs_machine.specs.Machine.{referent_chainage}
 use Rattle.lrs_machine.specs.Image.{state_of, route_entry}
 use Rattle.lrs_machine.specs.Sound.{IsSound}
 use Rattle.lrs_machine.proofs.Members.{In}
@@ -41,14 +41,14 @@ module _ {K X Row : Type 0} {R : K → K → Ordering} (total : IsTotalOrder R) 
         | false ↦ values_found rows q
       ]
 
-same_alignment : (o : Option RouteEntry) → option_map (λ (e : RouteEntry). alignment_of e.route) o ≡ option_map (λ (e : RouteEntry). (route_entry e).1) o
+same_alignment : (o : Option RouteRow) → option_map (λ (e : RouteRow). alignment_of e.route) o ≡ option_map (λ (e : RouteRow). (route_entry e).1) o
 same_alignment None = refl
 same_alignment (Some e) = refl
 
 -- what is found is the state's route of the name
-pub route_is : (i : Image) (name : Name) (o : Option RouteEntry) → o ≡ list.find (λ e. is_eq (name_cmp e.route.name name)) i.routes → option_map (λ e. alignment_of e.route) o ≡ get (state_of i).routes name
+pub route_is : (i : Image) (name : Name) (o : Option RouteRow) → o ≡ list.find (λ e. is_eq (name_cmp e.route.name name)) i.routes → option_map (λ e. alignment_of e.route) o ≡ get (state_of i).routes name
 unfolding state_of
-route_is i name o e = same_alignment o ∙ ap (option_map (λ (e : RouteEntry). (route_entry e).1)) e ∙ sym (values_found nat_list_cmp_total route_entry i.routes name)
+route_is i name o e = same_alignment o ∙ ap (option_map (λ (e : RouteRow). (route_entry e).1)) e ∙ sym (values_found nat_list_cmp_total route_entry i.routes name)
 
 some_is : {X : Type 0} (a b : X) → Some a ≡ Some b → b ≡ a
 some_is a b w = cc
@@ -71,10 +71,10 @@ found_in p x (y ∷ ys) h = by (cases_Bool (p y)) (found_in p x ys)
     by (inl e) rest = inl (some_is y x (sym (ap (λ b. cond b (Some y) (list.find p ys)) e) ∙ h))
     by (inr e) rest = inr (rest (sym (ap (λ b. cond b (Some y) (list.find p ys)) e) ∙ h))
 
-pub route_in : (i : Image) (r : RouteEntry) → IsRouteIn i r → In r i.routes
+pub route_in : (i : Image) (r : RouteRow) → IsRouteIn i r → In r i.routes
 route_in i r h = found_in (is_named r.route.name) r i.routes h
 
-pub found_known : (i : Image) (name : Name) (r : RouteEntry) → Some r ≡ list.find (λ e. is_eq (name_cmp e.route.name name)) i.routes → IsRouteIn i r
+pub found_known : (i : Image) (name : Name) (r : RouteRow) → Some r ≡ list.find (λ e. is_eq (name_cmp e.route.name name)) i.routes → IsRouteIn i r
 found_known i name r h =
     let found : list.find (is_named name) i.routes ≡ Some r = sym (h ∙ (λ j. list.find (λ e. sym (texts_ties e.route.name name) j) i.routes)) in
     let its : r.route.name ≡ name = (bytes_decides r.route.name name).0 (found_passes (is_named name) r i.routes found) in
@@ -89,11 +89,11 @@ pub on_route : {A : Type 0} (s : State) (name : Name) (Asked : Alignment → Res
 on_route s name Asked a result h asked = subst (λ (o : Option Alignment). MatchOption o (result ≡ Err NoRoute) (λ a. Asked a result)) h asked
 
 -- where the referents of a route stand
-pub referents_are : (i : Image) (r : RouteEntry) → IsSound i → IsRouteIn i r → referent_at r.route.refs ≡ entry_of_referent (state_of i) (alignment_of r.route)
+pub referents_are : (i : Image) (r : RouteRow) → IsSound i → IsRouteIn i r → referent_at r.route.refs ≡ referent_chainage (state_of i) (alignment_of r.route)
 referents_are i r s known = λ j name. sym (referents_found i r s (route_in i r known) name) j
 
-pub asks : {A : Type 0} (i : Image) (name : Name) (Answers : Alignment → (Name → Option ℕ) → Result A PlaceFault → Type 0) (r : RouteEntry) (answer : Result A PlaceFault) → IsSound i → IsRouteIn i r
+pub asks : {A : Type 0} (i : Image) (name : Name) (Answers : Alignment → (Name → Option ℕ) → Result A PlaceFault → Type 0) (r : RouteRow) (answer : Result A PlaceFault) → IsSound i → IsRouteIn i r
     → Some (alignment_of r.route) ≡ get (state_of i).routes name → Answers (alignment_of r.route) (referent_at r.route.refs) answer → AsksRoute (state_of i) name Answers (as_asked answer)
 asks {A} i name Answers r answer s known is h =
-    on_route (state_of i) name (λ a result. (answer : Result A PlaceFault) × Answers a (entry_of_referent (state_of i) a) answer × (result ≡ as_asked answer)) (alignment_of r.route) (as_asked answer) is
-    (answer, subst (λ entry_of. Answers (alignment_of r.route) entry_of answer) (referents_are i r s known) h, refl)
+    on_route (state_of i) name (λ a result. (answer : Result A PlaceFault) × Answers a (referent_chainage (state_of i) a) answer × (result ≡ as_asked answer)) (alignment_of r.route) (as_asked answer) is
+    (answer, subst (λ chainage_on. Answers (alignment_of r.route) chainage_on answer) (referents_are i r s known) h, refl)

@@ -31,7 +31,7 @@ pub Contains-from_In : {X : Type 0} (x : X) (xs : List X) → In x xs → Contai
 Contains-from_In x xs m = let at = place_in x xs m in (at.0, at.1, at.2 x)
 
 pub rows_everywhere : (i : Image) (a : Asset) (names : BTreeSet Name) → IsSound i → Contains i.assets a → IsOrdered name_cmp names
-    → ((route : Name) → RunsOverPart (route_on i.routes) (filter (λ (p : Part). nat_eq p.edit a.entry) i.entered) route → IsAmong route names)
+    → ((route : Name) → RunsOverPart (route_on i.routes) (filter (λ (p : Part). nat_eq p.edit a.entered_by) i.entered) route → IsAmong route names)
     → flat_map (rows_on_named a.class a.number i.routes) names.keys ≡ flat_map (rows_on a.class a.number) i.routes
 rows_everywhere i a names sound known order met =
     by_names (rows_on a.class a.number) names.keys i.routes (each_before names.keys order) (routes_in_order i sound)

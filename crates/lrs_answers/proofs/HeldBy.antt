@@ -18,7 +18,7 @@ use Rattle.lrs_events.specs.Changes.{has_row}
 use Rattle.lrs_events.specs.Members.{has_side, stands_for}
 use Rattle.lrs_events_rows.specs.OnCourse.{is_held}
 use Rattle.lrs_events_rows.proofs.Differing.{has_found, has_in}
-use Rattle.lrs_machine.specs.declared.image.RouteEntry.{RouteEntry}
+use Rattle.lrs_machine.specs.declared.image.RouteRow.{RouteRow}
 use Rattle.lrs_machine.specs.declared.image.Image.{Image}
 use Rattle.lrs_machine.specs.declared.hit.Hit.{Hit}
 use Rattle.lrs_machine.specs.Image.{state_of, asset_entry}
@@ -106,7 +106,7 @@ with_side : Asset → Side → Hit
 with_side a side = record { asset = a; side = side }
 
 -- Who holds an entry of a route, as the rows over it tell.
-pub hits_are : (i : Image) (r : RouteEntry) → IsSound i → each_two asset_before i.assets ≡ true → IsRouteIn i r → (j : ℕ) (g : Ground) → slice_get r.route.course j ≡ Some g → (found : List Span)
+pub hits_are : (i : Image) (r : RouteRow) → IsSound i → each_two asset_before i.assets ≡ true → IsRouteIn i r → (j : ℕ) (g : Ground) → slice_get r.route.course j ≡ Some g → (found : List Span)
     → ((q : Span) → has_row found q ≡ (has_row r.spans q && (nat_le q.from j && nat_lt j q.to))) → each_two (λ r s. nat_lt r.asset s.asset) found ≡ true
     → filter_map (hit_by i.assets) found ≡ hits_on (state_of i) g
 unfolding state_of
@@ -119,7 +119,7 @@ hits_are i r sound in_order known j g at found same order =
     by_side a None = refl
     by_side a (Some q) = refl
 
-pub holders_are : (i : Image) (r : RouteEntry) → IsSound i → IsRouteIn i r → (j : ℕ) (found slice : List Span) {F : Type 0} (result : Result (List Hit) F) → slice ≡ found
+pub holders_are : (i : Image) (r : RouteRow) → IsSound i → IsRouteIn i r → (j : ℕ) (found slice : List Span) {F : Type 0} (result : Result (List Hit) F) → slice ≡ found
     → ((q : Span) → has_row found q ≡ (has_row r.spans q && (nat_le q.from j && nat_lt j q.to))) → each_two (λ r s. nat_lt r.asset s.asset) found ≡ true
     → IfOk result (λ hits. hits ≡ filter_map (hit_by i.assets) slice) → IfOk result (λ hits. (g : Ground) → slice_get r.route.course j ≡ Some g → hits ≡ hits_on (state_of i) g)
 holders_are i r sound known j found slice (Ok hits) same rows order h = λ g at. h ∙ ap (filter_map (hit_by i.assets)) same ∙ hits_are i r sound (assets_in_order i sound) known j g at found rows order

@@ -23,7 +23,7 @@ use Rattle.lrs_machine.proofs.Counting.{totals_count_all}
 use Rattle.lrs_machine.proofs.SoundImages.{and_three, sound_is_lawful}
 use Rattle.lrs_machine.specs.Image.{state_of, reason_of}
 use Rattle.lrs_machine.specs.State.{Reason, same_reason}
-use Rattle.lrs_machine.specs.Bounds.{most_pairs}
+use Rattle.lrs_measure.specs.Limits.{most_pairs}
 use Rattle.lrs_machine.specs.Readings.{total_entered, total_gone}
 use Rattle.lrs_machine.specs.Sound.{IsSound, is_part, are_parts, share_nothing, pairs_of, parts_of, gone_before, are_balanced, spans_of}
 use Rattle.lrs_machine.specs.declared.image.Image.{Image}

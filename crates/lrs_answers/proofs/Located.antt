@@ -27,10 +27,10 @@ same_cell len k d n e dp ep h =
     commute = omega arith
 
 -- a chainage that is located has a denominator
-located_positive : (a : Alignment) (entry_of : Name → Option ℕ) (e : Expr) (x : ℕ × ℕ) → Locates a entry_of e x → 0 < x.1
-located_positive a entry_of (Abs m) x h = h.2
-located_positive a entry_of (Rel name t) x h = h.2
-located_positive a entry_of (Int p) x h = h.3
+located_positive : (a : Alignment) (chainage_on : Name → Option ℕ) (e : Expr) (x : ℕ × ℕ) → Locates a chainage_on e x → 0 < x.1
+located_positive a chainage_on (Abs m) x h = h.2
+located_positive a chainage_on (Rel name t) x h = h.2
+located_positive a chainage_on (Int p) x h = h.3
 
 same_number : (z : ℤ) (n d e : ℕ) → pos 0 ≤ℤ z → z *ℤ pos d ≡ pos (n * e) → unsigned_abs z * d ≡ n * e
 same_number (pos k) n d e from h = ap unsigned_abs h

@@ -23,7 +23,7 @@ use Rattle.lrs_events_rows.specs.OnCourse.{is_held}
 use Rattle.lrs_position_index.specs.Met.{RunsBetween}
 use Rattle.lrs_position_index.proofs.Routes.{over_entry}
 use Rattle.lrs_machine.specs.declared.image.Image.{Image}
-use Rattle.lrs_machine.specs.declared.image.RouteEntry.{RouteEntry}
+use Rattle.lrs_machine.specs.declared.image.RouteRow.{RouteRow}
 use Rattle.lrs_machine.specs.Image.{state_of}
 use Rattle.lrs_machine.specs.Sound.{IsSound, is_span, is_origin}
 use Rattle.lrs_machine.proofs.Members.{In, any_found, any_of, all_at}
@@ -51,12 +51,12 @@ any_kept {X} P p x (y ∷ ys) (inr m) h t = by (p y) (any_kept P p x ys m h t)
 
 -- ---- the route that runs over its own millimetre
 
-own_route : (i : Image) (r : RouteEntry) (link mm : ℕ) → IsSound i → In r i.routes → runs_over r.route.course (link, mm) ≡ true → route_on i.routes (link, mm) ≡ Some r.route.name
+own_route : (i : Image) (r : RouteRow) (link mm : ℕ) → IsSound i → In r i.routes → runs_over r.route.course (link, mm) ≡ true → route_on i.routes (link, mm) ≡ Some r.route.name
 own_route i r link mm sound m runs =
     let at = place_in r i.routes m in
     let is = at.2 r in
-    over_entry (λ (e : RouteEntry). e.route.name) (λ e. e.route.course) (link, mm) i.routes at.0 r (courses_apart i sound) at.1 (ap (λ (e : RouteEntry). runs_over e.route.course (link, mm)) is ∙ runs)
-    ∙ ap (λ (e : RouteEntry). Some e.route.name) is
+    over_entry (λ (e : RouteRow). e.route.name) (λ e. e.route.course) (link, mm) i.routes at.0 r (courses_apart i sound) at.1 (ap (λ (e : RouteRow). runs_over e.route.course (link, mm)) is ∙ runs)
+    ∙ ap (λ (e : RouteRow). Some e.route.name) is
 
 -- a side has the left or the right
 some_side : (side : Side) → (s : LinkSide) × (has_side side s ≡ true)
@@ -66,7 +66,7 @@ some_side B = (Left, refl)
 
 module _ (i : Image) (sound : IsSound i) (a : Asset) (known : In a i.assets) where
   abbrev by_entry : Part → Bool
-  by_entry part = nat_eq part.edit a.entry
+  by_entry part = nat_eq part.edit a.entered_by
 
   -- what was entered for the asset was entered by its entry
   entry_is : (part : Part) → In part i.entered → part.asset ≡ a.number → by_entry part ≡ true
@@ -87,7 +87,7 @@ module _ (i : Image) (sound : IsSound i) (a : Asset) (known : In a i.assets) whe
       let found = any_found (λ part. has_pair part entered.0 a.number p) i.entered entered.1 in
       (found.0, found.1, (pair_had found.0 entered.0 a.number p found.2).1)
 
-  module _ (r : RouteEntry) (m : In r i.routes) where
+  module _ (r : RouteRow) (m : In r i.routes) where
     -- a row has a millimetre of the route's course
     row_on_course : (q : Span) → In q r.spans → (q.from < q.to) × (q.to ≤ length r.route.course)
     row_on_course q n =

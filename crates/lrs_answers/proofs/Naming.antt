@@ -15,7 +15,7 @@ use Rattle.std.proofs.lemmas.List.Sorted.{ranks_by}
 use Rattle.lrs_measure.specs.Lists.{each_two}
 use Rattle.lrs_measure.specs.Texts.{Name, name_cmp, name_before, same_name}
 use Rattle.lrs_events_lanes.proofs.Ranks.{itself, before_trans}
-use Rattle.lrs_machine.specs.declared.image.RouteEntry.{RouteEntry}
+use Rattle.lrs_machine.specs.declared.image.RouteRow.{RouteRow}
 use Rattle.lrs_machine.specs.Sound.{route_before}
 use Rattle.lrs_machine.proofs.Members.{In, all_at}
 use Rattle.lrs_image.specs.Change.{is_named}
@@ -49,24 +49,24 @@ none_among : (name : Name) (names : List Name) → ((n : Name) → In n names �
 none_among name [] h = refl
 none_among name (n ∷ ns) h = λ j. h n (inl refl) j || none_among name ns (λ k m. h k (inr m)) j
 
-module _ {Y : Type 0} (rows : RouteEntry → List Y) where
+module _ {Y : Type 0} (rows : RouteRow → List Y) where
   -- the rows on the route of a name
-  abbrev pub rows_at : List RouteEntry → Name → List Y
+  abbrev pub rows_at : List RouteRow → Name → List Y
   rows_at routes name = option_map_or rows (find (is_named name) routes) []
 
   -- a route of another name is passed over
-  passed : (r : RouteEntry) (rs : List RouteEntry) (name : Name) → same_name r.route.name name ≡ false → rows_at (r ∷ rs) name ≡ rows_at rs name
+  passed : (r : RouteRow) (rs : List RouteRow) (name : Name) → same_name r.route.name name ≡ false → rows_at (r ∷ rs) name ≡ rows_at rs name
   passed r rs name h = ap (λ b. option_map_or rows (cond b (Some r) (find (is_named name) rs)) []) h
 
-  found : (r : RouteEntry) (rs : List RouteEntry) (name : Name) → same_name r.route.name name ≡ true → rows_at (r ∷ rs) name ≡ rows r
+  found : (r : RouteRow) (rs : List RouteRow) (name : Name) → same_name r.route.name name ≡ true → rows_at (r ∷ rs) name ≡ rows r
   found r rs name h = ap (λ b. option_map_or rows (cond b (Some r) (find (is_named name) rs)) []) h
 
-  all_passed : (r : RouteEntry) (rs : List RouteEntry) (names : List Name) → ((n : Name) → In n names → same_name r.route.name n ≡ false) → flat_map (rows_at (r ∷ rs)) names ≡ flat_map (rows_at rs) names
+  all_passed : (r : RouteRow) (rs : List RouteRow) (names : List Name) → ((n : Name) → In n names → same_name r.route.name n ≡ false) → flat_map (rows_at (r ∷ rs)) names ≡ flat_map (rows_at rs) names
   all_passed r rs [] h = refl
   all_passed r rs (n ∷ ns) h = λ j. passed r rs n (h n (inl refl)) j ++ all_passed r rs ns (λ k m. h k (inr m)) j
 
   -- where none has the name, there are no rows
-  none_named : (rs : List RouteEntry) (name : Name) → ((r : RouteEntry) → In r rs → same_name r.route.name name ≡ false) → rows_at rs name ≡ []
+  none_named : (rs : List RouteRow) (name : Name) → ((r : RouteRow) → In r rs → same_name r.route.name name ≡ false) → rows_at rs name ≡ []
   none_named [] name h = refl
   none_named (r ∷ rs) name h = passed r rs name (h r (inl refl)) ∙ none_named rs name (λ k m. h k (inr m))
 
@@ -74,20 +74,20 @@ module _ {Y : Type 0} (rows : RouteEntry → List Y) where
   no_routes [] = refl
   no_routes (n ∷ ns) = no_routes ns
 
-  no_rows : (rs : List RouteEntry) → ((r : RouteEntry) → In r rs → rows r ≡ []) → flat_map rows rs ≡ []
+  no_rows : (rs : List RouteRow) → ((r : RouteRow) → In r rs → rows r ≡ []) → flat_map rows rs ≡ []
   no_rows [] h = refl
   no_rows (r ∷ rs) h = λ j. h r (inl refl) j ++ no_rows rs (λ k m. h k (inr m)) j
 
   -- each route with rows is named
-  abbrev pub AreNamed : List Name → List RouteEntry → Type 0
-  AreNamed names routes = (r : RouteEntry) → In r routes → is_among r.route.name names ≡ false → rows r ≡ []
+  abbrev pub AreNamed : List Name → List RouteRow → Type 0
+  AreNamed names routes = (r : RouteRow) → In r routes → is_among r.route.name names ≡ false → rows r ≡ []
 
   -- the first name is of none of these routes
-  named_later : (n : Name) (ns : List Name) (rs : List RouteEntry) → ((r : RouteEntry) → In r rs → same_name r.route.name n ≡ false) → AreNamed (n ∷ ns) rs → AreNamed ns rs
+  named_later : (n : Name) (ns : List Name) (rs : List RouteRow) → ((r : RouteRow) → In r rs → same_name r.route.name n ≡ false) → AreNamed (n ∷ ns) rs → AreNamed ns rs
   named_later n ns rs h named r m far = named r m (λ j. h r m j || far j)
 
   -- Rows by names in order are the rows on all routes in order.
-  pub by_names : (names : List Name) (routes : List RouteEntry) → each_two name_before names ≡ true → each_two route_before routes ≡ true → AreNamed names routes → flat_map (rows_at routes) names ≡ flat_map rows routes
+  pub by_names : (names : List Name) (routes : List RouteRow) → each_two name_before names ≡ true → each_two route_before routes ≡ true → AreNamed names routes → flat_map (rows_at routes) names ≡ flat_map rows routes
   by_names [] routes s o named = sym (no_rows routes (λ r m. named r m refl))
   by_names (n ∷ ns) [] s o named = no_routes (n ∷ ns)
   by_names (n ∷ ns) (r ∷ rs) s o named =
@@ -99,7 +99,7 @@ module _ {Y : Type 0} (rows : RouteEntry → List Y) where
       routes : (list_all (route_before r) rs ≡ true) × (each_two route_before rs ≡ true)
       routes = and_parts (list_all (route_before r) rs) (each_two route_before rs) o
 
-      later_route : (x : RouteEntry) → In x rs → name_before r.route.name x.route.name ≡ true
+      later_route : (x : RouteRow) → In x rs → name_before r.route.name x.route.name ≡ true
       later_route x m = all_at (route_before r) x rs routes.0 m
 
       later_name : (k : Name) → In k ns → name_before n k ≡ true
@@ -109,11 +109,11 @@ module _ {Y : Type 0} (rows : RouteEntry → List Y) where
           → (AreNamed (n ∷ ns) rs → flat_map (rows_at rs) (n ∷ ns) ≡ flat_map rows rs) → flat_map (rows_at (r ∷ rs)) (n ∷ ns) ≡ flat_map rows (r ∷ rs)
       by Less e names_on both routes_on =
           let first : name_before n r.route.name ≡ true = ap is_lt e in
-          let other : (x : RouteEntry) → In x (r ∷ rs) → same_name x.route.name n ≡ false = λ x m. differs first x m in
+          let other : (x : RouteRow) → In x (r ∷ rs) → same_name x.route.name n ≡ false = λ x m. differs first x m in
           ap (λ ys. ys ++ flat_map (rows_at (r ∷ rs)) ns) (none_named (r ∷ rs) n other) ∙ names_on (named_later n ns (r ∷ rs) other named)
         where
-          differs : name_before n r.route.name ≡ true → (x : RouteEntry) → In x (r ∷ rs) → same_name x.route.name n ≡ false
-          differs first x (inl same) = ap (λ (z : RouteEntry). same_name z.route.name n) same ∙ later_differs n r.route.name first
+          differs : name_before n r.route.name ≡ true → (x : RouteRow) → In x (r ∷ rs) → same_name x.route.name n ≡ false
+          differs first x (inl same) = ap (λ (z : RouteRow). same_name z.route.name n) same ∙ later_differs n r.route.name first
           differs first x (inr m) = later_differs n x.route.name (before_trans name_before names_rank n r.route.name x.route.name first (later_route x m))
       by Equal e names_on both routes_on =
           let same : same_name n r.route.name ≡ true = texts_ties n r.route.name ∙ ap is_eq e in

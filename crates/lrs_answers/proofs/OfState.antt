@@ -11,7 +11,7 @@ use Rattle.lrs_events.specs.declared.side.Side.TheVariants.{B}
 use Rattle.lrs_machine.specs.declared.segment.SegFault.{SegFault}
 use Rattle.lrs_machine.specs.declared.segment.SegFault.TheVariants as seg
 use Rattle.lrs_machine.specs.Segments.{segment_fault, fault_at, is_class, is_exclusive_class}
-use Rattle.lrs_machine.specs.declared.image.RouteEntry.{RouteEntry}
+use Rattle.lrs_machine.specs.declared.image.RouteRow.{RouteRow}
 use Rattle.lrs_machine.specs.declared.image.Image.{Image}
 use Rattle.lrs_machine.specs.Image.{state_of}
 use Rattle.lrs_machine.specs.Sound.{IsSound, RouteSpans, are_spans_of, spans_of, is_span, keeps_exclusive}
@@ -38,22 +38,22 @@ use Rattle.lrs_answers.specs.Segmented.{class_list, asked_fault, IsSegmented}
 use Rattle.lrs_answers.proofs.Asked.{route_in, on_route}
 use Rattle.lrs_image_laws.proofs.Holding.{held_at}
 
-abbrev spans_entry : RouteEntry → RouteSpans
+abbrev spans_entry : RouteRow → RouteSpans
 spans_entry f = record { course = f.route.course; rows = f.spans }
 
 -- the rows of a route are canonical, on it, and of known assets and their classes
-pub row_tests : (i : Image) (r : RouteEntry) → IsSound i → In r i.routes → are_spans_of i.assets (spans_entry r) ≡ true
+pub row_tests : (i : Image) (r : RouteRow) → IsSound i → In r i.routes → are_spans_of i.assets (spans_entry r) ≡ true
 row_tests i r sound m =
     all_at (are_spans_of i.assets) (spans_entry r) (spans_of i)
     (and_parts (list_all (are_spans_of i.assets) (spans_of i)) (list_all (keeps_exclusive i.links i.assets (spans_of i)) i.classes) (passes i sound).spans).0 (In-map spans_entry r i.routes m)
 
-pub rows_fit : (i : Image) (r : RouteEntry) → IsSound i → In r i.routes → list_all (is_span i.assets (length r.route.course)) r.spans ≡ true
+pub rows_fit : (i : Image) (r : RouteRow) → IsSound i → In r i.routes → list_all (is_span i.assets (length r.route.course)) r.spans ≡ true
 rows_fit i r sound m = (and_parts (are_rows r.spans) (list_all (is_span i.assets (length r.route.course)) r.spans) (row_tests i r sound m)).1
 
-pub tell_holders : (i : Image) (r : RouteEntry) → IsSound i → In r i.routes → TellHolders (state_of i) r.route.course r.spans
+pub tell_holders : (i : Image) (r : RouteRow) → IsSound i → In r i.routes → TellHolders (state_of i) r.route.course r.spans
 tell_holders i r sound m asset j g side is = held_at i r sound m j g side is asset
 
-pub rows_exclusive : (i : Image) (r : RouteEntry) → IsSound i → In r i.routes → AreExclusive i.classes r.spans
+pub rows_exclusive : (i : Image) (r : RouteRow) → IsSound i → In r i.routes → AreExclusive i.classes r.spans
 rows_exclusive i r sound m =
     exclusive_too i r.route.course r.spans (sound_is_lawful i sound).exclusive (assets_in_order i sound) (classes_in_order i sound) (rows_fit i r sound m) (tell_holders i r sound m)
 
@@ -97,7 +97,7 @@ refused_as_asked {A} (Some g) P Q fault h k = ap Err (ap asked_fault (fault_is {
 
 -- ---- what is answered
 
-module _ (i : Image) (name : Name) (r : RouteEntry) (wanted : List Name) (side : Side) (sound : IsSound i) (known : IsRouteIn i r) (is : Some (alignment_of r.route) ≡ get (state_of i).routes name) where
+module _ (i : Image) (name : Name) (r : RouteRow) (wanted : List Name) (side : Side) (sound : IsSound i) (known : IsRouteIn i r) (is : Some (alignment_of r.route) ≡ get (state_of i).routes name) where
   abbrev Asked : List Class → Alignment → Result (List Segment) AskFault → Type 0
   Asked classes a result =
       MatchOption (segment_fault classes wanted side) (UnlessMemory (λ found. (on : LinkSide) → side ≡ one_side on → map run_of found ≡ segments_on (state_of i) a.course wanted on) result) (λ fault. result ≡ Err (Seg fault))

@@ -6,8 +6,8 @@ use Rattle.lrs_position.specs.declared.expression.Expr.{Expr}
 use Rattle.lrs_position.specs.declared.location.PlaceFault.{PlaceFault}
 use Rattle.lrs_position.specs.Locating.{Alignment, located_or_fault, cell}
 use Rattle.lrs_machine.specs.declared.image.Image.{Image}
-use Rattle.lrs_machine.specs.declared.image.RouteEntry.{RouteEntry}
-use Rattle.lrs_machine.specs.Machine.{entry_of_referent}
+use Rattle.lrs_machine.specs.declared.image.RouteRow.{RouteRow}
+use Rattle.lrs_machine.specs.Machine.{referent_chainage}
 use Rattle.lrs_machine.specs.Readings.{hits_on}
 use Rattle.lrs_machine.specs.Register.{get}
 use Rattle.lrs_machine.specs.State.{State}
@@ -17,7 +17,7 @@ use Rattle.lrs_answers.specs.declared.fault.AskFault.TheVariants.{NoRoute, Place
 use Rattle.lrs_answers.specs.declared.hits.AtAnswer.{AtAnswer}
 
 -- the route with what lies on it is the image's route of its name
-abbrev pub IsRouteIn : Image → RouteEntry → Type 0
+abbrev pub IsRouteIn : Image → RouteRow → Type 0
 IsRouteIn i e = find (is_named e.route.name) i.routes ≡ Some e
 
 -- what is answered passes, unless memory ran out
@@ -36,15 +36,15 @@ as_asked (Err fault) = Err (Place fault)
 
 -- The answer is what positions answer on the route of the name, whose referents stand where the state has them.
 abbrev pub AsksRoute : {A : Type 0} → State → Name → (Alignment → (Name → Option ℕ) → Result A PlaceFault → Type 0) → Result A AskFault → Type 0
-AsksRoute {A} s name Answers result = OnRoute s name (λ a result. (answer : Result A PlaceFault) × Answers a (entry_of_referent s a) answer × (result ≡ as_asked answer)) result
+AsksRoute {A} s name Answers result = OnRoute s name (λ a result. (answer : Result A PlaceFault) × Answers a (referent_chainage s a) answer × (result ≡ as_asked answer)) result
 
 -- The millimetre in which the chainage x of a route stands: how far along the route, on which link, and who holds it.
 pub record StandsAt (s : State) (a : Alignment) (x : ℕ × ℕ) (found : AtAnswer) : Type 0 where
   pub at : found.at ≡ cell (length a.course) x
-  pub entry : slice_get a.course found.at ≡ Some found.entry
-  pub hits : found.hits ≡ hits_on s found.entry
+  pub ground : slice_get a.course found.at ≡ Some found.ground
+  pub hits : found.hits ≡ hits_on s found.ground
 
 -- The answer is the millimetre in which a position stands on the route of the name, and who holds it, or the first fault.
 abbrev pub IsAt : State → Name → Expr → Result AtAnswer AskFault → Type 0
 IsAt s name e result =
-    OnRoute s name (λ a result. MatchResult (located_or_fault a (entry_of_referent s a) e) (λ x. UnlessMemory (StandsAt s a x) result) (λ fault. result ≡ Err (Place fault))) result
+    OnRoute s name (λ a result. MatchResult (located_or_fault a (referent_chainage s a) e) (λ x. UnlessMemory (StandsAt s a x) result) (λ fault. result ≡ Err (Place fault))) result

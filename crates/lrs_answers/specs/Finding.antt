@@ -6,7 +6,7 @@ use Rattle.lrs_measure.specs.Texts.{Name}
 use Rattle.lrs_events.specs.declared.side.Side.{Side}
 use Rattle.lrs_events.specs.declared.span.Span.{Span}
 use Rattle.lrs_events_rows.specs.Members.{is_of}
-use Rattle.lrs_machine.specs.declared.image.RouteEntry.{RouteEntry}
+use Rattle.lrs_machine.specs.declared.image.RouteRow.{RouteRow}
 use Rattle.lrs_machine.specs.Readings.{rows_of}
 use Rattle.lrs_machine.specs.Register.{get, entries}
 use Rattle.lrs_machine.specs.State.{State}
@@ -34,5 +34,5 @@ abbrev pub row_of_span : Name → Span → FoundRow
 row_of_span route r = record { route = route; from = r.from; to = r.to; side = r.side }
 
 -- the rows of an asset of a class on a route
-abbrev pub rows_on : Name → ℕ → RouteEntry → List FoundRow
+abbrev pub rows_on : Name → ℕ → RouteRow → List FoundRow
 rows_on class asset e = map (row_of_span e.route.name) (filter (is_of class asset) e.spans)

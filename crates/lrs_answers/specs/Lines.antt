@@ -25,11 +25,11 @@ direction_text forward = if forward then codes "+" else codes "-"
 -- a route and a millimetre of it, the link and the millimetre of the link that it is, and how the route runs over it
 abbrev pub place_text : Name → AtAnswer → Text
 place_text route found =
-    line_of (route ∷ decimal found.at ∷ decimal found.entry.link ∷ decimal found.entry.mm ∷ direction_text found.entry.forward ∷ [])
+    line_of (route ∷ decimal found.at ∷ decimal found.ground.link ∷ decimal found.ground.mm ∷ direction_text found.ground.forward ∷ [])
 
 -- an asset, its class, the side on which it holds the millimetre, its lateral offset, its value, and the edit that entered it
 abbrev pub hit_text : Hit → Text
-hit_text h = line_of (decimal h.asset.number ∷ h.asset.class ∷ side_text h.side ∷ decimal h.asset.lateral ∷ h.asset.value ∷ decimal h.asset.entry ∷ [])
+hit_text h = line_of (decimal h.asset.number ∷ h.asset.class ∷ side_text h.side ∷ decimal h.asset.lateral ∷ h.asset.value ∷ decimal h.asset.entered_by ∷ [])
 
 -- where a position stands, and who holds it
 abbrev pub at_text : Name → AtAnswer → Text

@@ -22,13 +22,14 @@ fn push_rows_on(
     class: ClassName,
     asset: u64,
 ) -> Result<(), AllocError>
-    ensures { OnOk result (found.new.items ≡ found.old.items ++ rows_on_named class asset inventory.now.routes name.now) }
+    ensures { OnOk result (found.new.items ≡ found.old.items
+        ++ rows_on_named class asset inventory.now.routes name.now) }
 {
     match inventory.route(name) {
-        Some(entry) => push_rows(
+        Some(route_row) => push_rows(
             found,
-            entry.route.name,
-            entry.spans.asset_rows(class, asset),
+            route_row.route.name,
+            route_row.spans.asset_rows(class, asset),
         ),
         None => Ok(()),
     }
@@ -42,7 +43,8 @@ pub(crate) fn rows_on_routes(
     class: ClassName,
     asset: u64,
 ) -> Result<Rows<FoundRow>, AllocError>
-    ensures rows { IfOk result (λ found. found ≡ flat_map (rows_on_named class asset inventory.now.routes) names.now.keys) }
+    ensures rows { IfOk result (λ found. found ≡ flat_map
+        (rows_on_named class asset inventory.now.routes) names.now.keys) }
     ensures order { IsOrdered name_cmp names.now }
 {
     let mut found = Vec::new(alloc);

@@ -9,7 +9,8 @@ use lrs_events::Part;
 fn parts_before(parts: &[Part], edit: u64) -> usize
     requires { IsNonDecreasingBy (λ part. part.edit) parts.now }
     ensures within { result ≤ length parts.now }
-    ensures point { IsPartitionPoint (λ part. nat_lt part.edit edit ≡ true) (λ part. nat_lt part.edit edit ≡ false) parts.now result }
+    ensures point { IsPartitionPoint (λ part. nat_lt part.edit edit ≡ true) (λ part.
+        nat_lt part.edit edit ≡ false) parts.now result }
 {
     parts.partition_point(|part| part.edit < edit)
 }
@@ -18,7 +19,8 @@ fn parts_before(parts: &[Part], edit: u64) -> usize
 fn parts_up_to(parts: &[Part], edit: u64) -> usize
     requires { IsNonDecreasingBy (λ part. part.edit) parts.now }
     ensures within { result ≤ length parts.now }
-    ensures point { IsPartitionPoint (λ part. nat_le part.edit edit ≡ true) (λ part. nat_le part.edit edit ≡ false) parts.now result }
+    ensures point { IsPartitionPoint (λ part. nat_le part.edit edit ≡ true) (λ part.
+        nat_le part.edit edit ≡ false) parts.now result }
 {
     parts.partition_point(|part| part.edit <= edit)
 }

@@ -18,7 +18,8 @@ pub(crate) fn routes_over_parts(
     inventory: &Inventory,
     parts: &[Part],
 ) -> Result<BTreeSet<RouteName>, AllocError>
-    ensures { IfOk result (λ routes. (route : Name) → IsAmong route routes ↔ RunsOverPart (route_on inventory.now.routes) parts.now route) }
+    ensures { IfOk result (λ routes. (route : Name) → IsAmong route routes
+        ↔ RunsOverPart (route_on inventory.now.routes) parts.now route) }
 {
     let mut routes = BTreeSet::new(alloc);
     for part in parts {

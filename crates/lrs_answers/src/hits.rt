@@ -17,7 +17,7 @@ use crate::route::route_of;
 use lrs_element::Ground;
 use lrs_events::{Asset, Span};
 use lrs_image::KeptImage;
-use lrs_machine::{Hit, RouteEntry};
+use lrs_machine::{Hit, RouteRow};
 use lrs_measure::Rows;
 use lrs_ordered::Chunked;
 use lrs_position::{Expr, RouteName};
@@ -29,7 +29,7 @@ pub struct AtAnswer {
     /// Its chainage on the route, in millimetres.
     pub at: u64,
     /// Which millimetre of which link it is, and whether the route runs along the link there.
-    pub entry: Ground,
+    pub ground: Ground,
     /// The assets that hold it, by number, each with the side on which it does, seen along the route.
     pub hits: Rows<Hit>,
 }
@@ -66,13 +66,14 @@ fn hits_of(alloc: Global, assets: &Chunked<Asset>, rows: &[Span]) -> Result<Rows
 fn holders(
     alloc: Global,
     kept: &KeptImage,
-    row: &RouteEntry,
+    row: &RouteRow,
     at: u64,
 ) -> Result<Rows<Hit>, AllocError>
     requires sound { IsSound (image_of kept.now) }
     requires known { IsRouteIn (image_of kept.now) row.now }
     requires within { at < length row.now.route.course }
-    ensures { IfOk result (λ hits. (g : DeclaredGround) → slice_get row.now.route.course at ≡ Some g → hits ≡ hits_on (state_of (image_of kept.now)) g) }
+    ensures { IfOk result (λ hits. (g : DeclaredGround) → slice_get row.now.route.course at ≡ Some g
+        → hits ≡ hits_on (state_of (image_of kept.now)) g) }
 {
     let rows = row.spans.at(alloc, at)?;
     hits_of(alloc, &kept.assets, &rows)
@@ -82,20 +83,21 @@ fn holders(
 fn answer_at(
     alloc: Global,
     kept: &KeptImage,
-    row: &RouteEntry,
+    row: &RouteRow,
     at: u64,
 ) -> Result<AtAnswer, AllocError>
     requires sound { IsSound (image_of kept.now) }
     requires known { IsRouteIn (image_of kept.now) row.now }
     requires within { at < length row.now.route.course }
     ensures at { IfOk result (λ found. found.at ≡ at) }
-    ensures entry { IfOk result (λ found. slice_get row.now.route.course at ≡ Some found.entry) }
-    ensures hits { IfOk result (λ found. found.hits ≡ hits_on (state_of (image_of kept.now)) found.entry) }
+    ensures ground { IfOk result (λ found. slice_get row.now.route.course at ≡ Some found.ground) }
+    ensures hits { IfOk result (λ found. found.hits
+        ≡ hits_on (state_of (image_of kept.now)) found.ground) }
 {
     let hits = holders(alloc, kept, row, at)?;
     Ok(AtAnswer {
         at,
-        entry: row.route.course.ground(at),
+        ground: row.route.course.ground(at),
         hits,
     })
 }

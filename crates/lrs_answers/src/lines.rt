@@ -14,32 +14,35 @@ use std::io::Write;
 
 /// Writes a millimetre of a route, and the one of a link that it is.
 fn write_place<W: Write>(writer: &mut W, route: &RouteName, found: &AtAnswer) -> io::Result<()>
-    ensures { OnOk result (Appends (W.contents writer.old) (W.contents writer.new) (place_text route.now found.now)) }
+    ensures { OnOk result (Appends (W.contents writer.old) (W.contents writer.new)
+        (place_text route.now found.now)) }
 {
     let at = found.at;
-    let link = found.entry.link;
-    let mm = found.entry.mm;
-    let direction = if found.entry.forward { "+" } else { "-" };
+    let link = found.ground.link;
+    let mm = found.ground.mm;
+    let direction = if found.ground.forward { "+" } else { "-" };
     writer.write_all(route.bytes())?;
     writeln!(writer, " {at} {link} {mm} {direction}")
 }
 
 /// Writes the line of an asset that holds a millimetre.
 fn write_hit<W: Write>(writer: &mut W, hit: &Hit) -> io::Result<()>
-    ensures { OnOk result (Appends (W.contents writer.old) (W.contents writer.new) (hit_text hit.now)) }
+    ensures { OnOk result (Appends (W.contents writer.old) (W.contents writer.new)
+        (hit_text hit.now)) }
 {
     let number = hit.asset.number;
     let class = hit.asset.class;
     let side = hit.side;
     let offset = hit.asset.lateral;
     let value = hit.asset.value;
-    let entry = hit.asset.entry;
-    writeln!(writer, "{number} {class} {side} {offset} {value} {entry}")
+    let edit = hit.asset.entered_by;
+    writeln!(writer, "{number} {class} {side} {offset} {value} {edit}")
 }
 
 /// Writes the lines of assets that hold a millimetre.
 fn write_hits<W: Write>(writer: &mut W, hits: &[Hit]) -> io::Result<()>
-    ensures { OnOk result (Appends (W.contents writer.old) (W.contents writer.new) (flat_map hit_text hits.now)) }
+    ensures { OnOk result (Appends (W.contents writer.old) (W.contents writer.new)
+        (flat_map hit_text hits.now)) }
 {
     for hit in hits {
         write_hit(writer, hit)?;
@@ -53,7 +56,8 @@ fn write_hits<W: Write>(writer: &mut W, hits: &[Hit]) -> io::Result<()>
 /// # Errors
 /// That of the writer. Part of the lines may be written then.
 pub fn write_at<W: Write>(writer: &mut W, route: &RouteName, found: &AtAnswer) -> io::Result<()>
-    ensures { OnOk result (Appends (W.contents writer.old) (W.contents writer.new) (at_text route.now found.now)) }
+    ensures { OnOk result (Appends (W.contents writer.old) (W.contents writer.new)
+        (at_text route.now found.now)) }
 {
     write_place(writer, route, found)?;
     write_hits(writer, found.hits.as_slice())
@@ -61,7 +65,8 @@ pub fn write_at<W: Write>(writer: &mut W, route: &RouteName, found: &AtAnswer) -
 
 /// Writes the line of a row of an asset.
 fn write_row<W: Write>(writer: &mut W, row: &FoundRow) -> io::Result<()>
-    ensures { OnOk result (Appends (W.contents writer.old) (W.contents writer.new) (row_text row.now)) }
+    ensures { OnOk result (Appends (W.contents writer.old) (W.contents writer.new)
+        (row_text row.now)) }
 {
     let from = row.from;
     let to = row.to;
@@ -75,7 +80,8 @@ fn write_row<W: Write>(writer: &mut W, row: &FoundRow) -> io::Result<()>
 /// # Errors
 /// That of the writer. Part of the lines may be written then.
 pub fn write_found<W: Write>(writer: &mut W, rows: &[FoundRow]) -> io::Result<()>
-    ensures { OnOk result (Appends (W.contents writer.old) (W.contents writer.new) (found_text rows.now)) }
+    ensures { OnOk result (Appends (W.contents writer.old) (W.contents writer.new)
+        (found_text rows.now)) }
 {
     for row in rows {
         write_row(writer, row)?;
@@ -85,7 +91,8 @@ pub fn write_found<W: Write>(writer: &mut W, rows: &[FoundRow]) -> io::Result<()
 
 /// Writes the line of the totals of a class.
 fn write_total<W: Write>(writer: &mut W, total: &Total) -> io::Result<()>
-    ensures { OnOk result (Appends (W.contents writer.old) (W.contents writer.new) (total_text total.now)) }
+    ensures { OnOk result (Appends (W.contents writer.old) (W.contents writer.new)
+        (total_text total.now)) }
 {
     let class = total.class;
     let entered = total.entered;
@@ -100,7 +107,8 @@ fn write_total<W: Write>(writer: &mut W, total: &Total) -> io::Result<()>
 /// # Errors
 /// That of the writer. Part of the lines may be written then.
 pub fn write_totals<W: Write>(writer: &mut W, totals: &[Total]) -> io::Result<()>
-    ensures { OnOk result (Appends (W.contents writer.old) (W.contents writer.new) (totals_text totals.now)) }
+    ensures { OnOk result (Appends (W.contents writer.old) (W.contents writer.new)
+        (totals_text totals.now)) }
 {
     for total in totals {
         write_total(writer, total)?;
@@ -113,7 +121,8 @@ pub fn write_totals<W: Write>(writer: &mut W, totals: &[Total]) -> io::Result<()
 /// # Errors
 /// That of the writer.
 pub fn write_expression<W: Write>(writer: &mut W, expression: Expr) -> io::Result<()>
-    ensures { OnOk result (Appends (W.contents writer.old) (W.contents writer.new) (expression_line expression)) }
+    ensures { OnOk result (Appends (W.contents writer.old) (W.contents writer.new)
+        (expression_line expression)) }
 {
     writeln!(writer, "{expression}")
 }
@@ -123,7 +132,8 @@ pub fn write_expression<W: Write>(writer: &mut W, expression: Expr) -> io::Resul
 /// # Errors
 /// That of the writer.
 pub fn write_link_position<W: Write>(writer: &mut W, link: u32, distance: Frac) -> io::Result<()>
-    ensures { OnOk result (Appends (W.contents writer.old) (W.contents writer.new) (link_position_text link distance)) }
+    ensures { OnOk result (Appends (W.contents writer.old) (W.contents writer.new)
+        (link_position_text link distance)) }
 {
     writeln!(writer, "{link}:{distance}")
 }

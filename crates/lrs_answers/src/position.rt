@@ -13,7 +13,7 @@ ghost use Rattle.lrs_answers.specs.Answers.{AsksRoute};
 use crate::fault::AskFault;
 use crate::route::route_of;
 use lrs_image::KeptImage;
-use lrs_machine::RouteEntry;
+use lrs_machine::RouteRow;
 use lrs_measure::Frac;
 use lrs_position::{Expr, PlaceFault, RouteName, Target, cell, locate, route_to_link};
 
@@ -21,9 +21,11 @@ use lrs_position::{Expr, PlaceFault, RouteName, Target, cell, locate, route_to_l
 ///
 /// # Errors
 /// Those of `locate`.
-pub(crate) fn cell_of(row: &RouteEntry, expression: Expr) -> Result<u64, PlaceFault>
+pub(crate) fn cell_of(row: &RouteRow, expression: Expr) -> Result<u64, PlaceFault>
     ensures within { IfOk result (λ at. at < length row.now.route.course) }
-    ensures answer { MatchResult (located_or_fault (alignment_of row.now.route) (referent_at row.now.route.refs) expression) (λ x. result ≡ Ok (place.cell (length row.now.route.course) x)) (λ fault. result ≡ Err fault) }
+    ensures answer { MatchResult (located_or_fault (alignment_of row.now.route)
+        (referent_at row.now.route.refs) expression) (λ x.
+        result ≡ Ok (place.cell (length row.now.route.course) x)) (λ fault. result ≡ Err fault) }
 {
     match locate(&row.route, expression) {
         Ok(chainage) => Ok(cell(chainage, row.route.length())),
@@ -43,7 +45,9 @@ pub fn translate(
     target: Target,
 ) -> Result<Expr, AskFault>
     requires sound { IsSound (image_of kept.now) }
-    ensures answer { AsksRoute (state_of (image_of kept.now)) route.now (λ a entry_of answer. Translates a entry_of expression target answer × RoundTrip a entry_of expression target answer) result }
+    ensures answer { AsksRoute (state_of (image_of kept.now)) route.now (λ a chainage_on answer.
+        Translates a chainage_on expression target answer
+        × RoundTrip a chainage_on expression target answer) result }
 {
     match route_of(kept, route) {
         Some(row) => match lrs_position::translate(&row.route, expression, target) {
@@ -66,7 +70,8 @@ pub fn to_link(
     expression: Expr,
 ) -> Result<(u32, Frac), AskFault>
     requires sound { IsSound (image_of kept.now) }
-    ensures answer { AsksRoute (state_of (image_of kept.now)) route.now (λ a entry_of answer. IsLinkPosition a entry_of expression answer) result }
+    ensures answer { AsksRoute (state_of (image_of kept.now)) route.now (λ a chainage_on answer.
+        IsLinkPosition a chainage_on expression answer) result }
 {
     match route_of(kept, route) {
         Some(row) => match route_to_link(&row.route, expression) {

@@ -21,9 +21,10 @@ fn rows_of(
     asset: &Asset,
 ) -> Result<Rows<FoundRow>, AllocError>
     requires known { Contains inventory.now.assets asset.now }
-    ensures { IfOk result (λ found. found ≡ flat_map (rows_on asset.now.class asset.now.number) inventory.now.routes) }
+    ensures { IfOk result (λ found. found ≡ flat_map
+        (rows_on asset.now.class asset.now.number) inventory.now.routes) }
 {
-    let entered = parts_of_edit(&inventory.kept().entered, asset.entry);
+    let entered = parts_of_edit(&inventory.kept().entered, asset.entered_by);
     let routes = routes_over_parts(alloc, inventory, entered)?;
     rows_on_routes(alloc, inventory, &routes, asset.class, asset.number)
 }

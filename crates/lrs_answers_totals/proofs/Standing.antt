@@ -13,7 +13,7 @@ use Rattle.lrs_measure.specs.Texts.{Name, name_before, same_name}
 use Rattle.lrs_events.specs.declared.class.Asset.{Asset}
 use Rattle.lrs_events.specs.declared.class.Class.{Class}
 use Rattle.lrs_machine.specs.declared.image.Image.{Image}
-use Rattle.lrs_machine.specs.Bounds.{most_assets}
+use Rattle.lrs_measure.specs.Limits.{most_assets}
 use Rattle.lrs_machine.specs.Entered.{is_asset_number, is_lateral_offset}
 use Rattle.lrs_machine.specs.Sound.{IsSound, is_asset, asset_before, class_before}
 use Rattle.lrs_machine.proofs.Members.{any_found, all_at, all_weaker}

@@ -14,7 +14,7 @@ use Rattle.lrs_events.specs.declared.class.Class.{Class}
 use Rattle.lrs_events.specs.declared.part.Part.{Part}
 use Rattle.lrs_events.specs.declared.part.Gone.{Gone}
 use Rattle.lrs_machine.specs.declared.image.Image.{Image}
-use Rattle.lrs_machine.specs.Bounds.{most_pairs, most_assets}
+use Rattle.lrs_measure.specs.Limits.{most_pairs, most_assets}
 use Rattle.lrs_machine.specs.Image.{state_of, reason_of, asset_entry}
 use Rattle.lrs_machine.specs.Readings.{total_entered, total_gone, total_present}
 use Rattle.lrs_machine.specs.Register.{entries}

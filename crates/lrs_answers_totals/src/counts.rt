@@ -76,7 +76,10 @@ impl Counts {
         requires assets { each_two asset_before (image_of kept.now).assets ≡ true }
         requires entered { self.old.entered ≤ length (image_of kept.now).entered }
         requires gone { self.old.gone ≤ length (image_of kept.now).gone }
-        ensures classes { self.new.classes.items ≡ with_gone (image_of kept.now).assets (drop self.old.gone (image_of kept.now).gone) (with_entered (image_of kept.now).assets (drop self.old.entered (image_of kept.now).entered) self.old.classes.items) }
+        ensures classes { self.new.classes.items ≡ with_gone (image_of kept.now).assets
+            (drop self.old.gone (image_of kept.now).gone)
+            (with_entered (image_of kept.now).assets
+            (drop self.old.entered (image_of kept.now).entered) self.old.classes.items) }
         ensures entered { self.new.entered ≡ length (image_of kept.now).entered }
         ensures gone { self.new.gone ≡ length (image_of kept.now).gone }
     {
@@ -94,7 +97,8 @@ impl Counts {
     /// # Errors
     /// `Memory` alone.
     pub fn totals(&self, alloc: Global) -> Result<Rows<Total>, AskFault>
-        ensures { (i : ImageRows) → IsSound i → IsCounted i self.now → UnlessMemory (λ totals. totals ≡ totals_of (state_of i)) result }
+        ensures { (i : ImageRows) → IsSound i → IsCounted i self.now
+            → UnlessMemory (λ totals. totals ≡ totals_of (state_of i)) result }
     {
         match totals_of(alloc, &self.classes) {
             Ok(totals) => Ok(Rows::from_vec(totals)),

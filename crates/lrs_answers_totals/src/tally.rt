@@ -158,7 +158,8 @@ fn insert_at(counts: &mut Vec<Count>, at: usize, count: Count)
 /// Puts the count of a class without rows in its place by name.
 fn put_class(counts: &mut Vec<Count>, class: &Class)
     requires room { vec_len counts.old < vec_capacity counts.old }
-    requires order { each_two count_before (insert_by count_before (no_count class.now) counts.old.items) ≡ true }
+    requires order { each_two count_before (insert_by count_before
+        (no_count class.now) counts.old.items) ≡ true }
     ensures { counts.new.items ≡ insert_by count_before (no_count class.now) counts.old.items }
 {
     let count = no_count(class);

@@ -2,7 +2,7 @@
 
 ghost use Rattle.std.specs.Prelude.{◌≡◌, IfOk, false};
 ghost use Rattle.sqlite.specs.Files.{file_state};
-ghost use Rattle.lrs_machine.specs.Bounds.{most_assets, most_edits, most_routes};
+ghost use Rattle.lrs_measure.specs.Limits.{most_assets, most_edits, most_routes};
 ghost use Rattle.lrs_image.specs.Keeping.{HoldsOnly};
 ghost use Rattle.lrs_store_keeper.specs.Holding.{MayHold};
 
@@ -20,9 +20,11 @@ pub type FileKeeper = TableKeeper<FileStore<FileFrom<Unknown>>, Reader>;
 /// Opens the inventory in a file, or makes one where there is none. The desk acts on what the file holds, and on
 /// nothing else.
 pub fn open_file(rt: &HostRuntime, path: &str) -> Result<Desk<FileKeeper>, ProgramFault>
-    ensures kept { IfOk result (λ desk. HoldsOnly (MayHold (file_state desk.keeper.conn)) desk.image) }
+    ensures kept { IfOk result (λ desk. HoldsOnly
+        (MayHold (file_state desk.keeper.conn)) desk.image) }
     ensures open { IfOk result (λ desk. desk.must_reopen ≡ false) }
-    ensures limits { IfOk result (λ desk. (desk.limits.routes ≡ most_routes) × (desk.limits.assets ≡ most_assets) × (desk.limits.edits ≡ most_edits)) }
+    ensures limits { IfOk result (λ desk. (desk.limits.routes ≡ most_routes)
+        × (desk.limits.assets ≡ most_assets) × (desk.limits.edits ≡ most_edits)) }
 {
     match open_keeper(rt, path, Unknown, Reader) {
         Ok(keeper) => open_desk(keeper, rt.alloc()),

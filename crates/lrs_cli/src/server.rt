@@ -27,7 +27,8 @@ pub fn do_service<R: Runtime<A = Global> + Net, K: Keeper>(
     desk: &mut Desk<K>,
     service: Service,
 ) -> Ending
-    ensures { result ≡ Ending.Done → (full : ℕ) × (cut : ℕ) × (full + cut ≡ service.max) × HasVisited K.may_hold full cut desk.old desk.new }
+    ensures { result ≡ Ending.Done → (full : ℕ) × (cut : ℕ) × (full + cut ≡ service.max)
+        × HasVisited K.may_hold full cut desk.old desk.new }
 {
     match serve(rt, service.port, service.max, desk) {
         Ok(_) => Ending::Done,

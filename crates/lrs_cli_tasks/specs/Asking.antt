@@ -47,11 +47,11 @@ Says {A} Passes text said = (answer : Result A AskFault) × Passes answer × (sa
 
 -- a position on the route of a name, by another method
 abbrev pub IsTranslated : State → Name → Expr → Target → Result Expr AskFault → Type 0
-IsTranslated s route e target = AsksRoute s route (λ a entry_of found. Translates a entry_of e target found × RoundTrip a entry_of e target found)
+IsTranslated s route e target = AsksRoute s route (λ a chainage_on found. Translates a chainage_on e target found × RoundTrip a chainage_on e target found)
 
 -- the link under a position on the route of a name, and how far along the link it is
 abbrev pub IsOnLink : State → Name → Expr → Result (ℕ × Fraction) AskFault → Type 0
-IsOnLink s route e = AsksRoute s route (λ a entry_of found. IsLinkPosition a entry_of e found)
+IsOnLink s route e = AsksRoute s route (λ a chainage_on found. IsLinkPosition a chainage_on e found)
 
 -- the total of every class
 abbrev pub AreTotals : State → Result (List Total) AskFault → Type 0

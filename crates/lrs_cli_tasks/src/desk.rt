@@ -1,7 +1,7 @@
 //! The desk of the inventory that the words name.
 
 ghost use Rattle.std.specs.Prelude.{◌≡◌, ◌↔◌, IfOk, IfErr, IsTrue, codes, false};
-ghost use Rattle.lrs_machine.specs.Bounds.{most_assets, most_edits, most_routes};
+ghost use Rattle.lrs_measure.specs.Limits.{most_assets, most_edits, most_routes};
 ghost use Rattle.lrs_machine.specs.Image.{nothing};
 ghost use Rattle.lrs_image.specs.Keeping.{HoldsOnly};
 ghost use Rattle.lrs_cli_tasks.specs.Faults.{HasNoDesk, fault_of_load, fault_of_open};
@@ -21,7 +21,8 @@ pub fn is_in_memory(db: &str) -> bool
 /// Opens a fresh inventory in memory, which ends with the program.
 pub fn open_in_memory(alloc: Global) -> Result<Desk<Plain>, ProgramFault>
     ensures fresh { IfOk result (λ desk. (desk.image ≡ nothing) × (desk.must_reopen ≡ false)) }
-    ensures limits { IfOk result (λ desk. (desk.limits.routes ≡ most_routes) × (desk.limits.assets ≡ most_assets) × (desk.limits.edits ≡ most_edits)) }
+    ensures limits { IfOk result (λ desk. (desk.limits.routes ≡ most_routes)
+        × (desk.limits.assets ≡ most_assets) × (desk.limits.edits ≡ most_edits)) }
     ensures memory { IfErr result (λ e. e ≡ ProgramFault.Memory) }
 {
     match Desk::open(Plain::empty(alloc), Limits::full(), alloc) {
@@ -59,7 +60,8 @@ fn open_fault(fault: OpenFault) -> ProgramFault
 pub fn open_desk<K: Keeper + Drop>(keeper: K, alloc: Global) -> Result<Desk<K>, ProgramFault>
     ensures kept { IfOk result (λ desk. HoldsOnly (K.may_hold desk.keeper) desk.image) }
     ensures open { IfOk result (λ desk. desk.must_reopen ≡ false) }
-    ensures limits { IfOk result (λ desk. (desk.limits.routes ≡ most_routes) × (desk.limits.assets ≡ most_assets) × (desk.limits.edits ≡ most_edits)) }
+    ensures limits { IfOk result (λ desk. (desk.limits.routes ≡ most_routes)
+        × (desk.limits.assets ≡ most_assets) × (desk.limits.edits ≡ most_edits)) }
     ensures fault { IfErr result (HasNoDesk K.failures K.may_hold keeper) }
 {
     match Desk::open(keeper, Limits::full(), alloc) {

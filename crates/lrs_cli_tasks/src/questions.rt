@@ -64,7 +64,8 @@ fn print_at<K: Keeper, W: Write>(
     writer: &mut W,
 ) -> Result<(), Unanswered>
     requires open { desk.now.must_reopen ≡ false }
-    ensures { IsPrinted (IsAt (state_of desk.now.image) route.now position) (at_text route.now) (W.contents writer.old) (W.contents writer.new) result }
+    ensures { IsPrinted (IsAt (state_of desk.now.image) route.now position) (at_text route.now)
+        (W.contents writer.old) (W.contents writer.new) result }
 {
     let found = desk.at(route, position)?;
     write_at(writer, route, &found)?;
@@ -80,7 +81,9 @@ fn print_translated<K: Keeper, W: Write>(
     writer: &mut W,
 ) -> Result<(), Unanswered>
     requires open { desk.now.must_reopen ≡ false }
-    ensures { IsPrinted (IsTranslated (state_of desk.now.image) route.now position target) expression_line (W.contents writer.old) (W.contents writer.new) result }
+    ensures { IsPrinted
+        (IsTranslated (state_of desk.now.image) route.now position target) expression_line
+        (W.contents writer.old) (W.contents writer.new) result }
 {
     let translated = desk.translate(route, position, target)?;
     write_expression(writer, translated)?;
@@ -95,7 +98,8 @@ fn print_on_link<K: Keeper, W: Write>(
     writer: &mut W,
 ) -> Result<(), Unanswered>
     requires open { desk.now.must_reopen ≡ false }
-    ensures { IsPrinted (IsOnLink (state_of desk.now.image) route.now position) (λ on. link_position_text on.0 on.1) (W.contents writer.old) (W.contents writer.new) result }
+    ensures { IsPrinted (IsOnLink (state_of desk.now.image) route.now position) (λ on.
+        link_position_text on.0 on.1) (W.contents writer.old) (W.contents writer.new) result }
 {
     let (link, distance) = desk.to_link(route, position)?;
     write_link_position(writer, link, distance)?;
@@ -121,7 +125,9 @@ fn print_strip<K: Keeper, W: Write>(
     writer: &mut W,
 ) -> Result<(), Unanswered>
     requires open { desk.now.must_reopen ≡ false }
-    ensures { IsPrinted (IsSegmented (state_of desk.now.image) route.now classes.now side) (strip_text route.now side (length_on (state_of desk.now.image) route.now) classes.now) (W.contents writer.old) (W.contents writer.new) result }
+    ensures { IsPrinted (IsSegmented (state_of desk.now.image) route.now classes.now side)
+        (strip_text route.now side (length_on (state_of desk.now.image) route.now) classes.now)
+        (W.contents writer.old) (W.contents writer.new) result }
 {
     let segments = desk.segments(route, classes, side)?;
     let length = length_of(desk.inventory(), route);
@@ -132,7 +138,8 @@ fn print_strip<K: Keeper, W: Write>(
 // What there is of each class.
 fn print_totals<K: Keeper, W: Write>(desk: &Desk<K>, writer: &mut W) -> Result<(), Unanswered>
     requires open { desk.now.must_reopen ≡ false }
-    ensures { IsPrinted (AreTotals (state_of desk.now.image)) totals_text (W.contents writer.old) (W.contents writer.new) result }
+    ensures { IsPrinted (AreTotals (state_of desk.now.image)) totals_text (W.contents writer.old)
+        (W.contents writer.new) result }
 {
     let totals = desk.totals()?;
     write_totals(writer, totals.as_slice())?;
@@ -146,7 +153,8 @@ fn print_found<K: Keeper, W: Write>(
     writer: &mut W,
 ) -> Result<(), Unanswered>
     requires open { desk.now.must_reopen ≡ false }
-    ensures { IsPrinted (IsFound (state_of desk.now.image) asset) found_text (W.contents writer.old) (W.contents writer.new) result }
+    ensures { IsPrinted (IsFound (state_of desk.now.image) asset) found_text (W.contents writer.old)
+        (W.contents writer.new) result }
 {
     let found = desk.find(asset)?;
     write_found(writer, found.as_slice())?;
@@ -160,7 +168,8 @@ fn print_answer<K: Keeper, W: Write>(
     writer: &mut W,
 ) -> Result<(), Unanswered>
     requires open { desk.now.must_reopen ≡ false }
-    ensures { IsPrinted (IsSaid (state_of desk.now.image) question.now) (λ text. text) (W.contents writer.old) (W.contents writer.new) result }
+    ensures { IsPrinted (IsSaid (state_of desk.now.image) question.now) (λ text.
+        text) (W.contents writer.old) (W.contents writer.new) result }
 {
     match question {
         Question::At { route, position } => print_at(desk, route, *position, writer),
@@ -220,7 +229,8 @@ pub fn answer<K: Keeper, W: Write + Drop>(
     to: W,
 ) -> Result<(W, Ending), ProgramFault>
     requires open { desk.now.must_reopen ≡ false }
-    ensures answered { IfOk result (λ done. HasAnswered (state_of desk.now.image) question.now (W.contents to) (W.contents done.0) done.1) }
+    ensures answered { IfOk result (λ done. HasAnswered (state_of desk.now.image) question.now
+        (W.contents to) (W.contents done.0) done.1) }
     ensures faults { IfErr result (λ e. (e ≡ ProgramFault.Memory) ⊎ (e ≡ ProgramFault.Write)) }
 {
     let Ok(mut writer) = BufWriter::with_capacity(alloc, ANSWER_BUFFER, to) else {

@@ -64,7 +64,9 @@ fn write_replies<S: Read + Drop, W: Write + Drop, K: Keeper>(
     desk: &mut Desk<K>,
 ) -> Result<(W, Result<Tally, SheetFault>), ProgramFault>
     requires together { 1 ≤ together }
-    ensures runs { IfOk result (λ done. IfSome (S.remaining sheet) (λ input. Runs kind together desk.old.limits input (state_of desk.old.image) (state_of desk.new.image) (W.contents to) (W.contents done.0) done.1)) }
+    ensures runs { IfOk result (λ done. IfSome (S.remaining sheet) (λ input.
+        Runs kind together desk.old.limits input (state_of desk.old.image) (state_of desk.new.image)
+        (W.contents to) (W.contents done.0) done.1)) }
     ensures faults { IfErr result (λ e. (e ≡ ProgramFault.Memory) ⊎ (e ≡ ProgramFault.Write)) }
 {
     let Ok(mut writer) = BufWriter::with_capacity(alloc, buffer, to) else {

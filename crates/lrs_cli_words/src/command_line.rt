@@ -57,8 +57,10 @@ fn with_word<'a>(
     id: &'a str,
     help: &'a str,
 ) -> Result<Command<'a>, AllocError>
-    ensures app { IfOk result (λ c. app_of c ≡ with_rule (app_of line.entry) (required id.entry.now)) }
-    ensures local { (out-Command line.entry).has_globals ≡ false → IfOk result (λ c. (out-Command c).has_globals ≡ false) }
+    ensures app { IfOk result (λ c. app_of c ≡ with_rule (app_of line.entry)
+        (required id.entry.now)) }
+    ensures local { (out-Command line.entry).has_globals ≡ false
+        → IfOk result (λ c. (out-Command c).has_globals ≡ false) }
 {
     line.arg(required(alloc, id, help))
 }
@@ -70,7 +72,8 @@ fn line_over<'a>(
     about: &'a str,
     example: &'a str,
 ) -> Result<Command<'a>, AllocError>
-    ensures app { IfOk result (λ c. app_of c ≡ with_rule (new_app name.entry.now) (required (codes "DB"))) }
+    ensures app { IfOk result (λ c. app_of c ≡ with_rule (new_app name.entry.now)
+        (required (codes "DB"))) }
     ensures local { IfOk result (λ c. (out-Command c).has_globals ≡ false) }
 {
     let line = Command::new(alloc, name).about(about).after_help(example);
@@ -165,7 +168,8 @@ fn serve_line<'a>(alloc: Global) -> Result<Command<'a>, AllocError>
 }
 
 fn with_sheets<'a>(alloc: Global, line: Command<'a>) -> Result<Command<'a>, AllocError>
-    ensures { IfOk result (λ c. app_of c ≡ with_job (with_job (app_of line.entry) JobName.Edit) JobName.Survey) }
+    ensures { IfOk result (λ c. app_of c ≡ with_job
+        (with_job (app_of line.entry) JobName.Edit) JobName.Survey) }
 {
     let edit = edit_line(alloc)?;
     let survey = survey_line(alloc)?;
@@ -173,7 +177,8 @@ fn with_sheets<'a>(alloc: Global, line: Command<'a>) -> Result<Command<'a>, Allo
 }
 
 fn with_positions<'a>(alloc: Global, line: Command<'a>) -> Result<Command<'a>, AllocError>
-    ensures { IfOk result (λ c. app_of c ≡ with_job (with_job (app_of line.entry) JobName.At) JobName.Translate) }
+    ensures { IfOk result (λ c. app_of c ≡ with_job
+        (with_job (app_of line.entry) JobName.At) JobName.Translate) }
 {
     let at = at_line(alloc)?;
     let translate = translate_line(alloc)?;
@@ -181,7 +186,8 @@ fn with_positions<'a>(alloc: Global, line: Command<'a>) -> Result<Command<'a>, A
 }
 
 fn with_reports<'a>(alloc: Global, line: Command<'a>) -> Result<Command<'a>, AllocError>
-    ensures { IfOk result (λ c. app_of c ≡ with_job (with_job (with_job (app_of line.entry) JobName.Strip) JobName.Totals) JobName.Find) }
+    ensures { IfOk result (λ c. app_of c ≡ with_job
+        (with_job (with_job (app_of line.entry) JobName.Strip) JobName.Totals) JobName.Find) }
 {
     let strip = strip_line(alloc)?;
     let totals = totals_line(alloc)?;

@@ -6,13 +6,11 @@ ghost use Rattle.lrs_cli_words.specs.Questions.{Asks, AsksNothing, Cannot, Canno
 
 use crate::job::Job;
 use lrs_events::{ClassName, Side, read_side};
+use lrs_measure::limits::GREATEST_ASSET;
 use lrs_measure::{Rows, read_digits};
 use lrs_position::{Expr, Method, RouteName, Target, read_expr, read_method, read_target};
 use std::alloc::{AllocError, Global};
 use std::fmt;
-
-/// The greatest number of an asset.
-const GREATEST_ASSET: u64 = 1_000_000_000_000;
 
 /// The greatest port.
 const GREATEST_PORT: u64 = 65_535;
@@ -185,7 +183,8 @@ fn class_of(text: &str) -> Result<ClassName, QuestionFault>
 
 fn classes_of(alloc: Global, texts: &[&str]) -> Result<Rows<ClassName>, QuestionFault>
     ensures read { IfOk result (λ names. names ≡ map (λ t. t.now) texts.now) }
-    ensures unread { IfErr result (λ e. (e ≡ QuestionFault.Memory) ⊎ CannotClass (map (λ t. t.now) texts.now) e) }
+    ensures unread { IfErr result (λ e. (e ≡ QuestionFault.Memory)
+        ⊎ CannotClass (map (λ t. t.now) texts.now) e) }
 {
     let mut names = Vec::new(alloc);
     for text in texts {

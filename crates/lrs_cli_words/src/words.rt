@@ -35,10 +35,14 @@ impl From<AllocError> for WordsFault {
 // Why `clap` gave no matches. Its texts are for the user.
 fn fault_of(alloc: Global, error: &Error) -> WordsFault
     ensures memory { kind_of error.now ≡ ErrorKind.OutOfMemory → result ≡ WordsFault.Memory }
-    ensures help { (text : _) → result ≡ WordsFault.Help text → kind_of error.now ≡ ErrorKind.DisplayHelp }
-    ensures version { (text : _) → result ≡ WordsFault.Version text → kind_of error.now ≡ ErrorKind.DisplayVersion }
-    ensures other_than_help { (text : _) → result ≡ WordsFault.Usage text → kind_of error.now ≢ ErrorKind.DisplayHelp }
-    ensures other_than_version { (text : _) → result ≡ WordsFault.Usage text → kind_of error.now ≢ ErrorKind.DisplayVersion }
+    ensures help { (text : _) → result ≡ WordsFault.Help text
+        → kind_of error.now ≡ ErrorKind.DisplayHelp }
+    ensures version { (text : _) → result ≡ WordsFault.Version text
+        → kind_of error.now ≡ ErrorKind.DisplayVersion }
+    ensures other_than_help { (text : _) → result ≡ WordsFault.Usage text
+        → kind_of error.now ≢ ErrorKind.DisplayHelp }
+    ensures other_than_version { (text : _) → result ≡ WordsFault.Usage text
+        → kind_of error.now ≢ ErrorKind.DisplayVersion }
 {
     let kind = error.kind();
     let Ok(text) = format!(in alloc; "{error}") else {
@@ -55,7 +59,8 @@ fn fault_of(alloc: Global, error: &Error) -> WordsFault
 // The word that was given for this id.
 fn word_in<'a>(given: &ArgMatches<'a>, id: &str) -> Option<&'a str>
     ensures none { IfNone result (first_of id.now (rows_of (found_of given.now)) ≡ None) }
-    ensures some { IfSome result (λ word. first_of id.now (rows_of (found_of given.now)) ≡ Some word.now) }
+    ensures some { IfSome result (λ word. first_of id.now (rows_of (found_of given.now))
+        ≡ Some word.now) }
 {
     given.get_str(id)
 }
@@ -63,14 +68,17 @@ fn word_in<'a>(given: &ArgMatches<'a>, id: &str) -> Option<&'a str>
 // All words that were given for this id.
 fn words_in<'g, 'a>(given: &'g ArgMatches<'a>, id: &str) -> Option<&'g [&'a str]>
     ensures none { IfNone result (first_of id.now (rows_of (found_of given.now)) ≡ None) }
-    ensures some { IfSome result (λ words. all_of id.now (rows_of (found_of given.now)) ≡ Some (map (λ w. w.now) words.now)) }
+    ensures some { IfSome result (λ words. all_of id.now (rows_of (found_of given.now))
+        ≡ Some (map (λ w. w.now) words.now)) }
 {
     given.get_strs(id)
 }
 
 fn edit_job<'a>(given: &ArgMatches<'a>) -> Option<Job<'a>>
-    ensures job { IfSome result (λ job. (job_name job ≡ JobName.Edit) × HasWords job (rows_of (found_of given.now))) }
-    ensures there { AreGiven (rules_of JobName.Edit) (rows_of (found_of given.now)) → IsSome result }
+    ensures job { IfSome result (λ job. (job_name job ≡ JobName.Edit)
+        × HasWords job (rows_of (found_of given.now))) }
+    ensures there { AreGiven (rules_of JobName.Edit) (rows_of (found_of given.now))
+        → IsSome result }
 {
     let db = word_in(given, "DB")?;
     let sheet = word_in(given, "SHEET")?;
@@ -78,8 +86,10 @@ fn edit_job<'a>(given: &ArgMatches<'a>) -> Option<Job<'a>>
 }
 
 fn survey_job<'a>(given: &ArgMatches<'a>) -> Option<Job<'a>>
-    ensures job { IfSome result (λ job. (job_name job ≡ JobName.Survey) × HasWords job (rows_of (found_of given.now))) }
-    ensures there { AreGiven (rules_of JobName.Survey) (rows_of (found_of given.now)) → IsSome result }
+    ensures job { IfSome result (λ job. (job_name job ≡ JobName.Survey)
+        × HasWords job (rows_of (found_of given.now))) }
+    ensures there { AreGiven (rules_of JobName.Survey) (rows_of (found_of given.now))
+        → IsSome result }
 {
     let db = word_in(given, "DB")?;
     let sheet = word_in(given, "SHEET")?;
@@ -87,7 +97,8 @@ fn survey_job<'a>(given: &ArgMatches<'a>) -> Option<Job<'a>>
 }
 
 fn at_job<'a>(given: &ArgMatches<'a>) -> Option<Job<'a>>
-    ensures job { IfSome result (λ job. (job_name job ≡ JobName.At) × HasWords job (rows_of (found_of given.now))) }
+    ensures job { IfSome result (λ job. (job_name job ≡ JobName.At)
+        × HasWords job (rows_of (found_of given.now))) }
     ensures there { AreGiven (rules_of JobName.At) (rows_of (found_of given.now)) → IsSome result }
 {
     let db = word_in(given, "DB")?;
@@ -103,8 +114,10 @@ fn at_job<'a>(given: &ArgMatches<'a>) -> Option<Job<'a>>
 }
 
 fn translate_job<'a>(given: &ArgMatches<'a>) -> Option<Job<'a>>
-    ensures job { IfSome result (λ job. (job_name job ≡ JobName.Translate) × HasWords job (rows_of (found_of given.now))) }
-    ensures there { AreGiven (rules_of JobName.Translate) (rows_of (found_of given.now)) → IsSome result }
+    ensures job { IfSome result (λ job. (job_name job ≡ JobName.Translate)
+        × HasWords job (rows_of (found_of given.now))) }
+    ensures there { AreGiven (rules_of JobName.Translate) (rows_of (found_of given.now))
+        → IsSome result }
 {
     let db = word_in(given, "DB")?;
     let route = word_in(given, "ROUTE")?;
@@ -124,11 +137,16 @@ fn translate_job<'a>(given: &ArgMatches<'a>) -> Option<Job<'a>>
 fn strip_words<'g, 'a>(
     given: &'g ArgMatches<'a>,
 ) -> Option<(&'a str, &'a str, &'a str, &'g [&'a str])>
-    ensures db { IfSome result (λ words. first_of (codes "DB") (rows_of (found_of given.now)) ≡ Some words.0.now) }
-    ensures route { IfSome result (λ words. first_of (codes "ROUTE") (rows_of (found_of given.now)) ≡ Some words.1.now) }
-    ensures side { IfSome result (λ words. first_of (codes "SIDE") (rows_of (found_of given.now)) ≡ Some words.2.now) }
-    ensures classes { IfSome result (λ words. all_of (codes "CLASS") (rows_of (found_of given.now)) ≡ Some (map (λ w. w.now) words.3.now)) }
-    ensures there { AreGiven (rules_of JobName.Strip) (rows_of (found_of given.now)) → IsSome result }
+    ensures db { IfSome result (λ words. first_of (codes "DB") (rows_of (found_of given.now))
+        ≡ Some words.0.now) }
+    ensures route { IfSome result (λ words. first_of (codes "ROUTE") (rows_of (found_of given.now))
+        ≡ Some words.1.now) }
+    ensures side { IfSome result (λ words. first_of (codes "SIDE") (rows_of (found_of given.now))
+        ≡ Some words.2.now) }
+    ensures classes { IfSome result (λ words. all_of (codes "CLASS") (rows_of (found_of given.now))
+        ≡ Some (map (λ w. w.now) words.3.now)) }
+    ensures there { AreGiven (rules_of JobName.Strip) (rows_of (found_of given.now))
+        → IsSome result }
 {
     let db = word_in(given, "DB")?;
     let route = word_in(given, "ROUTE")?;
@@ -138,8 +156,10 @@ fn strip_words<'g, 'a>(
 }
 
 fn strip_job<'a>(alloc: Global, given: &ArgMatches<'a>) -> Result<Option<Job<'a>>, AllocError>
-    ensures job { IfOk result (λ found. IfSome found (λ job. (job_name job ≡ JobName.Strip) × HasWords job (rows_of (found_of given.now)))) }
-    ensures there { AreGiven (rules_of JobName.Strip) (rows_of (found_of given.now)) → IfOk result (λ found. IsSome found) }
+    ensures job { IfOk result (λ found. IfSome found (λ job.
+        (job_name job ≡ JobName.Strip) × HasWords job (rows_of (found_of given.now)))) }
+    ensures there { AreGiven (rules_of JobName.Strip) (rows_of (found_of given.now))
+        → IfOk result (λ found. IsSome found) }
 {
     match strip_words(given) {
         Some((db, route, side, named)) => {
@@ -157,16 +177,20 @@ fn strip_job<'a>(alloc: Global, given: &ArgMatches<'a>) -> Result<Option<Job<'a>
 }
 
 fn totals_job<'a>(given: &ArgMatches<'a>) -> Option<Job<'a>>
-    ensures job { IfSome result (λ job. (job_name job ≡ JobName.Totals) × HasWords job (rows_of (found_of given.now))) }
-    ensures there { AreGiven (rules_of JobName.Totals) (rows_of (found_of given.now)) → IsSome result }
+    ensures job { IfSome result (λ job. (job_name job ≡ JobName.Totals)
+        × HasWords job (rows_of (found_of given.now))) }
+    ensures there { AreGiven (rules_of JobName.Totals) (rows_of (found_of given.now))
+        → IsSome result }
 {
     let db = word_in(given, "DB")?;
     Some(Job::Totals { db })
 }
 
 fn find_job<'a>(given: &ArgMatches<'a>) -> Option<Job<'a>>
-    ensures job { IfSome result (λ job. (job_name job ≡ JobName.Find) × HasWords job (rows_of (found_of given.now))) }
-    ensures there { AreGiven (rules_of JobName.Find) (rows_of (found_of given.now)) → IsSome result }
+    ensures job { IfSome result (λ job. (job_name job ≡ JobName.Find)
+        × HasWords job (rows_of (found_of given.now))) }
+    ensures there { AreGiven (rules_of JobName.Find) (rows_of (found_of given.now))
+        → IsSome result }
 {
     let db = word_in(given, "DB")?;
     let asset = word_in(given, "ASSET")?;
@@ -174,8 +198,10 @@ fn find_job<'a>(given: &ArgMatches<'a>) -> Option<Job<'a>>
 }
 
 fn serve_job<'a>(given: &ArgMatches<'a>) -> Option<Job<'a>>
-    ensures job { IfSome result (λ job. (job_name job ≡ JobName.Serve) × HasWords job (rows_of (found_of given.now))) }
-    ensures there { AreGiven (rules_of JobName.Serve) (rows_of (found_of given.now)) → IsSome result }
+    ensures job { IfSome result (λ job. (job_name job ≡ JobName.Serve)
+        × HasWords job (rows_of (found_of given.now))) }
+    ensures there { AreGiven (rules_of JobName.Serve) (rows_of (found_of given.now))
+        → IsSome result }
 {
     let db = word_in(given, "DB")?;
     let port = word_in(given, "PORT")?;
@@ -189,8 +215,10 @@ fn job_with<'a>(
     name: JobName,
     given: &ArgMatches<'a>,
 ) -> Result<Option<Job<'a>>, AllocError>
-    ensures job { IfOk result (λ found. IfSome found (λ job. (job_name job ≡ name) × HasWords job (rows_of (found_of given.now)))) }
-    ensures there { AreGiven (rules_of name) (rows_of (found_of given.now)) → IfOk result (λ found. IsSome found) }
+    ensures job { IfOk result (λ found. IfSome found (λ job.
+        (job_name job ≡ name) × HasWords job (rows_of (found_of given.now)))) }
+    ensures there { AreGiven (rules_of name) (rows_of (found_of given.now))
+        → IfOk result (λ found. IsSome found) }
 {
     match name {
         JobName::Edit => Ok(edit_job(given)),
@@ -205,8 +233,10 @@ fn job_with<'a>(
 }
 
 fn job_in<'a>(alloc: Global, matches: &ArgMatches<'a>) -> Result<Option<Job<'a>>, AllocError>
-    ensures job { IfOk result (λ found. IfSome found (λ job. IsMet job (subcommand_rows_of matches.now))) }
-    ensures there { HasJobWords (subcommand_rows_of matches.now) → IfOk result (λ found. IsSome found) }
+    ensures job { IfOk result (λ found. IfSome found (λ job.
+        IsMet job (subcommand_rows_of matches.now))) }
+    ensures there { HasJobWords (subcommand_rows_of matches.now)
+        → IfOk result (λ found. IsSome found) }
 {
     match matches.subcommand() {
         Some((name, given)) => match read_job(name) {
@@ -223,9 +253,12 @@ fn job_in<'a>(alloc: Global, matches: &ArgMatches<'a>) -> Result<Option<Job<'a>>
 /// `Help` and `Version` where they ask for these, `Usage` where they are not understood, and `Memory`.
 pub fn job_of<'a>(alloc: Global, words: &'a [&'a str]) -> Result<Job<'a>, WordsFault>
     ensures job { IfOk result (IsJobOf (map (λ w. w.now) words.now)) }
-    ensures help { (text : _) → result ≡ Err (WordsFault.Help text) → AsksForHelp (map (λ w. w.now) words.now) }
-    ensures version { (text : _) → result ≡ Err (WordsFault.Version text) → AsksForVersion (map (λ w. w.now) words.now) }
-    ensures usage { (text : _) → result ≡ Err (WordsFault.Usage text) → IsMisused (map (λ w. w.now) words.now) }
+    ensures help { (text : _) → result ≡ Err (WordsFault.Help text)
+        → AsksForHelp (map (λ w. w.now) words.now) }
+    ensures version { (text : _) → result ≡ Err (WordsFault.Version text)
+        → AsksForVersion (map (λ w. w.now) words.now) }
+    ensures usage { (text : _) → result ≡ Err (WordsFault.Usage text)
+        → IsMisused (map (λ w. w.now) words.now) }
 {
     let command = program(alloc)?;
     let matches = match command.try_get_matches_from(words) {

@@ -16,7 +16,7 @@ use Rattle.lrs_machine.specs.declared.command.Command.{Command}
 use Rattle.lrs_machine.specs.declared.image.Edit.{Edit}
 use Rattle.lrs_machine.specs.declared.image.Image.{Image}
 use Rattle.lrs_inventory.specs.declared.plan.Plan.{Plan}
-use Rattle.lrs_machine.specs.Bounds.{most_routes, most_assets, most_edits}
+use Rattle.lrs_measure.specs.Limits.{most_routes, most_assets, most_edits}
 use Rattle.lrs_machine.specs.State.{State}
 use Rattle.lrs_machine.specs.State as state
 use Rattle.lrs_machine.specs.Image.{state_of, asset_entry, route_entry}

@@ -26,7 +26,8 @@ impl<K: Keeper> Desk<K> {
     /// `MustReopen` once a commit has failed; then `NoRoute`, and then what the position expression is refused for.
     pub fn at(&self, route: &RouteName, expression: Expr) -> Result<AtAnswer, AskFault>
         ensures reopen { (result ≡ Err AskFault.MustReopen) ↔ IsTrue self.now.must_reopen }
-        ensures answer { self.now.must_reopen ≡ false → IsAt (state_of self.now.image) route.now expression result }
+        ensures answer { self.now.must_reopen ≡ false
+            → IsAt (state_of self.now.image) route.now expression result }
     {
         if self.must_reopen() {
             return Err(AskFault::MustReopen);
@@ -41,7 +42,8 @@ impl<K: Keeper> Desk<K> {
     /// `MustReopen` once a commit has failed; then `NoAsset` where no asset has this number.
     pub fn find(&self, asset: u64) -> Result<Rows<FoundRow>, AskFault>
         ensures reopen { (result ≡ Err AskFault.MustReopen) ↔ IsTrue self.now.must_reopen }
-        ensures answer { self.now.must_reopen ≡ false → IsFound (state_of self.now.image) asset result }
+        ensures answer { self.now.must_reopen ≡ false
+            → IsFound (state_of self.now.image) asset result }
     {
         if self.must_reopen() {
             return Err(AskFault::MustReopen);
@@ -61,7 +63,8 @@ impl<K: Keeper> Desk<K> {
         side: Side,
     ) -> Result<Rows<Segment>, AskFault>
         ensures reopen { (result ≡ Err AskFault.MustReopen) ↔ IsTrue self.now.must_reopen }
-        ensures answer { self.now.must_reopen ≡ false → IsSegmented (state_of self.now.image) route.now wanted.now side result }
+        ensures answer { self.now.must_reopen ≡ false
+            → IsSegmented (state_of self.now.image) route.now wanted.now side result }
     {
         if self.must_reopen() {
             return Err(AskFault::MustReopen);
@@ -77,7 +80,8 @@ impl<K: Keeper> Desk<K> {
     /// `MustReopen` once a commit has failed; else when memory runs out.
     pub fn totals(&self) -> Result<Rows<Total>, AskFault>
         ensures reopen { (result ≡ Err AskFault.MustReopen) ↔ IsTrue self.now.must_reopen }
-        ensures answer { self.now.must_reopen ≡ false → UnlessMemory (λ totals. totals ≡ totals_of (state_of self.now.image)) result }
+        ensures answer { self.now.must_reopen ≡ false
+            → UnlessMemory (λ totals. totals ≡ totals_of (state_of self.now.image)) result }
     {
         if self.must_reopen() {
             return Err(AskFault::MustReopen);
@@ -99,7 +103,10 @@ impl<K: Keeper> Desk<K> {
         target: Target,
     ) -> Result<Expr, AskFault>
         ensures reopen { (result ≡ Err AskFault.MustReopen) ↔ IsTrue self.now.must_reopen }
-        ensures answer { self.now.must_reopen ≡ false → AsksRoute (state_of self.now.image) route.now (λ a entry_of answer. Translates a entry_of expression target answer × RoundTrip a entry_of expression target answer) result }
+        ensures answer { self.now.must_reopen ≡ false
+            → AsksRoute (state_of self.now.image) route.now (λ a chainage_on answer.
+            Translates a chainage_on expression target answer
+            × RoundTrip a chainage_on expression target answer) result }
     {
         if self.must_reopen() {
             return Err(AskFault::MustReopen);
@@ -114,7 +121,9 @@ impl<K: Keeper> Desk<K> {
     /// `MustReopen` once a commit has failed; then `NoRoute`, and then what the position expression is refused for.
     pub fn to_link(&self, route: &RouteName, expression: Expr) -> Result<(u32, Frac), AskFault>
         ensures reopen { (result ≡ Err AskFault.MustReopen) ↔ IsTrue self.now.must_reopen }
-        ensures answer { self.now.must_reopen ≡ false → AsksRoute (state_of self.now.image) route.now (λ a entry_of answer. IsLinkPosition a entry_of expression answer) result }
+        ensures answer { self.now.must_reopen ≡ false
+            → AsksRoute (state_of self.now.image) route.now (λ a chainage_on answer.
+            IsLinkPosition a chainage_on expression answer) result }
     {
         if self.must_reopen() {
             return Err(AskFault::MustReopen);

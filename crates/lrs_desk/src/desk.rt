@@ -101,13 +101,18 @@ impl<K: Keeper> Desk<K> {
     /// `Unsound` with the first unsound table of what is kept, `Keep` if the keeper's device failed.
     pub fn open(mut keeper: K, limits: Limits, alloc: Global) -> Result<Desk<K>, (OpenFault, K)>
         ensures image { IfOk result (λ desk. HoldsOnly (K.may_hold desk.keeper) desk.image) }
-        ensures content { IfOk result (λ desk. (c : Result ImageRows Table) → K.may_hold desk.keeper c → K.may_hold keeper c) }
+        ensures content { IfOk result (λ desk. (c : Result ImageRows Table)
+            → K.may_hold desk.keeper c → K.may_hold keeper c) }
         ensures limits { IfOk result (λ desk. desk.limits ≡ limits) }
         ensures open { IfOk result (λ desk. desk.must_reopen ≡ false) }
-        ensures unsound { IfErr result (λ e. (t : Table) → e.0 ≡ OpenFault.Unsound t → (c : Result ImageRows Table) → K.may_hold e.1 c → c ≡ Err t) }
-        ensures cause { IfErr result (λ e. e.0 ≡ OpenFault.Keep → HasRisen (K.failures keeper) (K.failures e.1)) }
-        ensures quiet { IfErr result (λ e. (e.0 ≡ OpenFault.Keep → ⊥) → K.failures e.1 ≡ K.failures keeper) }
-        ensures err { IfErr result (λ e. (c : Result ImageRows Table) → K.may_hold e.1 c → K.may_hold keeper c) }
+        ensures unsound { IfErr result (λ e. (t : Table) → e.0 ≡ OpenFault.Unsound t
+            → (c : Result ImageRows Table) → K.may_hold e.1 c → c ≡ Err t) }
+        ensures cause { IfErr result (λ e. e.0 ≡ OpenFault.Keep
+            → HasRisen (K.failures keeper) (K.failures e.1)) }
+        ensures quiet { IfErr result (λ e. (e.0 ≡ OpenFault.Keep → ⊥)
+            → K.failures e.1 ≡ K.failures keeper) }
+        ensures err { IfErr result (λ e. (c : Result ImageRows Table) → K.may_hold e.1 c
+            → K.may_hold keeper c) }
     {
         let image = match keeper.load(alloc) {
             Ok(image) => image,
@@ -174,14 +179,16 @@ impl<K: Keeper> Desk<K> {
     pub fn act_on_first(&mut self, commands: &[(Key, Command)]) -> Result<Vec<Answer>, Fault>
         requires some { 1 ≤ length commands.now }
         // The answers and the next state are the ground machine's.
-        ensures does { IfOk result (λ given. DoesFirst self.old.limits (records_of commands.now) (state_of self.old.image) (state_of self.new.image) given.items) }
+        ensures does { IfOk result (λ given. DoesFirst self.old.limits (records_of commands.now)
+            (state_of self.old.image) (state_of self.new.image) given.items) }
         ensures content { OnOk result (HoldsOnly (K.may_hold self.new.keeper) self.new.image) }
 
         // Want of memory changes nothing.
         ensures memory { result ≡ Err Fault.Memory → IsUnchanged K.may_hold self.old self.new }
 
         // A commit fails only where the device does, and then some first commands are kept.
-        ensures keep { result ≡ Err Fault.Keep → BreaksAmid K.may_hold K.failures (records_of commands.now) self.old self.new }
+        ensures keep { result ≡ Err Fault.Keep → BreaksAmid K.may_hold K.failures
+            (records_of commands.now) self.old self.new }
 
         // From then on the desk asks to be opened again, and at no other time.
         ensures reopen { (result ≡ Err Fault.MustReopen) ↔ IsTrue self.old.must_reopen }

@@ -37,7 +37,8 @@ pub fn do_first(
 ) -> Result<Group, AllocError>
     requires some { 1 ≤ length commands.now }
     requires counted { IsCounted inventory.old counts.old }
-    ensures does { IfOk result (λ group. IsGroup limits.now (records_of commands.now) inventory.old inventory.new group.given.items group.changes.items) }
+    ensures does { IfOk result (λ group. IsGroup limits.now
+        (records_of commands.now) inventory.old inventory.new group.given.items group.changes.items) }
     ensures memory { OnErr result (inventory.new ≡ inventory.old) }
     ensures counted { IsCounted inventory.new counts.new }
 {
@@ -74,7 +75,9 @@ impl Group {
         command: &Command,
     ) -> Result<bool, AllocError>
         requires counted { IsCounted inventory.old counts.old }
-        ensures does { IfOk result (DoesNext limits.now key.now command.now inventory.old inventory.new self.old.given.items self.new.given.items self.old.changes.items self.new.changes.items) }
+        ensures does { IfOk result
+            (DoesNext limits.now key.now command.now inventory.old inventory.new
+            self.old.given.items self.new.given.items self.old.changes.items self.new.changes.items) }
         ensures memory { OnErr result (inventory.new ≡ inventory.old) }
         ensures given { OnErr result (self.new.given.items ≡ self.old.given.items) }
         ensures changes { OnErr result (self.new.changes.items ≡ self.old.changes.items) }

@@ -8,7 +8,7 @@ use Rattle.lrs_events.specs.Places.{lies_on}
 use Rattle.lrs_events.specs.Spans.{holds_by_spans}
 use Rattle.lrs_events_rows.specs.RunLaws.{HoldSame, end_within, are_of_class}
 use Rattle.lrs_events_rows.proofs.RunLaws.{held_rows_are_one}
-use Rattle.lrs_machine.specs.declared.image.RouteEntry.{RouteEntry}
+use Rattle.lrs_machine.specs.declared.image.RouteRow.{RouteRow}
 use Rattle.lrs_machine.specs.declared.image.Image.{Image}
 use Rattle.lrs_machine.specs.Image.{state_of, route_entry}
 use Rattle.lrs_machine.specs.Sound.{IsSound}
@@ -17,10 +17,10 @@ use Rattle.lrs_image_laws.proofs.Holding.{alone}
 use Rattle.lrs_desk_laws.specs.Rows.{SayAlike, RowsAreDetermined}
 use Rattle.lrs_desk_laws.proofs.Owned.{own, class_at, its_rows, ends, classes}
 
-abbrev course_of_route : RouteEntry → Name × List Ground
+abbrev course_of_route : RouteRow → Name × List Ground
 course_of_route e = (e.route.name, e.route.course)
 
-abbrev rows_of_route : RouteEntry → Name × List Span
+abbrev rows_of_route : RouteRow → Name × List Span
 rows_of_route e = (e.route.name, e.spans)
 
 pub firsts : {X : Type 0} (x y : X) (xs ys : List X) → x ∷ xs ≡ y ∷ ys → x ≡ y
@@ -29,7 +29,7 @@ firsts x y xs ys h = cc
 pub rests : {X : Type 0} (x y : X) (xs ys : List X) → x ∷ xs ≡ y ∷ ys → xs ≡ ys
 rests x y xs ys h = cc
 
-named_courses : (es : List RouteEntry) → map (λ r. (r.0, r.1.course)) (map route_entry es) ≡ map course_of_route es
+named_courses : (es : List RouteRow) → map (λ r. (r.0, r.1.course)) (map route_entry es) ≡ map course_of_route es
 named_courses [] = refl
 named_courses (e ∷ es) = ap (λ t. course_of_route e ∷ t) (named_courses es)
 
@@ -42,7 +42,7 @@ module _ (i j : Image) (s : IsSound i) (t : IsSound j) (alike : SayAlike (state_
   same_classes n = ap (λ o. unwrap_or o []) (sym (alike.classes n))
 
   -- two routes with one course have one list of rows
-  same_rows : (e f : RouteEntry) → In e i.routes → In f j.routes → e.route.course ≡ f.route.course → e.spans ≡ f.spans
+  same_rows : (e f : RouteRow) → In e i.routes → In f j.routes → e.route.course ≡ f.route.course → e.spans ≡ f.spans
   same_rows e f m k is =
       held_rows_are_one e.route.course (class_at i) e.spans f.spans (alone i e s m).once (its_rows i s e m) (ends i s e m) (classes i s e m) (its_rows j t f k)
       (ap (λ (c : List Ground). end_within (length c) f.spans) is ∙ ends j t f k)
@@ -56,7 +56,7 @@ module _ (i j : Image) (s : IsSound i) (t : IsSound j) (alike : SayAlike (state_
           ∙ sym (own j t f k a p)
           ∙ ap (λ (c : List Ground). holds_by_spans c f.spans a p) (sym is)
 
-  pub rows_alike : (xs ys : List RouteEntry) → ((e : RouteEntry) → In e xs → In e i.routes) → ((f : RouteEntry) → In f ys → In f j.routes)
+  pub rows_alike : (xs ys : List RouteRow) → ((e : RouteRow) → In e xs → In e i.routes) → ((f : RouteRow) → In f ys → In f j.routes)
       → map course_of_route xs ≡ map course_of_route ys → map rows_of_route xs ≡ map rows_of_route ys
   rows_alike [] [] xi yj h = refl
   rows_alike [] (y ∷ ys) xi yj h = absurd (cc h)

@@ -17,7 +17,7 @@ use Rattle.lrs_events.specs.declared.span.Span.{Span}
 use Rattle.lrs_events.specs.Places.{Place, lies_on}
 use Rattle.lrs_events.specs.Spans.{are_rows}
 use Rattle.lrs_events_rows.specs.RunLaws.{end_within, are_of_class}
-use Rattle.lrs_machine.specs.declared.image.RouteEntry.{RouteEntry}
+use Rattle.lrs_machine.specs.declared.image.RouteRow.{RouteRow}
 use Rattle.lrs_machine.specs.declared.image.Image.{Image}
 use Rattle.lrs_machine.specs.Image.{state_of, holds_on, asset_entry}
 use Rattle.lrs_machine.specs.Sound.{is_span, are_spans_of, asset_before, IsSound}
@@ -30,14 +30,14 @@ use Rattle.lrs_image_laws.proofs.Holding.{alone, only_at}
 use Rattle.lrs_desk_laws.specs.Rows.{class_of_asset}
 
 -- what is held lies on the course
-lies_there : (e : RouteEntry) (a : ℕ) (p : Place) → holds_on e a p ≡ true → lies_on e.route.course p ≡ true
+lies_there : (e : RouteRow) (a : ℕ) (p : Place) → holds_on e a p ≡ true → lies_on e.route.course p ≡ true
 lies_there e a p h =
     let k = held e.route.course e.spans a p h in
     any_of (is_at (p.link, p.mm)) k.ground e.route.course k.on_course
     (and_from (nat_eq k.ground.link p.link) (nat_eq k.ground.mm p.mm) (eq-eqb k.ground.link p.link k.on_link) (eq-eqb k.ground.mm p.mm k.at))
 
 -- a route that does not meet another's course holds nothing on it
-not_there : (e y : RouteEntry) (a : ℕ) (p : Place) → lies_on e.route.course p ≡ true → meets e.route.course y.route.course ≡ false → holds_on y a p ≡ false
+not_there : (e y : RouteRow) (a : ℕ) (p : Place) → lies_on e.route.course p ≡ true → meets e.route.course y.route.course ≡ false → holds_on y a p ≡ false
 not_there e y a p on far = by (cases_Bool (holds_on y a p))
   where
     by : (holds_on y a p ≡ true) ⊎ (holds_on y a p ≡ false) → holds_on y a p ≡ false
@@ -48,7 +48,7 @@ not_there e y a p on far = by (cases_Bool (holds_on y a p))
         (any_of (λ (x : Ground). runs_over e.route.course (x.link, x.mm)) k.ground y.route.course k.on_course
         ((λ i. runs_over e.route.course (k.on_link i, k.at i)) ∙ on)))
 
-module _ (i : Image) (s : IsSound i) (e : RouteEntry) (m : In e i.routes) where
+module _ (i : Image) (s : IsSound i) (e : RouteRow) (m : In e i.routes) where
   -- what its rows hold
   pub own : (a : ℕ) (p : Place) → holds_on e a p ≡ ((state_of i).holds a p && lies_on e.route.course p)
   unfolding state_of
@@ -96,10 +96,10 @@ module _ (i : Image) (s : IsSound i) where
   unfolding state_of
   class_is a m = ap (λ o. unwrap_or (option_map (λ x. x.class) o) []) (asset_value a i.assets (assets_in_order i s) m)
 
-  module _ (e : RouteEntry) (m : In e i.routes) where
+  module _ (e : RouteRow) (m : In e i.routes) where
     tests : (are_rows e.spans ≡ true) × (list_all (is_span i.assets (length e.route.course)) e.spans ≡ true)
     tests = and_parts (are_rows e.spans) (list_all (is_span i.assets (length e.route.course)) e.spans)
-        (all_at (λ (f : RouteEntry). are_spans_of i.assets (record { course = f.route.course; rows = f.spans })) e i.routes (old_spans i s) m)
+        (all_at (λ (f : RouteRow). are_spans_of i.assets (record { course = f.route.course; rows = f.spans })) e i.routes (old_spans i s) m)
 
     pub its_rows : are_rows e.spans ≡ true
     its_rows = tests.0

@@ -13,7 +13,7 @@ use Rattle.lrs_measure.specs.Lists.{each_two, is_nothing}
 use Rattle.lrs_measure.specs.Texts.{Name, name_cmp, same_name}
 use Rattle.lrs_element.specs.declared.link.Ground.{Ground}
 use Rattle.lrs_element.specs.declared.marks.Mark.{Mark}
-use Rattle.lrs_element.specs.Limits.{most_marks, greatest_measure}
+use Rattle.lrs_measure.specs.Limits.{most_marks, greatest_measure}
 use Rattle.lrs_element.specs.Course.{is_too_long, turned}
 use Rattle.lrs_element.specs.Marks.{no_mark, is_inner_mark, marks_to, marks_from, joined_marks, mirrored, are_marks, bad_mark, is_out_of_range}
 use Rattle.lrs_element.proofs.LineLemmas.{KeepRules-from_none, ends_at}
@@ -24,7 +24,7 @@ use Rattle.lrs_machine.specs.declared.answer.Cause.TheVariants as cause
 use Rattle.lrs_machine.specs.declared.command.Command.{Command}
 use Rattle.lrs_machine.specs.declared.command.Command.TheVariants as verb
 use Rattle.lrs_machine.specs.declared.image.Image.{Image}
-use Rattle.lrs_machine.specs.declared.image.RouteEntry.{RouteEntry}
+use Rattle.lrs_machine.specs.declared.image.RouteRow.{RouteRow}
 use Rattle.lrs_machine.specs.Image.{state_of, route_entry}
 use Rattle.lrs_machine.specs.Machine.{attempt, ◌>>=◌, ◌>>◌, refuse_if, route_named, set_route, drop_route, do_join_of}
 use Rattle.lrs_machine.specs.Register.{put, get, contains_key, entries}
@@ -150,7 +150,7 @@ filed_with : (s : State) (edits : List Edit) → IsFiled s → IsFiled (record s
 filed_with s edits h = record { order = h.order; fit = h.fit }
 
 -- what is found is a route's
-alignment_of : (routes : List RouteEntry) (name : Name) (a : Alignment) → find name_cmp name (map route_entry routes) ≡ Some a → IsFit a
+alignment_of : (routes : List RouteRow) (name : Name) (a : Alignment) → find name_cmp name (map route_entry routes) ≡ Some a → IsFit a
 alignment_of [] name a h = absurd (cc h)
 alignment_of (e ∷ es) name a h = by (eq_by_cmp name_cmp name e.route.name) h (alignment_of es name a)
   where

@@ -20,9 +20,16 @@ use std::alloc::Global;
 /// # Errors
 /// Those of `Desk::open`; what is stored is as it was.
 pub fn open<K: Keeper>(keeper: K, limits: Limits, alloc: Global) -> Result<Desk<K>, (OpenFault, K)>
-    ensures step { IfOk result (λ desk. (start : State) (xs : List Step) (c : Result ImageRows ImageTable) → IsAtRest limits start xs (K.may_hold keeper) → K.may_hold desk.keeper c → IsInRun K.may_hold limits start (xs ++ Open ∷ []) desk) }
-    ensures fold { IfOk result (λ desk. (start : State) (xs : List Step) (c : Result ImageRows ImageTable) → IsAtRest limits start xs (K.may_hold keeper) → K.may_hold desk.keeper c → IsMadeBy limits start (xs ++ Open ∷ []) (state_of desk.image)) }
-    ensures failed { IfErr result (λ e. (start : State) (xs : List Step) → IsAtRest limits start xs (K.may_hold keeper) → IsAtRest limits start (xs ++ Stop ∷ []) (K.may_hold e.1)) }
+    ensures step { IfOk result (λ desk. (start : State) (xs : List Step)
+        (c : Result ImageRows ImageTable) → IsAtRest limits start xs (K.may_hold keeper)
+        → K.may_hold desk.keeper c → IsInRun K.may_hold limits start (xs ++ Open ∷ []) desk) }
+    ensures fold { IfOk result (λ desk. (start : State) (xs : List Step)
+        (c : Result ImageRows ImageTable) → IsAtRest limits start xs (K.may_hold keeper)
+        → K.may_hold desk.keeper c → IsMadeBy limits start (xs ++ Open ∷ [])
+        (state_of desk.image)) }
+    ensures failed { IfErr result (λ e. (start : State) (xs : List Step)
+        → IsAtRest limits start xs (K.may_hold keeper)
+        → IsAtRest limits start (xs ++ Stop ∷ []) (K.may_hold e.1)) }
 {
     Desk::open(keeper, limits, alloc)
 }
@@ -36,14 +43,19 @@ pub fn act_on_first<K: Keeper>(
     commands: &[(Key, Command)],
 ) -> Result<Vec<Answer>, Fault>
     requires some { 1 ≤ length commands.now }
-    ensures step { (limits : DeskLimits) (start : State) (xs : List Step) → IsInRun K.may_hold limits start xs desk.old → (steps : List Step) × AreStepsOf (records_of commands.now) result steps × IsInRun K.may_hold limits start (xs ++ steps) desk.new }
+    ensures step { (limits : DeskLimits) (start : State) (xs : List Step)
+        → IsInRun K.may_hold limits start xs desk.old
+        → (steps : List Step) × AreStepsOf (records_of commands.now) result steps
+        × IsInRun K.may_hold limits start (xs ++ steps) desk.new }
 {
     desk.act_on_first(commands)
 }
 
 /// Lets a desk go between two commands; the keeper can be opened again.
 pub fn close<K: Keeper>(desk: Desk<K>) -> K
-    ensures step { (limits : DeskLimits) (start : State) (xs : List Step) → IsInRun K.may_hold limits start xs desk → IsAtRest limits start (xs ++ Stop ∷ []) (K.may_hold result) }
+    ensures step { (limits : DeskLimits) (start : State) (xs : List Step)
+        → IsInRun K.may_hold limits start xs desk → IsAtRest limits start (xs ++ Stop ∷ [])
+        (K.may_hold result) }
 {
     desk.into_keeper()
 }

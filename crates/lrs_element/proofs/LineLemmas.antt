@@ -8,7 +8,7 @@ use Rattle.std.proofs.lemmas.Int.{ints}
 use Rattle.std.proofs.lemmas.Bool.{or_parts, not-false, and_parts, ltb-true, ltb-false, eqb-true}
 use Rattle.std.proofs.lemmas.Option.{get_or_from_slice_get, slice_get_within}
 use Rattle.lrs_element.specs.declared.marks.Mark.{Mark}
-use Rattle.lrs_element.specs.Limits.{most_marks}
+use Rattle.lrs_measure.specs.Limits.{most_marks}
 use Rattle.lrs_element.specs.Marks.{no_mark, last_of, first_mark, last_mark, is_out_of_order, misses_the_end, first_bad_mark, bad_mark, are_marks, IsBetween, IsOnLine}
 use Rattle.lrs_element.specs.Line.{Rises, IsFirstFrom, AreAt, AreRound, IsOutside, IsReadable, HasMeasure, chainage_of, measure_of}
 use Rattle.lrs_measure.specs.Fraction.{Fraction, IsQuotient}

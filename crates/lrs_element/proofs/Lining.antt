@@ -8,7 +8,7 @@ use Rattle.std.proofs.lemmas.List.{length-map, length-take, length-drop, length-
 use Rattle.std.proofs.lemmas.List.Folds.{Any-from_list_any, list_any_at, list_any-append, list_any_none}
 use Rattle.std.proofs.lemmas.List.Elements.{filter-append}
 use Rattle.lrs_element.specs.declared.marks.Mark.{Mark}
-use Rattle.lrs_element.specs.Limits.{greatest_measure, most_marks}
+use Rattle.lrs_measure.specs.Limits.{greatest_measure, most_marks}
 use Rattle.lrs_element.specs.Marks.{no_mark, last_of, first_mark, last_mark, is_out_of_order, misses_the_end, first_bad_mark, bad_mark, are_marks, is_inner_mark, marks_to, marks_from, joined_marks, mirrored, is_out_of_range}
 use Rattle.lrs_element.specs.Lines.{moved_on, mark_at, Rises, IsLine}
 

@@ -6,7 +6,7 @@ use Rattle.lrs_measure.specs.Lists.{same_bool, each_two}
 use Rattle.lrs_element.specs.declared.link.Link.{Link}
 use Rattle.lrs_element.specs.declared.link.Piece.{Piece}
 use Rattle.lrs_element.specs.declared.link.Ground.{Ground}
-use Rattle.lrs_element.specs.Limits.{longest_route, most_pieces}
+use Rattle.lrs_measure.specs.Limits.{longest_route, most_pieces}
 
 -- the millimetres of a piece in the order in which it runs over them
 abbrev pub millimetres : Piece → List ℕ
@@ -40,8 +40,8 @@ abbrev pub ground_at : List Ground → ℕ → Option Millimetre
 ground_at course j = option_map (λ g. (g.link, g.mm)) (slice_get course j)
 
 -- at which entry of a course a ground millimetre is
-abbrev pub entry_of : List Ground → Millimetre → Option ℕ
-entry_of course m = position (is_at m) course
+abbrev pub chainage_on : List Ground → Millimetre → Option ℕ
+chainage_on course m = position (is_at m) course
 
 -- the course from its other end
 abbrev pub turned : List Ground → List Ground

@@ -1,4 +1,3 @@
-pub mod Limits
 pub mod Course
 pub mod Pieces
 pub mod Faults

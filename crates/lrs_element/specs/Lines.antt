@@ -1,7 +1,7 @@
 -- Marks place by place: what each of them keeps.
 use Rattle.std.specs.Prelude.{◌≡◌, ℕ, ◌+◌, ◌-◌, ◌<◌, ◌≤◌, List, length, slice_index_or}
 use Rattle.lrs_element.specs.declared.marks.Mark.{Mark}
-use Rattle.lrs_element.specs.Limits.{greatest_measure, most_marks}
+use Rattle.lrs_measure.specs.Limits.{greatest_measure, most_marks}
 use Rattle.lrs_element.specs.Marks.{no_mark}
 
 abbrev pub mark_at : List Mark → ℕ → Mark

@@ -3,7 +3,7 @@ use Rattle.std.specs.Prelude.{◌≡◌, ℕ, ◌+◌, ◌-◌, ◌*◌, ◌≤�
 use Rattle.std.specs.List.{list_any}
 use Rattle.std.specs.Option.{option_map}
 use Rattle.lrs_element.specs.declared.marks.Mark.{Mark}
-use Rattle.lrs_element.specs.Limits.{greatest_measure, most_marks}
+use Rattle.lrs_measure.specs.Limits.{greatest_measure, most_marks}
 
 abbrev pub no_mark : Mark
 no_mark = record { chainage = 0; measure = 0 }

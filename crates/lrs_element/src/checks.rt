@@ -47,8 +47,12 @@ pub(crate) fn first_bad_piece<L: KnownLinks>(links: &L, pieces: &[Piece]) -> Opt
 
 /// Whether two neighbours share a millimetre.
 fn neighbours_meet(pieces: &[Piece]) -> bool
-    ensures meet { OnTrue result ((k : ℕ) × (k + 1 < length pieces.now) × ((d : Piece) → pieces_meet (slice_index_or pieces.now k d) (slice_index_or pieces.now (k + 1) d) ≡ true)) }
-    ensures apart { OnFalse result ((k : ℕ) (d : Piece) → k + 1 < length pieces.now → pieces_meet (slice_index_or pieces.now k d) (slice_index_or pieces.now (k + 1) d) ≡ false) }
+    ensures meet { OnTrue result ((k : ℕ) × (k + 1 < length pieces.now)
+        × ((d : Piece) → pieces_meet (slice_index_or pieces.now k d)
+        (slice_index_or pieces.now (k + 1) d) ≡ true)) }
+    ensures apart { OnFalse result ((k : ℕ) (d : Piece) → k + 1 < length pieces.now
+        → pieces_meet (slice_index_or pieces.now k d) (slice_index_or pieces.now (k + 1) d)
+        ≡ false) }
 {
     for i in 1..pieces.len() {
         if pieces[i - 1].meets(pieces[i]) {
@@ -61,7 +65,8 @@ fn neighbours_meet(pieces: &[Piece]) -> bool
 /// The pieces sorted by link and start.
 fn sorted_by_start(alloc: Global, pieces: &[Piece]) -> Result<Vec<Piece>, AllocError>
     ensures permutation { IfOk result (λ sorted. IsPermutation pieces.now sorted.items) }
-    ensures sorted { IfOk result (λ sorted. AllAdjacentBelow IsInOrder sorted.items (length sorted.items)) }
+    ensures sorted { IfOk result (λ sorted. AllAdjacentBelow IsInOrder sorted.items
+        (length sorted.items)) }
 {
     let mut sorted = Vec::from_slice(alloc, pieces)?;
     sorted.sort_unstable_by_key(|piece| (piece.link, piece.from));

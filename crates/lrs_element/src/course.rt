@@ -8,16 +8,11 @@ use crate::checks::{first_bad_piece, first_repeated, first_unlinked};
 use crate::known_links::KnownLinks;
 use crate::link::{Ground, Piece};
 use crate::pieces::{fewest_of, one_meets, push_range, starts_of, starts_up_to, turned_pieces};
+use lrs_measure::limits::{LONGEST_ROUTE, MOST_PIECES};
 use std::alloc::{AllocError, Global};
 use std::error::Error;
 use std::fmt;
 use std::marker::Model;
-
-/// The most pieces of a route, counted in the fewest pieces.
-const MOST_PIECES: usize = 1_000;
-
-/// The length in millimetres that a route may have.
-pub(crate) const LONGEST_ROUTE: u64 = 10_000_000_000;
 
 /// Why courses are not joined.
 #[derive(Clone, Copy, Debug, PartialEq, Eq)]
@@ -158,10 +153,19 @@ impl Course {
         requires { IsTrue (are_in_order (L.links links.now)) }
         ensures course { IfOk result (λ course. course ≡ course_of pieces.now) }
         ensures ok { OnOk result (AreGood (L.links links.now) pieces.now) }
-        ensures no_link { (i : ℕ) → result ≡ Err (CourseFault.NoLink i) → position (lacks_link (L.links links.now)) pieces.now ≡ Some i }
-        ensures bad_piece { (i : ℕ) → result ≡ Err (CourseFault.BadPiece i) → (position (lacks_link (L.links links.now)) pieces.now ≡ None) × (position (is_bad_piece (L.links links.now)) pieces.now ≡ Some i) }
-        ensures twice { (i : ℕ) → result ≡ Err (CourseFault.Twice i) → (position (lacks_link (L.links links.now)) pieces.now ≡ None) × (position (is_bad_piece (L.links links.now)) pieces.now ≡ None) × (first_repeated [] pieces.now ≡ Some i) }
-        ensures too_long { result ≡ Err CourseFault.TooLong → (position (lacks_link (L.links links.now)) pieces.now ≡ None) × (position (is_bad_piece (L.links links.now)) pieces.now ≡ None) × (first_repeated [] pieces.now ≡ None) × (is_too_long (course_of pieces.now) ≡ true) }
+        ensures no_link { (i : ℕ) → result ≡ Err (CourseFault.NoLink i)
+            → position (lacks_link (L.links links.now)) pieces.now ≡ Some i }
+        ensures bad_piece { (i : ℕ) → result ≡ Err (CourseFault.BadPiece i)
+            → (position (lacks_link (L.links links.now)) pieces.now ≡ None)
+            × (position (is_bad_piece (L.links links.now)) pieces.now ≡ Some i) }
+        ensures twice { (i : ℕ) → result ≡ Err (CourseFault.Twice i)
+            → (position (lacks_link (L.links links.now)) pieces.now ≡ None)
+            × (position (is_bad_piece (L.links links.now)) pieces.now ≡ None)
+            × (first_repeated [] pieces.now ≡ Some i) }
+        ensures too_long { result ≡ Err CourseFault.TooLong
+            → (position (lacks_link (L.links links.now)) pieces.now ≡ None)
+            × (position (is_bad_piece (L.links links.now)) pieces.now ≡ None)
+            × (first_repeated [] pieces.now ≡ None) × (is_too_long (course_of pieces.now) ≡ true) }
     {
         if let Some(i) = first_unlinked(links, pieces) {
             return Err(CourseFault::NoLink(i));
@@ -195,7 +199,8 @@ impl Course {
         requires { IsFewest pieces.items }
         ensures ok { IfOk result (λ course. course ≡ course_of pieces.items) }
         ensures limits { IsOk result → is_too_long (course_of pieces.items) ≡ false }
-        ensures too_long { result ≡ Err JoinFault.TooLong → is_too_long (course_of pieces.items) ≡ true }
+        ensures too_long { result ≡ Err JoinFault.TooLong
+            → is_too_long (course_of pieces.items) ≡ true }
     {
         if pieces.len() > MOST_PIECES {
             return Err(JoinFault::TooLong);
@@ -255,7 +260,8 @@ impl Course {
     pub fn meets(&self, other: &Course) -> Option<u32>
         ensures apart { IfNone result (meets self.now other.now ≡ false) }
         ensures shared { IfSome result (λ link. share_link self.now other.now link ≡ true) }
-        ensures least { IfSome result (λ link. (n : ℕ) → n < link → share_link self.now other.now n ≡ false) }
+        ensures least { IfSome result (λ link. (n : ℕ) → n < link
+            → share_link self.now other.now n ≡ false) }
     {
         let mut least = None;
         for piece in &self.pieces {
@@ -311,7 +317,8 @@ impl Course {
     pub fn concat(&mut self, other: &Course) -> Result<(), JoinFault>
         ensures ok { OnOk result (self.new ≡ self.old ++ other.now) }
         ensures limits { IsOk result → is_too_long (self.old ++ other.now) ≡ false }
-        ensures too_long { result ≡ Err JoinFault.TooLong → is_too_long (self.old ++ other.now) ≡ true }
+        ensures too_long { result ≡ Err JoinFault.TooLong
+            → is_too_long (self.old ++ other.now) ≡ true }
         ensures err { OnErr result (self.new ≡ self.old) }
     {
         self.replace(self.len, self.len, other)
@@ -325,8 +332,10 @@ impl Course {
         requires order { from ≤ to }
         requires inside { to ≤ length self.old }
         ensures ok { OnOk result (self.new ≡ take from self.old ++ other.now ++ drop to self.old) }
-        ensures limits { IsOk result → is_too_long (take from self.old ++ other.now ++ drop to self.old) ≡ false }
-        ensures too_long { result ≡ Err JoinFault.TooLong → is_too_long (take from self.old ++ other.now ++ drop to self.old) ≡ true }
+        ensures limits { IsOk result → is_too_long
+            (take from self.old ++ other.now ++ drop to self.old) ≡ false }
+        ensures too_long { result ≡ Err JoinFault.TooLong
+            → is_too_long (take from self.old ++ other.now ++ drop to self.old) ≡ true }
         ensures err { OnErr result (self.new ≡ self.old) }
     {
         *self = self.replaced(from, to, other)?;
@@ -337,9 +346,12 @@ impl Course {
     fn replaced(&self, from: u64, to: u64, other: &Course) -> Result<Course, JoinFault>
         requires order { from ≤ to }
         requires inside { to ≤ length self.now }
-        ensures ok { IfOk result (λ course. course ≡ take from self.now ++ other.now ++ drop to self.now) }
-        ensures limits { IsOk result → is_too_long (take from self.now ++ other.now ++ drop to self.now) ≡ false }
-        ensures too_long { result ≡ Err JoinFault.TooLong → is_too_long (take from self.now ++ other.now ++ drop to self.now) ≡ true }
+        ensures ok { IfOk result (λ course. course ≡ take from self.now ++ other.now
+            ++ drop to self.now) }
+        ensures limits { IsOk result → is_too_long
+            (take from self.now ++ other.now ++ drop to self.now) ≡ false }
+        ensures too_long { result ≡ Err JoinFault.TooLong
+            → is_too_long (take from self.now ++ other.now ++ drop to self.now) ≡ true }
     {
         let mut pieces = Vec::new(*self.pieces.allocator());
         push_range(&mut pieces, &self.pieces, 0, from)?;

@@ -26,8 +26,10 @@ pub trait KnownLinks {
 fn links_below(links: &[Link], number: u32) -> usize
     requires { AllPairs (λ l m. l.number < m.number) links.now }
     ensures bound { result ≤ length links.now }
-    ensures below { (k : ℕ) (l : Link) → k < result → (slice_index_or links.now k l).number < number }
-    ensures from { (k : ℕ) (l : Link) → result ≤ k → k < length links.now → number ≤ (slice_index_or links.now k l).number }
+    ensures below { (k : ℕ) (l : Link) → k < result
+        → (slice_index_or links.now k l).number < number }
+    ensures from { (k : ℕ) (l : Link) → result ≤ k → k < length links.now
+        → number ≤ (slice_index_or links.now k l).number }
 {
     links.partition_point(|link| link.number < number)
 }

@@ -2,16 +2,13 @@
 
 ghost use Rattle.std.specs.Prelude.{◌≡◌, ◌+◌, ◌-◌, ◌*◌, ◌<◌, ◌≤◌, ◌≤ℤ◌, ◌↔◌, ◌⊎◌, pos, length, slice_get, Some, None, IsTrue, IsSome, IfSome, IsSomeAnd, MatchOption};
 ghost use Rattle.lrs_measure.specs.Fraction.{IsLowest, IsQuotient};
-ghost use Rattle.lrs_element.specs.Limits.{longest_route, greatest_measure};
+ghost use Rattle.lrs_measure.specs.Limits.{longest_route, greatest_measure};
 ghost use Rattle.lrs_element.specs.Marks.{are_marks, first_mark, last_mark};
 ghost use Rattle.lrs_element.specs.Line.{IsReadable, HasMeasure, IsFirstFrom, AreAt, AreRound, IsOutside, chainage_of, measure_of};
 
-use crate::course::LONGEST_ROUTE;
 use crate::marks::{Mark, Marks, last_mark};
 use lrs_measure::Frac;
-
-/// The finest denominator at which the line is read.
-const FINEST: u128 = 10_000_000_000_000_000;
+use lrs_measure::limits::{FINEST, LONGEST_ROUTE};
 
 /// A point of a straight line: a place on one scale, and the value there on the other.
 #[derive(Clone, Copy)]
@@ -43,7 +40,9 @@ fn straight(p: Knot, q: Knot, n: u128, d: u128) -> Option<Frac>
     requires fine { d ≤ FINEST }
     requires from { p.place * d ≤ n }
     requires to { n ≤ q.place * d }
-    ensures value { IsSomeAnd result (λ v. IsQuotient v (pos (p.value * ((q.place - p.place) * d) + (n - p.place * d) * (q.value - p.value))) ((q.place - p.place) * d)) }
+    ensures value { IsSomeAnd result (λ v. IsQuotient v
+        (pos (p.value * ((q.place - p.place) * d) + (n - p.place * d) * (q.value - p.value)))
+        ((q.place - p.place) * d)) }
     ensures lowest { IfSome result (λ v. IsLowest v) }
 {
     let width = (q.place - p.place) as u128 * d;
@@ -74,7 +73,8 @@ fn measures_below(marks: &[Mark], n: u128, d: u128) -> usize
 /// The mark before place `at` of the list and the one at that place; for the first place, the first two.
 fn neighbours(marks: &[Mark], at: usize) -> Option<(Mark, Mark)>
     requires { at ≤ length marks.now }
-    ensures { MatchOption result ((length marks.now ≤ 1) ⊎ (at ≡ length marks.now)) (λ pair. AreAt marks.now at pair.0 pair.1) }
+    ensures { MatchOption result ((length marks.now ≤ 1) ⊎ (at ≡ length marks.now)) (λ pair.
+        AreAt marks.now at pair.0 pair.1) }
 {
     let next = at.max(1);
     if next >= marks.len() {
@@ -88,7 +88,8 @@ fn round_chainage(marks: &[Mark], n: u128, d: u128) -> Option<(Mark, Mark)>
     requires marks { IsTrue (are_marks marks.now) }
     requires short { (last_mark marks.now).chainage ≤ longest_route }
     requires fine { d ≤ FINEST }
-    ensures { MatchOption result (IsOutside chainage_of marks.now n d) (λ pair. AreRound chainage_of marks.now n d pair.0 pair.1) }
+    ensures { MatchOption result (IsOutside chainage_of marks.now n d) (λ pair.
+        AreRound chainage_of marks.now n d pair.0 pair.1) }
 {
     let at = chainages_below(marks, n, d);
     match neighbours(marks, at) {
@@ -108,7 +109,8 @@ fn round_measure(marks: &[Mark], n: u128, d: u128) -> Option<(Mark, Mark)>
     requires marks { IsTrue (are_marks marks.now) }
     requires short { (last_mark marks.now).chainage ≤ longest_route }
     requires fine { d ≤ FINEST }
-    ensures { MatchOption result (IsOutside measure_of marks.now n d) (λ pair. AreRound measure_of marks.now n d pair.0 pair.1) }
+    ensures { MatchOption result (IsOutside measure_of marks.now n d) (λ pair.
+        AreRound measure_of marks.now n d pair.0 pair.1) }
 {
     let at = measures_below(marks, n, d);
     match neighbours(marks, at) {
@@ -136,7 +138,8 @@ impl Marks {
     /// `None` outside the marks, where the denominator is above 10^16, and on marks that end above
     /// 10,000,000,000 mm, which are of no route.
     pub fn measure_at(&self, chainage: Frac) -> Option<Frac>
-        ensures some { (last_mark self.now).chainage ≤ longest_route → (IsSome result ↔ IsReadable 0 (last_mark self.now).chainage chainage) }
+        ensures some { (last_mark self.now).chainage ≤ longest_route
+            → (IsSome result ↔ IsReadable 0 (last_mark self.now).chainage chainage) }
         ensures none { longest_route < (last_mark self.now).chainage → result ≡ None }
         ensures value { IfSome result (λ measure. HasMeasure self.now chainage measure) }
         ensures lowest { IfSome result (λ measure. IsLowest measure) }
@@ -165,7 +168,9 @@ impl Marks {
     /// `None` outside the marks, where the denominator is above 10^16, and on marks that end above
     /// 10,000,000,000 mm, which are of no route.
     pub fn chainage_at(&self, measure: Frac) -> Option<Frac>
-        ensures some { (last_mark self.now).chainage ≤ longest_route → (IsSome result ↔ IsReadable (first_mark self.now).measure (last_mark self.now).measure measure) }
+        ensures some { (last_mark self.now).chainage ≤ longest_route
+            → (IsSome result ↔ IsReadable (first_mark self.now).measure
+            (last_mark self.now).measure measure) }
         ensures none { longest_route < (last_mark self.now).chainage → result ≡ None }
         ensures value { IfSome result (λ chainage. HasMeasure self.now chainage measure) }
         ensures lowest { IfSome result (λ chainage. IsLowest chainage) }

@@ -1,7 +1,7 @@
 //! Links, their pieces and their millimetres.
 
 ghost use Rattle.std.specs.Prelude.{IsTrue};
-ghost use Rattle.lrs_element.specs.Limits.{is_link};
+ghost use Rattle.lrs_measure.specs.Limits.{is_link};
 
 /// A permanent linear element of fixed length (ISO 19148, linear element).
 ///

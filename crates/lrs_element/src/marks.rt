@@ -1,20 +1,15 @@
 //! Marks: the measure line of a route.
 
 ghost use Rattle.std.specs.Prelude.{◌≡◌, ℕ, ◌+◌, ◌-◌, ◌^◌, ◌≤◌, ◌<◌, ◌↔◌, ◌++◌, ◌||◌, ◌&&◌, not, nat_lt, nat_eq, None, false, reverse, map, drop, length, IsTrue, IsOk, IfOk, IfErr, OnOk, OnErr};
-ghost use Rattle.lrs_element.specs.Limits.{greatest_measure, most_marks};
+ghost use Rattle.lrs_measure.specs.Limits.{greatest_measure, most_marks};
 ghost use Rattle.lrs_element.specs.Lines.{moved_on};
 ghost use Rattle.lrs_element.specs.Marks.{is_out_of_order, first_bad_mark, bad_mark, are_marks, is_inner_mark, first_mark, last_mark, marks_to, marks_from, joined_marks, mirrored, is_out_of_range};
 
+use lrs_measure::limits::{GREATEST_MEASURE, MOST_MARKS};
 use std::alloc::{AllocError, Global};
 use std::error::Error;
 use std::fmt;
 use std::marker::Model;
-
-/// The most marks of a route.
-const MOST_MARKS: usize = 1_000;
-
-/// The greatest measure of a mark.
-const GREATEST_MEASURE: u64 = 100_000_000_000;
 
 /// A measure at a chainage, which is in millimetres from the start of a route.
 #[derive(Clone, Copy, Debug, PartialEq, Eq)]
@@ -53,7 +48,8 @@ fn is_out_of_order(before: Option<Mark>, mark: Mark) -> bool
 
 /// Whether a mark breaks a rule, for a course of this length.
 fn is_bad(before: Option<Mark>, mark: Mark, is_last: bool, len: u64) -> bool
-    ensures { result ≡ (is_out_of_order before mark || nat_lt greatest_measure mark.measure || (is_last && not (nat_eq mark.chainage len))) }
+    ensures { result ≡ (is_out_of_order before mark || nat_lt greatest_measure mark.measure
+        || (is_last && not (nat_eq mark.chainage len))) }
 {
     is_out_of_order(before, mark)
         || mark.measure > GREATEST_MEASURE

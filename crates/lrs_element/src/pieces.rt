@@ -4,7 +4,7 @@ ghost use Rattle.std.specs.Prelude.{◌≡◌, ℕ, ◌+◌, ◌-◌, ◌<◌, �
 ghost use Rattle.std.specs.List.{AllByRecursion, list_any};
 ghost use Rattle.std.specs.List.Sorted.{IsNonDecreasing};
 ghost use Rattle.lrs_element.specs.Course.{expand, course_of, turned, IsFewest};
-ghost use Rattle.lrs_element.specs.Limits.{most_pieces};
+ghost use Rattle.lrs_measure.specs.Limits.{most_pieces};
 ghost use Rattle.lrs_element.specs.Pieces.{pieces_meet, IsFilled, IsContinuedAt, ContinuesNone, AreStarts};
 
 use crate::link::Piece;
@@ -27,7 +27,8 @@ fn continued_place(pieces: &[Piece], piece: Piece) -> Option<usize>
 pub(crate) fn push_piece(pieces: &mut Vec<Piece>, piece: Piece) -> Result<(), AllocError>
     requires filled { IsFilled piece }
     requires fewest { IsFewest pieces.old.items }
-    ensures ok { OnOk result (course_of pieces.new.items ≡ course_of pieces.old.items ++ expand piece) }
+    ensures ok { OnOk result (course_of pieces.new.items ≡ course_of pieces.old.items
+        ++ expand piece) }
     ensures err { OnErr result (pieces.new.items ≡ pieces.old.items) }
     ensures fewest { IsFewest pieces.new.items }
     ensures count { length pieces.new.items ≤ length pieces.old.items + 1 }
@@ -46,7 +47,8 @@ pub(crate) fn push_piece(pieces: &mut Vec<Piece>, piece: Piece) -> Result<(), Al
 fn push_part(pieces: &mut Vec<Piece>, piece: Piece, from: u64, to: u64) -> Result<(), AllocError>
     requires filled { IsFilled piece }
     requires fewest { IsFewest pieces.old.items }
-    ensures ok { OnOk result (course_of pieces.new.items ≡ course_of pieces.old.items ++ take (to - from) (drop from (expand piece))) }
+    ensures ok { OnOk result (course_of pieces.new.items ≡ course_of pieces.old.items
+        ++ take (to - from) (drop from (expand piece))) }
     ensures fewest { IsFewest pieces.new.items }
     ensures count { length pieces.new.items ≤ length pieces.old.items + 1 }
 {
@@ -66,7 +68,8 @@ pub(crate) fn push_range(
 ) -> Result<(), AllocError>
     requires filled { AllByRecursion IsFilled pieces.now }
     requires fewest { IsFewest out.old.items }
-    ensures ok { OnOk result (course_of out.new.items ≡ course_of out.old.items ++ take (to - from) (drop from (course_of pieces.now))) }
+    ensures ok { OnOk result (course_of out.new.items ≡ course_of out.old.items
+        ++ take (to - from) (drop from (course_of pieces.now))) }
     ensures fewest { IsFewest out.new.items }
     ensures count { length out.new.items ≤ length out.old.items + length pieces.now }
 {

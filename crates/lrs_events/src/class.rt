@@ -204,7 +204,7 @@ pub struct Asset {
     pub class: ClassName,
     pub value: Value,
     pub lateral: u32,
-    pub entry: u64,
+    pub entered_by: u64,
 }
 
 impl Ordered for Asset {

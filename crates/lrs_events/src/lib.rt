@@ -14,4 +14,4 @@ pub use change::SpanChange;
 pub use class::{Asset, Class, ClassName, Kind, Value};
 pub use part::{Gone, Part};
 pub use side::{LinkSide, Side, read_side};
-pub use span::Span;
+pub use span::{Span, is_same};

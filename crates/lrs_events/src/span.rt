@@ -1,5 +1,8 @@
 //! Spans: the stretches of a route that assets hold.
 
+ghost use Rattle.std.specs.Prelude.{◌≡◌};
+ghost use Rattle.lrs_events.specs.Changes.{same_row};
+
 use crate::class::ClassName;
 use crate::side::Side;
 
@@ -12,4 +15,11 @@ pub struct Span {
     pub from: u64,
     pub to: u64,
     pub side: Side,
+}
+
+/// Whether two rows are one.
+pub fn is_same(r: &Span, s: &Span) -> bool
+    ensures { result ≡ same_row r.now s.now }
+{
+    r.class == s.class && r.asset == s.asset && r.from == s.from && r.to == s.to && r.side == s.side
 }

@@ -73,7 +73,8 @@ fn least_met(rows: &[Span], low: u64, high: u64) -> Option<u64>
 fn ended(greatest: &[u64], low: u64) -> usize
     requires { IsNonDecreasingBy (λ n. n) greatest.now }
     ensures within { result ≤ length greatest.now }
-    ensures point { IsPartitionPoint (λ n. nat_le n low ≡ true) (λ n. nat_le n low ≡ false) greatest.now result }
+    ensures point { IsPartitionPoint (λ n. nat_le n low ≡ true) (λ n.
+        nat_le n low ≡ false) greatest.now result }
 {
     greatest.partition_point(|n| *n <= low)
 }
@@ -82,7 +83,8 @@ fn ended(greatest: &[u64], low: u64) -> usize
 fn begun(rows: &[Span], high: u64) -> usize
     requires { IsNonDecreasingBy (λ r. r.from) rows.now }
     ensures within { result ≤ length rows.now }
-    ensures point { IsPartitionPoint (λ r. nat_lt r.from high ≡ true) (λ r. nat_lt r.from high ≡ false) rows.now result }
+    ensures point { IsPartitionPoint (λ r. nat_lt r.from high ≡ true) (λ r.
+        nat_lt r.from high ≡ false) rows.now result }
 {
     rows.partition_point(|row| row.from < high)
 }
@@ -157,7 +159,8 @@ fn push_in_room(numbers: &mut Vec<u64>, number: u64)
 /// Puts the greatest ends up to each of more rows behind those of the rows before them.
 fn push_ends(greatest: &mut Vec<u64>, rows: &[Span])
     requires { vec_len greatest.old + length rows.now ≤ vec_capacity greatest.old }
-    ensures items { greatest.new.items ≡ greatest.old.items ++ greatest_from (last_from 0 greatest.old.items) rows.now }
+    ensures items { greatest.new.items ≡ greatest.old.items
+        ++ greatest_from (last_from 0 greatest.old.items) rows.now }
     ensures capacity { vec_capacity greatest.old ≤ vec_capacity greatest.new }
 {
     let mut most = last_of(greatest);
@@ -214,26 +217,6 @@ impl Lane {
         }
     }
 
-    /// The lane of rows, of which no two have one start and one asset.
-    ///
-    /// # Errors
-    /// When memory runs out.
-    pub fn of_rows(alloc: Global, mut rows: Vec<Span>) -> Result<Lane, AllocError>
-        requires { each_two differ_in_place rows.items ≡ true }
-        ensures same { IfOk result (λ lane. IsPermutation rows.items lane.rows) }
-        ensures order { IfOk result (λ lane. each_two place_before lane.rows ≡ true) }
-        ensures room { IfOk result (λ lane. lane.room ≡ 0) }
-    {
-        sort(RowOrder::ByPlace, &mut rows);
-        let mut greatest = Vec::with_capacity(alloc, rows.len())?;
-        push_greatest(&mut greatest, &rows, 0);
-        Ok(Lane {
-            rows,
-            greatest,
-            room: 0,
-        })
-    }
-
     /// The rows in their order.
     pub fn rows(&self) -> &[Span]
         ensures rows { result.now ≡ self.now.rows }
@@ -254,7 +237,8 @@ impl Lane {
     /// # Errors
     /// When memory runs out; the others are then as they were.
     pub fn push_met(&self, low: u64, high: u64, out: &mut Vec<Span>) -> Result<(), AllocError>
-        ensures ok { OnOk result (out.new.items ≡ out.old.items ++ filter (is_met low high) self.now.rows) }
+        ensures ok { OnOk result (out.new.items ≡ out.old.items
+            ++ filter (is_met low high) self.now.rows) }
         ensures err { OnErr result (out.new.items ≡ out.old.items) }
     {
         push_whole(out, reach(&self.rows, &self.greatest, low, high), low, high)
@@ -283,7 +267,8 @@ impl Lane {
     pub fn change(&mut self, gone: &[Span], come: &[Span])
         requires room { length come.now ≤ self.old.room }
         requires gone { each_two span_before gone.now ≡ true }
-        requires after { each_two place_before (changed place_before gone.now come.now self.old.rows) ≡ true }
+        requires after { each_two place_before
+            (changed place_before gone.now come.now self.old.rows) ≡ true }
         ensures rows { self.new.rows ≡ changed place_before gone.now come.now self.old.rows }
         ensures room { self.new.room + length come.now ≡ self.old.room }
     {
@@ -292,19 +277,5 @@ impl Lane {
         self.greatest.truncate(start);
         push_greatest(&mut self.greatest, &self.rows, start);
         self.room -= come.len();
-    }
-
-    /// An equal lane, without room.
-    ///
-    /// # Errors
-    /// When memory runs out.
-    pub fn copy(&self, alloc: Global) -> Result<Lane, AllocError>
-        ensures { IfOk result (λ lane. lane ≡ record { rows = self.now.rows; room = 0 }) }
-    {
-        Ok(Lane {
-            rows: Vec::from_slice(alloc, &self.rows)?,
-            greatest: Vec::from_slice(alloc, &self.greatest)?,
-            room: 0,
-        })
     }
 }

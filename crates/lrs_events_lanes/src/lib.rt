@@ -6,5 +6,5 @@ mod order;
 mod sorted_rows;
 
 pub use lane::Lane;
-pub use order::{RowOrder, comes_before};
+pub use order::{RowOrder, comes_before, compare};
 pub use sorted_rows::change_in_room;

@@ -19,7 +19,8 @@ pub enum RowOrder {
 
 /// Whether the first comes before the second, where both are of one class.
 fn is_before_in_class(r: &Span, s: &Span) -> bool
-    ensures { result ≡ (nat_lt r.now.asset s.now.asset || (nat_eq r.now.asset s.now.asset && nat_lt r.now.from s.now.from)) }
+    ensures { result ≡ (nat_lt r.now.asset s.now.asset
+        || (nat_eq r.now.asset s.now.asset && nat_lt r.now.from s.now.from)) }
 {
     r.asset < s.asset || (r.asset == s.asset && r.from < s.from)
 }

@@ -11,23 +11,17 @@ ghost use Rattle.lrs_events.specs.Spans.{span_before};
 ghost use Rattle.lrs_events_lanes.specs.Order.{row_before};
 
 use crate::order::{RowOrder, comes_before, compare};
-use lrs_events::Span;
+use lrs_events::{Span, is_same};
 
 // Up to so many rows that go and come are searched for one by one.
 const FEW: usize = 16;
-
-/// Whether two rows are one.
-fn is_same(r: &Span, s: &Span) -> bool
-    ensures { result ≡ same_row r.now s.now }
-{
-    r.class == s.class && r.asset == s.asset && r.from == s.from && r.to == s.to && r.side == s.side
-}
 
 /// How many rows come before the row, in their order.
 pub(crate) fn rows_before(order: RowOrder, rows: &[Span], row: &Span) -> usize
     requires { each_two (row_before order) rows.now ≡ true }
     ensures within { result ≤ length rows.now }
-    ensures point { IsPartitionPoint (λ r. row_before order r row.now ≡ true) (λ r. row_before order r row.now ≡ false) rows.now result }
+    ensures point { IsPartitionPoint (λ r. row_before order r row.now ≡ true) (λ r.
+        row_before order r row.now ≡ false) rows.now result }
 {
     rows.partition_point(|other| comes_before(order, other, row))
 }
@@ -95,7 +89,8 @@ fn place_of(order: RowOrder, rows: &[Span], row: &Span) -> usize
 /// Puts a row in its place. No row before its place is moved.
 fn insert_row(order: RowOrder, rows: &mut Vec<Span>, row: Span)
     requires room { vec_len rows.old < vec_capacity rows.old }
-    requires order { each_two (row_before order) (insert_by (row_before order) row rows.old.items) ≡ true }
+    requires order { each_two (row_before order) (insert_by (row_before order) row rows.old.items)
+        ≡ true }
     ensures items { rows.new.items ≡ insert_by (row_before order) row rows.old.items }
     ensures len { vec_len rows.new ≡ vec_len rows.old + 1 }
     ensures capacity { vec_capacity rows.old ≤ vec_capacity rows.new }
@@ -107,7 +102,8 @@ fn insert_row(order: RowOrder, rows: &mut Vec<Span>, row: Span)
 /// Puts rows in their places, one by one.
 fn insert_rows(order: RowOrder, rows: &mut Vec<Span>, come: &[Span])
     requires room { vec_len rows.old + length come.now ≤ vec_capacity rows.old }
-    requires order { each_two (row_before order) (insert_all (row_before order) come.now rows.old.items) ≡ true }
+    requires order { each_two (row_before order)
+        (insert_all (row_before order) come.now rows.old.items) ≡ true }
     ensures items { rows.new.items ≡ insert_all (row_before order) come.now rows.old.items }
     ensures capacity { vec_capacity rows.old ≤ vec_capacity rows.new }
 {
@@ -120,7 +116,8 @@ fn insert_rows(order: RowOrder, rows: &mut Vec<Span>, come: &[Span])
 fn change_few(order: RowOrder, rows: &mut Vec<Span>, gone: &[Span], come: &[Span])
     requires room { vec_len rows.old + length come.now ≤ vec_capacity rows.old }
     requires before { each_two (row_before order) rows.old.items ≡ true }
-    requires after { each_two (row_before order) (changed (row_before order) gone.now come.now rows.old.items) ≡ true }
+    requires after { each_two (row_before order)
+        (changed (row_before order) gone.now come.now rows.old.items) ≡ true }
     ensures items { rows.new.items ≡ changed (row_before order) gone.now come.now rows.old.items }
     ensures capacity { vec_capacity rows.old ≤ vec_capacity rows.new }
 {
@@ -130,7 +127,8 @@ fn change_few(order: RowOrder, rows: &mut Vec<Span>, gone: &[Span], come: &[Span
 
 /// The least and the greatest start of rows; where there are none, no start lies between the two.
 fn starts(rows: &[Span]) -> (u64, u64)
-    ensures { (r : DeclaredSpan) → has_row rows.now r ≡ true → (result.0 ≤ r.from) × (r.from ≤ result.1) }
+    ensures { (r : DeclaredSpan) → has_row rows.now r ≡ true
+        → (result.0 ≤ r.from) × (r.from ≤ result.1) }
 {
     let mut least = u64::MAX;
     let mut greatest = 0u64;
@@ -145,7 +143,8 @@ fn starts(rows: &[Span]) -> (u64, u64)
 /// behind them all is not searched for.
 fn goes(gone: &[Span], least: u64, greatest: u64, row: &Span) -> bool
     requires order { each_two span_before gone.now ≡ true }
-    requires starts { (r : DeclaredSpan) → has_row gone.now r ≡ true → (least ≤ r.from) × (r.from ≤ greatest) }
+    requires starts { (r : DeclaredSpan) → has_row gone.now r ≡ true
+        → (least ≤ r.from) × (r.from ≤ greatest) }
     ensures { result ≡ has_row gone.now row.now }
 {
     least <= row.from && row.from <= greatest && has(RowOrder::ByAsset, gone, row)
@@ -186,7 +185,8 @@ pub(crate) fn sort(order: RowOrder, rows: &mut Vec<Span>)
 fn change_many(order: RowOrder, rows: &mut Vec<Span>, gone: &[Span], come: &[Span])
     requires room { vec_len rows.old + length come.now ≤ vec_capacity rows.old }
     requires gone { each_two span_before gone.now ≡ true }
-    requires after { each_two (row_before order) (changed (row_before order) gone.now come.now rows.old.items) ≡ true }
+    requires after { each_two (row_before order)
+        (changed (row_before order) gone.now come.now rows.old.items) ≡ true }
     ensures items { rows.new.items ≡ changed (row_before order) gone.now come.now rows.old.items }
     ensures capacity { vec_capacity rows.old ≤ vec_capacity rows.new }
 {
@@ -201,7 +201,8 @@ pub fn change_in_room(order: RowOrder, rows: &mut Vec<Span>, gone: &[Span], come
     requires room { vec_len rows.old + length come.now ≤ vec_capacity rows.old }
     requires gone { each_two span_before gone.now ≡ true }
     requires before { each_two (row_before order) rows.old.items ≡ true }
-    requires after { each_two (row_before order) (changed (row_before order) gone.now come.now rows.old.items) ≡ true }
+    requires after { each_two (row_before order)
+        (changed (row_before order) gone.now come.now rows.old.items) ≡ true }
     ensures items { rows.new.items ≡ changed (row_before order) gone.now come.now rows.old.items }
     ensures capacity { vec_capacity rows.old ≤ vec_capacity rows.new }
 {

@@ -161,7 +161,7 @@ module _ (a j : ℕ) where
       pub each : list_all is_row rows ≡ true
 
     row_rises : (r : Span) → is_row r ≡ true → r.from < r.to
-    row_rises r h = ltb-true r.from r.to (and_parts (nat_lt r.from r.to) (nat_le r.to Rattle.lrs_element.specs.Limits.longest_route) h).0
+    row_rises r h = ltb-true r.from r.to (and_parts (nat_lt r.from r.to) (nat_le r.to Rattle.lrs_measure.specs.Limits.longest_route) h).0
 
     upright_row : (r : Span) → is_row r ≡ true → is_upright r ≡ true
     upright_row r h = let l = row_rises r h in le-leb r.from r.to (omega (arith, l))

@@ -58,7 +58,8 @@ fn push_part(
     start: u64,
 ) -> Result<(), AllocError>
     requires { IsFilled piece }
-    ensures { OnOk result (parts.new.items ≡ parts.old.items ++ parts_in edit run side start piece) }
+    ensures { OnOk result (parts.new.items ≡ parts.old.items
+        ++ parts_in edit run side start piece) }
 {
     let low = run.from.saturating_sub(start);
     let high = run.to.saturating_sub(start).min(piece.len());
@@ -80,7 +81,8 @@ fn push_parts(
 ) -> Result<(), AllocError>
     requires filled { AllByRecursion IsFilled pieces.now }
     requires starts { AreStarts starts.now pieces.now }
-    ensures { OnOk result (parts.new.items ≡ parts.old.items ++ parts_from edit run side 0 pieces.now) }
+    ensures { OnOk result (parts.new.items ≡ parts.old.items
+        ++ parts_from edit run side 0 pieces.now) }
 {
     let first = starts_up_to(starts, run.from).saturating_sub(1);
     let end = starts_up_to(starts, run.to.saturating_sub(1));
@@ -101,7 +103,8 @@ pub(crate) fn push_side(
 ) -> Result<(), AllocError>
     requires filled { AllByRecursion IsFilled pieces.now }
     requires starts { AreStarts starts.now pieces.now }
-    ensures { OnOk result (parts.new.items ≡ parts.old.items ++ side_parts edit rows.now side pieces.now) }
+    ensures { OnOk result (parts.new.items ≡ parts.old.items
+        ++ side_parts edit rows.now side pieces.now) }
 {
     let runs = runs_on(*parts.allocator(), rows, side)?;
     for run in &runs {

@@ -34,7 +34,10 @@ fn parts_on(
 
 /// What orders the rows of a ledger: edit, asset and link, then start and side.
 fn key_of(part: &Part) -> ((u64, u64, u32), (u32, u8))
-    ensures { result ≡ ((part.now.edit, part.now.asset, part.now.link), (part.now.from, side_number part.now.side)) }
+    ensures { result ≡ (
+      (part.now.edit, part.now.asset, part.now.link),
+      (part.now.from, side_number part.now.side),
+    ) }
 {
     let side = match part.side {
         LinkSide::Left => 0,
@@ -46,7 +49,8 @@ fn key_of(part: &Part) -> ((u64, u64, u32), (u32, u8))
 /// The parts in the order of a ledger.
 fn sort(parts: &mut Vec<Part>)
     ensures same { IsPermutation parts.old.items parts.new.items }
-    ensures order { AllAdjacentBelow (λ x y. part_before y x ≡ false) parts.new.items (length parts.new.items) }
+    ensures order { AllAdjacentBelow (λ x y. part_before y x ≡ false) parts.new.items
+        (length parts.new.items) }
 {
     parts.sort_unstable_by_key(|part| key_of(part));
 }
@@ -67,16 +71,25 @@ pub fn parts(
     course: &Course,
 ) -> Result<Vec<Part>, AllocError>
     requires { IsTrue (are_rows rows.now) }
-    ensures edit { IfOk result (λ parts. list_all (λ part. nat_eq part.edit edit) parts.items ≡ true) }
-    ensures pairs { IfOk result (λ parts. (m asset : ℕ) (p : Place) → list_any (λ part. has_pair part m asset p) parts.items ≡ (nat_eq m edit && holds_by_spans course.now rows.now asset p)) }
-    ensures shows { IfOk result (λ parts. (asset : ℕ) (p : Place) → list_any (has_for asset p) parts.items ≡ holds_by_spans course.now rows.now asset p) }
-    ensures times { IfOk result (λ parts. (asset : ℕ) (p : Place) → times_had asset p parts.items ≡ times_in_rows course.now rows.now asset p) }
-    ensures once { IfOk result (λ parts. each_two differs course.now ≡ true → IsHadOnce parts.items) }
-    ensures order { IfOk result (λ parts. each_two differs course.now ≡ true → each_two part_before parts.items ≡ true) }
-    ensures filled { IfOk result (λ parts. list_all (λ part. nat_lt part.from part.to) parts.items ≡ true) }
+    ensures edit { IfOk result (λ parts. list_all (λ part. nat_eq part.edit edit) parts.items
+        ≡ true) }
+    ensures pairs { IfOk result (λ parts. (m asset : ℕ) (p : Place)
+        → list_any (λ part. has_pair part m asset p) parts.items
+        ≡ (nat_eq m edit && holds_by_spans course.now rows.now asset p)) }
+    ensures shows { IfOk result (λ parts. (asset : ℕ) (p : Place)
+        → list_any (has_for asset p) parts.items ≡ holds_by_spans course.now rows.now asset p) }
+    ensures times { IfOk result (λ parts. (asset : ℕ) (p : Place)
+        → times_had asset p parts.items ≡ times_in_rows course.now rows.now asset p) }
+    ensures once { IfOk result (λ parts. each_two differs course.now ≡ true
+        → IsHadOnce parts.items) }
+    ensures order { IfOk result (λ parts. each_two differs course.now ≡ true
+        → each_two part_before parts.items ≡ true) }
+    ensures filled { IfOk result (λ parts. list_all (λ part. nat_lt part.from part.to) parts.items
+        ≡ true) }
     ensures within { IfOk result (λ parts. AreInPieces course.now parts.items) }
     ensures whole { IfOk result (λ parts. AreWhole course.now rows.now parts.items) }
-    ensures fewest { IfOk result (λ parts. each_two differs course.now ≡ true → NoneIsShorter course.now rows.now parts.items) }
+    ensures fewest { IfOk result (λ parts. each_two differs course.now ≡ true
+        → NoneIsShorter course.now rows.now parts.items) }
 {
     let mut parts = parts_on(alloc, edit, rows, course)?;
     sort(&mut parts);
@@ -88,7 +101,8 @@ pub fn parts(
 /// # Errors
 /// When memory runs out.
 pub fn gone(alloc: Global, parts: &[Part], abandoned: bool) -> Result<Vec<Gone>, AllocError>
-    ensures { IfOk result (λ gone. gone.items ≡ map (λ part. record { part = part; abandoned = abandoned }) parts.now) }
+    ensures { IfOk result (λ gone. gone.items ≡ map (λ part.
+        record { part = part; abandoned = abandoned }) parts.now) }
 {
     let mut gone = Vec::with_capacity(alloc, parts.len())?;
     for part in parts {

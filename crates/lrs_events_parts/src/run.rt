@@ -35,8 +35,10 @@ fn goes_on(run: Run, next: Run) -> bool
 
 /// The place of the last run, where this one goes on with it.
 fn joined_place(runs: &[Run], next: Run) -> Option<usize>
-    ensures found { IfSome result (λ last. (length runs.now ≡ last + 1) × ((d : Run) → goes_on (slice_index_or runs.now last d) next ≡ true)) }
-    ensures none { IfNone result ((k : ℕ) (d : Run) → k + 1 ≡ length runs.now → goes_on (slice_index_or runs.now k d) next ≡ false) }
+    ensures found { IfSome result (λ last. (length runs.now ≡ last + 1)
+        × ((d : Run) → goes_on (slice_index_or runs.now last d) next ≡ true)) }
+    ensures none { IfNone result ((k : ℕ) (d : Run) → k + 1 ≡ length runs.now
+        → goes_on (slice_index_or runs.now k d) next ≡ false) }
 {
     let last = runs.len().checked_sub(1)?;
     let run = runs[last];

@@ -8,7 +8,7 @@ use Rattle.std.proofs.lemmas.Bool.{both_ways, not-true, or_cases, leb-true, eq-e
 use Rattle.std.proofs.lemmas.List.{append_cancel_left, take_more, append-nil, take-append-drop, take_all}
 use Rattle.lrs_measure.specs.Lists.{each_two}
 use Rattle.lrs_measure.specs.Texts.{Name, same_name, name_before}
-use Rattle.lrs_element.specs.Limits.{longest_route}
+use Rattle.lrs_measure.specs.Limits.{longest_route}
 use Rattle.lrs_events.specs.declared.side.LinkSide.{LinkSide}
 use Rattle.lrs_events.specs.declared.span.Span.{Span}
 use Rattle.lrs_events.specs.Spans.{are_rows, is_row, span_before}

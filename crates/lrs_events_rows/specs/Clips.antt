@@ -1,7 +1,7 @@
 -- Parts of rows.
 use Rattle.std.specs.Prelude.{ℕ, ◌-◌, Bool, ◌||◌, ◌&&◌, not, nat_lt, nat_le, nat_eq, min, max, List, [], ◌∷◌, ◌++◌, if◌then◌else◌}
 use Rattle.lrs_measure.specs.Texts.{same_name, name_before}
-use Rattle.lrs_element.specs.Limits.{longest_route}
+use Rattle.lrs_measure.specs.Limits.{longest_route}
 use Rattle.lrs_events.specs.declared.span.Span.{Span}
 use Rattle.std.specs.List.{list_all}
 use Rattle.lrs_measure.specs.Lists.{each_two}

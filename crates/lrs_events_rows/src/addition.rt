@@ -42,7 +42,8 @@ pub fn added(alloc: Global, rows: &[Span], span: Span) -> Result<SpanChange, All
     ensures gone { IfOk result (λ change. length change.gone.items ≤ 2) }
     ensures come { IfOk result (λ change. length change.come.items ≡ 1) }
     ensures kept { IfOk result (λ change. IsTrue (are_rows (changed_rows change rows.now))) }
-    ensures change { IfOk result (λ change. IsChange rows.now change.gone.items change.come.items (changed_rows change rows.now)) }
+    ensures change { IfOk result (λ change. IsChange rows.now change.gone.items change.come.items
+        (changed_rows change rows.now)) }
     ensures in_order { IfOk result (λ change. IsTrue (each_two span_before change.gone.items)) }
     ensures more { IfOk result (λ change. IsMore rows.now span (changed_rows change rows.now)) }
 {

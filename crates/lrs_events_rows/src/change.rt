@@ -35,7 +35,8 @@ pub fn difference(alloc: Global, old: &[Span], new: &[Span]) -> Result<SpanChang
     requires new { IsTrue (are_rows new.now) }
     ensures gone { IfOk result (λ change. change.gone.items ≡ missing new.now old.now) }
     ensures come { IfOk result (λ change. change.come.items ≡ missing old.now new.now) }
-    ensures change { IfOk result (λ change. IsChange old.now change.gone.items change.come.items new.now) }
+    ensures change { IfOk result (λ change.
+        IsChange old.now change.gone.items change.come.items new.now) }
     ensures new { IfOk result (λ change. changed_rows change old.now ≡ new.now) }
 {
     Ok(SpanChange {

@@ -5,10 +5,8 @@ ghost use Rattle.std.specs.List.{flat_map};
 ghost use Rattle.lrs_events_rows.specs.Clips.{clip, outside, rear};
 
 use lrs_events::Span;
+use lrs_measure::limits::LONGEST_ROUTE;
 use std::alloc::{AllocError, Global};
-
-// The length of the longest route, in millimetres.
-pub(crate) const LONGEST_ROUTE: u64 = 10_000_000_000;
 
 /// Adds what of the row lies from low up to high.
 ///

@@ -1,7 +1,7 @@
 //! A route goes on as another does: the rows of both become those of one.
 
 ghost use Rattle.std.specs.Prelude.{◌≡◌, ◌+◌, ◌<◌, ◌≤◌, IsTrue, IfOk, OnOk};
-ghost use Rattle.lrs_element.specs.Limits.{longest_route};
+ghost use Rattle.lrs_measure.specs.Limits.{longest_route};
 ghost use Rattle.lrs_events.specs.Changes.{changed_rows};
 ghost use Rattle.lrs_events.specs.Spans.{are_rows, is_row, span_before};
 ghost use Rattle.lrs_measure.specs.Lists.{each_two};
@@ -22,7 +22,9 @@ fn push_seam(change: &mut SpanChange, first: &[Span], row: Span) -> Result<(), A
     requires rows { IsTrue (are_rows first.now) }
     requires row { IsTrue (is_row row) }
     requires free { IsTrue (is_free first.now row) }
-    ensures { OnOk result (AddsSeam first.now row change.old.gone.items change.old.come.items change.new.gone.items change.new.come.items) }
+    ensures { OnOk result
+        (AddsSeam first.now row change.old.gone.items change.old.come.items change.new.gone.items
+        change.new.come.items) }
 {
     let at = place_of(first, &row);
     let (start, from) = start_of(first, at, &row);
@@ -49,9 +51,11 @@ pub fn joined(
     requires room { IsTrue (have_room shift second.now) }
     requires one_class { IsTrue (are_of_one_class first.now second.now) }
     ensures kept { IfOk result (λ change. IsTrue (are_rows (changed_rows change first.now))) }
-    ensures change { IfOk result (λ change. IsChange first.now change.gone.items change.come.items (changed_rows change first.now)) }
+    ensures change { IfOk result (λ change. IsChange first.now change.gone.items change.come.items
+        (changed_rows change first.now)) }
     ensures in_order { IfOk result (λ change. IsTrue (each_two span_before change.gone.items)) }
-    ensures joined { IfOk result (λ change. IsJoin shift first.now second.now (changed_rows change first.now)) }
+    ensures joined { IfOk result (λ change. IsJoin shift first.now second.now
+        (changed_rows change first.now)) }
 {
     let mut change = SpanChange {
         gone: Vec::new(alloc),

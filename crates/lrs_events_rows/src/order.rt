@@ -8,7 +8,7 @@ ghost use Rattle.lrs_events_rows.specs.Members.{is_free, joins};
 ghost use Rattle.lrs_events_rows.specs.Clips.{is_left};
 ghost use Rattle.lrs_events_rows.specs.Order.{IsPlace, IsStretch};
 
-use lrs_events::Span;
+use lrs_events::{Span, is_same};
 
 /// Whether the first comes before the second: by class, then asset, then start.
 pub fn comes_before(r: &Span, s: &Span) -> bool
@@ -33,18 +33,12 @@ pub fn joins(r: &Span, s: &Span) -> bool
     r.class == s.class && r.asset == s.asset && r.to == s.from && r.side == s.side
 }
 
-/// Whether two rows are one.
-pub fn is_same(r: &Span, s: &Span) -> bool
-    ensures { result ≡ same_row r.now s.now }
-{
-    r.class == s.class && r.asset == s.asset && r.from == s.from && r.to == s.to && r.side == s.side
-}
-
 /// How many rows come before the row.
 pub fn rows_begun(rows: &[Span], row: &Span) -> usize
     requires { IsTrue (are_rows rows.now) }
     ensures within { result ≤ length rows.now }
-    ensures point { IsPartitionPoint (λ r. span_before r row.now ≡ true) (λ r. span_before r row.now ≡ false) rows.now result }
+    ensures point { IsPartitionPoint (λ r. span_before r row.now ≡ true) (λ r.
+        span_before r row.now ≡ false) rows.now result }
 {
     rows.partition_point(|other| comes_before(other, row))
 }
@@ -78,7 +72,8 @@ pub fn rows_before(rows: &[Span], stretch: &Span) -> usize
     requires rows { IsTrue (are_rows rows.now) }
     requires filled { stretch.now.from < stretch.now.to }
     ensures within { result ≤ length rows.now }
-    ensures point { IsPartitionPoint (λ r. is_left r stretch.now ≡ true) (λ r. is_left r stretch.now ≡ false) rows.now result }
+    ensures point { IsPartitionPoint (λ r. is_left r stretch.now ≡ true) (λ r.
+        is_left r stretch.now ≡ false) rows.now result }
 {
     rows.partition_point(|row| is_left(row, stretch))
 }
@@ -88,7 +83,8 @@ pub fn rows_up_to(rows: &[Span], stretch: &Span) -> usize
     requires rows { IsTrue (are_rows rows.now) }
     requires filled { stretch.now.from < stretch.now.to }
     ensures within { result ≤ length rows.now }
-    ensures point { IsPartitionPoint (λ r. not (is_left stretch.now r) ≡ true) (λ r. not (is_left stretch.now r) ≡ false) rows.now result }
+    ensures point { IsPartitionPoint (λ r. not (is_left stretch.now r) ≡ true) (λ r.
+        not (is_left stretch.now r) ≡ false) rows.now result }
 {
     rows.partition_point(|row| !is_left(stretch, row))
 }

@@ -26,7 +26,8 @@ pub fn cleared(alloc: Global, found: &[Span], low: u64, high: u64) -> Result<Rem
     requires rows { IsTrue (are_rows found.now) }
     requires filled { low < high }
     ensures removal { IfOk result (λ removal. Clears found.now low high removal) }
-    ensures in_order { IfOk result (λ removal. IsTrue (each_two span_before removal.change.gone.items)) }
+    ensures in_order { IfOk result (λ removal. IsTrue
+        (each_two span_before removal.change.gone.items)) }
 {
     let left = clips(alloc, found, low, high)?;
     let rest = rests(alloc, found, low, high)?;

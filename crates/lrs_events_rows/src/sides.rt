@@ -7,10 +7,11 @@ ghost use Rattle.lrs_events.specs.Spans.{are_rows, span_before};
 ghost use Rattle.lrs_events_rows.specs.Sides.{shared_side, side_less, clip_on, side_part, side_rest, ClearsSide};
 
 use crate::change::difference;
-use crate::clips::{LONGEST_ROUTE, push_clip};
+use crate::clips::push_clip;
 use crate::merger::merged;
 use crate::removals::Removal;
 use lrs_events::{Side, Span};
+use lrs_measure::limits::LONGEST_ROUTE;
 use std::alloc::{AllocError, Global};
 
 /// What two sides share.
@@ -128,7 +129,8 @@ pub fn cleared_side(
 ) -> Result<Removal, AllocError>
     requires { IsTrue (are_rows found.now) }
     ensures removal { IfOk result (λ removal. ClearsSide found.now low high side removal) }
-    ensures in_order { IfOk result (λ removal. IsTrue (each_two span_before removal.change.gone.items)) }
+    ensures in_order { IfOk result (λ removal. IsTrue
+        (each_two span_before removal.change.gone.items)) }
 {
     // Where high is below low, nothing lies between them.
     let high = high.max(low);

@@ -1,14 +1,14 @@
 //! A route is turned: its rows are seen from its other end.
 
 ghost use Rattle.std.specs.Prelude.{◌≡◌, ◌≤◌, ◌<◌, ◌++◌, IsTrue, IfOk, OnOk, length};
-ghost use Rattle.lrs_element.specs.Limits.{longest_route};
+ghost use Rattle.lrs_measure.specs.Limits.{longest_route};
 ghost use Rattle.lrs_events.specs.Spans.{are_rows};
 ghost use Rattle.lrs_events_rows.specs.Joins.{end_by};
 ghost use Rattle.lrs_events_rows.specs.Turns.{turned_side, mirrored, mirrored_rows, IsTurned, IsBlock};
 
-use crate::clips::LONGEST_ROUTE;
 use crate::order::rows_up_to;
 use lrs_events::{Side, Span};
+use lrs_measure::limits::LONGEST_ROUTE;
 use std::alloc::{AllocError, Global};
 
 /// The side seen from the other end.

@@ -5,7 +5,7 @@ use Rattle.std.specs.List.{list_all, flat_map}
 use Rattle.std.specs.Cmp.Lexicographic.{bytes_decides}
 use Rattle.std.proofs.lemmas.Bool.{or_left, or_right, cases_eq, ne_eqb, leb-true, le-leb, le-ltb, lt-ltb}
 use Rattle.lrs_measure.specs.Texts.{Name}
-use Rattle.lrs_element.specs.Limits.{longest_route}
+use Rattle.lrs_measure.specs.Limits.{longest_route}
 use Rattle.lrs_events.specs.declared.side.LinkSide.{LinkSide}
 use Rattle.lrs_events.specs.declared.span.Span.{Span}
 use Rattle.lrs_events.specs.Members.{has_member, is_member}

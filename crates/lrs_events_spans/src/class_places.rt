@@ -26,7 +26,8 @@ impl Spans {
         high: u64,
     ) -> Result<Vec<Span>, AllocError>
         ensures canonical { IsTrue (are_rows self.now) }
-        ensures found { IfOk result (λ found. found.items ≡ filter (λ r. is_met_asset self.now class low high r.class r.asset) self.now) }
+        ensures found { IfOk result (λ found. found.items ≡ filter (λ r.
+            is_met_asset self.now class low high r.class r.asset) self.now) }
     {
         overlaps::of_assets_met(alloc, self.kept.rows(), self.kept.lanes(), class, low, high)
     }
@@ -45,7 +46,8 @@ impl Spans {
         side: Side,
     ) -> Result<Removal, AllocError>
         ensures plan { IfOk result (λ removal. IsPlan self.now removal.change) }
-        ensures removal { IfOk result (λ removal. IsRemoval (λ c a j s. same_name c class && (is_within low high j && has_side side s)) self.now removal) }
+        ensures removal { IfOk result (λ removal. IsRemoval (λ c a j s.
+            same_name c class && (is_within low high j && has_side side s)) self.now removal) }
     {
         let found = self.of_assets_met(alloc, class, low, high)?;
         let removal = cleared_side(alloc, &found, low, high, side)?;
@@ -64,10 +66,14 @@ impl Spans {
         high: u64,
         side: Side,
     ) -> Result<Removal, AllocError>
-        ensures rest { OnOk result (IsLess (λ c a j s. same_name c class && (is_within low high j && has_side side s)) self.old self.new) }
-        ensures left { IfOk result (λ removal. IsThat (λ c a j s. same_name c class && (is_within low high j && has_side side s)) self.old removal.left.items) }
+        ensures rest { OnOk result (IsLess (λ c a j s.
+            same_name c class && (is_within low high j && has_side side s)) self.old self.new) }
+        ensures left { IfOk result (λ removal. IsThat (λ c a j s.
+            same_name c class && (is_within low high j
+            && has_side side s)) self.old removal.left.items) }
         ensures left_rows { IfOk result (λ removal. IsTrue (are_rows removal.left.items)) }
-        ensures change { IfOk result (λ removal. IsChange self.old removal.change.gone.items removal.change.come.items self.new) }
+        ensures change { IfOk result (λ removal.
+            IsChange self.old removal.change.gone.items removal.change.come.items self.new) }
         ensures err { OnErr result (self.new ≡ self.old) }
     {
         let removal = self.plan_remove_class_places(alloc, class, low, high, side)?;

@@ -25,7 +25,8 @@ impl Spans {
         requires row { IsTrue (is_row span) }
         requires free { IsTrue (is_free self.old span) }
         ensures more { OnOk result (IsMore self.old span self.new) }
-        ensures change { IfOk result (λ change. IsChange self.old change.gone.items change.come.items self.new) }
+        ensures change { IfOk result (λ change.
+            IsChange self.old change.gone.items change.come.items self.new) }
         ensures err { OnErr result (self.new ≡ self.old) }
     {
         let change = self.plan_add(alloc, span)?;
@@ -44,10 +45,13 @@ impl Spans {
         high: u64,
     ) -> Result<Removal, AllocError>
         requires { low < high }
-        ensures rest { OnOk result (IsLess (λ class asset j s. is_within low high j) self.old self.new) }
-        ensures left { IfOk result (λ removal. IsThat (λ class asset j s. is_within low high j) self.old removal.left.items) }
+        ensures rest { OnOk result (IsLess (λ class asset j s.
+            is_within low high j) self.old self.new) }
+        ensures left { IfOk result (λ removal. IsThat (λ class asset j s.
+            is_within low high j) self.old removal.left.items) }
         ensures left_rows { IfOk result (λ removal. IsTrue (are_rows removal.left.items)) }
-        ensures change { IfOk result (λ removal. IsChange self.old removal.change.gone.items removal.change.come.items self.new) }
+        ensures change { IfOk result (λ removal.
+            IsChange self.old removal.change.gone.items removal.change.come.items self.new) }
         ensures err { OnErr result (self.new ≡ self.old) }
     {
         let removal = self.plan_remove_within(alloc, low, high)?;
@@ -68,10 +72,14 @@ impl Spans {
         high: u64,
     ) -> Result<Removal, AllocError>
         requires { low < high }
-        ensures rest { OnOk result (IsLess (λ c a j s. same_name c class && nat_eq a asset && is_within low high j) self.old self.new) }
-        ensures left { IfOk result (λ removal. IsThat (λ c a j s. same_name c class && nat_eq a asset && is_within low high j) self.old removal.left.items) }
+        ensures rest { OnOk result (IsLess (λ c a j s.
+            same_name c class && nat_eq a asset && is_within low high j) self.old self.new) }
+        ensures left { IfOk result (λ removal. IsThat (λ c a j s.
+            same_name c class && nat_eq a asset
+            && is_within low high j) self.old removal.left.items) }
         ensures left_rows { IfOk result (λ removal. IsTrue (are_rows removal.left.items)) }
-        ensures change { IfOk result (λ removal. IsChange self.old removal.change.gone.items removal.change.come.items self.new) }
+        ensures change { IfOk result (λ removal.
+            IsChange self.old removal.change.gone.items removal.change.come.items self.new) }
         ensures err { OnErr result (self.new ≡ self.old) }
     {
         let removal = self.plan_remove_asset_within(alloc, class, asset, low, high)?;
@@ -85,7 +93,8 @@ impl Spans {
     /// When memory runs out; nothing has changed then.
     pub fn cut(&mut self, alloc: Global, at: u64) -> Result<(Spans, SpanChange), AllocError>
         ensures parts { IfOk result (λ rear. IsCut at self.old self.new rear.0) }
-        ensures change { IfOk result (λ rear. IsChange self.old rear.1.gone.items rear.1.come.items self.new) }
+        ensures change { IfOk result (λ rear.
+            IsChange self.old rear.1.gone.items rear.1.come.items self.new) }
         ensures err { OnErr result (self.new ≡ self.old) }
     {
         let Cut { rear, change } = self.plan_cut(alloc, at)?;
@@ -109,7 +118,8 @@ impl Spans {
         requires room { IsTrue (have_room shift other.now) }
         requires one_class { IsTrue (are_of_one_class self.old other.now) }
         ensures joined { OnOk result (IsJoin shift self.old other.now self.new) }
-        ensures change { IfOk result (λ change. IsChange self.old change.gone.items change.come.items self.new) }
+        ensures change { IfOk result (λ change.
+            IsChange self.old change.gone.items change.come.items self.new) }
         ensures err { OnErr result (self.new ≡ self.old) }
     {
         let change = self.plan_concat(alloc, other, shift)?;

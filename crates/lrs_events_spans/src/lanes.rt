@@ -87,9 +87,11 @@ fn change_lane(
 )
     requires room { length (filter (is_on class side) come.now) ≤ lane.old.room }
     requires gone { each_two span_before gone.now ≡ true }
-    requires after { each_two place_before (changed place_before gone.now (filter (is_on class side) come.now) lane.old.rows) ≡ true }
+    requires after { each_two place_before (changed place_before gone.now
+        (filter (is_on class side) come.now) lane.old.rows) ≡ true }
     requires picked { length come.now ≤ vec_capacity picked.old }
-    ensures rows { lane.new.rows ≡ changed place_before gone.now (filter (is_on class side) come.now) lane.old.rows }
+    ensures rows { lane.new.rows ≡ changed place_before gone.now
+        (filter (is_on class side) come.now) lane.old.rows }
     ensures capacity { vec_capacity picked.old ≤ vec_capacity picked.new }
 {
     pick(picked, class, side, come);
@@ -119,7 +121,8 @@ pub(crate) fn change_lanes(
     picked: &mut Vec<Span>,
 )
     requires gone { each_two span_before gone.now ≡ true }
-    requires can { (k : ℕ) (d : DeclaredLanes) → k < length lanes.old.items → CanChange gone.now come.now (slice_index_or lanes.old.items k d) }
+    requires can { (k : ℕ) (d : DeclaredLanes) → k < length lanes.old.items
+        → CanChange gone.now come.now (slice_index_or lanes.old.items k d) }
     requires picked { length come.now ≤ vec_capacity picked.old }
     ensures { AreChanged gone.now come.now lanes.old.items lanes.new.items }
 {
@@ -141,7 +144,8 @@ fn has_lanes(lanes: &[ClassLanes], class: ClassName) -> bool
 /// When memory runs out.
 fn add_class(lanes: &mut Vec<ClassLanes>, class: ClassName) -> Result<(), AllocError>
     ensures tied { StayTied lanes.old.items lanes.new.items }
-    ensures others { (c : Name) → has_lanes lanes.old.items c ≡ true → has_lanes lanes.new.items c ≡ true }
+    ensures others { (c : Name) → has_lanes lanes.old.items c ≡ true
+        → has_lanes lanes.new.items c ≡ true }
     ensures ok { OnOk result (has_lanes lanes.new.items class ≡ true) }
 {
     if !has_lanes(lanes, class) {
@@ -161,7 +165,8 @@ fn add_class(lanes: &mut Vec<ClassLanes>, class: ClassName) -> Result<(), AllocE
 /// When memory runs out.
 pub(crate) fn add_classes(lanes: &mut Vec<ClassLanes>, come: &[Span]) -> Result<(), AllocError>
     ensures tied { StayTied lanes.old.items lanes.new.items }
-    ensures ok { OnOk result ((r : DeclaredSpan) → has_row come.now r ≡ true → has_lanes lanes.new.items r.class ≡ true) }
+    ensures ok { OnOk result ((r : DeclaredSpan) → has_row come.now r ≡ true
+        → has_lanes lanes.new.items r.class ≡ true) }
 {
     for row in come {
         add_class(lanes, row.class)?;
@@ -189,7 +194,8 @@ fn make_class_room(lanes: &mut ClassLanes, come: &[Span]) -> Result<(), AllocErr
 /// When memory runs out.
 pub(crate) fn make_lanes_room(lanes: &mut Vec<ClassLanes>, come: &[Span]) -> Result<(), AllocError>
     ensures same { SameLanes lanes.old.items lanes.new.items }
-    ensures ok { OnOk result ((k : ℕ) (d : DeclaredLanes) → k < length lanes.new.items → HasLaneRoom come.now (slice_index_or lanes.new.items k d)) }
+    ensures ok { OnOk result ((k : ℕ) (d : DeclaredLanes) → k < length lanes.new.items
+        → HasLaneRoom come.now (slice_index_or lanes.new.items k d)) }
 {
     for i in 0..lanes.len() {
         make_class_room(&mut lanes[i], come)?;

@@ -109,7 +109,8 @@ impl OpenSpans {
     pub fn change(&mut self, gone: &[Span], come: &[Span])
         requires room { HasRoom come.now self.old }
         requires gone { each_two span_before gone.now ≡ true }
-        requires canonical { IsTrue (are_rows (changed span_before gone.now come.now self.old.rows)) }
+        requires canonical { IsTrue
+            (are_rows (changed span_before gone.now come.now self.old.rows)) }
         ensures { self.new.rows ≡ changed span_before gone.now come.now self.old.rows }
     {
         change_lanes(&mut self.lanes, gone, come, &mut self.picked);

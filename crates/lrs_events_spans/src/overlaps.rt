@@ -69,7 +69,8 @@ fn is_new(by: Sorting, rows: &[Span], i: usize) -> bool
     requires within { i < length rows.now }
     requires sorted { IsSortedBy (goes_before by) rows.now }
     requires ranked { AreRanked (goes_before by) rows.now }
-    ensures { (d : DeclaredSpan) → result ≡ not (has_row (take i rows.now) (slice_index_or rows.now i d)) }
+    ensures { (d : DeclaredSpan) → result ≡ not (has_row (take i rows.now)
+        (slice_index_or rows.now i d)) }
 {
     if i == 0 {
         true
@@ -86,7 +87,8 @@ fn strict(alloc: Global, by: Sorting, rows: &[Span]) -> Result<Vec<Span>, AllocE
     requires sorted { IsSortedBy (goes_before by) rows.now }
     requires ranked { AreRanked (goes_before by) rows.now }
     ensures order { IfOk result (λ found. each_two (goes_before by) found.items ≡ true) }
-    ensures same { IfOk result (λ found. (r : DeclaredSpan) → has_row found.items r ≡ has_row rows.now r) }
+    ensures same { IfOk result (λ found. (r : DeclaredSpan)
+        → has_row found.items r ≡ has_row rows.now r) }
 {
     let mut found = Vec::new(alloc);
     for i in 0..rows.len() {
@@ -104,7 +106,8 @@ fn strict(alloc: Global, by: Sorting, rows: &[Span]) -> Result<Vec<Span>, AllocE
 fn in_order(alloc: Global, by: Sorting, mut rows: Vec<Span>) -> Result<Vec<Span>, AllocError>
     requires { AreRanked (goes_before by) rows.items }
     ensures order { IfOk result (λ found. each_two (goes_before by) found.items ≡ true) }
-    ensures same { IfOk result (λ found. (r : DeclaredSpan) → has_row found.items r ≡ has_row rows.items r) }
+    ensures same { IfOk result (λ found. (r : DeclaredSpan)
+        → has_row found.items r ≡ has_row rows.items r) }
 {
     sort(by, &mut rows);
     strict(alloc, by, &rows)
@@ -186,8 +189,10 @@ pub(crate) fn at(
     j: u64,
 ) -> Result<Vec<Span>, AllocError>
     requires kept { AreKept rows.now lanes.now }
-    ensures found { IfOk result (λ found. (r : DeclaredSpan) → has_row found.items r ≡ (has_row rows.now r && (nat_le r.from j && nat_lt j r.to))) }
-    ensures order { IfOk result (λ found. each_two (λ r s. nat_lt r.asset s.asset) found.items ≡ true) }
+    ensures found { IfOk result (λ found. (r : DeclaredSpan)
+        → has_row found.items r ≡ (has_row rows.now r && (nat_le r.from j && nat_lt j r.to))) }
+    ensures order { IfOk result (λ found. each_two (λ r s. nat_lt r.asset s.asset) found.items
+        ≡ true) }
 {
     let found = collect(alloc, lanes, j, j.saturating_add(1))?;
     in_order(alloc, Sorting::ByAsset, found)
@@ -218,7 +223,8 @@ fn collect_of(
 /// Whether a row is of the asset of the one in front of it.
 fn repeats(met: &[Span], i: usize) -> bool
     requires { i < length met.now }
-    ensures { result ≡ true → (class : Name) (r : DeclaredSpan) → is_with class (take (i + 1) met.now) r ≡ is_with class (take i met.now) r }
+    ensures { result ≡ true → (class : Name) (r : DeclaredSpan)
+        → is_with class (take (i + 1) met.now) r ≡ is_with class (take i met.now) r }
 {
     i != 0 && met[i - 1].asset == met[i].asset
 }
@@ -234,7 +240,8 @@ fn collect_assets(
     met: &[Span],
 ) -> Result<Vec<Span>, AllocError>
     requires { IsTrue (are_rows rows.now) }
-    ensures { IfOk result (λ found. (r : DeclaredSpan) → has_row found.items r ≡ (has_row rows.now r && is_with class met.now r)) }
+    ensures { IfOk result (λ found. (r : DeclaredSpan)
+        → has_row found.items r ≡ (has_row rows.now r && is_with class met.now r)) }
 {
     let mut found = Vec::new(alloc);
     for i in 0..met.len() {
@@ -259,7 +266,8 @@ pub(crate) fn of_assets_met(
     high: u64,
 ) -> Result<Vec<Span>, AllocError>
     requires kept { AreKept rows.now lanes.now }
-    ensures { IfOk result (λ found. found.items ≡ filter (λ r. is_met_asset rows.now class low high r.class r.asset) rows.now) }
+    ensures { IfOk result (λ found. found.items ≡ filter (λ r.
+        is_met_asset rows.now class low high r.class r.asset) rows.now) }
 {
     let mut met = collect_of(alloc, lanes, class, low, high)?;
     sort(Sorting::ByAsset, &mut met);

@@ -2,7 +2,7 @@
 
 ghost use Rattle.std.specs.Prelude.{◌≡◌, ◌<◌, ◌≤◌, ◌&&◌, nat_eq, nat_lt, IsTrue, IfOk, filter};
 ghost use Rattle.lrs_measure.specs.Texts.{same_name};
-ghost use Rattle.lrs_element.specs.Limits.{longest_route};
+ghost use Rattle.lrs_measure.specs.Limits.{longest_route};
 ghost use Rattle.lrs_events.specs.Changes.{changed_rows};
 ghost use Rattle.lrs_events.specs.Spans.{are_rows, is_row};
 ghost use Rattle.lrs_events_rows.specs.Cuts.{IsCut};
@@ -48,7 +48,8 @@ impl Spans {
     ) -> Result<Removal, AllocError>
         requires { low < high }
         ensures plan { IfOk result (λ removal. IsPlan self.now removal.change) }
-        ensures removal { IfOk result (λ removal. IsRemoval (λ class asset j s. is_within low high j) self.now removal) }
+        ensures removal { IfOk result (λ removal. IsRemoval (λ class asset j s.
+            is_within low high j) self.now removal) }
     {
         let found = self.met(alloc, low, high)?;
         let removal = cleared(alloc, &found, low, high)?;
@@ -69,7 +70,8 @@ impl Spans {
     ) -> Result<Removal, AllocError>
         requires { low < high }
         ensures plan { IfOk result (λ removal. IsPlan self.now removal.change) }
-        ensures removal { IfOk result (λ removal. IsRemoval (λ c a j s. same_name c class && nat_eq a asset && is_within low high j) self.now removal) }
+        ensures removal { IfOk result (λ removal. IsRemoval (λ c a j s.
+            same_name c class && nat_eq a asset && is_within low high j) self.now removal) }
     {
         let found = self.asset_rows(class, asset);
         let removal = cleared(alloc, found, low, high)?;
@@ -83,7 +85,8 @@ impl Spans {
     pub fn plan_cut(&self, alloc: Global, at: u64) -> Result<Cut, AllocError>
         ensures plan { IfOk result (λ cut. IsPlan self.now cut.change) }
         ensures rear { IfOk result (λ cut. IsTrue (are_rows cut.rear.items)) }
-        ensures cut { IfOk result (λ cut. IsCut at self.now (changed_rows cut.change self.now) cut.rear.items) }
+        ensures cut { IfOk result (λ cut. IsCut at self.now
+            (changed_rows cut.change self.now) cut.rear.items) }
     {
         let found = self.behind(alloc, at)?;
         let cut = cut_at(alloc, &found, at)?;
@@ -104,7 +107,8 @@ impl Spans {
         requires room { IsTrue (have_room shift other.now) }
         requires one_class { IsTrue (are_of_one_class self.now other.now) }
         ensures plan { IfOk result (λ change. IsPlan self.now change) }
-        ensures joined { IfOk result (λ change. IsJoin shift self.now other.now (changed_rows change self.now)) }
+        ensures joined { IfOk result (λ change. IsJoin shift self.now other.now
+            (changed_rows change self.now)) }
     {
         joined(alloc, self.rows(), other.rows(), shift)
     }

@@ -11,10 +11,10 @@ ghost use Rattle.lrs_events_lanes.specs.Order.{place_before};
 ghost use Rattle.lrs_events_spans.specs.Search.{IsOver};
 ghost use Rattle.lrs_events_spans.specs.Tied.{is_on};
 
-use crate::overlaps;
-use crate::search::{self, LONGEST_ROUTE};
 use crate::spans::Spans;
+use crate::{overlaps, search};
 use lrs_events::{ClassName, LinkSide, Side, Span};
+use lrs_measure::limits::LONGEST_ROUTE;
 use std::alloc::{AllocError, Global};
 
 impl Spans {
@@ -29,7 +29,8 @@ impl Spans {
 
     /// The rows of the class with this side of the route or both, each once, by start and then by asset.
     pub fn lane(&self, class: ClassName, side: LinkSide) -> &[Span]
-        ensures rows { (r : DeclaredSpan) → has_row result.now r ≡ (has_row self.now r && is_on class side r) }
+        ensures rows { (r : DeclaredSpan) → has_row result.now r
+            ≡ (has_row self.now r && is_on class side r) }
         ensures order { each_two place_before result.now ≡ true }
     {
         search::lane_of(self.kept.rows(), self.kept.lanes(), class, side)
@@ -66,8 +67,10 @@ impl Spans {
     /// # Errors
     /// When memory runs out.
     pub fn at(&self, alloc: Global, j: u64) -> Result<Vec<Span>, AllocError>
-        ensures rows { IfOk result (λ found. (r : DeclaredSpan) → has_row found.items r ≡ (has_row self.now r && (nat_le r.from j && nat_lt j r.to))) }
-        ensures order { IfOk result (λ found. each_two (λ r s. nat_lt r.asset s.asset) found.items ≡ true) }
+        ensures rows { IfOk result (λ found. (r : DeclaredSpan)
+            → has_row found.items r ≡ (has_row self.now r && (nat_le r.from j && nat_lt j r.to))) }
+        ensures order { IfOk result (λ found. each_two (λ r s. nat_lt r.asset s.asset) found.items
+            ≡ true) }
     {
         overlaps::at(alloc, self.kept.rows(), self.kept.lanes(), j)
     }

@@ -2,7 +2,7 @@
 //! behind the new ground.
 
 ghost use Rattle.std.specs.Prelude.{◌≡◌, ◌+◌, ◌≤◌, IsTrue, IfOk};
-ghost use Rattle.lrs_element.specs.Limits.{longest_route};
+ghost use Rattle.lrs_measure.specs.Limits.{longest_route};
 ghost use Rattle.lrs_events.specs.Spans.{are_rows};
 ghost use Rattle.lrs_events_rows.specs.Joins.{end_by, have_room, are_of_one_class, IsJoin};
 ghost use Rattle.lrs_events_spans.specs.Realigning.{have_room_behind, IsRealigning};

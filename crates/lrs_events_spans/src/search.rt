@@ -16,10 +16,8 @@ use crate::lanes::ClassLanes;
 use lrs_events::{ClassName, LinkSide, Side, Span};
 use lrs_events_lanes::Lane;
 use lrs_events_rows::order::rows_on;
+use lrs_measure::limits::LONGEST_ROUTE;
 use std::alloc::{AllocError, Global};
-
-// The length of the longest route in millimetres.
-pub(crate) const LONGEST_ROUTE: u64 = 10_000_000_000;
 
 /// The rows of an asset of the class.
 pub(crate) fn asset_rows(rows: &[Span], class: ClassName, asset: u64) -> &[Span]
@@ -57,7 +55,8 @@ pub(crate) fn lane_of<'a>(
     side: LinkSide,
 ) -> &'a [Span]
     requires kept { AreKept rows.now lanes.now }
-    ensures rows { (r : DeclaredSpan) → has_row result.now r ≡ (has_row rows.now r && is_on class side r) }
+    ensures rows { (r : DeclaredSpan) → has_row result.now r
+        ≡ (has_row rows.now r && is_on class side r) }
     ensures order { each_two place_before result.now ≡ true }
 {
     let at = place_of(lanes, class);

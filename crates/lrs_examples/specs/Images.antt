@@ -8,7 +8,7 @@ use Rattle.lrs_element.specs.declared.link.Link.{Link}
 use Rattle.lrs_element.specs.declared.link.Piece.{Piece}
 use Rattle.lrs_element.specs.declared.link.Ground.{Ground}
 use Rattle.lrs_element.specs.declared.marks.Mark.{Mark}
-use Rattle.lrs_element.specs.Limits.{is_link}
+use Rattle.lrs_measure.specs.Limits.{is_link}
 use Rattle.lrs_element.specs.Course.{course_of}
 use Rattle.lrs_events.specs.declared.class.Class.{Class}
 use Rattle.lrs_events.specs.declared.class.Asset.{Asset}
@@ -31,7 +31,7 @@ use Rattle.lrs_position.specs.Routes.{is_route}
 use Rattle.lrs_events.specs.declared.part.Part.{Part}
 use Rattle.lrs_events.specs.declared.part.Gone.{Gone}
 use Rattle.lrs_events.specs.declared.span.Span.{Span}
-use Rattle.lrs_machine.specs.declared.image.RouteEntry.{RouteEntry}
+use Rattle.lrs_machine.specs.declared.image.RouteRow.{RouteRow}
 use Rattle.lrs_machine.specs.declared.image.Edit.{Edit}
 use Rattle.lrs_machine.specs.declared.image.Image.{Image}
 use Rattle.lrs_machine.specs.declared.table.Table.{Table}
@@ -63,17 +63,17 @@ class_row name kind = record { name = name; kind = kind }
 
 -- an asset that edit 8 entered
 abbrev pub asset_row : ℕ → Name → ℕ → Asset
-asset_row number class lateral = record { number = number; class = class; value = codes "80"; lateral = lateral; entry = 8 }
+asset_row number class lateral = record { number = number; class = class; value = codes "80"; lateral = lateral; entered_by = 8 }
 
-abbrev pub route_row : (name : Name) (course : List Ground) (marks : List Mark) (refs : List Referent) → IsTrue (is_route course marks refs) → List Span → RouteEntry
+abbrev pub route_row : (name : Name) (course : List Ground) (marks : List Mark) (refs : List Referent) → IsTrue (is_route course marks refs) → List Span → RouteRow
 route_row name course marks refs fits spans = record { route = record { name = name; course = course; marks = marks; refs = refs; fits = fits }; spans = spans }
 
 -- the route of the first sheet with these spans
-abbrev pub first_route : List Span → RouteEntry
+abbrev pub first_route : List Span → RouteRow
 first_route spans = route_row a1 (course_of first_pieces) first_marks [] refl spans
 
 -- a route over these pieces, measured from 0, and without spans
-abbrev pub bare_route : (name : Name) (pieces : List Piece) (length : ℕ) → IsTrue (is_route (course_of pieces) (plain length) []) → RouteEntry
+abbrev pub bare_route : (name : Name) (pieces : List Piece) (length : ℕ) → IsTrue (is_route (course_of pieces) (plain length) []) → RouteRow
 bare_route name pieces length fits = route_row name (course_of pieces) (plain length) [] fits []
 
 -- an accepted command with its line
@@ -131,12 +131,12 @@ unfolding digits step attempt
 machine_classes = refl
 
 -- Its asset, with the edit that entered it.
-pub image_assets : (state_of speed_image).assets.rows ≡ (10, record { class = speed; value = codes "80"; lateral = 0; entry = 8 }) ∷ []
+pub image_assets : (state_of speed_image).assets.rows ≡ (10, record { class = speed; value = codes "80"; lateral = 0; entered_by = 8 }) ∷ []
 unfolding digits state_of
 image_assets = refl
 
 -- The asset of the state.
-pub machine_assets : (after with_speed).assets.rows ≡ (10, record { class = speed; value = codes "80"; lateral = 0; entry = 8 }) ∷ []
+pub machine_assets : (after with_speed).assets.rows ≡ (10, record { class = speed; value = codes "80"; lateral = 0; entered_by = 8 }) ∷ []
 unfolding digits step attempt
 machine_assets = refl
 
@@ -159,7 +159,7 @@ same_as_the_state = refl
 -- The image after the speed limit was superseded on one side.
 abbrev pub superseded_image : Image
 superseded_image = record speed_image {
-  assets = asset_row 10 speed 0 ∷ record (asset_row 12 speed 0) { value = codes "50"; entry = 9 } ∷ [];
+  assets = asset_row 10 speed 0 ∷ record (asset_row 12 speed 0) { value = codes "50"; entered_by = 9 } ∷ [];
   routes = first_route (span 10 5 10 R ∷ span 10 10 16 B ∷ span 12 5 10 L ∷ []) ∷ [];
   entered = entered_rows ++ record (part 1 5 10 Left) { edit = 9; asset = 12 } ∷ [];
   gone = gone_part false (record (part 1 5 10 Left) { edit = 9 }) ∷ [];
@@ -238,7 +238,7 @@ with_classes classes = record speed_image { classes = classes }
 abbrev pub with_assets : List Asset → Image
 with_assets assets = record speed_image { assets = assets }
 
-abbrev pub with_routes : List RouteEntry → Image
+abbrev pub with_routes : List RouteRow → Image
 with_routes routes = record speed_image { routes = routes }
 
 abbrev pub with_spans : List Span → Image
@@ -266,7 +266,7 @@ UnsoundTables =
     × (first_unsound (with_entered (part 1 5 11 Left ∷ part 1 5 10 Right ∷ part 2 0 6 Left ∷ part 2 0 6 Right ∷ [])) ≡ Some table.Entered)
     × (first_unsound (with_entered []) ≡ Some table.Gone)
     × (first_unsound (with_edits sheet) ≡ Some table.Edit)
-    × (first_unsound (with_assets (record (asset_row 10 speed 0) { entry = 7 } ∷ [])) ≡ Some table.Origin)
+    × (first_unsound (with_assets (record (asset_row 10 speed 0) { entered_by = 7 } ∷ [])) ≡ Some table.Origin)
 
 -- The faults of an image, each by its table.
 abbrev pub faults : List Image → List (Option Table)
@@ -363,8 +363,8 @@ unsound_edits = refl
 
 -- origin: an edit that entered another asset or none; an asset that was never entered, nor held; entered by two edits.
 pub unsound_origins : faults (
-    with_assets (record (asset_row 10 speed 0) { entry = 9 } ∷ []) ∷ with_assets (record (asset_row 10 speed 0) { entry = 0 } ∷ [])
-    ∷ with_assets (asset_row 10 speed 0 ∷ asset_row 11 speed 0 ∷ []) ∷ with_assets (asset_row 10 speed 0 ∷ record (asset_row 11 speed 0) { entry = 0 } ∷ [])
+    with_assets (record (asset_row 10 speed 0) { entered_by = 9 } ∷ []) ∷ with_assets (record (asset_row 10 speed 0) { entered_by = 0 } ∷ [])
+    ∷ with_assets (asset_row 10 speed 0 ∷ asset_row 11 speed 0 ∷ []) ∷ with_assets (asset_row 10 speed 0 ∷ record (asset_row 11 speed 0) { entered_by = 0 } ∷ [])
     ∷ with_entered (record (part 1 5 10 Left) { edit = 7 } ∷ part 1 5 10 Right ∷ part 2 0 6 Left ∷ part 2 0 6 Right ∷ [])
     ∷ record superseded_image { assets = asset_row 10 speed 0 ∷ record (asset_row 12 speed 0) { value = codes "50" } ∷ [] } ∷ [])
     ≡ replicate 6 (Some table.Origin)
@@ -375,7 +375,7 @@ unsound_origins = refl
 pub first_unsound_table : faults (
     record (with_links (link_row 2 6 refl ∷ link_row 1 10 refl ∷ [])) { assets = []; edits = [] }
     ∷ record (with_assets []) { entered = []; edits = [] } ∷ record (with_spans (span 10 5 17 B ∷ [])) { entered = []; edits = [] }
-    ∷ record (with_entered []) { edits = [] } ∷ record (with_assets (record (asset_row 10 speed 0) { entry = 7 } ∷ [])) { edits = [] } ∷ [])
+    ∷ record (with_entered []) { edits = [] } ∷ record (with_assets (record (asset_row 10 speed 0) { entered_by = 7 } ∷ [])) { edits = [] } ∷ [])
     ≡ Some table.Link ∷ Some table.Span ∷ Some table.Span ∷ Some table.Gone ∷ Some table.Edit ∷ []
 unfolding digits first_unsound
 first_unsound_table = refl

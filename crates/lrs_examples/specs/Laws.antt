@@ -69,7 +69,7 @@ has_its_entry s asset entry =
     list_any (s.entered entry asset) (all_places s) && list_all (λ n. nat_eq n entry || not (list_any (s.entered n asset) (all_places s))) (edits_of s)
 
 -- After each example each asset was entered by the one edit that it names.
-pub assets_have_entries : list_all (λ records. list_all (λ a. has_its_entry (after records) a.0 a.1.entry) (after records).assets.rows) worked ≡ true
+pub assets_have_entries : list_all (λ records. list_all (λ a. has_its_entry (after records) a.0 a.1.entered_by) (after records).assets.rows) worked ≡ true
 unfolding digits step attempt
 assets_have_entries = refl
 

@@ -79,7 +79,7 @@ no_rows = refl
 
 -- An asset keeps its class, its value, its lateral offset and the edit that entered it, wherever it lies.
 pub what_is_known : map (get (after (adding sheet (verb.Enter (record { asset = 30; class = rail; route = a1; side = L; location = between (abs 0) (abs 12); value = codes "STEEL"; offset = 300 }) ∷ verb.Close a1 ∷ []))).assets) (30 ∷ 31 ∷ [])
-    ≡ Some (record { class = rail; value = codes "STEEL"; lateral = 300; entry = 8 }) ∷ None ∷ []
+    ≡ Some (record { class = rail; value = codes "STEEL"; lateral = 300; entered_by = 8 }) ∷ None ∷ []
 unfolding digits step attempt
 what_is_known = refl
 

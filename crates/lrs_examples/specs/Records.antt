@@ -5,11 +5,11 @@ use Rattle.lrs_events.specs.declared.side.Side.TheVariants.{L, R, B}
 use Rattle.lrs_machine.specs.Lines.{Text}
 use Rattle.lrs_machine.specs.declared.answer.Field.{Field}
 use Rattle.lrs_machine.specs.declared.answer.Field.TheVariants as field
-use Rattle.lrs_machine.specs.declared.command.Entry.{Entry}
+use Rattle.lrs_machine.specs.declared.command.NewAsset.{NewAsset}
 use Rattle.lrs_machine.specs.declared.command.Command.{Command}
 use Rattle.lrs_machine.specs.declared.command.Command.TheVariants as verb
 use Rattle.lrs_sheet_records.specs.Records.{FirstMalformedAmong, SaysAmong, place_of}
-use Rattle.lrs_sheet_records.specs.Surveys.{FirstMalformedEntry, SaysEntry, survey_header}
+use Rattle.lrs_sheet_records.specs.Surveys.{FirstMalformedNewAsset, SaysNewAsset, survey_header}
 use Rattle.lrs_sheet_records.specs.Verbs.{all_verbs}
 use Rattle.lrs_sheet_records.specs.Words.{parts_of}
 use Rattle.lrs_examples.specs.Sheet.{a1, km2, km5, speed, rail, sign, abs, past, short_of, share, between, at, link, class, forth, back, mark, plain, enter, supersede, split, join, realign, realign_away, retire}
@@ -27,11 +27,11 @@ abbrev pub Names : Text → Field → Type 0
 Names line field = FirstMalformedAmong all_verbs (row line) (place_of field)
 
 -- The same of a line of a survey, whose columns have the letters of an entry's fields.
-abbrev pub SaysSurveyed : Text → Entry → Type 0
-SaysSurveyed line entry = SaysEntry (row line) (codes "k") entry
+abbrev pub SaysSurveyed : Text → NewAsset → Type 0
+SaysSurveyed line entry = SaysNewAsset (row line) (codes "k") entry
 
 abbrev pub NamesSurveyed : Text → Field → Type 0
-NamesSurveyed line field = FirstMalformedEntry (row line) (place_of field)
+NamesSurveyed line field = FirstMalformedNewAsset (row line) (place_of field)
 
 -- Well formed records of each verb.
 pub record SayEachVerb : Type 0 where

@@ -14,7 +14,7 @@ use Rattle.lrs_machine.specs.declared.answer.Answer.TheVariants.{Done, Again, Re
 use Rattle.lrs_machine.specs.declared.answer.Cause.TheVariants as cause
 use Rattle.lrs_machine.specs.declared.command.Command.{Command}
 use Rattle.lrs_machine.specs.declared.command.Command.TheVariants as verb
-use Rattle.lrs_machine.specs.Bounds.{are_limits}
+use Rattle.lrs_measure.specs.Limits.{are_limits}
 use Rattle.lrs_machine.specs.State.{nothing_known}
 use Rattle.lrs_machine.specs.Machine.{Record, answers, attempt, step}
 use Rattle.lrs_examples.specs.Sheet.{a1, a2, b1, nowhere, km2, km5, speed, rail, sign, abs, past, short_of, between, at, link, class, forth, back, mark, plain, enter, supersede, split, realign, realign_away, retire, keyed, under, adding, after, replies, first_marks, sheet, speed_limit, with_speed, lower_limit, second_kilometre}

@@ -6,7 +6,7 @@ use Rattle.lrs_measure.specs.Texts.{Name}
 use Rattle.lrs_measure.specs.Runs.{Run}
 use Rattle.lrs_element.specs.declared.link.Piece.{Piece}
 use Rattle.lrs_element.specs.declared.marks.Mark.{Mark}
-use Rattle.lrs_element.specs.Limits.{is_link}
+use Rattle.lrs_measure.specs.Limits.{is_link}
 use Rattle.lrs_element.specs.Course.{course_of}
 use Rattle.lrs_position.specs.declared.expression.Expr.{Expr}
 use Rattle.lrs_position.specs.declared.expression.Expr.TheVariants.{Abs, Rel, Int}
@@ -26,7 +26,7 @@ use Rattle.lrs_machine.specs.declared.command.Command.{Command}
 use Rattle.lrs_machine.specs.declared.command.Command.TheVariants as verb
 use Rattle.lrs_machine.specs.Register.{get}
 use Rattle.lrs_machine.specs.State.{State, Retired, Abandoned, nothing_known}
-use Rattle.lrs_machine.specs.Machine.{Record, answers, state_after, entry_of_referent}
+use Rattle.lrs_machine.specs.Machine.{Record, answers, state_after, referent_chainage}
 use Rattle.lrs_machine.specs.Readings.{total_present, total_entered, total_gone, hits_at}
 
 -- names: three routes and two referents
@@ -198,11 +198,11 @@ over pieces marks = Some (alignment pieces marks)
 
 -- the millimetre of a route that a referent stands in
 abbrev pub referent_at : State → Name → Name → Option ℕ
-referent_at s route referent = option_and_then (λ a. entry_of_referent s a referent) (route_of s route)
+referent_at s route referent = option_and_then (λ a. referent_chainage s a referent) (route_of s route)
 
 -- who lies at a position of A1: an asset, the edit that entered it, and its side
 abbrev pub holders : List Record → Expr → Option (List (ℕ × ℕ × Side))
-holders records position = option_map (map (λ h. (h.asset.number, h.asset.entry, h.side))) (hits_at (after records) a1 position)
+holders records position = option_map (map (λ h. (h.asset.number, h.asset.entered_by, h.side))) (hits_at (after records) a1 position)
 
 -- a millimetre of a link, and a side of it
 abbrev pub place : ℕ → ℕ → LinkSide → Place

@@ -120,7 +120,7 @@ more = record second_version {
 
 -- what a store holds, shortly: its links, the routes with the numbers of their marks, referents and spans, and each asset with its edit
 abbrev pub names_and_entries : Result Image Table → Result (List (Name × ℕ × ℕ × ℕ) × List (ℕ × ℕ)) Table
-names_and_entries (Ok i) = Ok (map (λ e. (e.route.name, length e.route.marks, length e.route.refs, length e.spans)) i.routes, map (λ a. (a.number, a.entry)) i.assets)
+names_and_entries (Ok i) = Ok (map (λ e. (e.route.name, length e.route.marks, length e.route.refs, length e.spans)) i.routes, map (λ a. (a.number, a.entered_by)) i.assets)
 names_and_entries (Err t) = Err t
 
 -- Rows of two routes and two assets, among each other, are put in order.

@@ -6,9 +6,9 @@ use Rattle.std.proofs.lemmas.Bool.{and_parts}
 use Rattle.lrs_measure.specs.Lists.{each_two}
 use Rattle.lrs_element.specs.Course.{meets}
 use Rattle.lrs_machine.specs.declared.image.Image.{Image}
-use Rattle.lrs_machine.specs.declared.image.RouteEntry.{RouteEntry}
+use Rattle.lrs_machine.specs.declared.image.RouteRow.{RouteRow}
 use Rattle.lrs_machine.specs.declared.table.Table.TheVariants as table
-use Rattle.lrs_machine.specs.Bounds.{most_routes, most_assets}
+use Rattle.lrs_measure.specs.Limits.{most_routes, most_assets}
 use Rattle.lrs_machine.specs.Sound.{link_before, class_before, asset_before, route_before, course_before, is_asset, is_course, are_links, are_classes, are_assets, are_courses, courses_of, are_all_marks, marks_of, are_all_referents, referents_of, are_spans, spans_of, are_entered, are_gone, are_edits, are_origins, IsSound, first_unsound, tests}
 use Rattle.lrs_machine.proofs.SoundImages.{passed}
 use Rattle.lrs_machine.proofs.Pairs.{each_two-map}
@@ -62,5 +62,5 @@ routes_in_order i h =
     let each = list_all (is_course i.links) courses in
     let free = each_two (λ c d. not (meets c.entries d.entries)) courses in
     let few = nat_le (length courses) most_routes in
-    sym (each_two-map course_before (λ (e : RouteEntry). record { route = e.route.name; entries = e.route.course }) i.routes)
+    sym (each_two-map course_before (λ (e : RouteRow). record { route = e.route.name; entries = e.route.course }) i.routes)
     ∙ (and_parts order each (and_parts (order && each) free (and_parts (order && each && free) few (passes i h).courses).0).0).0

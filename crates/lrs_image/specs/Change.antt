@@ -13,7 +13,7 @@ use Rattle.lrs_position.specs.Routes.{is_route, referent_before}
 use Rattle.lrs_events.specs.declared.span.Span.{Span}
 use Rattle.lrs_events.specs.Changes.{has_row, changed}
 use Rattle.lrs_events.specs.Spans.{are_rows, span_before}
-use Rattle.lrs_machine.specs.declared.image.RouteEntry.{RouteEntry}
+use Rattle.lrs_machine.specs.declared.image.RouteRow.{RouteRow}
 use Rattle.lrs_machine.specs.declared.image.Edit.{Edit}
 use Rattle.lrs_machine.specs.declared.image.Image.{Image}
 use Rattle.lrs_machine.specs.Sound.{link_before, class_before, asset_before, route_before, IsSound}
@@ -49,24 +49,24 @@ route_after c r = route_if c r (fits_after c r) (λ i. fits_after c r)
 abbrev pub spans_after : RouteChange → List Span → List Span
 spans_after c rows = changed span_before c.spans_gone c.spans_come rows
 
-abbrev pub entry_after : RouteChange → RouteEntry → RouteEntry
+abbrev pub entry_after : RouteChange → RouteRow → RouteRow
 entry_after c e = record { route = route_after c e.route; spans = spans_after c e.spans }
 
 -- all routes
 
-abbrev pub is_named : Name → RouteEntry → Bool
+abbrev pub is_named : Name → RouteRow → Bool
 is_named name e = same_name e.route.name name
 
 -- the routes of other names
-abbrev pub without : Name → List RouteEntry → List RouteEntry
+abbrev pub without : Name → List RouteRow → List RouteRow
 without name routes = filter (λ e. not (is_named name e)) routes
 
-abbrev pub without_some : Option Name → List RouteEntry → List RouteEntry
+abbrev pub without_some : Option Name → List RouteRow → List RouteRow
 without_some None routes = routes
 without_some (Some name) routes = without name routes
 
 -- the routes after a change of one, which is then in the place of its new name
-abbrev pub routes_after : Option RouteChange → List RouteEntry → List RouteEntry
+abbrev pub routes_after : Option RouteChange → List RouteRow → List RouteRow
 routes_after None routes = routes
 routes_after (Some c) routes = insert_some route_before (option_map (entry_after c) (find (is_named c.route) routes)) (without c.route routes)
 
@@ -101,15 +101,15 @@ abbrev pub refers_to : Name → Referent → Bool
 refers_to name r = same_name r.name name
 
 -- the rows that go are rows of the route
-abbrev pub are_rows_of : RouteEntry → List Span → Bool
+abbrev pub are_rows_of : RouteRow → List Span → Bool
 are_rows_of e gone = list_all (has_row e.spans) gone
 
 -- the names that go are those of referents of the route
-abbrev pub are_names_of : RouteEntry → List Name → Bool
+abbrev pub are_names_of : RouteRow → List Name → Bool
 are_names_of e gone = list_all (λ name. list_any (refers_to name) e.route.refs) gone
 
 -- The rows that go are of the route and told apart, the referents that go are of the route, and course, marks, referents and rows after the change are those of a route.
-pub record CanBecome (c : RouteChange) (e : RouteEntry) : Type 0 where
+pub record CanBecome (c : RouteChange) (e : RouteRow) : Type 0 where
   pub fits : fits_after c e.route ≡ true
   pub rows : are_rows (spans_after c e.spans) ≡ true
   pub gone : each_two span_before c.spans_gone ≡ true
@@ -117,12 +117,12 @@ pub record CanBecome (c : RouteChange) (e : RouteEntry) : Type 0 where
   pub named : are_names_of e c.refs.gone ≡ true
 
 -- The route that changes is there, and can become what the change says.
-pub record CanChange (c : RouteChange) (routes : List RouteEntry) : Type 0 where
-  pub entry : RouteEntry
-  pub found : find (is_named c.route) routes ≡ Some entry
-  pub becomes : CanBecome c entry
+pub record CanChange (c : RouteChange) (routes : List RouteRow) : Type 0 where
+  pub row : RouteRow
+  pub found : find (is_named c.route) routes ≡ Some row
+  pub becomes : CanBecome c row
 
-abbrev pub CanChangeRoute : Option RouteChange → List RouteEntry → Type 0
+abbrev pub CanChangeRoute : Option RouteChange → List RouteRow → Type 0
 CanChangeRoute None routes = ⊤
 CanChangeRoute (Some c) routes = CanChange c routes
 

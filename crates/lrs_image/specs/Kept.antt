@@ -4,7 +4,7 @@ use Rattle.std.specs.List.{find}
 use Rattle.std.specs.Option.{option_map}
 use Rattle.lrs_measure.specs.Ordered.{insert_some}
 use Rattle.lrs_machine.specs.declared.image.Image.{Image}
-use Rattle.lrs_machine.specs.declared.image.RouteEntry.{RouteEntry}
+use Rattle.lrs_machine.specs.declared.image.RouteRow.{RouteRow}
 use Rattle.lrs_events_spans.specs.Opened.{HasRoom}
 use Rattle.lrs_image.specs.declared.change.RouteChange.{RouteChange}
 use Rattle.lrs_image.specs.declared.change.Difference.{Difference}
@@ -26,12 +26,12 @@ image_of k = record {
 }
 
 -- a route that is out of its place, as it is
-abbrev pub entry_of : OpenRoute → RouteEntry
-entry_of o = record { route = o.route; spans = o.spans.rows }
+abbrev pub row_of_open : OpenRoute → RouteRow
+row_of_open o = record { route = o.route; spans = o.spans.rows }
 
 -- routes with the one that is out of its place
-abbrev pub routes_with : Option OpenRoute → List RouteEntry → List RouteEntry
-routes_with opened routes = insert_some route_before (option_map entry_of opened) routes
+abbrev pub routes_with : Option OpenRoute → List RouteRow → List RouteRow
+routes_with opened routes = insert_some route_before (option_map row_of_open opened) routes
 
 -- the image of lists with the route that is out of its place
 abbrev pub image_with : Option OpenRoute → KeptImage → Image
@@ -47,13 +47,13 @@ IsOpenFor c None = ⊤
 IsOpenFor c (Some o) = IsReadyFor c o
 
 -- The route of the name, where there is one, is out of its place among the routes, and ready.
-pub record IsTakenFor (c : RouteChange) (opened : Option OpenRoute) (others routes : List RouteEntry) : Type 0 where
+pub record IsTakenFor (c : RouteChange) (opened : Option OpenRoute) (others routes : List RouteRow) : Type 0 where
   pub ready : IsOpenFor c opened
-  pub found : option_map entry_of opened ≡ find (is_named c.route) routes
+  pub found : option_map row_of_open opened ≡ find (is_named c.route) routes
   pub others_are : others ≡ without c.route routes
 
 -- Only the route that changes is out of its place.
-abbrev pub HasOpened : Option RouteChange → Option OpenRoute → List RouteEntry → Type 0
+abbrev pub HasOpened : Option RouteChange → Option OpenRoute → List RouteRow → Type 0
 HasOpened None opened others = opened ≡ None
 HasOpened (Some c) opened others = IsTakenFor c opened others (routes_with opened others)
 

@@ -5,7 +5,7 @@ ghost use Rattle.lrs_image.specs.Change as change;
 
 use lrs_element::{Course, Link, Marks};
 use lrs_events::{Asset, Class, Gone, Part, Span};
-use lrs_machine::{Edit, RouteEntry};
+use lrs_machine::{Edit, RouteRow};
 use lrs_measure::{Rows, TryCopy};
 use lrs_position::{RefName, Referent, RouteName};
 use std::alloc::{AllocError, Global};
@@ -90,7 +90,7 @@ pub struct Difference {
     pub asset: Option<Asset>,
     pub changed: Option<RouteChange>,
     pub dropped: Option<RouteName>,
-    pub made: Option<RouteEntry>,
+    pub made: Option<RouteRow>,
     pub entered: Rows<Part>,
     pub gone: Rows<Gone>,
 }

@@ -53,11 +53,14 @@ pub trait Keeper {
 
     /// Reads the image. It leaves the content as it is, whatever it answers.
     fn load(&mut self, alloc: Global) -> Result<Image, LoadFault>
-        ensures image { IfOk result (λ image. (c : Result Image Table) → may_hold self.new c → c ≡ Ok image) }
+        ensures image { IfOk result (λ image. (c : Result Image Table) → may_hold self.new c
+            → c ≡ Ok image) }
         ensures sound { IfOk result (λ image. IsSound image) }
         ensures loaded { OnOk result (is_loaded self.new ≡ true) }
-        ensures unsound { (t : Table) → result ≡ Err (LoadFault.Unsound t) → (c : Result Image Table) → may_hold self.new c → c ≡ Err t }
-        ensures store { result ≡ Err LoadFault.Store → HasRisen (failures self.old) (failures self.new) }
+        ensures unsound { (t : Table) → result ≡ Err (LoadFault.Unsound t)
+            → (c : Result Image Table) → may_hold self.new c → c ≡ Err t }
+        ensures store { result ≡ Err LoadFault.Store
+            → HasRisen (failures self.old) (failures self.new) }
         ensures quiet { (result ≡ Err LoadFault.Store → ⊥) → failures self.new ≡ failures self.old }
         ensures counts { failures self.old ≤ failures self.new }
         ensures found { HoldsSound (may_hold self.new) }
@@ -67,9 +70,12 @@ pub trait Keeper {
     fn commit(&mut self, changes: &[Change]) -> Result<(), CommitFailed>
         requires loaded { is_loaded self.old ≡ true }
         requires sound { HoldsSound (may_hold self.old) }
-        requires can { (c : Result Image Table) → may_hold self.old c → IfOk c (CanMakeAll changes.now) }
-        ensures ok { OnOk result ((c : Result Image Table) → may_hold self.new c → IsChangedBy (may_hold self.old) changes.now c) }
-        ensures failed { OnErr result ((c : Result Image Table) → may_hold self.new c → may_hold self.old c ⊎ IsChangedBySome (may_hold self.old) changes.now c) }
+        requires can { (c : Result Image Table) → may_hold self.old c
+            → IfOk c (CanMakeAll changes.now) }
+        ensures ok { OnOk result ((c : Result Image Table) → may_hold self.new c
+            → IsChangedBy (may_hold self.old) changes.now c) }
+        ensures failed { OnErr result ((c : Result Image Table) → may_hold self.new c
+            → may_hold self.old c ⊎ IsChangedBySome (may_hold self.old) changes.now c) }
         ensures cause { OnErr result (HasRisen (failures self.old) (failures self.new)) }
         ensures counts { failures self.old ≤ failures self.new }
         ensures found { HoldsSound (may_hold self.new) }

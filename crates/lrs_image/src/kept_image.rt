@@ -13,7 +13,7 @@ use crate::open_route::OpenRoute;
 use crate::routes::{drop_route, open_route, put_changed};
 use lrs_element::Link;
 use lrs_events::{Asset, Class, Gone, Part};
-use lrs_machine::{Edit, Image, RouteEntry};
+use lrs_machine::{Edit, Image, RouteRow};
 use lrs_measure::{Rows, TryCopy};
 use lrs_ordered::Chunked;
 use std::alloc::{AllocError, Global};
@@ -25,7 +25,7 @@ pub struct KeptImage {
     pub links: Chunked<Link>,
     pub classes: Chunked<Class>,
     pub assets: Chunked<Asset>,
-    pub routes: Chunked<RouteEntry>,
+    pub routes: Chunked<RouteRow>,
     pub entered: Vec<Part>,
     pub gone: Vec<Gone>,
     pub edits: Vec<Edit>,
@@ -175,7 +175,8 @@ impl KeptImage {
         requires sound { IsSound (image_of self.old) }
         requires can { CanMakeAll changes.now (image_of self.old) }
         ensures ok { OnOk result (image_of self.new ≡ apply_all changes.now (image_of self.old)) }
-        ensures err { OnErr result ((k : ℕ) × (image_of self.new ≡ apply_all (take k changes.now) (image_of self.old))) }
+        ensures err { OnErr result ((k : ℕ) × (image_of self.new
+            ≡ apply_all (take k changes.now) (image_of self.old))) }
         ensures sound { IsSound (image_of self.new) }
     {
         for change in changes {

@@ -6,12 +6,12 @@ ghost use Rattle.lrs_measure.specs.Lists.{each_two};
 ghost use Rattle.lrs_measure.specs.Texts.{same_name};
 ghost use Rattle.lrs_position.specs.Routes.{referent_before};
 ghost use Rattle.lrs_image.specs.Change.{changed_refs, entry_after, CanBecome};
-ghost use Rattle.lrs_image.specs.Kept.{entry_of, IsReadyFor};
+ghost use Rattle.lrs_image.specs.Kept.{row_of_open, IsReadyFor};
 
 use crate::change::{ReferentChange, RouteChange};
 use crate::lists::{chunks_of, rows_of};
 use lrs_events_spans::{OpenSpans, Spans};
-use lrs_machine::RouteEntry;
+use lrs_machine::RouteRow;
 use lrs_measure::Rows;
 use lrs_ordered::Chunked;
 use lrs_position::{RefName, Referent, Route};
@@ -28,21 +28,21 @@ pub struct OpenRoute {
 
 impl OpenRoute {
     /// Opens a route. It takes no memory.
-    pub fn open(entry: RouteEntry) -> OpenRoute
-        ensures { entry_of result ≡ entry }
+    pub fn open(route_row: RouteRow) -> OpenRoute
+        ensures { row_of_open result ≡ route_row }
     {
         OpenRoute {
-            route: entry.route,
+            route: route_row.route,
             refs_after: None,
-            spans: entry.spans.open(),
+            spans: route_row.spans.open(),
         }
     }
 
     /// The route as it is. It takes no memory.
-    pub fn close(self) -> RouteEntry
-        ensures { result ≡ entry_of self }
+    pub fn close(self) -> RouteRow
+        ensures { result ≡ row_of_open self }
     {
-        RouteEntry {
+        RouteRow {
             route: self.route,
             spans: Spans::close(self.spans),
         }
@@ -53,8 +53,8 @@ impl OpenRoute {
     /// # Errors
     /// When memory runs out.
     pub fn make_room(&mut self, alloc: Global, change: &RouteChange) -> Result<(), AllocError>
-        requires { CanBecome change.now (entry_of self.old) }
-        ensures entry { entry_of self.new ≡ entry_of self.old }
+        requires { CanBecome change.now (row_of_open self.old) }
+        ensures route_row { row_of_open self.new ≡ row_of_open self.old }
         ensures ready { OnOk result (IsReadyFor change.now self.new) }
     {
         self.spans.make_room(change.spans_come.as_slice())?;
@@ -63,10 +63,10 @@ impl OpenRoute {
     }
 
     /// The route after a change for which it is ready. It takes no memory.
-    pub fn finish(self, change: RouteChange) -> RouteEntry
+    pub fn finish(self, change: RouteChange) -> RouteRow
         requires ready { IsReadyFor change self }
-        requires can { CanBecome change (entry_of self) }
-        ensures { result ≡ entry_after change (entry_of self) }
+        requires can { CanBecome change (row_of_open self) }
+        ensures { result ≡ entry_after change (row_of_open self) }
     {
         let OpenRoute {
             route,
@@ -80,7 +80,7 @@ impl OpenRoute {
             marks: change.marks.unwrap_or(route.marks),
             refs: refs_after.unwrap_or(route.refs),
         };
-        RouteEntry {
+        RouteRow {
             route,
             spans: Spans::close(spans),
         }
@@ -94,7 +94,8 @@ fn refs_after(
     change: &ReferentChange,
 ) -> Result<Option<Rows<Referent>>, AllocError>
     requires order { each_two referent_before (changed_refs change.now route.now.refs) ≡ true }
-    ensures { IfOk result (λ after. unwrap_or after route.now.refs ≡ changed_refs change.now route.now.refs) }
+    ensures { IfOk result (λ after. unwrap_or after route.now.refs
+        ≡ changed_refs change.now route.now.refs) }
 {
     if change.gone.is_empty() && change.come.is_empty() {
         return Ok(None);
@@ -112,7 +113,8 @@ fn refs_after(
 /// Takes the referents of these names out.
 fn remove_named(refs: &mut Chunked<Referent>, names: &[RefName])
     requires order { each_two referent_before refs.old.rows ≡ true }
-    ensures refs { refs.new.rows ≡ filter (λ r. not (list_any (same_name r.name) names.now)) refs.old.rows }
+    ensures refs { refs.new.rows ≡ filter (λ r. not
+        (list_any (same_name r.name) names.now)) refs.old.rows }
     ensures room { refs.new.room ≡ refs.old.room }
 {
     for name in names {

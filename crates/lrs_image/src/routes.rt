@@ -6,11 +6,11 @@ ghost use Rattle.std.specs.Option.{option_map};
 ghost use Rattle.lrs_measure.specs.Lists.{each_two};
 ghost use Rattle.lrs_machine.specs.Sound.{route_before};
 ghost use Rattle.lrs_image.specs.Change.{is_named, without, without_some, routes_after, CanChangeRoute};
-ghost use Rattle.lrs_image.specs.Kept.{entry_of, routes_with, IsOpenFor, HasOpened};
+ghost use Rattle.lrs_image.specs.Kept.{row_of_open, routes_with, IsOpenFor, HasOpened};
 
 use crate::change::RouteChange;
 use crate::open_route::OpenRoute;
-use lrs_machine::RouteEntry;
+use lrs_machine::RouteRow;
 use lrs_ordered::Chunked;
 use lrs_position::RouteName;
 use std::alloc::{AllocError, Global};
@@ -18,22 +18,23 @@ use std::alloc::{AllocError, Global};
 /// Takes the route that changes, if there is one of its name, out of its place and makes room for the change.
 pub fn open_route(
     alloc: Global,
-    routes: &mut Chunked<RouteEntry>,
+    routes: &mut Chunked<RouteRow>,
     change: &RouteChange,
 ) -> Result<Option<OpenRoute>, AllocError>
     requires order { each_two route_before routes.old.rows ≡ true }
     requires room { 1 ≤ routes.old.room }
     requires can { CanChangeRoute (Some change.now) routes.old.rows }
-    ensures found { IfOk result (λ opened. option_map entry_of opened ≡ find (is_named change.now.route) routes.old.rows) }
+    ensures found { IfOk result (λ opened. option_map row_of_open opened
+        ≡ find (is_named change.now.route) routes.old.rows) }
     ensures ready { IfOk result (IsOpenFor change.now) }
     ensures others { OnOk result (routes.new.rows ≡ without change.now.route routes.old.rows) }
     ensures err { OnErr result (routes.new.rows ≡ routes.old.rows) }
     ensures room { OnOk result (routes.new.room ≡ routes.old.room) }
 {
-    let Some(entry) = routes.remove(&change.route) else {
+    let Some(route_row) = routes.remove(&change.route) else {
         return Ok(None);
     };
-    let mut opened = OpenRoute::open(entry);
+    let mut opened = OpenRoute::open(route_row);
     match opened.make_room(alloc, change) {
         Ok(()) => Ok(Some(opened)),
         Err(fault) => {
@@ -45,13 +46,14 @@ pub fn open_route(
 
 /// Puts a route that was out of its place into its new one, as it is after its change.
 pub fn put_changed(
-    routes: &mut Chunked<RouteEntry>,
+    routes: &mut Chunked<RouteRow>,
     opened: Option<OpenRoute>,
     change: Option<RouteChange>,
 )
     requires opened { HasOpened change opened routes.old.rows }
     requires can { CanChangeRoute change (routes_with opened routes.old.rows) }
-    requires order { each_two route_before (routes_after change (routes_with opened routes.old.rows)) ≡ true }
+    requires order { each_two route_before (routes_after change
+        (routes_with opened routes.old.rows)) ≡ true }
     requires room { 1 ≤ routes.old.room }
     ensures routes { routes.new.rows ≡ routes_after change (routes_with opened routes.old.rows) }
     ensures room { routes.old.room ≤ routes.new.room + 1 }
@@ -62,7 +64,7 @@ pub fn put_changed(
 }
 
 /// Takes a route, if one is named, out.
-pub fn drop_route(routes: &mut Chunked<RouteEntry>, name: Option<RouteName>)
+pub fn drop_route(routes: &mut Chunked<RouteRow>, name: Option<RouteName>)
     requires order { each_two route_before routes.old.rows ≡ true }
     ensures routes { routes.new.rows ≡ without_some name routes.old.rows }
     ensures room { routes.new.room ≡ routes.old.room }

@@ -13,9 +13,9 @@ use Rattle.lrs_position.specs.declared.route.Referent.{Referent}
 use Rattle.lrs_position.specs.Routes.{referent_before}
 use Rattle.lrs_events.specs.Places.{Place, differs}
 use Rattle.lrs_machine.specs.declared.command.Command.{Command}
-use Rattle.lrs_machine.specs.declared.image.RouteEntry.{RouteEntry}
+use Rattle.lrs_machine.specs.declared.image.RouteRow.{RouteRow}
 use Rattle.lrs_machine.specs.declared.image.Image.{Image}
-use Rattle.lrs_machine.specs.Bounds.{most_routes}
+use Rattle.lrs_measure.specs.Limits.{most_routes}
 use Rattle.lrs_machine.specs.Register.{put}
 use Rattle.lrs_machine.specs.State.{State}
 use Rattle.lrs_machine.specs.Image.{state_of, holds_on, referents_on, route_entry}
@@ -35,11 +35,11 @@ use Rattle.lrs_image_laws.proofs.Running.{moves_ground, runs_there}
 use Rattle.lrs_image_laws.proofs.Standing.{keeps_state}
 
 -- the referents of a route have names of their own
-pub own_names : (r : RouteEntry) → each_two are_unlike r.route.refs ≡ true
+pub own_names : (r : RouteRow) → each_two are_unlike r.route.refs ≡ true
 own_names r = two_passing referent_before are_unlike (λ a b h. ap not (earlier_name a.name b.name h)) r.route.refs (and_parts (each_two referent_before r.route.refs) _ (fits r).2).0
 
 -- w runs over the ground of r, holds there what r held, and has its referents where r had them
-pub record IsAlike (i : Image) (r w : RouteEntry) : Type 0 where
+pub record IsAlike (i : Image) (r w : RouteRow) : Type 0 where
   pub linked : list_all (is_on_a_link i.links) w.route.course ≡ true
   pub once : each_two differs w.route.course ≡ true
   pub runs : (m : Millimetre) → runs_over w.route.course m ≡ runs_over r.route.course m
@@ -48,21 +48,21 @@ pub record IsAlike (i : Image) (r w : RouteEntry) : Type 0 where
   pub spans : are_spans_of i.assets (record { course = w.route.course; rows = w.spans }) ≡ true
   pub holds : (a : ℕ) (p : Place) → holds_on w a p ≡ holds_on r a p
 
-module _ (i : Image) (r w : RouteEntry) (s : IsSound i) (m : In r i.routes) (alike : IsAlike i r w) (own : (e : RouteEntry) → In e i.routes → same_name w.route.name e.route.name ≡ true → same_name e.route.name r.route.name ≡ true) where
+module _ (i : Image) (r w : RouteRow) (s : IsSound i) (m : In r i.routes) (alike : IsAlike i r w) (own : (e : RouteRow) → In e i.routes → same_name w.route.name e.route.name ≡ true → same_name e.route.name r.route.name ≡ true) where
   abbrev dropped : List Name
   dropped = r.route.name ∷ []
 
-  abbrev written : List RouteEntry
+  abbrev written : List RouteRow
   written = w ∷ []
 
   ours : routes_named dropped i.routes ≡ r ∷ []
   ours = only_one r i.routes (routes_in_order i s) m
 
-  only : (P : RouteEntry → Type 0) → P w → (v : RouteEntry) → In v written → P v
+  only : (P : RouteRow → Type 0) → P w → (v : RouteRow) → In v written → P v
   only P a v (inl e) = subst P (sym e) a
   only P a v (inr e) = absurd e
 
-  left : (told : RouteEntry → Bool) → told r ≡ true → IsLeft told dropped i.routes
+  left : (told : RouteRow → Bool) → told r ≡ true → IsLeft told dropped i.routes
   left told h = inl (ap (list_any told) ours ∙ or_left (told r) false h)
 
   pub fit : AreFit i dropped written
@@ -91,7 +91,7 @@ module _ (i : Image) (r w : RouteEntry) (s : IsSound i) (m : In r i.routes) (ali
 
   few : 1 + length (routes_left dropped i.routes) ≤ most_routes
   few =
-      let a = length-parted (λ (e : RouteEntry). list_any (same_name e.route.name) dropped) i.routes in
+      let a = length-parted (λ (e : RouteRow). list_any (same_name e.route.name) dropped) i.routes in
       let b : length (routes_named dropped i.routes) ≡ 1 = ap length ours in
       let d = old_few i s in
       omega (arith, a, b, d)
@@ -106,10 +106,10 @@ module _ (i : Image) (r w : RouteEntry) (s : IsSound i) (m : In r i.routes) (ali
   pub moves : (at : Millimetre) → runs_on (rewritten dropped written i.routes) at ≡ cond (runs_over r.route.course at) (Some w.route.name) (runs_on i.routes at)
   moves at =
       moves_ground i dropped written s fit at
-      ∙ (λ j. option_or (option_map (λ (e : RouteEntry). e.route.name) (cond (alike.runs at j) (Some w) None)) (cond (list_any (is_run_by at) (ours j)) None (runs_on i.routes at)))
+      ∙ (λ j. option_or (option_map (λ (e : RouteRow). e.route.name) (cond (alike.runs at j) (Some w) None)) (cond (list_any (is_run_by at) (ours j)) None (runs_on i.routes at)))
       ∙ by (runs_over r.route.course at) (runs_on i.routes at)
     where
-      by : (b : Bool) (o : Option Name) → option_or (option_map (λ (e : RouteEntry). e.route.name) (cond b (Some w) None)) (cond (b || false) None o) ≡ cond b (Some w.route.name) o
+      by : (b : Bool) (o : Option Name) → option_or (option_map (λ (e : RouteRow). e.route.name) (cond b (Some w) None)) (cond (b || false) None o) ≡ cond b (Some w.route.name) o
       by true o = refl
       by false o = refl
 
@@ -123,8 +123,8 @@ module _ (i : Image) (r w : RouteEntry) (s : IsSound i) (m : In r i.routes) (ali
 
 -- ---- a route that keeps its name
 
-module _ (i : Image) (r w : RouteEntry) (s : IsSound i) (name : w.route.name ≡ r.route.name) where
-  pub named_ours : (e : RouteEntry) → In e i.routes → same_name w.route.name e.route.name ≡ true → same_name e.route.name r.route.name ≡ true
+module _ (i : Image) (r w : RouteRow) (s : IsSound i) (name : w.route.name ≡ r.route.name) where
+  pub named_ours : (e : RouteRow) → In e i.routes → same_name w.route.name e.route.name ≡ true → same_name e.route.name r.route.name ≡ true
   named_ours e k h = same_either e.route.name r.route.name ∙ (λ j. same_name (sym name j) e.route.name) ∙ h
 
   pub put_there : put name_cmp r.route.name (route_entry w).1 (map route_entry i.routes) ≡ map route_entry (rewritten (r.route.name ∷ []) (w ∷ []) i.routes)

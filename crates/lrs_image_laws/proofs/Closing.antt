@@ -14,9 +14,9 @@ use Rattle.lrs_events.specs.Places.{Place, lies_on}
 use Rattle.lrs_events.specs.Spans.{holds_by_spans}
 use Rattle.lrs_machine.specs.declared.answer.Cause.TheVariants as cause
 use Rattle.lrs_machine.specs.declared.command.Command.TheVariants as verb
-use Rattle.lrs_machine.specs.declared.image.RouteEntry.{RouteEntry}
+use Rattle.lrs_machine.specs.declared.image.RouteRow.{RouteRow}
 use Rattle.lrs_machine.specs.declared.image.Image.{Image}
-use Rattle.lrs_machine.specs.Bounds.{most_routes}
+use Rattle.lrs_measure.specs.Limits.{most_routes}
 use Rattle.lrs_machine.specs.Image.{state_of, holds_on, referents_on, route_entry}
 use Rattle.lrs_machine.specs.Machine.{attempt, ◌>>=◌, abandon, drop_route}
 use Rattle.lrs_machine.specs.Sound.{IsSound}
@@ -46,7 +46,7 @@ nothing_fits i dropped = record {
   spans = λ w k. absurd k;
 }
 
-module _ (i : Image) (r : RouteEntry) (gone : List Gone) (s : IsSound i) (m : In r i.routes) (led : AreGone (length i.edits + 1) Abandoned (holds_by_spans r.route.course r.spans) gone) where
+module _ (i : Image) (r : RouteRow) (gone : List Gone) (s : IsSound i) (m : In r i.routes) (led : AreGone (length i.edits + 1) Abandoned (holds_by_spans r.route.course r.spans) gone) where
   abbrev dropped : List Name
   dropped = r.route.name ∷ []
 
@@ -75,11 +75,11 @@ module _ (i : Image) (r : RouteEntry) (gone : List Gone) (s : IsSound i) (m : In
     holds = λ a p. sym (ap (λ b. b && not (lies_on course p)) (holder a p) ∙ (both_hold (holds_on r a p) (lies_on course p) (held_lies r a p)).0);
     to = λ q k. absurd k;
     back = λ q k f. let w = flat_map_found referents_on q (r ∷ []) (subst (λ l. In q (flat_map referents_on l)) ours k) in absurd (both_ways (runs_over course q.1) f (its q w.0 w.1 w.2));
-    theirs = λ x on. ap (list_any (λ (e : RouteEntry). runs_over e.route.course x)) ours ∙ or_left (runs_over course x) false on;
+    theirs = λ x on. ap (list_any (λ (e : RouteRow). runs_over e.route.course x)) ours ∙ or_left (runs_over course x) false on;
     goes = λ a p. (both_hold (holds_on r a p) (lies_on course p) (held_lies r a p)).1 ∙ ap (λ b. b && lies_on course p) (sym (holder a p));
   }
     where
-      its : (q : Name × Millimetre) (w : RouteEntry) → In w (r ∷ []) → In q (referents_on w) → runs_over course q.1 ≡ true
+      its : (q : Name × Millimetre) (w : RouteRow) → In w (r ∷ []) → In q (referents_on w) → runs_over course q.1 ≡ true
       its q w (inl e) k = stands_on r q (subst (λ w. In q (referents_on w)) e k)
       its q w (inr e) k = absurd e
 
@@ -96,7 +96,7 @@ module _ (i : Image) (r : RouteEntry) (gone : List Gone) (s : IsSound i) (m : In
 
   few : 0 + length (routes_left dropped i.routes) ≤ most_routes
   few =
-      let a = length-parted (λ (e : RouteEntry). list_any (same_name e.route.name) dropped) i.routes in
+      let a = length-parted (λ (e : RouteRow). list_any (same_name e.route.name) dropped) i.routes in
       let b = old_few i s in
       omega (arith, a, b)
 

@@ -7,7 +7,7 @@ use Rattle.std.proofs.lemmas.List.{append-nil}
 use Rattle.lrs_measure.specs.Lists.{each_two}
 use Rattle.lrs_measure.specs.Ordered.{insert_by, insert_some, insert_all}
 use Rattle.lrs_measure.specs.Texts.{Name, same_name}
-use Rattle.lrs_machine.specs.declared.image.RouteEntry.{RouteEntry}
+use Rattle.lrs_machine.specs.declared.image.RouteRow.{RouteRow}
 use Rattle.lrs_machine.specs.declared.image.Image.{Image}
 use Rattle.lrs_machine.specs.Sound.{route_before, IsSound}
 use Rattle.lrs_machine.proofs.Members.{In, all_at}
@@ -21,7 +21,7 @@ use Rattle.lrs_image_laws.specs.Differences.{rerouting, changed_route, dropped_b
 use Rattle.lrs_image_laws.proofs.Listed.{In-filter}
 use Rattle.lrs_image_laws.proofs.Naming.{route_chain, without_one, left_in_order}
 
-abbrev name_of : RouteEntry → Name
+abbrev name_of : RouteRow → Name
 name_of e = e.route.name
 
 -- ---- an element that passes is put among those that pass as among all
@@ -58,15 +58,15 @@ module _ {X : Type 0} (before : X → X → Bool) (chain : (a b c : X) → befor
 -- ---- one change, and then a name that goes
 
 -- one name goes after another
-pub two_left : (a b : Name) (routes : List RouteEntry) → without b (routes_left (a ∷ []) routes) ≡ routes_left (a ∷ b ∷ []) routes
+pub two_left : (a b : Name) (routes : List RouteRow) → without b (routes_left (a ∷ []) routes) ≡ routes_left (a ∷ b ∷ []) routes
 two_left a b routes = without_one b (routes_left (a ∷ []) routes) ∙ ap (routes_left (b ∷ [])) (sym (without_one a routes)) ∙ others-next name_of a (b ∷ []) routes
 
-module _ (routes : List RouteEntry) (order : each_two route_before routes ≡ true) where
+module _ (routes : List RouteRow) (order : each_two route_before routes ≡ true) where
   -- what a change leaves
-  changes : (c : RouteChange) (w : Option RouteEntry) → changed_route routes c ≡ w → routes_after (Some c) routes ≡ insert_some route_before w (routes_left (c.route ∷ []) routes)
+  changes : (c : RouteChange) (w : Option RouteRow) → changed_route routes c ≡ w → routes_after (Some c) routes ≡ insert_some route_before w (routes_left (c.route ∷ []) routes)
   changes c w is = (λ j. insert_some route_before (is j) (without_one c.route routes j))
 
-  drops : (n : Name) (w : Option RouteEntry) (names : List Name) → ((v : RouteEntry) → w ≡ Some v → same_name v.route.name n ≡ false)
+  drops : (n : Name) (w : Option RouteRow) (names : List Name) → ((v : RouteRow) → w ≡ Some v → same_name v.route.name n ≡ false)
       → without n (insert_some route_before w (routes_left names routes)) ≡ insert_some route_before w (without n (routes_left names routes))
   drops n None names apart = refl
   drops n (Some v) names apart = filter-insert_by route_before route_chain (λ e. not (is_named n e)) v (routes_left names routes) (ap not (apart v refl)) (left_in_order names routes order)
@@ -74,18 +74,18 @@ module _ (routes : List RouteEntry) (order : each_two route_before routes ≡ tr
   pub rewrites : (d : Difference) → KeepsFromDropped d routes → insert_some route_before d.made (without_some d.dropped (routes_after d.changed routes)) ≡ rewritten (dropped_by d) (written_by d routes) routes
   rewrites d apart = by d.changed d.dropped d.made apart
     where
-      made : (m : Option RouteEntry) (ys : List RouteEntry) → insert_some route_before m ys ≡ insert_all route_before (cons_option m []) ys
+      made : (m : Option RouteRow) (ys : List RouteRow) → insert_some route_before m ys ≡ insert_all route_before (cons_option m []) ys
       made None ys = refl
       made (Some e) ys = refl
 
-      both : (w m : Option RouteEntry) (ys : List RouteEntry) → insert_some route_before m (insert_some route_before w ys) ≡ insert_all route_before (cons_option w (cons_option m [])) ys
+      both : (w m : Option RouteRow) (ys : List RouteRow) → insert_some route_before m (insert_some route_before w ys) ≡ insert_all route_before (cons_option w (cons_option m [])) ys
       both None m ys = made m ys
       both (Some v) m ys = made m (insert_by route_before v ys)
 
       all : routes ≡ routes_left [] routes
       all = sym (others-none name_of routes)
 
-      by : (c : Option RouteChange) (n : Option Name) (m : Option RouteEntry) → KeepsFromDropped (rerouting c n m) routes
+      by : (c : Option RouteChange) (n : Option Name) (m : Option RouteRow) → KeepsFromDropped (rerouting c n m) routes
           → insert_some route_before m (without_some n (routes_after c routes)) ≡ rewritten (dropped_by (rerouting c n m)) (written_by (rerouting c n m) routes) routes
       by None None m apart = ap (insert_some route_before m) all ∙ made m (routes_left [] routes)
       by None (Some n) m apart = ap (insert_some route_before m) (without_one n routes) ∙ made m (routes_left (n ∷ []) routes)
@@ -99,6 +99,6 @@ pub difference_rewrites : DifferenceRewrites
 difference_rewrites d i s apart = rewrites i.routes (routes_in_order i s) d apart
 
 -- A difference that changes routes alone changes nothing else.
-pub reroutes : (c : Option RouteChange) (n : Option Name) (m : Option RouteEntry) (i : Image) → IsSound i → KeepsFromDropped (rerouting c n m) i.routes
+pub reroutes : (c : Option RouteChange) (n : Option Name) (m : Option RouteRow) (i : Image) → IsSound i → KeepsFromDropped (rerouting c n m) i.routes
     → with_difference (rerouting c n m) i ≡ with_routes (rewritten (dropped_by (rerouting c n m)) (written_by (rerouting c n m) i.routes) i.routes) i
 reroutes c n m i s apart = λ j. record (with_routes (difference_rewrites (rerouting c n m) i s apart j) i) { entered = append-nil i.entered j; gone = append-nil i.gone j }

@@ -14,15 +14,15 @@ use Rattle.std.proofs.lemmas.Map.Lookups.{exact_bytes}
 use Rattle.lrs_measure.specs.Lists.{each_two}
 use Rattle.lrs_measure.specs.Texts.{Name, name_cmp, same_name}
 use Rattle.lrs_element.specs.declared.link.Ground.{Ground}
-use Rattle.lrs_element.specs.Course.{Millimetre, ground_at, entry_of, is_at, meets, runs_over}
+use Rattle.lrs_element.specs.Course.{Millimetre, ground_at, chainage_on, is_at, meets, runs_over}
 use Rattle.lrs_position.proofs.Entries.{position_found, position_none}
 use Rattle.lrs_position.specs.declared.route.Referent.{Referent}
 use Rattle.lrs_position.specs.Routes.{is_route_course, are_referents, referent_before}
 use Rattle.lrs_position.specs.Translating.{alignment_of, referent_at}
-use Rattle.lrs_machine.specs.declared.image.RouteEntry.{RouteEntry}
+use Rattle.lrs_machine.specs.declared.image.RouteRow.{RouteRow}
 use Rattle.lrs_machine.specs.declared.image.Image.{Image}
-use Rattle.lrs_machine.specs.Bounds.{most_routes}
-use Rattle.lrs_machine.specs.Machine.{entry_of_referent}
+use Rattle.lrs_measure.specs.Limits.{most_routes}
+use Rattle.lrs_machine.specs.Machine.{referent_chainage}
 use Rattle.lrs_machine.specs.Image.{state_of, referent_entry, referents_on}
 use Rattle.lrs_events.specs.Places.{differs}
 use Rattle.lrs_machine.specs.Sound.{IsSound, RouteCourse, RouteReferents, referents_of, courses_of, course_before, is_course, is_on_a_link}
@@ -96,10 +96,10 @@ own c (r ∷ rs) name h =
         ]
 
 -- an entry's millimetre is found at that entry
-found_there : (c : List Ground) (j : ℕ) (m : Millimetre) → each_two differs c ≡ true → ground_at c j ≡ Some m → entry_of c m ≡ Some j
+found_there : (c : List Ground) (j : ℕ) (m : Millimetre) → each_two differs c ≡ true → ground_at c j ≡ Some m → chainage_on c m ≡ Some j
 found_there c j m h e = by (slice_get c j) refl (e)
   where
-    by : (o : Option Ground) → slice_get c j ≡ o → ground_at c j ≡ Some m → entry_of c m ≡ Some j
+    by : (o : Option Ground) → slice_get c j ≡ o → ground_at c j ≡ Some m → chainage_on c m ≡ Some j
     by None is k = absurd (none_some (sym (ap (option_map (λ (g : Ground). (g.link, g.mm))) is) ∙ k))
       where
         none_some : (let o : Option Millimetre = None in o) ≡ Some m → ⊥
@@ -107,7 +107,7 @@ found_there c j m h e = by (slice_get c j) refl (e)
     by (Some g) is k =
         let within = slice_get_within c j g is in
         let same : (g.link, g.mm) ≡ m = some_is (g.link, g.mm) m (sym (ap (option_map (λ (g : Ground). (g.link, g.mm))) is) ∙ k) in
-        ap (entry_of c) (sym same)
+        ap (chainage_on c) (sym same)
         ∙ sym (position_found (is_at (g.link, g.mm)) c j g within (λ n less. earlier n g less within (get_or_from_slice_get c j g g is)) (here g (get_or_from_slice_get c j g g is)))
       where
         some_is : (a b : Millimetre) → Some a ≡ Some b → a ≡ b
@@ -133,14 +133,14 @@ fails p [] k d h within = absurd (omega (arith, within))
 fails p (y ∷ ys) zero d h within = (or_parts (p y) (list_any p ys) h).0
 fails p (y ∷ ys) (suc k) d h within = fails p ys k d (or_parts (p y) (list_any p ys) h).1 (omega (arith, within))
 
-nowhere : (d : List Ground) (m : Millimetre) → runs_over d m ≡ false → entry_of d m ≡ None
+nowhere : (d : List Ground) (m : Millimetre) → runs_over d m ≡ false → chainage_on d m ≡ None
 nowhere d m h = by d h
   where
-    by : (d : List Ground) → runs_over d m ≡ false → entry_of d m ≡ None
+    by : (d : List Ground) → runs_over d m ≡ false → chainage_on d m ≡ None
     by [] h = refl
     by (g ∷ gs) h = sym (position_none (is_at m) (g ∷ gs) g (λ k within. fails (is_at m) (g ∷ gs) k g h within))
 
-pub ground_of_other : (c d : List Ground) (m : Millimetre) → meets c d ≡ false → runs_over c m ≡ true → entry_of d m ≡ None
+pub ground_of_other : (c d : List Ground) (m : Millimetre) → meets c d ≡ false → runs_over c m ≡ true → chainage_on d m ≡ None
 ground_of_other c d m apart on = nowhere d m (by (cases_Bool (runs_over d m)))
   where
     by : (runs_over d m ≡ true) ⊎ (runs_over d m ≡ false) → runs_over d m ≡ false
@@ -199,21 +199,21 @@ named_there (q ∷ qs) name at h = by (cases_Bool (same_name q.name name)) (name
         some_is a b w = cc
     by (inr e) rest = let k = rest (sym (ap (λ b. option_map (λ (w : Referent). w.at) (cond b (Some q) (list.find (λ (w : Referent). same_name w.name name) qs))) e) ∙ h) in (k.0, inr k.1, k.2, k.3)
 
-abbrev pub apart_courses : RouteEntry → RouteEntry → Bool
+abbrev pub apart_courses : RouteRow → RouteRow → Bool
 apart_courses y z = not (meets y.route.course z.route.course)
 
 abbrev pub other_names : Referent → Referent → Bool
 other_names u v = not (same_name u.name v.name)
 
-abbrev pub refs_of : RouteEntry → List Referent
+abbrev pub refs_of : RouteRow → List Referent
 refs_of y = y.route.refs
 
-module _ (r : RouteEntry) (name : Name) (once : each_two differs r.route.course ≡ true) (within : list_all (λ q. nat_lt q.at (length r.route.course)) r.route.refs ≡ true) where
+module _ (r : RouteRow) (name : Name) (once : each_two differs r.route.course ≡ true) (within : list_all (λ q. nat_lt q.at (length r.route.course)) r.route.refs ≡ true) where
   abbrev entry : Option Millimetre → Option ℕ
-  entry o = option_and_then (entry_of r.route.course) o
+  entry o = option_and_then (chainage_on r.route.course) o
 
   -- what stands on other courses is at no entry
-  elsewhere : (routes : List RouteEntry) → ((y : RouteEntry) → In y routes → meets y.route.course r.route.course ≡ false) → entry (find name_cmp name (flat_map referents_on routes)) ≡ None
+  elsewhere : (routes : List RouteRow) → ((y : RouteRow) → In y routes → meets y.route.course r.route.course ≡ false) → entry (find name_cmp name (flat_map referents_on routes)) ≡ None
   elsewhere routes apart = by (find name_cmp name (flat_map referents_on routes)) refl
     where
       by : (o : Option Millimetre) → find name_cmp name (flat_map referents_on routes) ≡ o → entry (find name_cmp name (flat_map referents_on routes)) ≡ None
@@ -236,7 +236,7 @@ module _ (r : RouteEntry) (name : Name) (once : each_two differs r.route.course 
           ap (λ o. entry (or_else (option_and_then (ground_at r.route.course) o) rest)) is
           ∙ ap (λ o. entry (or_else o rest)) stands ∙ found_there r.route.course at m once stands ∙ sym is
 
-  found_among : (routes : List RouteEntry) → each_two apart_courses routes ≡ true → each_two other_names (flat_map refs_of routes) ≡ true → In r routes
+  found_among : (routes : List RouteRow) → each_two apart_courses routes ≡ true → each_two other_names (flat_map refs_of routes) ≡ true → In r routes
       → entry (find name_cmp name (flat_map referents_on routes)) ≡ referent_at r.route.refs name
   found_among [] apart named m = absurd m
   found_among (y ∷ ys) apart named (inl e) =
@@ -266,7 +266,7 @@ module _ (r : RouteEntry) (name : Name) (once : each_two differs r.route.course 
 -- No two routes of a sound image have a millimetre in common.
 pub courses_apart : (i : Image) → IsSound i → each_two apart_courses i.routes ≡ true
 courses_apart i s =
-    let course : RouteEntry → RouteCourse = λ e. record { route = e.route.name; entries = e.route.course } in
+    let course : RouteRow → RouteCourse = λ e. record { route = e.route.name; entries = e.route.course } in
     let outer = and_parts (each_two course_before (courses_of i) && list_all (is_course i.links) (courses_of i) && each_two (λ c d. not (meets c.entries d.entries)) (courses_of i)) (nat_le (length (courses_of i)) most_routes) (passes i s).courses in
     sym (each_two-map (λ c d. not (meets c.entries d.entries)) course i.routes)
     ∙ (and_parts (each_two course_before (courses_of i) && list_all (is_course i.links) (courses_of i)) (each_two (λ c d. not (meets c.entries d.entries)) (courses_of i)) outer.0).1
@@ -274,17 +274,17 @@ courses_apart i s =
 -- ... nor two referents one name.
 pub names_once : (i : Image) → IsSound i → each_two other_names (flat_map refs_of i.routes) ≡ true
 names_once i s =
-    let refs : RouteEntry → RouteReferents = λ e. record { length = length e.route.course; refs = e.route.refs } in
+    let refs : RouteRow → RouteReferents = λ e. record { length = length e.route.course; refs = e.route.refs } in
     ap (each_two other_names) (sym (flat_map-map (λ (q : RouteReferents). q.refs) refs i.routes))
     ∙ (and_parts (list_all (λ q. are_referents q.length q.refs) (referents_of i)) (each_two other_names (flat_map (λ q. q.refs) (referents_of i))) (passes i s).referents).1
 
 -- What a position on a route counts from is found among the route's own referents.
-pub referents_found : (i : Image) (r : RouteEntry) → IsSound i → In r i.routes → (name : Name) → entry_of_referent (state_of i) (alignment_of r.route) name ≡ referent_at r.route.refs name
+pub referents_found : (i : Image) (r : RouteRow) → IsSound i → In r i.routes → (name : Name) → referent_chainage (state_of i) (alignment_of r.route) name ≡ referent_at r.route.refs name
 unfolding state_of
 referents_found i r s m name =
     let p = passes i s in
-    let course : RouteEntry → RouteCourse = λ e. record { route = e.route.name; entries = e.route.course } in
-    let refs : RouteEntry → RouteReferents = λ e. record { length = length e.route.course; refs = e.route.refs } in
+    let course : RouteRow → RouteCourse = λ e. record { route = e.route.name; entries = e.route.course } in
+    let refs : RouteRow → RouteReferents = λ e. record { length = length e.route.course; refs = e.route.refs } in
     let outer = and_parts (each_two course_before (courses_of i) && list_all (is_course i.links) (courses_of i) && each_two (λ c d. not (meets c.entries d.entries)) (courses_of i)) (nat_le (length (courses_of i)) most_routes) p.courses in
     let tests = and_three (each_two course_before (courses_of i)) (list_all (is_course i.links) (courses_of i)) (each_two (λ c d. not (meets c.entries d.entries)) (courses_of i)) outer.0 in
     let its = and_three (is_route_course r.route.course) (list_all (is_on_a_link i.links) r.route.course) (each_two differs r.route.course) (all_at (is_course i.links) (course r) (courses_of i) tests.1 (In-map course r i.routes m)) in

@@ -15,7 +15,7 @@ use Rattle.lrs_events.specs.Parts.{side_number}
 use Rattle.lrs_events.specs.Places.{Place}
 use Rattle.lrs_machine.specs.declared.image.Edit.{Edit}
 use Rattle.lrs_machine.specs.declared.image.Image.{Image}
-use Rattle.lrs_machine.specs.Bounds.{most_edits}
+use Rattle.lrs_measure.specs.Limits.{most_edits}
 use Rattle.lrs_machine.specs.State.{Reason, same_reason}
 use Rattle.lrs_machine.specs.Image.{reason_of}
 use Rattle.lrs_machine.specs.Sound.{gone_before, share_nothing, parts_of, is_named_by, IsSound}

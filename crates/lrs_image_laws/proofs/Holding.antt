@@ -17,9 +17,9 @@ use Rattle.lrs_events.specs.Places.{beside, differs}
 use Rattle.lrs_events.specs.Spans.{holds_by_spans}
 use Rattle.lrs_events_rows.specs.OnCourse.{is_held, is_picked, is_once}
 use Rattle.lrs_events_rows.proofs.Picked.{rows_hold, sides_picked}
-use Rattle.lrs_machine.specs.declared.image.RouteEntry.{RouteEntry}
+use Rattle.lrs_machine.specs.declared.image.RouteRow.{RouteRow}
 use Rattle.lrs_machine.specs.declared.image.Image.{Image}
-use Rattle.lrs_machine.specs.Bounds.{most_routes}
+use Rattle.lrs_measure.specs.Limits.{most_routes}
 use Rattle.lrs_machine.specs.Image.{state_of, holds_on}
 use Rattle.lrs_machine.specs.Sound.{IsSound, RouteCourse, course_before, courses_of, is_course, is_on_a_link}
 use Rattle.lrs_machine.proofs.Members.{In, any_of, all_at, In-map}
@@ -82,8 +82,8 @@ picked_at m c j g s once is = by s
 -- ---- all routes
 
 -- a test that only one route passes is that of the route
-pub only_at : (f : RouteEntry → Bool) (r : RouteEntry) (routes : List RouteEntry) → each_two apart_courses routes ≡ true → In r routes
-    → ((y : RouteEntry) → meets r.route.course y.route.course ≡ false → f y ≡ false) → list_any f routes ≡ f r
+pub only_at : (f : RouteRow → Bool) (r : RouteRow) (routes : List RouteRow) → each_two apart_courses routes ≡ true → In r routes
+    → ((y : RouteRow) → meets r.route.course y.route.course ≡ false → f y ≡ false) → list_any f routes ≡ f r
 only_at f r [] apart m w = absurd m
 only_at f r (y ∷ ys) apart (inl e) w =
     let both = and_parts (list_all (apart_courses y) ys) (each_two apart_courses ys) apart in
@@ -94,7 +94,7 @@ only_at f r (y ∷ ys) apart (inl e) w =
     or_nothing true = refl
     or_nothing false = refl
 
-    none : (zs : List RouteEntry) → ((z : RouteEntry) → In z zs → f z ≡ false) → list_any f zs ≡ false
+    none : (zs : List RouteRow) → ((z : RouteRow) → In z zs → f z ≡ false) → list_any f zs ≡ false
     none [] k = refl
     none (z ∷ zs) k = λ i. k z (inl refl) i || none zs (λ q n. k q (inr n)) i
 only_at f r (y ∷ ys) apart (inr m) w =
@@ -103,7 +103,7 @@ only_at f r (y ∷ ys) apart (inr m) w =
     λ i. w y (apart_too y.route.course r.route.course far) i || only_at f r ys both.1 m w i
 
 -- a course that does not meet the route's holds nothing there
-not_held_far : (r y : RouteEntry) (j : ℕ) (g : Ground) (s : LinkSide) (a : ℕ) → slice_get r.route.course j ≡ Some g → meets r.route.course y.route.course ≡ false → holds_on y a (beside g s) ≡ false
+not_held_far : (r y : RouteRow) (j : ℕ) (g : Ground) (s : LinkSide) (a : ℕ) → slice_get r.route.course j ≡ Some g → meets r.route.course y.route.course ≡ false → holds_on y a (beside g s) ≡ false
 not_held_far r y j g s a h far = by (cases_Bool (holds_on y a (beside g s)))
   where
     by : (holds_on y a (beside g s) ≡ true) ⊎ (holds_on y a (beside g s) ≡ false) → holds_on y a (beside g s) ≡ false
@@ -117,15 +117,15 @@ not_held_far r y j g s a h far = by (cases_Bool (holds_on y a (beside g s)))
         ((λ i. runs_over r.route.course (k.on_link i, k.at i)) ∙ run_over r.route.course j g h)))
 
 -- A sound image's route has no millimetre twice, and meets no other.
-pub record IsAlone (i : Image) (r : RouteEntry) : Type 0 where
+pub record IsAlone (i : Image) (r : RouteRow) : Type 0 where
   pub once : each_two differs r.route.course ≡ true
   pub on_links : list_all (is_on_a_link i.links) r.route.course ≡ true
   pub apart : each_two apart_courses i.routes ≡ true
 
-pub alone : (i : Image) (r : RouteEntry) → IsSound i → In r i.routes → IsAlone i r
+pub alone : (i : Image) (r : RouteRow) → IsSound i → In r i.routes → IsAlone i r
 alone i r sound m =
     let p = passes i sound in
-    let course : RouteEntry → RouteCourse = λ e. record { route = e.route.name; entries = e.route.course } in
+    let course : RouteRow → RouteCourse = λ e. record { route = e.route.name; entries = e.route.course } in
     let outer = and_parts (each_two course_before (courses_of i) && list_all (is_course i.links) (courses_of i) && each_two (λ c d. not (meets c.entries d.entries)) (courses_of i)) (nat_le (length (courses_of i)) most_routes) p.courses in
     let tests = and_three (each_two course_before (courses_of i)) (list_all (is_course i.links) (courses_of i)) (each_two (λ c d. not (meets c.entries d.entries)) (courses_of i)) outer.0 in
     let its = and_three (is_route_course r.route.course) (list_all (is_on_a_link i.links) r.route.course) (each_two differs r.route.course) (all_at (is_course i.links) (course r) (courses_of i) tests.1 (In-map course r i.routes m)) in
@@ -136,13 +136,13 @@ pub rows_held_at : (c : List Ground) (rows : List Span) (j : ℕ) (g : Ground) (
 rows_held_at c rows j g s once h a = rows_hold c rows a (beside g s) ∙ picked_at (is_held rows a) c j g s once h
 
 -- Of routes that do not meet, the rows of the one that runs there tell who holds a place.
-pub held_among : (r : RouteEntry) (routes : List RouteEntry) → each_two apart_courses routes ≡ true → In r routes → each_two differs r.route.course ≡ true → (j : ℕ) (g : Ground) (s : LinkSide) → slice_get r.route.course j ≡ Some g
+pub held_among : (r : RouteRow) (routes : List RouteRow) → each_two apart_courses routes ≡ true → In r routes → each_two differs r.route.course ≡ true → (j : ℕ) (g : Ground) (s : LinkSide) → slice_get r.route.course j ≡ Some g
     → (asset : ℕ) → list_any (λ e. holds_on e asset (beside g s)) routes ≡ is_held r.spans asset j s
 held_among r routes apart m once j g s h a =
     only_at (λ e. holds_on e a (beside g s)) r routes apart m (λ y far. not_held_far r y j g s a h far)
     ∙ rows_held_at r.route.course r.spans j g s once h a
 
-pub held_at : (i : Image) (r : RouteEntry) → IsSound i → In r i.routes → (j : ℕ) (g : Ground) (s : LinkSide) → slice_get r.route.course j ≡ Some g
+pub held_at : (i : Image) (r : RouteRow) → IsSound i → In r i.routes → (j : ℕ) (g : Ground) (s : LinkSide) → slice_get r.route.course j ≡ Some g
     → (asset : ℕ) → (state_of i).holds asset (beside g s) ≡ is_held r.spans asset j s
 unfolding state_of
 held_at i r sound m j g s h a = let it = alone i r sound m in held_among r i.routes it.apart m it.once j g s h a

@@ -10,7 +10,7 @@ use Rattle.lrs_measure.specs.Texts.{same_name}
 use Rattle.lrs_element.specs.declared.link.Ground.{Ground}
 use Rattle.lrs_element.specs.declared.marks.Mark.{Mark}
 use Rattle.lrs_element.specs.Course.{is_too_long}
-use Rattle.lrs_element.specs.Limits.{most_marks}
+use Rattle.lrs_measure.specs.Limits.{most_marks}
 use Rattle.lrs_element.specs.Lines.{moved_on}
 use Rattle.lrs_element.specs.Marks.{no_mark, last_of, bad_mark, are_marks, last_mark, joined_marks, is_out_of_range}
 use Rattle.lrs_element.proofs.Lining.{are_marks-joined}
@@ -20,7 +20,7 @@ use Rattle.lrs_position.specs.Routes.{is_route, is_route_course, have_marks, are
 use Rattle.lrs_events.specs.declared.span.Span.{Span}
 use Rattle.lrs_events.specs.Members.{is_member}
 use Rattle.lrs_events.specs.Spans.{are_rows}
-use Rattle.lrs_machine.specs.declared.image.RouteEntry.{RouteEntry}
+use Rattle.lrs_machine.specs.declared.image.RouteRow.{RouteRow}
 use Rattle.lrs_machine.specs.Sound.{is_span}
 use Rattle.lrs_machine.proofs.Members.{In, all_at, all_of, map_found}
 use Rattle.lrs_machine.proofs.Pairs.{each_two-map}
@@ -50,15 +50,15 @@ last_joined xs (y ∷ z ∷ zs) h =
     ap (λ (m : Mark). m.chainage) (last_of-append no_mark (f z) xs (map f zs) ∙ last_of-map f z zs)
 
 -- the marks of a route end at its length
-pub marks_end : (e : RouteEntry) → (last_mark e.route.marks).chainage ≡ length e.route.course
+pub marks_end : (e : RouteRow) → (last_mark e.route.marks).chainage ≡ length e.route.course
 marks_end e = ends_at (length e.route.course) e.route.marks (KeepRules-from_none (length e.route.course) e.route.marks (fits e).1)
 
-pub marks_are : (e : RouteEntry) → are_marks e.route.marks ≡ true
+pub marks_are : (e : RouteRow) → are_marks e.route.marks ≡ true
 marks_are e = ap (λ n. is_none (bad_mark n e.route.marks)) (marks_end e) ∙ (fits e).1
 
 -- ---- two routes as one
 
-module _ (a b : RouteEntry) (unlike : AreUnlike a.route.refs b.route.refs) where
+module _ (a b : RouteRow) (unlike : AreUnlike a.route.refs b.route.refs) where
   abbrev len : ℕ
   len = length a.route.course
 
@@ -96,7 +96,7 @@ module _ (a b : RouteEntry) (unlike : AreUnlike a.route.refs b.route.refs) where
           let n = both in
           omega (arith, e, c, d, n)
 
-  tests : (e : RouteEntry) → (each_two referent_before e.route.refs ≡ true) × (list_all (λ q. nat_lt q.at (length e.route.course)) e.route.refs ≡ true)
+  tests : (e : RouteRow) → (each_two referent_before e.route.refs ≡ true) × (list_all (λ q. nat_lt q.at (length e.route.course)) e.route.refs ≡ true)
   tests e = and_parts (each_two referent_before e.route.refs) (list_all (λ q. nat_lt q.at (length e.route.course)) e.route.refs) (fits e).2
 
   refs_fit : are_referents (length whole) refs ≡ true
@@ -113,7 +113,7 @@ module _ (a b : RouteEntry) (unlike : AreUnlike a.route.refs b.route.refs) where
       let n = both in
       lt-ltb q.at (length whole) (omega (arith, low, n)))))
     where
-      stands : (e : RouteEntry) (q : Referent) → In q e.route.refs → q.at < length e.route.course
+      stands : (e : RouteRow) (q : Referent) → In q e.route.refs → q.at < length e.route.course
       stands e q m = ltb-true q.at (length e.route.course) (all_at (λ (q : Referent). nat_lt q.at (length e.route.course)) q e.route.refs (tests e).1 m)
 
       apart : (q p : Referent) → In q moved → In p a.route.refs → same_name q.name p.name ≡ false

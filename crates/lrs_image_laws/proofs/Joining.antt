@@ -21,9 +21,9 @@ use Rattle.lrs_position.specs.Locating.{Alignment}
 use Rattle.lrs_events.specs.Places.{differs}
 use Rattle.lrs_events.specs.Spans.{holds_by_spans}
 use Rattle.lrs_machine.specs.declared.command.Command.TheVariants as verb
-use Rattle.lrs_machine.specs.declared.image.RouteEntry.{RouteEntry}
+use Rattle.lrs_machine.specs.declared.image.RouteRow.{RouteRow}
 use Rattle.lrs_machine.specs.declared.image.Image.{Image}
-use Rattle.lrs_machine.specs.Bounds.{most_routes}
+use Rattle.lrs_measure.specs.Limits.{most_routes}
 use Rattle.lrs_machine.specs.Register.{put}
 use Rattle.lrs_machine.specs.State.{State}
 use Rattle.lrs_machine.specs.Image.{state_of, holds_on, referents_on, referent_entry, route_entry}
@@ -63,7 +63,7 @@ get_last k (x ∷ xs) ys = ap (slice_get (x ∷ (xs ++ ys))) next ∙ get_last k
     next = omega arith
 
 -- a name is of one route
-pub one_named : (routes : List RouteEntry) (d a : RouteEntry) → each_two route_before routes ≡ true → In d routes → In a routes → same_name d.route.name a.route.name ≡ true → d ≡ a
+pub one_named : (routes : List RouteRow) (d a : RouteRow) → each_two route_before routes ≡ true → In d routes → In a routes → same_name d.route.name a.route.name ≡ true → d ≡ a
 one_named routes d a order m n h = by (two_at route_before d a routes order m n)
   where
     by : (d ≡ a) ⊎ ((route_before d a ≡ true) ⊎ (route_before a d ≡ true)) → d ≡ a
@@ -72,62 +72,62 @@ one_named routes d a order m n h = by (two_at route_before d a routes order m n)
     by (inr (inr e)) = absurd (both_ways (same_name d.route.name a.route.name) (later_name a.route.name d.route.name e) h)
 
 -- routes of two names have no ground in common
-pub far_routes : (i : Image) (a b : RouteEntry) → IsSound i → In a i.routes → In b i.routes → same_name a.route.name b.route.name ≡ false → meets a.route.course b.route.course ≡ false
+pub far_routes : (i : Image) (a b : RouteRow) → IsSound i → In a i.routes → In b i.routes → same_name a.route.name b.route.name ≡ false → meets a.route.course b.route.course ≡ false
 far_routes i a b s m n h = by (two_at are_far a b i.routes (old_far i s) m n)
   where
     by : (a ≡ b) ⊎ ((are_far a b ≡ true) ⊎ (are_far b a ≡ true)) → meets a.route.course b.route.course ≡ false
-    by (inl e) = absurd (both_ways (same_name a.route.name b.route.name) h ((bytes_decides a.route.name b.route.name).1 (ap (λ (w : RouteEntry). w.route.name) e)))
+    by (inl e) = absurd (both_ways (same_name a.route.name b.route.name) h ((bytes_decides a.route.name b.route.name).1 (ap (λ (w : RouteRow). w.route.name) e)))
     by (inr (inl e)) = not-true (meets a.route.course b.route.course) e
     by (inr (inr e)) = apart_too b.route.course a.route.course (not-true (meets b.route.course a.route.course) e)
 
-module _ (i : Image) (a b w : RouteEntry) (s : IsSound i) (is : IsJoined i a b w) where
+module _ (i : Image) (a b w : RouteRow) (s : IsSound i) (is : IsJoined i a b w) where
   abbrev dropped : List Name
   dropped = a.route.name ∷ b.route.name ∷ []
 
-  abbrev written : List RouteEntry
+  abbrev written : List RouteRow
   written = w ∷ []
 
-  abbrev those : List RouteEntry
+  abbrev those : List RouteRow
   those = routes_named dropped i.routes
 
   order : each_two route_before i.routes ≡ true
   order = routes_in_order i s
 
   a_there : In a those
-  a_there = filter-In (λ (e : RouteEntry). list_any (same_name e.route.name) dropped) a i.routes is.first (or_left (same_name a.route.name a.route.name) (same_name a.route.name b.route.name || false) ((bytes_decides a.route.name a.route.name).1 refl))
+  a_there = filter-In (λ (e : RouteRow). list_any (same_name e.route.name) dropped) a i.routes is.first (or_left (same_name a.route.name a.route.name) (same_name a.route.name b.route.name || false) ((bytes_decides a.route.name a.route.name).1 refl))
 
   b_there : In b those
-  b_there = filter-In (λ (e : RouteEntry). list_any (same_name e.route.name) dropped) b i.routes is.second
+  b_there = filter-In (λ (e : RouteRow). list_any (same_name e.route.name) dropped) b i.routes is.second
       (or_right (same_name b.route.name a.route.name) (same_name b.route.name b.route.name || false) (or_left (same_name b.route.name b.route.name) false ((bytes_decides b.route.name b.route.name).1 refl)))
 
-  either : (d : RouteEntry) → In d those → (d ≡ a) ⊎ (d ≡ b)
-  either d m = let k = In-filter (λ (e : RouteEntry). list_any (same_name e.route.name) dropped) d i.routes m in by k.0 (or_cases (same_name d.route.name a.route.name) (same_name d.route.name b.route.name || false) k.1)
+  either : (d : RouteRow) → In d those → (d ≡ a) ⊎ (d ≡ b)
+  either d m = let k = In-filter (λ (e : RouteRow). list_any (same_name e.route.name) dropped) d i.routes m in by k.0 (or_cases (same_name d.route.name a.route.name) (same_name d.route.name b.route.name || false) k.1)
     where
       by : In d i.routes → (same_name d.route.name a.route.name ≡ true) ⊎ ((same_name d.route.name b.route.name || false) ≡ true) → (d ≡ a) ⊎ (d ≡ b)
       by k (inl e) = inl (one_named i.routes d a order k is.first e)
       by k (inr e) = inr (one_named i.routes d b order k is.second (sym (or-false (same_name d.route.name b.route.name)) ∙ e))
 
-  told_both : (told : RouteEntry → Bool) → list_any told those ≡ (told a || told b)
+  told_both : (told : RouteRow → Bool) → list_any told those ≡ (told a || told b)
   told_both told = cmp.both_ways (list_any told those) (told a || told b) into (λ h. from (or_cases (told a) (told b) h))
     where
       from : (told a ≡ true) ⊎ (told b ≡ true) → list_any told those ≡ true
       from (inl e) = any_of told a those a_there e
       from (inr e) = any_of told b those b_there e
 
-      of : (d : RouteEntry) → told d ≡ true → (d ≡ a) ⊎ (d ≡ b) → (told a || told b) ≡ true
+      of : (d : RouteRow) → told d ≡ true → (d ≡ a) ⊎ (d ≡ b) → (told a || told b) ≡ true
       of d h (inl e) = or_left (told a) (told b) (ap told (sym e) ∙ h)
       of d h (inr e) = or_right (told a) (told b) (ap told (sym e) ∙ h)
 
       into : list_any told those ≡ true → (told a || told b) ≡ true
       into h = let d = any_found told those h in of d.0 d.2 (either d.0 d.1)
 
-  left_a : (told : RouteEntry → Bool) → told a ≡ true → IsLeft told dropped i.routes
+  left_a : (told : RouteRow → Bool) → told a ≡ true → IsLeft told dropped i.routes
   left_a told h = inl (any_of told a those a_there h)
 
-  left_b : (told : RouteEntry → Bool) → told b ≡ true → IsLeft told dropped i.routes
+  left_b : (told : RouteRow → Bool) → told b ≡ true → IsLeft told dropped i.routes
   left_b told h = inl (any_of told b those b_there h)
 
-  only : (P : RouteEntry → Type 0) → P w → (v : RouteEntry) → In v written → P v
+  only : (P : RouteRow → Type 0) → P w → (v : RouteRow) → In v written → P v
   only P k v (inl e) = subst P (sym e) k
   only P k v (inr e) = absurd e
 
@@ -209,7 +209,7 @@ module _ (i : Image) (a b w : RouteEntry) (s : IsSound i) (is : IsJoined i a b w
       into : (x : Referent) → In x w.route.refs → referent_entry whole x ≡ Some e → In e (flat_map referents_on written)
       into x k h = In-flat_map referents_on w e written (inl refl) (subst (In e) (sym on_w) (found_option (referent_entry whole) x e w.route.refs k h))
 
-      by : (d : RouteEntry) → In e (referents_on d) → (d ≡ a) ⊎ (d ≡ b) → In e (flat_map referents_on written)
+      by : (d : RouteRow) → In e (referents_on d) → (d ≡ a) ⊎ (d ≡ b) → In e (flat_map referents_on written)
       by d k (inl h) =
           let x = option_found (referent_entry a.route.course) e a.route.refs (subst (λ v. In e (referents_on v)) h k) in
           into x.0 (is.refs_front x.0 x.1) (front_same x.0 x.1 ∙ x.2)
@@ -228,13 +228,13 @@ module _ (i : Image) (a b w : RouteEntry) (s : IsSound i) (is : IsJoined i a b w
 
   -- ---- the register, and all of it
 
-  abbrev kept : List RouteEntry
+  abbrev kept : List RouteRow
   kept = routes_left dropped i.routes
 
   -- those of other names than the second, without the first
   both_left : routes_left (a.route.name ∷ []) (routes_left (b.route.name ∷ []) i.routes) ≡ kept
   both_left = sym (without_one a.route.name (routes_left (b.route.name ∷ []) i.routes)) ∙ two_left b.route.name a.route.name i.routes
-      ∙ (λ j. filter (λ (e : RouteEntry). not (turned (same_name e.route.name b.route.name) (same_name e.route.name a.route.name) j)) i.routes)
+      ∙ (λ j. filter (λ (e : RouteRow). not (turned (same_name e.route.name b.route.name) (same_name e.route.name a.route.name) j)) i.routes)
     where
       turned : (x y : Bool) → (x || (y || false)) ≡ (y || (x || false))
       turned true true = refl
@@ -264,12 +264,12 @@ module _ (i : Image) (a b w : RouteEntry) (s : IsSound i) (is : IsJoined i a b w
 
   few : 1 + length kept ≤ most_routes
   few =
-      let c = length-parted (λ (e : RouteEntry). list_any (same_name e.route.name) dropped) i.routes in
+      let c = length-parted (λ (e : RouteRow). list_any (same_name e.route.name) dropped) i.routes in
       let d = old_few i s in
       let e = some_there a those a_there in
       omega (arith, c, d, e)
     where
-      some_there : (x : RouteEntry) (xs : List RouteEntry) → In x xs → 1 ≤ length xs
+      some_there : (x : RouteRow) (xs : List RouteRow) → In x xs → 1 ≤ length xs
       some_there x [] m = absurd m
       some_there x (y ∷ ys) m = omega arith
 
@@ -296,7 +296,7 @@ module _ (i : Image) (a b w : RouteEntry) (s : IsSound i) (is : IsJoined i a b w
       ∙ (λ j. option_or (option_map named (cond (runs_joined m j) (Some w) None)) (cond (told_both (is_run_by m) j) None (runs_on i.routes m)))
       ∙ by (cases_Bool (runs_over a.route.course m)) (cases_Bool (runs_over b.route.course m))
     where
-      named : RouteEntry → Name
+      named : RouteRow → Name
       named e = e.route.name
 
       after : Bool → Bool → Option Name

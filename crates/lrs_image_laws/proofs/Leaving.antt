@@ -19,7 +19,7 @@ use Rattle.lrs_events.specs.Places.{Place, lies_on}
 use Rattle.lrs_events.specs.Parts.{has_pair}
 use Rattle.lrs_events_rows.proofs.Changing.{any_insert_all}
 use Rattle.lrs_events_lanes.proofs.Members.{each_two-filter}
-use Rattle.lrs_machine.specs.declared.image.RouteEntry.{RouteEntry}
+use Rattle.lrs_machine.specs.declared.image.RouteRow.{RouteRow}
 use Rattle.lrs_machine.specs.declared.image.Image.{Image}
 use Rattle.lrs_machine.specs.Image.{state_of, holds_on, referents_on, referent_entry, route_entry, reason_of}
 use Rattle.lrs_machine.specs.Machine.{abandon, elsewhere}
@@ -37,7 +37,7 @@ use Rattle.lrs_image_laws.specs.Leaving.{with_left, is_held_on, LeaveGround, Lea
 
 -- ---- what is held on a route, or stands there, is on its course
 
-pub held_lies : (e : RouteEntry) (a : ℕ) (p : Place) → holds_on e a p ≡ true → lies_on e.route.course p ≡ true
+pub held_lies : (e : RouteRow) (a : ℕ) (p : Place) → holds_on e a p ≡ true → lies_on e.route.course p ≡ true
 held_lies e a p h =
     let k = held e.route.course e.spans a p h in
     any_of (is_at (p.link, p.mm)) k.ground e.route.course k.on_course (and_from (nat_eq k.ground.link p.link) (nat_eq k.ground.mm p.mm) (eq-eqb k.ground.link p.link k.on_link) (eq-eqb k.ground.mm p.mm k.at))
@@ -46,7 +46,7 @@ held_lies e a p h =
 abbrev entry : Name → Option Ground → Option (Name × Millimetre)
 entry name o = option_map (λ m. (name, m)) (option_map (λ (g : Ground). (g.link, g.mm)) o)
 
-pub stands_on : (e : RouteEntry) (q : Name × Millimetre) → In q (referents_on e) → runs_over e.route.course q.1 ≡ true
+pub stands_on : (e : RouteRow) (q : Name × Millimetre) → In q (referents_on e) → runs_over e.route.course q.1 ≡ true
 stands_on e q m = let x = option_found (referent_entry e.route.course) q e.route.refs m in by x.0 (slice_get e.route.course x.0.at) refl x.2
   where
     some_is : (a b : Name × Millimetre) → Some a ≡ Some b → a ≡ b
@@ -103,25 +103,25 @@ found_off part name (r ∷ rs) once = by (eq_by_cmp name_cmp name r.0) (runs_ove
 
 -- ---- the state
 
-module _ (i : Image) (dropped : List Name) (written : List RouteEntry) (gone : List Gone) (part : List Ground) (taken : ℕ → Place → Bool) (s : IsSound i) (fit : AreFit i dropped written)
+module _ (i : Image) (dropped : List Name) (written : List RouteRow) (gone : List Gone) (part : List Ground) (taken : ℕ → Place → Bool) (s : IsSound i) (fit : AreFit i dropped written)
     (led : AreGone (length i.edits + 1) Abandoned taken gone) (leave : LeaveGround part taken dropped written i.routes) where
   abbrev n : ℕ
   n = length i.edits + 1
 
-  abbrev goes : RouteEntry → Bool
+  abbrev goes : RouteRow → Bool
   goes e = list_any (same_name e.route.name) dropped
 
-  abbrev those : List RouteEntry
+  abbrev those : List RouteRow
   those = routes_named dropped i.routes
 
-  abbrev kept : List RouteEntry
+  abbrev kept : List RouteRow
   kept = routes_left dropped i.routes
 
-  abbrev routes : List RouteEntry
+  abbrev routes : List RouteRow
   routes = rewritten dropped written i.routes
 
   -- a route that stays does not run over the part
-  not_there : (e : RouteEntry) (m : Millimetre) → In e kept → runs_over e.route.course m ≡ true → runs_over part m ≡ true → ⊥
+  not_there : (e : RouteRow) (m : Millimetre) → In e kept → runs_over e.route.course m ≡ true → runs_over part m ≡ true → ⊥
   not_there e m k h on = stays_far i dropped written s fit e (record { link = m.0; mm = m.1; forward = true }) k h (inl (leave.theirs m on))
 
   kept_off : (a : ℕ) (p : Place) → (is_held_on kept a p && lies_on part p) ≡ false
@@ -192,11 +192,11 @@ module _ (i : Image) (dropped : List Name) (written : List RouteEntry) (gone : L
   to : (q : Name × Millimetre) → In q news → In q (filter (is_off part) olds)
   to q m = let r = flat_map_found referents_on q routes m in by r.0 (In-insert_all route_before r.0 written kept r.1) r.2
     where
-      clear : (r : RouteEntry) → In r kept → In q (referents_on r) → (runs_over part q.1 ≡ true) ⊎ (runs_over part q.1 ≡ false) → runs_over part q.1 ≡ false
+      clear : (r : RouteRow) → In r kept → In q (referents_on r) → (runs_over part q.1 ≡ true) ⊎ (runs_over part q.1 ≡ false) → runs_over part q.1 ≡ false
       clear r k h (inl on) = absurd (not_there r q.1 k (stands_on r q h) on)
       clear r k h (inr f) = f
 
-      by : (r : RouteEntry) → In r written ⊎ In r kept → In q (referents_on r) → In q (filter (is_off part) olds)
+      by : (r : RouteRow) → In r written ⊎ In r kept → In q (referents_on r) → In q (filter (is_off part) olds)
       by r (inl k) h =
           let both = leave.to q (In-flat_map referents_on r q written k h) in
           let d = flat_map_found referents_on q those both.0 in
@@ -209,10 +209,10 @@ module _ (i : Image) (dropped : List Name) (written : List RouteEntry) (gone : L
       let r = flat_map_found referents_on q i.routes k.0 in
       by r.0 (not-true (runs_over part q.1) k.1) (cases_Bool (goes r.0)) r.1 r.2
     where
-      new : (r : RouteEntry) → In r written ⊎ In r kept → In q (referents_on r) → In q news
+      new : (r : RouteRow) → In r written ⊎ In r kept → In q (referents_on r) → In q news
       new r k h = In-flat_map referents_on r q routes (insert_all-In route_before r written kept k) h
 
-      by : (r : RouteEntry) → runs_over part q.1 ≡ false → (goes r ≡ true) ⊎ (goes r ≡ false) → In r i.routes → In q (referents_on r) → In q news
+      by : (r : RouteRow) → runs_over part q.1 ≡ false → (goes r ≡ true) ⊎ (goes r ≡ false) → In r i.routes → In q (referents_on r) → In q news
       by r f (inl g) k h =
           let w = flat_map_found referents_on q written (leave.back q (In-flat_map referents_on r q those (filter-In goes r i.routes k g) h) f) in
           new w.0 (inl w.1) w.2

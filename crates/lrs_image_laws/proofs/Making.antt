@@ -6,7 +6,7 @@ use Rattle.lrs_measure.specs.Texts.{same_name}
 use Rattle.lrs_machine.specs.declared.command.Command.{Command}
 use Rattle.lrs_machine.specs.declared.image.Image.{Image}
 use Rattle.lrs_machine.specs.declared.image.Edit.{Edit}
-use Rattle.lrs_machine.specs.Bounds.{most_edits}
+use Rattle.lrs_measure.specs.Limits.{most_edits}
 use Rattle.lrs_machine.specs.Image.{state_of}
 use Rattle.lrs_machine.specs.Machine.{attempt}
 use Rattle.lrs_machine.specs.Laws.{IsLawful}

@@ -9,7 +9,7 @@ use Rattle.lrs_measure.specs.Texts.{Name, name_cmp, same_name}
 use Rattle.lrs_element.specs.declared.link.Ground.{Ground}
 use Rattle.lrs_element.specs.Course.{Millimetre, runs_over}
 use Rattle.lrs_position.specs.declared.route.Referent.{Referent}
-use Rattle.lrs_machine.specs.declared.image.RouteEntry.{RouteEntry}
+use Rattle.lrs_machine.specs.declared.image.RouteRow.{RouteRow}
 use Rattle.lrs_machine.specs.declared.image.Image.{Image}
 use Rattle.lrs_machine.specs.Image.{state_of, referents_on}
 use Rattle.lrs_machine.specs.Machine.{elsewhere}
@@ -22,24 +22,24 @@ use Rattle.lrs_image_laws.proofs.Standing.{named_of}
 use Rattle.lrs_image_laws.proofs.Leaving.{stands_on}
 
 -- Names that say of the route's referents whether they stand on the part.
-pub record AreNamed (r : RouteEntry) (part : List Ground) (names : List Name) : Type 0 where
+pub record AreNamed (r : RouteRow) (part : List Ground) (names : List Name) : Type 0 where
   pub theirs : (x : Millimetre) → runs_over part x ≡ true → runs_over r.route.course x ≡ true
   pub there : (q : Name × Millimetre) → In q (referents_on r) → list_any (same_name q.0) names ≡ runs_over part q.1
   pub known : (name : Name) → list_any (same_name name) names ≡ true → (x : Millimetre) × In (name, x) (referents_on r)
 
-module _ (i : Image) (r : RouteEntry) (part : List Ground) (names : List Name) (s : IsSound i) (m : In r i.routes) (named : AreNamed r part names) where
+module _ (i : Image) (r : RouteRow) (part : List Ground) (names : List Name) (s : IsSound i) (m : In r i.routes) (named : AreNamed r part names) where
   abbrev olds : List (Name × Millimetre)
   olds = flat_map referents_on i.routes
 
-  same_route : (d e : RouteEntry) → Some d ≡ Some e → d ≡ e
+  same_route : (d e : RouteRow) → Some d ≡ Some e → d ≡ e
   same_route d e h = cc
 
   -- a route that runs over a millimetre of the part is this one
-  runs_there : (d : RouteEntry) (x : Millimetre) → In d i.routes → runs_over d.route.course x ≡ true → runs_over part x ≡ true → d ≡ r
+  runs_there : (d : RouteRow) (x : Millimetre) → In d i.routes → runs_over d.route.course x ≡ true → runs_over part x ≡ true → d ≡ r
   runs_there d x k on h = same_route d r (sym (found_one x d i.routes (old_far i s) k on) ∙ found_one x r i.routes (old_far i s) m (named.theirs x h))
 
   -- ... and so is one that has a referent of one of the names
-  has_name : (d : RouteEntry) (name : Name) (x y : Millimetre) → In d i.routes → In (name, x) (referents_on d) → In (name, y) (referents_on r) → d ≡ r
+  has_name : (d : RouteRow) (name : Name) (x y : Millimetre) → In d i.routes → In (name, x) (referents_on d) → In (name, y) (referents_on r) → d ≡ r
   has_name d name x y k h l =
       let a = named_of d.route.course d.route.refs (name, x) h in
       let b = named_of r.route.course r.route.refs (name, y) l in
@@ -61,7 +61,7 @@ module _ (i : Image) (r : RouteEntry) (part : List Ground) (names : List Name) (
       nothing true = refl
       nothing false = refl
 
-      of : (x : Millimetre) (d : RouteEntry) → In d i.routes → In (name, x) (referents_on d) → is_told name ≡ runs_over part x
+      of : (x : Millimetre) (d : RouteRow) → In d i.routes → In (name, x) (referents_on d) → is_told name ≡ runs_over part x
       of x d k h = of_cases (cases_Bool (is_told name)) (cases_Bool (runs_over part x))
         where
           ours : d ≡ r → is_told name ≡ runs_over part x

@@ -16,7 +16,7 @@ use Rattle.lrs_measure.specs.Ordered.{insert_by, insert_all}
 use Rattle.lrs_measure.specs.Texts.{Name, name_cmp, name_before, same_name}
 use Rattle.lrs_events_rows.proofs.Unique.{less_one}
 use Rattle.lrs_events_lanes.proofs.Members.{each_two-filter}
-use Rattle.lrs_machine.specs.declared.image.RouteEntry.{RouteEntry}
+use Rattle.lrs_machine.specs.declared.image.RouteRow.{RouteRow}
 use Rattle.lrs_machine.specs.Image.{route_entry}
 use Rattle.lrs_machine.specs.Register.{by_order, put}
 use Rattle.lrs_machine.specs.Sound.{route_before}
@@ -40,25 +40,25 @@ later_name m n h = same_either n m ∙ earlier_name m n h
 
 -- ---- routes of a name, and the others
 
-pub without_one : (name : Name) (routes : List RouteEntry) → without name routes ≡ routes_left (name ∷ []) routes
+pub without_one : (name : Name) (routes : List RouteRow) → without name routes ≡ routes_left (name ∷ []) routes
 without_one name routes = λ j. filter (λ e. not (sym (or-false (same_name e.route.name name)) j)) routes
 
 -- those of other names than a route's own
-abbrev is_other : RouteEntry → RouteEntry → Bool
+abbrev is_other : RouteRow → RouteRow → Bool
 is_other e f = not (same_name e.route.name f.route.name)
 
-others_left : (e : RouteEntry) (routes : List RouteEntry) → filter (is_other e) routes ≡ routes_left (e.route.name ∷ []) routes
+others_left : (e : RouteRow) (routes : List RouteRow) → filter (is_other e) routes ≡ routes_left (e.route.name ∷ []) routes
 others_left e routes = λ j. filter (λ f. not ((same_either e.route.name f.route.name ∙ sym (or-false (same_name f.route.name e.route.name))) j)) routes
 
 -- the one route of a name
-pub only_one : (r : RouteEntry) (routes : List RouteEntry) → each_two route_before routes ≡ true → In r routes → routes_named (r.route.name ∷ []) routes ≡ r ∷ []
+pub only_one : (r : RouteRow) (routes : List RouteRow) → each_two route_before routes ≡ true → In r routes → routes_named (r.route.name ∷ []) routes ≡ r ∷ []
 only_one r [] h m = absurd m
 only_one r (y ∷ ys) h (inl e) =
     let both = and_parts (list_all (route_before y) ys) (each_two route_before ys) h in
-    ap (λ b. cond (b || false) (y ∷ routes_named (r.route.name ∷ []) ys) (routes_named (r.route.name ∷ []) ys)) ((bytes_decides y.route.name r.route.name).1 (ap (λ (w : RouteEntry). w.route.name) (sym e)))
-    ∙ (λ j. sym e j ∷ none ys (λ z m. ap (λ (w : RouteEntry). same_name z.route.name w.route.name) e ∙ later_name y.route.name z.route.name (all_at (route_before y) z ys both.0 m)) j)
+    ap (λ b. cond (b || false) (y ∷ routes_named (r.route.name ∷ []) ys) (routes_named (r.route.name ∷ []) ys)) ((bytes_decides y.route.name r.route.name).1 (ap (λ (w : RouteRow). w.route.name) (sym e)))
+    ∙ (λ j. sym e j ∷ none ys (λ z m. ap (λ (w : RouteRow). same_name z.route.name w.route.name) e ∙ later_name y.route.name z.route.name (all_at (route_before y) z ys both.0 m)) j)
   where
-    none : (zs : List RouteEntry) → ((z : RouteEntry) → In z zs → same_name z.route.name r.route.name ≡ false) → routes_named (r.route.name ∷ []) zs ≡ []
+    none : (zs : List RouteRow) → ((z : RouteRow) → In z zs → same_name z.route.name r.route.name ≡ false) → routes_named (r.route.name ∷ []) zs ≡ []
     none [] w = refl
     none (z ∷ zs) w = ap (λ b. cond (b || false) (z ∷ routes_named (r.route.name ∷ []) zs) (routes_named (r.route.name ∷ []) zs)) (w z (inl refl)) ∙ none zs (λ x m. w x (inr m))
 only_one r (y ∷ ys) h (inr m) =
@@ -66,18 +66,18 @@ only_one r (y ∷ ys) h (inr m) =
     ap (λ b. cond (b || false) (y ∷ routes_named (r.route.name ∷ []) ys) (routes_named (r.route.name ∷ []) ys)) (earlier_name y.route.name r.route.name (all_at (route_before y) r ys both.0 m)) ∙ only_one r ys both.1 m
 
 -- a route that is found is one of them, and has the name
-pub found_in : (name : Name) (r : RouteEntry) (routes : List RouteEntry) → list.find (is_named name) routes ≡ Some r → In r routes × (r.route.name ≡ name)
+pub found_in : (name : Name) (r : RouteRow) (routes : List RouteRow) → list.find (is_named name) routes ≡ Some r → In r routes × (r.route.name ≡ name)
 found_in name r [] h = absurd (cc h)
 found_in name r (y ∷ ys) h =
     elim (is_named name y) as (λ b. is_named name y ≡ b → cond b (Some y) (list.find (is_named name) ys) ≡ Some r → In r (y ∷ ys) × (r.route.name ≡ name)) [
-      | true ↦ λ here is. let same : r ≡ y = cc is in (inl same, ap (λ (w : RouteEntry). w.route.name) same ∙ (bytes_decides y.route.name name).0 here)
+      | true ↦ λ here is. let same : r ≡ y = cc is in (inl same, ap (λ (w : RouteRow). w.route.name) same ∙ (bytes_decides y.route.name name).0 here)
       | false ↦ λ apart is. let k = found_in name r ys is in (inr k.0, k.1)
     ] refl h
 
 -- ---- the register of routes
 
 -- to remove a name from the register is to drop its route
-pub removed : (name : Name) (routes : List RouteEntry) → filter (λ e. not (eq_by_cmp name_cmp name e.0)) (map route_entry routes) ≡ map route_entry (routes_left (name ∷ []) routes)
+pub removed : (name : Name) (routes : List RouteRow) → filter (λ e. not (eq_by_cmp name_cmp name e.0)) (map route_entry routes) ≡ map route_entry (routes_left (name ∷ []) routes)
 removed name [] = refl
 removed name (y ∷ ys) =
     let own : eq_by_cmp name_cmp name y.route.name ≡ (same_name y.route.name name || false) = sym (texts_ties name y.route.name) ∙ same_either name y.route.name ∙ sym (or-false (same_name y.route.name name)) in
@@ -90,11 +90,11 @@ removed name (y ∷ ys) =
     ]
 
 -- the value at a route's name is the route's
-pub route_found : (r : RouteEntry) (routes : List RouteEntry) → each_two route_before routes ≡ true → In r routes → find name_cmp r.route.name (map route_entry routes) ≡ Some (route_entry r).1
+pub route_found : (r : RouteRow) (routes : List RouteRow) → each_two route_before routes ≡ true → In r routes → find name_cmp r.route.name (map route_entry routes) ≡ Some (route_entry r).1
 route_found r [] h m = absurd m
 route_found r (y ∷ ys) h (inl e) =
     ap (λ b. cond b (Some (route_entry y).1) (find name_cmp r.route.name (map route_entry ys)))
-    (sym (texts_ties r.route.name y.route.name) ∙ (bytes_decides r.route.name y.route.name).1 (ap (λ (w : RouteEntry). w.route.name) e))
+    (sym (texts_ties r.route.name y.route.name) ∙ (bytes_decides r.route.name y.route.name).1 (ap (λ (w : RouteRow). w.route.name) e))
     ∙ ap (λ w. Some (route_entry w).1) (sym e)
 route_found r (y ∷ ys) h (inr m) =
     let both = and_parts (list_all (route_before y) ys) (each_two route_before ys) h in
@@ -102,27 +102,27 @@ route_found r (y ∷ ys) h (inr m) =
     (sym (texts_ties r.route.name y.route.name) ∙ later_name y.route.name r.route.name (all_at (route_before y) r ys both.0 m))
     ∙ route_found r ys both.1 m
 
-pub route_none : (name : Name) (routes : List RouteEntry) → list_any (is_named name) routes ≡ false → find name_cmp name (map route_entry routes) ≡ None
+pub route_none : (name : Name) (routes : List RouteRow) → list_any (is_named name) routes ≡ false → find name_cmp name (map route_entry routes) ≡ None
 route_none name [] h = refl
 route_none name (y ∷ ys) h =
     let both = or_parts (same_name y.route.name name) (list_any (is_named name) ys) h in
     ap (λ b. cond b (Some (route_entry y).1) (find name_cmp name (map route_entry ys))) (sym (texts_ties name y.route.name) ∙ same_either name y.route.name ∙ both.0) ∙ route_none name ys both.1
 
 -- all behind it have other names
-others : (e : RouteEntry) (ys : List RouteEntry) → list_all (route_before e) ys ≡ true → list_all (is_other e) ys ≡ true
+others : (e : RouteRow) (ys : List RouteRow) → list_all (route_before e) ys ≡ true → list_all (is_other e) ys ≡ true
 others e ys h = all_of (is_other e) ys (λ y m. ap not (earlier_name e.route.name y.route.name (all_at (route_before e) y ys h m)))
 
-pub route_chain : (a b c : RouteEntry) → route_before a b ≡ true → route_before b c ≡ true → route_before a c ≡ true
-route_chain = before-chain nat_list_cmp_total (λ (f : RouteEntry). f.route.name)
+pub route_chain : (a b c : RouteRow) → route_before a b ≡ true → route_before b c ≡ true → route_before a c ≡ true
+route_chain = before-chain nat_list_cmp_total (λ (f : RouteRow). f.route.name)
 
-at_front : (e : RouteEntry) (ys : List RouteEntry) → list_all (route_before e) ys ≡ true → insert_by route_before e ys ≡ e ∷ ys
+at_front : (e : RouteRow) (ys : List RouteRow) → list_all (route_before e) ys ≡ true → insert_by route_before e ys ≡ e ∷ ys
 at_front e [] h = refl
 at_front e (y ∷ ys) h = ap (λ b. cond b (e ∷ y ∷ ys) (y ∷ insert_by route_before e ys)) (and_parts (route_before e y) (list_all (route_before e) ys) h).0
 
-none_drops : (e : RouteEntry) (ys : List RouteEntry) → list_all (route_before e) ys ≡ true → filter (is_other e) ys ≡ ys
+none_drops : (e : RouteRow) (ys : List RouteRow) → list_all (route_before e) ys ≡ true → filter (is_other e) ys ≡ ys
 none_drops e ys h = none_goes route_before (λ f. same_name e.route.name f.route.name) ys (others e ys h)
 
-put_among : (e : RouteEntry) (routes : List RouteEntry) → each_two route_before routes ≡ true → put name_cmp e.route.name (route_entry e).1 (map route_entry routes) ≡ map route_entry (insert_by route_before e (filter (is_other e) routes))
+put_among : (e : RouteRow) (routes : List RouteRow) → each_two route_before routes ≡ true → put name_cmp e.route.name (route_entry e).1 (map route_entry routes) ≡ map route_entry (insert_by route_before e (filter (is_other e) routes))
 put_among e [] h = refl
 put_among e (y ∷ ys) h =
     by (name_cmp e.route.name y.route.name) refl (put_among e ys both.1)
@@ -157,13 +157,13 @@ put_among e (y ∷ ys) h =
         ∙ ap (λ b. map route_entry (cond b (e ∷ y ∷ filter (is_other e) ys) (y ∷ insert_by route_before e (filter (is_other e) ys)))) (ap is_lt is))
 
 -- To write a route at its name in the register is to drop the one of its name, and to write it.
-pub put_rewrites : (e : RouteEntry) (routes : List RouteEntry) → each_two route_before routes ≡ true
+pub put_rewrites : (e : RouteRow) (routes : List RouteRow) → each_two route_before routes ≡ true
     → put name_cmp e.route.name (route_entry e).1 (map route_entry routes) ≡ map route_entry (rewritten (e.route.name ∷ []) (e ∷ []) routes)
 put_rewrites e routes h = put_among e routes h ∙ ap (λ l. map route_entry (insert_by route_before e l)) (others_left e routes)
 
 -- ---- order
 
-pub left_in_order : (names : List Name) (routes : List RouteEntry) → each_two route_before routes ≡ true → each_two route_before (routes_left names routes) ≡ true
+pub left_in_order : (names : List Name) (routes : List RouteRow) → each_two route_before routes ≡ true → each_two route_before (routes_left names routes) ≡ true
 left_in_order names routes h = each_two-filter route_before (λ e. not (list_any (same_name e.route.name) names)) routes h
 
 -- rows of other names put among rows in the order of their names
@@ -194,22 +194,22 @@ module _ {Row : Type 0} (name : Row → Name) where
       with z y m t (inl e) = ap (λ (q : Row). same_name (name z) (name q)) e ∙ t
       with z y m t (inr n) = w z y (inr m) n
 
-pub in_order : (xs ys : List RouteEntry) → each_two is_other xs ≡ true → each_two route_before ys ≡ true → ((w e : RouteEntry) → In w xs → In e ys → same_name w.route.name e.route.name ≡ false)
+pub in_order : (xs ys : List RouteRow) → each_two is_other xs ≡ true → each_two route_before ys ≡ true → ((w e : RouteRow) → In w xs → In e ys → same_name w.route.name e.route.name ≡ false)
     → each_two route_before (insert_all route_before xs ys) ≡ true
-in_order xs ys h k w = all_in_order (λ (e : RouteEntry). e.route.name) xs ys h k w
+in_order xs ys h k w = all_in_order (λ (e : RouteRow). e.route.name) xs ys h k w
 
 -- a route in the place of the one of its name leaves them in order
-pub order_stays : (w : RouteEntry) (name : Name) (routes : List RouteEntry) → w.route.name ≡ name → each_two route_before routes ≡ true → each_two route_before (rewritten (name ∷ []) (w ∷ []) routes) ≡ true
+pub order_stays : (w : RouteRow) (name : Name) (routes : List RouteRow) → w.route.name ≡ name → each_two route_before routes ≡ true → each_two route_before (rewritten (name ∷ []) (w ∷ []) routes) ≡ true
 order_stays w name routes same order = in_order (w ∷ []) (routes_left (name ∷ []) routes) refl (left_in_order (name ∷ []) routes order)
-    (λ v e m n. one v e m (In-filter (λ (e : RouteEntry). not (list_any (same_name e.route.name) (name ∷ []))) e routes n).1)
+    (λ v e m n. one v e m (In-filter (λ (e : RouteRow). not (list_any (same_name e.route.name) (name ∷ []))) e routes n).1)
   where
-    one : (v e : RouteEntry) → In v (w ∷ []) → not (same_name e.route.name name || false) ≡ true → same_name v.route.name e.route.name ≡ false
-    one v e (inl h) n = ap (λ (v : RouteEntry). same_name v.route.name e.route.name) h ∙ ap (λ n. same_name n e.route.name) same ∙ same_either name e.route.name
+    one : (v e : RouteRow) → In v (w ∷ []) → not (same_name e.route.name name || false) ≡ true → same_name v.route.name e.route.name ≡ false
+    one v e (inl h) n = ap (λ (v : RouteRow). same_name v.route.name e.route.name) h ∙ ap (λ n. same_name n e.route.name) same ∙ same_either name e.route.name
         ∙ sym (or-false (same_name e.route.name name)) ∙ not-true (same_name e.route.name name || false) n
     one v e (inr h) n = absurd h
 
 -- of two names one comes before the other
-pub one_way : (a b : RouteEntry) → same_name a.route.name b.route.name ≡ false → route_before a b ≡ not (route_before b a)
+pub one_way : (a b : RouteRow) → same_name a.route.name b.route.name ≡ false → route_before a b ≡ not (route_before b a)
 one_way a b apart = by (name_cmp a.route.name b.route.name) (name_cmp b.route.name a.route.name) (nat_list_cmp_total.antisymm a.route.name b.route.name) (sym (texts_ties a.route.name b.route.name) ∙ apart)
   where
     by : (o p : Ordering) → o ≡ ordering_reverse p → is_eq o ≡ false → is_lt o ≡ not (is_lt p)

@@ -7,7 +7,7 @@ use Rattle.lrs_measure.specs.Lists.{each_two}
 use Rattle.lrs_events.specs.declared.part.Part.{Part}
 use Rattle.lrs_events.specs.declared.part.Gone.{Gone}
 use Rattle.lrs_events.specs.Parts.{part_before}
-use Rattle.lrs_machine.specs.Bounds.{most_pairs}
+use Rattle.lrs_measure.specs.Limits.{most_pairs}
 use Rattle.lrs_machine.specs.Sound.{are_spans_of, spans_of, keeps_exclusive, is_part, share_nothing, pairs_of, are_parts, parts_of, gone_before, are_balanced}
 use Rattle.lrs_machine.proofs.Members.{all_weaker}
 use Rattle.lrs_machine.proofs.Pairs.{each_two-map}

@@ -30,9 +30,9 @@ use Rattle.lrs_events_rows.proofs.Unique.{some_side}
 use Rattle.lrs_events_spans.specs.Realigning.{IsRealigned}
 use Rattle.lrs_events_spans.proofs.GoneOn.{its_end, said_by}
 use Rattle.lrs_machine.specs.declared.command.Command.TheVariants as verb
-use Rattle.lrs_machine.specs.declared.image.RouteEntry.{RouteEntry}
+use Rattle.lrs_machine.specs.declared.image.RouteRow.{RouteRow}
 use Rattle.lrs_machine.specs.declared.image.Image.{Image}
-use Rattle.lrs_machine.specs.Bounds.{most_routes}
+use Rattle.lrs_measure.specs.Limits.{most_routes}
 use Rattle.lrs_machine.specs.Register.{put}
 use Rattle.lrs_machine.specs.State.{State, Abandoned}
 use Rattle.lrs_machine.specs.Image.{state_of, holds_on, referents_on, referent_entry, route_entry}
@@ -80,11 +80,11 @@ get_in k x [] h = absurd (cc h)
 get_in zero x (y ∷ ys) h = let e : y ≡ x = cc h in inl (sym e)
 get_in (suc k) x (y ∷ ys) h = inr (get_in k x ys h)
 
-module _ (i : Image) (r w : RouteEntry) (from to : ℕ) (come : List Piece) (marks : List Mark) (gone : List Gone) (s : IsSound i) (is : IsRealignment i r w from to come marks) (led : IsTaken i r from to gone) where
+module _ (i : Image) (r w : RouteRow) (from to : ℕ) (come : List Piece) (marks : List Mark) (gone : List Gone) (s : IsSound i) (is : IsRealignment i r w from to come marks) (led : IsTaken i r from to gone) where
   abbrev dropped : List Name
   dropped = r.route.name ∷ []
 
-  abbrev written : List RouteEntry
+  abbrev written : List RouteRow
   written = w ∷ []
 
   abbrev n : ℕ
@@ -120,19 +120,19 @@ module _ (i : Image) (r w : RouteEntry) (from to : ℕ) (come : List Piece) (mar
   parted_once : each_two differs (before ++ (stretch ++ after)) ≡ true
   parted_once = ap (each_two differs) (three_parts c from to is.low is.high) ∙ the_course.1
 
-  only : (P : RouteEntry → Type 0) → P w → (v : RouteEntry) → In v written → P v
+  only : (P : RouteRow → Type 0) → P w → (v : RouteRow) → In v written → P v
   only P a v (inl e) = subst P (sym e) a
   only P a v (inr e) = absurd e
 
   -- ---- it fits
 
-  left : (told : RouteEntry → Bool) → told r ≡ true → IsLeft told dropped i.routes
+  left : (told : RouteRow → Bool) → told r ≡ true → IsLeft told dropped i.routes
   left told h = inl (ap (list_any told) ours ∙ or_left (told r) false h)
 
   runs_there : (g : Ground) (d : List Ground) → In g d → runs_over d (g.link, g.mm) ≡ true
   runs_there g d m = any_of (is_at (g.link, g.mm)) g d m (and_from (nat_eq g.link g.link) (nat_eq g.mm g.mm) (eq-eqb g.link g.link refl) (eq-eqb g.mm g.mm refl))
 
-  new_far : (e : RouteEntry) (g : Ground) → In e i.routes → In g ground → runs_at g e ≡ true → ⊥
+  new_far : (e : RouteRow) (g : Ground) → In e i.routes → In g ground → runs_at g e ≡ true → ⊥
   new_far e g m k h = both_ways (meets ground e.route.course) (is.free e m) (any_of (λ (g : Ground). runs_over e.route.course (g.link, g.mm)) g ground k h)
 
   new_differs : (g h : Ground) → In g ground → In h c → is_at (g.link, g.mm) h ≡ false
@@ -276,7 +276,7 @@ module _ (i : Image) (r w : RouteEntry) (from to : ℕ) (come : List Piece) (mar
       by (inr a) (inr b) = absurd (both_ways (is_off from to x) h (off_is from to x (inr b)))
       by (inr a) (inl b) = runs_there g stretch (in_stretch x g a b at)
 
-  theirs : List RouteEntry
+  theirs : List RouteRow
   theirs = routes_named dropped i.routes
 
   to_old : (q : Name × Millimetre) → In q (flat_map referents_on written) → In q (flat_map referents_on (routes_named dropped i.routes)) × (runs_over stretch q.1 ≡ false)
@@ -298,7 +298,7 @@ module _ (i : Image) (r w : RouteEntry) (from to : ℕ) (come : List Piece) (mar
       let x = option_found (referent_entry c) q r.route.refs (its v.0 v.1 v.2) in
       by x.0 x.1 x.2 (under x.0 q x.2) (cases_Bool (is_off from to x.0))
     where
-      its : (v : RouteEntry) → In v (r ∷ []) → In q (referents_on v) → In q (referents_on r)
+      its : (v : RouteRow) → In v (r ∷ []) → In q (referents_on v) → In q (referents_on r)
       its v (inl h) k = subst (λ v. In q (referents_on v)) h k
       its v (inr h) k = absurd h
 
@@ -320,7 +320,7 @@ module _ (i : Image) (r w : RouteEntry) (from to : ℕ) (come : List Piece) (mar
     back = back;
     theirs = λ x on.
         let g = any_found (is_at x) stretch on in
-        ap (list_any (λ (e : RouteEntry). runs_over e.route.course x)) ours
+        ap (list_any (λ (e : RouteRow). runs_over e.route.course x)) ours
         ∙ or_left (runs_over c x) false (any_of (is_at x) g.0 c (In-drop g.0 from c (In-take g.0 (to - from) (drop from c) g.1)) g.2);
     goes = λ a p. stretch_holds c from to is.low is.high the_course.1 p r.spans a led.rows led.taken ∙ ap (λ b. b && lies_on stretch p) (sym (holder a p));
   }
@@ -342,7 +342,7 @@ module _ (i : Image) (r w : RouteEntry) (from to : ℕ) (come : List Piece) (mar
 
   few : 1 + length (routes_left dropped i.routes) ≤ most_routes
   few =
-      let a = length-parted (λ (e : RouteEntry). list_any (same_name e.route.name) dropped) i.routes in
+      let a = length-parted (λ (e : RouteRow). list_any (same_name e.route.name) dropped) i.routes in
       let b : length (routes_named dropped i.routes) ≡ 1 = ap length ours in
       let d = old_few i s in
       omega (arith, a, b, d)

@@ -16,7 +16,7 @@ use Rattle.lrs_events.specs.Places.{differs}
 use Rattle.lrs_events.specs.Spans.{holds_by_spans}
 use Rattle.lrs_machine.specs.declared.answer.Cause.TheVariants as cause
 use Rattle.lrs_machine.specs.declared.command.Command.TheVariants as verb
-use Rattle.lrs_machine.specs.declared.image.RouteEntry.{RouteEntry}
+use Rattle.lrs_machine.specs.declared.image.RouteRow.{RouteRow}
 use Rattle.lrs_machine.specs.declared.image.Image.{Image}
 use Rattle.lrs_machine.specs.Register.{put}
 use Rattle.lrs_machine.specs.State.{State}
@@ -40,7 +40,7 @@ use Rattle.lrs_image_laws.proofs.Rewriting.{its_course, old_spans}
 
 -- ---- a route in the place of one with the same ground, referents and rows
 
-module _ (i : Image) (r w : RouteEntry) (s : IsSound i) (m : In r i.routes) (same : HasSame r w) where
+module _ (i : Image) (r w : RouteRow) (s : IsSound i) (m : In r i.routes) (same : HasSame r w) where
   pub alike : IsAlike i r w
   alike = record {
     linked = ap (list_all (is_on_a_link i.links)) same.course ∙ (its_course i s r m).0;
@@ -48,13 +48,13 @@ module _ (i : Image) (r w : RouteEntry) (s : IsSound i) (m : In r i.routes) (sam
     runs = λ at. ap (λ c. runs_over c at) same.course;
     names = λ q l. any_of (λ (x : Referent). same_name x.name q.name) q r.route.refs (subst (In q) same.refs l) ((bytes_decides q.name q.name).1 refl);
     stands = λ j. filter_map (referent_entry (same.course j)) (same.refs j);
-    spans = (λ j. are_spans_of i.assets (record { course = same.course j; rows = same.spans j })) ∙ all_at (λ (e : RouteEntry). are_spans_of i.assets (record { course = e.route.course; rows = e.spans })) r i.routes (old_spans i s) m;
+    spans = (λ j. are_spans_of i.assets (record { course = same.course j; rows = same.spans j })) ∙ all_at (λ (e : RouteRow). are_spans_of i.assets (record { course = e.route.course; rows = e.spans })) r i.routes (old_spans i s) m;
     holds = λ a p. (λ j. holds_by_spans (same.course j) (same.spans j) a p);
   }
 
 -- ---- other marks
 
-module _ (i : Image) (r w : RouteEntry) (s : IsSound i) (m : In r i.routes) (same : HasSame r w) (name : w.route.name ≡ r.route.name) where
+module _ (i : Image) (r w : RouteRow) (s : IsSound i) (m : In r i.routes) (same : HasSame r w) (name : w.route.name ≡ r.route.name) where
   abbrev outcome : State
   outcome = set_route r.route.name r.route.course w.route.marks (state_of i)
 
@@ -86,14 +86,14 @@ recalibrate_makes i r w s m same name = recalibrates i r w s m same name
 
 -- ---- another name
 
-module _ (i : Image) (r w : RouteEntry) (s : IsSound i) (m : In r i.routes) (same : HasSame r w) (marks : w.route.marks ≡ r.route.marks) (fresh : list_any (is_named w.route.name) i.routes ≡ false) where
-  none_named : (e : RouteEntry) → In e i.routes → same_name w.route.name e.route.name ≡ false
+module _ (i : Image) (r w : RouteRow) (s : IsSound i) (m : In r i.routes) (same : HasSame r w) (marks : w.route.marks ≡ r.route.marks) (fresh : list_any (is_named w.route.name) i.routes ≡ false) where
+  none_named : (e : RouteRow) → In e i.routes → same_name w.route.name e.route.name ≡ false
   none_named e k = is_false (same_name w.route.name e.route.name) (λ h. both_ways (list_any (is_named w.route.name) i.routes) fresh (any_of (is_named w.route.name) e i.routes k (same_either e.route.name w.route.name ∙ h)))
 
-  pub own_if_new : (e : RouteEntry) → In e i.routes → same_name w.route.name e.route.name ≡ true → same_name e.route.name r.route.name ≡ true
+  pub own_if_new : (e : RouteRow) → In e i.routes → same_name w.route.name e.route.name ≡ true → same_name e.route.name r.route.name ≡ true
   own_if_new e k h = absurd (both_ways (same_name w.route.name e.route.name) (none_named e k) h)
 
-  abbrev others : List RouteEntry
+  abbrev others : List RouteRow
   others = routes_left (r.route.name ∷ []) i.routes
 
   abbrev result : State
@@ -101,8 +101,8 @@ module _ (i : Image) (r w : RouteEntry) (s : IsSound i) (m : In r i.routes) (sam
 
   -- no route of those left has the new name
   all_left : routes_left (w.route.name ∷ []) others ≡ others
-  all_left = none_goes route_before (λ (e : RouteEntry). list_any (same_name e.route.name) (w.route.name ∷ [])) others (all_of (λ (e : RouteEntry). not (list_any (same_name e.route.name) (w.route.name ∷ []))) others (λ e k.
-      ap (λ b. not (b || false)) (same_either e.route.name w.route.name ∙ none_named e (In-filter (λ (e : RouteEntry). not (list_any (same_name e.route.name) (r.route.name ∷ []))) e i.routes k).0)))
+  all_left = none_goes route_before (λ (e : RouteRow). list_any (same_name e.route.name) (w.route.name ∷ [])) others (all_of (λ (e : RouteRow). not (list_any (same_name e.route.name) (w.route.name ∷ []))) others (λ e k.
+      ap (λ b. not (b || false)) (same_either e.route.name w.route.name ∙ none_named e (In-filter (λ (e : RouteRow). not (list_any (same_name e.route.name) (r.route.name ∷ []))) e i.routes k).0)))
 
   state_rows : result ≡ record (state_of i) { routes = record { rows = map route_entry (rewritten (r.route.name ∷ []) (w ∷ []) i.routes) } }
   unfolding state_of

@@ -15,9 +15,9 @@ use Rattle.lrs_position.specs.Routes.{is_route_course, are_referents}
 use Rattle.lrs_events.specs.Places.{differs}
 use Rattle.lrs_events_lanes.proofs.Inserted.{length-insert_all}
 use Rattle.lrs_events_lanes.proofs.Members.{each_two-filter}
-use Rattle.lrs_machine.specs.declared.image.RouteEntry.{RouteEntry}
+use Rattle.lrs_machine.specs.declared.image.RouteRow.{RouteRow}
 use Rattle.lrs_machine.specs.declared.image.Image.{Image}
-use Rattle.lrs_machine.specs.Bounds.{most_routes}
+use Rattle.lrs_measure.specs.Limits.{most_routes}
 use Rattle.lrs_machine.specs.Sound.{are_courses, courses_of, course_before, is_course, are_all_referents, referents_of, are_spans_of, spans_of, is_on_a_link, route_before, IsSound, RouteCourse, RouteReferents, RouteSpans}
 use Rattle.lrs_machine.proofs.Members.{In, any_found, any_of, all_at, all_of, two_at, flat_map_found}
 use Rattle.lrs_machine.proofs.Pairs.{each_two-map}
@@ -33,13 +33,13 @@ use Rattle.lrs_image_laws.proofs.Listed.{In-filter, all-insert_all, each_two-ins
 use Rattle.lrs_image_laws.proofs.Naming.{same_either, left_in_order, in_order}
 
 -- the courses of two routes have no millimetre in common
-abbrev pub are_far : RouteEntry → RouteEntry → Bool
+abbrev pub are_far : RouteRow → RouteRow → Bool
 are_far c d = not (meets c.route.course d.route.course)
 
 abbrev pub are_unlike : Referent → Referent → Bool
 are_unlike a b = not (same_name a.name b.name)
 
-abbrev pub refs_at : RouteEntry → List Referent
+abbrev pub refs_at : RouteRow → List Referent
 refs_at e = e.route.refs
 
 -- ---- what a sound image says of its routes
@@ -48,7 +48,7 @@ module _ (i : Image) (s : IsSound i) where
   abbrev free : RouteCourse → RouteCourse → Bool
   free c d = not (meets c.entries d.entries)
 
-  abbrev course : RouteEntry → RouteCourse
+  abbrev course : RouteRow → RouteCourse
   course e = record { route = e.route.name; entries = e.route.course }
 
   course_tests : ((each_two course_before (courses_of i) && list_all (is_course i.links) (courses_of i) && each_two free (courses_of i)) ≡ true) × (nat_le (length (courses_of i)) most_routes ≡ true)
@@ -57,7 +57,7 @@ module _ (i : Image) (s : IsSound i) where
   three : (each_two course_before (courses_of i) ≡ true) × (list_all (is_course i.links) (courses_of i) ≡ true) × (each_two free (courses_of i) ≡ true)
   three = and_three (each_two course_before (courses_of i)) (list_all (is_course i.links) (courses_of i)) (each_two free (courses_of i)) course_tests.0
 
-  pub old_courses : list_all (λ (e : RouteEntry). is_course i.links (course e)) i.routes ≡ true
+  pub old_courses : list_all (λ (e : RouteRow). is_course i.links (course e)) i.routes ≡ true
   old_courses = sym (list_all-map (is_course i.links) course i.routes) ∙ three.1
 
   pub old_far : each_two are_far i.routes ≡ true
@@ -68,20 +68,20 @@ module _ (i : Image) (s : IsSound i) where
 
   pub old_unlike : each_two are_unlike (flat_map refs_at i.routes) ≡ true
   old_unlike =
-      let refs : RouteEntry → RouteReferents = λ e. record { length = length e.route.course; refs = e.route.refs } in
+      let refs : RouteRow → RouteReferents = λ e. record { length = length e.route.course; refs = e.route.refs } in
       ap (each_two are_unlike) (sym (flat_map-map (λ (r : RouteReferents). r.refs) refs i.routes))
       ∙ (and_parts (list_all (λ r. are_referents r.length r.refs) (referents_of i)) (each_two are_unlike (flat_map (λ (r : RouteReferents). r.refs) (referents_of i))) (sound_is_orderly i s).referents).1
 
-  pub old_spans : list_all (λ (e : RouteEntry). are_spans_of i.assets (record { course = e.route.course; rows = e.spans })) i.routes ≡ true
-  old_spans = sym (list_all-map (are_spans_of i.assets) (λ (e : RouteEntry). let x : RouteSpans = record { course = e.route.course; rows = e.spans } in x) i.routes) ∙ (sound_is_orderly i s).spans
+  pub old_spans : list_all (λ (e : RouteRow). are_spans_of i.assets (record { course = e.route.course; rows = e.spans })) i.routes ≡ true
+  old_spans = sym (list_all-map (are_spans_of i.assets) (λ (e : RouteRow). let x : RouteSpans = record { course = e.route.course; rows = e.spans } in x) i.routes) ∙ (sound_is_orderly i s).spans
 
   -- the course of one of them runs over known links, and over no millimetre twice
-  pub its_course : (r : RouteEntry) → In r i.routes → (list_all (is_on_a_link i.links) r.route.course ≡ true) × (each_two differs r.route.course ≡ true)
+  pub its_course : (r : RouteRow) → In r i.routes → (list_all (is_on_a_link i.links) r.route.course ≡ true) × (each_two differs r.route.course ≡ true)
   its_course r m =
-      let all = and_three (is_route_course r.route.course) (list_all (is_on_a_link i.links) r.route.course) (each_two differs r.route.course) (all_at (λ (e : RouteEntry). is_course i.links (course e)) r i.routes old_courses m) in
+      let all = and_three (is_route_course r.route.course) (list_all (is_on_a_link i.links) r.route.course) (each_two differs r.route.course) (all_at (λ (e : RouteRow). is_course i.links (course e)) r i.routes old_courses m) in
       (all.1, all.2)
 
-far_either : (c d : RouteEntry) → are_far c d ≡ true → are_far d c ≡ true
+far_either : (c d : RouteRow) → are_far c d ≡ true → are_far d c ≡ true
 far_either c d h = ap not (apart_too c.route.course d.route.course (not-true (meets c.route.course d.route.course) h))
 
 unlike_either : (a b : Referent) → are_unlike a b ≡ true → are_unlike b a ≡ true
@@ -89,14 +89,14 @@ unlike_either a b h = ap not (same_either b.name a.name ∙ not-true (same_name 
 
 -- ---- routes dropped and written
 
-module _ (i : Image) (dropped : List Name) (written : List RouteEntry) (s : IsSound i) (fit : AreFit i dropped written) where
-  abbrev goes : RouteEntry → Bool
+module _ (i : Image) (dropped : List Name) (written : List RouteRow) (s : IsSound i) (fit : AreFit i dropped written) where
+  abbrev goes : RouteRow → Bool
   goes e = list_any (same_name e.route.name) dropped
 
-  abbrev kept : List RouteEntry
+  abbrev kept : List RouteRow
   kept = routes_left dropped i.routes
 
-  abbrev routes : List RouteEntry
+  abbrev routes : List RouteRow
   routes = rewritten dropped written i.routes
 
   abbrev new : Image
@@ -105,27 +105,27 @@ module _ (i : Image) (dropped : List Name) (written : List RouteEntry) (s : IsSo
   o : IsOrderly i
   o = sound_is_orderly i s
 
-  stays : (e : RouteEntry) → In e kept → In e i.routes × (goes e ≡ false)
+  stays : (e : RouteRow) → In e kept → In e i.routes × (goes e ≡ false)
   stays e m = let k = In-filter (λ e. not (goes e)) e i.routes m in (k.0, not-true (goes e) k.1)
 
-  other_names : (w e : RouteEntry) → In w written → In e kept → same_name w.route.name e.route.name ≡ false
+  other_names : (w e : RouteRow) → In w written → In e kept → same_name w.route.name e.route.name ≡ false
   other_names w e m n = is_false (same_name w.route.name e.route.name) (λ h. let k = stays e n in both_ways (goes e) k.1 (fit.fresh w e m k.0 h))
 
   pub new_order : each_two route_before routes ≡ true
   new_order = in_order written kept fit.names (left_in_order dropped i.routes (routes_in_order i s)) other_names
 
   -- what is told of a route that stays is told of no route that goes, where no two routes are told it
-  not_left : (told : RouteEntry → Bool) (e : RouteEntry) → IsLeft told dropped i.routes → In e kept → told e ≡ true → ((d : RouteEntry) → In d i.routes → told d ≡ true → e ≡ d) → ⊥
+  not_left : (told : RouteRow → Bool) (e : RouteRow) → IsLeft told dropped i.routes → In e kept → told e ≡ true → ((d : RouteRow) → In d i.routes → told d ≡ true → e ≡ d) → ⊥
   not_left told e (inr none) m h one = both_ways (list_any told i.routes) none (any_of told e i.routes (stays e m).0 h)
   not_left told e (inl some) m h one =
       let d = any_found told (routes_named dropped i.routes) some in
       let k = In-filter goes d.0 i.routes d.1 in
-      both_ways (goes e) (stays e m).1 (ap (λ (q : RouteEntry). goes q) (one d.0 k.0 d.2) ∙ k.1)
+      both_ways (goes e) (stays e m).1 (ap (λ (q : RouteRow). goes q) (one d.0 k.0 d.2) ∙ k.1)
 
   -- ---- courses
 
   -- of two routes that run over a millimetre one is the other
-  one_runs : (g : Ground) (e d : RouteEntry) → In e i.routes → In d i.routes → runs_at g e ≡ true → runs_at g d ≡ true → e ≡ d
+  one_runs : (g : Ground) (e d : RouteRow) → In e i.routes → In d i.routes → runs_at g e ≡ true → runs_at g d ≡ true → e ≡ d
   one_runs g e d m n h k = by (two_at are_far e d i.routes (old_far i s) m n)
     where
       by : (e ≡ d) ⊎ ((are_far e d ≡ true) ⊎ (are_far d e ≡ true)) → e ≡ d
@@ -134,10 +134,10 @@ module _ (i : Image) (dropped : List Name) (written : List RouteEntry) (s : IsSo
       by (inr (inr t)) = absurd (both_ways (meets d.route.course e.route.course) (not-true (meets d.route.course e.route.course) t) (meet_at d.route.course e.route.course (g.link, g.mm) k h))
 
   -- a route that stays does not run where one that goes does, or where none does
-  pub stays_far : (e : RouteEntry) (g : Ground) → In e kept → runs_at g e ≡ true → IsLeft (runs_at g) dropped i.routes → ⊥
+  pub stays_far : (e : RouteRow) (g : Ground) → In e kept → runs_at g e ≡ true → IsLeft (runs_at g) dropped i.routes → ⊥
   stays_far e g m h left = not_left (runs_at g) e left m h (λ d k t. one_runs g e d (stays e m).0 k h t)
 
-  written_far : (w e : RouteEntry) → In w written → In e kept → are_far w e ≡ true
+  written_far : (w e : RouteRow) → In w written → In e kept → are_far w e ≡ true
   written_far w e m n = ap not (is_false (meets w.route.course e.route.course) (λ h.
       let g = any_found (λ (g : Ground). runs_over e.route.course (g.link, g.mm)) w.route.course h in
       stays_far e g.0 n g.2 (fit.ground w g.0 m g.1)))
@@ -145,7 +145,7 @@ module _ (i : Image) (dropped : List Name) (written : List RouteEntry) (s : IsSo
   pub new_far : each_two are_far routes ≡ true
   new_far = each_two-insert_all are_far route_before written kept far_either fit.apart (each_two-filter are_far (λ e. not (goes e)) i.routes (old_far i s)) written_far
 
-  all_routes : (test : RouteEntry → Bool) → ((w : RouteEntry) → In w written → test w ≡ true) → list_all test i.routes ≡ true → list_all test routes ≡ true
+  all_routes : (test : RouteRow → Bool) → ((w : RouteRow) → In w written → test w ≡ true) → list_all test i.routes ≡ true → list_all test routes ≡ true
   all_routes test h k = all-insert_all route_before test written kept (all_of test written h) (all_of test kept (λ e m. all_at test e i.routes k (stays e m).0))
 
   new_courses : length written + length kept ≤ most_routes → are_courses i.links (courses_of new) ≡ true
@@ -170,13 +170,13 @@ module _ (i : Image) (dropped : List Name) (written : List RouteEntry) (s : IsSo
   written_unlike : (u v : Referent) → In u (flat_map refs_at written) → In v (flat_map refs_at kept) → are_unlike u v ≡ true
   written_unlike u v m n = by (flat_map_found refs_at u written m) (flat_map_found refs_at v kept n)
     where
-      by : (w : RouteEntry) × In w written × In u (refs_at w) → (e : RouteEntry) × In e kept × In v (refs_at e) → are_unlike u v ≡ true
+      by : (w : RouteRow) × In w written × In u (refs_at w) → (e : RouteRow) × In e kept × In v (refs_at e) → are_unlike u v ≡ true
       by w e = ap not (is_false (same_name u.name v.name) (λ h.
           not_left (has_referent u.name) e.0 (fit.referents w.0 u w.1 w.2) e.1 (any_of (λ (r : Referent). same_name r.name u.name) v e.0.route.refs e.2 (same_either v.name u.name ∙ h))
           (λ d k t. let r = any_found (λ (r : Referent). same_name r.name u.name) d.route.refs t in
           one h d r.0 r.2 (made_two are_unlike refs_at e.0 d i.routes v r.0 (old_unlike i s) (stays e.0 e.1).0 k e.2 r.1))))
         where
-          one : same_name u.name v.name ≡ true → (d : RouteEntry) (r : Referent) → same_name r.name u.name ≡ true → (e.0 ≡ d) ⊎ ((are_unlike v r ≡ true) ⊎ (are_unlike r v ≡ true)) → e.0 ≡ d
+          one : same_name u.name v.name ≡ true → (d : RouteRow) (r : Referent) → same_name r.name u.name ≡ true → (e.0 ≡ d) ⊎ ((are_unlike v r ≡ true) ⊎ (are_unlike r v ≡ true)) → e.0 ≡ d
           one h d r t (inl same) = same
           one h d r t (inr (inl k)) = absurd (both_ways (same_name v.name r.name) (not-true (same_name v.name r.name) k) ((bytes_decides v.name r.name).1 (sym ((bytes_decides u.name v.name).0 h) ∙ sym ((bytes_decides r.name u.name).0 t))))
           one h d r t (inr (inr k)) = absurd (both_ways (same_name r.name v.name) (not-true (same_name r.name v.name) k) ((bytes_decides r.name v.name).1 ((bytes_decides r.name u.name).0 t ∙ (bytes_decides u.name v.name).0 h)))
@@ -186,14 +186,14 @@ module _ (i : Image) (dropped : List Name) (written : List RouteEntry) (s : IsSo
 
   new_referents : are_all_referents (referents_of new) ≡ true
   new_referents =
-      let refs : RouteEntry → RouteReferents = λ e. record { length = length e.route.course; refs = e.route.refs } in
+      let refs : RouteRow → RouteReferents = λ e. record { length = length e.route.course; refs = e.route.refs } in
       and_from (list_all (λ r. are_referents r.length r.refs) (referents_of new)) (each_two are_unlike (flat_map (λ (r : RouteReferents). r.refs) (referents_of new)))
-      (list_all-map (λ (r : RouteReferents). are_referents r.length r.refs) refs routes ∙ all_of (λ (e : RouteEntry). are_referents (length e.route.course) e.route.refs) routes (λ e m. (fits e).2))
+      (list_all-map (λ (r : RouteReferents). are_referents r.length r.refs) refs routes ∙ all_of (λ (e : RouteRow). are_referents (length e.route.course) e.route.refs) routes (λ e m. (fits e).2))
       (ap (each_two are_unlike) (flat_map-map (λ (r : RouteReferents). r.refs) refs routes) ∙ new_unlike)
 
   new_spans : list_all (are_spans_of i.assets) (spans_of new) ≡ true
   new_spans =
-      let at : RouteEntry → RouteSpans = λ e. record { course = e.route.course; rows = e.spans } in
+      let at : RouteRow → RouteSpans = λ e. record { course = e.route.course; rows = e.spans } in
       list_all-map (are_spans_of i.assets) at routes ∙ all_routes (λ e. are_spans_of i.assets (at e)) fit.spans (old_spans i s)
 
   pub orderly : length written + length kept ≤ most_routes → IsOrderly new

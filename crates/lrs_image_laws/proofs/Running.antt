@@ -8,7 +8,7 @@ use Rattle.lrs_measure.specs.Lists.{each_two}
 use Rattle.lrs_measure.specs.Texts.{Name, same_name}
 use Rattle.lrs_element.specs.Course.{Millimetre, is_at, meets}
 use Rattle.lrs_events_rows.proofs.Changing.{any_insert_all}
-use Rattle.lrs_machine.specs.declared.image.RouteEntry.{RouteEntry}
+use Rattle.lrs_machine.specs.declared.image.RouteRow.{RouteRow}
 use Rattle.lrs_machine.specs.declared.image.Image.{Image}
 use Rattle.lrs_machine.specs.Sound.{route_before, IsSound}
 use Rattle.lrs_machine.proofs.Members.{In, any_found, any_of, two_at}
@@ -29,41 +29,41 @@ found_some p (x ∷ xs) h = by (p x) refl (found_some p xs)
     by false e rest = let r = rest (sym (ap (λ b. b || list_any p xs) e) ∙ h) in (r.0, inr r.1, r.2, ap (λ b. cond b (Some x) (find p xs)) e ∙ r.3)
 
 -- The one of these routes that runs over a millimetre is found.
-pub found_one : (m : Millimetre) (r : RouteEntry) (routes : List RouteEntry) → each_two are_far routes ≡ true → In r routes → is_run_by m r ≡ true → find (is_run_by m) routes ≡ Some r
+pub found_one : (m : Millimetre) (r : RouteRow) (routes : List RouteRow) → each_two are_far routes ≡ true → In r routes → is_run_by m r ≡ true → find (is_run_by m) routes ≡ Some r
 found_one m r routes far at on =
     let z = found_some (is_run_by m) routes (any_of (is_run_by m) r routes at on) in
     z.3 ∙ ap Some (by z.0 z.2 (two_at are_far z.0 r routes far z.1 at))
   where
-    meet : (a b : RouteEntry) → are_far a b ≡ true → is_run_by m a ≡ true → is_run_by m b ≡ true → ⊥
+    meet : (a b : RouteRow) → are_far a b ≡ true → is_run_by m a ≡ true → is_run_by m b ≡ true → ⊥
     meet a b t h k = both_ways (meets a.route.course b.route.course) (not-true (meets a.route.course b.route.course) t) (meet_at a.route.course b.route.course m h k)
 
-    by : (z : RouteEntry) → is_run_by m z ≡ true → (z ≡ r) ⊎ ((are_far z r ≡ true) ⊎ (are_far r z ≡ true)) → z ≡ r
+    by : (z : RouteRow) → is_run_by m z ≡ true → (z ≡ r) ⊎ ((are_far z r ≡ true) ⊎ (are_far r z ≡ true)) → z ≡ r
     by z h (inl e) = e
     by z h (inr (inl t)) = absurd (meet z r t h on)
     by z h (inr (inr t)) = absurd (meet r z t on h)
 
 -- ... by its name
-pub runs_there : (i : Image) (r : RouteEntry) (m : Millimetre) → IsSound i → In r i.routes → is_run_by m r ≡ true → runs_on i.routes m ≡ Some r.route.name
-runs_there i r m s at on = ap (option_map (λ (e : RouteEntry). e.route.name)) (found_one m r i.routes (old_far i s) at on)
+pub runs_there : (i : Image) (r : RouteRow) (m : Millimetre) → IsSound i → In r i.routes → is_run_by m r ≡ true → runs_on i.routes m ≡ Some r.route.name
+runs_there i r m s at on = ap (option_map (λ (e : RouteRow). e.route.name)) (found_one m r i.routes (old_far i s) at on)
 
-module _ (i : Image) (dropped : List Name) (written : List RouteEntry) (s : IsSound i) (fit : AreFit i dropped written) (m : Millimetre) where
-  abbrev on : RouteEntry → Bool
+module _ (i : Image) (dropped : List Name) (written : List RouteRow) (s : IsSound i) (fit : AreFit i dropped written) (m : Millimetre) where
+  abbrev on : RouteRow → Bool
   on = is_run_by m
 
-  abbrev goes : List RouteEntry
+  abbrev goes : List RouteRow
   goes = routes_named dropped i.routes
 
-  abbrev kept : List RouteEntry
+  abbrev kept : List RouteRow
   kept = routes_left dropped i.routes
 
-  abbrev new : List RouteEntry
+  abbrev new : List RouteRow
   new = rewritten dropped written i.routes
 
   any_new : (a b : Bool) → list_any on kept ≡ a → list_any on written ≡ b → list_any on new ≡ (a || b)
   any_new a b e f = any_insert_all on route_before written kept ∙ (λ j. e j || f j)
 
   any_old : (a b : Bool) → list_any on goes ≡ a → list_any on kept ≡ b → list_any on i.routes ≡ (a || b)
-  any_old a b e f = any-parted on (λ (e : RouteEntry). list_any (same_name e.route.name) dropped) i.routes ∙ (λ j. e j || f j)
+  any_old a b e f = any-parted on (λ (e : RouteRow). list_any (same_name e.route.name) dropped) i.routes ∙ (λ j. e j || f j)
 
   -- a route that stays does not run where one that goes did
   alone : list_any on goes ≡ true → list_any on kept ≡ false
@@ -76,7 +76,7 @@ module _ (i : Image) (dropped : List Name) (written : List RouteEntry) (s : IsSo
   found : find on new ≡ option_or (find on written) (cond (list_any on goes) None (find on i.routes))
   found = by (cases_Bool (list_any on written)) (cases_Bool (list_any on goes)) (cases_Bool (list_any on kept))
     where
-      first : Option RouteEntry → Option RouteEntry
+      first : Option RouteRow → Option RouteRow
       first o = option_or o (cond (list_any on goes) None (find on i.routes))
 
       nothing : list_any on written ≡ false → first (find on written) ≡ cond (list_any on goes) None (find on i.routes)
@@ -89,7 +89,7 @@ module _ (i : Image) (dropped : List Name) (written : List RouteEntry) (s : IsSo
       by (inr h) (inl g) k = none_found on new (any_new false false (alone g) h) ∙ sym (nothing h ∙ ap (λ b. cond b None (find on i.routes)) g)
       by (inr h) (inr g) (inl k) =
           let z = found_some on kept k in
-          let at = In-filter (λ (e : RouteEntry). not (list_any (same_name e.route.name) dropped)) z.0 i.routes z.1 in
+          let at = In-filter (λ (e : RouteRow). not (list_any (same_name e.route.name) dropped)) z.0 i.routes z.1 in
           found_one m z.0 new (new_far i dropped written s fit) (insert_all-In route_before z.0 written kept (inr z.1)) z.2
           ∙ sym (nothing h ∙ ap (λ b. cond b None (find on i.routes)) g ∙ found_one m z.0 i.routes (old_far i s) at.0 z.2)
       by (inr h) (inr g) (inr k) =
@@ -97,9 +97,9 @@ module _ (i : Image) (dropped : List Name) (written : List RouteEntry) (s : IsSo
           ∙ sym (nothing h ∙ ap (λ b. cond b None (find on i.routes)) g ∙ none_found on i.routes (any_old false false g k))
 
   pub moves_ground : runs_on new m ≡ option_or (runs_on written m) (cond (list_any on goes) None (runs_on i.routes m))
-  moves_ground = ap (option_map (λ (e : RouteEntry). e.route.name)) found ∙ by (find on written) (list_any on goes) (find on i.routes)
+  moves_ground = ap (option_map (λ (e : RouteRow). e.route.name)) found ∙ by (find on written) (list_any on goes) (find on i.routes)
     where
-      by : (o : Option RouteEntry) (b : Bool) (p : Option RouteEntry) → option_map (λ (e : RouteEntry). e.route.name) (option_or o (cond b None p)) ≡ option_or (option_map (λ (e : RouteEntry). e.route.name) o) (cond b None (option_map (λ (e : RouteEntry). e.route.name) p))
+      by : (o : Option RouteRow) (b : Bool) (p : Option RouteRow) → option_map (λ (e : RouteRow). e.route.name) (option_or o (cond b None p)) ≡ option_or (option_map (λ (e : RouteRow). e.route.name) o) (cond b None (option_map (λ (e : RouteRow). e.route.name) p))
       by (Some x) b p = refl
       by None true p = refl
       by None false p = refl

@@ -27,7 +27,7 @@ use Rattle.lrs_machine.specs.declared.image.Edit.{Edit}
 use Rattle.lrs_machine.specs.State.{Reason, Retired, Abandoned, same_reason}
 use Rattle.lrs_machine.specs.State as state
 use Rattle.lrs_machine.specs.Image.{state_of, holds_on, link_entry, asset_entry, reason_of}
-use Rattle.lrs_machine.specs.Bounds.{most_edits, most_pairs}
+use Rattle.lrs_measure.specs.Limits.{most_edits, most_pairs}
 use Rattle.lrs_machine.specs.Laws.{IsLawful}
 use Rattle.lrs_machine.specs.Sound.{asset_before, are_spans_of, spans_of, gone_before, are_balanced, parts_of, places_of, has_asset_place, holds_in, holders_of, is_asset, keeps_exclusive, is_part, share_nothing, pairs_of, is_balanced_at, is_named_by, are_parts, is_origin}
 use Rattle.lrs_machine.proofs.Members.{In, any_found, any_of, all_at, all_of, In-map, list_any-map, map_found, find_found, find_member, find_numbered}
@@ -191,11 +191,11 @@ module _ (i : Image) (o : IsOrderly i) (l : IsLawful (state_of i)) where
   unfolding state_of
   place_known = l.grounded.places
 
-  by_entry : (m a : ℕ) (x : state.Asset) (p : Place) → find nat_cmp a (map asset_entry i.assets) ≡ Some x → enters i m a p ≡ true → m ≡ x.entry
+  by_entry : (m a : ℕ) (x : state.Asset) (p : Place) → find nat_cmp a (map asset_entry i.assets) ≡ Some x → enters i m a p ≡ true → m ≡ x.entered_by
   unfolding state_of
   by_entry = l.named.by_entry
 
-  was_entered : (a : ℕ) (x : state.Asset) → find nat_cmp a (map asset_entry i.assets) ≡ Some x → (p : Place) × (enters i x.entry a p ≡ true)
+  was_entered : (a : ℕ) (x : state.Asset) → find nat_cmp a (map asset_entry i.assets) ≡ Some x → (p : Place) × (enters i x.entered_by a p ≡ true)
   unfolding state_of
   was_entered = l.named.was_entered
 
@@ -323,7 +323,7 @@ module _ (i : Image) (o : IsOrderly i) (l : IsLawful (state_of i)) where
   asset_order = (and_parts (each_two asset_before i.assets) (list_all (is_asset i.classes) i.assets) (and_parts (each_two asset_before i.assets && list_all (is_asset i.classes) i.assets) _ o.assets).0).0
 
   abbrev kept_asset : Asset → state.Asset
-  kept_asset a = record { class = a.class; value = a.value; lateral = a.lateral; entry = a.entry }
+  kept_asset a = record { class = a.class; value = a.value; lateral = a.lateral; entered_by = a.entered_by }
 
   asset_found : (r : Asset) → In r i.assets → find nat_cmp r.number (map asset_entry i.assets) ≡ Some (kept_asset r)
   asset_found r m = find_numbered (λ (a : Asset). a.number) kept_asset r i.assets asset_order m
@@ -367,20 +367,20 @@ module _ (i : Image) (o : IsOrderly i) (l : IsLawful (state_of i)) where
 
   -- ---- the edits that entered the assets
 
-  entry_of_part : (a : Asset) (x : Part) → In a i.assets → In x i.entered → x.asset ≡ a.number → x.edit ≡ a.entry
+  entry_of_part : (a : Asset) (x : Part) → In a i.assets → In x i.entered → x.asset ≡ a.number → x.edit ≡ a.entered_by
   entry_of_part a x m n e = by_entry x.edit x.asset (kept_asset a) (place_at x x.from) (ap (λ k. find nat_cmp k (map asset_entry i.assets)) e ∙ asset_found a m) (first_pair x n)
 
   origin : (a : Asset) → In a i.assets → is_origin i.entered a ≡ true
   origin a m =
       let e = was_entered a.number (kept_asset a) (asset_found a m) in
-      let part = any_found (λ part. has_pair part a.entry a.number e.0) i.entered e.1 in
-      let had = pair_had part.0 a.entry a.number e.0 part.2 in
+      let part = any_found (λ part. has_pair part a.entered_by a.number e.0) i.entered e.1 in
+      let had = pair_had part.0 a.entered_by a.number e.0 part.2 in
       and_from (list_any (λ p. nat_eq p.asset a.number) i.entered) _ (any_of (λ p. nat_eq p.asset a.number) part.0 i.entered part.1 (eq-eqb part.0.asset a.number had.1.of_asset))
-      (all_of (λ p. not (nat_eq p.asset a.number) || nat_eq p.edit a.entry) i.entered (λ x n. by x n (cases_Bool (nat_eq x.asset a.number))))
+      (all_of (λ p. not (nat_eq p.asset a.number) || nat_eq p.edit a.entered_by) i.entered (λ x n. by x n (cases_Bool (nat_eq x.asset a.number))))
     where
-      by : (x : Part) → In x i.entered → (nat_eq x.asset a.number ≡ true) ⊎ (nat_eq x.asset a.number ≡ false) → (not (nat_eq x.asset a.number) || nat_eq x.edit a.entry) ≡ true
-      by x n (inl is) = or_right (not (nat_eq x.asset a.number)) (nat_eq x.edit a.entry) (eq-eqb x.edit a.entry (entry_of_part a x m n (eqb-true x.asset a.number is)))
-      by x n (inr other) = or_left (not (nat_eq x.asset a.number)) (nat_eq x.edit a.entry) (ap not other)
+      by : (x : Part) → In x i.entered → (nat_eq x.asset a.number ≡ true) ⊎ (nat_eq x.asset a.number ≡ false) → (not (nat_eq x.asset a.number) || nat_eq x.edit a.entered_by) ≡ true
+      by x n (inl is) = or_right (not (nat_eq x.asset a.number)) (nat_eq x.edit a.entered_by) (eq-eqb x.edit a.entered_by (entry_of_part a x m n (eqb-true x.asset a.number is)))
+      by x n (inr other) = or_left (not (nat_eq x.asset a.number)) (nat_eq x.edit a.entered_by) (ap not other)
 
   -- ---- all tables
 

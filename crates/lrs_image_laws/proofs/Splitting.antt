@@ -22,9 +22,9 @@ use Rattle.lrs_events.specs.Spans.{holds_by_spans}
 use Rattle.lrs_events_lanes.proofs.Members.{each_two-filter}
 use Rattle.lrs_machine.specs.declared.answer.Cause.TheVariants as cause
 use Rattle.lrs_machine.specs.declared.command.Command.TheVariants as verb
-use Rattle.lrs_machine.specs.declared.image.RouteEntry.{RouteEntry}
+use Rattle.lrs_machine.specs.declared.image.RouteRow.{RouteRow}
 use Rattle.lrs_machine.specs.declared.image.Image.{Image}
-use Rattle.lrs_machine.specs.Bounds.{most_routes}
+use Rattle.lrs_measure.specs.Limits.{most_routes}
 use Rattle.lrs_machine.specs.Register.{put}
 use Rattle.lrs_machine.specs.State.{State}
 use Rattle.lrs_machine.specs.Image.{state_of, holds_on, referents_on, referent_entry, route_entry}
@@ -58,7 +58,7 @@ has_ground [] h = absurd (false≢true h)
 has_ground (g ∷ gs) h = omega arith
 
 -- a route is not empty
-pub not_empty : (r : RouteEntry) → 0 < length r.route.course
+pub not_empty : (r : RouteRow) → 0 < length r.route.course
 not_empty r = has_ground r.route.course (and_parts (not (is_nothing r.route.course)) (not (is_too_long r.route.course)) (fits r).0).0
 
 -- an entry before or behind a place of a list
@@ -81,11 +81,11 @@ drop_past zero xs h = h
 drop_past (suc n) [] h = absurd (omega (arith, h))
 drop_past (suc n) (x ∷ xs) h = let e = drop_past n xs h in omega (arith, e)
 
-module _ (i : Image) (r front rear : RouteEntry) (at : ℕ) (name : Name) (s : IsSound i) (is : IsSplit i r front rear at name) where
+module _ (i : Image) (r front rear : RouteRow) (at : ℕ) (name : Name) (s : IsSound i) (is : IsSplit i r front rear at name) where
   abbrev dropped : List Name
   dropped = r.route.name ∷ []
 
-  abbrev written : List RouteEntry
+  abbrev written : List RouteRow
   written = front ∷ rear ∷ []
 
   order : each_two route_before i.routes ≡ true
@@ -94,13 +94,13 @@ module _ (i : Image) (r front rear : RouteEntry) (at : ℕ) (name : Name) (s : I
   ours : routes_named dropped i.routes ≡ r ∷ []
   ours = only_one r i.routes order is.route
 
-  each : (P : RouteEntry → Type 0) → P rear → P front → (w : RouteEntry) → In w written → P w
+  each : (P : RouteRow → Type 0) → P rear → P front → (w : RouteRow) → In w written → P w
   each P a b w (inl e) = subst P (sym e) b
   each P a b w (inr (inl e)) = subst P (sym e) a
   each P a b w (inr (inr e)) = absurd e
 
   -- the name that comes is no route's
-  no_rear : (e : RouteEntry) → In e i.routes → same_name rear.route.name e.route.name ≡ false
+  no_rear : (e : RouteRow) → In e i.routes → same_name rear.route.name e.route.name ≡ false
   no_rear e m = is_false (same_name rear.route.name e.route.name) (λ h.
       both_ways (list_any (is_named name) i.routes) is.fresh (any_of (is_named name) e i.routes m (same_either e.route.name name ∙ (λ j. same_name (sym is.rear_name j) e.route.name) ∙ h)))
 
@@ -121,7 +121,7 @@ module _ (i : Image) (r front rear : RouteEntry) (at : ℕ) (name : Name) (s : I
   in_rear : (g : Ground) → In g rear.route.course → In g r.route.course
   in_rear g m = In-drop g at r.route.course (subst (In g) is.rear_course m)
 
-  left : (told : RouteEntry → Bool) → told r ≡ true → IsLeft told dropped i.routes
+  left : (told : RouteRow → Bool) → told r ≡ true → IsLeft told dropped i.routes
   left told h = inl (ap (list_any told) ours ∙ or_left (told r) false h)
 
   ran_over : (g : Ground) → In g r.route.course → IsLeft (runs_at g) dropped i.routes
@@ -158,7 +158,7 @@ module _ (i : Image) (r front rear : RouteEntry) (at : ℕ) (name : Name) (s : I
           of (inr (inl e)) = ap (λ (w : Referent). are_unlike v w) x.3 ∙ e
           of (inr (inr e)) = ap (λ (w : Referent). are_unlike v w) x.3 ∙ ap not (same_either v.name x.0.name ∙ not-true (same_name x.0.name v.name) e)
 
-  refs_once : each_two are_unlike (flat_map (λ (w : RouteEntry). w.route.refs) written) ≡ true
+  refs_once : each_two are_unlike (flat_map (λ (w : RouteRow). w.route.refs) written) ≡ true
   refs_once =
       joined are_unlike front.route.refs (rear.route.refs ++ [])
       (ap (each_two are_unlike) is.front_refs ∙ each_two-filter are_unlike (is_ahead at) r.route.refs (own_names r))
@@ -170,12 +170,12 @@ module _ (i : Image) (r front rear : RouteEntry) (at : ℕ) (name : Name) (s : I
     fresh = λ w e m n h. each (λ w. same_name w.route.name e.route.name ≡ true → list_any (same_name e.route.name) dropped ≡ true)
         (λ h. absurd (both_ways (same_name rear.route.name e.route.name) (no_rear e n) h))
         (λ h. or_left (same_name e.route.name r.route.name) false (same_either e.route.name r.route.name ∙ ((λ j. same_name (sym is.front_name j) e.route.name) ∙ h))) w m h;
-    names = and_from (list_all (λ (w : RouteEntry). not (same_name front.route.name w.route.name)) (rear ∷ [])) true (and_from (not (same_name front.route.name rear.route.name)) true (ap not apart_names) refl) refl;
+    names = and_from (list_all (λ (w : RouteRow). not (same_name front.route.name w.route.name)) (rear ∷ [])) true (and_from (not (same_name front.route.name rear.route.name)) true (ap not apart_names) refl) refl;
     linked = each (λ w. list_all (is_on_a_link i.links) w.route.course ≡ true)
         (all_of (is_on_a_link i.links) rear.route.course (λ g m. all_at (is_on_a_link i.links) g r.route.course the_course.0 (in_rear g m)))
         (all_of (is_on_a_link i.links) front.route.course (λ g m. all_at (is_on_a_link i.links) g r.route.course the_course.0 (in_front g m)));
     once = each (λ w. each_two differs w.route.course ≡ true) (ap (each_two differs) is.rear_course ∙ two_rear differs (take at r.route.course) (drop at r.route.course) (ap (each_two differs) (take-append-drop at r.route.course) ∙ the_course.1)) (ap (each_two differs) is.front_course ∙ two_front differs (take at r.route.course) (drop at r.route.course) (ap (each_two differs) (take-append-drop at r.route.course) ∙ the_course.1));
-    apart = and_from (list_all (λ (w : RouteEntry). not (meets front.route.course w.route.course)) (rear ∷ [])) true (and_from (not (meets front.route.course rear.route.course)) true (ap not far) refl) refl;
+    apart = and_from (list_all (λ (w : RouteRow). not (meets front.route.course w.route.course)) (rear ∷ [])) true (and_from (not (meets front.route.course rear.route.course)) true (ap not far) refl) refl;
     ground = λ w g m n. each (λ w. In g w.route.course → IsLeft (runs_at g) dropped i.routes) (λ k. ran_over g (in_rear g k)) (λ k. ran_over g (in_front g k)) w m n;
     referents = λ w q m n. each (λ w. In q w.route.refs → IsLeft (has_referent q.name) dropped i.routes)
         (λ k. let x = from_rear q k in stood q.name x.0 x.1 (sym (ap (λ (w : Referent). w.name) x.3))) (λ k. stood q.name q (from_front q k).0 refl) w m n;
@@ -242,7 +242,7 @@ module _ (i : Image) (r front rear : RouteEntry) (at : ℕ) (name : Name) (s : I
       let x = option_found (referent_entry r.route.course) e r.route.refs (its w.0 w.1 w.2) in
       by x.0 x.1 x.2 (cases_Bool (is_ahead at x.0))
     where
-      its : (w : RouteEntry) → In w (r ∷ []) → In e (referents_on w) → In e (referents_on r)
+      its : (w : RouteRow) → In w (r ∷ []) → In e (referents_on w) → In e (referents_on r)
       its w (inl h) k = subst (λ w. In e (referents_on w)) h k
       its w (inr h) k = absurd h
 
@@ -260,23 +260,23 @@ module _ (i : Image) (r front rear : RouteEntry) (at : ℕ) (name : Name) (s : I
 
   -- ---- the register of routes
 
-  abbrev kept : List RouteEntry
+  abbrev kept : List RouteRow
   kept = routes_left dropped i.routes
 
-  abbrev with_rear : List RouteEntry
+  abbrev with_rear : List RouteRow
   with_rear = insert_by route_before rear i.routes
 
   rear_first : put name_cmp rear.route.name (route_entry rear).1 (map route_entry i.routes) ≡ map route_entry with_rear
   rear_first =
       put_rewrites rear i.routes order
-      ∙ ap (λ l. map route_entry (insert_by route_before rear l)) (none_goes route_before (λ (f : RouteEntry). list_any (same_name f.route.name) (rear.route.name ∷ [])) i.routes
-      (all_of (λ (f : RouteEntry). not (list_any (same_name f.route.name) (rear.route.name ∷ []))) i.routes (λ f m. ap (λ b. not (b || false)) (same_either f.route.name rear.route.name ∙ no_rear f m))))
+      ∙ ap (λ l. map route_entry (insert_by route_before rear l)) (none_goes route_before (λ (f : RouteRow). list_any (same_name f.route.name) (rear.route.name ∷ [])) i.routes
+      (all_of (λ (f : RouteRow). not (list_any (same_name f.route.name) (rear.route.name ∷ []))) i.routes (λ f m. ap (λ b. not (b || false)) (same_either f.route.name rear.route.name ∙ no_rear f m))))
 
   rear_order : each_two route_before with_rear ≡ true
   rear_order = in_order (rear ∷ []) i.routes refl order (λ w e m n. one w e m n)
     where
-      one : (w e : RouteEntry) → In w (rear ∷ []) → In e i.routes → same_name w.route.name e.route.name ≡ false
-      one w e (inl h) n = ap (λ (w : RouteEntry). same_name w.route.name e.route.name) h ∙ no_rear e n
+      one : (w e : RouteRow) → In w (rear ∷ []) → In e i.routes → same_name w.route.name e.route.name ≡ false
+      one w e (inl h) n = ap (λ (w : RouteRow). same_name w.route.name e.route.name) h ∙ no_rear e n
       one w e (inr h) n = absurd h
 
   then_front : put name_cmp front.route.name (route_entry front).1 (map route_entry with_rear) ≡ map route_entry (rewritten dropped written i.routes)
@@ -284,7 +284,7 @@ module _ (i : Image) (r front rear : RouteEntry) (at : ℕ) (name : Name) (s : I
       put_rewrites front with_rear rear_order
       ∙ ap (λ n. map route_entry (insert_by route_before front (routes_left (n ∷ []) with_rear))) is.front_name
       ∙ ap (λ l. map route_entry (insert_by route_before front l))
-      (filter-insert_by route_before route_chain (λ (e : RouteEntry). not (list_any (same_name e.route.name) dropped)) rear i.routes (ap (λ b. not (b || false)) (no_rear r is.route)) order)
+      (filter-insert_by route_before route_chain (λ (e : RouteRow). not (list_any (same_name e.route.name) dropped)) rear i.routes (ap (λ b. not (b || false)) (no_rear r is.route)) order)
       ∙ ap (map route_entry) (insert_swap route_before route_chain front rear (one_way front rear apart_names) kept)
 
   abbrev front_at : Alignment
@@ -317,7 +317,7 @@ module _ (i : Image) (r front rear : RouteEntry) (at : ℕ) (name : Name) (s : I
 
   few : length i.routes + 1 ≤ most_routes → length written + length kept ≤ most_routes
   few room =
-      let a = length-parted (λ (e : RouteEntry). list_any (same_name e.route.name) dropped) i.routes in
+      let a = length-parted (λ (e : RouteRow). list_any (same_name e.route.name) dropped) i.routes in
       let b : length (routes_named dropped i.routes) ≡ 1 = ap length ours in
       omega (arith, a, b, room)
 
@@ -335,7 +335,7 @@ module _ (i : Image) (r front rear : RouteEntry) (at : ℕ) (name : Name) (s : I
       ∙ (λ j. option_or (runs_on written m) (cond (list_any (is_run_by m) (ours j)) None (runs_on i.routes m)))
       ∙ by (cases_Bool (runs_over front.route.course m)) (cases_Bool (runs_over rear.route.course m))
     where
-      named : RouteEntry → Name
+      named : RouteRow → Name
       named e = e.route.name
 
       said : (f b : Bool) → runs_over front.route.course m ≡ f → runs_over rear.route.course m ≡ b → option_or (runs_on written m) (cond (list_any (is_run_by m) (r ∷ [])) None (runs_on i.routes m))

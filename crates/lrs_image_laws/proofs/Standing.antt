@@ -16,7 +16,7 @@ use Rattle.lrs_element.specs.Course.{Millimetre, ground_at}
 use Rattle.lrs_position.specs.declared.route.Referent.{Referent}
 use Rattle.lrs_events_rows.proofs.Changing.{any_insert_all}
 use Rattle.lrs_ordered.proofs.Places.{two_front, two_rear}
-use Rattle.lrs_machine.specs.declared.image.RouteEntry.{RouteEntry}
+use Rattle.lrs_machine.specs.declared.image.RouteRow.{RouteRow}
 use Rattle.lrs_machine.specs.declared.image.Image.{Image}
 use Rattle.lrs_machine.specs.Image.{state_of, holds_on, referents_on, referent_entry, route_entry}
 use Rattle.lrs_machine.specs.Sound.{route_before, IsSound}
@@ -104,7 +104,7 @@ once_on c (q ∷ qs) h = by (referent_entry c q) refl (once_on c qs both.1)
         and_from (list_all (are_other w) (filter_map (referent_entry c) qs)) (each_two are_other (filter_map (referent_entry c) qs))
         (all_of (are_other w) (filter_map (referent_entry c) qs) (λ v m. let r = named_of c qs v m in apart_names q r.0 w v (all_at (are_unlike q) r.0 qs both.0 r.1) (name_is q (ground_at c q.at) w e) r.2)) rest
 
-pub named_once : (routes : List RouteEntry) → each_two are_unlike (flat_map refs_at routes) ≡ true → each_two are_other (flat_map referents_on routes) ≡ true
+pub named_once : (routes : List RouteRow) → each_two are_unlike (flat_map refs_at routes) ≡ true → each_two are_other (flat_map referents_on routes) ≡ true
 named_once [] h = refl
 named_once (y ∷ ys) h =
     joined are_other (referents_on y) (flat_map referents_on ys) (once_on y.route.course y.route.refs (two_front are_unlike (refs_at y) (flat_map refs_at ys) h))
@@ -118,7 +118,7 @@ named_once (y ∷ ys) h =
 -- ---- the state
 
 -- What is told of some route that goes just where it is told of some that comes, is told of some route before just where it is after.
-pub told_alike : (told : RouteEntry → Bool) (dropped : List Name) (written routes : List RouteEntry) → list_any told written ≡ list_any told (routes_named dropped routes)
+pub told_alike : (told : RouteRow → Bool) (dropped : List Name) (written routes : List RouteRow) → list_any told written ≡ list_any told (routes_named dropped routes)
     → list_any told (rewritten dropped written routes) ≡ list_any told routes
 told_alike told dropped written routes h =
     any_insert_all told route_before written (routes_left dropped routes) ∙ turned (list_any told (routes_left dropped routes)) (list_any told written)
@@ -131,23 +131,23 @@ told_alike told dropped written routes h =
     turned false true = refl
     turned false false = refl
 
-module _ (i : Image) (dropped : List Name) (written : List RouteEntry) (s : IsSound i) (fit : AreFit i dropped written) (same : SayTheSame dropped written i.routes) where
-  abbrev goes : RouteEntry → Bool
+module _ (i : Image) (dropped : List Name) (written : List RouteRow) (s : IsSound i) (fit : AreFit i dropped written) (same : SayTheSame dropped written i.routes) where
+  abbrev goes : RouteRow → Bool
   goes e = list_any (same_name e.route.name) dropped
 
-  abbrev kept : List RouteEntry
+  abbrev kept : List RouteRow
   kept = routes_left dropped i.routes
 
-  abbrev routes : List RouteEntry
+  abbrev routes : List RouteRow
   routes = rewritten dropped written i.routes
 
   to : (q : Name × Millimetre) → In q (flat_map referents_on routes) → In q (flat_map referents_on i.routes)
   to q m = let r = flat_map_found referents_on q routes m in by r.0 (In-insert_all route_before r.0 written kept r.1) r.2
     where
-      old : (r : RouteEntry) → In r i.routes → In q (referents_on r) → In q (flat_map referents_on i.routes)
+      old : (r : RouteRow) → In r i.routes → In q (referents_on r) → In q (flat_map referents_on i.routes)
       old r k n = In-flat_map referents_on r q i.routes k n
 
-      by : (r : RouteEntry) → In r written ⊎ In r kept → In q (referents_on r) → In q (flat_map referents_on i.routes)
+      by : (r : RouteRow) → In r written ⊎ In r kept → In q (referents_on r) → In q (flat_map referents_on i.routes)
       by r (inl k) n =
           let d = flat_map_found referents_on q (routes_named dropped i.routes) (same.to q (In-flat_map referents_on r q written k n)) in
           old d.0 (In-filter goes d.0 i.routes d.1).0 d.2
@@ -156,10 +156,10 @@ module _ (i : Image) (dropped : List Name) (written : List RouteEntry) (s : IsSo
   back : (q : Name × Millimetre) → In q (flat_map referents_on i.routes) → In q (flat_map referents_on routes)
   back q m = let r = flat_map_found referents_on q i.routes m in by r.0 (cases_Bool (goes r.0)) r.1 r.2
     where
-      new : (r : RouteEntry) → In r written ⊎ In r kept → In q (referents_on r) → In q (flat_map referents_on routes)
+      new : (r : RouteRow) → In r written ⊎ In r kept → In q (referents_on r) → In q (flat_map referents_on routes)
       new r k n = In-flat_map referents_on r q routes (insert_all-In route_before r written kept k) n
 
-      by : (r : RouteEntry) → (goes r ≡ true) ⊎ (goes r ≡ false) → In r i.routes → In q (referents_on r) → In q (flat_map referents_on routes)
+      by : (r : RouteRow) → (goes r ≡ true) ⊎ (goes r ≡ false) → In r i.routes → In q (referents_on r) → In q (flat_map referents_on routes)
       by r (inl h) k n =
           let w = flat_map_found referents_on q written (same.back q (In-flat_map referents_on r q (routes_named dropped i.routes) (filter-In goes r i.routes k h) n)) in
           new w.0 (inl w.1) w.2

@@ -7,7 +7,7 @@ use Rattle.lrs_measure.specs.Lists.{each_two}
 use Rattle.lrs_measure.specs.Texts.{same_name}
 use Rattle.lrs_machine.specs.declared.image.Image.{Image}
 use Rattle.lrs_machine.specs.declared.table.Table.TheVariants as table
-use Rattle.lrs_machine.specs.Bounds.{most_edits}
+use Rattle.lrs_measure.specs.Limits.{most_edits}
 use Rattle.lrs_machine.specs.Sound.{are_links, are_classes, are_assets, are_courses, courses_of, are_all_marks, marks_of, are_all_referents, referents_of, are_spans, spans_of, are_entered, are_gone, are_edits, are_origins, is_named_by, parts_of, Test, IsSound, first_unsound, first_failed, tests}
 use Rattle.lrs_machine.proofs.SoundImages.{passed}
 

@@ -20,7 +20,7 @@ use Rattle.lrs_events.specs.Places.{differs, other_side}
 use Rattle.lrs_events.specs.Spans.{are_rows, holds_by_spans}
 use Rattle.lrs_machine.specs.declared.answer.Cause.TheVariants as cause
 use Rattle.lrs_machine.specs.declared.command.Command.TheVariants as verb
-use Rattle.lrs_machine.specs.declared.image.RouteEntry.{RouteEntry}
+use Rattle.lrs_machine.specs.declared.image.RouteRow.{RouteRow}
 use Rattle.lrs_machine.specs.declared.image.Image.{Image}
 use Rattle.lrs_machine.specs.Register.{put}
 use Rattle.lrs_machine.specs.State.{State}
@@ -43,7 +43,7 @@ use Rattle.lrs_image_laws.proofs.Turned.{runs_turned, once_turned, all_turned, a
 
 -- ---- what the turn makes
 
-module _ (i : Image) (r w : RouteEntry) (s : IsSound i) (is : IsTurnedRoute i r w) where
+module _ (i : Image) (r w : RouteRow) (s : IsSound i) (is : IsTurnedRoute i r w) where
   on_course : list_all (λ (q : Referent). nat_lt q.at (length r.route.course)) r.route.refs ≡ true
   on_course = (and_parts (each_two referent_before r.route.refs) (list_all (λ (q : Referent). nat_lt q.at (length r.route.course)) r.route.refs) (fits r).2).1
 

@@ -3,7 +3,7 @@ use Rattle.std.specs.Prelude.{◌≡◌, false, List, [], Option, Some, None}
 use Rattle.std.specs.List.{cons_option, find}
 use Rattle.std.specs.Option.{option_map, option_and_then}
 use Rattle.lrs_measure.specs.Texts.{Name, same_name}
-use Rattle.lrs_machine.specs.declared.image.RouteEntry.{RouteEntry}
+use Rattle.lrs_machine.specs.declared.image.RouteRow.{RouteRow}
 use Rattle.lrs_machine.specs.declared.image.Image.{Image}
 use Rattle.lrs_machine.specs.Sound.{IsSound}
 use Rattle.lrs_image.specs.declared.change.RouteChange.{RouteChange}
@@ -16,11 +16,11 @@ abbrev pub no_change : Name → RouteChange
 no_change name = record { route = name; name = name; course = None; marks = None; refs = record { gone = []; come = [] }; spans_gone = []; spans_come = [] }
 
 -- the difference that changes routes alone: one that stays, one that goes, and one that comes
-abbrev pub rerouting : Option RouteChange → Option Name → Option RouteEntry → Difference
+abbrev pub rerouting : Option RouteChange → Option Name → Option RouteRow → Difference
 rerouting changed dropped made = record no_difference { changed = changed; dropped = dropped; made = made }
 
 -- what the route that a change names becomes
-abbrev pub changed_route : List RouteEntry → RouteChange → Option RouteEntry
+abbrev pub changed_route : List RouteRow → RouteChange → Option RouteRow
 changed_route routes c = option_map (entry_after c) (find (is_named c.route) routes)
 
 -- the names of the routes that are dropped: of the one that changes, and of the one that goes
@@ -28,12 +28,12 @@ abbrev pub dropped_by : Difference → List Name
 dropped_by d = cons_option (option_map (λ c. c.route) d.changed) (cons_option d.dropped [])
 
 -- the routes that are written: what the one that changes becomes, and the one that comes
-abbrev pub written_by : Difference → List RouteEntry → List RouteEntry
+abbrev pub written_by : Difference → List RouteRow → List RouteRow
 written_by d routes = cons_option (option_and_then (changed_route routes) d.changed) (cons_option d.made [])
 
 -- the route that changes does not get the name of the one that goes
-abbrev pub KeepsFromDropped : Difference → List RouteEntry → Type 0
-KeepsFromDropped d routes = (w : RouteEntry) (n : Name) → option_and_then (changed_route routes) d.changed ≡ Some w → d.dropped ≡ Some n → same_name w.route.name n ≡ false
+abbrev pub KeepsFromDropped : Difference → List RouteRow → Type 0
+KeepsFromDropped d routes = (w : RouteRow) (n : Name) → option_and_then (changed_route routes) d.changed ≡ Some w → d.dropped ≡ Some n → same_name w.route.name n ≡ false
 
 -- Routes are changed, dropped and made by a difference as those are dropped and these are written.
 abbrev pub DifferenceRewrites : Type 0

@@ -4,7 +4,7 @@ use Rattle.lrs_measure.specs.Ordered.{insert_all}
 use Rattle.lrs_measure.specs.Texts.{same_name}
 use Rattle.lrs_element.specs.declared.link.Ground.{Ground}
 use Rattle.lrs_element.specs.Course.{is_too_long}
-use Rattle.lrs_element.specs.Limits.{most_marks}
+use Rattle.lrs_measure.specs.Limits.{most_marks}
 use Rattle.lrs_element.specs.Marks.{joined_marks, is_out_of_range}
 use Rattle.lrs_position.specs.declared.route.Referent.{Referent}
 use Rattle.lrs_position.specs.Routes.{is_route, referent_before}
@@ -13,7 +13,7 @@ use Rattle.lrs_events.specs.declared.span.Span.{Span}
 use Rattle.lrs_events.specs.Spans.{are_rows}
 use Rattle.lrs_events_rows.specs.Joins.{IsJoin}
 use Rattle.lrs_machine.specs.declared.command.Command.TheVariants as verb
-use Rattle.lrs_machine.specs.declared.image.RouteEntry.{RouteEntry}
+use Rattle.lrs_machine.specs.declared.image.RouteRow.{RouteRow}
 use Rattle.lrs_machine.specs.declared.image.Image.{Image}
 use Rattle.lrs_machine.specs.Machine.{do_join, set_route, drop_route}
 use Rattle.lrs_machine.specs.Image.{state_of}
@@ -35,7 +35,7 @@ abbrev pub AreUnlike : List Referent → List Referent → Type 0
 AreUnlike first second = (q p : Referent) → In q first → In p second → same_name q.name p.name ≡ false
 
 -- the route that two become, one behind the other, under the name of the first; the verb's checks pass
-pub record IsJoined (i : Image) (a b w : RouteEntry) : Type 0 where
+pub record IsJoined (i : Image) (a b w : RouteRow) : Type 0 where
   pub first : In a i.routes
   pub second : In b i.routes
   pub different : same_name a.route.name b.route.name ≡ false
@@ -51,12 +51,12 @@ pub record IsJoined (i : Image) (a b w : RouteEntry) : Type 0 where
 
 -- It is what the join makes, in the place of both.
 abbrev pub JoinMakes : Type 0
-JoinMakes = (i : Image) (a b w : RouteEntry) → IsSound i → IsJoined i a b w
+JoinMakes = (i : Image) (a b w : RouteRow) → IsSound i → IsJoined i a b w
     → Makes (verb.Join a.route.name b.route.name) i (with_routes (rewritten (a.route.name ∷ b.route.name ∷ []) (w ∷ []) i.routes) i)
 
 -- Two routes as one are a route, where that is not too long, has not too many marks and none out of range, and where their referents have names of their own.
 abbrev pub JoinsAreRoutes : Type 0
-JoinsAreRoutes = (a b : RouteEntry) → is_too_long (a.route.course ++ b.route.course) ≡ false → length (joined_marks a.route.marks b.route.marks) ≤ most_marks
+JoinsAreRoutes = (a b : RouteRow) → is_too_long (a.route.course ++ b.route.course) ≡ false → length (joined_marks a.route.marks b.route.marks) ≤ most_marks
     → is_out_of_range (joined_marks a.route.marks b.route.marks) ≡ false → AreUnlike a.route.refs b.route.refs
     → is_route (a.route.course ++ b.route.course) (joined_marks a.route.marks b.route.marks) (joined_refs (length a.route.course) a.route.refs b.route.refs) ≡ true
 

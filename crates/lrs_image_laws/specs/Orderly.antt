@@ -9,7 +9,7 @@ use Rattle.lrs_events.specs.Parts.{part_before}
 use Rattle.lrs_machine.specs.declared.image.Image.{Image}
 use Rattle.lrs_machine.specs.State.{same_reason}
 use Rattle.lrs_machine.specs.Image.{state_of, reason_of}
-use Rattle.lrs_machine.specs.Bounds.{most_edits, most_pairs}
+use Rattle.lrs_measure.specs.Limits.{most_edits, most_pairs}
 use Rattle.lrs_machine.specs.Laws.{IsLawful}
 use Rattle.lrs_machine.specs.Sound.{are_links, are_classes, are_assets, are_courses, courses_of, are_all_marks, marks_of, are_all_referents, referents_of, are_spans_of, spans_of, gone_before, share_nothing, pairs_of, parts_of, IsSound}
 

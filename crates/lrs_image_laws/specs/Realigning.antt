@@ -15,7 +15,7 @@ use Rattle.lrs_events.specs.Spans.{are_rows, holds_by_spans}
 use Rattle.lrs_events_rows.specs.Removals.{is_within, IsThat}
 use Rattle.lrs_events_spans.specs.Realigning.{IsRealigned}
 use Rattle.lrs_machine.specs.declared.command.Command.TheVariants as verb
-use Rattle.lrs_machine.specs.declared.image.RouteEntry.{RouteEntry}
+use Rattle.lrs_machine.specs.declared.image.RouteRow.{RouteRow}
 use Rattle.lrs_machine.specs.declared.image.Image.{Image}
 use Rattle.lrs_machine.specs.Machine.{do_realign, set_route, abandon}
 use Rattle.lrs_machine.specs.Image.{state_of}
@@ -39,19 +39,19 @@ abbrev pub moved : ℕ → ℕ → ℕ → Referent → Referent
 moved from to len q = record q { at = if nat_lt q.at from then q.at else (from + len) + (q.at - to) }
 
 -- what the rows that are taken held of the stretch, as rows of the ledger
-pub record IsTaken (i : Image) (r : RouteEntry) (from to : ℕ) (gone : List Gone) : Type 0 where
+pub record IsTaken (i : Image) (r : RouteRow) (from to : ℕ) (gone : List Gone) : Type 0 where
   pub rows : List Span
   pub taken : IsThat (λ class asset j s. is_within from to j) r.spans rows
   pub gone_are : AreGone (length i.edits + 1) Abandoned (holds_by_spans r.route.course rows) gone
 
 -- A route with other ground, known and free, for a stretch; what stood or lay on the stretch goes, and the verb's checks pass.
-pub record IsRealignment (i : Image) (r w : RouteEntry) (from to : ℕ) (come : List Piece) (marks : List Mark) : Type 0 where
+pub record IsRealignment (i : Image) (r w : RouteRow) (from to : ℕ) (come : List Piece) (marks : List Mark) : Type 0 where
   pub route : In r i.routes
   pub low : from ≤ to
   pub high : to ≤ length r.route.course
   pub linked : list_all (is_on_a_link i.links) (course_of come) ≡ true
   pub once : each_two differs (course_of come) ≡ true
-  pub free : (e : RouteEntry) → In e i.routes → meets (course_of come) e.route.course ≡ false
+  pub free : (e : RouteRow) → In e i.routes → meets (course_of come) e.route.course ≡ false
   pub name : w.route.name ≡ r.route.name
   pub course : w.route.course ≡ replaced from to (course_of come) r.route.course
   pub marks_are : w.route.marks ≡ marks
@@ -64,7 +64,7 @@ pub record IsRealignment (i : Image) (r w : RouteEntry) (from to : ℕ) (come : 
 
 -- It is what the realignment makes, in the place of the route, with what lay on the stretch gone.
 abbrev pub RealignMakes : Type 0
-RealignMakes = (i : Image) (r w : RouteEntry) (from to : ℕ) (pieces : Option (List Piece)) (marks : List Mark) (gone : List Gone) → IsSound i
+RealignMakes = (i : Image) (r w : RouteRow) (from to : ℕ) (pieces : Option (List Piece)) (marks : List Mark) (gone : List Gone) → IsSound i
     → IsRealignment i r w from to (unwrap_or pieces []) marks → IsTaken i r from to gone
     → Makes (verb.Realign r.route.name from to pieces marks) i (with_left (r.route.name ∷ []) (w ∷ []) gone i)
 

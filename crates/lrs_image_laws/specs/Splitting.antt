@@ -13,7 +13,7 @@ use Rattle.lrs_events.specs.declared.span.Span.{Span}
 use Rattle.lrs_events.specs.Spans.{are_rows}
 use Rattle.lrs_events_rows.specs.Cuts.{IsCut}
 use Rattle.lrs_machine.specs.declared.command.Command.TheVariants as verb
-use Rattle.lrs_machine.specs.declared.image.RouteEntry.{RouteEntry}
+use Rattle.lrs_machine.specs.declared.image.RouteRow.{RouteRow}
 use Rattle.lrs_machine.specs.declared.image.Image.{Image}
 use Rattle.lrs_machine.specs.Sound.{are_spans_of, IsSound}
 use Rattle.lrs_machine.proofs.Members.{In}
@@ -30,7 +30,7 @@ abbrev pub is_ahead : ℕ → Referent → Bool
 is_ahead at q = nat_lt q.at at
 
 -- the two routes that one becomes at an inner mark: the front under its name, and the rear under a new one
-pub record IsSplit (i : Image) (r front rear : RouteEntry) (at : ℕ) (name : Name) : Type 0 where
+pub record IsSplit (i : Image) (r front rear : RouteRow) (at : ℕ) (name : Name) : Type 0 where
   pub route : In r i.routes
   pub fresh : list_any (is_named name) i.routes ≡ false
   pub inner : is_inner_mark r.route.marks at ≡ true
@@ -48,7 +48,7 @@ pub record IsSplit (i : Image) (r front rear : RouteEntry) (at : ℕ) (name : Na
 
 -- They are what the split makes, in the place of the route.
 abbrev pub SplitMakes : Type 0
-SplitMakes = (i : Image) (r front rear : RouteEntry) (at : ℕ) (name : Name) → IsSound i → IsSplit i r front rear at name
+SplitMakes = (i : Image) (r front rear : RouteRow) (at : ℕ) (name : Name) → IsSound i → IsSplit i r front rear at name
     → Makes (verb.Split r.route.name at name) i (with_routes (rewritten (r.route.name ∷ []) (front ∷ rear ∷ []) i.routes) i)
 
 -- Both parts of a route at an inner mark are routes, where neither is too long.

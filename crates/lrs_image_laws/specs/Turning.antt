@@ -11,7 +11,7 @@ use Rattle.lrs_events.specs.declared.span.Span.{Span}
 use Rattle.lrs_events.specs.Spans.{are_rows}
 use Rattle.lrs_events_rows.specs.Turns.{IsTurned}
 use Rattle.lrs_machine.specs.declared.command.Command.TheVariants as verb
-use Rattle.lrs_machine.specs.declared.image.RouteEntry.{RouteEntry}
+use Rattle.lrs_machine.specs.declared.image.RouteRow.{RouteRow}
 use Rattle.lrs_machine.specs.declared.image.Image.{Image}
 use Rattle.lrs_machine.specs.Sound.{are_spans_of, IsSound}
 use Rattle.lrs_machine.proofs.Members.{In}
@@ -23,7 +23,7 @@ abbrev pub from_end : ℕ → Referent → Referent
 from_end len q = record q { at = len - 1 - q.at }
 
 -- the route from its other end, under its name
-pub record IsTurnedRoute (i : Image) (r w : RouteEntry) : Type 0 where
+pub record IsTurnedRoute (i : Image) (r w : RouteRow) : Type 0 where
   pub route : In r i.routes
   pub name : w.route.name ≡ r.route.name
   pub course : w.route.course ≡ turned r.route.course
@@ -34,7 +34,7 @@ pub record IsTurnedRoute (i : Image) (r w : RouteEntry) : Type 0 where
 
 -- It is what the turn makes, in the place of the route.
 abbrev pub TurnMakes : Type 0
-TurnMakes = (i : Image) (r w : RouteEntry) → IsSound i → IsTurnedRoute i r w
+TurnMakes = (i : Image) (r w : RouteRow) → IsSound i → IsTurnedRoute i r w
     → Makes (verb.Turn r.route.name) i (with_routes (rewritten (r.route.name ∷ []) (w ∷ []) i.routes) i)
 
 -- A route from its other end is a route, where it is not too long from there.

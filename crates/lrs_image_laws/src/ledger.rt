@@ -27,7 +27,8 @@ pub fn taken_away(
 ) -> Result<Rows<Gone>, AllocError>
     requires rows { IsTrue (are_rows rows.now) }
     requires once { each_two differs course.now ≡ true }
-    ensures { IfOk result (λ gone. AreGone edit (if abandoned then Abandoned else Retired) (holds_by_spans course.now rows.now) gone) }
+    ensures { IfOk result (λ gone. AreGone edit (if abandoned then Abandoned else Retired)
+        (holds_by_spans course.now rows.now) gone) }
 {
     let parts = lrs_events_parts::parts(alloc, edit, rows, course)?;
     let gone = lrs_events_parts::gone(alloc, &parts, abandoned)?;

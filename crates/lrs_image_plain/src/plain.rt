@@ -42,7 +42,8 @@ impl Plain {
     /// # Errors
     /// When memory runs out.
     pub fn new(image: Image, alloc: Global) -> Result<Plain, AllocError>
-        ensures { IfOk result (λ plain. plain ≡ record { content = content_of image; failures = 0 }) }
+        ensures { IfOk result (λ plain.
+            plain ≡ record { content = content_of image; failures = 0 }) }
     {
         let content = match first_unsound(alloc, &image)? {
             Some(table) => Content::Unsound(table),

@@ -14,9 +14,9 @@ use Rattle.lrs_position.specs.Routes.{is_route_course, have_marks, are_referents
 use Rattle.lrs_events.specs.declared.class.Asset.{Asset}
 use Rattle.lrs_events.specs.declared.part.Part.{Part}
 use Rattle.lrs_events.specs.declared.part.Gone.{Gone}
-use Rattle.lrs_machine.specs.declared.image.RouteEntry.{RouteEntry}
+use Rattle.lrs_machine.specs.declared.image.RouteRow.{RouteRow}
 use Rattle.lrs_machine.specs.declared.image.Edit.{Edit}
-use Rattle.lrs_machine.specs.Bounds.{most_pairs, most_edits}
+use Rattle.lrs_measure.specs.Limits.{most_pairs, most_edits}
 use Rattle.lrs_machine.specs.Sound.{is_part, share_nothing, pairs_of, are_parts, parts_of, are_edits, is_named_by, RouteReferents, are_all_referents, are_all_marks}
 use Rattle.lrs_machine.proofs.Members.{any_found, all_at}
 use Rattle.lrs_machine.proofs.Pairs.{part_asset, each_two-map}
@@ -104,19 +104,19 @@ flat_mapped : {X Y Z : Type 0} (g : Y → List Z) (f : X → Y) (xs : List X) �
 flat_mapped g f [] = refl
 flat_mapped g f (x ∷ xs) = ap (λ l. g (f x) ++ l) (flat_mapped g f xs)
 
-pub fits : (e : RouteEntry) → (is_route_course e.route.course ≡ true) × (have_marks e.route.course e.route.marks ≡ true) × (are_referents (length e.route.course) e.route.refs ≡ true)
+pub fits : (e : RouteRow) → (is_route_course e.route.course ≡ true) × (have_marks e.route.course e.route.marks ≡ true) × (are_referents (length e.route.course) e.route.refs ≡ true)
 fits e = and_three (is_route_course e.route.course) (have_marks e.route.course e.route.marks) (are_referents (length e.route.course) e.route.refs) e.route.fits
 
-pub marks_fit : (routes : List RouteEntry) → are_all_marks (route_marks routes) ≡ true
+pub marks_fit : (routes : List RouteRow) → are_all_marks (route_marks routes) ≡ true
 marks_fit routes = all_mapped (λ r. have_marks r.course r.marks) (λ e. record { course = e.route.course; marks = e.route.marks }) routes (λ e. (fits e).1)
 
-pub referents_answer : (routes : List RouteEntry) (names : List Name) (b : Bool) → names ≡ map (λ (r : Referent). r.name) (flat_map (λ e. e.route.refs) routes) → b ≡ each_two differ names → b ≡ are_all_referents (route_referents routes)
+pub referents_answer : (routes : List RouteRow) (names : List Name) (b : Bool) → names ≡ map (λ (r : Referent). r.name) (flat_map (λ e. e.route.refs) routes) → b ≡ each_two differ names → b ≡ are_all_referents (route_referents routes)
 referents_answer routes names b are once =
     once ∙ ap (each_two differ) are ∙ each_two-map differ (λ (r : Referent). r.name) (flat_map (λ e. e.route.refs) routes)
     ∙ ap (each_two (λ a b. differ a.name b.name)) (sym (flat_mapped (λ r. r.refs) entry routes))
     ∙ sym (ap (λ c. c && each_two (λ a b. differ a.name b.name) (flat_map (λ r. r.refs) (route_referents routes))) own)
   where
-    entry : RouteEntry → RouteReferents
+    entry : RouteRow → RouteReferents
     entry e = record { length = length e.route.course; refs = e.route.refs }
 
     own : list_all (λ r. are_referents r.length r.refs) (route_referents routes) ≡ true

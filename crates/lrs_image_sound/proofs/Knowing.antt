@@ -6,7 +6,7 @@ use Rattle.std.proofs.lemmas.List.Folds.{list_all-append}
 use Rattle.lrs_events.specs.declared.class.Asset.{Asset}
 use Rattle.lrs_events.specs.declared.span.Span.{Span}
 use Rattle.lrs_events.specs.Spans.{are_rows}
-use Rattle.lrs_machine.specs.declared.image.RouteEntry.{RouteEntry}
+use Rattle.lrs_machine.specs.declared.image.RouteRow.{RouteRow}
 use Rattle.lrs_image_sound.specs.Tables.{fits_route, rows_end_on, is_known}
 use Rattle.lrs_image_sound.proofs.Rearranged.{all_alike}
 
@@ -28,24 +28,24 @@ join true true false true k = refl
 join true true false false k = refl
 
 module _ (assets : List Asset) where
-  abbrev rows_of : List RouteEntry → List Span
+  abbrev rows_of : List RouteRow → List Span
   rows_of routes = flat_map (λ e. e.spans) routes
 
-  abbrev ends : RouteEntry → Bool
+  abbrev ends : RouteRow → Bool
   ends e = list_all (λ r. nat_le r.to (length e.route.course)) e.spans
 
-  fits_is : (e : RouteEntry) → fits_route assets e ≡ (are_rows e.spans && (ends e && list_all (is_known assets) e.spans))
+  fits_is : (e : RouteRow) → fits_route assets e ≡ (are_rows e.spans && (ends e && list_all (is_known assets) e.spans))
   fits_is e = ap (λ b. are_rows e.spans && b) (all_both (λ r. nat_le r.to (length e.route.course)) (is_known assets) e.spans)
 
-  fit_is : (routes : List RouteEntry) → list_all (fits_route assets) routes ≡ (list_all rows_end_on routes && list_all (is_known assets) (rows_of routes))
+  fit_is : (routes : List RouteRow) → list_all (fits_route assets) routes ≡ (list_all rows_end_on routes && list_all (is_known assets) (rows_of routes))
   fit_is [] = refl
   fit_is (e ∷ es) =
       (λ j. fits_is e j && fit_is es j)
       ∙ join (are_rows e.spans) (ends e) (list_all (is_known assets) e.spans) (list_all rows_end_on es) (list_all (is_known assets) (rows_of es))
       ∙ ap (λ b. list_all rows_end_on (e ∷ es) && b) (sym (list_all-append (is_known assets) e.spans (rows_of es)))
 
-  pub fit_fails : (routes : List RouteEntry) → list_all rows_end_on routes ≡ false → false ≡ list_all (fits_route assets) routes
+  pub fit_fails : (routes : List RouteRow) → list_all rows_end_on routes ≡ false → false ≡ list_all (fits_route assets) routes
   fit_fails routes h = sym (fit_is routes ∙ ap (λ b. b && list_all (is_known assets) (rows_of routes)) h)
 
-  pub fit_answer : (routes : List RouteEntry) (rows : List Span) → IsPermutation (rows_of routes) rows → list_all rows_end_on routes ≡ true → list_all (is_known assets) rows ≡ list_all (fits_route assets) routes
+  pub fit_answer : (routes : List RouteRow) (rows : List Span) → IsPermutation (rows_of routes) rows → list_all rows_end_on routes ≡ true → list_all (is_known assets) rows ≡ list_all (fits_route assets) routes
   fit_answer routes rows same h = sym (all_alike (is_known assets) (rows_of routes) rows same) ∙ sym (fit_is routes ∙ ap (λ b. b && list_all (is_known assets) (rows_of routes)) h)

@@ -14,8 +14,8 @@ use Rattle.lrs_element.specs.Course.{expand, course_of, first_repeated, meets}
 use Rattle.lrs_element.specs.Pieces.{piece_len, ground_of, IsFilled}
 use Rattle.lrs_element.proofs.Expanding.{length-expand, get_or-expand}
 use Rattle.lrs_position.specs.Routes.{is_route_course}
-use Rattle.lrs_machine.specs.declared.image.RouteEntry.{RouteEntry}
-use Rattle.lrs_machine.specs.Bounds.{most_routes}
+use Rattle.lrs_machine.specs.declared.image.RouteRow.{RouteRow}
+use Rattle.lrs_measure.specs.Limits.{most_routes}
 use Rattle.lrs_events.specs.Places.{differs}
 use Rattle.lrs_machine.specs.Sound.{RouteCourse, is_on_a_link, is_course, course_before, are_courses}
 use Rattle.lrs_machine.proofs.Members.{any_found, any_of, all_at}
@@ -94,7 +94,7 @@ all-append P (x ∷ xs) ys h k = (h.0, all-append P xs ys h.1 k)
 
 -- ---- all routes
 
-abbrev of_route : RouteEntry → RouteCourse
+abbrev of_route : RouteRow → RouteCourse
 of_route e = record { route = e.route.name; entries = e.route.course }
 
 abbrev own : List Ground → Bool
@@ -103,29 +103,29 @@ own course = each_two differs course
 abbrev apart : List Ground → List Ground → Bool
 apart c d = not (meets c d)
 
-courses_joined : (routes : List RouteEntry) → flat_map (λ e. e.route.course) routes ≡ flat_map (λ course. course) (map (λ (e : RouteEntry). e.route.course) routes)
+courses_joined : (routes : List RouteRow) → flat_map (λ e. e.route.course) routes ≡ flat_map (λ course. course) (map (λ (e : RouteRow). e.route.course) routes)
 courses_joined [] = refl
 courses_joined (e ∷ rest) = ap (λ l. e.route.course ++ l) (courses_joined rest)
 
-module _ (links : List Link) (routes : List RouteEntry) where
+module _ (links : List Link) (routes : List RouteRow) where
   ordered : each_two course_before (route_courses routes) ≡ each_two route_before routes
   ordered = each_two-map course_before of_route routes
 
-  each_is : (rs : List RouteEntry) → list_all (is_on_links links) rs ≡ true → list_all (is_course links) (route_courses rs) ≡ list_all own (map (λ (e : RouteEntry). e.route.course) rs)
+  each_is : (rs : List RouteRow) → list_all (is_on_links links) rs ≡ true → list_all (is_course links) (route_courses rs) ≡ list_all own (map (λ (e : RouteRow). e.route.course) rs)
   each_is [] h = refl
   each_is (e ∷ rest) h =
       let both = and_parts (is_on_links links e) (list_all (is_on_links links) rest) h in
       (λ j. ((fits e).0 j && both.0 j && own e.route.course) && each_is rest both.1 j)
 
-  pub off_is : (rs : List RouteEntry) → list_all (is_course links) (route_courses rs) ≡ true → list_all (is_on_links links) rs ≡ true
+  pub off_is : (rs : List RouteRow) → list_all (is_course links) (route_courses rs) ≡ true → list_all (is_on_links links) rs ≡ true
   off_is [] h = refl
   off_is (e ∷ rest) h =
       let both = and_parts (is_course links (of_route e)) (list_all (is_course links) (route_courses rest)) h in
       let good = and_parts (is_route_course e.route.course && is_on_links links e) (own e.route.course) both.0 in
       and_from (is_on_links links e) (list_all (is_on_links links) rest) (and_parts (is_route_course e.route.course) (is_on_links links e) good.0).1 (off_is rest both.1)
 
-  meeting : each_two (λ c d. not (meets c.entries d.entries)) (route_courses routes) ≡ each_two apart (map (λ (e : RouteEntry). e.route.course) routes)
-  meeting = each_two-map (λ c d. not (meets c.entries d.entries)) of_route routes ∙ sym (each_two-map apart (λ (e : RouteEntry). e.route.course) routes)
+  meeting : each_two (λ c d. not (meets c.entries d.entries)) (route_courses routes) ≡ each_two apart (map (λ (e : RouteRow). e.route.course) routes)
+  meeting = each_two-map (λ c d. not (meets c.entries d.entries)) of_route routes ∙ sym (each_two-map apart (λ (e : RouteRow). e.route.course) routes)
 
   abbrev tested : Bool
   tested = are_courses links (route_courses routes)
@@ -154,7 +154,7 @@ module _ (links : List Link) (routes : List RouteEntry) where
       ∙ last (list_all own courses) (each_two apart courses) ∙ sym (λ j. (ordered ∙ order) j && each_is routes on j && meeting j && count j)
     where
       courses : List (List Ground)
-      courses = map (λ (e : RouteEntry). e.route.course) routes
+      courses = map (λ (e : RouteRow). e.route.course) routes
 
       law : (is_some (first_repeated [] pieces) ≡ false) ↔ ((list_all own courses && each_two apart courses) ≡ true)
       law = courses_are_apart pieces courses (run ∙ courses_joined routes)

@@ -24,12 +24,12 @@ nat_eq-comm m n = both_ways (nat_eq m n) (nat_eq n m) (λ t. eq-eqb n m (sym (eq
 
 -- an asset of the part's number that names another edit
 abbrev objects : Part → Asset → Bool
-objects p a = nat_eq a.number p.asset && not (nat_eq p.edit a.entry)
+objects p a = nat_eq a.number p.asset && not (nat_eq p.edit a.entered_by)
 
 agrees_unless : (assets : List Asset) (p : Part) → agrees_with_all assets p ≡ not (list_any (objects p) assets)
 agrees_unless [] p = refl
 agrees_unless (a ∷ rest) p =
-    (λ j. (not (nat_eq-comm p.asset a.number j) || nat_eq p.edit a.entry) && agrees_unless rest p j) ∙ by (nat_eq a.number p.asset) (nat_eq p.edit a.entry) (list_any (objects p) rest)
+    (λ j. (not (nat_eq-comm p.asset a.number j) || nat_eq p.edit a.entered_by) && agrees_unless rest p j) ∙ by (nat_eq a.number p.asset) (nat_eq p.edit a.entered_by) (list_any (objects p) rest)
   where
     by : (b c d : Bool) → ((not b || c) && not d) ≡ not ((b && not c) || d)
     by true true d = refl
@@ -40,11 +40,11 @@ twice : (b : Bool) → not (not b) ≡ b
 twice true = refl
 twice false = refl
 
-pub some_agrees : (assets : List Asset) (p : Part) (a : Asset) → ((test : Asset → Bool) → list_any (λ x. nat_eq x.number p.asset && test x) assets ≡ option_map_or test (Some a) false) → nat_eq p.edit a.entry ≡ agrees_with_all assets p
-some_agrees assets p a h = sym (agrees_unless assets p ∙ ap not (h (λ x. not (nat_eq p.edit x.entry))) ∙ twice (nat_eq p.edit a.entry))
+pub some_agrees : (assets : List Asset) (p : Part) (a : Asset) → ((test : Asset → Bool) → list_any (λ x. nat_eq x.number p.asset && test x) assets ≡ option_map_or test (Some a) false) → nat_eq p.edit a.entered_by ≡ agrees_with_all assets p
+some_agrees assets p a h = sym (agrees_unless assets p ∙ ap not (h (λ x. not (nat_eq p.edit x.entered_by))) ∙ twice (nat_eq p.edit a.entered_by))
 
 pub none_agrees : (assets : List Asset) (p : Part) → ((test : Asset → Bool) → list_any (λ x. nat_eq x.number p.asset && test x) assets ≡ option_map_or test None false) → true ≡ agrees_with_all assets p
-none_agrees assets p h = sym (agrees_unless assets p ∙ ap not (h (λ x. not (nat_eq p.edit x.entry))))
+none_agrees assets p h = sym (agrees_unless assets p ∙ ap not (h (λ x. not (nat_eq p.edit x.entered_by))))
 
 -- ---- numbers in order, searched
 

@@ -8,7 +8,7 @@ use Rattle.lrs_element.specs.declared.link.Link.{Link}
 use Rattle.lrs_events.specs.declared.class.Asset.{Asset}
 use Rattle.lrs_events.specs.declared.part.Part.{Part}
 use Rattle.lrs_events.specs.Parts.{has_for, has_place}
-use Rattle.lrs_machine.specs.Bounds.{most_pairs}
+use Rattle.lrs_measure.specs.Limits.{most_pairs}
 use Rattle.lrs_machine.specs.Sound.{RouteSpans, is_part, share_nothing, pairs_of, are_parts, is_origin, are_origins}
 use Rattle.lrs_image_sound.specs.Sweeping.{IsFilled}
 use Rattle.lrs_image_sound.specs.Balance.{AreHeld}
@@ -37,7 +37,7 @@ module _ (xs ys : List Part) (same : IsPermutation xs ys) where
   same_filled full = recursion_from_All IsFilled ys (All-permutation IsFilled xs ys same (All-from_recursion IsFilled xs full))
 
   same_origin : (a : Asset) → is_origin xs a ≡ is_origin ys a
-  same_origin a = λ j. list_any-IsPermutation (λ p. nat_eq p.asset a.number) xs ys same j && all_alike (λ p. not (nat_eq p.asset a.number) || nat_eq p.edit a.entry) xs ys same j
+  same_origin a = λ j. list_any-IsPermutation (λ p. nat_eq p.asset a.number) xs ys same j && all_alike (λ p. not (nat_eq p.asset a.number) || nat_eq p.edit a.entered_by) xs ys same j
 
   pub same_origins : (assets : List Asset) → are_origins xs assets ≡ are_origins ys assets
   same_origins assets = λ j. list_all (λ a. same_origin a j) assets

@@ -15,10 +15,10 @@ use Rattle.lrs_events.specs.declared.span.Span.{Span}
 use Rattle.lrs_events.specs.Places.{Place}
 use Rattle.lrs_events.specs.Parts.{has_place, has_pair}
 use Rattle.lrs_events.specs.Spans.{holds_by_spans, are_rows}
-use Rattle.lrs_machine.specs.declared.image.RouteEntry.{RouteEntry}
+use Rattle.lrs_machine.specs.declared.image.RouteRow.{RouteRow}
 use Rattle.lrs_events.specs.Places.{differs}
 use Rattle.lrs_machine.specs.Sound.{RouteSpans, holds_in, has_asset_place, is_part, is_span, is_on_a_link, is_course, are_courses, course_before}
-use Rattle.lrs_machine.specs.Bounds.{most_routes}
+use Rattle.lrs_measure.specs.Limits.{most_routes}
 use Rattle.lrs_machine.proofs.Members.{In, any_found, any_of, all_at, map_found}
 use Rattle.lrs_machine.proofs.Pairs.{held, held_asset, each_two-map, entered_by, has_entered}
 use Rattle.lrs_image_sound.specs.Sweeping.{IsFilled}
@@ -104,10 +104,10 @@ module _ (routes : List RouteSpans) (s : RouteSpans) where
 
 -- ---- the parts of the first routes
 
-abbrev pub of_entry : RouteEntry → RouteSpans
+abbrev pub of_entry : RouteRow → RouteSpans
 of_entry e = record { course = e.route.course; rows = e.spans }
 
-pub record AreMade (routes : List RouteEntry) (parts : List Part) : Type 0 where
+pub record AreMade (routes : List RouteRow) (parts : List Part) : Type 0 where
   pub filled : AllByRecursion IsFilled parts
   pub held : AreOfRoutes (route_spans routes) parts
 
@@ -117,7 +117,7 @@ none_made = record { filled = tt; held = record { once = λ are a p. omega arith
 pub made_none : (parts : List Part) → parts ≡ [] → AreMade [] parts
 made_none parts none = subst (AreMade []) (sym none) none_made
 
-pub made_more : (routes : List RouteEntry) (i : ℕ) (e : RouteEntry) (parts more all : List Part) → i < length routes → e ≡ get_or routes i e → AreMade (take i routes) parts → AllByRecursion IsFilled more
+pub made_more : (routes : List RouteRow) (i : ℕ) (e : RouteRow) (parts more all : List Part) → i < length routes → e ≡ get_or routes i e → AreMade (take i routes) parts → AllByRecursion IsFilled more
     → AreOfRoute e.route.course e.spans more → all ≡ parts ++ more → AreMade (take (i + 1) routes) all
 made_more routes i e parts more all lt here before full one is = record {
   filled = subst (AllByRecursion IsFilled) (sym is) (all-append IsFilled parts more before.filled full);
@@ -134,7 +134,7 @@ filled_at x [] f m = absurd m
 filled_at x (y ∷ ys) f (inl e) = subst (λ z. z.from < z.to) (sym e) f.0
 filled_at x (y ∷ ys) f (inr m) = filled_at x ys f.1 m
 
-module _ (links : List Link) (assets : List Asset) (routes : List RouteEntry) (courses : are_courses links (route_courses routes) ≡ true) (spans : list_all (fits_route assets) routes ≡ true) where
+module _ (links : List Link) (assets : List Asset) (routes : List RouteRow) (courses : are_courses links (route_courses routes) ≡ true) (spans : list_all (fits_route assets) routes ≡ true) where
   abbrev ordered : Bool
   ordered = each_two course_before (route_courses routes)
 
@@ -156,13 +156,13 @@ module _ (links : List Link) (assets : List Asset) (routes : List RouteEntry) (c
   on_links : list_all (is_on_links links) routes ≡ true
   on_links = off_is links routes routes each_good
 
-  own : (rs : List RouteEntry) → list_all (is_course links) (route_courses rs) ≡ true → list_all (λ s. each_two differs s.course) (route_spans rs) ≡ true
+  own : (rs : List RouteRow) → list_all (is_course links) (route_courses rs) ≡ true → list_all (λ s. each_two differs s.course) (route_spans rs) ≡ true
   own [] h = refl
   own (e ∷ rest) h =
       let both = and_parts (is_course links (record { route = e.route.name; entries = e.route.course })) (list_all (is_course links) (route_courses rest)) h in
       and_from (each_two differs e.route.course) (list_all (λ s. each_two differs s.course) (route_spans rest)) (and_parts _ (each_two differs e.route.course) both.0).1 (own rest both.1)
 
-  rows_good : (rs : List RouteEntry) → list_all (fits_route assets) rs ≡ true → list_all (λ s. are_rows s.rows) (route_spans rs) ≡ true
+  rows_good : (rs : List RouteRow) → list_all (fits_route assets) rs ≡ true → list_all (λ s. are_rows s.rows) (route_spans rs) ≡ true
   rows_good [] h = refl
   rows_good (e ∷ rest) h =
       let both = and_parts (fits_route assets e) (list_all (fits_route assets) rest) h in

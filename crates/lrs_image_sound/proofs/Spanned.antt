@@ -10,8 +10,8 @@ use Rattle.lrs_events.specs.declared.class.Class.{Class}
 use Rattle.lrs_events.specs.declared.class.Asset.{Asset}
 use Rattle.lrs_events.specs.declared.part.Part.{Part}
 use Rattle.lrs_events.specs.declared.part.Gone.{Gone}
-use Rattle.lrs_machine.specs.declared.image.RouteEntry.{RouteEntry}
-use Rattle.lrs_machine.specs.Bounds.{most_pairs}
+use Rattle.lrs_machine.specs.declared.image.RouteRow.{RouteRow}
+use Rattle.lrs_measure.specs.Limits.{most_pairs}
 use Rattle.lrs_events.specs.Parts.{part_before}
 use Rattle.lrs_machine.specs.Sound.{RouteSpans, gone_before, is_part, share_nothing, pairs_of, are_parts, parts_of, are_courses, are_entered, are_gone, are_balanced, are_spans, are_spans_of, keeps_exclusive}
 use Rattle.lrs_machine.proofs.SoundImages.{and_three}
@@ -24,7 +24,7 @@ use Rattle.lrs_image_sound.proofs.Rowed.{are_held, of_entry}
 
 -- ---- spans
 
-module _ (links : List Link) (classes : List Class) (assets : List Asset) (routes : List RouteEntry) where
+module _ (links : List Link) (classes : List Class) (assets : List Asset) (routes : List RouteRow) where
   abbrev exclusive : Bool
   exclusive = list_all (keeps_exclusive links assets (route_spans routes)) classes
 
@@ -64,7 +64,7 @@ module _ (links : List Link) (assets : List Asset) where
       second true b c h = λ j. h j && c
       second false b c h = refl
 
-  pub gone_answer : (routes : List RouteEntry) (held entered : List Part) (gone : List Gone) (balanced : Bool) → each_two gone_before gone ≡ true → are_parts links assets (parts_of gone) ≡ true
+  pub gone_answer : (routes : List RouteRow) (held entered : List Part) (gone : List Gone) (balanced : Bool) → each_two gone_before gone ≡ true → are_parts links assets (parts_of gone) ≡ true
       → are_courses links (route_courses routes) ≡ true → list_all (fits_route assets) routes ≡ true → are_entered links assets entered ≡ true → AllByRecursion IsFilled held → AreOfRoutes (route_spans routes) held
       → (AreHeld links assets (route_spans routes) held → IsLedger links assets entered → IsLedger links assets (parts_of gone) → balanced ≡ are_balanced links assets (route_spans routes) entered (parts_of gone))
       → balanced ≡ are_gone links assets (route_spans routes) entered gone

@@ -12,7 +12,7 @@ is_named numbers a = has_number numbers a.number
 
 -- the part is of another asset, or entered by the edit that the asset names
 abbrev pub agrees : Asset → Part → Bool
-agrees a p = not (nat_eq p.asset a.number) || nat_eq p.edit a.entry
+agrees a p = not (nat_eq p.asset a.number) || nat_eq p.edit a.entered_by
 
 abbrev pub agrees_with_all : List Asset → Part → Bool
 agrees_with_all assets p = list_all (λ a. agrees a p) assets

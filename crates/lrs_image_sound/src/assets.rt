@@ -7,9 +7,7 @@ ghost use Rattle.lrs_machine.specs.Sound.{are_classes, is_asset, are_assets};
 use crate::lookups::knows_class;
 use crate::order::assets_rise;
 use lrs_events::{Asset, Class};
-
-/// How many assets there may ever be.
-const MOST_ASSETS: usize = 1_000_000;
+use lrs_measure::limits::{GREATEST_ASSET, MOST_ASSETS};
 
 /// Whether an asset is in its limits and of a known class.
 fn is_asset(classes: &[Class], asset: &Asset) -> bool
@@ -17,7 +15,7 @@ fn is_asset(classes: &[Class], asset: &Asset) -> bool
     ensures { result ≡ is_asset classes.now asset.now }
 {
     1 <= asset.number
-        && asset.number <= 1_000_000_000_000
+        && asset.number <= GREATEST_ASSET
         && asset.lateral <= 100_000
         && knows_class(classes, asset.class)
 }

@@ -22,7 +22,10 @@ pub fn do_balance(
 ) -> Result<bool, AllocError>
     requires present { AllByRecursion IsFilled (held.now ++ gone.now) }
     requires entered { AllByRecursion IsFilled entered.now }
-    ensures { IfOk result (λ balanced. (links : List Link) (assets : List Asset) (routes : List RouteSpans) → AreHeld links assets routes held.now → IsLedger links assets entered.now → IsLedger links assets gone.now → balanced ≡ are_balanced links assets routes entered.now gone.now) }
+    ensures { IfOk result (λ balanced. (links : List Link) (assets : List Asset)
+        (routes : List RouteSpans) → AreHeld links assets routes held.now
+        → IsLedger links assets entered.now → IsLedger links assets gone.now
+        → balanced ≡ are_balanced links assets routes entered.now gone.now) }
 {
     are_had_alike(alloc, held, gone, entered)
 }

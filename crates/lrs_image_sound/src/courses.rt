@@ -11,11 +11,9 @@ ghost use Rattle.lrs_image_sound.specs.Tables.{route_courses};
 use crate::lookups::link_reaches;
 use crate::order::routes_rise;
 use lrs_element::{Course, Link, Piece, have_repeat};
-use lrs_machine::RouteEntry;
+use lrs_machine::RouteRow;
+use lrs_measure::limits::MOST_ROUTES;
 use std::alloc::{AllocError, Global};
-
-/// How many routes there may be at one time.
-const MOST_ROUTES: usize = 10_000;
 
 fn end_on_links(links: &[Link], pieces: &[Piece]) -> bool
     requires { are_links links.now ≡ true }
@@ -34,31 +32,33 @@ fn lies_on_links(links: &[Link], course: &Course) -> bool
     end_on_links(links, course.pieces())
 }
 
-fn lie_on_links(links: &[Link], routes: &[RouteEntry]) -> bool
+fn lie_on_links(links: &[Link], routes: &[RouteRow]) -> bool
     requires { are_links links.now ≡ true }
     ensures { result ≡ list_all (is_on_links links.now) routes.now }
 {
     routes
         .iter()
-        .all(|entry| lies_on_links(links, &entry.route.course))
+        .all(|route_row| lies_on_links(links, &route_row.route.course))
 }
 
 fn push_course(pieces: &mut Vec<Piece>, course: &Course) -> Result<(), AllocError>
     requires filled { AllByRecursion IsFilled pieces.old.items }
-    ensures course { IfOk result (λ _. course_of pieces.new.items ≡ course_of pieces.old.items ++ course.now) }
+    ensures course { IfOk result (λ _. course_of pieces.new.items ≡ course_of pieces.old.items
+        ++ course.now) }
     ensures filled { IfOk result (λ _. AllByRecursion IsFilled pieces.new.items) }
 {
     pieces.extend_from_slice(course.pieces())
 }
 
 /// The pieces of all routes in one list.
-fn all_pieces(alloc: Global, routes: &[RouteEntry]) -> Result<Vec<Piece>, AllocError>
-    ensures course { IfOk result (λ pieces. course_of pieces.items ≡ flat_map (λ e. e.route.course) routes.now) }
+fn all_pieces(alloc: Global, routes: &[RouteRow]) -> Result<Vec<Piece>, AllocError>
+    ensures course { IfOk result (λ pieces. course_of pieces.items ≡ flat_map (λ e.
+        e.route.course) routes.now) }
     ensures filled { IfOk result (λ pieces. AllByRecursion IsFilled pieces.items) }
 {
     let mut pieces = Vec::new(alloc);
-    for entry in routes {
-        push_course(&mut pieces, &entry.route.course)?;
+    for route_row in routes {
+        push_course(&mut pieces, &route_row.route.course)?;
     }
     Ok(pieces)
 }
@@ -68,7 +68,7 @@ fn all_pieces(alloc: Global, routes: &[RouteEntry]) -> Result<Vec<Piece>, AllocE
 ///
 /// # Errors
 /// When memory runs out.
-pub fn are_courses(alloc: Global, links: &[Link], routes: &[RouteEntry]) -> Result<bool, AllocError>
+pub fn are_courses(alloc: Global, links: &[Link], routes: &[RouteRow]) -> Result<bool, AllocError>
     requires { are_links links.now ≡ true }
     ensures { IfOk result (λ sound. sound ≡ are_courses links.now (route_courses routes.now)) }
 {

@@ -10,10 +10,8 @@ ghost use Rattle.lrs_machine.specs.Sound.{is_named_by, parts_of, are_edits};
 
 use lrs_events::{Gone, Part};
 use lrs_machine::{Edit, Key};
+use lrs_measure::limits::MOST_EDITS;
 use std::alloc::{AllocError, Global};
-
-/// How many edits there may ever be.
-const MOST_EDITS: usize = 10_000_000;
 
 fn is_named(count: u64, part: &Part) -> bool
     ensures { result ≡ is_from_to 1 count part.now.edit }

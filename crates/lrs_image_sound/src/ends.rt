@@ -51,7 +51,8 @@ fn is_in(chunk: u64, part: &Part) -> bool
 }
 
 fn push_starts(ends: &mut Vec<End>, chunk: u64, parts: &[Part]) -> Result<(), AllocError>
-    ensures { IfOk result (λ _. ends.new.items ≡ ends.old.items ++ map start_of (filter (is_in chunk) parts.now)) }
+    ensures { IfOk result (λ _. ends.new.items ≡ ends.old.items
+        ++ map start_of (filter (is_in chunk) parts.now)) }
 {
     for part in parts {
         if is_in(chunk, part) {
@@ -62,7 +63,8 @@ fn push_starts(ends: &mut Vec<End>, chunk: u64, parts: &[Part]) -> Result<(), Al
 }
 
 fn push_ends(ends: &mut Vec<End>, chunk: u64, parts: &[Part]) -> Result<(), AllocError>
-    ensures { IfOk result (λ _. ends.new.items ≡ ends.old.items ++ map end_of (filter (is_in chunk) parts.now)) }
+    ensures { IfOk result (λ _. ends.new.items ≡ ends.old.items
+        ++ map end_of (filter (is_in chunk) parts.now)) }
 {
     for part in parts {
         if is_in(chunk, part) {
@@ -80,7 +82,8 @@ fn end_key(end: &End) -> ((u64, u32, bool), u32)
 
 fn sort_ends(ends: &mut Vec<End>)
     ensures permutation { IsPermutation ends.old.items ends.new.items }
-    ensures sorted { (k : ℕ) (d : End) → k + 1 < length ends.new.items → IsRising (slice_index_or ends.new.items k d) (slice_index_or ends.new.items (k + 1) d) }
+    ensures sorted { (k : ℕ) (d : End) → k + 1 < length ends.new.items
+        → IsRising (slice_index_or ends.new.items k d) (slice_index_or ends.new.items (k + 1) d) }
 {
     ends.sort_unstable_by_key(|end| end_key(end));
 }
@@ -93,8 +96,11 @@ fn present_ends(
     more: &[Part],
     all: &[Part],
 ) -> Result<Vec<End>, AllocError>
-    ensures permutation { IfOk result (λ ends. IsPermutation (map start_of (filter (is_in chunk) first.now ++ filter (is_in chunk) more.now) ++ map end_of (filter (is_in chunk) all.now)) ends.items) }
-    ensures sorted { IfOk result (λ ends. (k : ℕ) (d : End) → k + 1 < length ends.items → IsRising (slice_index_or ends.items k d) (slice_index_or ends.items (k + 1) d)) }
+    ensures permutation { IfOk result (λ ends. IsPermutation
+        (map start_of (filter (is_in chunk) first.now ++ filter (is_in chunk) more.now)
+        ++ map end_of (filter (is_in chunk) all.now)) ends.items) }
+    ensures sorted { IfOk result (λ ends. (k : ℕ) (d : End) → k + 1 < length ends.items
+        → IsRising (slice_index_or ends.items k d) (slice_index_or ends.items (k + 1) d)) }
 {
     let mut ends = Vec::new(alloc);
     push_starts(&mut ends, chunk, first)?;
@@ -111,8 +117,12 @@ fn past_ends(
     more: &[Part],
     all: &[Part],
 ) -> Result<Vec<End>, AllocError>
-    ensures permutation { IfOk result (λ ends. IsPermutation (map start_of (filter (is_in chunk) all.now) ++ map end_of (filter (is_in chunk) first.now ++ filter (is_in chunk) more.now)) ends.items) }
-    ensures sorted { IfOk result (λ ends. (k : ℕ) (d : End) → k + 1 < length ends.items → IsRising (slice_index_or ends.items k d) (slice_index_or ends.items (k + 1) d)) }
+    ensures permutation { IfOk result (λ ends. IsPermutation
+        (map start_of (filter (is_in chunk) all.now)
+        ++ map end_of (filter (is_in chunk) first.now
+        ++ filter (is_in chunk) more.now)) ends.items) }
+    ensures sorted { IfOk result (λ ends. (k : ℕ) (d : End) → k + 1 < length ends.items
+        → IsRising (slice_index_or ends.items k d) (slice_index_or ends.items (k + 1) d)) }
 {
     let mut ends = Vec::new(alloc);
     push_starts(&mut ends, chunk, all)?;
@@ -133,7 +143,8 @@ fn are_alike_in(
 ) -> Result<bool, AllocError>
     requires filled { AllByRecursion IsFilled (first.now ++ more.now) }
     requires filled_all { AllByRecursion IsFilled all.now }
-    ensures { IfOk result (λ alike. IsTrue alike ↔ AreHadAlikeIn chunk (first.now ++ more.now) all.now) }
+    ensures { IfOk result (λ alike. IsTrue alike
+        ↔ AreHadAlikeIn chunk (first.now ++ more.now) all.now) }
 {
     let there = present_ends(alloc, chunk, first, more, all)?;
     let back = past_ends(alloc, chunk, first, more, all)?;

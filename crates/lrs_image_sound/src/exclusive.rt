@@ -20,7 +20,8 @@ use std::alloc::{AllocError, Global};
 /// The class of the asset of this number.
 fn class_of(assets: &[Asset], asset: u64) -> Option<ClassName>
     requires order { each_two asset_before assets.now ≡ true }
-    ensures { (class : Name) → list_any (λ a. nat_eq a.number asset && same_name a.class class) assets.now ≡ is_name result class }
+    ensures { (class : Name) → list_any (λ a. nat_eq a.number asset
+        && same_name a.class class) assets.now ≡ is_name result class }
 {
     match asset_of(assets, asset) {
         Some(asset) => Some(asset.class),
@@ -97,7 +98,9 @@ pub fn keep_exclusive(
     requires assets { each_two asset_before assets.now ≡ true }
     requires classes { each_two class_before classes.now ≡ true }
     requires filled { AllByRecursion IsFilled held.items }
-    ensures { IfOk result (λ kept. (links : List Link) (routes : List RouteSpans) → AreHeld links assets.now routes held.items → kept ≡ list_all (keeps_exclusive links assets.now routes) classes.now) }
+    ensures { IfOk result (λ kept. (links : List Link) (routes : List RouteSpans)
+        → AreHeld links assets.now routes held.items
+        → kept ≡ list_all (keeps_exclusive links assets.now routes) classes.now) }
 {
     let sorted = into_line_order(held);
     let keyed = keyed_parts(alloc, assets, classes, &sorted)?;

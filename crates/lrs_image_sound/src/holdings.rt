@@ -8,25 +8,26 @@ ghost use Rattle.lrs_image_sound.specs.Tables.{route_spans};
 
 use lrs_events::Part;
 use lrs_events_parts::parts;
-use lrs_machine::RouteEntry;
+use lrs_machine::RouteRow;
 use std::alloc::{AllocError, Global};
 
 /// The parts that the rows of a route hold.
-fn route_parts(alloc: Global, entry: &RouteEntry) -> Result<Vec<Part>, AllocError>
+fn route_parts(alloc: Global, route_row: &RouteRow) -> Result<Vec<Part>, AllocError>
     ensures filled { IfOk result (λ parts. AllByRecursion IsFilled parts.items) }
-    ensures held { IfOk result (λ parts. AreOfRoute entry.now.route.course entry.now.spans parts.items) }
+    ensures held { IfOk result (λ parts.
+        AreOfRoute route_row.now.route.course route_row.now.spans parts.items) }
 {
-    parts(alloc, 0, entry.spans.rows(), &entry.route.course)
+    parts(alloc, 0, route_row.spans.rows(), &route_row.route.course)
 }
 
 /// The parts that the rows of all routes hold.
-pub(crate) fn held_parts(alloc: Global, routes: &[RouteEntry]) -> Result<Vec<Part>, AllocError>
+pub(crate) fn held_parts(alloc: Global, routes: &[RouteRow]) -> Result<Vec<Part>, AllocError>
     ensures filled { IfOk result (λ held. AllByRecursion IsFilled held.items) }
     ensures held { IfOk result (λ held. AreOfRoutes (route_spans routes.now) held.items) }
 {
     let mut held = Vec::new(alloc);
-    for entry in routes {
-        let parts = route_parts(alloc, entry)?;
+    for route_row in routes {
+        let parts = route_parts(alloc, route_row)?;
         held.extend_from_slice(&parts)?;
     }
     Ok(held)

@@ -65,7 +65,8 @@ pub fn spans_pass(alloc: Global, image: &Image) -> Result<bool, AllocError>
     requires classes { are_classes image.now.classes ≡ true }
     requires assets { are_assets image.now.classes image.now.assets ≡ true }
     requires courses { are_courses image.now.links (courses_of image.now) ≡ true }
-    ensures { IfOk result (λ sound. sound ≡ are_spans image.now.links image.now.classes image.now.assets (spans_of image.now)) }
+    ensures { IfOk result (λ sound.
+        sound ≡ are_spans image.now.links image.now.classes image.now.assets (spans_of image.now)) }
 {
     are_spans(
         alloc,
@@ -82,7 +83,8 @@ pub fn spans_pass(alloc: Global, image: &Image) -> Result<bool, AllocError>
 pub fn entered_pass(alloc: Global, image: &Image) -> Result<bool, AllocError>
     requires links { are_links image.now.links ≡ true }
     requires assets { are_assets image.now.classes image.now.assets ≡ true }
-    ensures { IfOk result (λ sound. sound ≡ are_entered image.now.links image.now.assets image.now.entered) }
+    ensures { IfOk result (λ sound.
+        sound ≡ are_entered image.now.links image.now.assets image.now.entered) }
 {
     are_entered(
         alloc,
@@ -100,9 +102,11 @@ pub fn gone_pass(alloc: Global, image: &Image) -> Result<bool, AllocError>
     requires links { are_links image.now.links ≡ true }
     requires assets { are_assets image.now.classes image.now.assets ≡ true }
     requires courses { are_courses image.now.links (courses_of image.now) ≡ true }
-    requires spans { are_spans image.now.links image.now.classes image.now.assets (spans_of image.now) ≡ true }
+    requires spans { are_spans image.now.links image.now.classes image.now.assets
+        (spans_of image.now) ≡ true }
     requires entered { are_entered image.now.links image.now.assets image.now.entered ≡ true }
-    ensures { IfOk result (λ sound. sound ≡ are_gone image.now.links image.now.assets (spans_of image.now) image.now.entered image.now.gone) }
+    ensures { IfOk result (λ sound. sound ≡ are_gone image.now.links image.now.assets
+        (spans_of image.now) image.now.entered image.now.gone) }
 {
     are_gone(
         alloc,
@@ -119,7 +123,8 @@ pub fn gone_pass(alloc: Global, image: &Image) -> Result<bool, AllocError>
 /// # Errors
 /// When memory runs out.
 pub fn edits_pass(alloc: Global, image: &Image) -> Result<bool, AllocError>
-    ensures { IfOk result (λ sound. sound ≡ are_edits image.now.entered image.now.gone image.now.edits) }
+    ensures { IfOk result (λ sound.
+        sound ≡ are_edits image.now.entered image.now.gone image.now.edits) }
 {
     are_edits(
         alloc,

@@ -16,11 +16,9 @@ use crate::sums::have_few_places;
 use crate::sweep::{do_share_nothing_in_order, sorted_by_line};
 use lrs_element::Link;
 use lrs_events::{Asset, Gone, Part};
-use lrs_machine::RouteEntry;
+use lrs_machine::RouteRow;
+use lrs_measure::limits::MOST_PAIRS;
 use std::alloc::{AllocError, Global};
-
-/// How many places of one asset a ledger may have.
-const MOST_PAIRS: u64 = 20_000_000_000;
 
 /// Whether a part has a millimetre, lies within a known link and is of a known asset.
 fn is_part(links: &[Link], assets: &[Asset], part: &Part) -> bool
@@ -46,7 +44,8 @@ fn are_inside(links: &[Link], assets: &[Asset], parts: &[Part]) -> bool
 fn are_parts_in_order(links: &[Link], assets: &[Asset], sorted: &[Part]) -> bool
     requires links { are_links links.now ≡ true }
     requires assets { each_two asset_before assets.now ≡ true }
-    requires order { (k : ℕ) (d : Part) → k + 1 < length sorted.now → IsInOrder (slice_index_or sorted.now k d) (slice_index_or sorted.now (k + 1) d) }
+    requires order { (k : ℕ) (d : Part) → k + 1 < length sorted.now
+        → IsInOrder (slice_index_or sorted.now k d) (slice_index_or sorted.now (k + 1) d) }
     ensures { result ≡ are_parts links.now assets.now sorted.now }
 {
     if !are_inside(links, assets, sorted) {
@@ -116,7 +115,7 @@ pub fn are_gone(
     alloc: Global,
     links: &[Link],
     assets: &[Asset],
-    routes: &[RouteEntry],
+    routes: &[RouteRow],
     entered: &[Part],
     gone: &[Gone],
 ) -> Result<bool, AllocError>
@@ -125,7 +124,8 @@ pub fn are_gone(
     requires courses { are_courses links.now (route_courses routes.now) ≡ true }
     requires spans { list_all (fits_route assets.now) routes.now ≡ true }
     requires entered { are_entered links.now assets.now entered.now ≡ true }
-    ensures { IfOk result (λ sound. sound ≡ are_gone links.now assets.now (route_spans routes.now) entered.now gone.now) }
+    ensures { IfOk result (λ sound. sound ≡ are_gone links.now assets.now
+        (route_spans routes.now) entered.now gone.now) }
 {
     if !gone_rise(gone) {
         return Ok(false);

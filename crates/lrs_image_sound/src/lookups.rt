@@ -15,7 +15,8 @@ use lrs_events::{Asset, Class, ClassName};
 /// The link of this number, by binary search.
 fn link_of(links: &[Link], number: u32) -> Option<Link>
     requires order { are_links links.now ≡ true }
-    ensures { (test : Link → Bool) → list_any (λ l. nat_eq l.number number && test l) links.now ≡ option_map_or test result false }
+    ensures { (test : Link → Bool) → list_any (λ l. nat_eq l.number number && test l) links.now
+        ≡ option_map_or test result false }
 {
     match links.binary_search_by_key(&number, |link| link.number) {
         Ok(at) => Some(links[at]),
@@ -26,7 +27,8 @@ fn link_of(links: &[Link], number: u32) -> Option<Link>
 /// The asset of this number, by binary search.
 pub(crate) fn asset_of(assets: &[Asset], number: u64) -> Option<Asset>
     requires order { each_two asset_before assets.now ≡ true }
-    ensures { (test : Asset → Bool) → list_any (λ a. nat_eq a.number number && test a) assets.now ≡ option_map_or test result false }
+    ensures { (test : Asset → Bool) → list_any (λ a. nat_eq a.number number && test a) assets.now
+        ≡ option_map_or test result false }
 {
     match assets.binary_search_by_key(&number, |asset| asset.number) {
         Ok(at) => Some(assets[at]),
@@ -59,7 +61,8 @@ pub(crate) fn knows_asset(assets: &[Asset], number: u64) -> bool
 /// Whether there is an asset of this number and class.
 pub(crate) fn is_of_class(assets: &[Asset], number: u64, class: ClassName) -> bool
     requires order { each_two asset_before assets.now ≡ true }
-    ensures { result ≡ list_any (λ a. nat_eq a.number number && same_name a.class class) assets.now }
+    ensures { result ≡ list_any (λ a. nat_eq a.number number
+        && same_name a.class class) assets.now }
 {
     match asset_of(assets, number) {
         Some(asset) => asset.class == class,

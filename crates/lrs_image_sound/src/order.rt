@@ -9,7 +9,7 @@ ghost use Rattle.lrs_image_sound.specs.Tables.{route_before};
 
 use lrs_element::Link;
 use lrs_events::{Asset, Class, Gone, LinkSide, Part};
-use lrs_machine::RouteEntry;
+use lrs_machine::RouteRow;
 
 /// Whether links are in the order of their numbers.
 pub fn are_links(links: &[Link]) -> bool
@@ -33,7 +33,7 @@ pub(crate) fn assets_rise(assets: &[Asset]) -> bool
 }
 
 /// Whether routes are in the order of their names.
-pub(crate) fn routes_rise(routes: &[RouteEntry]) -> bool
+pub(crate) fn routes_rise(routes: &[RouteRow]) -> bool
     ensures { result ≡ each_two route_before routes.now }
 {
     routes.is_sorted_by(|a, b| a.route.name.bytes().cmp(b.route.name.bytes()).is_lt())
@@ -48,7 +48,8 @@ fn side_number(side: LinkSide) -> u64
     }
 }
 
-fn part_key(part: &Part) -> [u64; 5]
+/// What a row of the ledger of what was entered is sorted by: edit, asset, link, start and side.
+pub fn part_key(part: &Part) -> [u64; 5]
     ensures { result ≡ part_key part.now }
 {
     [
@@ -60,7 +61,8 @@ fn part_key(part: &Part) -> [u64; 5]
     ]
 }
 
-fn gone_key(gone: &Gone) -> [u64; 6]
+/// What a row of the ledger of what is gone is sorted by: edit, reason, asset, link, start and side.
+pub fn gone_key(gone: &Gone) -> [u64; 6]
     ensures { result ≡ gone_key gone.now }
 {
     [

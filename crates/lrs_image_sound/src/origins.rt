@@ -32,7 +32,8 @@ fn sort(numbers: &mut Vec<u64>)
 
 /// The numbers of the assets of entered parts, in order.
 fn entered_numbers(alloc: Global, entered: &[Part]) -> Result<Vec<u64>, AllocError>
-    ensures permutation { IfOk result (λ numbers. IsPermutation (map (λ p. p.asset) entered.now) numbers.items) }
+    ensures permutation { IfOk result (λ numbers.
+        IsPermutation (map (λ p. p.asset) entered.now) numbers.items) }
     ensures sorted { IfOk result (λ numbers. IsSorted nat_cmp numbers.items) }
 {
     let mut numbers = numbers_of(alloc, entered)?;
@@ -63,7 +64,7 @@ fn agrees(assets: &[Asset], part: &Part) -> bool
     ensures { result ≡ agrees_with_all assets.now part.now }
 {
     match asset_of(assets, part.asset) {
-        Some(asset) => part.edit == asset.entry,
+        Some(asset) => part.edit == asset.entered_by,
         None => true,
     }
 }

@@ -11,7 +11,7 @@ use crate::exclusive::keep_exclusive;
 use crate::holdings::held_parts;
 use crate::lookups::is_of_class;
 use lrs_events::{Asset, Class, Span};
-use lrs_machine::RouteEntry;
+use lrs_machine::RouteRow;
 use std::alloc::{AllocError, Global};
 
 fn end_by(rows: &[Span], length: u64) -> bool
@@ -21,24 +21,24 @@ fn end_by(rows: &[Span], length: u64) -> bool
 }
 
 /// Whether the rows of a route end on it. That they are canonical their type says.
-fn end_on_route(entry: &RouteEntry) -> bool
-    ensures { result ≡ rows_end_on entry.now }
+fn end_on_route(route_row: &RouteRow) -> bool
+    ensures { result ≡ rows_end_on route_row.now }
 {
-    end_by(entry.spans.rows(), entry.route.course.len())
+    end_by(route_row.spans.rows(), route_row.route.course.len())
 }
 
-fn end_on_routes(routes: &[RouteEntry]) -> bool
+fn end_on_routes(routes: &[RouteRow]) -> bool
     ensures { result ≡ list_all rows_end_on routes.now }
 {
-    routes.iter().all(|entry| end_on_route(entry))
+    routes.iter().all(|route_row| end_on_route(route_row))
 }
 
-fn all_rows(alloc: Global, routes: &[RouteEntry]) -> Result<Vec<Span>, AllocError>
+fn all_rows(alloc: Global, routes: &[RouteRow]) -> Result<Vec<Span>, AllocError>
     ensures { IfOk result (λ rows. rows.items ≡ flat_map (λ e. e.spans) routes.now) }
 {
     let mut rows = Vec::new(alloc);
-    for entry in routes {
-        rows.extend_from_slice(entry.spans.rows())?;
+    for route_row in routes {
+        rows.extend_from_slice(route_row.spans.rows())?;
     }
     Ok(rows)
 }
@@ -50,7 +50,7 @@ fn sort_by_asset(rows: &mut Vec<Span>)
 }
 
 /// The rows of all routes, by asset: each asset is then looked for near the one before.
-fn rows_by_asset(alloc: Global, routes: &[RouteEntry]) -> Result<Vec<Span>, AllocError>
+fn rows_by_asset(alloc: Global, routes: &[RouteRow]) -> Result<Vec<Span>, AllocError>
     ensures { IfOk result (λ rows. IsPermutation (flat_map (λ e. e.spans) routes.now) rows.items) }
 {
     let mut rows = all_rows(alloc, routes)?;
@@ -73,7 +73,7 @@ fn are_known(assets: &[Asset], rows: &[Span]) -> bool
 }
 
 /// Whether the rows of each route end on it and are of known assets.
-fn fit_routes(alloc: Global, assets: &[Asset], routes: &[RouteEntry]) -> Result<bool, AllocError>
+fn fit_routes(alloc: Global, assets: &[Asset], routes: &[RouteRow]) -> Result<bool, AllocError>
     requires { each_two asset_before assets.now ≡ true }
     ensures { IfOk result (λ fit. fit ≡ list_all (fits_route assets.now) routes.now) }
 {
@@ -93,11 +93,13 @@ pub fn are_spans(
     alloc: Global,
     classes: &[Class],
     assets: &[Asset],
-    routes: &[RouteEntry],
+    routes: &[RouteRow],
 ) -> Result<bool, AllocError>
     requires assets { each_two asset_before assets.now ≡ true }
     requires classes { each_two class_before classes.now ≡ true }
-    ensures { IfOk result (λ sound. (links : List Link) → are_courses links (route_courses routes.now) ≡ true → sound ≡ are_spans links classes.now assets.now (route_spans routes.now)) }
+    ensures { IfOk result (λ sound. (links : List Link)
+        → are_courses links (route_courses routes.now) ≡ true
+        → sound ≡ are_spans links classes.now assets.now (route_spans routes.now)) }
 {
     let fit = fit_routes(alloc, assets, routes)?;
     if !fit {

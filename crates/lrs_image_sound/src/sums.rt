@@ -24,7 +24,8 @@ fn carried(part: &Part, last: u64, sum: u64) -> u64
 
 /// Whether parts in the order of their lines have at most so many places of each asset.
 fn sums_are_within(sorted: &[Part], most: u64) -> bool
-    requires order { (k : ℕ) (d : Part) → k + 1 < length sorted.now → IsInOrder (slice_index_or sorted.now k d) (slice_index_or sorted.now (k + 1) d) }
+    requires order { (k : ℕ) (d : Part) → k + 1 < length sorted.now
+        → IsInOrder (slice_index_or sorted.now k d) (slice_index_or sorted.now (k + 1) d) }
     ensures within { OnTrue result ((asset : ℕ) → pairs_of asset sorted.now ≤ most) }
     ensures beyond { OnFalse result ((asset : ℕ) × (most < pairs_of asset sorted.now)) }
 {
@@ -44,7 +45,8 @@ fn sums_are_within(sorted: &[Part], most: u64) -> bool
 
 /// Whether parts in the order of their lines have at most so many places of each asset.
 pub(crate) fn have_few_places(sorted: &[Part], most: u64) -> bool
-    requires order { (k : ℕ) (d : Part) → k + 1 < length sorted.now → IsInOrder (slice_index_or sorted.now k d) (slice_index_or sorted.now (k + 1) d) }
+    requires order { (k : ℕ) (d : Part) → k + 1 < length sorted.now
+        → IsInOrder (slice_index_or sorted.now k d) (slice_index_or sorted.now (k + 1) d) }
     ensures { IsTrue result ↔ ((asset : ℕ) → pairs_of asset sorted.now ≤ most) }
 {
     sums_are_within(sorted, most)

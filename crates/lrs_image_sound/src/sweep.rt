@@ -19,8 +19,12 @@ fn share_nothing(x: &Part, y: &Part) -> bool
 }
 
 fn neighbours_share_nothing(parts: &[Part]) -> bool
-    ensures all { OnTrue result ((k : ℕ) (d : Part) → k + 1 < length parts.now → share_nothing (slice_index_or parts.now k d) (slice_index_or parts.now (k + 1) d) ≡ true) }
-    ensures some { OnFalse result ((k : ℕ) × (k + 1 < length parts.now) × ((d : Part) → share_nothing (slice_index_or parts.now k d) (slice_index_or parts.now (k + 1) d) ≡ false)) }
+    ensures all { OnTrue result ((k : ℕ) (d : Part) → k + 1 < length parts.now
+        → share_nothing (slice_index_or parts.now k d) (slice_index_or parts.now (k + 1) d)
+        ≡ true) }
+    ensures some { OnFalse result ((k : ℕ) × (k + 1 < length parts.now)
+        × ((d : Part) → share_nothing (slice_index_or parts.now k d)
+        (slice_index_or parts.now (k + 1) d) ≡ false)) }
 {
     for i in 1..parts.len() {
         if !share_nothing(&parts[i - 1], &parts[i]) {
@@ -41,7 +45,9 @@ fn line_key(part: &Part) -> ((u64, u32, bool), u32)
 
 fn sort_by_line(parts: &mut Vec<Part>)
     ensures permutation { IsPermutation parts.old.items parts.new.items }
-    ensures sorted { (k : ℕ) (d : Part) → k + 1 < length parts.new.items → IsInOrder (slice_index_or parts.new.items k d) (slice_index_or parts.new.items (k + 1) d) }
+    ensures sorted { (k : ℕ) (d : Part) → k + 1 < length parts.new.items
+        → IsInOrder (slice_index_or parts.new.items k d)
+        (slice_index_or parts.new.items (k + 1) d) }
 {
     parts.sort_unstable_by_key(|part| line_key(part));
 }
@@ -49,7 +55,8 @@ fn sort_by_line(parts: &mut Vec<Part>)
 /// The parts by asset, link, side and start. What is asked of each asset in turn is then asked of one that was near.
 pub(crate) fn sorted_by_line(alloc: Global, parts: &[Part]) -> Result<Vec<Part>, AllocError>
     ensures permutation { IfOk result (λ sorted. IsPermutation parts.now sorted.items) }
-    ensures sorted { IfOk result (λ sorted. (k : ℕ) (d : Part) → k + 1 < length sorted.items → IsInOrder (slice_index_or sorted.items k d) (slice_index_or sorted.items (k + 1) d)) }
+    ensures sorted { IfOk result (λ sorted. (k : ℕ) (d : Part) → k + 1 < length sorted.items
+        → IsInOrder (slice_index_or sorted.items k d) (slice_index_or sorted.items (k + 1) d)) }
 {
     let mut sorted = Vec::from_slice(alloc, parts)?;
     sort_by_line(&mut sorted);
@@ -59,7 +66,8 @@ pub(crate) fn sorted_by_line(alloc: Global, parts: &[Part]) -> Result<Vec<Part>,
 /// The same parts by asset, link, side and start.
 pub(crate) fn into_line_order(mut parts: Vec<Part>) -> Vec<Part>
     ensures permutation { IsPermutation parts.items result.items }
-    ensures sorted { (k : ℕ) (d : Part) → k + 1 < length result.items → IsInOrder (slice_index_or result.items k d) (slice_index_or result.items (k + 1) d) }
+    ensures sorted { (k : ℕ) (d : Part) → k + 1 < length result.items
+        → IsInOrder (slice_index_or result.items k d) (slice_index_or result.items (k + 1) d) }
 {
     sort_by_line(&mut parts);
     parts
@@ -69,7 +77,8 @@ pub(crate) fn into_line_order(mut parts: Vec<Part>) -> Vec<Part>
 /// side by side.
 pub(crate) fn do_share_nothing_in_order(sorted: &[Part]) -> bool
     requires filled { AllByRecursion IsFilled sorted.now }
-    requires order { (k : ℕ) (d : Part) → k + 1 < length sorted.now → IsInOrder (slice_index_or sorted.now k d) (slice_index_or sorted.now (k + 1) d) }
+    requires order { (k : ℕ) (d : Part) → k + 1 < length sorted.now
+        → IsInOrder (slice_index_or sorted.now k d) (slice_index_or sorted.now (k + 1) d) }
     ensures { result ≡ each_two share_nothing sorted.now }
 {
     neighbours_share_nothing(sorted)

@@ -7,7 +7,7 @@ use crate::layout;
 use crate::samples::{self, edit};
 use lrs_element::{Link, Piece};
 use lrs_events::{Asset, Class, Gone, Kind, LinkSide, Part, Side, Span};
-use lrs_machine::{Image, RouteEntry};
+use lrs_machine::{Image, RouteRow};
 use lrs_position::{RefName, Referent, RouteName};
 use lrs_report_tests::draws::Draws;
 use std::alloc::AllocGlobal;
@@ -77,7 +77,7 @@ impl Change for Asset {
                 ..*self
             },
             _ => Asset {
-                entry: nudged(draws, self.entry),
+                entered_by: nudged(draws, self.entered_by),
                 ..*self
             },
         }
@@ -176,13 +176,13 @@ fn damage_list<T: Change, R: Abort>(rt: &R, draws: &mut Draws, rows: &mut Vec<T>
 fn damaged(
     rt: &(impl Abort + AllocGlobal),
     draws: &mut Draws,
-    entry: &RouteEntry,
-) -> Option<RouteEntry> {
+    route_row: &RouteRow,
+) -> Option<RouteRow> {
     let alloc = rt.alloc();
-    let mut pieces = Vec::from_slice(alloc, entry.route.course.pieces()).expect(rt, "memory");
-    let mut rows = Vec::from_slice(alloc, entry.spans.rows()).expect(rt, "memory");
-    let mut name = entry.route.name;
-    let mut referent = entry.route.refs.as_slice().first().copied();
+    let mut pieces = Vec::from_slice(alloc, route_row.route.course.pieces()).expect(rt, "memory");
+    let mut rows = Vec::from_slice(alloc, route_row.spans.rows()).expect(rt, "memory");
+    let mut name = route_row.route.name;
+    let mut referent = route_row.route.refs.as_slice().first().copied();
     match draws.below(6) {
         0 => name = RouteName::new(&[b'R', b'0' + draws.below(3) as u8]).unwrap_or(name),
         1 => {
@@ -192,18 +192,18 @@ fn damaged(
         2 | 3 => damage_list(rt, draws, &mut pieces),
         _ => damage_list(rt, draws, &mut rows),
     }
-    let course = layout::course(alloc, &making::long_links(rt), &pieces)?;
+    let course = layout::course(alloc, &samples::long_links(rt), &pieces)?;
     let route = layout::route(alloc, name.bytes(), course, referent)?;
-    layout::entry(alloc, route, &rows)
+    layout::route_row(alloc, route, &rows)
 }
 
 /// Damages the last route, or lets it go where it cannot be what was drawn.
 fn damage_route(rt: &(impl Abort + AllocGlobal), draws: &mut Draws, image: &mut Image) {
-    let Some(entry) = image.routes.items.pop() else {
+    let Some(route_row) = image.routes.items.pop() else {
         return;
     };
-    if let Some(entry) = damaged(rt, draws, &entry) {
-        image.routes.items.push(entry).expect(rt, "memory");
+    if let Some(route_row) = damaged(rt, draws, &route_row) {
+        image.routes.items.push(route_row).expect(rt, "memory");
     }
 }
 

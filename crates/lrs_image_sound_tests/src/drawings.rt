@@ -9,7 +9,7 @@ use crate::samples::{self, class, edits, link};
 use lrs_element::{Link, Piece};
 use lrs_events::{Asset, Class, ClassName, Gone, Kind, LinkSide, Part, Side, Span, Value};
 use lrs_events_spans::Spans;
-use lrs_machine::{Image, RouteEntry};
+use lrs_machine::{Image, RouteRow};
 use lrs_position::{RefName, Referent};
 use lrs_report_tests::draws::Draws;
 use std::alloc::AllocGlobal;
@@ -76,7 +76,7 @@ fn add_assets(rt: &impl Abort, draws: &mut Draws, assets: &mut Vec<Asset>) {
             class: class_name(rt, draws),
             value: Value::new(b"x").expect(rt, "a value"),
             lateral: 0,
-            entry: 1 + draws.below(EDITS),
+            entered_by: 1 + draws.below(EDITS),
         };
         assets.push(asset).expect(rt, "memory");
     }
@@ -188,7 +188,9 @@ fn add_route(
     if pieces.is_empty() {
         return;
     }
-    let course = layout::course(rt.alloc(), &making::long_links(rt), pieces).expect(rt, "a course");
+    let course = layout::course(rt.alloc(), &samples::long_links(rt), pieces).expect(
+        rt, "a course",
+    );
     let length = course.len();
     let referent = referent(rt, draws, number, length);
     let route = layout::route(rt.alloc(), &[b'R', number], course, referent).expect(rt, "a route");
@@ -196,7 +198,7 @@ fn add_route(
     image
         .routes
         .items
-        .push(RouteEntry { route, spans })
+        .push(RouteRow { route, spans })
         .expect(rt, "memory");
 }
 
@@ -289,7 +291,7 @@ fn enter_line(
         };
         let held = plain::holds(image.routes.as_slice(), asset.number, place);
         let part = Part {
-            edit: asset.entry,
+            edit: asset.entered_by,
             asset: asset.number,
             link: link.number,
             from: mm,

@@ -10,16 +10,11 @@ use lrs_element::{Course, CourseFault, Link, Mark, Marks, Piece};
 use lrs_events::Span;
 use lrs_events_spans::Spans;
 use lrs_image_sound::are_links;
-use lrs_machine::RouteEntry;
+use lrs_machine::RouteRow;
 use lrs_measure::Rows;
+use lrs_measure::limits::{LONGEST_LINK, LONGEST_ROUTE};
 use lrs_position::{Referent, Route, RouteName};
 use std::alloc::{AllocError, Global};
-
-/// The length of the longest link in millimetres.
-pub const LONGEST_LINK: u32 = 1_000_000_000;
-
-/// The length of the longest route in millimetres.
-pub const LONGEST_ROUTE: u64 = 10_000_000_000;
 
 /// The link of this number and length, if it can have them.
 pub fn link(number: u32, length: u32) -> Option<Link> {
@@ -128,12 +123,12 @@ pub fn add(spans: &mut Spans, alloc: Global, span: Span) -> Result<bool, AllocEr
 }
 
 /// A route with these rows on it, none where one of them can't be added.
-pub fn entry(alloc: Global, route: Route, rows: &[Span]) -> Option<RouteEntry> {
+pub fn route_row(alloc: Global, route: Route, rows: &[Span]) -> Option<RouteRow> {
     let mut spans = Spans::empty(alloc);
     for row in rows {
         if !add(&mut spans, alloc, *row).ok()? {
             return None;
         }
     }
-    Some(RouteEntry { route, spans })
+    Some(RouteRow { route, spans })
 }

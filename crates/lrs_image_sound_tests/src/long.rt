@@ -3,12 +3,14 @@
 //! Asset 1 lay on the left of all of the long route, and is gone from it. Asset 2 lies on both its sides, which is as
 //! many places as an asset may have. Asset 3 lies on the left of the route of pieces, which is the right of its link.
 
-use crate::layout::{LONGEST_LINK, LONGEST_ROUTE};
-use crate::samples::{asset, back, class, edits, entry, forth, is_sound, long_links, names, rows};
+use crate::samples::{
+    asset, back, class, edits, forth, is_sound, long_links, names, route_row, rows,
+};
 use lrs_element::Piece;
 use lrs_events::{Asset, ClassName, Gone, Kind, LinkSide, Part, Side, Span};
-use lrs_machine::{Image, RouteEntry, Table};
+use lrs_machine::{Image, RouteRow, Table};
 use lrs_measure::Rows;
+use lrs_measure::limits::{LONGEST_LINK, LONGEST_ROUTE};
 use std::alloc::AllocGlobal;
 use std::process::Abort;
 
@@ -27,25 +29,25 @@ fn rail(rt: &impl Abort, asset: u64, from: u64, to: u64, side: Side) -> Span {
 }
 
 /// The route over the whole of ten links, with these rows.
-fn long_route(rt: &(impl Abort + AllocGlobal), rows: &[Span]) -> RouteEntry {
+fn long_route(rt: &(impl Abort + AllocGlobal), rows: &[Span]) -> RouteRow {
     let mut pieces = Vec::new(rt.alloc());
     for link in 1..11 {
         pieces
             .push(forth(link, 0, LONGEST_LINK))
             .expect(rt, "memory");
     }
-    entry(rt, b"A", Some(b"KM0"), &pieces, rows)
+    route_row(rt, b"A", Some(b"KM0"), &pieces, rows)
 }
 
 /// The route back over every other millimetre at the start of link 11, with these rows.
-fn route_of_pieces(rt: &(impl Abort + AllocGlobal), referent: &[u8], rows: &[Span]) -> RouteEntry {
+fn route_of_pieces(rt: &(impl Abort + AllocGlobal), referent: &[u8], rows: &[Span]) -> RouteRow {
     let mut pieces = Vec::new(rt.alloc());
     for place in 0..PIECES {
         pieces
             .push(back(11, 2 * place, 2 * place + 1))
             .expect(rt, "memory");
     }
-    entry(rt, b"B", Some(referent), &pieces, rows)
+    route_row(rt, b"B", Some(referent), &pieces, rows)
 }
 
 fn part(edit: u64, asset: u64, link: u32, side: LinkSide) -> Part {
@@ -94,17 +96,17 @@ fn gone(rt: &(impl Abort + AllocGlobal)) -> Rows<Gone> {
 }
 
 /// The image with these routes.
-fn image_along(rt: &(impl Abort + AllocGlobal), routes: [RouteEntry; 2]) -> Image {
+fn image_along(rt: &(impl Abort + AllocGlobal), routes: [RouteRow; 2]) -> Image {
     let sign = Asset {
-        entry: 1,
+        entered_by: 1,
         ..asset(rt, 1, b"SIGN")
     };
     let first = Asset {
-        entry: 2,
+        entered_by: 2,
         ..asset(rt, 2, b"RAIL")
     };
     let second = Asset {
-        entry: 3,
+        entered_by: 3,
         ..asset(rt, 3, b"RAIL")
     };
     let mut image = Image::empty(rt.alloc());
@@ -176,7 +178,7 @@ fn keys_of_rows(rt: HostRuntime) {
 
 /// The image with another route in the place of that of pieces.
 fn with_second_route(rt: &(impl Abort + AllocGlobal), piece: Piece) -> Image {
-    let second = entry(rt, b"B", None, &[piece], &[]);
+    let second = route_row(rt, b"B", None, &[piece], &[]);
     image_along(rt, [long_route(rt, &[whole_route(rt)]), second])
 }
 
@@ -348,7 +350,7 @@ fn edits_and_origins(rt: HostRuntime) {
     names(&rt, Table::Edit, fewer);
     let mut image = long_image(&rt);
     if let Some(last) = image.assets.items.last_mut() {
-        last.entry = 2;
+        last.entered_by = 2;
     }
     names(&rt, Table::Origin, image);
 }

@@ -7,7 +7,7 @@ use crate::layout;
 use lrs_element::{Link, Piece};
 use lrs_events::{Asset, Class, ClassName, Gone, Kind, LinkSide, Part, Side, Span, Value};
 use lrs_image_sound::first_unsound;
-use lrs_machine::{Command, Edit, Image, Key, RouteEntry};
+use lrs_machine::{Command, Edit, Image, Key, RouteRow};
 use lrs_position::{RefName, Referent};
 use std::alloc::{AllocGlobal, Global};
 use std::process::Abort;
@@ -33,7 +33,7 @@ fn told(from: u32, to: u32) -> Part {
 }
 
 /// The only route, back over all of link 1, with a row and a referent.
-fn route(alloc: Global, links: &[Link]) -> Option<RouteEntry> {
+fn route(alloc: Global, links: &[Link]) -> Option<RouteRow> {
     let referent = Referent {
         name: RefName::new(b"KM1")?,
         at: 0,
@@ -53,7 +53,7 @@ fn route(alloc: Global, links: &[Link]) -> Option<RouteEntry> {
     };
     let course = layout::course(alloc, links, &[piece])?;
     let route = layout::route(alloc, b"A1", course, Some(referent))?;
-    layout::entry(alloc, route, &[row])
+    layout::route_row(alloc, route, &[row])
 }
 
 fn lamp() -> Option<Asset> {
@@ -62,7 +62,7 @@ fn lamp() -> Option<Asset> {
         class: signs()?.name,
         value: Value::new(b"x")?,
         lateral: 0,
-        entry: 1,
+        entered_by: 1,
     })
 }
 

@@ -3,7 +3,7 @@
 
 use lrs_element::{Link, Piece};
 use lrs_events::{Asset, Class, Gone, Kind, LinkSide, Part, Side, Span};
-use lrs_machine::{Image, RouteEntry, Table};
+use lrs_machine::{Image, RouteRow, Table};
 use std::alloc::AllocGlobal;
 use std::process::Abort;
 
@@ -86,9 +86,9 @@ fn row_holds(pieces: &[Piece], row: &Span, place: Place) -> bool {
     false
 }
 
-fn entry_holds(entry: &RouteEntry, asset: u64, place: Place) -> bool {
-    for row in entry.spans.rows() {
-        if row.asset == asset && row_holds(entry.route.course.pieces(), row, place) {
+fn entry_holds(route_row: &RouteRow, asset: u64, place: Place) -> bool {
+    for row in route_row.spans.rows() {
+        if row.asset == asset && row_holds(route_row.route.course.pieces(), row, place) {
             return true;
         }
     }
@@ -96,8 +96,10 @@ fn entry_holds(entry: &RouteEntry, asset: u64, place: Place) -> bool {
 }
 
 /// Whether a row of some route holds the place for the asset.
-pub fn holds(routes: &[RouteEntry], asset: u64, place: Place) -> bool {
-    routes.iter().any(|entry| entry_holds(entry, asset, place))
+pub fn holds(routes: &[RouteRow], asset: u64, place: Place) -> bool {
+    routes
+        .iter()
+        .any(|route_row| entry_holds(route_row, asset, place))
 }
 
 fn has_link(links: &[Link], number: u32, mm: u32) -> bool {
@@ -130,9 +132,9 @@ fn are_assets(image: &Image) -> bool {
         && assets.len() <= 1_000_000
 }
 
-fn lies_on_links(links: &[Link], entry: &RouteEntry) -> bool {
-    for at in 0..entry.route.course.len() {
-        if let Some((link, mm, _)) = ground(entry.route.course.pieces(), at) {
+fn lies_on_links(links: &[Link], route_row: &RouteRow) -> bool {
+    for at in 0..route_row.route.course.len() {
+        if let Some((link, mm, _)) = ground(route_row.route.course.pieces(), at) {
             if !has_link(links, link, mm) {
                 return false;
             }
@@ -142,10 +144,10 @@ fn lies_on_links(links: &[Link], entry: &RouteEntry) -> bool {
 }
 
 /// How often the courses run over the millimetre.
-fn runs(routes: &[RouteEntry], place: Place) -> u64 {
+fn runs(routes: &[RouteRow], place: Place) -> u64 {
     let mut count = 0u64;
-    for entry in routes {
-        for piece in entry.route.course.pieces() {
+    for route_row in routes {
+        for piece in route_row.route.course.pieces() {
             if piece.link == place.link && piece.from <= place.mm && place.mm < piece.to {
                 count = count.saturating_add(1);
             }
@@ -158,13 +160,15 @@ fn are_courses(image: &Image) -> bool {
     let links = image.links.as_slice();
     let routes = image.routes.as_slice();
     each_two(routes, |a, b| a.route.name < b.route.name)
-        && routes.iter().all(|entry| lies_on_links(links, entry))
+        && routes
+            .iter()
+            .all(|route_row| lies_on_links(links, route_row))
         && at_each_place(links, |place| runs(routes, place) <= 1)
         && routes.len() <= 10_000
 }
 
 /// Whether no referent of the one route has the name of one of the other.
-fn share_no_name(a: &RouteEntry, b: &RouteEntry) -> bool {
+fn share_no_name(a: &RouteRow, b: &RouteRow) -> bool {
     let others = b.route.refs.as_slice();
     a.route.refs.as_slice().iter().all(|referent| !others
         .iter()
@@ -176,9 +180,9 @@ fn is_span(assets: &[Asset], length: u64, row: &Span) -> bool {
         && assets.iter().any(|asset| asset.number == row.asset && asset.class == row.class)
 }
 
-fn are_spans_of(assets: &[Asset], entry: &RouteEntry) -> bool {
-    let length = entry.route.course.len();
-    let rows = entry.spans.rows();
+fn are_spans_of(assets: &[Asset], route_row: &RouteRow) -> bool {
+    let length = route_row.route.course.len();
+    let rows = route_row.spans.rows();
     rows.iter().all(|row| is_span(assets, length, row))
 }
 
@@ -204,7 +208,9 @@ fn are_spans(image: &Image) -> bool {
     let assets = image.assets.as_slice();
     let routes = image.routes.as_slice();
     let classes = image.classes.as_slice();
-    routes.iter().all(|entry| are_spans_of(assets, entry))
+    routes
+        .iter()
+        .all(|route_row| are_spans_of(assets, route_row))
         && classes.iter().all(|class| keeps_exclusive(image, class))
 }
 
@@ -337,7 +343,7 @@ fn are_edits(image: &Image) -> bool {
 fn is_origin(image: &Image, asset: &Asset) -> bool {
     let entered = image.entered.as_slice();
     entered.iter().any(|part| part.asset == asset.number)
-        && entered.iter().all(|part| part.asset != asset.number || part.edit == asset.entry)
+        && entered.iter().all(|part| part.asset != asset.number || part.edit == asset.entered_by)
 }
 
 /// The first unsound table.

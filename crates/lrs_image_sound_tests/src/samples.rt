@@ -1,11 +1,12 @@
 //! Rows and routes for tests, and the one call that each test makes.
 
-use crate::layout::{self, LONGEST_LINK};
+use crate::layout;
 use lrs_element::{Link, Piece};
 use lrs_events::{Asset, Class, ClassName, Kind, Span, Value};
 use lrs_image_sound::first_unsound;
-use lrs_machine::{Command, Edit, Image, Key, RouteEntry, Table};
+use lrs_machine::{Command, Edit, Image, Key, RouteRow, Table};
 use lrs_measure::Rows;
+use lrs_measure::limits::LONGEST_LINK;
 use lrs_position::{RefName, Referent};
 use std::alloc::AllocGlobal;
 use std::process::Abort;
@@ -32,7 +33,7 @@ pub fn rows<T, const N: usize>(rt: &(impl Abort + AllocGlobal), rows: [T; N]) ->
 
 /// The link of this number and length.
 pub fn link(rt: &impl Abort, number: u32, length: u32) -> Link {
-    laying::link(number, length).expect(rt, "a link")
+    layout::link(number, length).expect(rt, "a link")
 }
 
 /// Links 1 to 11, each as long as can be.
@@ -59,7 +60,7 @@ pub fn asset(rt: &impl Abort, number: u64, class: &[u8]) -> Asset {
         class: ClassName::new(class).expect(rt, "a class name"),
         value: Value::new(b"80").expect(rt, "a value"),
         lateral: 0,
-        entry: 8,
+        entered_by: 8,
     }
 }
 
@@ -84,20 +85,20 @@ pub fn back(link: u32, from: u32, to: u32) -> Piece {
 }
 
 /// A route of this name with rows on it; its referent stands in its first millimetre.
-pub fn entry(
+pub fn route_row(
     rt: &(impl Abort + AllocGlobal),
     name: &[u8],
     referent: Option<&[u8]>,
     pieces: &[Piece],
     rows: &[Span],
-) -> RouteEntry {
+) -> RouteRow {
     let referent = referent.map(|name| Referent {
         name: RefName::new(name).expect(rt, "a referent name"),
         at: 0,
     });
-    let course = laying::course(rt.alloc(), &long_links(rt), pieces).expect(rt, "a course");
-    let route = laying::route(rt.alloc(), name, course, referent).expect(rt, "a route");
-    laying::entry(rt.alloc(), route, rows).expect(rt, "rows of spans")
+    let course = layout::course(rt.alloc(), &long_links(rt), pieces).expect(rt, "a course");
+    let route = layout::route(rt.alloc(), name, course, referent).expect(rt, "a route");
+    layout::route_row(rt.alloc(), route, rows).expect(rt, "rows of spans")
 }
 
 /// An edit with this key.

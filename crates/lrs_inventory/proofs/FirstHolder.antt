@@ -6,7 +6,7 @@ use Rattle.std.specs.Prelude.{◌&&◌, nat_eq, nat_le, slice_get, slice_range}
 use Rattle.std.specs.List.{list_any, list_all}
 use Rattle.std.specs.Option.{option_map}
 use Rattle.std.specs.Cmp.Lexicographic.{bytes_decides}
-use Rattle.lrs_inventory.specs.Prelude.{each_two, Name, same_name, Ground, Asset, B, Span, Place, places_on, are_rows, RouteEntry, Image, state_of, asset_entry, IsSound, asset_before, is_span, are_spans_of}
+use Rattle.lrs_inventory.specs.Prelude.{each_two, Name, same_name, Ground, Asset, B, Span, Place, places_on, are_rows, RouteRow, Image, state_of, asset_entry, IsSound, asset_before, is_span, are_spans_of}
 use Rattle.lrs_events.specs.declared.side.Side.{Side}
 use Rattle.lrs_events.specs.declared.side.Side.TheVariants.{L, R}
 use Rattle.lrs_events.specs.declared.side.LinkSide.{LinkSide}
@@ -109,10 +109,10 @@ found_entry test (y ∷ ys) =
 
 -- ---- the rows of a route and their assets
 
-abbrev pub spans_entry : RouteEntry → RouteSpans
+abbrev pub spans_entry : RouteRow → RouteSpans
 spans_entry f = record { course = f.route.course; rows = f.spans }
 
-module _ (i : Image) (r : RouteEntry) (sound : IsSound i) (m : In r i.routes) where
+module _ (i : Image) (r : RouteRow) (sound : IsSound i) (m : In r i.routes) where
   pub row_tests : are_spans_of i.assets (spans_entry r) ≡ true
   row_tests = all_at (are_spans_of i.assets) (spans_entry r) (spans_of i)
       (and_parts (list_all (are_spans_of i.assets) (spans_of i)) (list_all (keeps_exclusive i.links i.assets (spans_of i)) i.classes) (passes i sound).spans).0 (In-map spans_entry r i.routes m)

@@ -7,14 +7,14 @@ use Rattle.std.proofs.lemmas.List.Concat.{flat_map-append}
 use Rattle.std.proofs.lemmas.List.Folds.{list_any-append, find-append}
 use Rattle.std.specs.Prelude.{◌||◌, ◌&&◌, not, nat_le, nat_eq, is_some, map}
 use Rattle.std.specs.Option.{option_map, option_or}
-use Rattle.lrs_inventory.specs.Prelude.{each_two, Name, Link, Piece, Ground, Millimetre, course_of, expand, meets, runs_over, Stretches, is_run_once, IsGroundOf, is_route_course, differs, Image, RouteEntry, route_entry, state_of, RouteCourse, is_on_a_link, IsSound}
+use Rattle.lrs_inventory.specs.Prelude.{each_two, Name, Link, Piece, Ground, Millimetre, course_of, expand, meets, runs_over, Stretches, is_run_once, IsGroundOf, is_route_course, differs, Image, RouteRow, route_entry, state_of, RouteCourse, is_on_a_link, IsSound}
 use Rattle.lrs_element.specs.Course.{is_at}
 use Rattle.lrs_position_index.specs.Ground.{route_over, is_shared, HasGained, AreWhole, StaysWhole}
 use Rattle.lrs_position_index.specs.Met.{RunsBetween}
 use Rattle.lrs_position_index.proofs.Sharing.{same_test}
 use Rattle.lrs_position_index.proofs.Once.{once_both, front}
 use Rattle.lrs_position_index.proofs.Pieces.{across, behind}
-use Rattle.lrs_machine.specs.Bounds.{most_routes}
+use Rattle.lrs_measure.specs.Limits.{most_routes}
 use Rattle.lrs_machine.specs.Machine.{is_taken}
 use Rattle.lrs_machine.specs.Sound.{course_before, is_course, courses_of}
 use Rattle.lrs_machine.proofs.Members.{any_found, any_of, list_any-map}
@@ -31,10 +31,10 @@ taken_is i p = list_any-map (λ route. meets (expand p) route.1.course) route_en
 
 -- ---- a sound image runs over each millimetre once
 
-abbrev pub ground_of : List RouteEntry → List Ground
+abbrev pub ground_of : List RouteRow → List Ground
 ground_of es = flat_map (λ e. e.route.course) es
 
-abbrev course_entry : RouteEntry → RouteCourse
+abbrev course_entry : RouteRow → RouteCourse
 course_entry e = record { route = e.route.name; entries = e.route.course }
 
 abbrev apart : RouteCourse → RouteCourse → Bool
@@ -52,13 +52,13 @@ meets-append xs ys zs h k = is_false (meets xs (ys ++ zs)) (λ t.
 meets_none : (xs : List Ground) → meets xs [] ≡ false
 meets_none xs = is_false (meets xs []) (λ t. let a = any_found (λ g. runs_over [] (g.link, g.mm)) xs t in absurd (cc a.2))
 
-apart_from_all : (c : RouteCourse) (es : List RouteEntry) → list_all (apart c) (map course_entry es) ≡ true → meets c.entries (ground_of es) ≡ false
+apart_from_all : (c : RouteCourse) (es : List RouteRow) → list_all (apart c) (map course_entry es) ≡ true → meets c.entries (ground_of es) ≡ false
 apart_from_all c [] h = meets_none c.entries
 apart_from_all c (e ∷ es) h =
     let u = and_parts (apart c (course_entry e)) (list_all (apart c) (map course_entry es)) h in
     meets-append c.entries e.route.course (ground_of es) (not-true _ u.0) (apart_from_all c es u.1)
 
-once_of : (links : List Link) (es : List RouteEntry) → list_all (is_course links) (map course_entry es) ≡ true → each_two apart (map course_entry es) ≡ true → is_run_once (ground_of es) ≡ true
+once_of : (links : List Link) (es : List RouteRow) → list_all (is_course links) (map course_entry es) ≡ true → each_two apart (map course_entry es) ≡ true → is_run_once (ground_of es) ≡ true
 once_of links [] h k = refl
 once_of links (e ∷ es) h k =
     let u = and_parts (is_course links (course_entry e)) (list_all (is_course links) (map course_entry es)) h in
@@ -77,17 +77,17 @@ run_once i s =
 -- ---- which route runs over a millimetre
 
 -- where no route runs
-none_over : (es : List RouteEntry) (m : Millimetre) → runs_over (ground_of es) m ≡ false → route_on es m ≡ None
-none_over es m h = ap (option_map (λ (e : RouteEntry). e.route.name)) (none_found (λ e. runs_over e.route.course m) es (sym (over_routes es m) ∙ h))
+none_over : (es : List RouteRow) (m : Millimetre) → runs_over (ground_of es) m ≡ false → route_on es m ≡ None
+none_over es m h = ap (option_map (λ (e : RouteRow). e.route.name)) (none_found (λ e. runs_over e.route.course m) es (sym (over_routes es m) ∙ h))
   where
-    over_routes : (es : List RouteEntry) (m : Millimetre) → runs_over (ground_of es) m ≡ list_any (λ e. runs_over e.route.course m) es
+    over_routes : (es : List RouteRow) (m : Millimetre) → runs_over (ground_of es) m ≡ list_any (λ e. runs_over e.route.course m) es
     over_routes [] m = refl
     over_routes (e ∷ es) m = list_any-append (is_at m) e.route.course (ground_of es) ∙ ap (λ (b : Bool). runs_over e.route.course m || b) (over_routes es m)
 
-some_over : (es : List RouteEntry) (m : Millimetre) → is_some (route_on es m) ≡ list_any (λ e. runs_over e.route.course m) es
+some_over : (es : List RouteRow) (m : Millimetre) → is_some (route_on es m) ≡ list_any (λ e. runs_over e.route.course m) es
 some_over [] m = refl
 some_over (e ∷ es) m =
-    elim (runs_over e.route.course m) as (λ b. is_some (option_map (λ (e : RouteEntry). e.route.name) (cond b (Some e) (find (λ e. runs_over e.route.course m) es))) ≡ (b || list_any (λ e. runs_over e.route.course m) es)) [
+    elim (runs_over e.route.course m) as (λ b. is_some (option_map (λ (e : RouteRow). e.route.name) (cond b (Some e) (find (λ e. runs_over e.route.course m) es))) ≡ (b || list_any (λ e. runs_over e.route.course m) es)) [
       | true ↦ refl
       | false ↦ some_over es m
     ]
@@ -104,17 +104,17 @@ free_where kept xs h = is_false (is_shared kept xs) (λ t.
 
 -- ---- one route after another
 
-module _ (es : List RouteEntry) (i : ℕ) (e : RouteEntry) (lt : i < length es) (is : e ≡ get_or es i e) where
+module _ (es : List RouteRow) (i : ℕ) (e : RouteRow) (lt : i < length es) (is : e ≡ get_or es i e) where
   one_more : take (i + 1) es ≡ take i es ++ e ∷ []
-  one_more = take_more es i e lt ∙ ap (λ (x : RouteEntry). take i es ++ x ∷ []) (sym is)
+  one_more = take_more es i e lt ∙ ap (λ (x : RouteRow). take i es ++ x ∷ []) (sym is)
 
   ground_more : ground_of (take (i + 1) es) ≡ ground_of (take i es) ++ e.route.course
-  ground_more = ap ground_of one_more ∙ flat_map-append (λ (e : RouteEntry). e.route.course) (take i es) (e ∷ []) ∙ ap (λ (xs : List Ground). ground_of (take i es) ++ xs) (append-nil e.route.course)
+  ground_more = ap ground_of one_more ∙ flat_map-append (λ (e : RouteRow). e.route.course) (take i es) (e ∷ []) ∙ ap (λ (xs : List Ground). ground_of (take i es) ++ xs) (append-nil e.route.course)
 
   next_once : is_run_once (ground_of es) ≡ true → is_run_once (ground_of (take i es) ++ e.route.course) ≡ true
   next_once h = subst (λ (xs : List Ground). is_run_once xs ≡ true) ground_more
       (front (ground_of (take (i + 1) es)) (ground_of (drop (i + 1) es))
-      (subst (λ (xs : List Ground). is_run_once xs ≡ true) (ap ground_of (sym (take-append-drop (i + 1) es)) ∙ flat_map-append (λ (e : RouteEntry). e.route.course) (take (i + 1) es) (drop (i + 1) es)) h))
+      (subst (λ (xs : List Ground). is_run_once xs ≡ true) (ap ground_of (sym (take-append-drop (i + 1) es)) ∙ flat_map-append (λ (e : RouteRow). e.route.course) (take (i + 1) es) (drop (i + 1) es)) h))
 
   pub own_once : is_run_once (ground_of es) ≡ true → is_run_once e.route.course ≡ true
   own_once h = behind (ground_of (take i es)) e.route.course (next_once h)
@@ -134,11 +134,11 @@ module _ (es : List RouteEntry) (i : ℕ) (e : RouteEntry) (lt : i < length es) 
           ∙ ap (λ (xs : List Ground). cond (runs_over xs m) (Some e.route.name) (route_over old m)) same
           ∙ ap (cond (runs_over e.route.course m) (Some e.route.name)) (at.at m)
           ∙ by (runs_over e.route.course m) (find (λ e. runs_over e.route.course m) (take i es)) (none_before once m)
-          ∙ ap (option_map (λ (e : RouteEntry). e.route.name)) (sym (ap (find (λ e. runs_over e.route.course m)) one_more ∙ find-append (λ e. runs_over e.route.course m) (take i es) (e ∷ [])));
+          ∙ ap (option_map (λ (e : RouteRow). e.route.name)) (sym (ap (find (λ e. runs_over e.route.course m)) one_more ∙ find-append (λ e. runs_over e.route.course m) (take i es) (e ∷ [])));
     }
       where
-        by : (b : Bool) (o : Option RouteEntry) → (b ≡ true → option_map (λ (e : RouteEntry). e.route.name) o ≡ None)
-            → cond b (Some e.route.name) (option_map (λ (e : RouteEntry). e.route.name) o) ≡ option_map (λ (e : RouteEntry). e.route.name) (option_or o (cond b (Some e) None))
+        by : (b : Bool) (o : Option RouteRow) → (b ≡ true → option_map (λ (e : RouteRow). e.route.name) o ≡ None)
+            → cond b (Some e.route.name) (option_map (λ (e : RouteRow). e.route.name) o) ≡ option_map (λ (e : RouteRow). e.route.name) (option_or o (cond b (Some e) None))
         by true None h = refl
         by true (Some d) h = absurd (cc (h refl))
         by false None h = refl
@@ -152,7 +152,7 @@ swapped f xs ys t =
     let b = any_found (f a.0) ys a.2 in
     any_of (λ y. list_any (λ x. f x y) xs) b.0 ys b.1 (any_of (λ x. f x b.0) a.0 xs a.1 b.2)
 
-shared_is : (kept : Stretches) (es : List RouteEntry) (xs : List Ground) → IsGroundOf (λ e. e.route.name) (λ e. e.route.course) kept es → is_shared kept xs ≡ list_any (λ e. meets xs e.route.course) es
+shared_is : (kept : Stretches) (es : List RouteRow) (xs : List Ground) → IsGroundOf (λ e. e.route.name) (λ e. e.route.course) kept es → is_shared kept xs ≡ list_any (λ e. meets xs e.route.course) es
 shared_is kept es xs at =
     (λ j. list_any (λ g. (ap (λ (o : Option Name). is_some o) (at.at (g.link, g.mm)) ∙ some_over es (g.link, g.mm)) j) xs)
     ∙ same_test _ _ (swapped (λ g e. runs_over e.route.course (g.link, g.mm)) xs es) (swapped (λ e g. runs_over e.route.course (g.link, g.mm)) es xs)

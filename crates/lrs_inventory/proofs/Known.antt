@@ -8,7 +8,7 @@ use Rattle.std.proofs.lemmas.List.Quantifiers.{position-Some}
 use Rattle.std.specs.Prelude.{is_some}
 use Rattle.std.specs.Option.{option_map}
 use Rattle.std.specs.Cmp.Lexicographic.{nat_list_cmp_total, texts_ties}
-use Rattle.lrs_inventory.specs.Prelude.{Name, name_cmp, same_name, Edit, Image, RouteEntry, state_of, asset_entry, route_entry, Alignment, Link, Asset, Kind, is_named}
+use Rattle.lrs_inventory.specs.Prelude.{Name, name_cmp, same_name, Edit, Image, RouteRow, state_of, asset_entry, route_entry, Alignment, Link, Asset, Kind, is_named}
 use Rattle.lrs_machine.specs.Image.{link_entry}
 use Rattle.lrs_machine.specs.Machine.{place_of_key, line_at}
 use Rattle.lrs_machine.specs.State as state
@@ -57,7 +57,7 @@ module _ (i : Image) where
   -- the value at a name is that of the route of the name
   pub route_value : (name : Name) → get (state_of i).routes name ≡ option_map (λ e. (route_entry e).1) (find (is_named name) i.routes)
   unfolding state_of
-  route_value name = find_row nat_list_cmp_total names_exact route_entry i.routes name ∙ ap (option_map (λ (e : RouteEntry). (route_entry e).1)) (row_found name)
+  route_value name = find_row nat_list_cmp_total names_exact route_entry i.routes name ∙ ap (option_map (λ (e : RouteRow). (route_entry e).1)) (row_found name)
 
 -- ... for what is found in the lists that are seen as the image
 module _ (i seen : Image) (is : i ≡ seen) where
@@ -70,10 +70,10 @@ module _ (i seen : Image) (is : i ≡ seen) where
   pub asset_of : (n : ℕ) (o : Option Asset) → o ≡ find (λ a. is_eq (nat_cmp a.number n)) i.assets → option_map asset_entry o ≡ option_map (λ a. (n, a)) (get (state_of seen).assets n)
   asset_of n o e = ap (option_map asset_entry) e ∙ asset_found i n ∙ ap (λ (j : Image). option_map (λ (a : state.Asset). (n, a)) (get (state_of j).assets n)) is
 
-  pub row_of : (name : Name) (o : Option RouteEntry) → o ≡ find (λ e. is_eq (name_cmp e.route.name name)) i.routes → o ≡ find (is_named name) seen.routes
+  pub row_of : (name : Name) (o : Option RouteRow) → o ≡ find (λ e. is_eq (name_cmp e.route.name name)) i.routes → o ≡ find (is_named name) seen.routes
   row_of name o e = e ∙ row_found i name ∙ ap (λ (j : Image). find (is_named name) j.routes) is
 
-  pub route_of : (name : Name) (o : Option RouteEntry) → o ≡ find (λ e. is_eq (name_cmp e.route.name name)) i.routes → option_map route_entry o ≡ option_map (λ a. (name, a)) (get (state_of seen).routes name)
+  pub route_of : (name : Name) (o : Option RouteRow) → o ≡ find (λ e. is_eq (name_cmp e.route.name name)) i.routes → option_map route_entry o ≡ option_map (λ a. (name, a)) (get (state_of seen).routes name)
   route_of name o e = ap (option_map route_entry) e ∙ route_found i name ∙ ap (λ (j : Image). option_map (λ (a : Alignment). (name, a)) (get (state_of j).routes name)) is
 
 -- ---- edits

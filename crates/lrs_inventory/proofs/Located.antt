@@ -6,7 +6,7 @@ use Rattle.std.proofs.Math.Nat.{mul-div-mul_left}
 use Rattle.std.proofs.lemmas.Bool.{and_parts, eqb-true, leb-true, le-ltb, cases_Bool}
 use Rattle.std.proofs.lemmas.Int.{ints}
 use Rattle.std.specs.Option.{ok_or}
-use Rattle.lrs_inventory.specs.Prelude.{Name, Alignment, alignment_of, Cause, RouteEntry, Image, State, Extent, extent_of, ◌>>◌, ◌>>=◌, state_of, IsSound, is_named}
+use Rattle.lrs_inventory.specs.Prelude.{Name, Alignment, alignment_of, Cause, RouteRow, Image, State, Extent, extent_of, ◌>>◌, ◌>>=◌, state_of, IsSound, is_named}
 use Rattle.lrs_measure.specs.Fraction.{Fraction, IsLowest}
 use Rattle.lrs_position.specs.declared.expression.Expr.{Expr}
 use Rattle.lrs_position.specs.declared.expression.Expr.TheVariants.{Abs, Rel, Int}
@@ -19,7 +19,7 @@ use Rattle.lrs_position.proofs.Located.{located-sound}
 use Rattle.lrs_position.proofs.Answering.{IsSound-from_route}
 use Rattle.lrs_position.proofs.Whole.{rounded_limit}
 use Rattle.lrs_machine.specs.declared.answer.Cause.TheVariants as cause
-use Rattle.lrs_machine.specs.Machine.{extent_between, located_chainage, entry_of_referent, refuse_if}
+use Rattle.lrs_machine.specs.Machine.{extent_between, located_chainage, referent_chainage, refuse_if}
 use Rattle.lrs_machine.proofs.Members.{In}
 use Rattle.lrs_inventory.specs.declared.plan.Stop.{Stop}
 use Rattle.lrs_inventory.specs.declared.plan.Stop.TheVariants.{Refused, Memory}
@@ -52,10 +52,10 @@ same_cell len k d n e dp ep h =
     commute = omega arith
 
 -- a chainage that is located has a denominator
-located_positive : (a : Alignment) (entry_of : Name → Option ℕ) (e : Expr) (x : ℕ × ℕ) → Locates a entry_of e x → 0 < x.1
-located_positive a entry_of (Abs m) x h = h.2
-located_positive a entry_of (Rel name t) x h = h.2
-located_positive a entry_of (Int p) x h = h.3
+located_positive : (a : Alignment) (chainage_on : Name → Option ℕ) (e : Expr) (x : ℕ × ℕ) → Locates a chainage_on e x → 0 < x.1
+located_positive a chainage_on (Abs m) x h = h.2
+located_positive a chainage_on (Rel name t) x h = h.2
+located_positive a chainage_on (Int p) x h = h.3
 
 same_number : (z : ℤ) (n d e : ℕ) → pos 0 ≤ℤ z → z *ℤ pos d ≡ pos (n * e) → unsigned_abs z * d ≡ n * e
 same_number (pos k) n d e from h = ap unsigned_abs h
@@ -69,13 +69,13 @@ fine (Rel name t) h = let d : t.den ≡ 1 = eqb-true _ _ (and_parts _ _ h).0 in 
 fine (Int p) h = let d : p.den ≤ 1_000_000 = leb-true _ _ (and_parts _ _ (and_parts _ _ h).0).0 in le-ltb _ _ (omega arith)
 
 -- an inventory's route is one of its routes
-pub route_in : (i : Image) (r : RouteEntry) → IsRouteIn i r → In r i.routes
+pub route_in : (i : Image) (r : RouteRow) → IsRouteIn i r → In r i.routes
 route_in i r h = by i.routes h
   where
-    some_is : (a b : RouteEntry) → Some a ≡ Some b → b ≡ a
+    some_is : (a b : RouteRow) → Some a ≡ Some b → b ≡ a
     some_is a b w = cc
 
-    by : (rs : List RouteEntry) → list.find (is_named r.route.name) rs ≡ Some r → In r rs
+    by : (rs : List RouteRow) → list.find (is_named r.route.name) rs ≡ Some r → In r rs
     by [] k = absurd (cc k)
     by (y ∷ ys) k = either (cases_Bool (is_named r.route.name y)) (by ys)
       where
@@ -83,7 +83,7 @@ route_in i r h = by i.routes h
         either (inl e) rest = inl (some_is y r (sym (ap (λ b. cond b (Some y) (list.find (is_named r.route.name) ys)) e) ∙ k))
         either (inr e) rest = inr (rest (sym (ap (λ b. cond b (Some y) (list.find (is_named r.route.name) ys)) e) ∙ k))
 
-module _ (i : Image) (r : RouteEntry) (e : Expr) (s : IsSound i) (in_image : IsRouteIn i r) (entered : IsTrue (is_entered e)) (low : IsLowest (number_of e)) where
+module _ (i : Image) (r : RouteRow) (e : Expr) (s : IsSound i) (in_image : IsRouteIn i r) (entered : IsTrue (is_entered e)) (low : IsLowest (number_of e)) where
   abbrev a : Alignment
   a = alignment_of r.route
 
@@ -94,7 +94,7 @@ module _ (i : Image) (r : RouteEntry) (e : Expr) (s : IsSound i) (in_image : IsR
   machine : located_chainage (state_of i) a e ≡ (refuse_if (lacks_referent refs e) cause.NoRef >> ok_or (located a refs e) cause.OffRoute)
   machine = λ j. refuse_if (lacks_referent (found j) e) cause.NoRef >> ok_or (located a (found j) e) cause.OffRoute
     where
-      found : entry_of_referent (state_of i) a ≡ refs
+      found : referent_chainage (state_of i) a ≡ refs
       found = λ j name. referents_found i r s (route_in i r in_image) name j
 
   -- what is asked of an answer

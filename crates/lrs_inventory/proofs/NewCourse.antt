@@ -13,7 +13,7 @@ use Rattle.std.specs.List.{list_any, list_all, position}
 use Rattle.std.specs.Ordering.{nat_cmp, eq_by_cmp}
 use Rattle.lrs_inventory.specs.Prelude.{each_two, Link, Piece, Ground, Mark, is_route, is_route_course, have_marks, are_referents, expand, course_of, runs_over, meets, is_too_long, Cause, Image, state_of, ◌>>◌, refuse_at, differs, is_on_a_link}
 use Rattle.lrs_measure.specs.Lists.{is_nothing}
-use Rattle.lrs_element.specs.Limits.{most_marks, greatest_measure}
+use Rattle.lrs_measure.specs.Limits.{most_marks, greatest_measure}
 use Rattle.lrs_element.specs.Marks.{is_out_of_order, misses_the_end, first_bad_mark, bad_mark}
 use Rattle.lrs_element.specs.Course.{is_at, lacks_link, length_of, is_bad_piece, first_repeated, AreGood}
 use Rattle.lrs_element.specs.Pieces.{piece_len, ground_of}

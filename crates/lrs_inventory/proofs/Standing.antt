@@ -12,7 +12,7 @@ use Rattle.std.specs.List.{filter_map, flat_map, list_any}
 use Rattle.std.specs.Option.{option_or, option_map}
 use Rattle.std.specs.Ordering.{eq_by_cmp}
 use Rattle.std.specs.Cmp.Lexicographic.{nat_list_cmp_total, texts_ties, bytes_decides}
-use Rattle.lrs_inventory.specs.Prelude.{Name, name_cmp, same_name, Ground, Millimetre, Referent, RouteEntry, referent_entry, referents_on}
+use Rattle.lrs_inventory.specs.Prelude.{Name, name_cmp, same_name, Ground, Millimetre, Referent, RouteRow, referent_entry, referents_on}
 use Rattle.lrs_inventory.specs.declared.plan.ReferentPlace.{ReferentPlace}
 use Rattle.lrs_inventory.specs.Changes.{with_referent, without_referent, IsNewReferent}
 use Rattle.lrs_inventory.specs.Places.{Places, referent_among, IsPlaced, HaveCome}
@@ -109,13 +109,13 @@ come_more course rs i r a b c within is h k =
     let f = referent_entry course in
     subst (HaveCome a c) (sym (ap (filter_map f) (take_more rs i r within ∙ ap (λ x. take i rs ++ x ∷ []) (sym is)) ∙ filter_map-append f (take i rs) (r ∷ []))) (then_come a b c _ _ h k)
 
-pub come_routes : (es : List RouteEntry) (i : ℕ) (e : RouteEntry) (a b c : Places) → i < length es → e ≡ get_or es i e → HaveCome a b (flat_map referents_on (take i es)) → HaveCome b c (referents_on e)
+pub come_routes : (es : List RouteRow) (i : ℕ) (e : RouteRow) (a b c : Places) → i < length es → e ≡ get_or es i e → HaveCome a b (flat_map referents_on (take i es)) → HaveCome b c (referents_on e)
     → HaveCome a c (flat_map referents_on (take (i + 1) es))
 come_routes es i e a b c within is h k =
     subst (HaveCome a c) (sym (ap (flat_map referents_on) (take_more es i e within ∙ ap (λ x. take i es ++ x ∷ []) (sym is)) ∙ flat_map-append referents_on (take i es) (e ∷ [])
     ∙ ap (λ xs. flat_map referents_on (take i es) ++ xs) (append-nil (referents_on e)))) (then_come a b c _ _ h k)
 
-pub all_placed : (es : List RouteEntry) (s : Places) → HaveCome empty s (flat_map referents_on es) → IsPlaced s (referent_among es)
+pub all_placed : (es : List RouteRow) (s : Places) → HaveCome empty s (flat_map referents_on es) → IsPlaced s (referent_among es)
 all_placed es s h = record { at = λ name. h.at name ∙ ap (λ o. option_or o (referent_among es name)) (get-empty name_cmp name) }
 
 -- ---- referents that come and go

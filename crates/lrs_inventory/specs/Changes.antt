@@ -1,14 +1,14 @@
 -- What a plan changes of the ground that routes run over, and of where referents stand.
 use Rattle.std.specs.Prelude.{◌≡◌, ◌||◌, true, false, if◌then◌else◌, List, Option, Some, None, is_some}
 use Rattle.std.specs.List.{list_any, AllByRecursion}
-use Rattle.lrs_inventory.specs.Prelude.{Name, same_name, Millimetre, course_of, runs_over, IsFilled, is_run_once, RouteEntry}
+use Rattle.lrs_inventory.specs.Prelude.{Name, same_name, Millimetre, course_of, runs_over, IsFilled, is_run_once, RouteRow}
 use Rattle.lrs_position_index.specs.Routes.{routes_over}
 use Rattle.lrs_inventory.specs.declared.plan.GroundChange.{GroundChange}
 use Rattle.lrs_inventory.specs.declared.plan.ReferentPlace.{ReferentPlace}
 use Rattle.lrs_inventory.specs.declared.plan.ReferentPlaces.{ReferentPlaces}
 
 -- the name of the route that runs over a millimetre
-abbrev pub route_on : List RouteEntry → Millimetre → Option Name
+abbrev pub route_on : List RouteRow → Millimetre → Option Name
 route_on = routes_over (λ e. e.route.name) (λ e. e.route.course)
 
 -- which route runs over a millimetre after the change

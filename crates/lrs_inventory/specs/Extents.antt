@@ -1,7 +1,7 @@
 -- Where positions are on a route of an inventory, and what lies there.
 use Rattle.std.specs.Prelude.{unsigned_abs, ⊤, ◌≡◌, ℕ, ◌≤◌, Some, Result, Ok, Err}
 use Rattle.std.specs.List.{find}
-use Rattle.lrs_inventory.specs.Prelude.{Alignment, Cause, Image, RouteEntry, ◌>>=◌, Extent, State, is_named}
+use Rattle.lrs_inventory.specs.Prelude.{Alignment, Cause, Image, RouteRow, ◌>>=◌, Extent, State, is_named}
 use Rattle.lrs_measure.specs.Fraction.{Fraction}
 use Rattle.lrs_position.specs.declared.expression.Expr.{Expr}
 use Rattle.lrs_position.specs.declared.location.PlaceFault.{PlaceFault}
@@ -13,7 +13,7 @@ use Rattle.lrs_inventory.specs.declared.plan.Stop.{Stop}
 use Rattle.lrs_inventory.specs.declared.plan.Stop.TheVariants.{Refused, Memory}
 
 -- the route with what lies on it is the inventory's route of its name
-abbrev pub IsRouteIn : Image → RouteEntry → Type 0
+abbrev pub IsRouteIn : Image → RouteRow → Type 0
 IsRouteIn i e = find (is_named e.route.name) i.routes ≡ Some e
 
 -- the cause that a fault of a position is; one that is entered is never too fine

@@ -3,7 +3,7 @@ pub use Rattle.lrs_events_rows.specs.Joins.{end_by}
 pub use Rattle.lrs_events_rows.specs.Removals.{is_within, IsRemoval}
 pub use Rattle.lrs_events_rows.specs.declared.removals.Removal.{Removal}
 pub use Rattle.lrs_element.specs.Course.{Millimetre, course_of, runs_over, is_too_long, meets, expand}
-pub use Rattle.lrs_element.specs.Limits.{longest_route}
+pub use Rattle.lrs_measure.specs.Limits.{longest_route}
 pub use Rattle.lrs_element.specs.Pieces.{IsFilled}
 pub use Rattle.lrs_element.specs.declared.link.Ground.{Ground}
 pub use Rattle.lrs_element.specs.declared.link.Link.{Link}
@@ -34,10 +34,10 @@ pub use Rattle.lrs_machine.specs.Sound.{IsSound, route_before, are_spans_of, is_
 pub use Rattle.lrs_machine.specs.State.{State, Retired}
 pub use Rattle.lrs_machine.specs.declared.answer.Cause.{Cause}
 pub use Rattle.lrs_machine.specs.declared.command.Command.{Command}
-pub use Rattle.lrs_machine.specs.declared.command.Entry.{Entry}
+pub use Rattle.lrs_machine.specs.declared.command.NewAsset.{NewAsset}
 pub use Rattle.lrs_machine.specs.declared.image.Edit.{Edit}
 pub use Rattle.lrs_machine.specs.declared.image.Image.{Image}
-pub use Rattle.lrs_machine.specs.declared.image.RouteEntry.{RouteEntry}
+pub use Rattle.lrs_machine.specs.declared.image.RouteRow.{RouteRow}
 pub use Rattle.lrs_measure.specs.Lists.{each_two}
 pub use Rattle.lrs_measure.specs.Ordered.{insert_by}
 pub use Rattle.lrs_measure.specs.Texts.{Name, same_name, name_cmp}

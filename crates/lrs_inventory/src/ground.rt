@@ -8,7 +8,7 @@ ghost use Rattle.lrs_inventory.specs.Changes.{CanChange, CanChangeGround};
 ghost use Rattle.lrs_inventory.specs.Indexes.{IsReady, IsReadyFor, AreWholeFor, made_by, ground_made};
 
 use crate::plan::GroundChange;
-use lrs_machine::RouteEntry;
+use lrs_machine::RouteRow;
 use lrs_position_index::GroundIndex;
 use std::alloc::{AllocError, Global};
 
@@ -16,13 +16,14 @@ use std::alloc::{AllocError, Global};
 ///
 /// # Errors
 /// When memory runs out.
-pub fn ground_of_routes(alloc: Global, routes: &[RouteEntry]) -> Result<GroundIndex, AllocError>
+pub fn ground_of_routes(alloc: Global, routes: &[RouteRow]) -> Result<GroundIndex, AllocError>
     requires once { is_run_once (flat_map (λ e. e.route.course) routes.now) ≡ true }
-    ensures { IfOk result (λ index. IsGroundOf (λ e. e.route.name) (λ e. e.route.course) index routes.now) }
+    ensures { IfOk result (λ index. IsGroundOf (λ e. e.route.name) (λ e.
+        e.route.course) index routes.now) }
 {
     let mut ground = GroundIndex::new(alloc);
-    for entry in routes {
-        ground.add_all(entry.route.name, entry.route.course.pieces())?;
+    for route_row in routes {
+        ground.add_all(route_row.route.name, route_row.route.course.pieces())?;
     }
     Ok(ground)
 }
@@ -37,7 +38,8 @@ pub fn cut_and_add(
 ) -> Result<(), AllocError>
     requires can { CanChangeGround change.now (route_over ground.old) }
     ensures ok { OnOk result (IsReadyFor change.now ground.old ground.new) }
-    ensures err { OnErr result ((m : Millimetre) → route_over ground.new m ≡ route_over ground.old m) }
+    ensures err { OnErr result ((m : Millimetre)
+        → route_over ground.new m ≡ route_over ground.old m) }
 {
     match change {
         Some(change) => cut_and_add_one(ground, change),
@@ -48,7 +50,8 @@ pub fn cut_and_add(
 fn cut_and_add_one(ground: &mut GroundIndex, change: &GroundChange) -> Result<(), AllocError>
     requires can { CanChange change.now (route_over ground.old) }
     ensures ok { OnOk result (IsReady change.now ground.old ground.new) }
-    ensures err { OnErr result ((m : Millimetre) → route_over ground.new m ≡ route_over ground.old m) }
+    ensures err { OnErr result ((m : Millimetre)
+        → route_over ground.new m ≡ route_over ground.old m) }
 {
     ground.cut_at(change.gone.as_slice())?;
     ground.cut_at(change.passed.as_slice())?;
@@ -58,7 +61,8 @@ fn cut_and_add_one(ground: &mut GroundIndex, change: &GroundChange) -> Result<()
 
 /// Takes out again the ground that came. It takes no memory.
 pub fn take_out_added(ground: &mut GroundIndex, change: &Option<GroundChange>)
-    ensures { (before : Stretches) → IsReadyFor change.now before ground.old → (m : Millimetre) → route_over ground.new m ≡ route_over before m }
+    ensures { (before : Stretches) → IsReadyFor change.now before ground.old → (m : Millimetre)
+        → route_over ground.new m ≡ route_over before m }
 {
     if let Some(change) = change {
         ground.remove_added(change.come.as_slice());
@@ -68,7 +72,8 @@ pub fn take_out_added(ground: &mut GroundIndex, change: &Option<GroundChange>)
 /// Frees the ground that goes, and hands over what passes to another route. It takes no memory.
 pub fn free_and_hand_over(ground: &mut GroundIndex, change: &Option<GroundChange>)
     requires whole { AreWholeFor change.now ground.old }
-    ensures { (m : Millimetre) → route_over ground.new m ≡ ground_made change.now (route_over ground.old) m }
+    ensures { (m : Millimetre) → route_over ground.new m
+        ≡ ground_made change.now (route_over ground.old) m }
 {
     if let Some(change) = change {
         ground.free(change.gone.as_slice());

@@ -83,7 +83,8 @@ impl Indexes {
         ground: &Option<GroundChange>,
         come: &Option<ReferentPlace>,
     )
-        ensures { (before : IndexValues) → IsPutIn key.now place ground.now come.now before self.old → TellSame before self.new }
+        ensures { (before : IndexValues) → IsPutIn key.now place ground.now come.now before self.old
+            → TellSame before self.new }
     {
         self.keys.remove(key, place);
         take_out_added(&mut self.ground, ground);
@@ -94,8 +95,11 @@ impl Indexes {
     pub fn let_go(&mut self, ground: &Option<GroundChange>, gone: &[RefName])
         requires whole { AreWholeFor ground.now self.old.ground }
         ensures keys { self.new.keys ≡ self.old.keys }
-        ensures ground { (m : Millimetre) → route_over self.new.ground m ≡ ground_made ground.now (route_over self.old.ground) m }
-        ensures referents { (name : Name) → map.get self.new.referents name ≡ (if list_any (same_name name) gone.now then None else map.get self.old.referents name) }
+        ensures ground { (m : Millimetre) → route_over self.new.ground m
+            ≡ ground_made ground.now (route_over self.old.ground) m }
+        ensures referents { (name : Name) → map.get self.new.referents name
+            ≡
+            (if list_any (same_name name) gone.now then None else map.get self.old.referents name) }
     {
         free_and_hand_over(&mut self.ground, ground);
         self.referents.remove_all(gone);

@@ -10,7 +10,7 @@ mod lookups;
 
 use crate::indexes::Indexes;
 use crate::plan::Plan;
-pub use extents::Stretch;
+pub use extents::RouteStretch;
 use lrs_image::{Change, KeptImage};
 use lrs_machine::{Edit, Image};
 use lrs_measure::TryCopy;

@@ -89,7 +89,8 @@ impl KeyIndex {
 
     /// Takes the key that was put in last out again. It takes no memory.
     pub fn remove(&mut self, key: &Key, place: u64)
-        ensures { (before : KeyPlaces) → IsKeyPutIn key.now place before self.old → HaveSameKeys before self.new }
+        ensures { (before : KeyPlaces) → IsKeyPutIn key.now place before self.old
+            → HaveSameKeys before self.new }
     {
         let digest = digest_of(key);
         match self.earlier.remove(&place) {

@@ -9,7 +9,7 @@ ghost use Rattle.lrs_inventory.specs.Places.{referent_among, IsPlaced, HaveCome}
 
 use crate::plan::ReferentPlace;
 use lrs_element::Course;
-use lrs_machine::RouteEntry;
+use lrs_machine::RouteRow;
 use lrs_position::{RefName, Referent};
 use std::alloc::{AllocError, Global};
 use std::collections::BTreeMap;
@@ -48,19 +48,20 @@ impl ReferentIndex {
     ///
     /// # Errors
     /// When memory runs out.
-    pub fn of_routes(alloc: Global, routes: &[RouteEntry]) -> Result<ReferentIndex, AllocError>
+    pub fn of_routes(alloc: Global, routes: &[RouteRow]) -> Result<ReferentIndex, AllocError>
         ensures { IfOk result (λ places. IsPlaced places (referent_among routes.now)) }
     {
         let mut places = ReferentIndex::new(alloc);
-        for entry in routes {
-            places.add_all(&entry.route.course, entry.route.refs.as_slice())?;
+        for route_row in routes {
+            places.add_all(&route_row.route.course, route_row.route.refs.as_slice())?;
         }
         Ok(places)
     }
 
     /// Puts the referents of a course in.
     fn add_all(&mut self, course: &Course, referents: &[Referent]) -> Result<(), AllocError>
-        ensures { OnOk result (HaveCome self.old self.new (filter_map (referent_entry course.now) referents.now)) }
+        ensures { OnOk result (HaveCome self.old self.new
+            (filter_map (referent_entry course.now) referents.now)) }
     {
         for referent in referents {
             self.add(course, *referent)?;
@@ -70,7 +71,8 @@ impl ReferentIndex {
 
     /// Puts a referent of a course in, if its name is new.
     fn add(&mut self, course: &Course, referent: Referent) -> Result<(), AllocError>
-        ensures { OnOk result (HaveCome self.old self.new (filter_map (referent_entry course.now) (referent ∷ []))) }
+        ensures { OnOk result (HaveCome self.old self.new
+            (filter_map (referent_entry course.now) (referent ∷ []))) }
     {
         if course.len() <= referent.at {
             return Ok(());
@@ -114,7 +116,8 @@ impl ReferentIndex {
     /// # Errors
     /// When memory runs out; the referents are then as they were.
     pub fn put_in(&mut self, come: &Option<ReferentPlace>) -> Result<(), AllocError>
-        ensures ok { OnOk result ((name : Name) → map.get self.new name ≡ with_referent come.now (map.get self.old) name) }
+        ensures ok { OnOk result ((name : Name) → map.get self.new name
+            ≡ with_referent come.now (map.get self.old) name) }
         ensures err { OnErr result (self.new ≡ self.old) }
     {
         if let Some(referent) = come {
@@ -125,7 +128,8 @@ impl ReferentIndex {
 
     /// Takes a referent out, if there is one. It takes no memory.
     pub fn take_out(&mut self, come: &Option<ReferentPlace>)
-        ensures { (name : Name) → map.get self.new name ≡ without_referent come.now (map.get self.old) name }
+        ensures { (name : Name) → map.get self.new name
+            ≡ without_referent come.now (map.get self.old) name }
     {
         if let Some(referent) = come {
             self.remove(&referent.name);
@@ -134,7 +138,8 @@ impl ReferentIndex {
 
     /// Takes the referents of these names out. It takes no memory.
     pub fn remove_all(&mut self, names: &[RefName])
-        ensures { (name : Name) → map.get self.new name ≡ (if list_any (same_name name) names.now then None else map.get self.old name) }
+        ensures { (name : Name) → map.get self.new name
+            ≡ (if list_any (same_name name) names.now then None else map.get self.old name) }
     {
         for name in names {
             self.remove(name);

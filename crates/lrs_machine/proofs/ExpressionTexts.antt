@@ -7,7 +7,7 @@ use Rattle.std.specs.Char.{is_ascii_digit}
 use Rattle.std.proofs.lemmas.Bool.{false≢true, and_parts, eqb-true}
 use Rattle.lrs_measure.specs.Fraction.{Fraction}
 use Rattle.lrs_measure.specs.Alphabets.{is_capital, has_length}
-use Rattle.lrs_element.specs.Limits.{longest_route, greatest_measure}
+use Rattle.lrs_measure.specs.Limits.{longest_route, greatest_measure}
 use Rattle.lrs_position.specs.Names.{is_referent_name}
 use Rattle.lrs_position.specs.declared.expression.Expr.{Expr}
 use Rattle.lrs_position.specs.declared.expression.Expr.TheVariants.{Abs, Rel, Int}

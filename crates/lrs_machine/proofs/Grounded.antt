@@ -19,7 +19,7 @@ use Rattle.lrs_element.specs.declared.link.Piece.{Piece}
 use Rattle.lrs_element.specs.declared.marks.Mark.{Mark}
 use Rattle.lrs_element.specs.Course.{expand, course_of, turned, is_too_long, first_repeated}
 use Rattle.lrs_element.specs.Marks.{is_inner_mark, joined_marks, is_out_of_range, mirrored, marks_to, marks_from}
-use Rattle.lrs_element.specs.Limits.{most_marks}
+use Rattle.lrs_measure.specs.Limits.{most_marks}
 use Rattle.lrs_element.specs.Pieces.{piece_len}
 use Rattle.lrs_element.proofs.Expanding.{length-expand, get_or-expand}
 use Rattle.lrs_events_lanes.proofs.Members.{all_places, passes_at, all-filter}
@@ -31,7 +31,7 @@ use Rattle.lrs_events.specs.Places.{Place, same_place, is_among, places_at, plac
 use Rattle.lrs_machine.specs.Segments.{is_exclusive}
 use Rattle.lrs_machine.specs.declared.answer.Cause.{Cause}
 use Rattle.lrs_machine.specs.declared.answer.Cause.TheVariants as cause
-use Rattle.lrs_machine.specs.declared.command.Entry.{Entry}
+use Rattle.lrs_machine.specs.declared.command.NewAsset.{NewAsset}
 use Rattle.lrs_machine.specs.declared.command.Command.{Command}
 use Rattle.lrs_machine.specs.declared.command.Command.TheVariants as verb
 use Rattle.lrs_machine.specs.Register.{Register, by_order, put, get, insert, contains_key, entries}
@@ -195,7 +195,7 @@ module _ (s : State) (h : IsGrounded s) where
   }
 
   -- places of known links are entered
-  enters : (n : ℕ) (e : Entry) (places : List Place) → ((p : Place) → is_among places p ≡ true → is_known s (p.link, p.mm) ≡ true) → IsGrounded (enter_asset n e places s)
+  enters : (n : ℕ) (e : NewAsset) (places : List Place) → ((p : Place) → is_among places p ≡ true → is_known s (p.link, p.mm) ≡ true) → IsGrounded (enter_asset n e places s)
   enters n e places known = record {
     courses = h.courses;
     places = λ m a p x. ⊎_elim (h.places m a p) (λ new. known p (and_parts (nat_eq m n && nat_eq a e.asset) (is_among places p) new).1) (or_cases (s.entered m a p) (nat_eq m n && nat_eq a e.asset && is_among places p) x);
@@ -207,7 +207,7 @@ module _ (s : State) (h : IsGrounded s) where
   abbrev IsKnown : Wanted → Type 0
   IsKnown w = (p : Place) → is_among w.places p ≡ true → is_known s (p.link, p.mm) ≡ true
 
-  asked : (test : Kind → Bool) (e : Entry) → IfOk (wanted_of test e s) IsKnown
+  asked : (test : Kind → Bool) (e : NewAsset) → IfOk (wanted_of test e s) IsKnown
   asked test e =
       unless IsKnown (contains_key s.assets e.asset) _ _ (λ _. bind IsKnown (ok_or (get s.classes e.class) cause.NoClass) _ (λ kind _. bind IsKnown (route_named s e.route) _ (λ a is.
       unless IsKnown (is_wrong_kind kind e.location.to || test kind) _ _ (λ _. bind IsKnown (extent_of s a e.location) _ (λ extent _. unless IsKnown (is_nothing (part_of a.course extent)) _ _ (λ _.

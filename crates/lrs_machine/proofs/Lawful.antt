@@ -10,7 +10,7 @@ use Rattle.std.proofs.lemmas.Map.Lookups.{exact_unsigned, exact_bytes}
 use Rattle.std.specs.Ordering.{nat_cmp}
 use Rattle.lrs_measure.specs.Texts.{Name, same_name, name_cmp}
 use Rattle.lrs_measure.specs.Lists.{is_nothing}
-use Rattle.lrs_element.specs.Limits.{most_marks}
+use Rattle.lrs_measure.specs.Limits.{most_marks}
 use Rattle.lrs_element.specs.Course.{Millimetre, course_of, is_too_long}
 use Rattle.lrs_element.specs.Marks.{is_inner_mark, joined_marks, is_out_of_range}
 use Rattle.lrs_position.specs.Locating.{Alignment}
@@ -22,7 +22,7 @@ use Rattle.lrs_machine.specs.Segments.{is_exclusive}
 use Rattle.lrs_machine.specs.declared.answer.Cause.{Cause}
 use Rattle.lrs_machine.specs.declared.answer.Cause.TheVariants as cause
 use Rattle.lrs_machine.specs.declared.answer.Limits.{Limits}
-use Rattle.lrs_machine.specs.declared.command.Entry.{Entry}
+use Rattle.lrs_machine.specs.declared.command.NewAsset.{NewAsset}
 use Rattle.lrs_machine.specs.declared.command.Command.{Command}
 use Rattle.lrs_machine.specs.declared.command.Command.TheVariants as verb
 use Rattle.lrs_machine.specs.Register.{Register, get, insert, contains_key, entries}
@@ -86,13 +86,13 @@ same_class : (a b : Name) → a ≡ b → same_name a b ≡ true
 same_class a b is = subst (λ c. same_name a c ≡ true) is (nat_list_eq_equiv.refl a)
 
 -- what an entry's checks leave: the asset is new, its class known, and some place is asked for
-record Asked (s : State) (e : Entry) (test : Kind → Bool) (w : Wanted) : Type 0 where
+record Asked (s : State) (e : NewAsset) (test : Kind → Bool) (w : Wanted) : Type 0 where
   pub new : contains_key s.assets e.asset ≡ false
   pub kind : get s.classes e.class ≡ Some w.kind
   pub passes : test w.kind ≡ false
   pub some : (p : Place) × (is_among w.places p ≡ true)
 
-asked : (test : Kind → Bool) (e : Entry) (s : State) → IfOk (wanted_of test e s) (Asked s e test)
+asked : (test : Kind → Bool) (e : NewAsset) (s : State) → IfOk (wanted_of test e s) (Asked s e test)
 asked test e s =
     unless _ (contains_key s.assets e.asset) _ _ (λ new. bind _ (ok_or (get s.classes e.class) cause.NoClass) _ (λ kind is. bind _ (route_named s e.route) _ (λ a _.
     unless _ (is_wrong_kind kind e.location.to || test kind) _ _ (λ right. bind _ (extent_of s a e.location) _ (λ extent _. unless _ (is_nothing (part_of a.course extent)) _ _ (λ some.
@@ -103,13 +103,13 @@ module _ (n : ℕ) (s : State) (low : 1 ≤ n) (h : Fits n s) where
   Goes = Follows n s
 
   -- an asset is entered where no other of its class stands in the way
-  entered : (e : Entry) (places : List Place) (t : State) → Fits n t → t.done ≡ s.done → contains_key t.assets e.asset ≡ false → contains_key t.classes e.class ≡ true
-      → IsClear n e.asset (record { class = e.class; value = e.value; lateral = e.offset; entry = n }) places t → (p : Place) × (is_among places p ≡ true) → Goes (enter_asset n e places t)
+  entered : (e : NewAsset) (places : List Place) (t : State) → Fits n t → t.done ≡ s.done → contains_key t.assets e.asset ≡ false → contains_key t.classes e.class ≡ true
+      → IsClear n e.asset (record { class = e.class; value = e.value; lateral = e.offset; entered_by = n }) places t → (p : Place) × (is_among places p ≡ true) → Goes (enter_asset n e places t)
   entered e places t fits same new class clear some = record { fits = fits_entering n e.asset _ places t fits new clear low class refl some; done = same }
 
   -- where nothing of the class was found to hold the places, nothing stands in the way
-  clear_if_none : (e : Entry) (w : Wanted) → get s.classes e.class ≡ Some w.kind → (if is_exclusive w.kind then first_holder s e.class w.places else None) ≡ None
-      → IsClear n e.asset (record { class = e.class; value = e.value; lateral = e.offset; entry = n }) w.places s
+  clear_if_none : (e : NewAsset) (w : Wanted) → get s.classes e.class ≡ Some w.kind → (if is_exclusive w.kind then first_holder s e.class w.places else None) ≡ None
+      → IsClear n e.asset (record { class = e.class; value = e.value; lateral = e.offset; entered_by = n }) w.places s
   clear_if_none e w kind none b y p got same exclusive held among = both_ways (same_name y.class e.class && list_any (s.holds b) w.places) fails passes
     where
       is : w.kind ≡ Exclusive
@@ -126,12 +126,12 @@ module _ (n : ℕ) (s : State) (low : 1 ≤ n) (h : Fits n s) where
       passes : (same_name y.class e.class && list_any (s.holds b) w.places) ≡ true
       passes = and_from _ _ (same_class y.class e.class same) (among_passes (s.holds b) w.places p among held)
 
-  do_enter_fits : (e : Entry) → IfOk (do_enter n e s) Goes
+  do_enter_fits : (e : NewAsset) → IfOk (do_enter n e s) Goes
   do_enter_fits e = bind_known _ (Asked s e (λ kind. false)) (wanted_of (λ kind. false) e s) _ (asked (λ kind. false) e s) (λ w is.
       unless_at _ (if is_exclusive w.kind then first_holder s e.class w.places else None) _ _ (λ none.
       entered e w.places s h refl is.new (known_if_some _ _ is.kind) (clear_if_none e w is.kind none) is.some))
 
-  do_supersede_fits : (e : Entry) → IfOk (do_supersede n e s) Goes
+  do_supersede_fits : (e : NewAsset) → IfOk (do_supersede n e s) Goes
   do_supersede_fits e = let other : Kind → Bool = λ kind. not (is_exclusive kind) in bind_known _ (Asked s e other) (wanted_of other e s) _ (asked other e s) (λ w is.
       let taken : ℕ → Place → Bool = λ a p. is_of_class s e.class a && is_among w.places p in
       entered e w.places (take_away n Retired taken s) (fits_away n Retired taken s low h) refl is.new (known_if_some _ _ is.kind) (λ b y p got same exclusive held among.

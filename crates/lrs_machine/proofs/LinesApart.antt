@@ -8,7 +8,7 @@ use Rattle.std.proofs.lemmas.Bool.{and_parts}
 use Rattle.lrs_measure.specs.Alphabets.{is_capital, is_word_byte, is_text, has_length, has_dash_first, is_lone_dash}
 use Rattle.lrs_measure.specs.Lists.{is_from_to}
 use Rattle.lrs_measure.specs.Texts.{same_name}
-use Rattle.lrs_element.specs.Limits.{is_link, is_link_number, longest_link, longest_route}
+use Rattle.lrs_measure.specs.Limits.{is_link, is_link_number, longest_link, longest_route}
 use Rattle.lrs_element.specs.declared.link.Link.{Link}
 use Rattle.lrs_position.specs.Names.{is_route_byte, is_route_name, is_referent_name}
 use Rattle.lrs_events.specs.Names.{is_class_name, is_value}
@@ -17,13 +17,13 @@ use Rattle.lrs_events.specs.declared.class.Kind.{Kind}
 use Rattle.lrs_events.specs.declared.class.Kind.TheVariants.{Point, Stretch, Exclusive}
 use Rattle.lrs_events.specs.declared.side.Side.{Side}
 use Rattle.lrs_events.specs.declared.side.Side.TheVariants.{L, R, B}
-use Rattle.lrs_machine.specs.declared.command.Entry.{Entry}
+use Rattle.lrs_machine.specs.declared.command.NewAsset.{NewAsset}
 use Rattle.lrs_machine.specs.declared.command.Command.{Command}
 use Rattle.lrs_machine.specs.declared.command.Command.TheVariants as verb
 use Rattle.lrs_machine.specs.Entered.{is_asset_number, is_chainage, is_lateral_offset}
 use Rattle.lrs_events.specs.Names.{kind_text, side_text}
-use Rattle.lrs_machine.specs.Lines.{Text, pieces_text, some_pieces_text, marks_text, method_text, expression_text, end_text, location_fields, entry_fields, line_of}
-use Rattle.lrs_machine.specs.WellFormed.{IsEntry, IsWellFormed}
+use Rattle.lrs_machine.specs.Lines.{Text, pieces_text, some_pieces_text, marks_text, method_text, expression_text, end_text, location_fields, new_asset_fields, line_of}
+use Rattle.lrs_machine.specs.WellFormed.{IsNewAsset, IsWellFormed}
 use Rattle.lrs_machine.specs.Laws.{LinesTellCommandsApart}
 use Rattle.lrs_machine.proofs.Joined.{Lacks, AllLack, lacks_from, joined_apart, differ, starts_with}
 use Rattle.lrs_machine.proofs.Decimals.{IsSmall, small_below, small_from_to, lacks-decimal, decimals_apart}
@@ -139,7 +139,7 @@ others_of (verb.Class c) = c.name ∷ kind_text c.kind ∷ []
 others_of (verb.Route name pieces marks) = name ∷ pieces_text pieces ∷ marks_text marks ∷ []
 others_of (verb.Ref name route at) = name ∷ route ∷ method_text at ∷ expression_text at ∷ []
 others_of (verb.Unref name) = name ∷ []
-others_of (verb.Enter e) = entry_fields e
+others_of (verb.Enter e) = new_asset_fields e
 others_of (verb.Retire asset route location) = decimal asset ∷ route ∷ location_fields location
 others_of (verb.Split route at name) = route ∷ decimal at ∷ name ∷ []
 others_of (verb.Join first second) = first ∷ second ∷ []
@@ -147,7 +147,7 @@ others_of (verb.Renumber route name) = route ∷ name ∷ []
 others_of (verb.Recalibrate route marks) = route ∷ marks_text marks ∷ []
 others_of (verb.Realign route first end pieces marks) = route ∷ decimal first ∷ decimal end ∷ some_pieces_text pieces ∷ marks_text marks ∷ []
 others_of (verb.Close route) = route ∷ []
-others_of (verb.Supersede e) = entry_fields e
+others_of (verb.Supersede e) = new_asset_fields e
 others_of (verb.Turn route) = route ∷ []
 
 -- a line joins its fields by commas
@@ -169,7 +169,7 @@ line_is (verb.Supersede e) = refl
 line_is (verb.Turn route) = refl
 
 -- no field of an entry has a comma
-lacks-entry : (e : Entry) → IsEntry e → AllLack 44 (entry_fields e)
+lacks-entry : (e : NewAsset) → IsNewAsset e → AllLack 44 (new_asset_fields e)
 lacks-entry e h =
     let place = lacks-location e.location h.location in (
       lacks-decimal 44 e.asset refl (asset_small e.asset h.asset),
@@ -211,7 +211,7 @@ fields_alike : (a b : Command) → IsWellFormed a → IsWellFormed b → line_of
 fields_alike a b g h e = joined_apart 44 (verb_of a) (verb_of b) (others_of a) (others_of b) refl (lacks-fields a g) (lacks-fields b h) (sym (line_is a) ∙ e ∙ line_is b)
 
 -- equal fields come only of equal entries
-entries_apart : (d e : Entry) → IsEntry d → IsEntry e → entry_fields d ≡ entry_fields e → d ≡ e
+entries_apart : (d e : NewAsset) → IsNewAsset d → IsNewAsset e → new_asset_fields d ≡ new_asset_fields e → d ≡ e
 entries_apart d e g h same =
     let asset : decimal d.asset ≡ decimal e.asset = cc in
     let class : d.class ≡ e.class = cc in

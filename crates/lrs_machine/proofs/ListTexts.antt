@@ -6,7 +6,7 @@ use Rattle.std.specs.Fmt.{decimal}
 use Rattle.std.specs.Char.{is_ascii_digit}
 use Rattle.std.proofs.lemmas.Bool.{false≢true, and_parts, and_from}
 use Rattle.lrs_measure.specs.Lists.{is_from_to}
-use Rattle.lrs_element.specs.Limits.{is_link_number, longest_link, longest_route, most_pieces, most_marks, greatest_measure}
+use Rattle.lrs_measure.specs.Limits.{is_link_number, longest_link, longest_route, most_pieces, most_marks, greatest_measure}
 use Rattle.lrs_element.specs.declared.link.Piece.{Piece}
 use Rattle.lrs_element.specs.declared.marks.Mark.{Mark}
 use Rattle.lrs_machine.specs.Entered.{is_chainage, is_entered_piece, are_entered_pieces, is_entered_mark, are_entered_marks}

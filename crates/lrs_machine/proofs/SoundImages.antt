@@ -29,7 +29,7 @@ use Rattle.lrs_machine.specs.declared.image.Image.{Image}
 use Rattle.lrs_machine.specs.declared.image.Edit.{Edit}
 use Rattle.lrs_machine.specs.declared.table.Table.TheVariants as table
 use Rattle.lrs_machine.specs.Entered.{is_asset_number, is_lateral_offset}
-use Rattle.lrs_machine.specs.Bounds.{most_assets, most_routes, most_edits, most_pairs}
+use Rattle.lrs_measure.specs.Limits.{most_assets, most_routes, most_edits, most_pairs}
 use Rattle.lrs_machine.specs.State.{Reason, same_reason}
 use Rattle.lrs_machine.specs.State as state
 use Rattle.lrs_machine.specs.Image.{state_of, holds_on, link_entry, asset_entry, route_entry, reason_of}
@@ -241,7 +241,7 @@ module _ (i : Image) (t : Tested i) where
       ap (λ k. holds_in (spans_of i) k p) e ∙ list_any-map (λ s. holds_by_spans s.course s.rows a p) (λ e. record { course = e.route.course; rows = e.spans }) i.routes ∙ h
 
   -- the row of a known asset, and of a known class
-  asset_row : (a : ℕ) (x : state.Asset) → find nat_cmp a (map asset_entry i.assets) ≡ Some x → (r : Asset) × In r i.assets × (r.number ≡ a) × (r.class ≡ x.class) × (r.entry ≡ x.entry)
+  asset_row : (a : ℕ) (x : state.Asset) → find nat_cmp a (map asset_entry i.assets) ≡ Some x → (r : Asset) × In r i.assets × (r.number ≡ a) × (r.class ≡ x.class) × (r.entry ≡ x.entered_by)
   asset_row a x h =
       let found = map_found asset_entry (a, x) i.assets (find_found exact_unsigned a x (map asset_entry i.assets) h) in
       (found.0, found.1, sym (ap (λ e. e.0) found.2), sym (ap (λ e. e.1.class) found.2), sym (ap (λ e. e.1.entry) found.2))
@@ -306,15 +306,15 @@ module _ (i : Image) (t : Tested i) where
             (and_from _ _ (and_from _ _ (and_from _ _ (eq-eqb x.link x.link refl) (le-leb x.from x.from (omega arith))) (lt-ltb x.from x.to some)) (is_same_side x.side x.side refl)),
       )
 
-  was_entered : (a : ℕ) (x : state.Asset) → find nat_cmp a (map asset_entry i.assets) ≡ Some x → (p : Place) × (enters i x.entry a p ≡ true)
+  was_entered : (a : ℕ) (x : state.Asset) → find nat_cmp a (map asset_entry i.assets) ≡ Some x → (p : Place) × (enters i x.entered_by a p ≡ true)
   was_entered a x h =
       let r = asset_row a x h in
       let part = any_found (is_of r.0) i.entered (origin_of r.0 r.1).0 in
       let same : part.0.asset ≡ r.0.number = eqb-true _ _ part.2 in
-      let edit : part.0.edit ≡ x.entry = entered_by_entry r.0 part.0 r.1 part.1 same ∙ r.4 in
+      let edit : part.0.edit ≡ x.entered_by = entered_by_entry r.0 part.0 r.1 part.1 same ∙ r.4 in
       let place = first_place part.0 (all_at (is_part i.links i.assets) part.0 i.entered t.entered.inside part.1) in (
         place.0,
-        any_of (λ q. has_pair q x.entry a place.0) part.0 i.entered part.1
+        any_of (λ q. has_pair q x.entered_by a place.0) part.0 i.entered part.1
             (subst (λ m. has_pair part.0 m a place.0 ≡ true) edit (subst (λ b. has_pair part.0 part.0.edit b place.0 ≡ true) (same ∙ r.2) place.1)),
       )
 

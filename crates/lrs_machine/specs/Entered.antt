@@ -4,7 +4,7 @@ use Rattle.std.specs.List.{list_all}
 use Rattle.lrs_measure.specs.Lists.{is_from_to}
 use Rattle.lrs_element.specs.declared.link.Piece.{Piece}
 use Rattle.lrs_element.specs.declared.marks.Mark.{Mark}
-use Rattle.lrs_element.specs.Limits.{is_link_number, longest_link, longest_route, most_pieces, most_marks, greatest_measure}
+use Rattle.lrs_measure.specs.Limits.{is_link_number, longest_link, longest_route, most_pieces, most_marks, greatest_measure}
 
 abbrev pub is_asset_number : ℕ → Bool
 is_asset_number n = is_from_to 1 1_000_000_000_000 n

@@ -14,7 +14,7 @@ use Rattle.lrs_events.specs.declared.part.Gone.{Gone}
 use Rattle.lrs_events.specs.Places.{Place}
 use Rattle.lrs_events.specs.Spans.{holds_by_spans}
 use Rattle.lrs_events.specs.Parts.{has_pair}
-use Rattle.lrs_machine.specs.declared.image.RouteEntry.{RouteEntry}
+use Rattle.lrs_machine.specs.declared.image.RouteRow.{RouteRow}
 use Rattle.lrs_machine.specs.declared.image.Image.{Image}
 use Rattle.lrs_machine.specs.State.{State, Reason, Retired, Abandoned, same_reason}
 use Rattle.lrs_machine.specs.State as state
@@ -28,19 +28,19 @@ nothing = record { links = []; classes = []; assets = []; routes = []; entered =
 abbrev pub referent_entry : List Ground → Referent → Option (Name × Millimetre)
 referent_entry course r = option_map (λ m. (r.name, m)) (ground_at course r.at)
 
-abbrev pub referents_on : RouteEntry → List (Name × Millimetre)
+abbrev pub referents_on : RouteRow → List (Name × Millimetre)
 referents_on e = filter_map (referent_entry e.route.course) e.route.refs
 
-abbrev pub holds_on : RouteEntry → ℕ → Place → Bool
+abbrev pub holds_on : RouteRow → ℕ → Place → Bool
 holds_on e asset p = holds_by_spans e.route.course e.spans asset p
 
 abbrev pub link_entry : Link → ℕ × ℕ
 link_entry l = (l.number, l.length)
 
 abbrev pub asset_entry : Asset → ℕ × state.Asset
-asset_entry a = (a.number, record { class = a.class; value = a.value; lateral = a.lateral; entry = a.entry })
+asset_entry a = (a.number, record { class = a.class; value = a.value; lateral = a.lateral; entered_by = a.entered_by })
 
-abbrev pub route_entry : RouteEntry → Name × Alignment
+abbrev pub route_entry : RouteRow → Name × Alignment
 route_entry e = (e.route.name, record { course = e.route.course; marks = e.route.marks })
 
 abbrev pub reason_of : Gone → Reason

@@ -41,8 +41,8 @@ pub record IsNamed (s : State) : Type 0 where
   pub class_known : (a : ℕ) (x : Asset) → get s.assets a ≡ Some x → contains_key s.classes x.class ≡ true
   pub entered_done : (m asset : ℕ) (p : Place) → s.entered m asset p ≡ true → (1 ≤ m) × (m ≤ length s.done)
   pub gone_done : (m asset : ℕ) (why : Reason) (p : Place) → s.gone m why asset p ≡ true → (1 ≤ m) × (m ≤ length s.done)
-  pub by_entry : (m a : ℕ) (x : Asset) (p : Place) → get s.assets a ≡ Some x → s.entered m a p ≡ true → m ≡ x.entry
-  pub was_entered : (a : ℕ) (x : Asset) → get s.assets a ≡ Some x → (p : Place) × (s.entered x.entry a p ≡ true)
+  pub by_entry : (m a : ℕ) (x : Asset) (p : Place) → get s.assets a ≡ Some x → s.entered m a p ≡ true → m ≡ x.entered_by
+  pub was_entered : (a : ℕ) (x : Asset) → get s.assets a ≡ Some x → (p : Place) × (s.entered x.entered_by a p ≡ true)
 
 -- whether the millimetre is one of a known link
 abbrev pub is_known : State → Millimetre → Bool

@@ -2,7 +2,6 @@ pub mod Totals
 pub mod Segments
 pub mod Keys
 pub mod Entered
-pub mod Bounds
 pub mod Register
 pub mod State
 pub mod Lines

@@ -8,7 +8,7 @@ use Rattle.lrs_position.specs.declared.expression.Expr.{Expr}
 use Rattle.lrs_position.specs.declared.expression.Expr.TheVariants.{Abs, Rel, Int}
 use Rattle.lrs_position.specs.Expressions.{Ends}
 use Rattle.lrs_events.specs.Names.{kind_text, side_text}
-use Rattle.lrs_machine.specs.declared.command.Entry.{Entry}
+use Rattle.lrs_machine.specs.declared.command.NewAsset.{NewAsset}
 use Rattle.lrs_machine.specs.declared.command.Command.{Command}
 use Rattle.lrs_machine.specs.declared.command.Command.TheVariants as verb
 
@@ -67,8 +67,8 @@ end_text (Some e) = expression_text e
 abbrev pub location_fields : Ends → List Text
 location_fields ends = method_text ends.from ∷ expression_text ends.from ∷ end_text ends.to ∷ []
 
-abbrev pub entry_fields : Entry → List Text
-entry_fields e = decimal e.asset ∷ e.class ∷ e.route ∷ side_text e.side ∷ location_fields e.location ++ e.value ∷ decimal e.offset ∷ []
+abbrev pub new_asset_fields : NewAsset → List Text
+new_asset_fields e = decimal e.asset ∷ e.class ∷ e.route ∷ side_text e.side ∷ location_fields e.location ++ e.value ∷ decimal e.offset ∷ []
 
 abbrev pub line_of : Command → Text
 line_of (verb.Link l) = fields (codes "link" ∷ decimal l.number ∷ decimal l.length ∷ [])
@@ -76,7 +76,7 @@ line_of (verb.Class c) = fields (codes "class" ∷ c.name ∷ kind_text c.kind �
 line_of (verb.Route name pieces marks) = fields (codes "route" ∷ name ∷ pieces_text pieces ∷ marks_text marks ∷ [])
 line_of (verb.Ref name route at) = fields (codes "ref" ∷ name ∷ route ∷ method_text at ∷ expression_text at ∷ [])
 line_of (verb.Unref name) = fields (codes "unref" ∷ name ∷ [])
-line_of (verb.Enter e) = fields (codes "enter" ∷ entry_fields e)
+line_of (verb.Enter e) = fields (codes "enter" ∷ new_asset_fields e)
 line_of (verb.Retire asset route location) = fields (codes "retire" ∷ decimal asset ∷ route ∷ location_fields location)
 line_of (verb.Split route at name) = fields (codes "split" ∷ route ∷ decimal at ∷ name ∷ [])
 line_of (verb.Join first second) = fields (codes "join" ∷ first ∷ second ∷ [])
@@ -84,5 +84,5 @@ line_of (verb.Renumber route name) = fields (codes "renumber" ∷ route ∷ name
 line_of (verb.Recalibrate route marks) = fields (codes "recalibrate" ∷ route ∷ marks_text marks ∷ [])
 line_of (verb.Realign route first end pieces marks) = fields (codes "realign" ∷ route ∷ decimal first ∷ decimal end ∷ some_pieces_text pieces ∷ marks_text marks ∷ [])
 line_of (verb.Close route) = fields (codes "close" ∷ route ∷ [])
-line_of (verb.Supersede e) = fields (codes "supersede" ∷ entry_fields e)
+line_of (verb.Supersede e) = fields (codes "supersede" ∷ new_asset_fields e)
 line_of (verb.Turn route) = fields (codes "turn" ∷ route ∷ [])

@@ -8,8 +8,8 @@ use Rattle.lrs_element.specs.declared.link.Link.{Link}
 use Rattle.lrs_element.specs.declared.link.Piece.{Piece}
 use Rattle.lrs_element.specs.declared.link.Ground.{Ground}
 use Rattle.lrs_element.specs.declared.marks.Mark.{Mark}
-use Rattle.lrs_element.specs.Limits.{most_marks}
-use Rattle.lrs_element.specs.Course.{Millimetre, expand, course_of, meets, runs_over, ground_at, entry_of, turned, is_too_long, first_repeated}
+use Rattle.lrs_measure.specs.Limits.{most_marks}
+use Rattle.lrs_element.specs.Course.{Millimetre, expand, course_of, meets, runs_over, ground_at, chainage_on, turned, is_too_long, first_repeated}
 use Rattle.lrs_element.specs.Marks.{bad_mark, is_out_of_range, is_inner_mark, marks_to, marks_from, joined_marks, mirrored}
 use Rattle.lrs_position.specs.declared.expression.Expr.{Expr}
 use Rattle.lrs_position.specs.Expressions.{Ends}
@@ -26,7 +26,7 @@ use Rattle.lrs_machine.specs.declared.answer.Cause.{Cause}
 use Rattle.lrs_machine.specs.declared.answer.Cause.TheVariants as cause
 use Rattle.lrs_machine.specs.declared.answer.Answer.{Answer}
 use Rattle.lrs_machine.specs.declared.answer.Answer.TheVariants.{Done, Again, Refused}
-use Rattle.lrs_machine.specs.declared.command.Entry.{Entry}
+use Rattle.lrs_machine.specs.declared.command.NewAsset.{NewAsset}
 use Rattle.lrs_machine.specs.declared.command.Command.{Command}
 use Rattle.lrs_machine.specs.declared.command.Command.TheVariants as verb
 use Rattle.lrs_machine.specs.Register.{get, insert, remove, contains_key, entries, len}
@@ -62,14 +62,14 @@ abbrev pub length_of_link : State → ℕ → ℕ
 length_of_link s number = unwrap_or (get s.links number) 0
 
 -- at which entry of a course a referent stands
-abbrev pub entry_of_referent : State → Alignment → Name → Option ℕ
-entry_of_referent s a name = option_and_then (entry_of a.course) (s.referents name)
+abbrev pub referent_chainage : State → Alignment → Name → Option ℕ
+referent_chainage s a name = option_and_then (chainage_on a.course) (s.referents name)
 
 -- the chainage that a position expression locates; one that can be entered is never too fine
 abbrev pub located_chainage : State → Alignment → Expr → Result (ℕ × ℕ) Cause
 located_chainage s a e = do
-  refuse_if (lacks_referent (entry_of_referent s a) e) cause.NoRef
-  ok_or (located a (entry_of_referent s a) e) cause.OffRoute
+  refuse_if (lacks_referent (referent_chainage s a) e) cause.NoRef
+  ok_or (located a (referent_chainage s a) e) cause.OffRoute
 
 -- the piece has no millimetre, or ends behind the end of its link
 abbrev pub is_bad_piece : State → Piece → Bool
@@ -208,7 +208,7 @@ pub record Wanted : Type 0 where
   pub places : List Place
 
 -- what a new asset is to hold; some kinds are not taken
-abbrev pub wanted_of : (Kind → Bool) → Entry → State → Result Wanted Cause
+abbrev pub wanted_of : (Kind → Bool) → NewAsset → State → Result Wanted Cause
 wanted_of is_not_taken e s = do
   refuse_if (contains_key s.assets e.asset) cause.AssetKnown
   kind ← ok_or (get s.classes e.class) cause.NoClass
@@ -220,10 +220,10 @@ wanted_of is_not_taken e s = do
   Ok (record { kind = kind; places = places_on e.side part })
 
 -- The asset is known from now on as entered by edit n, and holds the places.
-abbrev pub enter_asset : ℕ → Entry → List Place → State → State
-enter_asset n e places s = enter_places n e.asset places (record s { assets = insert s.assets e.asset (record { class = e.class; value = e.value; lateral = e.offset; entry = n }) })
+abbrev pub enter_asset : ℕ → NewAsset → List Place → State → State
+enter_asset n e places s = enter_places n e.asset places (record s { assets = insert s.assets e.asset (record { class = e.class; value = e.value; lateral = e.offset; entered_by = n }) })
 
-abbrev pub do_enter : ℕ → Entry → State → Result State Cause
+abbrev pub do_enter : ℕ → NewAsset → State → Result State Cause
 do_enter n e s = do
   wanted ← wanted_of (λ kind. false) e s
   refuse_at (if is_exclusive wanted.kind then first_holder s e.class wanted.places else None) cause.Overlap
@@ -305,7 +305,7 @@ do_close n route s = do
 abbrev pub is_of_class : State → Name → ℕ → Bool
 is_of_class s class asset = option_map_or (λ a. same_name a.class class) (get s.assets asset) false
 
-abbrev pub do_supersede : ℕ → Entry → State → Result State Cause
+abbrev pub do_supersede : ℕ → NewAsset → State → Result State Cause
 do_supersede n e s = do
   wanted ← wanted_of (λ kind. not (is_exclusive kind)) e s
   Ok (enter_asset n e wanted.places (take_away n Retired (λ a p. is_of_class s e.class a && is_among wanted.places p) s))

@@ -18,7 +18,7 @@ use Rattle.lrs_machine.specs.Register.{get, entries}
 use Rattle.lrs_machine.specs.State.{State, Reason}
 use Rattle.lrs_machine.specs.State as state
 use Rattle.lrs_machine.specs.declared.hit.Hit.{Hit}
-use Rattle.lrs_machine.specs.Machine.{entry_of_referent}
+use Rattle.lrs_machine.specs.Machine.{referent_chainage}
 
 -- all places of the known links
 abbrev pub all_places : State → List Place
@@ -56,7 +56,7 @@ places_of s asset = filter (s.holds asset) (all_places s)
 
 -- what is known of an asset, under its number
 abbrev pub asset_of : ℕ × state.Asset → Asset
-asset_of a = record { number = a.0; class = a.1.class; value = a.1.value; lateral = a.1.lateral; entry = a.1.entry }
+asset_of a = record { number = a.0; class = a.1.class; value = a.1.value; lateral = a.1.lateral; entered_by = a.1.entered_by }
 
 -- an asset, and the side on which it holds a millimetre, seen along the route
 abbrev pub hit_of : State → Ground → Asset → Option Hit
@@ -69,7 +69,7 @@ hits_on s g = filter_map (λ a. hit_of s g (asset_of a)) (entries s.assets)
 -- who holds the millimetre that a point at a position stands in, if it is on the route
 abbrev pub hits_at : State → Name → Expr → Option (List Hit)
 hits_at s route e =
-    option_and_then (λ a. option_and_then (λ x. option_map (hits_on s) (slice_get a.course (cell (length a.course) x))) (located a (entry_of_referent s a) e)) (get s.routes route)
+    option_and_then (λ a. option_and_then (λ x. option_map (hits_on s) (slice_get a.course (cell (length a.course) x))) (located a (referent_chainage s a) e)) (get s.routes route)
 
 -- the assets as segments read them
 abbrev pub asset_list : State → List Asset

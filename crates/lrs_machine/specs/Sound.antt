@@ -23,10 +23,10 @@ use Rattle.lrs_events.specs.Places.{places_of_link, differs}
 use Rattle.lrs_machine.specs.Segments.{is_exclusive}
 use Rattle.lrs_machine.specs.declared.image.Edit.{Edit}
 use Rattle.lrs_machine.specs.declared.image.Image.{Image}
-use Rattle.lrs_machine.specs.declared.image.RouteEntry.{RouteEntry}
+use Rattle.lrs_machine.specs.declared.image.RouteRow.{RouteRow}
 use Rattle.lrs_machine.specs.declared.table.Table.{Table}
 use Rattle.lrs_machine.specs.declared.table.Table.TheVariants as table
-use Rattle.lrs_machine.specs.Bounds.{most_routes, most_assets, most_edits, most_pairs}
+use Rattle.lrs_measure.specs.Limits.{most_routes, most_assets, most_edits, most_pairs}
 use Rattle.lrs_machine.specs.Entered.{is_asset_number, is_lateral_offset}
 
 -- table `link`: in the order of their numbers
@@ -58,7 +58,7 @@ are_assets classes assets = each_two asset_before assets && list_all (is_asset c
 
 -- table `piece`: routes in the order of their names, over known links, no millimetre twice, and not too many
 
-abbrev pub route_before : RouteEntry → RouteEntry → Bool
+abbrev pub route_before : RouteRow → RouteRow → Bool
 route_before a b = name_before a.route.name b.route.name
 
 pub record RouteCourse : Type 0 where
@@ -180,7 +180,7 @@ are_edits entered gone edits = each_two (λ d e. not (same_name d.key e.key)) ed
 -- table `origin`: each asset was entered, and by the one edit that it names
 
 abbrev pub is_origin : List Part → Asset → Bool
-is_origin entered a = list_any (λ p. nat_eq p.asset a.number) entered && list_all (λ p. not (nat_eq p.asset a.number) || nat_eq p.edit a.entry) entered
+is_origin entered a = list_any (λ p. nat_eq p.asset a.number) entered && list_all (λ p. not (nat_eq p.asset a.number) || nat_eq p.edit a.entered_by) entered
 
 abbrev pub are_origins : List Part → List Asset → Bool
 are_origins entered assets = list_all (is_origin entered) assets

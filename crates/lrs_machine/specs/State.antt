@@ -14,7 +14,7 @@ pub record Asset : Type 0 where
   pub value : Name
   pub lateral : ℕ
   -- the number of the edit that entered it
-  pub entry : ℕ
+  pub entered_by : ℕ
 
 -- why an asset no longer holds a place: it was taken away there, or its ground left the route
 pub data Reason : Type 0 where

@@ -6,7 +6,7 @@ use Rattle.lrs_position.specs.declared.expression.Expr.{Expr}
 use Rattle.lrs_position.specs.declared.expression.Expr.TheVariants.{Abs, Rel, Int}
 use Rattle.lrs_position.specs.Expressions.{Ends, is_entered, are_alike}
 use Rattle.lrs_events.specs.Names.{is_class_name, is_value}
-use Rattle.lrs_machine.specs.declared.command.Entry.{Entry}
+use Rattle.lrs_machine.specs.declared.command.NewAsset.{NewAsset}
 use Rattle.lrs_machine.specs.declared.command.Command.{Command}
 use Rattle.lrs_machine.specs.declared.command.Command.TheVariants as verb
 use Rattle.lrs_machine.specs.Entered.{is_asset_number, is_chainage, is_lateral_offset, are_entered_pieces, are_entered_marks}
@@ -39,7 +39,7 @@ ArePieces None = ⊤
 ArePieces (Some pieces) = IsTrue (are_entered_pieces pieces)
 
 -- what the types of an entry keep
-pub record IsEntry (e : Entry) : Type 0 where
+pub record IsNewAsset (e : NewAsset) : Type 0 where
   pub asset : IsTrue (is_asset_number e.asset)
   pub class : IsTrue (is_class_name e.class)
   pub route : IsTrue (is_route_name e.route)
@@ -54,7 +54,7 @@ IsWellFormed (verb.Class c) = IsTrue (is_class_name c.name)
 IsWellFormed (verb.Route name pieces marks) = IsTrue (is_route_name name) × IsTrue (are_entered_pieces pieces) × IsTrue (are_entered_marks marks)
 IsWellFormed (verb.Ref name route at) = IsTrue (is_referent_name name) × IsTrue (is_route_name route) × IsPosition at
 IsWellFormed (verb.Unref name) = IsTrue (is_referent_name name)
-IsWellFormed (verb.Enter e) = IsEntry e
+IsWellFormed (verb.Enter e) = IsNewAsset e
 IsWellFormed (verb.Retire asset route location) = IsTrue (is_asset_number asset) × IsTrue (is_route_name route) × IsLocation location
 IsWellFormed (verb.Split route at name) = IsTrue (is_route_name route) × IsTrue (is_chainage at) × IsTrue (is_route_name name)
 IsWellFormed (verb.Join first second) = IsTrue (is_route_name first) × IsTrue (is_route_name second)
@@ -62,5 +62,5 @@ IsWellFormed (verb.Renumber route name) = IsTrue (is_route_name route) × IsTrue
 IsWellFormed (verb.Recalibrate route marks) = IsTrue (is_route_name route) × IsTrue (are_entered_marks marks)
 IsWellFormed (verb.Realign route first end pieces marks) = IsTrue (is_route_name route) × IsTrue (is_chainage first) × IsTrue (is_chainage end) × ArePieces pieces × IsTrue (are_entered_marks marks)
 IsWellFormed (verb.Close route) = IsTrue (is_route_name route)
-IsWellFormed (verb.Supersede e) = IsEntry e
+IsWellFormed (verb.Supersede e) = IsNewAsset e
 IsWellFormed (verb.Turn route) = IsTrue (is_route_name route)

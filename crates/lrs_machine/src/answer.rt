@@ -1,7 +1,7 @@
 //! Answers, and why a command is refused.
 
 ghost use Rattle.std.specs.Prelude.{◌≡◌, IsTrue};
-ghost use Rattle.lrs_machine.specs.Bounds.{are_limits, most_routes, most_assets, most_edits};
+ghost use Rattle.lrs_measure.specs.Limits.{are_limits, most_routes, most_assets, most_edits};
 
 use std::fmt;
 

@@ -9,7 +9,7 @@ use lrs_position::{EnteredPosition, EventLocation, RefName, RouteName};
 /// An asset that is entered: its class, where it lies on a route and on which side, its value and its
 /// lateral offset.
 #[derive(Clone, Copy, PartialEq, Eq)]
-pub struct Entry {
+pub struct NewAsset {
     pub asset: AssetNumber,
     pub class: ClassName,
     pub route: RouteName,
@@ -43,7 +43,7 @@ pub enum Command {
         name: RefName,
     },
     /// An asset comes to hold places.
-    Enter(Entry),
+    Enter(NewAsset),
     /// An asset's places there go, on both sides.
     Retire {
         asset: AssetNumber,
@@ -84,7 +84,7 @@ pub enum Command {
         route: RouteName,
     },
     /// As `Enter`, in the place of what the class has there.
-    Supersede(Entry),
+    Supersede(NewAsset),
     /// A route runs the other way.
     Turn {
         route: RouteName,

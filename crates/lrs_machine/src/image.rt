@@ -15,26 +15,26 @@ use std::cmp;
 
 /// A route and what lies on it.
 #[derive(Drop)]
-pub struct RouteEntry {
+pub struct RouteRow {
     pub route: Route,
     pub spans: Spans,
 }
 
-impl TryCopy for RouteEntry {
-    fn copy(&self, alloc: Global) -> Result<RouteEntry, AllocError> {
-        Ok(RouteEntry {
+impl TryCopy for RouteRow {
+    fn copy(&self, alloc: Global) -> Result<RouteRow, AllocError> {
+        Ok(RouteRow {
             route: self.route.copy(alloc)?,
             spans: self.spans.copy(alloc)?,
         })
     }
 }
 
-impl Ordered for RouteEntry {
+impl Ordered for RouteRow {
     ghost use Rattle.lrs_machine.specs.Sound.{route_before};
 
     ghost before = { route_before };
 
-    fn is_before(&self, other: &RouteEntry) -> bool {
+    fn is_before(&self, other: &RouteRow) -> bool {
         let name = &self.route.name;
         let other_name = &other.route.name;
         name.bytes().cmp(other_name.bytes()).is_lt()
@@ -45,11 +45,11 @@ impl Ordered for RouteEntry {
     }
 }
 
-impl Keyed<RouteName> for RouteEntry {
+impl Keyed<RouteName> for RouteRow {
     ghost use Rattle.lrs_measure.specs.Texts.{name_cmp};
     ghost use Rattle.lrs_ordered.specs.Laws.{name_after};
 
-    ghost key_order = { λ entry name. name_cmp entry.route.name name };
+    ghost key_order = { λ route_row name. name_cmp route_row.route.name name };
 
     fn cmp_key(&self, name: &RouteName) -> cmp::Ordering {
         let own = &self.route.name;
@@ -87,7 +87,7 @@ pub struct Image {
     pub links: Rows<Link>,
     pub classes: Rows<Class>,
     pub assets: Rows<Asset>,
-    pub routes: Rows<RouteEntry>,
+    pub routes: Rows<RouteRow>,
     pub entered: Rows<Part>,
     pub gone: Rows<Gone>,
     pub edits: Rows<Edit>,

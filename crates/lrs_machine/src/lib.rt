@@ -21,9 +21,9 @@ mod total;
 mod well_formed;
 
 pub use answer::{Answer, Cause, Field, Limits, What};
-pub use command::{Command, Entry};
+pub use command::{Command, NewAsset};
 pub use hit::Hit;
-pub use image::{Edit, Image, RouteEntry};
+pub use image::{Edit, Image, RouteRow};
 pub use key::Key;
 pub use line::Line;
 pub use operands::{AssetNumber, Chainage, LateralOffset, MarkList, PieceList};

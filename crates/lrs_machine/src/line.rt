@@ -2,11 +2,11 @@
 
 ghost use Rattle.std.specs.Prelude.{◌≡◌, IfOk, string_bytes, [], ◌∷◌, ◌++◌};
 ghost use Rattle.lrs_events.specs.Names.{side_text};
-ghost use Rattle.lrs_machine.specs.Lines.{line_of, fields, location_fields, entry_fields};
+ghost use Rattle.lrs_machine.specs.Lines.{line_of, fields, location_fields, new_asset_fields};
 ghost use Rattle.std.specs.Fmt.{decimal};
 ghost use Rattle.lrs_machine.specs.declared.command.Command.TheVariants as verb;
 
-use crate::command::{Command, Entry};
+use crate::command::{Command, NewAsset};
 use crate::operands::{AssetNumber, Chainage, MarkList, PieceList};
 use crate::texts::{
     class_text, expression_text, kind_text, location_text, marks_text, method_text, pieces_text,
@@ -80,7 +80,7 @@ impl Command {
             } => route_line(alloc, name, pieces, marks),
             Command::Ref { name, route, at } => ref_line(alloc, name, route, *at),
             Command::Unref { name } => unref_line(alloc, name),
-            Command::Enter(entry) => enter_line(alloc, entry),
+            Command::Enter(asked) => enter_line(alloc, asked),
             Command::Retire {
                 asset,
                 route,
@@ -98,7 +98,7 @@ impl Command {
                 marks,
             } => realign_line(alloc, route, *from, *to, pieces, marks),
             Command::Close { route } => close_line(alloc, route),
-            Command::Supersede(entry) => supersede_line(alloc, entry),
+            Command::Supersede(asked) => supersede_line(alloc, asked),
             Command::Turn { route } => turn_line(alloc, route),
         }?;
         Ok(Line { text })
@@ -126,7 +126,8 @@ fn route_line(
     pieces: &PieceList,
     marks: &MarkList,
 ) -> Result<String, AllocError>
-    ensures { IfOk result (λ text. string_bytes text ≡ line_of (verb.Route name.now pieces.now marks.now)) }
+    ensures { IfOk result (λ text. string_bytes text
+        ≡ line_of (verb.Route name.now pieces.now marks.now)) }
 {
     let name = route_text(name);
     let pieces = pieces_text(alloc, pieces.as_slice())?;
@@ -157,53 +158,57 @@ fn unref_line(alloc: Global, name: &RefName) -> Result<String, AllocError>
     format!(in alloc; "unref,{name}")
 }
 
-// An entry's asset, class, route and side.
-fn entered_text(alloc: Global, entry: &Entry) -> Result<String, AllocError>
-    ensures { IfOk result (λ text. string_bytes text ≡ fields (decimal entry.now.asset ∷ entry.now.class ∷ entry.now.route ∷ side_text entry.now.side ∷ [])) }
+// An asked's asset, class, route and side.
+fn entered_text(alloc: Global, asked: &NewAsset) -> Result<String, AllocError>
+    ensures { IfOk result (λ text. string_bytes text
+        ≡ fields (decimal asked.now.asset ∷ asked.now.class ∷ asked.now.route
+        ∷ side_text asked.now.side ∷ [])) }
 {
-    let asset = entry.asset.get();
-    let class = class_text(&entry.class);
-    let route = route_text(&entry.route);
-    let side = side_text(entry.side);
+    let asset = asked.asset.get();
+    let class = class_text(&asked.class);
+    let route = route_text(&asked.route);
+    let side = side_text(asked.side);
     format!(in alloc; "{asset},{class},{route},{side}")
 }
 
-// What an entry tells of its places.
-fn told_text(alloc: Global, entry: &Entry) -> Result<String, AllocError>
-    ensures { IfOk result (λ text. string_bytes text ≡ fields (entry.now.value ∷ decimal entry.now.offset ∷ [])) }
+// What an asked tells of its places.
+fn told_text(alloc: Global, asked: &NewAsset) -> Result<String, AllocError>
+    ensures { IfOk result (λ text. string_bytes text
+        ≡ fields (asked.now.value ∷ decimal asked.now.offset ∷ [])) }
 {
-    let value = value_text(&entry.value);
-    let offset = entry.offset.get();
+    let value = value_text(&asked.value);
+    let offset = asked.offset.get();
     format!(in alloc; "{value},{offset}")
 }
 
 fn joined_text(alloc: Global, first: &str, second: &str, third: &str) -> Result<String, AllocError>
-    ensures { IfOk result (λ text. string_bytes text ≡ fields (first.now ∷ second.now ∷ third.now ∷ [])) }
+    ensures { IfOk result (λ text. string_bytes text
+        ≡ fields (first.now ∷ second.now ∷ third.now ∷ [])) }
 {
     format!(in alloc; "{first},{second},{third}")
 }
 
-// The fields of an entry.
-fn entry_text(alloc: Global, entry: &Entry) -> Result<String, AllocError>
-    ensures { IfOk result (λ text. string_bytes text ≡ fields (entry_fields entry.now)) }
+// The fields of an asked.
+fn new_asset_text(alloc: Global, asked: &NewAsset) -> Result<String, AllocError>
+    ensures { IfOk result (λ text. string_bytes text ≡ fields (new_asset_fields asked.now)) }
 {
-    let entered = entered_text(alloc, entry)?;
-    let location = location_text(alloc, entry.location)?;
-    let told = told_text(alloc, entry)?;
+    let entered = entered_text(alloc, asked)?;
+    let location = location_text(alloc, asked.location)?;
+    let told = told_text(alloc, asked)?;
     joined_text(alloc, entered.as_str(), location.as_str(), told.as_str())
 }
 
-fn enter_line(alloc: Global, entry: &Entry) -> Result<String, AllocError>
-    ensures { IfOk result (λ text. string_bytes text ≡ line_of (verb.Enter entry.now)) }
+fn enter_line(alloc: Global, asked: &NewAsset) -> Result<String, AllocError>
+    ensures { IfOk result (λ text. string_bytes text ≡ line_of (verb.Enter asked.now)) }
 {
-    let fields = entry_text(alloc, entry)?;
+    let fields = new_asset_text(alloc, asked)?;
     format!(in alloc; "enter,{fields}")
 }
 
-fn supersede_line(alloc: Global, entry: &Entry) -> Result<String, AllocError>
-    ensures { IfOk result (λ text. string_bytes text ≡ line_of (verb.Supersede entry.now)) }
+fn supersede_line(alloc: Global, asked: &NewAsset) -> Result<String, AllocError>
+    ensures { IfOk result (λ text. string_bytes text ≡ line_of (verb.Supersede asked.now)) }
 {
-    let fields = entry_text(alloc, entry)?;
+    let fields = new_asset_text(alloc, asked)?;
     format!(in alloc; "supersede,{fields}")
 }
 
@@ -213,7 +218,8 @@ fn retire_line(
     route: &RouteName,
     location: EventLocation,
 ) -> Result<String, AllocError>
-    ensures { IfOk result (λ text. string_bytes text ≡ line_of (verb.Retire asset route.now location)) }
+    ensures { IfOk result (λ text. string_bytes text
+        ≡ line_of (verb.Retire asset route.now location)) }
 {
     let asset = asset.get();
     let route = route_text(route);
@@ -256,7 +262,8 @@ fn recalibrate_line(
     route: &RouteName,
     marks: &MarkList,
 ) -> Result<String, AllocError>
-    ensures { IfOk result (λ text. string_bytes text ≡ line_of (verb.Recalibrate route.now marks.now)) }
+    ensures { IfOk result (λ text. string_bytes text
+        ≡ line_of (verb.Recalibrate route.now marks.now)) }
 {
     let route = route_text(route);
     let marks = marks_text(alloc, marks.as_slice())?;
@@ -270,7 +277,8 @@ fn realigned_text(
     from: Chainage,
     to: Chainage,
 ) -> Result<String, AllocError>
-    ensures { IfOk result (λ text. string_bytes text ≡ fields (route.now ∷ decimal from ∷ decimal to ∷ [])) }
+    ensures { IfOk result (λ text. string_bytes text
+        ≡ fields (route.now ∷ decimal from ∷ decimal to ∷ [])) }
 {
     let route = route_text(route);
     let from = from.get();
@@ -286,7 +294,8 @@ fn realign_line(
     pieces: &Option<PieceList>,
     marks: &MarkList,
 ) -> Result<String, AllocError>
-    ensures { IfOk result (λ text. string_bytes text ≡ line_of (verb.Realign route.now from to pieces.now marks.now)) }
+    ensures { IfOk result (λ text. string_bytes text
+        ≡ line_of (verb.Realign route.now from to pieces.now marks.now)) }
 {
     let realigned = realigned_text(alloc, route, from, to)?;
     let pieces = some_pieces_text(alloc, pieces)?;

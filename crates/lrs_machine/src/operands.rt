@@ -3,22 +3,26 @@
 ghost use Rattle.std.specs.Prelude.{◌≡◌, IsTrue};
 ghost use Rattle.std.specs.List.{list_all};
 ghost use Rattle.std.specs.Option.{SomeIff};
-ghost use Rattle.lrs_element.specs.Limits;
+ghost use Rattle.lrs_measure.specs.Limits;
 ghost use Rattle.lrs_machine.specs.Entered;
 
 use lrs_element::{Mark, Piece};
+use lrs_measure::limits::{
+    GREATEST_ASSET, GREATEST_LINK, GREATEST_MEASURE, LONGEST_LINK, LONGEST_ROUTE, MOST_MARKS,
+    MOST_PIECES,
+};
 use std::marker::Model;
 
 fn is_link_number(number: u32) -> bool
     ensures { result ≡ Limits.is_link_number number }
 {
-    1 <= number && number <= 999_999
+    1 <= number && number <= GREATEST_LINK
 }
 
 fn is_entered_piece(piece: &Piece) -> bool
     ensures { result ≡ Entered.is_entered_piece piece.now }
 {
-    is_link_number(piece.link) && piece.from <= 1_000_000_000 && piece.to <= 1_000_000_000
+    is_link_number(piece.link) && piece.from <= LONGEST_LINK && piece.to <= LONGEST_LINK
 }
 
 fn each_is_entered(pieces: &[Piece]) -> bool
@@ -31,13 +35,13 @@ fn are_entered_pieces(pieces: &[Piece]) -> bool
     ensures { result ≡ Entered.are_entered_pieces pieces.now }
 {
     let count = pieces.len();
-    1 <= count && count <= 1_000 && each_is_entered(pieces)
+    1 <= count && count <= MOST_PIECES && each_is_entered(pieces)
 }
 
 fn is_entered_mark(mark: &Mark) -> bool
     ensures { result ≡ Entered.is_entered_mark mark.now }
 {
-    mark.chainage <= 10_000_000_000 && mark.measure <= 100_000_000_000
+    mark.chainage <= LONGEST_ROUTE && mark.measure <= GREATEST_MEASURE
 }
 
 fn each_is_entered_mark(marks: &[Mark]) -> bool
@@ -50,7 +54,7 @@ fn are_entered_marks(marks: &[Mark]) -> bool
     ensures { result ≡ Entered.are_entered_marks marks.now }
 {
     let count = marks.len();
-    2 <= count && count <= 1_000 && each_is_entered_mark(marks)
+    2 <= count && count <= MOST_MARKS && each_is_entered_mark(marks)
 }
 
 /// The number of an asset: 1 to 1,000,000,000,000.
@@ -79,7 +83,7 @@ impl AssetNumber {
     pub fn new(number: u64) -> Option<AssetNumber>
         ensures { SomeIff result (IsTrue (is_asset_number number)) number }
     {
-        if number < 1 || number > 1_000_000_000_000 {
+        if number < 1 || number > GREATEST_ASSET {
             return None;
         }
         Some(AssetNumber { number })
@@ -120,7 +124,7 @@ impl Chainage {
     pub fn new(distance: u64) -> Option<Chainage>
         ensures { SomeIff result (IsTrue (is_chainage distance)) distance }
     {
-        if distance > 10_000_000_000 {
+        if distance > LONGEST_ROUTE {
             return None;
         }
         Some(Chainage { distance })

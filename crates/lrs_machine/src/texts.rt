@@ -120,7 +120,8 @@ pub fn marks_text(alloc: Global, marks: &[Mark]) -> Result<String, AllocError>
 
 // Appends a word, behind a space unless it is the first.
 fn push_word(words: &mut String, is_first: bool, word: &str) -> Result<(), AllocError>
-    ensures { OnOk result (string_bytes words.new ≡ after_words is_first (string_bytes words.old) word.now) }
+    ensures { OnOk result (string_bytes words.new
+        ≡ after_words is_first (string_bytes words.old) word.now) }
 {
     if !is_first {
         words.push(' ')?;
@@ -147,7 +148,8 @@ fn signed_text(alloc: Global, number: i128) -> Result<String, AllocError>
 }
 
 fn proportion_text(alloc: Global, proportion: &Frac) -> Result<String, AllocError>
-    ensures { IfOk result (λ text. string_bytes text ≡ decimal (unsigned_abs proportion.now.num) ++ codes "/" ++ decimal proportion.now.den) }
+    ensures { IfOk result (λ text. string_bytes text ≡ decimal (unsigned_abs proportion.now.num)
+        ++ codes "/" ++ decimal proportion.now.den) }
 {
     let num = proportion.num().unsigned_abs();
     let den = proportion.den();
@@ -184,7 +186,8 @@ fn end_text(alloc: Global, end: Option<EnteredPosition>) -> Result<String, Alloc
 
 /// The method and the ends of a location, as fields.
 pub fn location_text(alloc: Global, location: EventLocation) -> Result<String, AllocError>
-    ensures { IfOk result (λ text. string_bytes text ≡ Lines.fields (Lines.location_fields location)) }
+    ensures { IfOk result (λ text. string_bytes text
+        ≡ Lines.fields (Lines.location_fields location)) }
 {
     let from = location.from().expression();
     let method = method_text(&from);

@@ -1,9 +1,9 @@
 //! That every command which a program can make is well formed, by the types of its parts.
 
 ghost use Rattle.std.specs.Prelude.{IsTrue};
-ghost use Rattle.lrs_machine.specs.WellFormed.{IsWellFormed, IsPosition, IsLocation, IsEntry, IsEnd, ArePieces};
+ghost use Rattle.lrs_machine.specs.WellFormed.{IsWellFormed, IsPosition, IsLocation, IsNewAsset, IsEnd, ArePieces};
 
-use crate::command::{Command, Entry};
+use crate::command::{Command, NewAsset};
 use crate::operands::PieceList;
 use lrs_position::{EnteredPosition, EventLocation, Expr};
 
@@ -42,15 +42,15 @@ fn some_pieces(pieces: &Option<PieceList>)
     }
 }
 
-fn entry(entry: &Entry)
-    ensures { IsEntry entry.now }
+fn new_asset(asked: &NewAsset)
+    ensures { IsNewAsset asked.now }
 {
-    entry.asset.get();
-    entry.class.bytes();
-    entry.route.bytes();
-    location(entry.location);
-    entry.value.bytes();
-    entry.offset.get();
+    asked.asset.get();
+    asked.class.bytes();
+    asked.route.bytes();
+    location(asked.location);
+    asked.value.bytes();
+    asked.offset.get();
 }
 
 /// Every command that a program can make is well formed: its names, numbers, lists and positions are in
@@ -81,7 +81,7 @@ pub fn every_command_is_well_formed(command: &Command)
         Command::Unref { name } => {
             name.bytes();
         }
-        Command::Enter(fields) => entry(fields),
+        Command::Enter(fields) => new_asset(fields),
         Command::Retire {
             asset,
             route,
@@ -124,7 +124,7 @@ pub fn every_command_is_well_formed(command: &Command)
         Command::Close { route } => {
             route.bytes();
         }
-        Command::Supersede(fields) => entry(fields),
+        Command::Supersede(fields) => new_asset(fields),
         Command::Turn { route } => {
             route.bytes();
         }

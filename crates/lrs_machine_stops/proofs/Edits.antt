@@ -9,7 +9,7 @@ use Rattle.std.proofs.lemmas.List.Folds.{position_or_len_push}
 use Rattle.std.proofs.lemmas.List.Sums.{sum_by-cons, sum_by_push, prefix_len-le-length}
 use Rattle.lrs_measure.specs.Texts.{Name, same_name}
 use Rattle.lrs_measure.specs.Lists.{is_nothing}
-use Rattle.lrs_element.specs.Limits.{most_marks}
+use Rattle.lrs_measure.specs.Limits.{most_marks}
 use Rattle.lrs_element.specs.Course.{course_of, is_too_long}
 use Rattle.lrs_element.specs.Marks.{is_inner_mark, joined_marks, is_out_of_range}
 use Rattle.lrs_position.specs.Locating.{Alignment}

@@ -9,3 +9,4 @@ pub mod Lists
 pub mod Numerals
 pub mod Ordered
 pub mod Maximal
+pub mod Limits

@@ -7,6 +7,7 @@
 pub mod alphabet;
 mod fraction;
 pub mod laws;
+pub mod limits;
 mod metres;
 mod numerals;
 mod rows;

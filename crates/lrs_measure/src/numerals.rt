@@ -11,7 +11,8 @@ use crate::fraction::Frac;
 /// The number that ASCII digits write, where there is at least one and the number is at most `max`.
 /// Leading zeros are accepted, however many.
 pub fn read_digits(bytes: &[u8], max: u64) -> Option<u64>
-    ensures { SomeIff result (IsNumeral 10 bytes.now × (digits_value 10 bytes.now ≤ max)) (digits_value 10 bytes.now) }
+    ensures { SomeIff result (IsNumeral 10 bytes.now × (digits_value 10 bytes.now ≤ max))
+        (digits_value 10 bytes.now) }
 {
     if bytes.is_empty() {
         return None;
@@ -29,7 +30,8 @@ pub fn read_digits(bytes: &[u8], max: u64) -> Option<u64>
 
 /// The number that `+` or `-` and then such digits write, where it is at most `max` either way.
 pub fn read_signed(bytes: &[u8], max: i64) -> Option<i64>
-    ensures { SomeIff result (IsSigned bytes.now × (pos (digits_value 10 (drop 1 bytes.now)) ≤ℤ max)) (signed_value bytes.now) }
+    ensures { SomeIff result (IsSigned bytes.now
+        × (pos (digits_value 10 (drop 1 bytes.now)) ≤ℤ max)) (signed_value bytes.now) }
 {
     let (sign, digits) = match bytes {
         [] => return None,
@@ -68,7 +70,9 @@ fn split_at_slash(bytes: &[u8]) -> Option<(&[u8], &[u8])>
 /// not 0.
 pub fn read_fraction(bytes: &[u8], max: u64) -> Option<Frac>
     ensures fraction { IsSome result ↔ IsFractionText max bytes.now }
-    ensures value { IfSome result (λ q. IsQuotient q (pos (digits_value 10 (numerator_text bytes.now))) (digits_value 10 (denominator_text bytes.now))) }
+    ensures value { IfSome result (λ q. IsQuotient q
+        (pos (digits_value 10 (numerator_text bytes.now)))
+        (digits_value 10 (denominator_text bytes.now))) }
     ensures lowest { IfSome result (λ q. IsLowest q) }
 {
     let (numerator, denominator) = split_at_slash(bytes)?;

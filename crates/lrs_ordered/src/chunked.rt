@@ -86,7 +86,8 @@ impl<T> Chunked<T> {
     where
         T: Keyed<K>,
         requires order { each_two T.before self.now.rows ≡ true }
-        ensures { option_map (λ row. row.now) result ≡ find (λ row. is_eq (T.key_order row key.now)) self.now.rows }
+        ensures { option_map (λ row. row.now) result ≡ find (λ row.
+            is_eq (T.key_order row key.now)) self.now.rows }
     {
         find_among(self.chunks.as_slice(), &self.firsts, key)
     }
@@ -188,7 +189,8 @@ impl<T: Drop> Chunked<T> {
         T: Keyed<K>,
         requires order { each_two T.before self.old.rows ≡ true }
         ensures row { result ≡ find (λ row. is_eq (T.key_order row key.now)) self.old.rows }
-        ensures rows { self.new.rows ≡ filter (λ row. not (is_eq (T.key_order row key.now))) self.old.rows }
+        ensures rows { self.new.rows ≡ filter (λ row.
+            not (is_eq (T.key_order row key.now))) self.old.rows }
         ensures room { self.new.room ≡ self.old.room }
     {
         let row = remove_among(&mut self.chunks, &mut self.firsts, key);

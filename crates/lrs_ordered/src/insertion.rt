@@ -23,8 +23,10 @@ fn comes_before<T: Ordered>(row: &T, chunk: &Chunk<T>) -> bool
 // Whether just the chunks before a place begin with no row after this one, as its two neighbours say.
 fn is_place<T: Ordered>(chunks: &[Chunk<T>], row: &T, count: usize) -> bool
     ensures within { result ≡ true → count ≤ length chunks.now }
-    ensures front { result ≡ true → 0 < count → (d : List T) → first_passes (T.before row.now) (slice_index_or chunks.now (count - 1) d) ≡ false }
-    ensures rear { result ≡ true → count < length chunks.now → (d : List T) → first_passes (T.before row.now) (slice_index_or chunks.now count d) ≡ true }
+    ensures front { result ≡ true → 0 < count → (d : List T)
+        → first_passes (T.before row.now) (slice_index_or chunks.now (count - 1) d) ≡ false }
+    ensures rear { result ≡ true → count < length chunks.now → (d : List T)
+        → first_passes (T.before row.now) (slice_index_or chunks.now count d) ≡ true }
 {
     if count > chunks.len() || (count > 0 && comes_before(row, &chunks[count - 1])) {
         return false;
@@ -52,7 +54,8 @@ fn target_of<T: Ordered>(chunks: &[Chunk<T>], firsts: &Firsts, row: &T) -> usize
     requires order { is_split_by T.before row.now (joined chunks.now) ≡ true }
     requires some { 0 < length chunks.now }
     ensures within { result < length chunks.now }
-    ensures front { list_all (λ y. not (T.before row.now y)) (joined (take result chunks.now)) ≡ true }
+    ensures front { list_all (λ y. not (T.before row.now y)) (joined (take result chunks.now))
+        ≡ true }
     ensures rear { first_passes (T.before row.now) (joined (drop (result + 1) chunks.now)) ≡ true }
 {
     place_among(chunks, firsts, row).saturating_sub(1)
@@ -142,7 +145,8 @@ fn put_at<T: Ordered + Drop>(
     requires filled { are_filled chunks.old.items ≡ true }
     requires order { is_split_by T.before row (joined chunks.old.items) ≡ true }
     requires within { at < vec_len chunks.old }
-    requires front { list_all (λ y. not (T.before row y)) (joined (take at chunks.old.items)) ≡ true }
+    requires front { list_all (λ y. not (T.before row y)) (joined (take at chunks.old.items))
+        ≡ true }
     requires rear { first_passes (T.before row) (joined (drop (at + 1) chunks.old.items)) ≡ true }
     requires empty { are_empty spares.old.items ≡ true }
     requires spare { 0 < vec_len spares.old }
@@ -214,7 +218,8 @@ pub fn put<T: Ordered + Drop>(
 fn push_last<T: Drop>(chunks: &mut Vec<Chunk<T>>, row: T) -> Option<T>
     requires some { 0 < vec_len chunks.old }
     requires filled { are_filled chunks.old.items ≡ true }
-    ensures rows { joined chunks.new.items ++ option_to_list result ≡ joined chunks.old.items ++ row ∷ [] }
+    ensures rows { joined chunks.new.items ++ option_to_list result ≡ joined chunks.old.items ++ row
+        ∷ [] }
     ensures filled { are_filled chunks.new.items ≡ true }
     ensures len { vec_len chunks.new ≡ vec_len chunks.old }
     ensures capacity { vec_capacity chunks.new ≡ vec_capacity chunks.old }
@@ -256,7 +261,8 @@ pub fn put_last<T: Ordered + Drop>(
 // The same, where there may be no chunk.
 fn push_some<T: Drop>(chunks: &mut Vec<Chunk<T>>, row: T) -> Option<T>
     requires filled { are_filled chunks.old.items ≡ true }
-    ensures rows { joined chunks.new.items ++ option_to_list result ≡ joined chunks.old.items ++ row ∷ [] }
+    ensures rows { joined chunks.new.items ++ option_to_list result ≡ joined chunks.old.items ++ row
+        ∷ [] }
     ensures filled { are_filled chunks.new.items ≡ true }
     ensures len { vec_len chunks.new ≡ vec_len chunks.old }
     ensures capacity { vec_capacity chunks.new ≡ vec_capacity chunks.old }

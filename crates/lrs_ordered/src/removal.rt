@@ -42,10 +42,13 @@ fn remove_at<K, T: Keyed<K> + Drop>(chunks: &mut Vec<Chunk<T>>, at: usize, key: 
     requires filled { are_filled chunks.old.items ≡ true }
     requires order { rises_by (λ row. T.key_order row key.now) (joined chunks.old.items) ≡ true }
     requires within { at < vec_len chunks.old }
-    requires front { none_by (λ row. T.key_order row key.now) (joined (take at chunks.old.items)) ≡ true }
-    requires rear { none_by (λ row. T.key_order row key.now) (joined (drop (at + 1) chunks.old.items)) ≡ true }
+    requires front { none_by (λ row. T.key_order row key.now) (joined (take at chunks.old.items))
+        ≡ true }
+    requires rear { none_by (λ row. T.key_order row key.now)
+        (joined (drop (at + 1) chunks.old.items)) ≡ true }
     ensures row { result ≡ find (λ row. is_eq (T.key_order row key.now)) (joined chunks.old.items) }
-    ensures rows { joined chunks.new.items ≡ filter (λ row. not (is_eq (T.key_order row key.now))) (joined chunks.old.items) }
+    ensures rows { joined chunks.new.items ≡ filter (λ row.
+        not (is_eq (T.key_order row key.now))) (joined chunks.old.items) }
     ensures filled { are_filled chunks.new.items ≡ true }
     ensures len { vec_len chunks.new ≤ vec_len chunks.old }
     ensures capacity { vec_capacity chunks.new ≡ vec_capacity chunks.old }
@@ -64,7 +67,8 @@ pub fn remove_among<K, T: Keyed<K> + Drop>(
     requires filled { are_filled chunks.old.items ≡ true }
     requires order { rises_by (λ row. T.key_order row key.now) (joined chunks.old.items) ≡ true }
     ensures row { result ≡ find (λ row. is_eq (T.key_order row key.now)) (joined chunks.old.items) }
-    ensures rows { joined chunks.new.items ≡ filter (λ row. not (is_eq (T.key_order row key.now))) (joined chunks.old.items) }
+    ensures rows { joined chunks.new.items ≡ filter (λ row.
+        not (is_eq (T.key_order row key.now))) (joined chunks.old.items) }
     ensures filled { are_filled chunks.new.items ≡ true }
     ensures len { vec_len chunks.new ≤ vec_len chunks.old }
     ensures capacity { vec_capacity chunks.new ≡ vec_capacity chunks.old }

@@ -79,7 +79,8 @@ impl<T> OrderedRows<T> {
     where
         T: Keyed<K>,
         requires order { each_two T.before self.now ≡ true }
-        ensures { option_map (λ row. row.now) result ≡ find (λ row. is_eq (T.key_order row key.now)) self.now }
+        ensures { option_map (λ row. row.now) result ≡ find (λ row.
+            is_eq (T.key_order row key.now)) self.now }
     {
         self.all.find(key)
     }

@@ -31,7 +31,8 @@ fn place_from<K, T: Keyed<K>>(rows: &[T], key: &K) -> usize
 pub fn place_of_key<K, T: Keyed<K>>(rows: &[T], key: &K) -> Option<usize>
     requires order { rises_by (λ row. T.key_order row key.now) rows.now ≡ true }
     ensures within { IfSome result (λ at. at < length rows.now) }
-    ensures found { IfSome result (λ at. (d : T) → is_eq (T.key_order (slice_index_or rows.now at d) key.now) ≡ true) }
+    ensures found { IfSome result (λ at. (d : T)
+        → is_eq (T.key_order (slice_index_or rows.now at d) key.now) ≡ true) }
     ensures missed { IfNone result (none_by (λ row. T.key_order row key.now) rows.now ≡ true) }
 {
     let at = place_from(rows, key);
@@ -48,7 +49,8 @@ pub fn place_of_key<K, T: Keyed<K>>(rows: &[T], key: &K) -> Option<usize>
 // The row of a key among others.
 fn find_in<'a, K, T: Keyed<K>>(rows: &'a [T], key: &K) -> Option<&'a T>
     requires order { rises_by (λ row. T.key_order row key.now) rows.now ≡ true }
-    ensures { option_map (λ row. row.now) result ≡ find (λ row. is_eq (T.key_order row key.now)) rows.now }
+    ensures { option_map (λ row. row.now) result ≡ find (λ row.
+        is_eq (T.key_order row key.now)) rows.now }
 {
     let at = place_from(rows, key);
     if at >= rows.len() {
@@ -74,8 +76,12 @@ fn begins_above<K, T: Keyed<K>>(chunk: &Chunk<T>, key: &K) -> bool
 // Whether just the chunks before a place do not begin above a key, as its two neighbours say.
 fn are_up_to<K, T: Keyed<K>>(chunks: &[Chunk<T>], key: &K, count: usize) -> bool
     ensures within { result ≡ true → count ≤ length chunks.now }
-    ensures front { result ≡ true → 0 < count → (d : List T) → first_passes (λ row. is_gt (T.key_order row key.now)) (slice_index_or chunks.now (count - 1) d) ≡ false }
-    ensures rear { result ≡ true → count < length chunks.now → (d : List T) → first_passes (λ row. is_gt (T.key_order row key.now)) (slice_index_or chunks.now count d) ≡ true }
+    ensures front { result ≡ true → 0 < count → (d : List T)
+        → first_passes (λ row. is_gt (T.key_order row key.now))
+        (slice_index_or chunks.now (count - 1) d) ≡ false }
+    ensures rear { result ≡ true → count < length chunks.now → (d : List T)
+        → first_passes (λ row. is_gt (T.key_order row key.now)) (slice_index_or chunks.now count d)
+        ≡ true }
 {
     if count > chunks.len() || (count > 0 && begins_above(&chunks[count - 1], key)) {
         return false;
@@ -87,7 +93,8 @@ fn are_up_to<K, T: Keyed<K>>(chunks: &[Chunk<T>], key: &K, count: usize) -> bool
 fn chunks_up_to<K, T: Keyed<K>>(chunks: &[Chunk<T>], firsts: &Firsts, key: &K) -> usize
     requires filled { are_filled chunks.now ≡ true }
     requires order { rises_by (λ row. T.key_order row key.now) (joined chunks.now) ≡ true }
-    ensures place { result ≡ place_by (first_passes (λ row. is_gt (T.key_order row key.now))) chunks.now }
+    ensures place { result ≡ place_by (first_passes (λ row.
+        is_gt (T.key_order row key.now))) chunks.now }
     ensures within { result ≤ length chunks.now }
 {
     let likely = firsts.up_to(T::key_rank(key));
@@ -103,8 +110,10 @@ pub fn chunk_of<K, T: Keyed<K>>(chunks: &[Chunk<T>], firsts: &Firsts, key: &K) -
     requires order { rises_by (λ row. T.key_order row key.now) (joined chunks.now) ≡ true }
     requires some { 0 < length chunks.now }
     ensures within { result < length chunks.now }
-    ensures front { none_by (λ row. T.key_order row key.now) (joined (take result chunks.now)) ≡ true }
-    ensures rear { none_by (λ row. T.key_order row key.now) (joined (drop (result + 1) chunks.now)) ≡ true }
+    ensures front { none_by (λ row. T.key_order row key.now) (joined (take result chunks.now))
+        ≡ true }
+    ensures rear { none_by (λ row. T.key_order row key.now) (joined (drop (result + 1) chunks.now))
+        ≡ true }
 {
     chunks_up_to(chunks, firsts, key).saturating_sub(1)
 }
@@ -117,7 +126,8 @@ pub fn find_among<'a, K, T: Keyed<K>>(
 ) -> Option<&'a T>
     requires filled { are_filled chunks.now ≡ true }
     requires order { rises_by (λ row. T.key_order row key.now) (joined chunks.now) ≡ true }
-    ensures { option_map (λ row. row.now) result ≡ find (λ row. is_eq (T.key_order row key.now)) (joined chunks.now) }
+    ensures { option_map (λ row. row.now) result ≡ find (λ row.
+        is_eq (T.key_order row key.now)) (joined chunks.now) }
 {
     if chunks.is_empty() {
         return None;

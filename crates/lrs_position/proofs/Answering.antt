@@ -66,26 +66,26 @@ IsSound-from_route route = IsSound-from route.course route.marks route.refs rout
 -- ---- what locating answers
 
 -- where an expression lacks nothing and is not too fine, the answer is what is located
-answer_is : (a : Alignment) (entry_of : Name → Option ℕ) (e : Expr) (r : Result Fraction PlaceFault) → lacks_referent entry_of e ≡ false → is_too_fine e ≡ false → IsAnswer (ok_or (located a entry_of e) OffRoute) r → IsAnswer (located_or_fault a entry_of e) r
-answer_is a entry_of e r lacks fine h = rw (lacks, fine) h
+answer_is : (a : Alignment) (chainage_on : Name → Option ℕ) (e : Expr) (r : Result Fraction PlaceFault) → lacks_referent chainage_on e ≡ false → is_too_fine e ≡ false → IsAnswer (ok_or (located a chainage_on e) OffRoute) r → IsAnswer (located_or_fault a chainage_on e) r
+answer_is a chainage_on e r lacks fine h = rw (lacks, fine) h
 
 -- what locates is the value of what is located
 same_quotient : (x : Fraction) (n : ℕ) (y : ℕ × ℕ) → x.num ≡ pos n → n * y.1 ≡ y.0 * x.den → IsQuotient x (pos y.0) y.1
 same_quotient x n y e h = rw e (ap pos h)
 
-pub answer_ok : (a : Alignment) (entry_of : Name → Option ℕ) (e : Expr) (x : Fraction) → IsSound a → 0 < (number_of e).den → lacks_referent entry_of e ≡ false → is_too_fine e ≡ false → LocatesAt a entry_of e x → IsLowest x → IsAnswer (located_or_fault a entry_of e) (Ok x)
-answer_ok a entry_of e x s dp lacks fine h low = answer_is a entry_of e (Ok x) lacks fine (by_case (located a entry_of e) refl)
+pub answer_ok : (a : Alignment) (chainage_on : Name → Option ℕ) (e : Expr) (x : Fraction) → IsSound a → 0 < (number_of e).den → lacks_referent chainage_on e ≡ false → is_too_fine e ≡ false → LocatesAt a chainage_on e x → IsLowest x → IsAnswer (located_or_fault a chainage_on e) (Ok x)
+answer_ok a chainage_on e x s dp lacks fine h low = answer_is a chainage_on e (Ok x) lacks fine (by_case (located a chainage_on e) refl)
   where
-    by_case : (o : Option (ℕ × ℕ)) → located a entry_of e ≡ o → IsAnswer (ok_or o OffRoute) (Ok x)
-    by_case None k = absurd (cc (located-some a entry_of e (h.0, x.den) s h.2, k))
-    by_case (Some y) k = (same_quotient x h.0 y h.1 (Locates-same a entry_of e (h.0, x.den) y s dp h.2 (located-sound a entry_of e y s dp k)), low)
+    by_case : (o : Option (ℕ × ℕ)) → located a chainage_on e ≡ o → IsAnswer (ok_or o OffRoute) (Ok x)
+    by_case None k = absurd (cc (located-some a chainage_on e (h.0, x.den) s h.2, k))
+    by_case (Some y) k = (same_quotient x h.0 y h.1 (Locates-same a chainage_on e (h.0, x.den) y s dp h.2 (located-sound a chainage_on e y s dp k)), low)
 
-pub answer_off : (a : Alignment) (entry_of : Name → Option ℕ) (e : Expr) → IsSound a → 0 < (number_of e).den → lacks_referent entry_of e ≡ false → is_too_fine e ≡ false → ((x : ℕ × ℕ) → Locates a entry_of e x → ⊥) → IsAnswer (located_or_fault a entry_of e) (Err OffRoute)
-answer_off a entry_of e s dp lacks fine h = answer_is a entry_of e (Err OffRoute) lacks fine (by_case (located a entry_of e) refl)
+pub answer_off : (a : Alignment) (chainage_on : Name → Option ℕ) (e : Expr) → IsSound a → 0 < (number_of e).den → lacks_referent chainage_on e ≡ false → is_too_fine e ≡ false → ((x : ℕ × ℕ) → Locates a chainage_on e x → ⊥) → IsAnswer (located_or_fault a chainage_on e) (Err OffRoute)
+answer_off a chainage_on e s dp lacks fine h = answer_is a chainage_on e (Err OffRoute) lacks fine (by_case (located a chainage_on e) refl)
   where
-    by_case : (o : Option (ℕ × ℕ)) → located a entry_of e ≡ o → IsAnswer (ok_or o OffRoute) (Err OffRoute)
+    by_case : (o : Option (ℕ × ℕ)) → located a chainage_on e ≡ o → IsAnswer (ok_or o OffRoute) (Err OffRoute)
     by_case None k = refl
-    by_case (Some y) k = h y (located-sound a entry_of e y s dp k)
+    by_case (Some y) k = h y (located-sound a chainage_on e y s dp k)
 
 -- the mark at the end of the list stands at the length
 pub last_at_end : (route : Route) (marks : List Mark) (z : Mark) → marks ≡ route.marks → 1 ≤ length marks → (get_or marks (length marks - 1) z).chainage ≡ length route.course
@@ -95,8 +95,8 @@ last_at_end route marks z same l =
 
 -- ---- what each method answers
 
-pub measure_ok : (a : Alignment) (entry_of : Name → Option ℕ) (m x : Fraction) → IsSound a → IsLowest m → m.den ≤ 10 ^ 16 → HasMeasure a.marks x m → IsLowest x → IsAnswer (located_or_fault a entry_of (Abs m)) (Ok x)
-measure_ok a entry_of m x s lm fine h low = answer_ok a entry_of (Abs m) x s lm.positive refl (le-ltb _ _ fine) (h.along, h.chainage, (h.reading, h.measure, low.positive, h.line)) low
+pub measure_ok : (a : Alignment) (chainage_on : Name → Option ℕ) (m x : Fraction) → IsSound a → IsLowest m → m.den ≤ 10 ^ 16 → HasMeasure a.marks x m → IsLowest x → IsAnswer (located_or_fault a chainage_on (Abs m)) (Ok x)
+measure_ok a chainage_on m x s lm fine h low = answer_ok a chainage_on (Abs m) x s lm.positive refl (le-ltb _ _ fine) (h.along, h.chainage, (h.reading, h.measure, low.positive, h.line)) low
 
 readable_from : (marks : List Mark) (m : Fraction) (n x d : ℕ) → Climb marks → 0 < d → m.den ≤ 10 ^ 16 → m.num ≡ pos n → IsOnLine marks (x, d) (n, m.den) → IsReadable (first_mark marks).measure (last_mark marks).measure m
 readable_from [] m n x d c dp fine e h = absurd h
@@ -105,16 +105,16 @@ readable_from (p ∷ rest) m n x d c dp fine e h =
     let t : n ≤ (last_of p rest).measure * m.den = (before_last p rest x d n m.den c dp h).1 in
     record { fine = fine; from = rw e (omega (arith, ints)); to = rw e (omega (arith, ints)) }
 
-pub measure_off : (a : Alignment) (entry_of : Name → Option ℕ) (m : Fraction) → IsSound a → IsLowest m → m.den ≤ 10 ^ 16 → (IsReadable (first_mark a.marks).measure (last_mark a.marks).measure m → ⊥) → IsAnswer (located_or_fault a entry_of (Abs m)) (Err OffRoute)
-measure_off a entry_of m s lm fine h = answer_off a entry_of (Abs m) s lm.positive refl (le-ltb _ _ fine) (λ x l. h (readable_from a.marks m l.0 x.0 x.1 s.climb l.2 fine l.1 l.3))
+pub measure_off : (a : Alignment) (chainage_on : Name → Option ℕ) (m : Fraction) → IsSound a → IsLowest m → m.den ≤ 10 ^ 16 → (IsReadable (first_mark a.marks).measure (last_mark a.marks).measure m → ⊥) → IsAnswer (located_or_fault a chainage_on (Abs m)) (Err OffRoute)
+measure_off a chainage_on m s lm fine h = answer_off a chainage_on (Abs m) s lm.positive refl (le-ltb _ _ fine) (λ x l. h (readable_from a.marks m l.0 x.0 x.1 s.climb l.2 fine l.1 l.3))
 
-pub distance_is : (a : Alignment) (entry_of : Name → Option ℕ) (name : Name) (t : Fraction) (at : ℕ) (r : Result Fraction PlaceFault) → entry_of name ≡ Some at → t.den ≤ 10 ^ 16 → IsAnswer (ok_or (within (length a.course) (pos (at * t.den) +ℤ t.num) t.den) OffRoute) r → IsAnswer (located_or_fault a entry_of (Rel name t)) r
-distance_is a entry_of name t at r e fine h = rw (e, le-ltb _ _ fine) h
+pub distance_is : (a : Alignment) (chainage_on : Name → Option ℕ) (name : Name) (t : Fraction) (at : ℕ) (r : Result Fraction PlaceFault) → chainage_on name ≡ Some at → t.den ≤ 10 ^ 16 → IsAnswer (ok_or (within (length a.course) (pos (at * t.den) +ℤ t.num) t.den) OffRoute) r → IsAnswer (located_or_fault a chainage_on (Rel name t)) r
+distance_is a chainage_on name t at r e fine h = rw (e, le-ltb _ _ fine) h
 
-pub proportion_ok : (a : Alignment) (entry_of : Name → Option ℕ) (p x : Fraction) (n : ℕ) → IsSound a → IsLowest p → p.den ≤ 10 ^ 21 → p.num ≡ pos n → n ≤ p.den → IsQuotient x (pos (n * length a.course)) p.den → IsLowest x → IsAnswer (located_or_fault a entry_of (Int p)) (Ok x)
-proportion_ok a entry_of p x n s lp fine e l q low =
+pub proportion_ok : (a : Alignment) (chainage_on : Name → Option ℕ) (p x : Fraction) (n : ℕ) → IsSound a → IsLowest p → p.den ≤ 10 ^ 21 → p.num ≡ pos n → n ≤ p.den → IsQuotient x (pos (n * length a.course)) p.den → IsLowest x → IsAnswer (located_or_fault a chainage_on (Int p)) (Ok x)
+proportion_ok a chainage_on p x n s lp fine e l q low =
     let k = natural_quotient x (n * length a.course) p.den lp.positive q in
-    answer_ok a entry_of (Int p) x s lp.positive refl (le-ltb _ _ fine) (unsigned_abs x.num, k.0, (n, e, l, low.positive, k.1)) low
+    answer_ok a chainage_on (Int p) x s lp.positive refl (le-ltb _ _ fine) (unsigned_abs x.num, k.0, (n, e, l, low.positive, k.1)) low
 
 pub proportion_in_range : (len n d : ℕ) → 0 < d → len ≤ 10_000_000_000 → d ≤ 10 ^ 21 → n ≤ d → IsInRange (pos (n * len)) d
 proportion_in_range len n d p l fine h =
@@ -129,19 +129,19 @@ found_value false true o x h = absurd (cc h)
 found_value false false None x h = absurd (cc h)
 found_value false false (Some y) x h = (y, refl, h.0, h.1)
 
-pub place_from : (a : Alignment) (entry_of : Name → Option ℕ) (e : Expr) (r : Result Fraction PlaceFault) → IsSound a → 0 < (number_of e).den → IsAnswer (located_or_fault a entry_of e) r → IfOk r (λ x. LocatesAt a entry_of e x × IsLowest x)
-place_from a entry_of e (Err f) s dp h = tt
-place_from a entry_of e (Ok x) s dp h =
-    let f = found_value (lacks_referent entry_of e) (is_too_fine e) (located a entry_of e) x h in
-    let l = located-sound a entry_of e f.0 s dp f.1 in
-    let yp = (Locates-within a entry_of e f.0 s dp l).0 in
+pub place_from : (a : Alignment) (chainage_on : Name → Option ℕ) (e : Expr) (r : Result Fraction PlaceFault) → IsSound a → 0 < (number_of e).den → IsAnswer (located_or_fault a chainage_on e) r → IfOk r (λ x. LocatesAt a chainage_on e x × IsLowest x)
+place_from a chainage_on e (Err f) s dp h = tt
+place_from a chainage_on e (Ok x) s dp h =
+    let f = found_value (lacks_referent chainage_on e) (is_too_fine e) (located a chainage_on e) x h in
+    let l = located-sound a chainage_on e f.0 s dp f.1 in
+    let yp = (Locates-within a chainage_on e f.0 s dp l).0 in
     let k = natural_quotient x f.0.0 f.0.1 yp f.2 in
-    ((unsigned_abs x.num, k.0, Locates-scale a entry_of e f.0 (unsigned_abs x.num, x.den) s f.3.positive l (sym k.1)), f.3)
+    ((unsigned_abs x.num, k.0, Locates-scale a chainage_on e f.0 (unsigned_abs x.num, x.den) s f.3.positive l (sym k.1)), f.3)
 
-pub lacks_not : (a : Alignment) (entry_of : Name → Option ℕ) (e : Expr) (x : ℕ × ℕ) → Locates a entry_of e x → lacks_referent entry_of e ≡ false
-lacks_not a entry_of (Abs m) x h = refl
-lacks_not a entry_of (Rel name t) x h = rw h.1 refl
-lacks_not a entry_of (Int p) x h = refl
+pub lacks_not : (a : Alignment) (chainage_on : Name → Option ℕ) (e : Expr) (x : ℕ × ℕ) → Locates a chainage_on e x → lacks_referent chainage_on e ≡ false
+lacks_not a chainage_on (Abs m) x h = refl
+lacks_not a chainage_on (Rel name t) x h = rw h.1 refl
+lacks_not a chainage_on (Int p) x h = refl
 
 -- a quotient of y is one of x where they have one value
 pub quotient_of_same : (q : Fraction) (x y : ℕ × ℕ) → 0 < y.1 → IsQuotient q (pos y.0) y.1 → x.0 * y.1 ≡ y.0 * x.1 → IsQuotient q (pos x.0) x.1
@@ -153,18 +153,18 @@ quotient_of_same q x y p h e =
     let c : n * x.1 ≡ x.0 * q.den = eq_of_mul-eq-mul_right y.1 p _ _ (omega arith) in
     rw k.0 (ap pos c)
 
-pub found_from : (a : Alignment) (entry_of : Name → Option ℕ) (e : Expr) (r : Result Fraction PlaceFault) (x : ℕ × ℕ) → IsSound a → 0 < (number_of e).den → IsAnswer (located_or_fault a entry_of e) r → Locates a entry_of e x → is_too_fine e ≡ false → IsOkAnd r (λ q. IsQuotient q (pos x.0) x.1)
-found_from a entry_of e r x s dp h l fine = by_case (located a entry_of e) refl r (rw (lacks_not a entry_of e x l, fine) at h)
+pub found_from : (a : Alignment) (chainage_on : Name → Option ℕ) (e : Expr) (r : Result Fraction PlaceFault) (x : ℕ × ℕ) → IsSound a → 0 < (number_of e).den → IsAnswer (located_or_fault a chainage_on e) r → Locates a chainage_on e x → is_too_fine e ≡ false → IsOkAnd r (λ q. IsQuotient q (pos x.0) x.1)
+found_from a chainage_on e r x s dp h l fine = by_case (located a chainage_on e) refl r (rw (lacks_not a chainage_on e x l, fine) at h)
   where
-    by_case : (o : Option (ℕ × ℕ)) → located a entry_of e ≡ o → (r : Result Fraction PlaceFault) → IsAnswer (ok_or o OffRoute) r → IsOkAnd r (λ q. IsQuotient q (pos x.0) x.1)
-    by_case None k r j = absurd (cc (located-some a entry_of e x s l, k))
+    by_case : (o : Option (ℕ × ℕ)) → located a chainage_on e ≡ o → (r : Result Fraction PlaceFault) → IsAnswer (ok_or o OffRoute) r → IsOkAnd r (λ q. IsQuotient q (pos x.0) x.1)
+    by_case None k r j = absurd (cc (located-some a chainage_on e x s l, k))
     by_case (Some y) k (Err f) j = absurd j
     by_case (Some y) k (Ok q) j =
-        let m = located-sound a entry_of e y s dp k in
-        quotient_of_same q x y (Locates-within a entry_of e y s dp m).0 j.0 (Locates-same a entry_of e x y s dp l m)
+        let m = located-sound a chainage_on e y s dp k in
+        quotient_of_same q x y (Locates-within a chainage_on e y s dp m).0 j.0 (Locates-same a chainage_on e x y s dp l m)
 
-pub place_of : (a : Alignment) (entry_of : Name → Option ℕ) (e : Expr) (r : Result Fraction PlaceFault) → IsSound a → 0 < (number_of e).den → IsAnswer (located_or_fault a entry_of e) r → IfOk r (λ x. LocatesAt a entry_of e x)
-place_of a entry_of e r s dp h = IfOk-weaker r _ _ (λ x p. p.0) (place_from a entry_of e r s dp h)
+pub place_of : (a : Alignment) (chainage_on : Name → Option ℕ) (e : Expr) (r : Result Fraction PlaceFault) → IsSound a → 0 < (number_of e).den → IsAnswer (located_or_fault a chainage_on e) r → IfOk r (λ x. LocatesAt a chainage_on e x)
+place_of a chainage_on e r s dp h = IfOk-weaker r _ _ (λ x p. p.0) (place_from a chainage_on e r s dp h)
 
 -- ---- what the code computes
 
@@ -199,19 +199,19 @@ pub product_in_range : (n len d : ℕ) → 0 < d → len ≤ 10_000_000_000 → 
 product_in_range n len d p l fine h = rw (product_given n len d l fine h) (proportion_in_range len n d p l fine h)
 
 -- what `new` answers is the chainage of the proportion
-pub product_ok : (a : Alignment) (entry_of : Name → Option ℕ) (p x : Fraction) (n len d : ℕ) → IsSound a → IsLowest p → len ≡ length a.course → d ≡ p.den → p.den ≤ 10 ^ 21 → p.num ≡ pos n → n ≤ d → IsQuotient x (to_z w128 (n * len)) d → IsLowest x → IsAnswer (located_or_fault a entry_of (Int p)) (Ok x)
-product_ok a entry_of p x n len d s lp el ed fine e h q low =
+pub product_ok : (a : Alignment) (chainage_on : Name → Option ℕ) (p x : Fraction) (n len d : ℕ) → IsSound a → IsLowest p → len ≡ length a.course → d ≡ p.den → p.den ≤ 10 ^ 21 → p.num ≡ pos n → n ≤ d → IsQuotient x (to_z w128 (n * len)) d → IsLowest x → IsAnswer (located_or_fault a chainage_on (Int p)) (Ok x)
+product_ok a chainage_on p x n len d s lp el ed fine e h q low =
     let longest = s.longest in
     let r : IsQuotient x (pos (n * len)) d = rw (product_given n len d (omega (arith, el)) (omega arith) h) at q in
     let P : ℕ → ℕ → Type 0 = λ l b. IsQuotient x (pos (n * l)) b in
-    proportion_ok a entry_of p x n s lp fine e (omega arith) (subst (λ (b : ℕ). P (length a.course) b) ed (subst (λ (l : ℕ). P l d) el r)) low
+    proportion_ok a chainage_on p x n s lp fine e (omega arith) (subst (λ (b : ℕ). P (length a.course) b) ed (subst (λ (l : ℕ). P l d) el r)) low
 
 -- what is located is on the route
-pub on_route_of : (a : Alignment) (entry_of : Name → Option ℕ) (e : Expr) (r : Result Fraction PlaceFault) → IsSound a → 0 < (number_of e).den → IsAnswer (located_or_fault a entry_of e) r → IfOk r (λ x. IsOnRoute (length a.course) x)
-on_route_of a entry_of e r s dp h = IfOk-weaker r _ _ (λ x p. within_route x p.0) (place_from a entry_of e r s dp h)
+pub on_route_of : (a : Alignment) (chainage_on : Name → Option ℕ) (e : Expr) (r : Result Fraction PlaceFault) → IsSound a → 0 < (number_of e).den → IsAnswer (located_or_fault a chainage_on e) r → IfOk r (λ x. IsOnRoute (length a.course) x)
+on_route_of a chainage_on e r s dp h = IfOk-weaker r _ _ (λ x p. within_route x p.0) (place_from a chainage_on e r s dp h)
   where
-    within_route : (x : Fraction) → LocatesAt a entry_of e x → IsOnRoute (length a.course) x
+    within_route : (x : Fraction) → LocatesAt a chainage_on e x → IsOnRoute (length a.course) x
     within_route x l =
-        let w : l.0 ≤ length a.course * x.den = (Locates-within a entry_of e (l.0, x.den) s dp l.2).1 in
+        let w : l.0 ≤ length a.course * x.den = (Locates-within a chainage_on e (l.0, x.den) s dp l.2).1 in
         let b : length a.course * x.den ≤ 10_000_000_000 * x.den = mul-le-mul_right x.den s.longest in
         record { from = rw l.1 (omega (arith, ints)); to = rw l.1 (omega (arith, ints)); limit = rw l.1 (omega (arith, ints)) }

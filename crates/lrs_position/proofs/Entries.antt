@@ -1,4 +1,4 @@
--- At which entry of a course a millimetre of the ground is, and which route runs over it.
+-- At which chainage of a course a millimetre of the ground is, and which route runs over it.
 use Rattle.std.proofs.Common.{ℕ, ◌≡◌, ◌≢◌, ◌+◌, ◌-◌, ◌<◌, ◌≤◌, Bool, true, false, if◌then◌else◌, List, [], ◌∷◌, ◌++◌, length, get_or, take, drop, sym, ◌∙◌, ap, refl, subst, arith, Option, Some, None, Ok, pos, unsigned_abs, slice_get, ⊎_elim}
 use Rattle.std.specs.Prelude.{is_some, is_none, not, nat_lt, position}
 use Rattle.std.specs.List.{position_or_len}
@@ -13,7 +13,7 @@ use Rattle.lrs_measure.specs.Fraction.{Fraction, IsLowest, IsQuotient}
 use Rattle.lrs_element.specs.declared.link.Link.{Link}
 use Rattle.lrs_element.specs.declared.link.Piece.{Piece}
 use Rattle.lrs_element.specs.declared.link.Ground.{Ground}
-use Rattle.lrs_element.specs.Course.{Millimetre, expand, course_of, is_at, entry_of}
+use Rattle.lrs_element.specs.Course.{Millimetre, expand, course_of, is_at, chainage_on}
 use Rattle.lrs_element.specs.Pieces.{piece_len, ground_of, start_of}
 use Rattle.lrs_position.specs.declared.route.Route.{Route}
 use Rattle.lrs_position.specs.declared.location.PlaceFault.{PlaceFault}
@@ -114,7 +114,7 @@ position_before p xs ys i h =
     let s = some_is (position_or_len p xs) (length xs) i h in
     some_from _ _ _ (prefix_len-append (λ x. not (p x)) xs ys ∙ ap (λ (b : Bool). if b then length xs + position_or_len p ys else position_or_len p xs) (ne_eqb _ _ (λ e. absurd (omega (arith, s, e)))) ∙ s.0) (omega (arith, s, length-append xs ys))
 
--- a walk over the pieces of a course stands before the i-th one, which starts at this entry, and has not met the millimetre
+-- a walk over the pieces of a course stands before the i-th one, which starts at this chainage, and has not met the millimetre
 pub record HasWalked (ps : List Piece) (m : Millimetre) (i at : ℕ) : Type 0 where
   pub start : at ≡ start_of ps i
   pub none : None ≡ position (is_at m) (course_of (take i ps))
@@ -140,7 +140,7 @@ walk_found ps m i at k d h w f =
 pub walk_done : (ps : List Piece) (m : Millimetre) (i at : ℕ) → length ps ≤ i → HasWalked ps m i at → None ≡ position (is_at m) (course_of ps)
 walk_done ps m i at h w = w.none ∙ ap (λ (xs : List Piece). position (is_at m) (course_of xs)) (take_all i ps h)
 
--- a place in a piece is an entry of the course
+-- a place in a piece is a place of the course
 pub walk_fits : (ps : List Piece) (i at n : ℕ) (d : Piece) → i < length ps → at ≡ start_of ps i → n ≤ piece_len (get_or ps i d) → at + n ≤ length (course_of ps)
 walk_fits ps i at n d h a l =
     omega (arith, ap length (split_at ps i d h), length-append (course_of (take i ps)) (expand (get_or ps i d) ++ course_of (drop (i + 1) ps)), length-append (expand (get_or ps i d)) (course_of (drop (i + 1) ps)), length-expand (get_or ps i d))
@@ -157,11 +157,11 @@ walk_next ps i at n d h a l = walk_fits ps i at n d h a (omega (arith, l))
 
 -- none of the first i routes runs over the millimetre
 abbrev pub NoneBefore : List Route → Millimetre → ℕ → Type 0
-NoneBefore routes m i = (k : ℕ) (d : Route) → k < i → entry_of (get_or routes k d).course m ≡ None
+NoneBefore routes m i = (k : ℕ) (d : Route) → k < i → chainage_on (get_or routes k d).course m ≡ None
 
-pub route_found : (routes : List Route) (m : Millimetre) (i at : ℕ) (r : Route) → i < length routes → NoneBefore routes m i → r ≡ get_or routes i r → entry_of r.course m ≡ Some at → route_over routes m ≡ Some r
+pub route_found : (routes : List Route) (m : Millimetre) (i at : ℕ) (r : Route) → i < length routes → NoneBefore routes m i → r ≡ get_or routes i r → chainage_on r.course m ≡ Some at → route_over routes m ≡ Some r
 route_found routes m i at r h before is e =
-    let p : Route → Bool = λ x. is_some (entry_of x.course m) in
+    let p : Route → Bool = λ x. is_some (chainage_on x.course m) in
     let it : p (get_or routes i r) ≡ true = ap p (sym is) ∙ ap (λ (o : Option ℕ). is_some o) e in
     let place : position_or_len p routes ≡ i = position_or_len_is p routes i r (omega arith) (λ k lt. ap (λ (o : Option ℕ). is_some o) (before k r lt)) (λ _. it) in
     find_at p routes ∙ ap (slice_get routes) place ∙ slice_get-get_or routes i r h ∙ ap Some (sym is)
@@ -170,33 +170,33 @@ pub route_none : (routes : List Route) (m : Millimetre) (i : ℕ) → length rou
 route_none [] m i h before = refl
 route_none (r ∷ rs) m i h before =
     let routes : List Route = r ∷ rs in
-    let p : Route → Bool = λ x. is_some (entry_of x.course m) in
+    let p : Route → Bool = λ x. is_some (chainage_on x.course m) in
     let place : position_or_len p routes ≡ length routes = position_or_len_is p routes (length routes) r (omega arith) (λ k lt. ap (λ (o : Option ℕ). is_some o) (before k r (omega arith))) (λ lt. absurd (omega arith)) in
     find_at p routes ∙ ap (slice_get routes) place ∙ slice_get_past routes (length routes) (omega arith)
 
-pub none_more : (routes : List Route) (m : Millimetre) (i : ℕ) (r : Route) → i < length routes → NoneBefore routes m i → r ≡ get_or routes i r → entry_of r.course m ≡ None → NoneBefore routes m (i + 1)
+pub none_more : (routes : List Route) (m : Millimetre) (i : ℕ) (r : Route) → i < length routes → NoneBefore routes m i → r ≡ get_or routes i r → chainage_on r.course m ≡ None → NoneBefore routes m (i + 1)
 none_more routes m i r h before is e k d lt = ⊎_elim
     (λ (less : k < i). before k d less)
     (λ (ge : i ≤ k).
     let same : k ≡ i = omega arith in
-    ap (λ (j : ℕ). entry_of (get_or routes j d).course m) same ∙ ap (λ (x : Route). entry_of x.course m) (get_or_default routes i d r h ∙ sym is) ∙ e)
+    ap (λ (j : ℕ). chainage_on (get_or routes j d).course m) same ∙ ap (λ (x : Route). chainage_on x.course m) (get_or_default routes i d r h ∙ sym is) ∙ e)
     (cases_lt k i)
 
 -- ---- the answer
 
-pub is_route_position : (routes : List Route) (link : Link) (p x : Fraction) (mm at : ℕ) (r : Route) (entry : Ground) → chainage_fault link.length p ≡ None → mm ≡ cell link.length (unsigned_abs p.num, p.den)
-    → route_over routes (link.number, mm) ≡ Some r → entry_of r.course (link.number, mm) ≡ Some at → slice_get r.course at ≡ Some entry
-    → IsQuotient x (pos (across entry.forward mm at (unsigned_abs p.num, p.den))) p.den → IsLowest x → IsRoutePosition routes link p (Ok (r.name, x))
-is_route_position routes link p x mm at r entry fine is over e s q low =
+pub is_route_position : (routes : List Route) (link : Link) (p x : Fraction) (mm at : ℕ) (r : Route) (ground : Ground) → chainage_fault link.length p ≡ None → mm ≡ cell link.length (unsigned_abs p.num, p.den)
+    → route_over routes (link.number, mm) ≡ Some r → chainage_on r.course (link.number, mm) ≡ Some at → slice_get r.course at ≡ Some ground
+    → IsQuotient x (pos (across ground.forward mm at (unsigned_abs p.num, p.den))) p.den → IsLowest x → IsRoutePosition routes link p (Ok (r.name, x))
+is_route_position routes link p x mm at r ground fine is over e s q low =
     let there : route_over routes (millimetre_at link p) ≡ Some r = ap (λ (k : ℕ). route_over routes (link.number, k)) (sym is) ∙ over in
-    let P : ℕ → Type 0 = λ k. IsQuotient x (pos (across entry.forward k at (unsigned_abs p.num, p.den))) p.den in
+    let P : ℕ → Type 0 = λ k. IsQuotient x (pos (across ground.forward k at (unsigned_abs p.num, p.den))) p.den in
     let lies : LiesOnRoute routes link p r.name x = record {
       route = r;
       runs_over = there;
       same_name = refl;
       at = at;
-      is_entry = ap (λ (k : ℕ). entry_of r.course (link.number, k)) (sym is) ∙ e;
-      entry = entry;
+      is_at_chainage = ap (λ (k : ℕ). chainage_on r.course (link.number, k)) (sym is) ∙ e;
+      ground = ground;
       stands = s;
       value = subst P is q;
       lowest = low;

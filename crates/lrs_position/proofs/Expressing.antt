@@ -19,10 +19,10 @@ use Rattle.lrs_position.specs.Translating.{misses_referent, chainage_fault, Expr
 use Rattle.lrs_position.proofs.Located.{IsSound, distance_scaled}
 
 -- where the referent stands and the chainage is right, the answer is the expression
-pub expression_ok : (a : Alignment) (entry_of : Name → Option ℕ) (x : Fraction) (target : Target) (e : Expr) → misses_referent entry_of target ≡ false → chainage_fault (length a.course) x ≡ None → Expresses a entry_of x target e → IsExpression a entry_of x target (Ok e)
-expression_ok a entry_of x target e m f h = by_case (misses_referent entry_of target) (chainage_fault (length a.course) x) m f
+pub expression_ok : (a : Alignment) (chainage_on : Name → Option ℕ) (x : Fraction) (target : Target) (e : Expr) → misses_referent chainage_on target ≡ false → chainage_fault (length a.course) x ≡ None → Expresses a chainage_on x target e → IsExpression a chainage_on x target (Ok e)
+expression_ok a chainage_on x target e m f h = by_case (misses_referent chainage_on target) (chainage_fault (length a.course) x) m f
   where
-    by_case : (b : Bool) (o : Option PlaceFault) → b ≡ false → o ≡ None → MatchOption (cond b (Some NoRef) o) (IsOkAnd {T = Expr} {E = PlaceFault} (Ok e) (Expresses a entry_of x target)) (λ fault. ◌≡◌ {A = Result Expr PlaceFault} (Ok e) (Err fault))
+    by_case : (b : Bool) (o : Option PlaceFault) → b ≡ false → o ≡ None → MatchOption (cond b (Some NoRef) o) (IsOkAnd {T = Expr} {E = PlaceFault} (Ok e) (Expresses a chainage_on x target)) (λ fault. ◌≡◌ {A = Result Expr PlaceFault} (Ok e) (Err fault))
     by_case true o b p = absurd (cc b)
     by_case false None b p = h
     by_case false (Some y) b p = absurd (cc p)
@@ -50,8 +50,8 @@ pub difference_in_range : (n b d : ℕ) → 0 < d → d ≤ 10 ^ 16 → n ≤ 10
 difference_in_range n b d p f h k = record { positive = p; denominator = omega arith; numerator = size_bound _ n b (difference_given n b h k) h k }
 
 -- the difference over the chainage's denominator is the distance
-pub distance_expressed : (a : Alignment) (entry_of : Name → Option ℕ) (x t : Fraction) (name : Name) (n at : ℕ) (z : ℤ) → IsLowest x → IsLowest t → x.num ≡ pos n → n ≤ length a.course * x.den → entry_of name ≡ Some at → pos (at * x.den) +ℤ z ≡ pos n → IsQuotient t z x.den → Expresses a entry_of x (target.Rel name) (Rel name t)
-distance_expressed a entry_of x t name n at z lx lt e l s d q =
+pub distance_expressed : (a : Alignment) (chainage_on : Name → Option ℕ) (x t : Fraction) (name : Name) (n at : ℕ) (z : ℤ) → IsLowest x → IsLowest t → x.num ≡ pos n → n ≤ length a.course * x.den → chainage_on name ≡ Some at → pos (at * x.den) +ℤ z ≡ pos n → IsQuotient t z x.den → Expresses a chainage_on x (target.Rel name) (Rel name t)
+distance_expressed a chainage_on x t name n at z lx lt e l s d q =
     let f : pos (n * t.den) ≡ pos (at * x.den * t.den) +ℤ (z *ℤ pos t.den) = distance_scaled at x.den n t.den z d in
     let turn : at * x.den * t.den ≡ at * t.den * x.den = omega arith in
     record {
@@ -60,19 +60,19 @@ distance_expressed a entry_of x t name n at z lx lt e l s d q =
       located = (n, e, (at, s, lx.positive, f ∙ ap (λ (k : ℕ). pos k +ℤ (z *ℤ pos t.den)) turn ∙ ap (λ (y : ℤ). pos (at * t.den * x.den) +ℤ y) (sym q), l));
     }
 
-stands : (entry_of : Name → Option ℕ) (name : Name) (at : ℕ) → entry_of name ≡ Some at → misses_referent entry_of (target.Rel name) ≡ false
-stands entry_of name at e = rw e refl
+stands : (chainage_on : Name → Option ℕ) (name : Name) (at : ℕ) → chainage_on name ≡ Some at → misses_referent chainage_on (target.Rel name) ≡ false
+stands chainage_on name at e = rw e refl
 
-pub distance_ok : (a : Alignment) (entry_of : Name → Option ℕ) (x t : Fraction) (name : Name) (n at d : ℕ) (z : ℤ) → IsLowest x → IsLowest t → chainage_fault (length a.course) x ≡ None → x.num ≡ pos n → n ≤ length a.course * x.den → entry_of name ≡ Some at → d ≡ x.den → pos (at * d) +ℤ z ≡ pos n → IsQuotient t z d → IsExpression a entry_of x (target.Rel name) (Ok (Rel name t))
-distance_ok a entry_of x t name n at d z lx lt f e l s ed g q =
+pub distance_ok : (a : Alignment) (chainage_on : Name → Option ℕ) (x t : Fraction) (name : Name) (n at d : ℕ) (z : ℤ) → IsLowest x → IsLowest t → chainage_fault (length a.course) x ≡ None → x.num ≡ pos n → n ≤ length a.course * x.den → chainage_on name ≡ Some at → d ≡ x.den → pos (at * d) +ℤ z ≡ pos n → IsQuotient t z d → IsExpression a chainage_on x (target.Rel name) (Ok (Rel name t))
+distance_ok a chainage_on x t name n at d z lx lt f e l s ed g q =
     let P : ℕ → Type 0 = λ k. (pos (at * k) +ℤ z ≡ pos n) × IsQuotient t z k in
     let r = subst P ed (g, q) in
-    expression_ok a entry_of x (target.Rel name) (Rel name t) (stands entry_of name at s) f (distance_expressed a entry_of x t name n at z lx lt e l s r.0 r.1)
+    expression_ok a chainage_on x (target.Rel name) (Rel name t) (stands chainage_on name at s) f (distance_expressed a chainage_on x t name n at z lx lt e l s r.0 r.1)
 
 -- ---- a proportion
 
-pub proportion_expressed : (a : Alignment) (entry_of : Name → Option ℕ) (x p : Fraction) (n : ℕ) → IsSound a → IsLowest x → IsLowest p → x.num ≡ pos n → n ≤ length a.course * x.den → IsQuotient p (pos n) (x.den * length a.course) → Expresses a entry_of x target.Int (Int p)
-proportion_expressed a entry_of x p n s lx lp e l q =
+pub proportion_expressed : (a : Alignment) (chainage_on : Name → Option ℕ) (x p : Fraction) (n : ℕ) → IsSound a → IsLowest x → IsLowest p → x.num ≡ pos n → n ≤ length a.course * x.den → IsQuotient p (pos n) (x.den * length a.course) → Expresses a chainage_on x target.Int (Int p)
+proportion_expressed a chainage_on x p n s lx lp e l q =
     let w : 0 < x.den * length a.course = mul-pos lx.positive s.positive in
     let k = natural_quotient p n (x.den * length a.course) w q in
     let m : n * p.den ≤ length a.course * x.den * p.den = mul-le-mul_right p.den l in
@@ -84,10 +84,10 @@ proportion_expressed a entry_of x p n s lx lp e l q =
       located = (n, e, (unsigned_abs p.num, k.0, le_of_mul-le-mul_right b w, lx.positive, sym k.1 ∙ omega arith));
     }
 
-pub proportion_found : (a : Alignment) (entry_of : Name → Option ℕ) (x p : Fraction) (n d len : ℕ) → IsSound a → IsLowest x → IsLowest p → chainage_fault (length a.course) x ≡ None → x.num ≡ pos n → n ≤ length a.course * x.den → x.den ≤ 10 ^ 16 → d ≡ x.den → len ≡ length a.course → IsQuotient p (to_z w128 n) (d * len) → IsExpression a entry_of x target.Int (Ok (Int p))
-proportion_found a entry_of x p n d len s lx lp f e l fine ed el q =
+pub proportion_found : (a : Alignment) (chainage_on : Name → Option ℕ) (x p : Fraction) (n d len : ℕ) → IsSound a → IsLowest x → IsLowest p → chainage_fault (length a.course) x ≡ None → x.num ≡ pos n → n ≤ length a.course * x.den → x.den ≤ 10 ^ 16 → d ≡ x.den → len ≡ length a.course → IsQuotient p (to_z w128 n) (d * len) → IsExpression a chainage_on x target.Int (Ok (Int p))
+proportion_found a chainage_on x p n d len s lx lp f e l fine ed el q =
     let m : length a.course * x.den ≤ 10_000_000_000 * 10_000_000_000_000_000 = mul-le (length a.course) x.den 10_000_000_000 10_000_000_000_000_000 s.longest (omega arith) in
     let given : to_z w128 n ≡ pos n = to_z_pos w128 n (omega arith) in
     let r : IsQuotient p (pos n) (d * len) = rw given at q in
     let P : ℕ → ℕ → Type 0 = λ b c. IsQuotient p (pos n) (b * c) in
-    expression_ok a entry_of x target.Int (Int p) refl f (proportion_expressed a entry_of x p n s lx lp e l (subst (λ (c : ℕ). P x.den c) el (subst (λ (b : ℕ). P b len) ed r)))
+    expression_ok a chainage_on x target.Int (Int p) refl f (proportion_expressed a chainage_on x p n s lx lp e l (subst (λ (c : ℕ). P x.den c) el (subst (λ (b : ℕ). P b len) ed r)))

@@ -105,10 +105,10 @@ sound_proportion len den (pos n) x dp h =
     (n, refl, leb-true _ _ c.0, subst (λ (k : ℕ). 0 < k) den_is dp, ap (λ (k : ℕ). k * den) (sym num_is) ∙ ap (λ (k : ℕ). n * len * k) den_is)
 sound_proportion len den (negsuc n) x dp h = absurd (cc h)
 
-pub located-sound : (a : Alignment) (entry_of : Name → Option ℕ) (e : Expr) (x : ℕ × ℕ) → IsSound a → 0 < (number_of e).den → located a entry_of e ≡ Some x → Locates a entry_of e x
-located-sound a entry_of (Abs m) x s dp h = sound_measure a m.num m.den x s dp h
-located-sound a entry_of (Rel name t) x s dp h = sound_distance (length a.course) t.den t.num (entry_of name) x dp h
-located-sound a entry_of (Int p) x s dp h = sound_proportion (length a.course) p.den p.num x dp h
+pub located-sound : (a : Alignment) (chainage_on : Name → Option ℕ) (e : Expr) (x : ℕ × ℕ) → IsSound a → 0 < (number_of e).den → located a chainage_on e ≡ Some x → Locates a chainage_on e x
+located-sound a chainage_on (Abs m) x s dp h = sound_measure a m.num m.den x s dp h
+located-sound a chainage_on (Rel name t) x s dp h = sound_distance (length a.course) t.den t.num (chainage_on name) x dp h
+located-sound a chainage_on (Int p) x s dp h = sound_proportion (length a.course) p.den p.num x dp h
 
 -- ---- what is located is found
 
@@ -121,16 +121,16 @@ within_some len d n z e h = rw (e, le-leb _ _ h) refl
 proportion_some : (len den n : ℕ) (z : ℤ) → z ≡ pos n → n ≤ den → is_some (at_proportion len z den) ≡ true
 proportion_some len den n z e h = rw (e, le-leb _ _ h) refl
 
-pub located-some : (a : Alignment) (entry_of : Name → Option ℕ) (e : Expr) (x : ℕ × ℕ) → IsSound a → Locates a entry_of e x → is_some (located a entry_of e) ≡ true
-located-some a entry_of (Abs m) x s h = rw h.1 (chainage_at-some a.marks h.0 m.den x.0 x.1 s.climb h.2 h.3)
-located-some a entry_of (Rel name t) x s h =
+pub located-some : (a : Alignment) (chainage_on : Name → Option ℕ) (e : Expr) (x : ℕ × ℕ) → IsSound a → Locates a chainage_on e x → is_some (located a chainage_on e) ≡ true
+located-some a chainage_on (Abs m) x s h = rw h.1 (chainage_at-some a.marks h.0 m.den x.0 x.1 s.climb h.2 h.3)
+located-some a chainage_on (Rel name t) x s h =
     let n = distance_natural h.0 t.den x.0 x.1 t.num h.2 h.3 in
     let l : x.0 * t.den ≤ length a.course * x.1 * t.den = mul-le-mul_right t.den h.4 in
     let nd = n.2 in
     let m : n.0 * x.1 ≤ length a.course * t.den * x.1 = omega arith in
     let below : n.0 ≤ length a.course * t.den = le_of_mul-le-mul_right m h.2 in
-    at_some (λ at. within (length a.course) (pos (at * t.den) +ℤ t.num) t.den) (entry_of name) h.0 h.1 (within_some (length a.course) t.den n.0 _ n.1 below)
-located-some a entry_of (Int p) x s h = proportion_some (length a.course) p.den h.0 p.num h.1 h.2
+    at_some (λ at. within (length a.course) (pos (at * t.den) +ℤ t.num) t.den) (chainage_on name) h.0 h.1 (within_some (length a.course) t.den n.0 _ n.1 below)
+located-some a chainage_on (Int p) x s h = proportion_some (length a.course) p.den h.0 p.num h.1 h.2
 
 -- ---- a place has one value, and may be written with another denominator
 
@@ -140,17 +140,17 @@ same_quotient n den x d y b p e f =
     eq_of_mul-eq-mul_right den p (x * b) (y * d)
     (let g : n * d * b ≡ x * den * b = ap (λ (k : ℕ). k * b) e in let h : n * b * d ≡ y * den * d = ap (λ (k : ℕ). k * d) f in omega arith)
 
-pub Locates-same : (a : Alignment) (entry_of : Name → Option ℕ) (e : Expr) (x y : ℕ × ℕ) → IsSound a → 0 < (number_of e).den → Locates a entry_of e x → Locates a entry_of e y → x.0 * y.1 ≡ y.0 * x.1
-Locates-same a entry_of (Abs m) x y s dp h k =
+pub Locates-same : (a : Alignment) (chainage_on : Name → Option ℕ) (e : Expr) (x y : ℕ × ℕ) → IsSound a → 0 < (number_of e).den → Locates a chainage_on e x → Locates a chainage_on e y → x.0 * y.1 ≡ y.0 * x.1
+Locates-same a chainage_on (Abs m) x y s dp h k =
     let n_same : h.0 ≡ k.0 = pos_injective _ _ (sym h.1 ∙ k.1) in
     same_chainage a.marks x.0 x.1 h.0 m.den y.0 y.1 k.0 m.den s.climb h.2 k.2 dp dp h.3 k.3 (ap (λ (i : ℕ). i * m.den) n_same)
-Locates-same a entry_of (Rel name t) x y s dp h k =
+Locates-same a chainage_on (Rel name t) x y s dp h k =
     let at_same : h.0 ≡ k.0 = same_Some _ _ (sym h.1 ∙ k.1) in
     let n = distance_natural h.0 t.den x.0 x.1 t.num h.2 h.3 in
     let m = distance_natural k.0 t.den y.0 y.1 t.num k.2 k.3 in
     let n_same : n.0 ≡ m.0 = pos_injective _ _ (sym n.1 ∙ ap (λ (i : ℕ). pos (i * t.den) +ℤ t.num) at_same ∙ m.1) in
     same_quotient n.0 t.den x.0 x.1 y.0 y.1 dp n.2 (ap (λ (i : ℕ). i * y.1) n_same ∙ m.2)
-Locates-same a entry_of (Int p) x y s dp h k =
+Locates-same a chainage_on (Int p) x y s dp h k =
     let n_same : h.0 ≡ k.0 = pos_injective _ _ (sym h.1 ∙ k.1) in
     same_quotient (h.0 * length a.course) p.den x.0 x.1 y.0 y.1 dp (sym h.4) (ap (λ (i : ℕ). i * length a.course * y.1) n_same ∙ sym k.4)
 
@@ -166,21 +166,21 @@ bound_scaled len x d y b p e h =
     let m : y * d ≤ len * b * d = omega arith in
     le_of_mul-le-mul_right m p
 
-pub Locates-scale : (a : Alignment) (entry_of : Name → Option ℕ) (e : Expr) (x y : ℕ × ℕ) → IsSound a → 0 < y.1 → Locates a entry_of e x → x.0 * y.1 ≡ y.0 * x.1 → Locates a entry_of e y
-Locates-scale a entry_of (Abs m) x y s yp h v = (h.0, h.1, yp, IsOnLine-scale a.marks x.0 x.1 h.0 m.den y.0 y.1 s.climb h.2 yp h.3 v)
-Locates-scale a entry_of (Rel name t) x y s yp h v =
+pub Locates-scale : (a : Alignment) (chainage_on : Name → Option ℕ) (e : Expr) (x y : ℕ × ℕ) → IsSound a → 0 < y.1 → Locates a chainage_on e x → x.0 * y.1 ≡ y.0 * x.1 → Locates a chainage_on e y
+Locates-scale a chainage_on (Abs m) x y s yp h v = (h.0, h.1, yp, IsOnLine-scale a.marks x.0 x.1 h.0 m.den y.0 y.1 s.climb h.2 yp h.3 v)
+Locates-scale a chainage_on (Rel name t) x y s yp h v =
     let n = distance_natural h.0 t.den x.0 x.1 t.num h.2 h.3 in
     let q : n.0 * y.1 ≡ y.0 * t.den = other_quotient n.0 t.den x.0 x.1 y.0 y.1 h.2 n.2 v in
     let e : pos (n.0 * y.1) ≡ pos (h.0 * t.den * y.1) +ℤ (t.num *ℤ pos y.1) = distance_scaled h.0 t.den n.0 y.1 t.num n.1 in
     (h.0, h.1, yp, ap pos (sym q) ∙ e, bound_scaled (length a.course) x.0 x.1 y.0 y.1 h.2 v h.4)
-Locates-scale a entry_of (Int p) x y s yp h v =
+Locates-scale a chainage_on (Int p) x y s yp h v =
     (h.0, h.1, h.2, yp, sym (other_quotient (h.0 * length a.course) p.den x.0 x.1 y.0 y.1 h.3 (sym h.4) v))
 
 -- what is located is on the route
-pub Locates-within : (a : Alignment) (entry_of : Name → Option ℕ) (e : Expr) (x : ℕ × ℕ) → IsSound a → 0 < (number_of e).den → Locates a entry_of e x → (0 < x.1) × (x.0 ≤ length a.course * x.1)
-Locates-within a entry_of (Abs m) x s dp h = (h.2, subst (λ (k : ℕ). x.0 ≤ k * x.1) s.end (before_end a.marks x.0 x.1 h.0 m.den s.climb h.2 h.3))
-Locates-within a entry_of (Rel name t) x s dp h = (h.2, h.4)
-Locates-within a entry_of (Int p) x s dp h =
+pub Locates-within : (a : Alignment) (chainage_on : Name → Option ℕ) (e : Expr) (x : ℕ × ℕ) → IsSound a → 0 < (number_of e).den → Locates a chainage_on e x → (0 < x.1) × (x.0 ≤ length a.course * x.1)
+Locates-within a chainage_on (Abs m) x s dp h = (h.2, subst (λ (k : ℕ). x.0 ≤ k * x.1) s.end (before_end a.marks x.0 x.1 h.0 m.den s.climb h.2 h.3))
+Locates-within a chainage_on (Rel name t) x s dp h = (h.2, h.4)
+Locates-within a chainage_on (Int p) x s dp h =
     let l : h.0 * (length a.course * x.1) ≤ p.den * (length a.course * x.1) = mul-le-mul_right (length a.course * x.1) h.2 in
     let e = h.4 in
     let m : x.0 * p.den ≤ length a.course * x.1 * p.den = omega arith in
@@ -214,20 +214,20 @@ equal_proportions len x d p q n m lp dp e f h k =
     equal_naturals p q n m e f (same_numbers n p.den m q.den x (len * d) (mul-pos lp dp) (sym (h ∙ omega arith)) (sym (k ∙ omega arith)))
 
 -- By one method, and from one referent, one expression in lowest terms locates a chainage.
-pub same_expression : (a : Alignment) (entry_of : Name → Option ℕ) (e f : Expr) (x : ℕ × ℕ) → IsSound a → IsLowest (number_of e) → IsLowest (number_of f) → target_of e ≡ target_of f → Locates a entry_of e x → Locates a entry_of f x → e ≡ f
-same_expression a entry_of (Abs m) (Abs n) x s le lf t h k =
+pub same_expression : (a : Alignment) (chainage_on : Name → Option ℕ) (e f : Expr) (x : ℕ × ℕ) → IsSound a → IsLowest (number_of e) → IsLowest (number_of f) → target_of e ≡ target_of f → Locates a chainage_on e x → Locates a chainage_on f x → e ≡ f
+same_expression a chainage_on (Abs m) (Abs n) x s le lf t h k =
     let v : h.0 * n.den ≡ k.0 * m.den = same_measure a.marks x.0 x.1 h.0 m.den x.0 x.1 k.0 n.den s.climb h.2 h.2 h.3 k.3 refl in
     ap Abs (same_fraction m n le lf (equal_naturals m n h.0 k.0 h.1 k.1 v))
-same_expression a entry_of (Abs m) (Rel name u) x s le lf t h k = absurd (cc t)
-same_expression a entry_of (Abs m) (Int q) x s le lf t h k = absurd (cc t)
-same_expression a entry_of (Rel name u) (Abs n) x s le lf t h k = absurd (cc t)
-same_expression a entry_of (Rel name u) (Rel other v) x s le lf t h k =
+same_expression a chainage_on (Abs m) (Rel name u) x s le lf t h k = absurd (cc t)
+same_expression a chainage_on (Abs m) (Int q) x s le lf t h k = absurd (cc t)
+same_expression a chainage_on (Rel name u) (Abs n) x s le lf t h k = absurd (cc t)
+same_expression a chainage_on (Rel name u) (Rel other v) x s le lf t h k =
     let names : name ≡ other = cc t in
-    let at_same : h.0 ≡ k.0 = same_Some _ _ (sym h.1 ∙ ap entry_of names ∙ k.1) in
+    let at_same : h.0 ≡ k.0 = same_Some _ _ (sym h.1 ∙ ap chainage_on names ∙ k.1) in
     let there : pos (x.0 * v.den) ≡ pos (h.0 * v.den * x.1) +ℤ (v.num *ℤ pos x.1) = subst (λ (at : ℕ). pos (x.0 * v.den) ≡ pos (at * v.den * x.1) +ℤ (v.num *ℤ pos x.1)) (sym at_same) k.3 in
     let numbers : u ≡ v = same_fraction u v le lf (equal_distances h.0 x.0 x.1 u v h.2 h.3 there) in
     λ i. Rel (names i) (numbers i)
-same_expression a entry_of (Rel name u) (Int q) x s le lf t h k = absurd (cc t)
-same_expression a entry_of (Int p) (Abs n) x s le lf t h k = absurd (cc t)
-same_expression a entry_of (Int p) (Rel name u) x s le lf t h k = absurd (cc t)
-same_expression a entry_of (Int p) (Int q) x s le lf t h k = ap Int (same_fraction p q le lf (equal_proportions (length a.course) x.0 x.1 p q h.0 k.0 s.positive h.3 h.1 k.1 h.4 k.4))
+same_expression a chainage_on (Rel name u) (Int q) x s le lf t h k = absurd (cc t)
+same_expression a chainage_on (Int p) (Abs n) x s le lf t h k = absurd (cc t)
+same_expression a chainage_on (Int p) (Rel name u) x s le lf t h k = absurd (cc t)
+same_expression a chainage_on (Int p) (Int q) x s le lf t h k = ap Int (same_fraction p q le lf (equal_proportions (length a.course) x.0 x.1 p q h.0 k.0 s.positive h.3 h.1 k.1 h.4 k.4))

@@ -42,19 +42,19 @@ proportion_den : (len den : ℕ) (num : ℤ) (y : ℕ × ℕ) → at_proportion 
 proportion_den len den (pos n) y h = let c = cond_some (nat_le n den) (n * len, den) y h in ap (λ (p : ℕ × ℕ). p.1) c.1
 proportion_den len den (negsuc n) y h = absurd (cc h)
 
-located_fine : (a : Alignment) (entry_of : Name → Option ℕ) (e : Expr) (y : ℕ × ℕ) → IsSound a → is_too_fine e ≡ false → located a entry_of e ≡ Some y → y.1 ≤ 10 ^ 27
-located_fine a entry_of (Abs m) y s f l = measure_den a m.num m.den y s (ltb-false _ _ f) l
-located_fine a entry_of (Rel name t) y s f l = let d = distance_den (length a.course) t.den t.num (entry_of name) y l in let b : t.den ≤ 10 ^ 16 = ltb-false _ _ f in omega arith
-located_fine a entry_of (Int p) y s f l = let d = proportion_den (length a.course) p.den p.num y l in let b : p.den ≤ 10 ^ 21 = ltb-false _ _ f in omega arith
+located_fine : (a : Alignment) (chainage_on : Name → Option ℕ) (e : Expr) (y : ℕ × ℕ) → IsSound a → is_too_fine e ≡ false → located a chainage_on e ≡ Some y → y.1 ≤ 10 ^ 27
+located_fine a chainage_on (Abs m) y s f l = measure_den a m.num m.den y s (ltb-false _ _ f) l
+located_fine a chainage_on (Rel name t) y s f l = let d = distance_den (length a.course) t.den t.num (chainage_on name) y l in let b : t.den ≤ 10 ^ 16 = ltb-false _ _ f in omega arith
+located_fine a chainage_on (Int p) y s f l = let d = proportion_den (length a.course) p.den p.num y l in let b : p.den ≤ 10 ^ 21 = ltb-false _ _ f in omega arith
 
 -- the denominator of a chainage that is located
-pub den_of : (a : Alignment) (entry_of : Name → Option ℕ) (e : Expr) (r : Result Fraction PlaceFault) → IsSound a → 0 < (number_of e).den → IsAnswer (located_or_fault a entry_of e) r → IfOk r (λ x. x.den ≤ 10 ^ 27)
-den_of a entry_of e (Err f) s dp h = tt
-den_of a entry_of e (Ok x) s dp h =
-    let f = found_value (lacks_referent entry_of e) (is_too_fine e) (located a entry_of e) x h in
-    let fine = found_fine (lacks_referent entry_of e) (is_too_fine e) (located a entry_of e) x h in
-    let yp = (Locates-within a entry_of e f.0 s dp (located-sound a entry_of e f.0 s dp f.1)).0 in
-    le_trans (le_of_dvd yp (den_divides x (pos f.0.0) f.0.1 f.3 f.2)) (located_fine a entry_of e f.0 s fine f.1)
+pub den_of : (a : Alignment) (chainage_on : Name → Option ℕ) (e : Expr) (r : Result Fraction PlaceFault) → IsSound a → 0 < (number_of e).den → IsAnswer (located_or_fault a chainage_on e) r → IfOk r (λ x. x.den ≤ 10 ^ 27)
+den_of a chainage_on e (Err f) s dp h = tt
+den_of a chainage_on e (Ok x) s dp h =
+    let f = found_value (lacks_referent chainage_on e) (is_too_fine e) (located a chainage_on e) x h in
+    let fine = found_fine (lacks_referent chainage_on e) (is_too_fine e) (located a chainage_on e) x h in
+    let yp = (Locates-within a chainage_on e f.0 s dp (located-sound a chainage_on e f.0 s dp f.1)).0 in
+    le_trans (le_of_dvd yp (den_divides x (pos f.0.0) f.0.1 f.3 f.2)) (located_fine a chainage_on e f.0 s fine f.1)
 
 -- ---- a place within an entry
 

@@ -7,7 +7,7 @@ use Rattle.std.proofs.lemmas.Option.{none-some, same_Some, slice_get-get_or, sli
 use Rattle.std.proofs.lemmas.List.Folds.{find_at}
 use Rattle.std.proofs.lemmas.List.Sums.{fails_before_first, passes_at_first}
 use Rattle.lrs_element.specs.declared.link.Ground.{Ground}
-use Rattle.lrs_element.specs.Course.{Millimetre, is_at, entry_of}
+use Rattle.lrs_element.specs.Course.{Millimetre, is_at, chainage_on}
 use Rattle.lrs_position.specs.declared.route.Route.{Route}
 use Rattle.lrs_position.proofs.Entries.{some_from, none_from}
 use Rattle.std.proofs.Math.Nat.{div-add-mod', div-eq_of_lt-le, dvd-mul_left, le_of_dvd}
@@ -112,7 +112,7 @@ same_ground : (link mm : ℕ) (g : Ground) → is_at (link, mm) g ≡ true → (
 same_ground link mm g h = let b = and_parts _ _ h in (eqb-true _ _ b.0, eqb-true _ _ b.1)
 
 -- a test of an entry is passed at the first entry
-first_entry : (course : List Ground) (m : Millimetre) (g : Ground) → is_some (entry_of course m) ≡ true → FirstOf (is_at m) course
+first_entry : (course : List Ground) (m : Millimetre) (g : Ground) → is_some (chainage_on course m) ≡ true → FirstOf (is_at m) course
 first_entry [] m g h = absurd (cc h)
 first_entry (x ∷ xs) m g h = ⊎_elim
     (λ (lt : position_or_len (is_at m) (x ∷ xs) < length (x ∷ xs)). first_of_test (is_at m) (x ∷ xs) (position_or_len (is_at m) (x ∷ xs)) _ (slice_get-get_or (x ∷ xs) _ x lt) (passes_at_first (is_at m) (x ∷ xs) x lt))
@@ -120,14 +120,14 @@ first_entry (x ∷ xs) m g h = ⊎_elim
     (cases_lt (position_or_len (is_at m) (x ∷ xs)) (length (x ∷ xs)))
 
 -- where routes share no ground, the route and the entry of a millimetre are found
-shared_found : (routes : List Route) (i j : ℕ) (r : Route) (g : Ground) → ShareNoGround routes → slice_get routes i ≡ Some r → slice_get r.course j ≡ Some g → (route_over routes (g.link, g.mm) ≡ Some r) × (entry_of r.course (g.link, g.mm) ≡ Some j)
+shared_found : (routes : List Route) (i j : ℕ) (r : Route) (g : Ground) → ShareNoGround routes → slice_get routes i ≡ Some r → slice_get r.course j ≡ Some g → (route_over routes (g.link, g.mm) ≡ Some r) × (chainage_on r.course (g.link, g.mm) ≡ Some j)
 shared_found routes i j r g share er eg =
     let m : Millimetre = (g.link, g.mm) in
     let a = first_of_test (is_at m) r.course j g eg (and_from _ _ (eq-eqb g.link g.link refl) (eq-eqb g.mm g.mm refl)) in
     let same = same_ground g.link g.mm a.element a.passes in
     let here = share i a.place r a.element i j r g er a.stands er eg same.0 same.1 in
-    let entry : entry_of r.course m ≡ Some j = sym a.is_position ∙ ap (λ (n : ℕ). Some n) here.1 in
-    let runs : Route → Bool = λ x. is_some (entry_of x.course m) in
+    let entry : chainage_on r.course m ≡ Some j = sym a.is_position ∙ ap (λ (n : ℕ). Some n) here.1 in
+    let runs : Route → Bool = λ x. is_some (chainage_on x.course m) in
     let b = first_of_test runs routes i r er (ap (λ (o : Option ℕ). is_some o) entry) in
     let c = first_entry b.element.course m g b.passes in
     let other = same_ground g.link g.mm c.element c.passes in
@@ -207,7 +207,7 @@ on_link len p n e h = by_case (nat_lt (10 ^ 16) p.den) (nat_le n (len * p.den)) 
 
 -- where the route and the entry are found, the answer is the chainage
 answer_back : (routes : List Route) (link : Link) (p x : Fraction) (answer : Result (Name × Fraction) PlaceFault) (r : Route) (g : Ground) (j : ℕ) → IsRoutePosition routes link p answer → chainage_fault link.length p ≡ None
-    → millimetre_at link p ≡ (g.link, g.mm) → route_over routes (g.link, g.mm) ≡ Some r → entry_of r.course (g.link, g.mm) ≡ Some j → slice_get r.course j ≡ Some g
+    → millimetre_at link p ≡ (g.link, g.mm) → route_over routes (g.link, g.mm) ≡ Some r → chainage_on r.course (g.link, g.mm) ≡ Some j → slice_get r.course j ≡ Some g
     → ((y : Fraction) → IsLowest y → IsQuotient y (pos (across g.forward g.mm j (unsigned_abs p.num, p.den))) p.den → y ≡ x) → answer ≡ Ok (r.name, x)
 answer_back routes link p x answer r g j h fine mm over entry stands value =
     let there : route_over routes (millimetre_at link p) ≡ Some r = ap (route_over routes) mm ∙ over in
@@ -218,8 +218,8 @@ answer_back routes link p x answer r g j h fine mm over entry stands value =
     by_case (Err f) l = absurd l
     by_case (Ok a) l =
         let er : l.route ≡ r = same_Some _ _ (sym l.runs_over ∙ ap (route_over routes) mm ∙ over) in
-        let ej : l.at ≡ j = same_Some _ _ (sym l.is_entry ∙ ap (entry_of l.route.course) mm ∙ ap (λ (s : Route). entry_of s.course (g.link, g.mm)) er ∙ entry) in
-        let eg : l.entry ≡ g = same_Some _ _ (sym l.stands ∙ ap (λ (s : Route). slice_get s.course l.at) er ∙ ap (slice_get r.course) ej ∙ stands) in
+        let ej : l.at ≡ j = same_Some _ _ (sym l.is_at_chainage ∙ ap (chainage_on l.route.course) mm ∙ ap (λ (s : Route). chainage_on s.course (g.link, g.mm)) er ∙ entry) in
+        let eg : l.ground ≡ g = same_Some _ _ (sym l.stands ∙ ap (λ (s : Route). slice_get s.course l.at) er ∙ ap (slice_get r.course) ej ∙ stands) in
         let ek : cell link.length (unsigned_abs p.num, p.den) ≡ g.mm = ap (λ (m : Millimetre). m.1) mm in
         let P : Ground → Type 0 = λ e. IsQuotient a.1 (pos (across e.forward (cell link.length (unsigned_abs p.num, p.den)) l.at (unsigned_abs p.num, p.den))) p.den in
         let Q : ℕ → Type 0 = λ k. IsQuotient a.1 (pos (across g.forward k l.at (unsigned_abs p.num, p.den))) p.den in
@@ -235,7 +235,7 @@ comes_back routes link p answer h share i r x er on low whole lies fine =
     let m = in_middle n x.den low.coprime low.positive whole in
     let j : ℕ = n / x.den in
     let c : cell (length r.course) (n, x.den) ≡ j = middle_cell (length r.course) n x.den j (n % x.den) m refl (size_below x.num _ on.from on.to) in
-    let g : Ground = lies.entry in
+    let g : Ground = lies.ground in
     let stands : slice_get r.course j ≡ Some g = ap (slice_get r.course) (sym c) ∙ lies.stands in
     let V : ℕ → Type 0 = λ k. IsQuotient p (pos (across g.forward k g.mm (n, x.den))) x.den in
     let v = natural_quotient p (across g.forward j g.mm (n, x.den)) x.den low.positive (subst V c lies.value) in

@@ -50,10 +50,10 @@ proportion_den : (len den : ℕ) (num : ℤ) (y : ℕ × ℕ) → den ≤ 1_000_
 proportion_den len den (pos n) y d h = let c = cond_some (nat_le n den) (n * len, den) y h in let e : den ≡ y.1 = ap (λ (p : ℕ × ℕ). p.1) c.1 in omega arith
 proportion_den len den (negsuc n) y d h = absurd (cc h)
 
-located_den : (a : Alignment) (entry_of : Name → Option ℕ) (e : Expr) (y : ℕ × ℕ) → IsSound a → IsTrue (is_entered e) → located a entry_of e ≡ Some y → y.1 ≤ coarse e
-located_den a entry_of (Abs m) y s h l = measure_den a m.num m.den y s (eqb-true _ _ (and_parts _ _ (and_parts _ _ h).0).0) l
-located_den a entry_of (Rel name t) y s h l = distance_den (length a.course) t.den t.num (entry_of name) y (eqb-true _ _ (and_parts _ _ h).0) l
-located_den a entry_of (Int p) y s h l = proportion_den (length a.course) p.den p.num y (leb-true _ _ (and_parts _ _ (and_parts _ _ h).0).0) l
+located_den : (a : Alignment) (chainage_on : Name → Option ℕ) (e : Expr) (y : ℕ × ℕ) → IsSound a → IsTrue (is_entered e) → located a chainage_on e ≡ Some y → y.1 ≤ coarse e
+located_den a chainage_on (Abs m) y s h l = measure_den a m.num m.den y s (eqb-true _ _ (and_parts _ _ (and_parts _ _ h).0).0) l
+located_den a chainage_on (Rel name t) y s h l = distance_den (length a.course) t.den t.num (chainage_on name) y (eqb-true _ _ (and_parts _ _ h).0) l
+located_den a chainage_on (Int p) y s h l = proportion_den (length a.course) p.den p.num y (leb-true _ _ (and_parts _ _ (and_parts _ _ h).0).0) l
 
 measure_limit : (a : Alignment) (m : Fraction) (n x d : ℕ) → IsSound a → IsLowest m → m.num ≡ pos n → 0 < d → IsOnLine a.marks (x, d) (n, m.den) → m.den ≤ length a.course * d
 measure_limit a m n x d s l e p h =
@@ -73,46 +73,46 @@ times_limit : (len d c : ℕ) → len ≤ 10_000_000_000 → d ≤ c → len * d
 times_limit len d c l h = mul-le len d 10_000_000_000 c l h
 
 -- another expression of what an entered one locates is not too fine
-fine_there : (a : Alignment) (entry_of : Name → Option ℕ) (e f : Expr) (x : ℕ × ℕ) → IsSound a → IsTrue (is_entered e) → IsLowest (number_of e) → IsLowest (number_of f) → x.1 ≤ coarse e → Locates a entry_of e x → Locates a entry_of f x → is_too_fine f ≡ false
-fine_there a entry_of (Abs m) (Abs n) x s h le lf c l k = subst (λ (e : Expr). is_too_fine e ≡ false) (same_expression a entry_of (Abs m) (Abs n) x s le lf refl l k) (entered_fine (Abs m) h)
-fine_there a entry_of (Rel name t) (Abs n) x s h le lf c l k = let m = measure_limit a n k.0 x.0 x.1 s lf k.1 k.2 k.3 in let b = times_limit (length a.course) x.1 1 s.longest c in le-ltb _ _ (omega arith)
-fine_there a entry_of (Int p) (Abs n) x s h le lf c l k = let m = measure_limit a n k.0 x.0 x.1 s lf k.1 k.2 k.3 in let b = times_limit (length a.course) x.1 1_000_000 s.longest c in le-ltb _ _ (omega arith)
-fine_there a entry_of (Abs m) (Rel other u) x s h le lf c l k = let d = distance_limit u k.0 x.0 x.1 lf k.2 k.3 in le-ltb _ _ (omega arith)
-fine_there a entry_of (Rel name t) (Rel other u) x s h le lf c l k = let d = distance_limit u k.0 x.0 x.1 lf k.2 k.3 in le-ltb _ _ (omega arith)
-fine_there a entry_of (Int p) (Rel other u) x s h le lf c l k = let d = distance_limit u k.0 x.0 x.1 lf k.2 k.3 in le-ltb _ _ (omega arith)
-fine_there a entry_of (Abs m) (Int q) x s h le lf c l k = let d = proportion_limit q k.0 (length a.course) x.0 x.1 lf s.positive k.1 k.3 k.4 in let b = times_limit (length a.course) x.1 100_000_000_000 s.longest c in le-ltb _ _ (omega arith)
-fine_there a entry_of (Rel name t) (Int q) x s h le lf c l k = let d = proportion_limit q k.0 (length a.course) x.0 x.1 lf s.positive k.1 k.3 k.4 in let b = times_limit (length a.course) x.1 1 s.longest c in le-ltb _ _ (omega arith)
-fine_there a entry_of (Int p) (Int q) x s h le lf c l k = let d = proportion_limit q k.0 (length a.course) x.0 x.1 lf s.positive k.1 k.3 k.4 in let b = times_limit (length a.course) x.1 1_000_000 s.longest c in le-ltb _ _ (omega arith)
+fine_there : (a : Alignment) (chainage_on : Name → Option ℕ) (e f : Expr) (x : ℕ × ℕ) → IsSound a → IsTrue (is_entered e) → IsLowest (number_of e) → IsLowest (number_of f) → x.1 ≤ coarse e → Locates a chainage_on e x → Locates a chainage_on f x → is_too_fine f ≡ false
+fine_there a chainage_on (Abs m) (Abs n) x s h le lf c l k = subst (λ (e : Expr). is_too_fine e ≡ false) (same_expression a chainage_on (Abs m) (Abs n) x s le lf refl l k) (entered_fine (Abs m) h)
+fine_there a chainage_on (Rel name t) (Abs n) x s h le lf c l k = let m = measure_limit a n k.0 x.0 x.1 s lf k.1 k.2 k.3 in let b = times_limit (length a.course) x.1 1 s.longest c in le-ltb _ _ (omega arith)
+fine_there a chainage_on (Int p) (Abs n) x s h le lf c l k = let m = measure_limit a n k.0 x.0 x.1 s lf k.1 k.2 k.3 in let b = times_limit (length a.course) x.1 1_000_000 s.longest c in le-ltb _ _ (omega arith)
+fine_there a chainage_on (Abs m) (Rel other u) x s h le lf c l k = let d = distance_limit u k.0 x.0 x.1 lf k.2 k.3 in le-ltb _ _ (omega arith)
+fine_there a chainage_on (Rel name t) (Rel other u) x s h le lf c l k = let d = distance_limit u k.0 x.0 x.1 lf k.2 k.3 in le-ltb _ _ (omega arith)
+fine_there a chainage_on (Int p) (Rel other u) x s h le lf c l k = let d = distance_limit u k.0 x.0 x.1 lf k.2 k.3 in le-ltb _ _ (omega arith)
+fine_there a chainage_on (Abs m) (Int q) x s h le lf c l k = let d = proportion_limit q k.0 (length a.course) x.0 x.1 lf s.positive k.1 k.3 k.4 in let b = times_limit (length a.course) x.1 100_000_000_000 s.longest c in le-ltb _ _ (omega arith)
+fine_there a chainage_on (Rel name t) (Int q) x s h le lf c l k = let d = proportion_limit q k.0 (length a.course) x.0 x.1 lf s.positive k.1 k.3 k.4 in let b = times_limit (length a.course) x.1 1 s.longest c in le-ltb _ _ (omega arith)
+fine_there a chainage_on (Int p) (Int q) x s h le lf c l k = let d = proportion_limit q k.0 (length a.course) x.0 x.1 lf s.positive k.1 k.3 k.4 in let b = times_limit (length a.course) x.1 1_000_000 s.longest c in le-ltb _ _ (omega arith)
 
 -- ---- one translation
 
 -- the chainage that a translation goes by
-record Leg (a : Alignment) (entry_of : Name → Option ℕ) (e : Expr) (target : Target) (answer : Result Expr PlaceFault) (x : ℕ × ℕ) : Type 0 where
+record Leg (a : Alignment) (chainage_on : Name → Option ℕ) (e : Expr) (target : Target) (answer : Result Expr PlaceFault) (x : ℕ × ℕ) : Type 0 where
   y : ℕ × ℕ
-  found : located a entry_of e ≡ Some y
+  found : located a chainage_on e ≡ Some y
   place : Fraction
   lowest : IsLowest place
   from : IsQuotient place (pos y.0) y.1
   value : IsQuotient place (pos x.0) x.1
-  expressed : IsExpression a entry_of place target answer
+  expressed : IsExpression a chainage_on place target answer
 
-leg_from : (a : Alignment) (entry_of : Name → Option ℕ) (e : Expr) (target : Target) (answer : Result Expr PlaceFault) (x : ℕ × ℕ) → IsSound a → 0 < (number_of e).den → Locates a entry_of e x
-    → (o : Option (ℕ × ℕ)) → located a entry_of e ≡ o → (place : Result Fraction PlaceFault) → IsAnswer (ok_or o OffRoute) place → MatchResult place (λ q. IsExpression a entry_of q target answer) (λ fault. answer ≡ Err fault) → Leg a entry_of e target answer x
-leg_from a entry_of e target answer x s dp l None k place j m = absurd (cc (located-some a entry_of e x s l, k))
-leg_from a entry_of e target answer x s dp l (Some y) k (Err f) j m = absurd j
-leg_from a entry_of e target answer x s dp l (Some y) k (Ok q) j m =
-    let n = located-sound a entry_of e y s dp k in
-    record { y = y; found = k; place = q; lowest = j.1; from = j.0; value = quotient_of_same q x y (Locates-within a entry_of e y s dp n).0 j.0 (Locates-same a entry_of e x y s dp l n); expressed = m }
+leg_from : (a : Alignment) (chainage_on : Name → Option ℕ) (e : Expr) (target : Target) (answer : Result Expr PlaceFault) (x : ℕ × ℕ) → IsSound a → 0 < (number_of e).den → Locates a chainage_on e x
+    → (o : Option (ℕ × ℕ)) → located a chainage_on e ≡ o → (place : Result Fraction PlaceFault) → IsAnswer (ok_or o OffRoute) place → MatchResult place (λ q. IsExpression a chainage_on q target answer) (λ fault. answer ≡ Err fault) → Leg a chainage_on e target answer x
+leg_from a chainage_on e target answer x s dp l None k place j m = absurd (cc (located-some a chainage_on e x s l, k))
+leg_from a chainage_on e target answer x s dp l (Some y) k (Err f) j m = absurd j
+leg_from a chainage_on e target answer x s dp l (Some y) k (Ok q) j m =
+    let n = located-sound a chainage_on e y s dp k in
+    record { y = y; found = k; place = q; lowest = j.1; from = j.0; value = quotient_of_same q x y (Locates-within a chainage_on e y s dp n).0 j.0 (Locates-same a chainage_on e x y s dp l n); expressed = m }
 
-leg : (a : Alignment) (entry_of : Name → Option ℕ) (e : Expr) (target : Target) (answer : Result Expr PlaceFault) (x : ℕ × ℕ) → IsSound a → 0 < (number_of e).den → Locates a entry_of e x → is_too_fine e ≡ false → Translates a entry_of e target answer → Leg a entry_of e target answer x
-leg a entry_of e target answer x s dp l fine t =
-    leg_from a entry_of e target answer x s dp l (located a entry_of e) refl t.0 (rw (lacks_not a entry_of e x l, fine) at t.1) t.2
+leg : (a : Alignment) (chainage_on : Name → Option ℕ) (e : Expr) (target : Target) (answer : Result Expr PlaceFault) (x : ℕ × ℕ) → IsSound a → 0 < (number_of e).den → Locates a chainage_on e x → is_too_fine e ≡ false → Translates a chainage_on e target answer → Leg a chainage_on e target answer x
+leg a chainage_on e target answer x s dp l fine t =
+    leg_from a chainage_on e target answer x s dp l (located a chainage_on e) refl t.0 (rw (lacks_not a chainage_on e x l, fine) at t.1) t.2
 
 -- an expression is answered where nothing is wrong
-expressed_from : (a : Alignment) (entry_of : Name → Option ℕ) (q : Fraction) (target : Target) (answer : Result Expr PlaceFault) → misses_referent entry_of target ≡ false → chainage_fault (length a.course) q ≡ None → IsExpression a entry_of q target answer → (e : Expr) × (answer ≡ Ok e) × Expresses a entry_of q target e
-expressed_from a entry_of q target answer m f h = by_case (misses_referent entry_of target) (chainage_fault (length a.course) q) m f answer h
+expressed_from : (a : Alignment) (chainage_on : Name → Option ℕ) (q : Fraction) (target : Target) (answer : Result Expr PlaceFault) → misses_referent chainage_on target ≡ false → chainage_fault (length a.course) q ≡ None → IsExpression a chainage_on q target answer → (e : Expr) × (answer ≡ Ok e) × Expresses a chainage_on q target e
+expressed_from a chainage_on q target answer m f h = by_case (misses_referent chainage_on target) (chainage_fault (length a.course) q) m f answer h
   where
-    by_case : (b : Bool) (o : Option PlaceFault) → b ≡ false → o ≡ None → (r : Result Expr PlaceFault) → MatchOption (cond b (Some NoRef) o) (IsOkAnd r (Expresses a entry_of q target)) (λ fault. r ≡ Err fault) → (e : Expr) × (r ≡ Ok e) × Expresses a entry_of q target e
+    by_case : (b : Bool) (o : Option PlaceFault) → b ≡ false → o ≡ None → (r : Result Expr PlaceFault) → MatchOption (cond b (Some NoRef) o) (IsOkAnd r (Expresses a chainage_on q target)) (λ fault. r ≡ Err fault) → (e : Expr) × (r ≡ Ok e) × Expresses a chainage_on q target e
     by_case true o b p r j = absurd (cc b)
     by_case false (Some y) b p r j = absurd (cc p)
     by_case false None b p (Err y) j = absurd j
@@ -122,10 +122,10 @@ expressed_from a entry_of q target answer m f h = by_case (misses_referent entry
 no_fault : (len : ℕ) (q : Fraction) (n : ℕ) → q.num ≡ pos n → n ≤ len * q.den → q.den ≤ 10 ^ 16 → chainage_fault len q ≡ None
 no_fault len q n e l f = rw (le-ltb _ _ f, e, le-leb _ _ l) refl
 
-misses_not : (a : Alignment) (entry_of : Name → Option ℕ) (e : Expr) (x : ℕ × ℕ) → Locates a entry_of e x → misses_referent entry_of (target_of e) ≡ false
-misses_not a entry_of (Abs m) x h = refl
-misses_not a entry_of (Rel name t) x h = rw h.1 refl
-misses_not a entry_of (Int p) x h = refl
+misses_not : (a : Alignment) (chainage_on : Name → Option ℕ) (e : Expr) (x : ℕ × ℕ) → Locates a chainage_on e x → misses_referent chainage_on (target_of e) ≡ false
+misses_not a chainage_on (Abs m) x h = refl
+misses_not a chainage_on (Rel name t) x h = rw h.1 refl
+misses_not a chainage_on (Int p) x h = refl
 
 coarse_fine : (e : Expr) (d : ℕ) → d ≤ coarse e → d ≤ 10 ^ 16
 coarse_fine (Abs m) d h = omega arith
@@ -145,55 +145,55 @@ same_place p q x d dp lp lq h k =
 -- ---- the round trip
 
 -- what is known after the way there
-record There (a : Alignment) (entry_of : Name → Option ℕ) (e : Expr) (target : Target) (answer : Result Expr PlaceFault) (x : ℕ × ℕ) : Type 0 where
+record There (a : Alignment) (chainage_on : Name → Option ℕ) (e : Expr) (target : Target) (answer : Result Expr PlaceFault) (x : ℕ × ℕ) : Type 0 where
   place : Fraction
   along : ℕ
   num_is : place.num ≡ pos along
   lowest : IsLowest place
   value : IsQuotient place (pos x.0) x.1
-  here : Locates a entry_of e (along, place.den)
+  here : Locates a chainage_on e (along, place.den)
   fault : chainage_fault (length a.course) place ≡ None
   small : place.den ≤ coarse e
   there : Expr
   answered : answer ≡ Ok there
-  expressed : Expresses a entry_of place target there
+  expressed : Expresses a chainage_on place target there
 
-way_there : (a : Alignment) (entry_of : Name → Option ℕ) (e : Expr) (target : Target) (answer : Result Expr PlaceFault) (x : ℕ × ℕ) → IsSound a → IsLowest (number_of e) → IsTrue (is_entered e) → Locates a entry_of e x → misses_referent entry_of target ≡ false → Translates a entry_of e target answer → There a entry_of e target answer x
-way_there a entry_of e target answer x s le h l m t =
-    let g = leg a entry_of e target answer x s le.positive l (entered_fine e h) t in
-    let w = Locates-within a entry_of e x s le.positive l in
+way_there : (a : Alignment) (chainage_on : Name → Option ℕ) (e : Expr) (target : Target) (answer : Result Expr PlaceFault) (x : ℕ × ℕ) → IsSound a → IsLowest (number_of e) → IsTrue (is_entered e) → Locates a chainage_on e x → misses_referent chainage_on target ≡ false → Translates a chainage_on e target answer → There a chainage_on e target answer x
+way_there a chainage_on e target answer x s le h l m t =
+    let g = leg a chainage_on e target answer x s le.positive l (entered_fine e h) t in
+    let w = Locates-within a chainage_on e x s le.positive l in
     let k = natural_quotient g.place x.0 x.1 w.0 g.value in
-    let here : Locates a entry_of e (unsigned_abs g.place.num, g.place.den) = Locates-scale a entry_of e x (unsigned_abs g.place.num, g.place.den) s g.lowest.positive l (sym k.1) in
-    let y_in = Locates-within a entry_of e g.y s le.positive (located-sound a entry_of e g.y s le.positive g.found) in
-    let small : g.place.den ≤ coarse e = le_trans (le_of_dvd y_in.0 (den_divides g.place (pos g.y.0) g.y.1 g.lowest g.from)) (located_den a entry_of e g.y s h g.found) in
-    let fault : chainage_fault (length a.course) g.place ≡ None = no_fault (length a.course) g.place (unsigned_abs g.place.num) k.0 (Locates-within a entry_of e (unsigned_abs g.place.num, g.place.den) s le.positive here).1 (coarse_fine e g.place.den small) in
-    let f = expressed_from a entry_of g.place target answer m fault g.expressed in
+    let here : Locates a chainage_on e (unsigned_abs g.place.num, g.place.den) = Locates-scale a chainage_on e x (unsigned_abs g.place.num, g.place.den) s g.lowest.positive l (sym k.1) in
+    let y_in = Locates-within a chainage_on e g.y s le.positive (located-sound a chainage_on e g.y s le.positive g.found) in
+    let small : g.place.den ≤ coarse e = le_trans (le_of_dvd y_in.0 (den_divides g.place (pos g.y.0) g.y.1 g.lowest g.from)) (located_den a chainage_on e g.y s h g.found) in
+    let fault : chainage_fault (length a.course) g.place ≡ None = no_fault (length a.course) g.place (unsigned_abs g.place.num) k.0 (Locates-within a chainage_on e (unsigned_abs g.place.num, g.place.den) s le.positive here).1 (coarse_fine e g.place.den small) in
+    let f = expressed_from a chainage_on g.place target answer m fault g.expressed in
     record { place = g.place; along = unsigned_abs g.place.num; num_is = k.0; lowest = g.lowest; value = g.value; here = here; fault = fault; small = small; there = f.0; answered = f.1; expressed = f.2 }
 
 -- what is located at a chainage's value is located at the other way to write it
-located_there : (a : Alignment) (entry_of : Name → Option ℕ) (q : Fraction) (f : Expr) (n : ℕ) (l : LocatesAt a entry_of f q) → q.num ≡ pos n → Locates a entry_of f (n, q.den)
-located_there a entry_of q f n l e =
+located_there : (a : Alignment) (chainage_on : Name → Option ℕ) (q : Fraction) (f : Expr) (n : ℕ) (l : LocatesAt a chainage_on f q) → q.num ≡ pos n → Locates a chainage_on f (n, q.den)
+located_there a chainage_on q f n l e =
     let same : l.0 ≡ n = ap unsigned_abs (sym l.1 ∙ e) in
-    subst (λ (k : ℕ). Locates a entry_of f (k, q.den)) same l.2
+    subst (λ (k : ℕ). Locates a chainage_on f (k, q.den)) same l.2
 
-way_back : (a : Alignment) (entry_of : Name → Option ℕ) (e : Expr) (target : Target) (answer back : Result Expr PlaceFault) (x : ℕ × ℕ) → IsSound a → IsLowest (number_of e) → IsTrue (is_entered e) → Locates a entry_of e x → (w : There a entry_of e target answer x) → Translates a entry_of w.there (target_of e) back → back ≡ Ok e
-way_back a entry_of e target answer back x s le h l w t =
+way_back : (a : Alignment) (chainage_on : Name → Option ℕ) (e : Expr) (target : Target) (answer back : Result Expr PlaceFault) (x : ℕ × ℕ) → IsSound a → IsLowest (number_of e) → IsTrue (is_entered e) → Locates a chainage_on e x → (w : There a chainage_on e target answer x) → Translates a chainage_on w.there (target_of e) back → back ≡ Ok e
+way_back a chainage_on e target answer back x s le h l w t =
     let lf = w.expressed.lowest in
-    let at_there : Locates a entry_of w.there (w.along, w.place.den) = located_there a entry_of w.place w.there w.along w.expressed.located w.num_is in
-    let fine : is_too_fine w.there ≡ false = fine_there a entry_of e w.there (w.along, w.place.den) s h le lf w.small w.here at_there in
-    let g = leg a entry_of w.there (target_of e) back (w.along, w.place.den) s lf.positive at_there fine t in
+    let at_there : Locates a chainage_on w.there (w.along, w.place.den) = located_there a chainage_on w.place w.there w.along w.expressed.located w.num_is in
+    let fine : is_too_fine w.there ≡ false = fine_there a chainage_on e w.there (w.along, w.place.den) s h le lf w.small w.here at_there in
+    let g = leg a chainage_on w.there (target_of e) back (w.along, w.place.den) s lf.positive at_there fine t in
     let own : IsQuotient w.place (pos w.along) w.place.den = rw w.num_is refl in
     let place : g.place ≡ w.place = same_place g.place w.place w.along w.place.den w.lowest.positive g.lowest w.lowest g.value own in
-    let expressed : IsExpression a entry_of w.place (target_of e) back = subst (λ (q : Fraction). IsExpression a entry_of q (target_of e) back) place g.expressed in
-    let f = expressed_from a entry_of w.place (target_of e) back (misses_not a entry_of e x l) w.fault expressed in
-    let again : Locates a entry_of f.0 (w.along, w.place.den) = located_there a entry_of w.place f.0 w.along f.2.located w.num_is in
-    f.1 ∙ ap Ok (same_expression a entry_of f.0 e (w.along, w.place.den) s f.2.lowest le f.2.method again w.here)
+    let expressed : IsExpression a chainage_on w.place (target_of e) back = subst (λ (q : Fraction). IsExpression a chainage_on q (target_of e) back) place g.expressed in
+    let f = expressed_from a chainage_on w.place (target_of e) back (misses_not a chainage_on e x l) w.fault expressed in
+    let again : Locates a chainage_on f.0 (w.along, w.place.den) = located_there a chainage_on w.place f.0 w.along f.2.located w.num_is in
+    f.1 ∙ ap Ok (same_expression a chainage_on f.0 e (w.along, w.place.den) s f.2.lowest le f.2.method again w.here)
 
-pub RoundTrip-from_translates : (a : Alignment) (entry_of : Name → Option ℕ) (e : Expr) (target : Target) (answer : Result Expr PlaceFault) → IsSound a → IsLowest (number_of e) → Translates a entry_of e target answer → RoundTrip a entry_of e target answer
-RoundTrip-from_translates a entry_of e target answer s le t = λ h x l m.
-    let w = way_there a entry_of e target answer x s le h l m t in
-    let v = natural_quotient w.place x.0 x.1 (Locates-within a entry_of e x s le.positive l).0 w.value in
+pub RoundTrip-from_translates : (a : Alignment) (chainage_on : Name → Option ℕ) (e : Expr) (target : Target) (answer : Result Expr PlaceFault) → IsSound a → IsLowest (number_of e) → Translates a chainage_on e target answer → RoundTrip a chainage_on e target answer
+RoundTrip-from_translates a chainage_on e target answer s le t = λ h x l m.
+    let w = way_there a chainage_on e target answer x s le h l m t in
+    let v = natural_quotient w.place x.0 x.1 (Locates-within a chainage_on e x s le.positive l).0 w.value in
     let same : w.along ≡ unsigned_abs w.place.num = ap unsigned_abs (sym w.num_is) in
     let scale : w.along * x.1 ≡ x.0 * w.place.den = ap (λ (k : ℕ). k * x.1) same ∙ v.1 in
-    let there : Locates a entry_of w.there x = Locates-scale a entry_of w.there (w.along, w.place.den) x s (Locates-within a entry_of e x s le.positive l).0 (located_there a entry_of w.place w.there w.along w.expressed.located w.num_is) scale in
-    rw w.answered (there, λ back b. way_back a entry_of e target answer back x s le h l w b)
+    let there : Locates a chainage_on w.there x = Locates-scale a chainage_on w.there (w.along, w.place.den) x s (Locates-within a chainage_on e x s le.positive l).0 (located_there a chainage_on w.place w.there w.along w.expressed.located w.num_is) scale in
+    rw w.answered (there, λ back b. way_back a chainage_on e target answer back x s le h l w b)

@@ -1,6 +1,6 @@
 -- Which position expressions can be entered (ISO 19148: position expression, distance expression).
 use Rattle.std.specs.Prelude.{ℕ, ℤ, pos, negsuc, Bool, true, false, ◌&&◌, not, nat_le, nat_eq, Option, Some, None, unsigned_abs}
-use Rattle.lrs_element.specs.Limits.{longest_route, greatest_measure}
+use Rattle.lrs_measure.specs.Limits.{longest_route, greatest_measure}
 use Rattle.lrs_position.specs.declared.expression.Expr.{Expr}
 use Rattle.lrs_position.specs.declared.expression.Expr.TheVariants.{Abs, Rel, Int}
 

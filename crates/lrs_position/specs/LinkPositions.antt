@@ -6,7 +6,7 @@ use Rattle.lrs_measure.specs.Fraction.{Fraction, IsLowest, IsQuotient}
 use Rattle.lrs_measure.specs.Texts.{Name}
 use Rattle.lrs_element.specs.declared.link.Ground.{Ground}
 use Rattle.lrs_element.specs.declared.link.Link.{Link}
-use Rattle.lrs_element.specs.Course.{Millimetre, entry_of}
+use Rattle.lrs_element.specs.Course.{Millimetre, chainage_on}
 use Rattle.lrs_position.specs.declared.expression.Expr.{Expr}
 use Rattle.lrs_position.specs.declared.location.PlaceFault.{PlaceFault}
 use Rattle.lrs_position.specs.declared.location.PlaceFault.TheVariants.{OffRoute}
@@ -18,18 +18,18 @@ use Rattle.lrs_position.specs.Translating.{IsAnswer, IsOnRoute, chainage_fault}
 abbrev pub across : Bool → ℕ → ℕ → ℕ × ℕ → ℕ
 across forward i k (n, d) = if forward then k * d + (n - i * d) else (k + 1) * d - (n - i * d)
 
--- The chainage x of a course is on this link at this distance from its start. At a seam the later entry is meant, at the end the last one.
+-- The chainage x of a course is on this link at this distance from its start. At a seam the later millimetre is meant, at the end the last one.
 pub record LiesOn (course : List Ground) (x : Fraction) (link : ℕ) (distance : Fraction) : Type 0 where
-  pub entry : Ground
-  pub stands : slice_get course (cell (length course) (unsigned_abs x.num, x.den)) ≡ Some entry
-  pub same_link : link ≡ entry.link
-  pub value : IsQuotient distance (pos (across entry.forward (cell (length course) (unsigned_abs x.num, x.den)) entry.mm (unsigned_abs x.num, x.den))) x.den
+  pub ground : Ground
+  pub stands : slice_get course (cell (length course) (unsigned_abs x.num, x.den)) ≡ Some ground
+  pub same_link : link ≡ ground.link
+  pub value : IsQuotient distance (pos (across ground.forward (cell (length course) (unsigned_abs x.num, x.den)) ground.mm (unsigned_abs x.num, x.den))) x.den
   pub lowest : IsLowest distance
 
 -- The answer is the link and the distance of the chainage that an expression locates, or its fault.
 abbrev pub IsLinkPosition : Alignment → (Name → Option ℕ) → Expr → Result (ℕ × Fraction) PlaceFault → Type 0
-IsLinkPosition a entry_of e answer =
-    (place : Result Fraction PlaceFault) × IsAnswer (located_or_fault a entry_of e) place × MatchResult place (λ x. IsOkAnd answer (λ p. LiesOn a.course x p.0 p.1)) (λ fault. answer ≡ Err fault)
+IsLinkPosition a chainage_on e answer =
+    (place : Result Fraction PlaceFault) × IsAnswer (located_or_fault a chainage_on e) place × MatchResult place (λ x. IsOkAnd answer (λ p. LiesOn a.course x p.0 p.1)) (λ fault. answer ≡ Err fault)
 
 -- the millimetre of a link in which a distance from its start stands; at the link's end, the last one
 abbrev pub millimetre_at : Link → Fraction → Millimetre
@@ -37,7 +37,7 @@ millimetre_at link p = (link.number, cell link.length (unsigned_abs p.num, p.den
 
 -- the route that runs over a millimetre of the ground; where routes share it, the first one
 abbrev pub route_over : List Route → Millimetre → Option Route
-route_over routes m = find (λ r. is_some (entry_of r.course m)) routes
+route_over routes m = find (λ r. is_some (chainage_on r.course m)) routes
 
 -- The distance p from the start of a link is on the route of this name, at the chainage x.
 pub record LiesOnRoute (routes : List Route) (link : Link) (p : Fraction) (name : Name) (x : Fraction) : Type 0 where
@@ -45,10 +45,10 @@ pub record LiesOnRoute (routes : List Route) (link : Link) (p : Fraction) (name 
   pub runs_over : route_over routes (millimetre_at link p) ≡ Some route
   pub same_name : name ≡ route.name
   pub at : ℕ
-  pub is_entry : entry_of route.course (millimetre_at link p) ≡ Some at
-  pub entry : Ground
-  pub stands : slice_get route.course at ≡ Some entry
-  pub value : IsQuotient x (pos (across entry.forward (cell link.length (unsigned_abs p.num, p.den)) at (unsigned_abs p.num, p.den))) p.den
+  pub is_at_chainage : chainage_on route.course (millimetre_at link p) ≡ Some at
+  pub ground : Ground
+  pub stands : slice_get route.course at ≡ Some ground
+  pub value : IsQuotient x (pos (across ground.forward (cell link.length (unsigned_abs p.num, p.den)) at (unsigned_abs p.num, p.den))) p.den
   pub lowest : IsLowest x
 
 -- what is wrong with a distance from the start of a link: it is too fine, not on the link, or on no route
@@ -59,7 +59,7 @@ link_fault routes link p = option_or (chainage_fault link.length p) (if is_none 
 abbrev pub IsRoutePosition : List Route → Link → Fraction → Result (Name × Fraction) PlaceFault → Type 0
 IsRoutePosition routes link p answer = MatchOption (link_fault routes link p) (IsOkAnd answer (λ a. LiesOnRoute routes link p a.0 a.1)) (λ fault. answer ≡ Err fault)
 
--- No two entries of the routes are of one millimetre of the ground.
+-- No two millimetres of the routes are of one millimetre of the ground.
 abbrev pub ShareNoGround : List Route → Type 0
 ShareNoGround routes =
     (i j : ℕ) (r : Route) (g : Ground) (k l : ℕ) (s : Route) (h : Ground) → slice_get routes i ≡ Some r → slice_get r.course j ≡ Some g → slice_get routes k ≡ Some s → slice_get s.course l ≡ Some h → g.link ≡ h.link → g.mm ≡ h.mm → (i ≡ k) × (j ≡ l)

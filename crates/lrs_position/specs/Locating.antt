@@ -30,17 +30,17 @@ abbrev pub at_proportion : ℕ → ℤ → ℕ → Option (ℕ × ℕ)
 at_proportion len (pos n) d = if nat_le n d then Some (n * len, d) else None
 at_proportion len (negsuc n) d = None
 
--- The chainage x/d that an expression locates, where there is one; entry_of says at which entry of the course a referent stands, if at any.
+-- The chainage x/d that an expression locates, where there is one; chainage_on says at which entry of the course a referent stands, if at any.
 abbrev pub located : Alignment → (Name → Option ℕ) → Expr → Option (ℕ × ℕ)
-located a entry_of (Abs m) = at_measure a.marks m.num m.den
-located a entry_of (Rel name t) = option_and_then (λ at. within (length a.course) (pos (at * t.den) +ℤ t.num) t.den) (entry_of name)
-located a entry_of (Int p) = at_proportion (length a.course) p.num p.den
+located a chainage_on (Abs m) = at_measure a.marks m.num m.den
+located a chainage_on (Rel name t) = option_and_then (λ at. within (length a.course) (pos (at * t.den) +ℤ t.num) t.den) (chainage_on name)
+located a chainage_on (Int p) = at_proportion (length a.course) p.num p.den
 
 -- whether an expression counts from a referent that is not on the route
 abbrev pub lacks_referent : (Name → Option ℕ) → Expr → Bool
-lacks_referent entry_of (Abs m) = false
-lacks_referent entry_of (Rel name t) = is_none (entry_of name)
-lacks_referent entry_of (Int p) = false
+lacks_referent chainage_on (Abs m) = false
+lacks_referent chainage_on (Rel name t) = is_none (chainage_on name)
+lacks_referent chainage_on (Int p) = false
 
 -- whether the denominator is finer than a method takes
 abbrev pub is_too_fine : Expr → Bool
@@ -50,13 +50,13 @@ is_too_fine (Int p) = nat_lt (10 ^ 21) p.den
 
 -- the chainage that an expression locates, or the first of the faults that it has
 abbrev pub located_or_fault : Alignment → (Name → Option ℕ) → Expr → Result (ℕ × ℕ) PlaceFault
-located_or_fault a entry_of e = if lacks_referent entry_of e then Err NoRef else if is_too_fine e then Err TooFine else ok_or (located a entry_of e) OffRoute
+located_or_fault a chainage_on e = if lacks_referent chainage_on e then Err NoRef else if is_too_fine e then Err TooFine else ok_or (located a chainage_on e) OffRoute
 
 -- An expression locates the chainage x/d on a route, d above 0: the measure there is the stated one, or x is so far from the referent's entry, or it is the proportion of the length.
 abbrev pub Locates : Alignment → (Name → Option ℕ) → Expr → ℕ × ℕ → Type 0
-Locates a entry_of (Abs m) (x, d) = (n : ℕ) × (m.num ≡ pos n) × (0 < d) × IsOnLine a.marks (x, d) (n, m.den)
-Locates a entry_of (Rel name t) (x, d) = (at : ℕ) × (entry_of name ≡ Some at) × (0 < d) × (pos (x * t.den) ≡ pos (at * t.den * d) +ℤ (t.num *ℤ pos d)) × (x ≤ length a.course * d)
-Locates a entry_of (Int p) (x, d) = (n : ℕ) × (p.num ≡ pos n) × (n ≤ p.den) × (0 < d) × (x * p.den ≡ n * length a.course * d)
+Locates a chainage_on (Abs m) (x, d) = (n : ℕ) × (m.num ≡ pos n) × (0 < d) × IsOnLine a.marks (x, d) (n, m.den)
+Locates a chainage_on (Rel name t) (x, d) = (at : ℕ) × (chainage_on name ≡ Some at) × (0 < d) × (pos (x * t.den) ≡ pos (at * t.den * d) +ℤ (t.num *ℤ pos d)) × (x ≤ length a.course * d)
+Locates a chainage_on (Int p) (x, d) = (n : ℕ) × (p.num ≡ pos n) × (n ≤ p.den) × (0 < d) × (x * p.den ≡ n * length a.course * d)
 
 -- An end of a stretch goes to the nearest whole millimetre, a half going up.
 abbrev pub snap : ℕ × ℕ → ℕ

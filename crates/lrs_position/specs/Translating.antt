@@ -4,7 +4,7 @@ use Rattle.std.specs.List.{find}
 use Rattle.std.specs.Option.{option_map}
 use Rattle.lrs_measure.specs.Fraction.{Fraction, IsLowest, IsQuotient}
 use Rattle.lrs_measure.specs.Texts.{Name, same_name}
-use Rattle.lrs_element.specs.Limits.{longest_route}
+use Rattle.lrs_measure.specs.Limits.{longest_route}
 use Rattle.lrs_position.specs.declared.expression.Expr.{Expr}
 use Rattle.lrs_position.specs.declared.expression.Expr.TheVariants as expression
 use Rattle.lrs_position.specs.declared.expression.Target.{Target}
@@ -38,13 +38,13 @@ target_of (expression.Int p) = target.Int
 
 -- whether a target counts from a referent that is not on the route
 abbrev pub misses_referent : (Name → Option ℕ) → Target → Bool
-misses_referent entry_of (target.Abs) = false
-misses_referent entry_of (target.Rel name) = is_none (entry_of name)
-misses_referent entry_of (target.Int) = false
+misses_referent chainage_on (target.Abs) = false
+misses_referent chainage_on (target.Rel name) = is_none (chainage_on name)
+misses_referent chainage_on (target.Int) = false
 
 -- An expression locates the chainage x.
 abbrev pub LocatesAt : Alignment → (Name → Option ℕ) → Expr → Fraction → Type 0
-LocatesAt a entry_of e x = (n : ℕ) × (x.num ≡ pos n) × Locates a entry_of e (n, x.den)
+LocatesAt a chainage_on e x = (n : ℕ) × (x.num ≡ pos n) × Locates a chainage_on e (n, x.den)
 
 -- a chainage on a route of this length
 pub record IsOnRoute (len : ℕ) (x : Fraction) : Type 0 where
@@ -58,10 +58,10 @@ IsAnswer (Ok (n, d)) answer = IsOkAnd answer (λ x. IsQuotient x (pos n) d × Is
 IsAnswer (Err fault) answer = answer ≡ Err fault
 
 -- The expression is by the target's method, counts from its referent, is in lowest terms, and locates the chainage x.
-pub record Expresses (a : Alignment) (entry_of : Name → Option ℕ) (x : Fraction) (target : Target) (e : Expr) : Type 0 where
+pub record Expresses (a : Alignment) (chainage_on : Name → Option ℕ) (x : Fraction) (target : Target) (e : Expr) : Type 0 where
   pub method : target_of e ≡ target
   pub lowest : IsLowest (number_of e)
-  pub located : LocatesAt a entry_of e x
+  pub located : LocatesAt a chainage_on e x
 
 -- what is wrong with a chainage on a route of this length, or with a distance along a link of this length
 abbrev pub chainage_fault : ℕ → Fraction → Option PlaceFault
@@ -69,19 +69,19 @@ chainage_fault len x = if nat_lt (10 ^ 16) x.den then Some TooFine else if is_no
 
 -- the first of the faults that a chainage and a target have
 abbrev pub express_fault : Alignment → (Name → Option ℕ) → Fraction → Target → Option PlaceFault
-express_fault a entry_of x target = if misses_referent entry_of target then Some NoRef else chainage_fault (length a.course) x
+express_fault a chainage_on x target = if misses_referent chainage_on target then Some NoRef else chainage_fault (length a.course) x
 
 -- The answer is the expression of the chainage x by the target, or the first fault.
 abbrev pub IsExpression : Alignment → (Name → Option ℕ) → Fraction → Target → Result Expr PlaceFault → Type 0
-IsExpression a entry_of x target answer = MatchOption (express_fault a entry_of x target) (IsOkAnd answer (Expresses a entry_of x target)) (λ fault. answer ≡ Err fault)
+IsExpression a chainage_on x target answer = MatchOption (express_fault a chainage_on x target) (IsOkAnd answer (Expresses a chainage_on x target)) (λ fault. answer ≡ Err fault)
 
 -- The answer is what comes of locating an expression and then expressing its chainage by the target.
 abbrev pub Translates : Alignment → (Name → Option ℕ) → Expr → Target → Result Expr PlaceFault → Type 0
-Translates a entry_of e target answer =
-    (place : Result Fraction PlaceFault) × IsAnswer (located_or_fault a entry_of e) place × MatchResult place (λ x. IsExpression a entry_of x target answer) (λ fault. answer ≡ Err fault)
+Translates a chainage_on e target answer =
+    (place : Result Fraction PlaceFault) × IsAnswer (located_or_fault a chainage_on e) place × MatchResult place (λ x. IsExpression a chainage_on x target answer) (λ fault. answer ≡ Err fault)
 
 -- The round trip: an entered expression that locates a chainage is translated by every target whose referent is on the route, to an expression that locates the same chainage; and whatever translating that one back to the first one's method and referent answers is the first one.
 abbrev pub RoundTrip : Alignment → (Name → Option ℕ) → Expr → Target → Result Expr PlaceFault → Type 0
-RoundTrip a entry_of e target answer =
-    IsTrue (is_entered e) → (x : ℕ × ℕ) → Locates a entry_of e x → misses_referent entry_of target ≡ false
-    → IsOkAnd answer (λ there. Locates a entry_of there x × ((back : Result Expr PlaceFault) → Translates a entry_of there (target_of e) back → back ≡ Ok e))
+RoundTrip a chainage_on e target answer =
+    IsTrue (is_entered e) → (x : ℕ × ℕ) → Locates a chainage_on e x → misses_referent chainage_on target ≡ false
+    → IsOkAnd answer (λ there. Locates a chainage_on there x × ((back : Result Expr PlaceFault) → Translates a chainage_on there (target_of e) back → back ≡ Ok e))

@@ -6,17 +6,9 @@ ghost use Rattle.lrs_position.specs.Expressions;
 
 use crate::name::RefName;
 use lrs_measure::Frac;
+use lrs_measure::limits::{GREATEST_DENOMINATOR, GREATEST_DISTANCE, GREATEST_MEASURE};
 use std::fmt;
 use std::marker::Model;
-
-/// The greatest measure that can be entered.
-pub(crate) const GREATEST_MEASURE: u64 = 100_000_000_000;
-
-/// The greatest distance that can be entered, in millimetres either way.
-pub(crate) const GREATEST_DISTANCE: u64 = 10_000_000_000;
-
-/// The greatest denominator of a proportion that can be entered.
-pub(crate) const GREATEST_DENOMINATOR: u64 = 1_000_000;
 
 /// A position expression (ISO 19148): the distance expression and the method that interprets it.
 #[derive(Clone, Copy, PartialEq, Eq)]
@@ -180,7 +172,8 @@ impl Model for EventLocation {
 impl EventLocation {
     /// The location at a position, or from one position to another, if both are by one method.
     pub fn new(from: EnteredPosition, to: Option<EnteredPosition>) -> Option<EventLocation>
-        ensures { SomeIff result (IsTrue (Expressions.are_alike from to)) (record { from = from; to = to }) }
+        ensures { SomeIff result (IsTrue (Expressions.are_alike from to))
+            (record { from = from; to = to }) }
     {
         if !are_alike(&from, &to) {
             return None;

@@ -4,7 +4,7 @@ ghost use Rattle.std.specs.Prelude.{◌≡◌, ℕ, pos, ◌+◌, ◌-◌, ◌*�
 ghost use Rattle.lrs_measure.specs.Fraction.{IsLowest, IsQuotient};
 ghost use Rattle.lrs_element.specs.Course as ground;
 ghost use Rattle.lrs_element.specs.Course.{expand, is_at};
-ghost use Rattle.lrs_element.specs.Limits.{longest_route};
+ghost use Rattle.lrs_measure.specs.Limits.{longest_route};
 ghost use Rattle.lrs_position.specs.LinkPositions as linked;
 ghost use Rattle.lrs_position.specs.LinkPositions.{LiesOn, IsLinkPosition, IsRoutePosition, ComesBack};
 ghost use Rattle.lrs_position.specs.Locating as place;
@@ -25,7 +25,8 @@ use lrs_measure::Frac;
 /// # Errors
 /// Those of `locate`.
 pub fn route_to_link(route: &Route, expression: Expr) -> Result<(u32, Frac), PlaceFault>
-    ensures { IsLinkPosition (alignment_of route.now) (referent_at route.now.refs) expression result }
+    ensures { IsLinkPosition (alignment_of route.now)
+        (referent_at route.now.refs) expression result }
 {
     match locate(route, expression) {
         Err(fault) => Err(fault),
@@ -71,10 +72,12 @@ pub fn link_to_route(
 
 /// The millimetre of a link that a distance from its start stands in.
 fn millimetre_at(link: Link, distance: Frac) -> Result<u32, PlaceFault>
-    ensures ok { IfOk result (λ mm. (chainage_fault link.length distance ≡ None) × (mm ≡ place.cell link.length (unsigned_abs distance.num, distance.den))) }
+    ensures ok { IfOk result (λ mm. (chainage_fault link.length distance ≡ None)
+        × (mm ≡ place.cell link.length (unsigned_abs distance.num, distance.den))) }
     ensures err { IfErr result (λ fault. chainage_fault link.length distance ≡ Some fault) }
     ensures behind { IfOk result (λ mm. mm * distance.den ≤ unsigned_abs distance.num) }
-    ensures inside { IfOk result (λ mm. unsigned_abs distance.num - mm * distance.den ≤ distance.den) }
+    ensures inside { IfOk result (λ mm. unsigned_abs distance.num - mm * distance.den
+        ≤ distance.den) }
 {
     let length = u64::from(link.length);
     match checked_along(length, distance) {
@@ -83,13 +86,14 @@ fn millimetre_at(link: Link, distance: Frac) -> Result<u32, PlaceFault>
     }
 }
 
-/// The first of the routes that runs over a millimetre of a link, and the entry of its course.
+/// The first of the routes that runs over a millimetre of a link, and its chainage on it.
 fn route_over(routes: &[Route], link: u32, mm: u32) -> Option<(&Route, u64)>
     ensures none { IfNone result (linked.route_over routes.now (link, mm) ≡ None) }
-    ensures some { IfSome result (λ found. (linked.route_over routes.now (link, mm) ≡ Some found.0.now) × (ground.entry_of found.0.now.course (link, mm) ≡ Some found.1)) }
+    ensures some { IfSome result (λ found. (linked.route_over routes.now (link, mm)
+        ≡ Some found.0.now) × (ground.chainage_on found.0.now.course (link, mm) ≡ Some found.1)) }
 {
     for route in routes {
-        match entry_of(&route.course, link, mm) {
+        match chainage_on(&route.course, link, mm) {
             Some(at) => return Some((route, at)),
             None => {}
         }
@@ -97,9 +101,9 @@ fn route_over(routes: &[Route], link: u32, mm: u32) -> Option<(&Route, u64)>
     None
 }
 
-/// At which entry of a course a millimetre of a link is.
-fn entry_of(course: &Course, link: u32, mm: u32) -> Option<u64>
-    ensures { result ≡ ground.entry_of course.now (link, mm) }
+/// At which chainage of a course a millimetre of a link is.
+fn chainage_on(course: &Course, link: u32, mm: u32) -> Option<u64>
+    ensures { result ≡ ground.chainage_on course.now (link, mm) }
 {
     let _length = course.len();
     let mut start = 0;
@@ -135,9 +139,9 @@ fn link_position(route: &Route, chainage: Frac) -> Option<(u32, Frac)>
     ensures { IsSomeAnd result (λ p. LiesOn route.now.course chainage p.0 p.1) }
 {
     let place = cell(chainage, route.length());
-    let entry = route.course.ground(place);
-    match across(chainage, place, u64::from(entry.mm), entry.forward) {
-        Some(distance) => Some((entry.link, distance)),
+    let here = route.course.ground(place);
+    match across(chainage, place, u64::from(here.mm), here.forward) {
+        Some(distance) => Some((here.link, distance)),
         None => None,
     }
 }
@@ -150,7 +154,9 @@ fn across(place: Frac, from: u64, to: u64, forward: bool) -> Option<Frac>
     requires inside { unsigned_abs place.num - from * place.den ≤ place.den }
     requires fine { place.den ≤ 10 ^ 27 }
     requires far { to ≤ longest_route }
-    ensures { IsSomeAnd result (λ q. IsQuotient q (pos (linked.across forward from to (unsigned_abs place.num, place.den))) place.den × IsLowest q) }
+    ensures { IsSomeAnd result (λ q. IsQuotient q
+        (pos (linked.across forward from to (unsigned_abs place.num, place.den))) place.den
+        × IsLowest q) }
 {
     let num = place.num() as u128;
     let den = place.den();

@@ -3,7 +3,7 @@
 ghost use Rattle.std.specs.Prelude.{◌≡◌, ℕ, ◌*◌, ◌^◌, ◌<◌, ◌≤◌, ◌≤ℤ◌, ℤ, pos, false, length, min, unsigned_abs, IfOk, IsOkAnd};
 ghost use Rattle.std.specs.Option.{ok_or};
 ghost use Rattle.lrs_measure.specs.Fraction.{IsLowest, IsQuotient};
-ghost use Rattle.lrs_element.specs.Limits.{longest_route};
+ghost use Rattle.lrs_measure.specs.Limits.{longest_route};
 ghost use Rattle.lrs_position.specs.declared.expression.Expr.TheVariants.{Abs, Rel, Int};
 ghost use Rattle.lrs_position.specs.declared.location.PlaceFault.TheVariants.{OffRoute};
 ghost use Rattle.lrs_position.specs.Locating as place;
@@ -14,12 +14,7 @@ use crate::expression::Expr;
 use crate::name::RefName;
 use crate::route::Route;
 use lrs_measure::Frac;
-
-/// The finest denominator of a measure, a distance or a chainage.
-pub(crate) const FINEST: u128 = 10_000_000_000_000_000;
-
-/// The finest denominator of a proportion.
-const FINEST_PROPORTION: u128 = 1_000_000_000_000_000_000_000;
+use lrs_measure::limits::{FINEST, FINEST_PROPORTION};
 
 /// Why a position expression is refused, in the order of the checks.
 #[derive(Clone, Copy, Debug, PartialEq, Eq)]
@@ -37,11 +32,15 @@ pub enum PlaceFault {
 /// # Errors
 /// The first that applies of `NoRef`, `TooFine` and `OffRoute`.
 pub fn locate(route: &Route, expression: Expr) -> Result<Frac, PlaceFault>
-    ensures answer { IsAnswer (located_or_fault (alignment_of route.now) (referent_at route.now.refs) expression) result }
+    ensures answer { IsAnswer (located_or_fault (alignment_of route.now)
+        (referent_at route.now.refs) expression) result }
 
     // What is answered is located, and what can be located is answered.
-    ensures place { IfOk result (λ x. LocatesAt (alignment_of route.now) (referent_at route.now.refs) expression x) }
-    ensures found { (x : ℕ × ℕ) → Locates (alignment_of route.now) (referent_at route.now.refs) expression x → is_too_fine expression ≡ false → IsOkAnd result (λ q. IsQuotient q (pos x.0) x.1) }
+    ensures place { IfOk result (λ x. LocatesAt (alignment_of route.now)
+        (referent_at route.now.refs) expression x) }
+    ensures found { (x : ℕ × ℕ) → Locates (alignment_of route.now)
+        (referent_at route.now.refs) expression x → is_too_fine expression ≡ false
+        → IsOkAnd result (λ q. IsQuotient q (pos x.0) x.1) }
     ensures lowest { IfOk result (λ x. IsLowest x) }
     ensures on_route { IfOk result (λ x. IsOnRoute (length route.now.course) x) }
 
@@ -58,7 +57,8 @@ pub fn locate(route: &Route, expression: Expr) -> Result<Frac, PlaceFault>
 
 /// The chainage at a measure of the marks.
 fn locate_measure(route: &Route, measure: Frac) -> Result<Frac, PlaceFault>
-    ensures answer { IsAnswer (located_or_fault (alignment_of route.now) (referent_at route.now.refs) (Abs measure)) result }
+    ensures answer { IsAnswer (located_or_fault (alignment_of route.now)
+        (referent_at route.now.refs) (Abs measure)) result }
     ensures number { IsLowest measure }
 {
     let _num = measure.num();
@@ -74,7 +74,8 @@ fn locate_measure(route: &Route, measure: Frac) -> Result<Frac, PlaceFault>
 
 /// The chainage at a distance from a referent.
 fn locate_distance(route: &Route, name: RefName, distance: Frac) -> Result<Frac, PlaceFault>
-    ensures answer { IsAnswer (located_or_fault (alignment_of route.now) (referent_at route.now.refs) (Rel name distance)) result }
+    ensures answer { IsAnswer (located_or_fault (alignment_of route.now)
+        (referent_at route.now.refs) (Rel name distance)) result }
     ensures number { IsLowest distance }
 {
     let num = distance.num();
@@ -93,7 +94,8 @@ fn locate_distance(route: &Route, name: RefName, distance: Frac) -> Result<Frac,
 
 /// The chainage at a proportion of the route's length.
 fn locate_proportion(route: &Route, proportion: Frac) -> Result<Frac, PlaceFault>
-    ensures answer { IsAnswer (located_or_fault (alignment_of route.now) (referent_at route.now.refs) (Int proportion)) result }
+    ensures answer { IsAnswer (located_or_fault (alignment_of route.now)
+        (referent_at route.now.refs) (Int proportion)) result }
     ensures number { IsLowest proportion }
 {
     let num = proportion.num();

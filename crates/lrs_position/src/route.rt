@@ -1,7 +1,7 @@
 //! Routes: linear elements made of links, with their marks and referents.
 
 ghost use Rattle.std.specs.Prelude.{◌≡◌, ◌<◌, ◌≤◌, length, IsTrue, IfOk};
-ghost use Rattle.lrs_element.specs.Limits.{longest_route};
+ghost use Rattle.lrs_measure.specs.Limits.{longest_route};
 ghost use Rattle.lrs_element.specs.Marks.{last_mark};
 ghost use Rattle.lrs_position.specs.Routes.{is_route};
 

@@ -8,10 +8,9 @@ ghost use Rattle.lrs_position.specs.declared.expression.Target.{Target};
 ghost use Rattle.lrs_position.specs.Readings;
 ghost use Rattle.lrs_position.specs.Readings.{States, IsNamed, method_text, target_text, is_sign, name_text, distance_text};
 
-use crate::expression::{
-    Expr, GREATEST_DENOMINATOR, GREATEST_DISTANCE, GREATEST_MEASURE, Method, Target,
-};
+use crate::expression::{Expr, Method, Target};
 use crate::name::RefName;
+use lrs_measure::limits::{GREATEST_DENOMINATOR, GREATEST_DISTANCE, GREATEST_MEASURE};
 use lrs_measure::{Frac, read_digits, read_fraction, read_signed};
 
 /// The method of this text: `abs`, `rel` or `int`.
@@ -30,7 +29,8 @@ pub fn read_method(bytes: &[u8]) -> Option<Method>
 /// The target of this text: `abs`, `int`, or `rel:` and the name of a referent.
 pub fn read_target(bytes: &[u8]) -> Option<Target>
     ensures read { IfSome result (λ target. (bytes.now ≡ target_text target) × IsNamed target) }
-    ensures found { (target : Target) → IsNamed target → bytes.now ≡ target_text target → result ≡ Some target }
+    ensures found { (target : Target) → IsNamed target → bytes.now ≡ target_text target
+        → result ≡ Some target }
 {
     match bytes {
         b"abs" => Some(Target::Abs),
@@ -76,7 +76,8 @@ fn split_at_sign(bytes: &[u8]) -> Option<(&[u8], &[u8])>
 /// slash between, the second not 0 and the first not above it.
 pub fn read_expr(method: Method, bytes: &[u8]) -> Option<Expr>
     ensures read { IfSome result (λ expression. States method bytes.now expression) }
-    ensures found { (expression : Expr) → States method bytes.now expression → result ≡ Some expression }
+    ensures found { (expression : Expr) → States method bytes.now expression
+        → result ≡ Some expression }
 {
     match method {
         Method::Abs => read_measure(bytes),
@@ -87,7 +88,8 @@ pub fn read_expr(method: Method, bytes: &[u8]) -> Option<Expr>
 
 fn read_measure(bytes: &[u8]) -> Option<Expr>
     ensures read { IfSome result (λ expression. States method.Abs bytes.now expression) }
-    ensures found { (expression : Expr) → States method.Abs bytes.now expression → result ≡ Some expression }
+    ensures found { (expression : Expr) → States method.Abs bytes.now expression
+        → result ≡ Some expression }
 {
     let value = read_digits(bytes, GREATEST_MEASURE)?;
     Some(Expr::Abs(whole(value as i64)?))
@@ -95,7 +97,8 @@ fn read_measure(bytes: &[u8]) -> Option<Expr>
 
 fn read_distance(bytes: &[u8]) -> Option<Expr>
     ensures read { IfSome result (λ expression. States method.Rel bytes.now expression) }
-    ensures found { (expression : Expr) → States method.Rel bytes.now expression → result ≡ Some expression }
+    ensures found { (expression : Expr) → States method.Rel bytes.now expression
+        → result ≡ Some expression }
 {
     let (name, distance) = split_at_sign(bytes)?;
     let name = RefName::new(name)?;
@@ -105,7 +108,8 @@ fn read_distance(bytes: &[u8]) -> Option<Expr>
 
 fn read_proportion(bytes: &[u8]) -> Option<Expr>
     ensures read { IfSome result (λ expression. States method.Int bytes.now expression) }
-    ensures found { (expression : Expr) → States method.Int bytes.now expression → result ≡ Some expression }
+    ensures found { (expression : Expr) → States method.Int bytes.now expression
+        → result ≡ Some expression }
 {
     let proportion = read_fraction(bytes, GREATEST_DENOMINATOR)?;
     if proportion.num().unsigned_abs() > proportion.den() {

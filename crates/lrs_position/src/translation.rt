@@ -2,22 +2,24 @@
 
 ghost use Rattle.std.specs.Prelude.{◌≡◌, ◌<◌, ◌≤◌, ◌*◌, pos, length, None, Some, IfOk, IfErr, MatchResult};
 ghost use Rattle.lrs_measure.specs.Fraction.{IsLowest};
-ghost use Rattle.lrs_element.specs.Limits.{longest_route};
+ghost use Rattle.lrs_measure.specs.Limits.{longest_route};
 ghost use Rattle.lrs_position.specs.declared.expression.Target.TheVariants.{Abs, Rel, Int};
 ghost use Rattle.lrs_position.specs.Translating.{alignment_of, referent_at, chainage_fault, IsExpression, Translates, RoundTrip};
 
 use crate::expression::{Expr, Target};
-use crate::location::{FINEST, PlaceFault, locate};
+use crate::location::{PlaceFault, locate};
 use crate::name::RefName;
 use crate::route::Route;
 use lrs_measure::Frac;
+use lrs_measure::limits::FINEST;
 
 /// The expression by the target's method that locates a chainage in millimetres.
 ///
 /// # Errors
 /// The first that applies of `NoRef`, `TooFine` (a denominator above 10^16) and `OffRoute`.
 pub fn express(route: &Route, chainage: Frac, target: Target) -> Result<Expr, PlaceFault>
-    ensures { IsExpression (alignment_of route.now) (referent_at route.now.refs) chainage target result }
+    ensures { IsExpression (alignment_of route.now)
+        (referent_at route.now.refs) chainage target result }
 {
     match target {
         Target::Abs => express_measure(route, chainage),
@@ -29,7 +31,8 @@ pub fn express(route: &Route, chainage: Frac, target: Target) -> Result<Expr, Pl
 /// The numerator of a distance that is on a linear element of this length and not too fine.
 pub(crate) fn checked_along(length: u64, distance: Frac) -> Result<u128, PlaceFault>
     requires { length ≤ longest_route }
-    ensures ok { IfOk result (λ n. (chainage_fault length distance ≡ None) × (distance.num ≡ pos n) × (n ≤ length * distance.den) × (distance.den ≤ FINEST)) }
+    ensures ok { IfOk result (λ n. (chainage_fault length distance ≡ None) × (distance.num ≡ pos n)
+        × (n ≤ length * distance.den) × (distance.den ≤ FINEST)) }
     ensures err { IfErr result (λ fault. chainage_fault length distance ≡ Some fault) }
     ensures lowest { IsLowest distance }
 {
@@ -46,8 +49,11 @@ pub(crate) fn checked_along(length: u64, distance: Frac) -> Result<u128, PlaceFa
 
 /// The numerator of a chainage that is on the route and not too fine.
 fn checked(route: &Route, chainage: Frac) -> Result<u128, PlaceFault>
-    ensures ok { IfOk result (λ n. (chainage_fault (length route.now.course) chainage ≡ None) × (chainage.num ≡ pos n) × (n ≤ length route.now.course * chainage.den) × (chainage.den ≤ FINEST)) }
-    ensures err { IfErr result (λ fault. chainage_fault (length route.now.course) chainage ≡ Some fault) }
+    ensures ok { IfOk result (λ n. (chainage_fault (length route.now.course) chainage ≡ None)
+        × (chainage.num ≡ pos n) × (n ≤ length route.now.course * chainage.den)
+        × (chainage.den ≤ FINEST)) }
+    ensures err { IfErr result (λ fault. chainage_fault (length route.now.course) chainage
+        ≡ Some fault) }
     ensures lowest { IsLowest chainage }
 {
     checked_along(route.length(), chainage)
@@ -55,7 +61,8 @@ fn checked(route: &Route, chainage: Frac) -> Result<u128, PlaceFault>
 
 /// The measure at a chainage.
 fn express_measure(route: &Route, chainage: Frac) -> Result<Expr, PlaceFault>
-    ensures { IsExpression (alignment_of route.now) (referent_at route.now.refs) chainage Abs result }
+    ensures { IsExpression (alignment_of route.now)
+        (referent_at route.now.refs) chainage Abs result }
 {
     let _length = route.length();
     match checked(route, chainage) {
@@ -69,7 +76,8 @@ fn express_measure(route: &Route, chainage: Frac) -> Result<Expr, PlaceFault>
 
 /// The distance of a chainage from a referent.
 fn express_distance(route: &Route, chainage: Frac, name: RefName) -> Result<Expr, PlaceFault>
-    ensures { IsExpression (alignment_of route.now) (referent_at route.now.refs) chainage (Rel name) result }
+    ensures { IsExpression (alignment_of route.now) (referent_at route.now.refs) chainage
+        (Rel name) result }
 {
     match route.referent(name) {
         None => Err(PlaceFault::NoRef),
@@ -89,7 +97,8 @@ fn express_distance(route: &Route, chainage: Frac, name: RefName) -> Result<Expr
 
 /// The proportion of the route's length at a chainage.
 fn express_proportion(route: &Route, chainage: Frac) -> Result<Expr, PlaceFault>
-    ensures { IsExpression (alignment_of route.now) (referent_at route.now.refs) chainage Int result }
+    ensures { IsExpression (alignment_of route.now)
+        (referent_at route.now.refs) chainage Int result }
 {
     match checked(route, chainage) {
         Err(fault) => Err(fault),
@@ -108,10 +117,12 @@ fn express_proportion(route: &Route, chainage: Frac) -> Result<Expr, PlaceFault>
 /// # Errors
 /// Those of `locate`, and then those of `express`.
 pub fn translate(route: &Route, expression: Expr, target: Target) -> Result<Expr, PlaceFault>
-    ensures answer { Translates (alignment_of route.now) (referent_at route.now.refs) expression target result }
+    ensures answer { Translates (alignment_of route.now)
+        (referent_at route.now.refs) expression target result }
 
     // An entered expression comes back from each translation.
-    ensures round_trip { RoundTrip (alignment_of route.now) (referent_at route.now.refs) expression target result }
+    ensures round_trip { RoundTrip (alignment_of route.now)
+        (referent_at route.now.refs) expression target result }
 {
     match locate(route, expression) {
         Ok(chainage) => express(route, chainage, target),

@@ -7,7 +7,7 @@ use Rattle.std.proofs.lemmas.List.{take_more, take_all}
 use Rattle.lrs_measure.specs.Texts.{Name}
 use Rattle.lrs_element.specs.declared.link.Piece.{Piece}
 use Rattle.lrs_element.specs.Course.{Millimetre}
-use Rattle.lrs_position_index.specs.declared.ground_index.Stretch.{Stretch}
+use Rattle.lrs_position_index.specs.declared.ground_index.LinkStretch.{LinkStretch}
 use Rattle.lrs_position_index.specs.Ground.{Stretches, route_over, IsWhole, AreWhole, StaysWhole}
 use Rattle.lrs_position_index.specs.Stretches.{AreApart, IsCut, IsPart, AreParts}
 use Rattle.lrs_position_index.proofs.Over.{IsOver, over_gives, over_from, over_stretch, same_answer, no_answer, one_stretch}
@@ -63,7 +63,7 @@ whole_cut kept p front rear = record {
 -- ---- one cut
 
 -- What begins at x once the stretch from a to s.end is cut at e: the rear, the front, or what began there.
-data IsNow (old : Stretches) (l a e : ℕ) (s : Stretch) (x : Millimetre) (t : Stretch) : Type 0 where
+data IsNow (old : Stretches) (l a e : ℕ) (s : LinkStretch) (x : Millimetre) (t : LinkStretch) : Type 0 where
   rear : x ≡ (l, e) → t ≡ s → IsNow old l a e s x t
   front : x ≡ (l, a) → t ≡ record { end = e; route = s.route } → IsNow old l a e s x t
   same : x ≢ (l, a) → get old x ≡ Some t → IsNow old l a e s x t
@@ -74,20 +74,20 @@ link_of i = ap (λ (q : Millimetre). q.0) i
 place_of : {x y : Millimetre} → x ≡ y → x.1 ≡ y.1
 place_of i = ap (λ (q : Millimetre). q.1) i
 
-end_of : {s t : Stretch} → s ≡ t → s.end ≡ t.end
-end_of j = ap (λ (x : Stretch). x.end) j
+end_of : {s t : LinkStretch} → s ≡ t → s.end ≡ t.end
+end_of j = ap (λ (x : LinkStretch). x.end) j
 
-route_of : {s t : Stretch} → s ≡ t → s.route ≡ t.route
-route_of j = ap (λ (x : Stretch). x.route) j
+route_of : {s t : LinkStretch} → s ≡ t → s.route ≡ t.route
+route_of j = ap (λ (x : LinkStretch). x.route) j
 
-on_link : (kept : Stretches) (k l x : ℕ) (t : Stretch) → k ≡ l → get kept (k, x) ≡ Some t → get kept (l, x) ≡ Some t
+on_link : (kept : Stretches) (k l x : ℕ) (t : LinkStretch) → k ≡ l → get kept (k, x) ≡ Some t → get kept (l, x) ≡ Some t
 on_link kept k l x t n h = ap (λ (k : ℕ). get kept (k, x)) (sym n) ∙ h
 
 one_place : (k l x a : ℕ) → k ≡ l → a ≤ x → x ≤ a → ◌≡◌ {A = Millimetre} (k, x) (l, a)
 one_place k l x a n ge le = let e : x ≡ a = omega arith in λ i. (n i, e i)
 
-module _ (old : Stretches) (l a e : ℕ) (s : Stretch) where
-  abbrev front_part : Stretch
+module _ (old : Stretches) (l a e : ℕ) (s : LinkStretch) where
+  abbrev front_part : LinkStretch
   front_part = record { end = e; route = s.route }
 
   abbrev short : Stretches
@@ -96,7 +96,7 @@ module _ (old : Stretches) (l a e : ℕ) (s : Stretch) where
   abbrev new : Stretches
   new = insert short (l, e) s
 
-  now : (x : Millimetre) (t : Stretch) → get new x ≡ Some t → IsNow old l a e s x t
+  now : (x : Millimetre) (t : LinkStretch) → get new x ≡ Some t → IsNow old l a e s x t
   now x t h = ⊎_elim
       (λ is. rear is.0 is.1)
       (λ other. ⊎_elim
@@ -117,7 +117,7 @@ module _ (old : Stretches) (l a e : ℕ) (s : Stretch) where
     none_there : get old (l, e) ≡ None
     none_there = no_answer (get old (l, e)) (λ t h. let n = apart.apart l a e s t was h inside in absurd (omega (arith, n, crosses)))
 
-    was_part : (k x : ℕ) (t : Stretch) → IsNow old l a e s (k, x) t → IsPart old k x t
+    was_part : (k x : ℕ) (t : LinkStretch) → IsNow old l a e s (k, x) t → IsPart old k x t
     was_part k x t (rear i j) = record { from = a; before = s; was = on_link old l k a s (sym (link_of i)) was; begins = omega (arith, place_of i, inside); ends = omega (arith, end_of j) }
     was_part k x t (front i j) = record { from = a; before = s; was = on_link old l k a s (sym (link_of i)) was; begins = omega (arith, place_of i); ends = omega (arith, end_of j, crosses) }
     was_part k x t (same i j) = record { from = x; before = t; was = j; begins = omega arith; ends = omega arith }
@@ -125,13 +125,13 @@ module _ (old : Stretches) (l a e : ℕ) (s : Stretch) where
     pub parts_cut : AreParts old new
     parts_cut k x t h = was_part k x t (now (k, x) t h)
 
-    full : (k x : ℕ) (t : Stretch) → IsNow old l a e s (k, x) t → x < t.end
+    full : (k x : ℕ) (t : LinkStretch) → IsNow old l a e s (k, x) t → x < t.end
     full k x t (rear i j) = omega (arith, place_of i, end_of j, crosses)
     full k x t (front i j) = omega (arith, place_of i, end_of j, inside)
     full k x t (same i j) = apart.filled k x t j
 
     -- one that is not the cut one and begins before the edge ends at the cut one or before it
-    before_edge : (k x : ℕ) (t : Stretch) → k ≡ l → ◌≢◌ {A = Millimetre} (k, x) (l, a) → get old (k, x) ≡ Some t → x < e → t.end ≤ e
+    before_edge : (k x : ℕ) (t : LinkStretch) → k ≡ l → ◌≢◌ {A = Millimetre} (k, x) (l, a) → get old (k, x) ≡ Some t → x < e → t.end ≤ e
     before_edge k x t n other h lt =
         let h' = on_link old k l x t n h in
         ⊎_elim
@@ -142,7 +142,7 @@ module _ (old : Stretches) (l a e : ℕ) (s : Stretch) where
         (cases_lt a x))
         (cases_lt x a)
 
-    along : (k x y : ℕ) (t u : Stretch) → IsNow old l a e s (k, x) t → IsNow old l a e s (k, y) u → x < y → t.end ≤ y
+    along : (k x y : ℕ) (t u : LinkStretch) → IsNow old l a e s (k, x) t → IsNow old l a e s (k, y) u → x < y → t.end ≤ y
     along k x y t u (rear i j) (rear i' j') lt = absurd (omega (arith, place_of i, place_of i', lt))
     along k x y t u (rear i j) (front i' j') lt = absurd (omega (arith, place_of i, place_of i', lt, inside))
     along k x y t u (rear i j) (same i' j') lt =
@@ -171,7 +171,7 @@ module _ (old : Stretches) (l a e : ℕ) (s : Stretch) where
       apart = λ k x y t u h g lt. along k x y t u (now (k, x) t h) (now (k, y) u g) lt;
     }
 
-    cut_at : (x : ℕ) (t : Stretch) → x < e → IsNow old l a e s (l, x) t → t.end ≤ e
+    cut_at : (x : ℕ) (t : LinkStretch) → x < e → IsNow old l a e s (l, x) t → t.end ≤ e
     cut_at x t lt (rear i j) = absurd (omega (arith, place_of i, lt))
     cut_at x t lt (front i j) = omega (arith, end_of j)
     cut_at x t lt (same i j) = before_edge l x t refl i j lt
@@ -181,7 +181,7 @@ module _ (old : Stretches) (l a e : ℕ) (s : Stretch) where
 
     -- ---- the same route runs over each millimetre
 
-    was_over : (k m x : ℕ) (t : Stretch) → x ≤ m → m < t.end → IsNow old l a e s (k, x) t → IsOver old k m t.route
+    was_over : (k m x : ℕ) (t : LinkStretch) → x ≤ m → m < t.end → IsNow old l a e s (k, x) t → IsOver old k m t.route
     was_over k m x t le lt (rear i j) = record { from = a; stretch = s; is = on_link old l k a s (sym (link_of i)) was; begins = omega (arith, place_of i, le, inside); ends = omega (arith, end_of j, lt); route = route_of (sym j) }
     was_over k m x t le lt (front i j) = record { from = a; stretch = s; is = on_link old l k a s (sym (link_of i)) was; begins = omega (arith, place_of i, le); ends = omega (arith, end_of j, lt, crosses); route = route_of (sym j) }
     was_over k m x t le lt (same i j) = record { from = x; stretch = t; is = j; begins = le; ends = lt; route = refl }

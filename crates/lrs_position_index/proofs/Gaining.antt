@@ -8,7 +8,7 @@ use Rattle.lrs_element.specs.declared.link.Piece.{Piece}
 use Rattle.lrs_element.specs.declared.link.Ground.{Ground}
 use Rattle.lrs_element.specs.Course.{Millimetre, expand, runs_over}
 use Rattle.lrs_element.specs.Pieces.{IsFilled}
-use Rattle.lrs_position_index.specs.declared.ground_index.Stretch.{Stretch}
+use Rattle.lrs_position_index.specs.declared.ground_index.LinkStretch.{LinkStretch}
 use Rattle.lrs_position_index.specs.Ground.{Stretches, route_over, is_shared, HasGained}
 use Rattle.lrs_position_index.specs.Stretches.{AreApart}
 use Rattle.lrs_position_index.proofs.Over.{over_gives, over_from, over_stretch, same_answer}
@@ -19,7 +19,7 @@ module _ (old : Stretches) (route : Name) (p : Piece) where
   abbrev begin : Millimetre
   begin = (p.link, p.from)
 
-  abbrev stretch : Stretch
+  abbrev stretch : LinkStretch
   stretch = record { end = p.to; route = route }
 
   abbrev more : Stretches
@@ -27,20 +27,20 @@ module _ (old : Stretches) (route : Name) (p : Piece) where
 
   module _ (free : is_shared old (expand p) ≡ false) (filled : IsFilled p) (apart : AreApart old) where
     -- no millimetre of the piece is on a stretch
-    not_on : (m a : ℕ) (s : Stretch) → p.from ≤ m → m < p.to → get old (p.link, a) ≡ Some s → a ≤ m → m < s.end → ⊥
+    not_on : (m a : ℕ) (s : LinkStretch) → p.from ≤ m → m < p.to → get old (p.link, a) ≡ Some s → a ≤ m → m < s.end → ⊥
     not_on m a s h l is k j = both_ways _ free (some_millimetre (is_taken old) p m h l (taken_from old p.link m a s apart is k j))
 
     pub none_begins : get old begin ≡ None
     none_begins = by (get old begin) refl
       where
-        by : (o : Option Stretch) → get old begin ≡ o → get old begin ≡ None
+        by : (o : Option LinkStretch) → get old begin ≡ o → get old begin ≡ None
         by None e = e
         by (Some s) e = absurd (not_on p.from p.from s (omega arith) filled e (omega arith) (apart.filled p.link p.from s e))
 
     pub apart_more : AreApart more
     apart_more = record {
       filled = λ l a s h. ⊎_elim
-          (λ is. let e = ap (λ (q : Millimetre). q.1) is.0 in let f = ap (λ (t : Stretch). t.end) is.1 in let lt : p.from < p.to = filled in omega (arith, e, f, lt))
+          (λ is. let e = ap (λ (q : Millimetre). q.1) is.0 in let f = ap (λ (t : LinkStretch). t.end) is.1 in let lt : p.from < p.to = filled in omega (arith, e, f, lt))
           (λ was. apart.filled l a s was.1)
           (put_which old begin stretch (l, a) s h);
       apart = λ l a c s t h g lt. ⊎_elim
@@ -49,7 +49,7 @@ module _ (old : Stretches) (route : Name) (p : Piece) where
           (λ was.
           let k : l ≡ p.link = ap (λ (q : Millimetre). q.0) is.0 in
           let e : a ≡ p.from = ap (λ (q : Millimetre). q.1) is.0 in
-          let f : s.end ≡ p.to = ap (λ (x : Stretch). x.end) is.1 in
+          let f : s.end ≡ p.to = ap (λ (x : LinkStretch). x.end) is.1 in
           let g' : get old (p.link, c) ≡ Some t = ap (λ (n : ℕ). get old (n, c)) (sym k) ∙ was.1 in
           ⊎_elim
           (λ (over : c < p.to). absurd (not_on c c t (omega (arith, e, lt)) over g' (omega arith) (apart.filled p.link c t g')))
@@ -84,7 +84,7 @@ module _ (old : Stretches) (route : Name) (p : Piece) where
         (λ is.
         let k = ap (λ (q : Millimetre). q.0) is.0 in
         let e = ap (λ (q : Millimetre). q.1) is.0 in
-        let g = ap (λ (x : Stretch). x.end) is.1 in
+        let g = ap (λ (x : LinkStretch). x.end) is.1 in
         absurd (both_ways _ f (runs_over_from p l m (sym k) (omega (arith, o.begins, e)) (omega (arith, o.ends, g)))))
         (λ was. over_from old l m r apart (record { from = o.from; stretch = o.stretch; is = was.1; begins = o.begins; ends = o.ends; route = o.route }))
         (put_which old begin stretch (l, o.from) o.stretch o.is))

@@ -13,7 +13,7 @@ use Rattle.lrs_element.specs.declared.link.Piece.{Piece}
 use Rattle.lrs_element.specs.declared.link.Ground.{Ground}
 use Rattle.lrs_element.specs.Course.{Millimetre, expand, course_of, runs_over, is_at, meets}
 use Rattle.lrs_element.specs.Pieces.{IsFilled}
-use Rattle.lrs_position_index.specs.declared.ground_index.Stretch.{Stretch}
+use Rattle.lrs_position_index.specs.declared.ground_index.LinkStretch.{LinkStretch}
 use Rattle.lrs_position_index.specs.Ground.{Stretches, route_over, is_shared, is_run_once, IsStretch, begins_at, HasGained, IsWhole, AreWhole}
 use Rattle.lrs_position_index.proofs.Sharing.{which_millimetre, some_millimetre, runs_over_from, is_taken}
 use Rattle.lrs_position_index.proofs.Pieces.{passing, course_at, any_course, begins_where, once_only}
@@ -94,13 +94,13 @@ module _ (old new : Stretches) (route : Name) (ps : List Piece) (g : HasGained o
         ends = λ m a s h le lt b e. w.ends m a s (was m a s h le lt b e) le lt b e;
       }
         where
-          was : (m a : ℕ) (s : Stretch) → get new (o.link, a) ≡ Some s → a ≤ m → m < s.end → o.from ≤ m → m < o.to → get old (o.link, a) ≡ Some s
+          was : (m a : ℕ) (s : LinkStretch) → get new (o.link, a) ≡ Some s → a ≤ m → m < s.end → o.from ≤ m → m < o.to → get old (o.link, a) ≡ Some s
           was m a s h le lt b e = sym (g.others (o.link, a) (false_from_ne_true _ (λ t.
               let q = passing (begins_at (o.link, a)) (IsStretch new route) ps g.stretches t in
               let i = begins_where (o.link, a) q.it q.passes in
               let same : Some s ≡ Some (record { end = q.it.to; route = route }) = sym h ∙ ap (get new) i ∙ q.holds in
-              let is : ◌≡◌ {A = Stretch} s (record { end = q.it.to; route = route }) = cc same in
-              let f : s.end ≡ q.it.to = ap (λ (x : Stretch). x.end) is in
+              let is : ◌≡◌ {A = LinkStretch} s (record { end = q.it.to; route = route }) = cc same in
+              let f : s.end ≡ q.it.to = ap (λ (x : LinkStretch). x.end) is in
               let c : a ≡ q.it.from = ap (λ (x : Millimetre). x.1) i in
               let r : runs_over (expand q.it) (o.link, m) ≡ true = runs_over_from q.it o.link m (sym (ap (λ (x : Millimetre). x.0) i)) (omega (arith, c, le)) (omega (arith, f, lt)) in
               let over : runs_over (course_of ps) (o.link, m) ≡ true = any_course (is_at (o.link, m)) ps ∙ list_any_at (λ p. runs_over (expand p) (o.link, m)) ps q.place q.it q.inside (ap (λ (x : Piece). runs_over (expand x) (o.link, m)) q.is ∙ r) in

@@ -9,7 +9,7 @@ use Rattle.lrs_measure.specs.Texts.{Name}
 use Rattle.lrs_element.specs.declared.link.Piece.{Piece}
 use Rattle.lrs_element.specs.declared.link.Ground.{Ground}
 use Rattle.lrs_element.specs.Course.{Millimetre, expand, course_of, runs_over}
-use Rattle.lrs_position_index.specs.declared.ground_index.Stretch.{Stretch}
+use Rattle.lrs_position_index.specs.declared.ground_index.LinkStretch.{LinkStretch}
 use Rattle.lrs_position_index.specs.Ground.{Stretches, route_over, IsWhole, StaysWhole}
 use Rattle.lrs_position_index.specs.Stretches.{AreApart, IsLast, AreParts, handed}
 use Rattle.lrs_position_index.proofs.Over.{over_gives, over_stretch, same_answer, no_answer}
@@ -43,7 +43,7 @@ module _ (old mid : Stretches) (l edge to : ℕ) (route : Option Name) (h : IsHa
   nothing : (x : ℕ) → x < edge → get mid (l, x) ≡ None → get mid (l, x) ≡ option_and_then (handed route) (get old (l, x))
   nothing x lt none = none ∙ ap (option_and_then (handed route)) (sym none ∙ not_yet l x lt)
 
-  pub handed_more : (new : Stretches) (begin : ℕ) (s : Stretch) → edge ≤ to → IsLast mid l edge begin s → get new (l, begin) ≡ handed route s → ((m : Millimetre) → (m ≡ (l, begin) → ⊥) → get new m ≡ get mid m) → IsHanded old new l begin to route
+  pub handed_more : (new : Stretches) (begin : ℕ) (s : LinkStretch) → edge ≤ to → IsLast mid l edge begin s → get new (l, begin) ≡ handed route s → ((m : Millimetre) → (m ≡ (l, begin) → ⊥) → get new m ≡ get mid m) → IsHanded old new l begin to route
   handed_more new begin s le last here there = record {
     within = λ x ge lt. ⊎_elim
         (λ (before : x < edge). ⊎_elim
@@ -75,12 +75,12 @@ module _ (old mid : Stretches) (l edge to : ℕ) (route : Option Name) (h : IsHa
 
 -- ---- a piece whose stretches are handed over
 
-handed_gives : (route : Option Name) (o : Option Stretch) (t : Stretch) → option_and_then (handed route) o ≡ Some t → (s : Stretch) × (o ≡ Some s) × (t.end ≡ s.end) × (route ≡ Some t.route)
+handed_gives : (route : Option Name) (o : Option LinkStretch) (t : LinkStretch) → option_and_then (handed route) o ≡ Some t → (s : LinkStretch) × (o ≡ Some s) × (t.end ≡ s.end) × (route ≡ Some t.route)
 handed_gives route None t h = absurd (cc h)
 handed_gives None (Some s) t h = absurd (cc h)
 handed_gives (Some r) (Some s) t h =
-    let j : ◌≡◌ {A = Stretch} (record { end = s.end; route = r }) t = cc h in
-    (s, refl, sym (ap (λ (x : Stretch). x.end) j), ap (λ (x : Stretch). Some x.route) j)
+    let j : ◌≡◌ {A = LinkStretch} (record { end = s.end; route = r }) t = cc h in
+    (s, refl, sym (ap (λ (x : LinkStretch). x.end) j), ap (λ (x : LinkStretch). Some x.route) j)
 
 and_some : (o route : Option Name) (x : Name) → option_and o route ≡ Some x → (y : Name) × (o ≡ Some y) × (route ≡ Some x)
 and_some None route x h = absurd (cc h)
@@ -88,7 +88,7 @@ and_some (Some y) route x h = (y, refl, h)
 
 module _ (old new : Stretches) (p : Piece) (route : Option Name) (h : IsHanded old new p.link p.from p.to route) where
   -- what begins there began there before, and ended there
-  was : (k x : ℕ) (t : Stretch) → get new (k, x) ≡ Some t → (s : Stretch) × (get old (k, x) ≡ Some s) × (t.end ≡ s.end)
+  was : (k x : ℕ) (t : LinkStretch) → get new (k, x) ≡ Some t → (s : LinkStretch) × (get old (k, x) ≡ Some s) × (t.end ≡ s.end)
   was k x t g = ⊎_elim
       (λ inside.
       let e = handed_gives route (get old (p.link, x)) t (sym (h.within x inside.1 inside.2) ∙ ap (λ (n : ℕ). get new (n, x)) (sym inside.0) ∙ g) in
@@ -129,7 +129,7 @@ module _ (old new : Stretches) (p : Piece) (route : Option Name) (h : IsHanded o
         o.begins o.ends)
 
     -- a stretch with a millimetre beside the piece does not begin within it
-    beside : (k m x : ℕ) (s : Stretch) → (k ≡ p.link → p.from ≤ m → m < p.to → ⊥) → get old (k, x) ≡ Some s → x ≤ m → m < s.end → k ≡ p.link → p.from ≤ x → x < p.to → ⊥
+    beside : (k m x : ℕ) (s : LinkStretch) → (k ≡ p.link → p.from ≤ m → m < p.to → ⊥) → get old (k, x) ≡ Some s → x ≤ m → m < s.end → k ≡ p.link → p.from ≤ x → x < p.to → ⊥
     beside k m x s outside g le lt e ge before =
         let f = apart.filled k x s g in
         let n = w.ends x x s (ap (λ (n : ℕ). get old (n, x)) (sym e) ∙ g) (omega arith) f ge before in

@@ -10,13 +10,13 @@ use Rattle.std.proofs.lemmas.List.Folds.{list_any-append}
 use Rattle.lrs_measure.specs.Texts.{Name}
 use Rattle.lrs_element.specs.declared.link.Piece.{Piece}
 use Rattle.lrs_element.specs.Course.{Millimetre}
-use Rattle.lrs_position_index.specs.declared.ground_index.Stretch.{Stretch}
+use Rattle.lrs_position_index.specs.declared.ground_index.LinkStretch.{LinkStretch}
 use Rattle.lrs_position_index.specs.Ground.{Stretches, millimetre_cmp, begins_at, HasGained}
 use Rattle.lrs_position_index.specs.Stretches.{AreApart}
 use Rattle.lrs_position_index.proofs.Order.{total, exact}
 use Rattle.lrs_position_index.proofs.Pieces.{passing, begins_is, begins_where}
 
-was_there : (b : Bool) (o : Option Stretch) (x : Stretch) → cond b None o ≡ Some x → (b ≡ false) × (o ≡ Some x)
+was_there : (b : Bool) (o : Option LinkStretch) (x : LinkStretch) → cond b None o ≡ Some x → (b ≡ false) × (o ≡ Some x)
 was_there true o x h = absurd (cc h)
 was_there false o x h = (refl, h)
 
@@ -26,7 +26,7 @@ apart_less old k apart = record {
   apart = λ l a c s t h g lt. apart.apart l a c s t (was (l, a) s h) (was (l, c) t g) lt;
 }
   where
-    was : (q : Millimetre) (s : Stretch) → get (remove old k) q ≡ Some s → get old q ≡ Some s
+    was : (q : Millimetre) (s : LinkStretch) → get (remove old k) q ≡ Some s → get old q ≡ Some s
     was q s h = (was_there (eq_by_cmp millimetre_cmp q k) (get old q) s (sym (get-remove total old k q) ∙ h)).1
 
 -- The stretches where these pieces begin are out.
@@ -36,7 +36,7 @@ pub record IsWithout (old new : Stretches) (ps : List Piece) : Type 0 where
 pub without_none : (s : Stretches) → IsWithout s s []
 without_none s = record { at = λ q. refl }
 
-out_twice : (a b : Bool) (o : Option Stretch) → cond b None (cond a None o) ≡ cond (a || (b || false)) None o
+out_twice : (a b : Bool) (o : Option LinkStretch) → cond b None (cond a None o) ≡ cond (a || (b || false)) None o
 out_twice true true o = refl
 out_twice true false o = refl
 out_twice false true o = refl

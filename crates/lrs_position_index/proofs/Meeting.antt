@@ -7,7 +7,7 @@ use Rattle.std.specs.BTreeSet.{BTreeSet, Updates}
 use Rattle.std.proofs.lemmas.Bool.{cases_lt}
 use Rattle.std.proofs.lemmas.Map.Lookups.{exact_bytes}
 use Rattle.lrs_measure.specs.Texts.{Name, name_cmp}
-use Rattle.lrs_position_index.specs.declared.ground_index.Stretch.{Stretch}
+use Rattle.lrs_position_index.specs.declared.ground_index.LinkStretch.{LinkStretch}
 use Rattle.lrs_position_index.specs.Ground.{Stretches, route_over}
 use Rattle.lrs_position_index.specs.Stretches.{AreApart, IsFirst, IsLast}
 use Rattle.lrs_position_index.specs.Met.{IsAmong, RunsBetween}
@@ -30,7 +30,7 @@ module _ (kept : Stretches) (l from e : ℕ) where
   pub none_past : e ≤ from → (r : Name) → IsMet r → ⊥
   none_past past r met = let low = met.low in let high = met.high in omega (arith, low, high, past)
 
-  module _ (a : ℕ) (s : Stretch) (apart : AreApart kept) (last : IsLast kept l e a s) where
+  module _ (a : ℕ) (s : LinkStretch) (apart : AreApart kept) (last : IsLast kept l e a s) where
     -- where the last one ends in front of both, none is met
     pub none_behind : s.end ≤ from → (r : Name) → IsMet r → ⊥
     none_behind ends r met =
@@ -58,7 +58,7 @@ module _ (kept : Stretches) (l from e : ℕ) where
         let le = last.last o.from o.stretch o.is (omega (arith, b, high)) in
         ⊎_elim
         (λ (lower : o.from < a). let n = apart.apart l o.from a o.stretch s o.is last.stretch lower in absurd (omega (arith, n, k, low)))
-        (λ (ge : a ≤ o.from). ap (λ (x : Stretch). x.route) (one_stretch kept l a o.from s o.stretch (omega (arith, le, ge)) last.stretch o.is) ∙ o.route)
+        (λ (ge : a ≤ o.from). ap (λ (x : LinkStretch). x.route) (one_stretch kept l a o.from s o.stretch (omega (arith, le, ge)) last.stretch o.is) ∙ o.route)
         (cases_lt o.from a)
 
 -- ---- names that are added
@@ -95,7 +95,7 @@ module _ (kept : Stretches) (l from edge to : ℕ) (old now new : BTreeSet Name)
   wider : (r : Name) → RunsBetween (route_over kept) l from edge r → RunsBetween (route_over kept) l from to r
   wider r met = let high = met.high in let within = sofar.within in record { mm = met.mm; low = met.low; high = omega (arith, high, within); runs = met.runs }
 
-  module _ (a : ℕ) (s : Stretch) (apart : AreApart kept) (last : IsLast kept l edge a s) (here : RunsBetween (route_over kept) l from edge s.route) (added : Updates name_cmp now new s.route true) where
+  module _ (a : ℕ) (s : LinkStretch) (apart : AreApart kept) (last : IsLast kept l edge a s) (here : RunsBetween (route_over kept) l from edge s.route) (added : Updates name_cmp now new s.route true) where
     pub met_more : HasMet (route_over kept) l from a to old new
     met_more = record {
       within = let b = last.before in let w = sofar.within in omega (arith, b, w);

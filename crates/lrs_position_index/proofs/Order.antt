@@ -13,7 +13,7 @@ use Rattle.std.proofs.lemmas.Bool.{cases_lt, false_from_ne_true}
 use Rattle.std.proofs.lemmas.Cmp.{ranked, nat_cmp_total}
 use Rattle.std.proofs.lemmas.Map.Lookups.{exact_pairs}
 use Rattle.lrs_element.specs.Course.{Millimetre}
-use Rattle.lrs_position_index.specs.declared.ground_index.Stretch.{Stretch}
+use Rattle.lrs_position_index.specs.declared.ground_index.LinkStretch.{LinkStretch}
 use Rattle.lrs_position_index.specs.Ground.{Stretches, millimetre_cmp}
 use Rattle.lrs_position_index.specs.Stretches.{IsFirst, IsLast}
 use Rattle.lrs_position_index.proofs.Entries.{found, get_found}
@@ -70,22 +70,22 @@ ties x y h = (Equal-is _).1 (ap (millimetre_cmp x) (sym h) ∙ itself x)
 
 -- ---- the last stretch that begins at a millimetre or before it
 
-module _ (m : BTreeMap Millimetre Stretch) (l e : ℕ) where
+module _ (m : BTreeMap Millimetre LinkStretch) (l e : ℕ) where
   abbrev kept : Stretches
   kept = from_entries m.entries
 
-  abbrev IsBefore : List (Millimetre × Stretch) → Type 0
+  abbrev IsBefore : List (Millimetre × LinkStretch) → Type 0
   IsBefore r = IsRangeOf millimetre_cmp Unbounded (Included (l, e)) m r
 
-  is_some_at : (q : Millimetre) (s : Stretch) → get kept q ≡ Some s → IsSome (found total m.entries q)
+  is_some_at : (q : Millimetre) (s : LinkStretch) → get kept q ≡ Some s → IsSome (found total m.entries q)
   is_some_at q s h = subst IsSome (sym h ∙ get_found total m.entries q) refl
 
   -- there is none
-  pub first_from_none : (r : List (Millimetre × Stretch)) → IsBefore r → r ≡ [] → IsFirst kept l (e + 1)
+  pub first_from_none : (r : List (Millimetre × LinkStretch)) → IsBefore r → r ≡ [] → IsFirst kept l (e + 1)
   first_from_none r h n a lt = get_found total m.entries (l, a) ∙ h.5 n (l, a) (tt, up_to_on_link l a e (omega arith))
 
   -- it is of this link
-  pub last_found : (r t : List (Millimetre × Stretch)) (k a : ℕ) (s : Stretch) → IsBefore r → r ≡ t ++ ((k, a), s) ∷ [] → k ≡ l → IsLast kept l (e + 1) a s
+  pub last_found : (r t : List (Millimetre × LinkStretch)) (k a : ℕ) (s : LinkStretch) → IsBefore r → r ≡ t ++ ((k, a), s) ∷ [] → k ≡ l → IsLast kept l (e + 1) a s
   last_found r t k a s h is_last is =
       let at = h.3 ((k, a), s) t is_last in
       let last = h.4 ((k, a), s) t is_last in
@@ -102,12 +102,12 @@ module _ (m : BTreeMap Millimetre Stretch) (l e : ℕ) where
       lower_not_last h e = cc (h, e)
 
   -- it is of another link
-  pub first_from_other : (r t : List (Millimetre × Stretch)) (k a : ℕ) (s : Stretch) → IsBefore r → r ≡ t ++ ((k, a), s) ∷ [] → k ≢ l → IsFirst kept l (e + 1)
+  pub first_from_other : (r t : List (Millimetre × LinkStretch)) (k a : ℕ) (s : LinkStretch) → IsBefore r → r ≡ t ++ ((k, a), s) ∷ [] → k ≢ l → IsFirst kept l (e + 1)
   first_from_other r t k a s h is_last not_it c lt =
       let at = h.3 ((k, a), s) t is_last in
       let lower : k < l = ⊎_elim (λ (lower : k < l). lower) (λ both. absurd (not_it both.0)) (is_up_to k l a e at.0.1) in
       none_at (get kept (l, c)) refl (λ d g. h.4 ((k, a), s) t is_last (l, c) (tt, up_to_on_link l c e (omega arith)) (is_some_at (l, c) d g)) (before_by_link k l a c lower)
     where
-      none_at : (o : Option Stretch) → get kept (l, c) ≡ o → ((d : Stretch) → get kept (l, c) ≡ Some d → is_lt (millimetre_cmp (k, a) (l, c)) ≡ false) → millimetre_cmp (k, a) (l, c) ≡ Less → get kept (l, c) ≡ None
+      none_at : (o : Option LinkStretch) → get kept (l, c) ≡ o → ((d : LinkStretch) → get kept (l, c) ≡ Some d → is_lt (millimetre_cmp (k, a) (l, c)) ≡ false) → millimetre_cmp (k, a) (l, c) ≡ Less → get kept (l, c) ≡ None
       none_at None g f b = g
       none_at (Some d) g f b = let not_last = f d g in absurd (cc (not_last, b))

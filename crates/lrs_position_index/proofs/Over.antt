@@ -8,7 +8,7 @@ use Rattle.std.proofs.lemmas.Bool.{cases_lt, lt-ltb, ltb-true}
 use Rattle.std.proofs.lemmas.List.FromFn.{length-range_with_len, get_or-range_with_len}
 use Rattle.lrs_measure.specs.Texts.{Name}
 use Rattle.lrs_element.specs.Course.{Millimetre}
-use Rattle.lrs_position_index.specs.declared.ground_index.Stretch.{Stretch}
+use Rattle.lrs_position_index.specs.declared.ground_index.LinkStretch.{LinkStretch}
 use Rattle.lrs_position_index.specs.Ground.{Stretches, millimetre_cmp, reaching, first_some, route_over}
 use Rattle.lrs_position_index.specs.Stretches.{AreApart, IsFirst, IsLast}
 
@@ -52,7 +52,7 @@ none_first f (x ∷ xs) h (suc i) d lt = none_first f xs (or_none (f x) (first_s
 -- A stretch of the route has the millimetre.
 pub record IsOver (kept : Stretches) (l m : ℕ) (r : Name) : Type 0 where
   pub from : ℕ
-  pub stretch : Stretch
+  pub stretch : LinkStretch
   pub is : get kept (l, from) ≡ Some stretch
   pub begins : from ≤ m
   pub ends : m < stretch.end
@@ -61,15 +61,15 @@ pub record IsOver (kept : Stretches) (l m : ℕ) (r : Name) : Type 0 where
 abbrev from_edge : Stretches → ℕ → ℕ → ℕ → Option Name
 from_edge kept l m a = option_and_then (reaching m) (get kept (l, a))
 
-reaches : (m : ℕ) (o : Option Stretch) (r : Name) → option_and_then (reaching m) o ≡ Some r → (s : Stretch) × (o ≡ Some s) × (m < s.end) × (s.route ≡ r)
+reaches : (m : ℕ) (o : Option LinkStretch) (r : Name) → option_and_then (reaching m) o ≡ Some r → (s : LinkStretch) × (o ≡ Some s) × (m < s.end) × (s.route ≡ r)
 reaches m None r h = absurd (cc h)
 reaches m (Some s) r h = by (nat_lt m s.end) refl h
   where
-    by : (b : Bool) → nat_lt m s.end ≡ b → (if b then Some s.route else None) ≡ Some r → (t : Stretch) × (Some s ≡ Some t) × (m < t.end) × (t.route ≡ r)
+    by : (b : Bool) → nat_lt m s.end ≡ b → (if b then Some s.route else None) ≡ Some r → (t : LinkStretch) × (Some s ≡ Some t) × (m < t.end) × (t.route ≡ r)
     by true e h = (s, refl, ltb-true _ _ e, cc h)
     by false e h = absurd (cc h)
 
-reached : (m : ℕ) (o : Option Stretch) (s : Stretch) → o ≡ Some s → m < s.end → option_and_then (reaching m) o ≡ Some s.route
+reached : (m : ℕ) (o : Option LinkStretch) (s : LinkStretch) → o ≡ Some s → m < s.end → option_and_then (reaching m) o ≡ Some s.route
 reached m o s e lt = ap (option_and_then (reaching m)) e ∙ ap (λ (b : Bool). if b then Some s.route else None) (lt-ltb m s.end lt)
 
 pub over_gives : (kept : Stretches) (l m : ℕ) (r : Name) → route_over kept (l, m) ≡ Some r → IsOver kept l m r
@@ -81,7 +81,7 @@ over_gives kept l m r h =
     record { from = a.1; stretch = e.0; is = e.1; begins = omega arith; ends = e.2; route = e.3 }
 
 -- two stretches with one millimetre are one
-pub one_begin : (kept : Stretches) (l m a c : ℕ) (s t : Stretch) → AreApart kept → get kept (l, a) ≡ Some s → get kept (l, c) ≡ Some t → a ≤ m → m < s.end → c ≤ m → m < t.end → a ≡ c
+pub one_begin : (kept : Stretches) (l m a c : ℕ) (s t : LinkStretch) → AreApart kept → get kept (l, a) ≡ Some s → get kept (l, c) ≡ Some t → a ≤ m → m < s.end → c ≤ m → m < t.end → a ≡ c
 one_begin kept l m a c s t apart p q h k h' k' = ⊎_elim
     (λ (lt : a < c). let e = apart.apart l a c s t p q lt in absurd (omega arith))
     (λ (ge : c ≤ a). ⊎_elim
@@ -90,7 +90,7 @@ one_begin kept l m a c s t apart p q h k h' k' = ⊎_elim
     (cases_lt c a))
     (cases_lt a c)
 
-pub one_stretch : (kept : Stretches) (l a c : ℕ) (s t : Stretch) → a ≡ c → get kept (l, a) ≡ Some s → get kept (l, c) ≡ Some t → s ≡ t
+pub one_stretch : (kept : Stretches) (l a c : ℕ) (s t : LinkStretch) → a ≡ c → get kept (l, a) ≡ Some s → get kept (l, c) ≡ Some t → s ≡ t
 one_stretch kept l a c s t e p q = let same : Some s ≡ Some t = sym p ∙ ap (λ (n : ℕ). get kept (l, n)) e ∙ q in cc same
 
 pub over_from : (kept : Stretches) (l m : ℕ) (r : Name) → AreApart kept → IsOver kept l m r → route_over kept (l, m) ≡ Some r
@@ -108,9 +108,9 @@ over_from kept l m r apart o = by (route_over kept (l, m)) refl
         let p = over_gives kept l m q e in
         let b = one_begin kept l m p.from o.from p.stretch o.stretch apart p.is o.is p.begins p.ends o.begins o.ends in
         let s = one_stretch kept l p.from o.from p.stretch o.stretch b p.is o.is in
-        e ∙ ap (λ (x : Name). Some x) (sym p.route ∙ ap (λ (x : Stretch). x.route) s ∙ o.route)
+        e ∙ ap (λ (x : Name). Some x) (sym p.route ∙ ap (λ (x : LinkStretch). x.route) s ∙ o.route)
 
-pub over_stretch : (kept : Stretches) (l m a : ℕ) (s : Stretch) → AreApart kept → get kept (l, a) ≡ Some s → a ≤ m → m < s.end → route_over kept (l, m) ≡ Some s.route
+pub over_stretch : (kept : Stretches) (l m a : ℕ) (s : LinkStretch) → AreApart kept → get kept (l, a) ≡ Some s → a ≤ m → m < s.end → route_over kept (l, m) ≡ Some s.route
 over_stretch kept l m a s apart is le lt = over_from kept l m s.route apart (record { from = a; stretch = s; is = is; begins = le; ends = lt; route = refl })
 
 pub nothing_over : (m : Millimetre) → route_over empty m ≡ None
@@ -125,19 +125,19 @@ over_first kept l m h = no_answer (route_over kept (l, m)) (λ r e.
     absurd (cc (sym (h o.from (omega arith)) ∙ o.is)))
 
 -- a stretch that begins no later than the last one, and ends no later or is the last one itself
-pub no_later : (kept : Stretches) (l e a c : ℕ) (s t : Stretch) → AreApart kept → IsLast kept l e a s → get kept (l, c) ≡ Some t → c < e → t.end ≤ s.end
+pub no_later : (kept : Stretches) (l e a c : ℕ) (s t : LinkStretch) → AreApart kept → IsLast kept l e a s → get kept (l, c) ≡ Some t → c < e → t.end ≤ s.end
 no_later kept l e a c s t apart last is lt =
     let le = last.last c t is lt in
     let f = apart.filled l a s last.stretch in
     ⊎_elim
     (λ (lower : c < a). let n = apart.apart l c a t s is last.stretch lower in omega arith)
-    (λ (ge : a ≤ c). let same = one_stretch kept l c a t s (omega arith) is last.stretch in let e = ap (λ (x : Stretch). x.end) same in omega arith)
+    (λ (ge : a ≤ c). let same = one_stretch kept l c a t s (omega arith) is last.stretch in let e = ap (λ (x : LinkStretch). x.end) same in omega arith)
     (cases_lt c a)
 
-pub over_last : (kept : Stretches) (l m a : ℕ) (s : Stretch) → AreApart kept → IsLast kept l (m + 1) a s → m < s.end → route_over kept (l, m) ≡ Some s.route
+pub over_last : (kept : Stretches) (l m a : ℕ) (s : LinkStretch) → AreApart kept → IsLast kept l (m + 1) a s → m < s.end → route_over kept (l, m) ≡ Some s.route
 over_last kept l m a s apart last lt = over_stretch kept l m a s apart last.stretch (let b = last.before in omega arith) lt
 
-pub over_behind : (kept : Stretches) (l m a : ℕ) (s : Stretch) → AreApart kept → IsLast kept l (m + 1) a s → s.end ≤ m → route_over kept (l, m) ≡ None
+pub over_behind : (kept : Stretches) (l m a : ℕ) (s : LinkStretch) → AreApart kept → IsLast kept l (m + 1) a s → s.end ≤ m → route_over kept (l, m) ≡ None
 over_behind kept l m a s apart last le = no_answer (route_over kept (l, m)) (λ r e.
     let o = over_gives kept l m r e in
     let b = o.begins in

@@ -5,7 +5,7 @@ use Rattle.std.specs.FinMap.{empty, insert, remove, get, get-empty, get-insert, 
 use Rattle.std.proofs.lemmas.Bool.{cases_Bool, both_ways}
 use Rattle.lrs_measure.specs.Texts.{Name}
 use Rattle.lrs_element.specs.Course.{Millimetre}
-use Rattle.lrs_position_index.specs.declared.ground_index.Stretch.{Stretch}
+use Rattle.lrs_position_index.specs.declared.ground_index.LinkStretch.{LinkStretch}
 use Rattle.lrs_position_index.specs.Ground.{Stretches, millimetre_cmp}
 use Rattle.lrs_position_index.specs.Stretches.{AreApart}
 use Rattle.lrs_position_index.proofs.Order.{total, exact, tie, ties, no_tie}
@@ -23,14 +23,14 @@ apart_empty = record {
 }
 
 module _ (old : Stretches) (k : Millimetre) where
-  pub put_here : (s : Stretch) → get (insert old k s) k ≡ Some s
+  pub put_here : (s : LinkStretch) → get (insert old k s) k ≡ Some s
   put_here s = get-insert total old k s k ∙ ap (λ (b : Bool). cond b (Some s) (get old k)) (ties k k refl)
 
-  pub put_there : (s : Stretch) (q : Millimetre) → q ≢ k → get (insert old k s) q ≡ get old q
+  pub put_there : (s : LinkStretch) (q : Millimetre) → q ≢ k → get (insert old k s) q ≡ get old q
   put_there s q h = get-insert total old k s q ∙ ap (λ (b : Bool). cond b (Some s) (get old q)) (no_tie q k h)
 
   -- what begins at q is the new one, or it was there
-  pub put_which : (s : Stretch) (q : Millimetre) (t : Stretch) → get (insert old k s) q ≡ Some t → ((q ≡ k) × (t ≡ s)) ⊎ ((q ≢ k) × (get old q ≡ Some t))
+  pub put_which : (s : LinkStretch) (q : Millimetre) (t : LinkStretch) → get (insert old k s) q ≡ Some t → ((q ≡ k) × (t ≡ s)) ⊎ ((q ≢ k) × (get old q ≡ Some t))
   put_which s q t h = ⊎_elim
       (λ (e : q ≡ k).
       let same : Some t ≡ Some s = sym h ∙ ap (get (insert old k s)) e ∙ put_here s in
@@ -44,7 +44,7 @@ module _ (old : Stretches) (k : Millimetre) where
   pub out_there : (q : Millimetre) → q ≢ k → get (remove old k) q ≡ get old q
   out_there q h = get-remove total old k q ∙ ap (λ (b : Bool). cond b None (get old q)) (no_tie q k h)
 
-  pub put_back : (s t : Stretch) → get old k ≡ Some s → insert (insert old k t) k s ≡ old
+  pub put_back : (s t : LinkStretch) → get old k ≡ Some s → insert (insert old k t) k s ≡ old
   put_back s t was = same_map total exact _ _ (λ q.
       get-insert total (insert old k t) k s q ∙ ⊎_elim
       (λ (e : q ≡ k). ap (λ (b : Bool). cond b (Some s) (get (insert old k t) q)) (ties q k e) ∙ sym (ap (get old) e ∙ was))
@@ -52,10 +52,10 @@ module _ (old : Stretches) (k : Millimetre) where
       (same_place q k))
 
   -- one that begins where one began, and ends no later
-  pub apart_within : (s t : Stretch) → AreApart old → get old k ≡ Some s → k.1 < t.end → t.end ≤ s.end → AreApart (insert old k t)
+  pub apart_within : (s t : LinkStretch) → AreApart old → get old k ≡ Some s → k.1 < t.end → t.end ≤ s.end → AreApart (insert old k t)
   apart_within s t apart was filled le = record {
     filled = λ l a x h. ⊎_elim
-        (λ is. let e : a ≡ k.1 = ap (λ (q : Millimetre). q.1) is.0 in let f = ap (λ (y : Stretch). y.end) is.1 in omega (arith, e, f, filled))
+        (λ is. let e : a ≡ k.1 = ap (λ (q : Millimetre). q.1) is.0 in let f = ap (λ (y : LinkStretch). y.end) is.1 in omega (arith, e, f, filled))
         (λ other. apart.filled l a x other.1)
         (put_which t (l, a) x h);
     apart = λ l a c x y h g lt.
@@ -66,12 +66,12 @@ module _ (old : Stretches) (k : Millimetre) where
   }
     where
       -- what begins there began there before, and ended no earlier
-      same_or : (q : Millimetre) (x : Stretch) → get (insert old k t) q ≡ Some x → (y : Stretch) × (get old q ≡ Some y) × (x.end ≤ y.end)
+      same_or : (q : Millimetre) (x : LinkStretch) → get (insert old k t) q ≡ Some x → (y : LinkStretch) × (get old q ≡ Some y) × (x.end ≤ y.end)
       same_or q x h = ⊎_elim
-          (λ is. let f = ap (λ (y : Stretch). y.end) is.1 in (s, ap (get old) is.0 ∙ was, omega (arith, f, le)))
+          (λ is. let f = ap (λ (y : LinkStretch). y.end) is.1 in (s, ap (get old) is.0 ∙ was, omega (arith, f, le)))
           (λ other. (x, other.1, omega arith))
           (put_which t q x h)
 
   -- the same stretch of another route
-  pub apart_other : (s : Stretch) (route : Name) → AreApart old → get old k ≡ Some s → AreApart (insert old k (record { end = s.end; route = route }))
+  pub apart_other : (s : LinkStretch) (route : Name) → AreApart old → get old k ≡ Some s → AreApart (insert old k (record { end = s.end; route = route }))
   apart_other s route apart was = apart_within s (record { end = s.end; route = route }) apart was (apart.filled k.0 k.1 s was) (omega arith)

@@ -11,7 +11,7 @@ use Rattle.lrs_element.specs.declared.link.Ground.{Ground}
 use Rattle.lrs_element.specs.Course.{Millimetre, expand, runs_over, is_at, meets}
 use Rattle.lrs_element.specs.Pieces.{ground_of, piece_len}
 use Rattle.lrs_element.proofs.Expanding.{length-expand, get_or-expand}
-use Rattle.lrs_position_index.specs.declared.ground_index.Stretch.{Stretch}
+use Rattle.lrs_position_index.specs.declared.ground_index.LinkStretch.{LinkStretch}
 use Rattle.lrs_position_index.specs.Ground.{Stretches, route_over, is_shared}
 use Rattle.lrs_position_index.specs.Stretches.{AreApart, IsFirst, IsLast}
 use Rattle.lrs_position_index.proofs.Over.{IsOver, over_gives, over_stretch, which_answer, no_answer, no_later}
@@ -67,7 +67,7 @@ is_taken kept m = is_some (route_over kept m)
 pub taken_by : (kept : Stretches) (l m : ℕ) → is_taken kept (l, m) ≡ true → (r : Name) × IsOver kept l m r
 taken_by kept l m t = let w = which_answer (route_over kept (l, m)) t in (w.0, over_gives kept l m w.0 w.1)
 
-pub taken_from : (kept : Stretches) (l m a : ℕ) (s : Stretch) → AreApart kept → get kept (l, a) ≡ Some s → a ≤ m → m < s.end → is_taken kept (l, m) ≡ true
+pub taken_from : (kept : Stretches) (l m a : ℕ) (s : LinkStretch) → AreApart kept → get kept (l, a) ≡ Some s → a ≤ m → m < s.end → is_taken kept (l, m) ≡ true
 taken_from kept l m a s apart is le lt = ap is_some (over_stretch kept l m a s apart is le lt)
 
 -- ---- a piece and the last stretch that begins before its end
@@ -78,7 +78,7 @@ shares_none kept p h = false_from_ne_true _ (λ t.
     let o = taken_by kept p.link w.0 w.3 in
     absurd (cc (sym (h o.1.from (omega (arith, o.1.begins, w.2))) ∙ o.1.is)))
 
-pub shares_last : (kept : Stretches) (p : Piece) (a : ℕ) (s : Stretch) → AreApart kept → IsLast kept p.link p.to a s → p.from < p.to → nat_lt p.from s.end ≡ is_shared kept (expand p)
+pub shares_last : (kept : Stretches) (p : Piece) (a : ℕ) (s : LinkStretch) → AreApart kept → IsLast kept p.link p.to a s → p.from < p.to → nat_lt p.from s.end ≡ is_shared kept (expand p)
 shares_last kept p a s apart last filled = same_test _ _
     (λ t.
     let lt : p.from < s.end = ltb-true _ _ t in

@@ -11,22 +11,22 @@ use Rattle.lrs_measure.specs.Texts.{Name}
 use Rattle.lrs_element.specs.declared.link.Piece.{Piece}
 use Rattle.lrs_element.specs.declared.link.Ground.{Ground}
 use Rattle.lrs_element.specs.Course.{Millimetre, course_of, runs_over, is_at}
-use Rattle.lrs_position_index.specs.declared.ground_index.Stretch.{Stretch}
+use Rattle.lrs_position_index.specs.declared.ground_index.LinkStretch.{LinkStretch}
 
 -- by link, and then along it
 abbrev pub millimetre_cmp : Millimetre → Millimetre → Ordering
 millimetre_cmp x y = ordering_then (nat_cmp x.0 y.0) (nat_cmp x.1 y.1)
 
 -- a stretch is stored as the pair of its fields
-abbrev pub stretch_code : Coded Stretch
+abbrev pub stretch_code : Coded LinkStretch
 stretch_code = code_by (ℕ × Name) (coded× coded_ℕ (coded_list coded_ℕ)) (λ s. (s.end, s.route)) (λ p. record { end = p.0; route = p.1 }) (λ _. refl)
 
 -- stretches of links: for the millimetre where one begins, the edge where it ends and the route that runs over it
 abbrev pub Stretches : Type 0
-Stretches = FinMap millimetre_cmp Stretch
+Stretches = FinMap millimetre_cmp LinkStretch
 
 -- the route of a stretch that ends behind the millimetre
-abbrev pub reaching : ℕ → Stretch → Option Name
+abbrev pub reaching : ℕ → LinkStretch → Option Name
 reaching mm s = if nat_lt mm s.end then Some s.route else None
 
 -- the first of the answers that is one
@@ -63,8 +63,8 @@ pub record HasGained (old new : Stretches) (route : Name) (pieces : List Piece) 
 
 -- A stretch that has a millimetre of the piece lies within it.
 pub record IsWhole (kept : Stretches) (p : Piece) : Type 0 where
-  pub begins : (m a : ℕ) (s : Stretch) → get kept (p.link, a) ≡ Some s → a ≤ m → m < s.end → p.from ≤ m → m < p.to → p.from ≤ a
-  pub ends : (m a : ℕ) (s : Stretch) → get kept (p.link, a) ≡ Some s → a ≤ m → m < s.end → p.from ≤ m → m < p.to → s.end ≤ p.to
+  pub begins : (m a : ℕ) (s : LinkStretch) → get kept (p.link, a) ≡ Some s → a ≤ m → m < s.end → p.from ≤ m → m < p.to → p.from ≤ a
+  pub ends : (m a : ℕ) (s : LinkStretch) → get kept (p.link, a) ≡ Some s → a ≤ m → m < s.end → p.from ≤ m → m < p.to → s.end ≤ p.to
 
 -- No stretch crosses an edge of a piece: it lies wholly within the piece or wholly outside it.
 abbrev pub AreWhole : Stretches → List Piece → Type 0

@@ -20,7 +20,7 @@ use std::marker::Model;
 
 /// A stretch of a link, from where it begins: the edge where it ends, and the route that runs over it.
 #[derive(Clone, Copy)]
-pub struct Stretch {
+pub struct LinkStretch {
     pub end: u32,
     pub route: RouteName,
 }
@@ -29,7 +29,7 @@ pub struct Stretch {
 #[derive(Drop)]
 pub struct GroundIndex {
     // By the link and the millimetre where a stretch begins.
-    stretches: BTreeMap<(u32, u32), Stretch>,
+    stretches: BTreeMap<(u32, u32), LinkStretch>,
 }
 
 impl Model for GroundIndex {
@@ -59,7 +59,7 @@ impl GroundIndex {
     }
 
     /// The last stretch of a link that begins at a millimetre or before it, and where it begins.
-    fn last_at(&self, link: u32, mm: u32) -> Option<(u32, Stretch)>
+    fn last_at(&self, link: u32, mm: u32) -> Option<(u32, LinkStretch)>
         ensures none { IfNone result (IsFirst self.now link (mm + 1)) }
         ensures last { IfSome result (λ found. IsLast self.now link (mm + 1) found.0 found.1) }
     {
@@ -72,7 +72,7 @@ impl GroundIndex {
     }
 
     /// The last stretch of a link that begins before an edge, and where it begins.
-    fn last_before(&self, link: u32, edge: u32) -> Option<(u32, Stretch)>
+    fn last_before(&self, link: u32, edge: u32) -> Option<(u32, LinkStretch)>
         ensures none { IfNone result (IsFirst self.now link edge) }
         ensures last { IfSome result (λ found. IsLast self.now link edge found.0 found.1) }
         ensures apart { AreApart self.now }
@@ -97,10 +97,12 @@ impl GroundIndex {
     }
 
     // The last stretch of a link that has a millimetre between two edges, and where it begins.
-    fn last_met(&self, link: u32, from: u32, edge: u32) -> Option<(u32, Stretch)>
-        ensures none { IfNone result ((route : Name) → RunsBetween (specs.route_over self.now) link from edge route → ⊥) }
+    fn last_met(&self, link: u32, from: u32, edge: u32) -> Option<(u32, LinkStretch)>
+        ensures none { IfNone result ((route : Name)
+            → RunsBetween (specs.route_over self.now) link from edge route → ⊥) }
         ensures last { IfSome result (λ found. IsLast self.now link edge found.0 found.1) }
-        ensures met { IfSome result (λ found. RunsBetween (specs.route_over self.now) link from edge found.1.route) }
+        ensures met { IfSome result (λ found. RunsBetween
+            (specs.route_over self.now) link from edge found.1.route) }
         ensures apart { AreApart self.now }
     {
         // The stretches are apart.
@@ -124,9 +126,11 @@ impl GroundIndex {
         to: u32,
         found: &mut BTreeSet<RouteName>,
     ) -> Result<(), AllocError>
-        ensures met { OnOk result ((route : Name) → RunsBetween (specs.route_over self.now) link from to route → IsAmong route found.new) }
+        ensures met { OnOk result ((route : Name) → RunsBetween
+            (specs.route_over self.now) link from to route → IsAmong route found.new) }
         ensures kept { (route : Name) → IsAmong route found.old → IsAmong route found.new }
-        ensures only { (route : Name) → IsAmong route found.new → IsAmong route found.old ⊎ RunsBetween (specs.route_over self.now) link from to route }
+        ensures only { (route : Name) → IsAmong route found.new → IsAmong route found.old
+            ⊎ RunsBetween (specs.route_over self.now) link from to route }
     {
         let mut edge = to;
         while let Some((begin, stretch)) = self.last_met(link, from, edge) {
@@ -154,7 +158,7 @@ impl GroundIndex {
     }
 
     // Puts a stretch in where none begins, or in the place of the one that begins there.
-    fn put(&mut self, link: u32, begin: u32, stretch: Stretch) -> Result<(), AllocError>
+    fn put(&mut self, link: u32, begin: u32, stretch: LinkStretch) -> Result<(), AllocError>
         requires apart { AreApart (map.insert self.old (link, begin) stretch) }
         ensures ok { OnOk result (self.new ≡ map.insert self.old (link, begin) stretch) }
         ensures err { OnErr result (self.new ≡ self.old) }
@@ -164,7 +168,7 @@ impl GroundIndex {
     }
 
     // Puts a stretch in the place of one that begins there. It needs no memory.
-    fn replace(&mut self, link: u32, begin: u32, stretch: Stretch)
+    fn replace(&mut self, link: u32, begin: u32, stretch: LinkStretch)
         requires there { IsSome (map.get self.old (link, begin)) }
         requires apart { AreApart (map.insert self.old (link, begin) stretch) }
         ensures { self.new ≡ map.insert self.old (link, begin) stretch }
@@ -184,7 +188,8 @@ impl GroundIndex {
 
     // Cuts the stretch that crosses an edge of a link, if one does. Without memory nothing changes.
     fn cut(&mut self, link: u32, edge: u32) -> Result<(), AllocError>
-        ensures same { (m : Millimetre) → specs.route_over self.new m ≡ specs.route_over self.old m }
+        ensures same { (m : Millimetre) → specs.route_over self.new m
+            ≡ specs.route_over self.old m }
         ensures parts { AreParts self.old self.new }
         ensures cut { OnOk result (IsCut self.new link edge) }
     {
@@ -204,7 +209,7 @@ impl GroundIndex {
         &mut self,
         link: u32,
         begin: u32,
-        stretch: &Stretch,
+        stretch: &LinkStretch,
         edge: u32,
     ) -> Result<(), AllocError>
         requires there { map.get self.old (link, begin) ≡ Some stretch.now }
@@ -216,7 +221,7 @@ impl GroundIndex {
         // The stretches are apart.
         let _ = &self.stretches;
         let route = stretch.route;
-        self.replace(link, begin, Stretch { end: edge, route });
+        self.replace(link, begin, LinkStretch { end: edge, route });
         match self.put(link, edge, *stretch) {
             Ok(()) => Ok(()),
             Err(fault) => {
@@ -236,7 +241,7 @@ impl GroundIndex {
         // The stretches are apart.
         let _ = &self.stretches;
         let end = piece.to;
-        self.put(piece.link, piece.from, Stretch { end, route })?;
+        self.put(piece.link, piece.from, LinkStretch { end, route })?;
         Ok(())
     }
 
@@ -252,7 +257,9 @@ impl GroundIndex {
         ensures err { OnErr result (self.new ≡ self.old) }
 
         // Pieces without a millimetre of these stay whole.
-        ensures whole { OnOk result ((others : List Piece) → meets (course_of others) (course_of pieces.now) ≡ false → AreWhole self.old others → AreWhole self.new others) }
+        ensures whole { OnOk result ((others : List Piece)
+            → meets (course_of others) (course_of pieces.now) ≡ false → AreWhole self.old others
+            → AreWhole self.new others) }
     {
         for (i, piece) in pieces.iter().enumerate() {
             match self.add(route, *piece) {
@@ -268,7 +275,8 @@ impl GroundIndex {
 
     /// Takes out again what `add_all` added last. It needs no memory.
     pub fn remove_added(&mut self, pieces: &[Piece])
-        ensures { (before : Stretches) → (route : Name) → HasGained before self.old route pieces.now → self.new ≡ before }
+        ensures { (before : Stretches) → (route : Name) → HasGained before self.old route pieces.now
+            → self.new ≡ before }
     {
         for piece in pieces {
             self.remove(piece.link, piece.from);
@@ -281,7 +289,8 @@ impl GroundIndex {
     /// # Errors
     /// When memory runs out; some cuts may stand then.
     pub fn cut_at(&mut self, pieces: &[Piece]) -> Result<(), AllocError>
-        ensures same { (m : Millimetre) → specs.route_over self.new m ≡ specs.route_over self.old m }
+        ensures same { (m : Millimetre) → specs.route_over self.new m
+            ≡ specs.route_over self.old m }
         ensures whole { OnOk result (AreWhole self.new pieces.now) }
         ensures others { StaysWhole self.old self.new }
     {
@@ -293,7 +302,8 @@ impl GroundIndex {
 
     // Cuts the stretches at both edges of a piece.
     fn cut_piece(&mut self, piece: &Piece) -> Result<(), AllocError>
-        ensures same { (m : Millimetre) → specs.route_over self.new m ≡ specs.route_over self.old m }
+        ensures same { (m : Millimetre) → specs.route_over self.new m
+            ≡ specs.route_over self.old m }
         ensures whole { OnOk result (IsWhole self.new piece.now) }
         ensures others { StaysWhole self.old self.new }
     {
@@ -305,7 +315,8 @@ impl GroundIndex {
     /// Frees the ground of pieces, so that no route runs over it. It needs no memory.
     pub fn free(&mut self, pieces: &[Piece])
         requires whole { AreWhole self.old pieces.now }
-        ensures over { (m : Millimetre) → specs.route_over self.new m ≡ (if runs_over (course_of pieces.now) m then None else specs.route_over self.old m) }
+        ensures over { (m : Millimetre) → specs.route_over self.new m
+            ≡ (if runs_over (course_of pieces.now) m then None else specs.route_over self.old m) }
         ensures others { StaysWhole self.old self.new }
     {
         self.change_all(pieces, &None);
@@ -314,7 +325,9 @@ impl GroundIndex {
     /// Hands the ground of pieces that routes run over to another route. It needs no memory.
     pub fn hand_over(&mut self, pieces: &[Piece], route: RouteName)
         requires whole { AreWhole self.old pieces.now }
-        ensures over { (m : Millimetre) → specs.route_over self.new m ≡ (if runs_over (course_of pieces.now) m then option_map (λ r. route) (specs.route_over self.old m) else specs.route_over self.old m) }
+        ensures over { (m : Millimetre) → specs.route_over self.new m
+            ≡ (if runs_over (course_of pieces.now) m then option_map (λ r.
+            route) (specs.route_over self.old m) else specs.route_over self.old m) }
         ensures others { StaysWhole self.old self.new }
     {
         self.change_all(pieces, &Some(route));
@@ -323,7 +336,9 @@ impl GroundIndex {
     // Gives the stretches on pieces another route, or with none takes them out.
     fn change_all(&mut self, pieces: &[Piece], heir: &Option<RouteName>)
         requires whole { AreWhole self.old pieces.now }
-        ensures over { (m : Millimetre) → specs.route_over self.new m ≡ (if runs_over (course_of pieces.now) m then option_and (specs.route_over self.old m) heir.now else specs.route_over self.old m) }
+        ensures over { (m : Millimetre) → specs.route_over self.new m
+            ≡ (if runs_over (course_of pieces.now) m then option_and
+            (specs.route_over self.old m) heir.now else specs.route_over self.old m) }
         ensures others { StaysWhole self.old self.new }
     {
         for piece in pieces {
@@ -334,7 +349,9 @@ impl GroundIndex {
     // Gives the stretches on a piece another route, or with none takes them out, from its end backwards.
     fn change_piece(&mut self, piece: &Piece, heir: &Option<RouteName>)
         requires whole { IsWhole self.old piece.now }
-        ensures over { (m : Millimetre) → specs.route_over self.new m ≡ (if runs_over (expand piece.now) m then option_and (specs.route_over self.old m) heir.now else specs.route_over self.old m) }
+        ensures over { (m : Millimetre) → specs.route_over self.new m
+            ≡ (if runs_over (expand piece.now) m then option_and
+            (specs.route_over self.old m) heir.now else specs.route_over self.old m) }
         ensures others { StaysWhole self.old self.new }
     {
         // The stretches are apart.
@@ -347,8 +364,9 @@ impl GroundIndex {
     }
 
     // The last stretch that begins from one edge of a link on and before another, and where it begins.
-    fn last_within(&self, link: u32, from: u32, edge: u32) -> Option<(u32, Stretch)>
-        ensures none { IfNone result ((a : ℕ) → from ≤ a → a < edge → map.get self.now (link, a) ≡ None) }
+    fn last_within(&self, link: u32, from: u32, edge: u32) -> Option<(u32, LinkStretch)>
+        ensures none { IfNone result ((a : ℕ) → from ≤ a → a < edge
+            → map.get self.now (link, a) ≡ None) }
         ensures last { IfSome result (λ found. IsLast self.now link edge found.0 found.1) }
         ensures from { IfSome result (λ found. from ≤ found.0) }
     {
@@ -361,16 +379,17 @@ impl GroundIndex {
     }
 
     // Gives a stretch another route, or with none takes it out. It needs no memory.
-    fn change(&mut self, link: u32, begin: u32, stretch: Stretch, heir: &Option<RouteName>)
+    fn change(&mut self, link: u32, begin: u32, stretch: LinkStretch, heir: &Option<RouteName>)
         requires there { map.get self.old (link, begin) ≡ Some stretch }
         ensures here { map.get self.new (link, begin) ≡ handed heir.now stretch }
-        ensures others { (m : Millimetre) → (m ≡ (link, begin) → ⊥) → map.get self.new m ≡ map.get self.old m }
+        ensures others { (m : Millimetre) → (m ≡ (link, begin) → ⊥)
+            → map.get self.new m ≡ map.get self.old m }
     {
         // The stretches are apart.
         let _ = &self.stretches;
         let end = stretch.end;
         match heir {
-            Some(route) => self.replace(link, begin, Stretch { end, route: *route }),
+            Some(route) => self.replace(link, begin, LinkStretch { end, route: *route }),
             None => self.remove(link, begin),
         }
     }

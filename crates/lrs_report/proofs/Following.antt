@@ -8,19 +8,19 @@ use Rattle.std.proofs.lemmas.Bool.{lt-ltb, le-ltb, le-leb, lt-leb, cases_lt}
 use Rattle.lrs_measure.specs.Texts.{Name}
 use Rattle.lrs_events.specs.declared.span.Span.{Span}
 use Rattle.lrs_events_rows.specs.Order.{In}
-use Rattle.lrs_report.specs.declared.columns.Stretch.{Stretch}
+use Rattle.lrs_report.specs.declared.columns.ValueStretch.{ValueStretch}
 use Rattle.lrs_report.specs.Along.{FollowOn, is_at}
 use Rattle.lrs_report.specs.Columns.{IsColumn, value_at, gap}
 use Rattle.lrs_report.proofs.Found.{none_found}
 
 -- the stretches of rows, each of the value of its asset, and those between them
-abbrev pub stretches_from : (ℕ → Option Name) → ℕ → ℕ → List Span → List Stretch
+abbrev pub stretches_from : (ℕ → Option Name) → ℕ → ℕ → List Span → List ValueStretch
 stretches_from v from len [] = gap from len
 stretches_from v from len (r ∷ rs) = gap from r.from ++ record { to = r.to; value = v r.asset } ∷ stretches_from v r.to len rs
 
 -- ---- gaps
 
-gap_column : (from to len : ℕ) (rest : List Stretch) → from ≤ to → IsColumn to len rest → IsColumn from len (gap from to ++ rest)
+gap_column : (from to len : ℕ) (rest : List ValueStretch) → from ≤ to → IsColumn to len rest → IsColumn from len (gap from to ++ rest)
 gap_column from to len rest h k = by (cases_lt from to)
   where
     P : Bool → Type 0
@@ -33,14 +33,14 @@ gap_column from to len rest h k = by (cases_lt from to)
         let e : to ≡ from = omega (arith, h, l) in
         subst P (sym (le-ltb from to l)) (subst Q e k)
 
-gap_behind : (from to j : ℕ) (rest : List Stretch) → to ≤ j → value_at (gap from to ++ rest) j ≡ value_at rest j
+gap_behind : (from to j : ℕ) (rest : List ValueStretch) → to ≤ j → value_at (gap from to ++ rest) j ≡ value_at rest j
 gap_behind from to j rest h = by (nat_lt from to)
   where
     by : (b : Bool) → value_at ((if b then record { to = to; value = None } ∷ [] else []) ++ rest) j ≡ value_at rest j
     by true = ap (λ b. if b then None else value_at rest j) (le-ltb j to h)
     by false = refl
 
-gap_along : (from to j : ℕ) (rest : List Stretch) → from ≤ j → j < to → value_at (gap from to ++ rest) j ≡ None
+gap_along : (from to j : ℕ) (rest : List ValueStretch) → from ≤ j → j < to → value_at (gap from to ++ rest) j ≡ None
 gap_along from to j rest low high =
     ap (λ b. value_at ((if b then record { to = to; value = None } ∷ [] else []) ++ rest) j) (lt-ltb from to (omega (arith, low, high)))
     ∙ ap (λ b. if b then None else value_at rest j) (lt-ltb j to high)
@@ -48,10 +48,10 @@ gap_along from to j rest low high =
 only_gap : (from to : ℕ) → gap from to ≡ gap from to ++ []
 only_gap from to = by (nat_lt from to)
   where
-    some : List Stretch
+    some : List ValueStretch
     some = record { to = to; value = None } ∷ []
 
-    by : (b : Bool) → if◌then◌else◌ {A = List Stretch} b some [] ≡ if◌then◌else◌ {A = List Stretch} b some [] ++ []
+    by : (b : Bool) → if◌then◌else◌ {A = List ValueStretch} b some [] ≡ if◌then◌else◌ {A = List ValueStretch} b some [] ++ []
     by true = refl
     by false = refl
 
@@ -81,7 +81,7 @@ module _ (v : ℕ → Option Name) (len : ℕ) where
   stretches_values from j [] h low high = ap (λ ss. value_at ss j) (only_gap from len) ∙ gap_along from len j [] low high
   stretches_values from j (r ∷ rs) h low high = by (cases_lt j r.from) (cases_lt j r.to) (stretches_values r.to j rs h.2)
     where
-      rest : List Stretch
+      rest : List ValueStretch
       rest = record { to = r.to; value = v r.asset } ∷ stretches_from v r.to len rs
 
       by : (j < r.from) ⊎ (r.from ≤ j) → (j < r.to) ⊎ (r.to ≤ j) → (r.to ≤ j → j < len → value_at (stretches_from v r.to len rs) j ≡ over j rs) → value_at (gap from r.from ++ rest) j ≡ over j (r ∷ rs)
@@ -100,6 +100,6 @@ module _ (v : ℕ → Option Name) (len : ℕ) where
           ∙ sym (λ i. option_and_then (λ q. v q.asset) (cond (le-leb r.from j k i && le-ltb j r.to l i) (Some r) (find (is_at j) rs)))
 
 -- where all rows are done, and the gap behind them
-pub all_rows : (v : ℕ → Option Name) (from len n : ℕ) (rows : List Span) (done new : List Stretch) → length rows ≤ n → new ≡ done ++ gap from len → done ++ stretches_from v from len (drop n rows) ≡ stretches_from v 0 len rows
+pub all_rows : (v : ℕ → Option Name) (from len n : ℕ) (rows : List Span) (done new : List ValueStretch) → length rows ≤ n → new ≡ done ++ gap from len → done ++ stretches_from v from len (drop n rows) ≡ stretches_from v 0 len rows
     → new ≡ stretches_from v 0 len rows
 all_rows v from len n rows done new h e so = e ∙ sym (ap (λ rs. done ++ stretches_from v from len rs) (drop_of_length-le rows h)) ∙ so

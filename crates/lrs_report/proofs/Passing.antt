@@ -5,7 +5,7 @@ use Rattle.std.specs.Prelude.{if◌then◌else◌}
 use Rattle.std.specs.List.{AllByRecursion}
 use Rattle.std.proofs.lemmas.Bool.{lt-ltb, le-ltb, le-leb, lt-leb, cases_lt}
 use Rattle.lrs_machine.specs.Segments.{Values}
-use Rattle.lrs_report.specs.declared.columns.Stretch.{Stretch}
+use Rattle.lrs_report.specs.declared.columns.ValueStretch.{ValueStretch}
 use Rattle.lrs_report.specs.Columns.{IsColumn, first_value, first_end, least_end, behind, value_at, values_at}
 use Rattle.lrs_report.specs.Sweep.{IsPassed}
 
@@ -27,11 +27,11 @@ next_changed f i xs ys v w h so e k =
 
 -- ---- one column
 
-column_along : (len to j : ℕ) (c : List Stretch) → j < to → to ≤ first_end len c → value_at c j ≡ first_value c
+column_along : (len to j : ℕ) (c : List ValueStretch) → j < to → to ≤ first_end len c → value_at c j ≡ first_value c
 column_along len to j [] high least = refl
 column_along len to j (s ∷ ss) high least = ap (λ b. if b then s.value else value_at ss j) (lt-ltb j s.to (omega (arith, high, least)))
 
-column_rest : (to j : ℕ) (c : List Stretch) → to ≤ j → value_at (behind to c) j ≡ value_at c j
+column_rest : (to j : ℕ) (c : List ValueStretch) → to ≤ j → value_at (behind to c) j ≡ value_at c j
 column_rest to j [] h = refl
 column_rest to j (s ∷ ss) h = by (cases_lt to s.to)
   where
@@ -39,7 +39,7 @@ column_rest to j (s ∷ ss) h = by (cases_lt to s.to)
     by (inl k) = ap (λ b. value_at (if b then ss else s ∷ ss) j) (lt-leb s.to to k)
     by (inr k) = ap (λ b. value_at (if b then ss else s ∷ ss) j) (le-leb s.to to k) ∙ sym (ap (λ b. if b then s.value else value_at ss j) (le-ltb j s.to (omega (arith, k, h))))
 
-column_behind : (from to len : ℕ) (c : List Stretch) → IsColumn from len c → from < to → to ≤ len → to ≤ first_end len c → IsColumn to len (behind to c)
+column_behind : (from to len : ℕ) (c : List ValueStretch) → IsColumn from len c → from < to → to ≤ len → to ≤ first_end len c → IsColumn to len (behind to c)
 column_behind from to len [] h ahead within least = absurd (omega (arith, h, ahead, within))
 column_behind from to len (s ∷ ss) h ahead within least = by (cases_lt to s.to)
   where
@@ -53,30 +53,30 @@ column_behind from to len (s ∷ ss) h ahead within least = by (cases_lt to s.to
 
 -- ---- all columns
 
-pub least_within : (len : ℕ) (cs : List (List Stretch)) → least_end len cs ≤ len
+pub least_within : (len : ℕ) (cs : List (List ValueStretch)) → least_end len cs ≤ len
 least_within len [] = omega arith
 least_within len (c ∷ cs) = let rest = least_within len cs in omega (arith, rest)
 
-pub least_ahead : (from len : ℕ) (cs : List (List Stretch)) → AllByRecursion (IsColumn from len) cs → from < len → from < least_end len cs
+pub least_ahead : (from len : ℕ) (cs : List (List ValueStretch)) → AllByRecursion (IsColumn from len) cs → from < len → from < least_end len cs
 least_ahead from len [] h k = k
 least_ahead from len (c ∷ cs) h k = let rest = least_ahead from len cs h.1 k in let one = first c h.0 in omega (arith, rest, one)
   where
-    first : (c : List Stretch) → IsColumn from len c → from < first_end len c
+    first : (c : List ValueStretch) → IsColumn from len c → from < first_end len c
     first [] g = absurd (omega (arith, g, k))
     first (s ∷ ss) g = g.0
 
-pub values_along : (len to j : ℕ) (cs : List (List Stretch)) → j < to → to ≤ least_end len cs → values_at cs j ≡ map first_value cs
+pub values_along : (len to j : ℕ) (cs : List (List ValueStretch)) → j < to → to ≤ least_end len cs → values_at cs j ≡ map first_value cs
 values_along len to j [] high least = refl
 values_along len to j (c ∷ cs) high least =
     let one = column_along len to j c high (omega (arith, least)) in
     let rest = values_along len to j cs high (omega (arith, least)) in
     λ i. one i ∷ rest i
 
-values_rest : (to j : ℕ) (cs : List (List Stretch)) → to ≤ j → values_at (map (behind to) cs) j ≡ values_at cs j
+values_rest : (to j : ℕ) (cs : List (List ValueStretch)) → to ≤ j → values_at (map (behind to) cs) j ≡ values_at cs j
 values_rest to j [] h = refl
 values_rest to j (c ∷ cs) h = let one = column_rest to j c h in let rest = values_rest to j cs h in λ i. one i ∷ rest i
 
-columns_behind : (from to len : ℕ) (cs : List (List Stretch)) → AllByRecursion (IsColumn from len) cs → from < to → to ≤ len → to ≤ least_end len cs → AllByRecursion (IsColumn to len) (map (behind to) cs)
+columns_behind : (from to len : ℕ) (cs : List (List ValueStretch)) → AllByRecursion (IsColumn from len) cs → from < to → to ≤ len → to ≤ least_end len cs → AllByRecursion (IsColumn to len) (map (behind to) cs)
 columns_behind from to len [] h ahead within least = tt
 columns_behind from to len (c ∷ cs) h ahead within least =
     (column_behind from to len c h.0 ahead within (omega (arith, least)), columns_behind from to len cs h.1 ahead within (omega (arith, least)))
@@ -84,7 +84,7 @@ columns_behind from to len (c ∷ cs) h ahead within least =
 -- ---- steps
 
 -- one step from columns that are there
-pub one_step : (from len to : ℕ) (values : Values) (cs ds : List (List Stretch)) → AllByRecursion (IsColumn from len) cs → from < len → values ≡ map first_value cs → to ≡ least_end len cs → ds ≡ map (behind to) cs
+pub one_step : (from len to : ℕ) (values : Values) (cs ds : List (List ValueStretch)) → AllByRecursion (IsColumn from len) cs → from < len → values ≡ map first_value cs → to ≡ least_end len cs → ds ≡ map (behind to) cs
     → IsPassed from len values cs to ds
 one_step from len to values cs ds h k front end new =
     let low = least_ahead from len cs h k in
@@ -101,7 +101,7 @@ one_step from len to values cs ds h k front end new =
     }
 
 -- ... and then one more
-pub step_more : (from to end len : ℕ) (values : Values) (old cs ds : List (List Stretch)) → IsPassed from len values old to cs → IsPassed to len values cs end ds → IsPassed from len values old end ds
+pub step_more : (from to end len : ℕ) (values : Values) (old cs ds : List (List ValueStretch)) → IsPassed from len values old to cs → IsPassed to len values cs end ds → IsPassed from len values old end ds
 step_more from to end len values old cs ds h k = record {
   ahead = (let a = h.ahead in let b = k.ahead in omega (arith, a, b));
   within = k.within;

@@ -11,7 +11,7 @@ use Rattle.lrs_measure.specs.Maximal.{IsChain, neighbours_differ}
 use Rattle.lrs_measure.proofs.Runs.{AreValued, range_runs_are}
 use Rattle.lrs_machine.specs.Segments.{Values, same_values}
 use Rattle.lrs_machine.specs.declared.segment.Segment.{Segment}
-use Rattle.lrs_report.specs.declared.columns.Stretch.{Stretch}
+use Rattle.lrs_report.specs.declared.columns.ValueStretch.{ValueStretch}
 use Rattle.lrs_report.specs.Columns.{first_value, least_end, values_at}
 use Rattle.lrs_report.specs.Sweep.{run_of, IsPassed}
 use Rattle.lrs_report.proofs.Passing.{values_along, least_ahead}
@@ -80,7 +80,7 @@ pub nothing_swept : (f : ℕ → Values) (len : ℕ) → IsSwept f 0 len []
 nothing_swept f len = record { within = omega arith; cover = refl; values = tt; maximal = refl; last = λ h. refl }
 
 -- one step of a sweep
-pub swept_more : (f : ℕ → Values) (x len to : ℕ) (v : Values) (old new : List (List Stretch)) (ss : List Segment)
+pub swept_more : (f : ℕ → Values) (x len to : ℕ) (v : Values) (old new : List (List ValueStretch)) (ss : List Segment)
     → IsSwept f x len (map run_of ss) → ((j : ℕ) → x ≤ j → values_at old j ≡ f j) → IsPassed x len v old to new → (to < len → same_values v (map first_value new) ≡ false)
     → IsSwept f to len (map run_of (ss ++ record { from = x; to = to; values = v } ∷ []))
 swept_more f x len to v old new ss h same p other =

@@ -4,7 +4,7 @@ use Rattle.std.specs.List.{AllByRecursion}
 use Rattle.lrs_measure.specs.Runs.{Run}
 use Rattle.lrs_machine.specs.Segments.{Values}
 use Rattle.lrs_machine.specs.declared.segment.Segment.{Segment}
-use Rattle.lrs_report.specs.declared.columns.Stretch.{Stretch}
+use Rattle.lrs_report.specs.declared.columns.ValueStretch.{ValueStretch}
 use Rattle.lrs_report.specs.Columns.{IsColumn, values_at}
 
 -- a segment as a run of values
@@ -12,7 +12,7 @@ abbrev pub run_of : Segment → Run Values
 run_of s = record { from = s.from; to = s.to; value = s.values }
 
 -- columns from a chainage on had these values up to another, and are now as they were from there on
-pub record IsPassed (from len : ℕ) (values : Values) (old : List (List Stretch)) (to : ℕ) (new : List (List Stretch)) : Type 0 where
+pub record IsPassed (from len : ℕ) (values : Values) (old : List (List ValueStretch)) (to : ℕ) (new : List (List ValueStretch)) : Type 0 where
   pub ahead : from < to
   pub within : to ≤ len
   pub columns : AllByRecursion (IsColumn to len) new

@@ -8,7 +8,7 @@ use std::marker::Model;
 
 /// A value or none up to a chainage, from where the stretch before it ended.
 #[derive(Clone, Copy, Debug, PartialEq, Eq)]
-pub struct Stretch {
+pub struct ValueStretch {
     pub to: u64,
     pub value: Option<Value>,
 }
@@ -16,22 +16,22 @@ pub struct Stretch {
 /// Stretches that follow one another, of which the first ones may have been passed. Contracts see the others.
 #[derive(Drop)]
 pub struct Column {
-    stretches: Vec<Stretch>,
+    stretches: Vec<ValueStretch>,
     passed: usize,
 }
 
 impl Model for Column {
     ghost use Rattle.std.specs.Prelude.{List, drop};
-    ghost use Rattle.lrs_report.specs.declared.columns.Stretch.{Stretch};
+    ghost use Rattle.lrs_report.specs.declared.columns.ValueStretch.{ValueStretch};
 
-    ghost Value = { List Stretch };
+    ghost Value = { List ValueStretch };
 
     ghost view = { λ column. drop column.passed column.stretches.items };
 }
 
 impl Column {
     /// The column of these stretches.
-    pub fn new(stretches: Vec<Stretch>) -> Column
+    pub fn new(stretches: Vec<ValueStretch>) -> Column
         ensures { result ≡ stretches.items }
     {
         Column {
@@ -41,7 +41,7 @@ impl Column {
     }
 
     /// The first stretch.
-    fn first(&self) -> Option<Stretch>
+    fn first(&self) -> Option<ValueStretch>
         ensures { result ≡ first_stretch self.now }
     {
         if self.passed < self.stretches.len() {

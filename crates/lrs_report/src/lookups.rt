@@ -52,7 +52,8 @@ fn first_unknown(classes: &Chunked<Class>, wanted: &[ClassName]) -> Option<usize
 /// The first class asked for that is not exclusive.
 fn first_shared(classes: &Chunked<Class>, wanted: &[ClassName]) -> Option<usize>
     requires { each_two class_before classes.now.rows ≡ true }
-    ensures { result ≡ position (λ name. not (is_exclusive_class classes.now.rows name)) wanted.now }
+    ensures { result ≡ position (λ name.
+        not (is_exclusive_class classes.now.rows name)) wanted.now }
 {
     wanted
         .iter()

@@ -11,7 +11,7 @@ ghost use Rattle.lrs_report.specs.Along.{is_holder, holders_along, HasOneHolder,
 ghost use Rattle.lrs_report.specs.Columns.{IsColumn, gap, value_at, values_at};
 ghost use Rattle.lrs_report.specs.Sweep.{run_of};
 
-use crate::columns::{Column, Stretch};
+use crate::columns::{Column, ValueStretch};
 use crate::lookups::{asset_value, fault_of};
 use crate::sweep::sweep;
 use lrs_events::{Asset, Class, ClassName, LinkSide, Side, Span};
@@ -21,11 +21,11 @@ use lrs_ordered::Chunked;
 use std::alloc::{AllocError, Global};
 
 /// Adds the stretch between two chainages, if there is something between them.
-fn push_gap(stretches: &mut Vec<Stretch>, from: u64, to: u64) -> Result<(), AllocError>
+fn push_gap(stretches: &mut Vec<ValueStretch>, from: u64, to: u64) -> Result<(), AllocError>
     ensures { OnOk result (stretches.new.items ≡ stretches.old.items ++ gap from to) }
 {
     if from < to {
-        stretches.push(Stretch { to, value: None })?;
+        stretches.push(ValueStretch { to, value: None })?;
     }
     Ok(())
 }
@@ -36,17 +36,18 @@ fn stretches_of(
     rows: &[Span],
     assets: &Chunked<Asset>,
     len: u64,
-) -> Result<Vec<Stretch>, AllocError>
+) -> Result<Vec<ValueStretch>, AllocError>
     requires order { each_two asset_before assets.now.rows ≡ true }
     requires rows { FollowOn 0 len rows.now }
     ensures column { IfOk result (λ found. IsColumn 0 len found.items) }
-    ensures values { IfOk result (λ found. (j : ℕ) → j < len → value_at found.items j ≡ row_value assets.now.rows rows.now j) }
+    ensures values { IfOk result (λ found. (j : ℕ) → j < len
+        → value_at found.items j ≡ row_value assets.now.rows rows.now j) }
 {
     let mut stretches = Vec::new(alloc);
     let mut from = 0;
     for row in rows {
         push_gap(&mut stretches, from, row.from)?;
-        stretches.push(Stretch {
+        stretches.push(ValueStretch {
             to: row.to,
             value: asset_value(assets, row.asset),
         })?;
@@ -69,7 +70,8 @@ fn column_of(
     requires rows { list_all (is_span assets.now.rows len) spans.now ≡ true }
     requires one { HasOneHolder spans.now class }
     ensures column { IfOk result (λ column. IsColumn 0 len column) }
-    ensures values { IfOk result (λ column. (j : ℕ) → j < len → value_at column j ≡ value_of assets.now.rows (is_holder spans.now side j) class) }
+    ensures values { IfOk result (λ column. (j : ℕ) → j < len
+        → value_at column j ≡ value_of assets.now.rows (is_holder spans.now side j) class) }
 {
     let _canonical = spans.rows();
     let lane = spans.lane(class, side);
@@ -90,7 +92,9 @@ fn columns_of(
     requires rows { list_all (is_span assets.now.rows len) spans.now ≡ true }
     requires one { AllByRecursion (HasOneHolder spans.now) wanted.now }
     ensures columns { IfOk result (λ columns. AllByRecursion (IsColumn 0 len) columns.items) }
-    ensures values { IfOk result (λ columns. (j : ℕ) → j < len → values_at columns.items j ≡ values_of assets.now.rows wanted.now (is_holder spans.now side j)) }
+    ensures values { IfOk result (λ columns. (j : ℕ) → j < len
+        → values_at columns.items j ≡ values_of assets.now.rows wanted.now
+        (is_holder spans.now side j)) }
 {
     let mut columns = Vec::with_capacity(alloc, wanted.len())?;
     for class in wanted {
@@ -111,7 +115,8 @@ fn segments_on(
     requires order { each_two asset_before assets.now.rows ≡ true }
     requires rows { list_all (is_span assets.now.rows len) spans.now ≡ true }
     requires one { AllByRecursion (HasOneHolder spans.now) wanted.now }
-    ensures { IfOk result (λ found. map run_of found.items ≡ segments_of assets.now.rows wanted.now (holders_along spans.now side len)) }
+    ensures { IfOk result (λ found. map run_of found.items
+        ≡ segments_of assets.now.rows wanted.now (holders_along spans.now side len)) }
 {
     let columns = columns_of(alloc, wanted, side, spans, assets, len)?;
     sweep(alloc, columns, len)
@@ -139,7 +144,9 @@ pub fn segments(
     requires classes_order { each_two class_before classes.now.rows ≡ true }
     requires rows { list_all (is_span assets.now.rows len) spans.now ≡ true }
     requires exclusive { AreExclusive classes.now.rows spans.now }
-    ensures { IsAnswer (segment_fault classes.now.rows wanted.now side) (λ found. (s : DeclaredSide) → side ≡ one_side s → map run_of found.items ≡ segments_of assets.now.rows wanted.now (holders_along spans.now s len)) result }
+    ensures { IsAnswer (segment_fault classes.now.rows wanted.now side) (λ found.
+        (s : DeclaredSide) → side ≡ one_side s → map run_of found.items
+        ≡ segments_of assets.now.rows wanted.now (holders_along spans.now s len)) result }
 {
     if let Some(fault) = fault_of(classes, wanted, side) {
         return Err(fault);

@@ -17,7 +17,8 @@ const SPACES: [u8; 12] = *b"            ";
 
 /// Writes a text at the right of a column.
 fn write_aligned<W: Write>(writer: &mut W, text: &[u8]) -> io::Result<()>
-    ensures { OnOk result (Appends (W.contents writer.old) (W.contents writer.new) (aligned text.now)) }
+    ensures { OnOk result (Appends (W.contents writer.old) (W.contents writer.new)
+        (aligned text.now)) }
 {
     writer.write_all(&SPACES[text.len().min(12)..])?;
     writer.write_all(text)
@@ -25,7 +26,8 @@ fn write_aligned<W: Write>(writer: &mut W, text: &[u8]) -> io::Result<()>
 
 /// Writes millimetres in metres at the right of a column.
 fn write_metres<W: Write>(writer: &mut W, millimetres: u64) -> io::Result<()>
-    ensures { OnOk result (Appends (W.contents writer.old) (W.contents writer.new) (aligned (metres_text millimetres))) }
+    ensures { OnOk result (Appends (W.contents writer.old) (W.contents writer.new)
+        (aligned (metres_text millimetres))) }
 {
     let whole = millimetres / 1000;
     let tenths = millimetres / 100 % 10;
@@ -36,7 +38,8 @@ fn write_metres<W: Write>(writer: &mut W, millimetres: u64) -> io::Result<()>
 
 /// Writes a space and then a text at the right of a column.
 fn write_next<W: Write>(writer: &mut W, text: &[u8]) -> io::Result<()>
-    ensures { OnOk result (Appends (W.contents writer.old) (W.contents writer.new) (32 ∷ aligned text.now)) }
+    ensures { OnOk result (Appends (W.contents writer.old) (W.contents writer.new)
+        (32 ∷ aligned text.now)) }
 {
     writer.write_all(b" ")?;
     write_aligned(writer, text)
@@ -44,7 +47,8 @@ fn write_next<W: Write>(writer: &mut W, text: &[u8]) -> io::Result<()>
 
 /// Writes a column for each class.
 fn write_names<W: Write>(writer: &mut W, wanted: &[ClassName]) -> io::Result<()>
-    ensures { OnOk result (Appends (W.contents writer.old) (W.contents writer.new) (columns_text wanted.now)) }
+    ensures { OnOk result (Appends (W.contents writer.old) (W.contents writer.new)
+        (columns_text wanted.now)) }
 {
     for name in wanted {
         write_next(writer, name.bytes())?;
@@ -54,7 +58,8 @@ fn write_names<W: Write>(writer: &mut W, wanted: &[ClassName]) -> io::Result<()>
 
 /// Writes a space and then a value, or a dash where there is none, at the right of a column.
 fn write_value<W: Write>(writer: &mut W, value: Option<Value>) -> io::Result<()>
-    ensures { OnOk result (Appends (W.contents writer.old) (W.contents writer.new) (32 ∷ aligned (value_text value))) }
+    ensures { OnOk result (Appends (W.contents writer.old) (W.contents writer.new)
+        (32 ∷ aligned (value_text value))) }
 {
     match value {
         Some(value) => write_next(writer, value.bytes()),
@@ -64,7 +69,8 @@ fn write_value<W: Write>(writer: &mut W, value: Option<Value>) -> io::Result<()>
 
 /// Writes a column for each value.
 fn write_values<W: Write>(writer: &mut W, values: &[Option<Value>]) -> io::Result<()>
-    ensures { OnOk result (Appends (W.contents writer.old) (W.contents writer.new) (columns_text (map value_text values.now))) }
+    ensures { OnOk result (Appends (W.contents writer.old) (W.contents writer.new)
+        (columns_text (map value_text values.now))) }
 {
     for value in values {
         write_value(writer, *value)?;
@@ -73,7 +79,8 @@ fn write_values<W: Write>(writer: &mut W, values: &[Option<Value>]) -> io::Resul
 }
 
 fn write_title<W: Write>(writer: &mut W, route: &RouteName, side: Side, len: u64) -> io::Result<()>
-    ensures { OnOk result (Appends (W.contents writer.old) (W.contents writer.new) (title_text route.now side len)) }
+    ensures { OnOk result (Appends (W.contents writer.old) (W.contents writer.new)
+        (title_text route.now side len)) }
 {
     let length = Metres::new(len);
     writer.write_all(b"STRIP ")?;
@@ -82,7 +89,8 @@ fn write_title<W: Write>(writer: &mut W, route: &RouteName, side: Side, len: u64
 }
 
 fn write_heading<W: Write>(writer: &mut W, wanted: &[ClassName]) -> io::Result<()>
-    ensures { OnOk result (Appends (W.contents writer.old) (W.contents writer.new) (heading_text wanted.now)) }
+    ensures { OnOk result (Appends (W.contents writer.old) (W.contents writer.new)
+        (heading_text wanted.now)) }
 {
     write_aligned(writer, b"FROM")?;
     write_next(writer, b"TO")?;
@@ -92,7 +100,8 @@ fn write_heading<W: Write>(writer: &mut W, wanted: &[ClassName]) -> io::Result<(
 
 /// Writes the line of a segment.
 fn write_segment<W: Write>(writer: &mut W, segment: &Segment) -> io::Result<()>
-    ensures { OnOk result (Appends (W.contents writer.old) (W.contents writer.new) (segment_text segment.now)) }
+    ensures { OnOk result (Appends (W.contents writer.old) (W.contents writer.new)
+        (segment_text segment.now)) }
 {
     write_metres(writer, segment.from)?;
     writer.write_all(b" ")?;
@@ -103,7 +112,8 @@ fn write_segment<W: Write>(writer: &mut W, segment: &Segment) -> io::Result<()>
 
 /// Writes the lines of segments.
 fn write_segments<W: Write>(writer: &mut W, segments: &[Segment]) -> io::Result<()>
-    ensures { OnOk result (Appends (W.contents writer.old) (W.contents writer.new) (flat_map segment_text segments.now)) }
+    ensures { OnOk result (Appends (W.contents writer.old) (W.contents writer.new)
+        (flat_map segment_text segments.now)) }
 {
     for segment in segments {
         write_segment(writer, segment)?;
@@ -124,7 +134,8 @@ pub fn strip<W: Write>(
     wanted: &[ClassName],
     segments: &[Segment],
 ) -> io::Result<()>
-    ensures { OnOk result (Appends (W.contents writer.old) (W.contents writer.new) (strip_text route.now side len wanted.now segments.now)) }
+    ensures { OnOk result (Appends (W.contents writer.old) (W.contents writer.new)
+        (strip_text route.now side len wanted.now segments.now)) }
 {
     write_title(writer, route, side, len)?;
     write_heading(writer, wanted)?;

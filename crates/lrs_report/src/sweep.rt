@@ -73,7 +73,8 @@ fn pass_same(columns: &mut Vec<Column>, values: &[Option<Value>], from: u64, len
     requires columns { AllByRecursion (IsColumn from len) columns.old.items }
     requires values { values.now ≡ map first_value columns.old.items }
     ensures passed { IsPassed from len values.now columns.old.items result columns.new.items }
-    ensures other { result < len → same_values values.now (map first_value columns.new.items) ≡ false }
+    ensures other { result < len → same_values values.now (map first_value columns.new.items)
+        ≡ false }
 {
     let mut to = go_on(columns, len);
     while to < len && have(columns, values) {
@@ -89,7 +90,8 @@ pub(crate) fn sweep(
     len: u64,
 ) -> Result<Vec<Segment>, AllocError>
     requires { AllByRecursion (IsColumn 0 len) columns.items }
-    ensures { IfOk result (λ found. map run_of found.items ≡ runs_of same_values (map (values_at columns.items) (range_with_len 0 len))) }
+    ensures { IfOk result (λ found. map run_of found.items
+        ≡ runs_of same_values (map (values_at columns.items) (range_with_len 0 len))) }
 {
     let mut segments = Vec::new(alloc);
     let mut from = 0;

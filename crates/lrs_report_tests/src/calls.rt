@@ -9,10 +9,8 @@ ghost use Rattle.lrs_events_rows.specs.Members.{leaves_free, is_free};
 use lrs_events::{Span, SpanChange};
 use lrs_events_rows::removals::Removal;
 use lrs_events_spans::Spans;
+use lrs_measure::limits::LONGEST_ROUTE;
 use std::alloc::{AllocError, Global};
-
-// The length of the longest route in millimetres.
-const LONGEST_ROUTE: u64 = 10_000_000_000;
 
 fn is_row(span: &Span) -> bool
     ensures { result ≡ is_row span.now }

@@ -26,14 +26,17 @@ fn stretch(class: ClassName, from: u64, to: u64) -> Span
 
 /// Asset 10 on the right, from 2.5 m to 4 m and from 6 m to 8 m.
 fn two_stretches(alloc: Global, class: ClassName) -> Result<Spans, AllocError>
-    ensures { IfOk result (λ spans. spans ≡ record { asset = 10; class = class; from = 2500; to = 4000; side = Side.R } ∷ record { asset = 10; class = class; from = 6000; to = 8000; side = Side.R } ∷ []) }
+    ensures { IfOk result (λ spans.
+        spans ≡ record { asset = 10; class = class; from = 2500; to = 4000; side = Side.R }
+        ∷ record { asset = 10; class = class; from = 6000; to = 8000; side = Side.R } ∷ []) }
 {
     let rows = [stretch(class, 2500, 4000), stretch(class, 6000, 8000)];
     Spans::of_rows(alloc, Vec::from_slice(alloc, &rows)?)
 }
 
 fn one_asset(alloc: Global, class: ClassName, value: Value) -> Result<Chunked<Asset>, AllocError>
-    ensures { IfOk result (λ assets. assets.rows ≡ record { number = 10; class = class; value = value; lateral = 0; entry = 1 } ∷ []) }
+    ensures { IfOk result (λ assets. assets.rows
+        ≡ record { number = 10; class = class; value = value; lateral = 0; entered_by = 1 } ∷ []) }
 {
     let mut assets = Chunked::new(alloc);
     assets.push(Asset {
@@ -41,7 +44,7 @@ fn one_asset(alloc: Global, class: ClassName, value: Value) -> Result<Chunked<As
         class,
         value,
         lateral: 0,
-        entry: 1,
+        entered_by: 1,
     })?;
     Ok(assets)
 }
@@ -56,7 +59,8 @@ fn one_class(alloc: Global, name: ClassName, kind: Kind) -> Result<Chunked<Class
 
 /// Those stretches, tried again where memory was refused.
 fn spans_of(rt: &(impl Abort + AllocGlobal), class: ClassName) -> Spans
-    ensures { result ≡ record { asset = 10; class = class; from = 2500; to = 4000; side = Side.R } ∷ record { asset = 10; class = class; from = 6000; to = 8000; side = Side.R } ∷ [] }
+    ensures { result ≡ record { asset = 10; class = class; from = 2500; to = 4000; side = Side.R }
+        ∷ record { asset = 10; class = class; from = 6000; to = 8000; side = Side.R } ∷ [] }
 {
     match two_stretches(rt.alloc(), class) {
         Ok(spans) => spans,
@@ -65,7 +69,8 @@ fn spans_of(rt: &(impl Abort + AllocGlobal), class: ClassName) -> Spans
 }
 
 fn assets_of(rt: &(impl Abort + AllocGlobal), class: ClassName, value: Value) -> Chunked<Asset>
-    ensures { result.rows ≡ record { number = 10; class = class; value = value; lateral = 0; entry = 1 } ∷ [] }
+    ensures { result.rows
+        ≡ record { number = 10; class = class; value = value; lateral = 0; entered_by = 1 } ∷ [] }
 {
     match one_asset(rt.alloc(), class, value) {
         Ok(assets) => assets,

@@ -23,7 +23,8 @@ use std::io::Write;
 
 /// Writes the line of a reply.
 pub(crate) fn write_reply<W: Write>(writer: &mut W, reply: Reply) -> Result<(), SheetFault>
-    ensures written { OnOk result (Appends (W.contents writer.old) (W.contents writer.new) (reply_text reply ++ 10 ∷ [])) }
+    ensures written { OnOk result (Appends (W.contents writer.old) (W.contents writer.new)
+        (reply_text reply ++ 10 ∷ [])) }
     ensures faults { IfErr result (λ e. e ≡ SheetFault.Write) }
 {
     match writeln!(writer, "{reply}") {
@@ -40,7 +41,8 @@ fn write_answer<W: Write>(
     tally: &mut Tally,
 ) -> Result<(), SheetFault>
     requires room { answer_count tally.old < 2 ^ 32 }
-    ensures written { OnOk result (Appends (W.contents writer.old) (W.contents writer.new) (reply_text (reply_of command.now answer.now) ++ 10 ∷ [])) }
+    ensures written { OnOk result (Appends (W.contents writer.old) (W.contents writer.new)
+        (reply_text (reply_of command.now answer.now) ++ 10 ∷ [])) }
     ensures counted { OnOk result (tally.new ≡ counted tally.old answer.now) }
     ensures faults { IfErr result (λ e. e ≡ SheetFault.Write) }
 {
@@ -62,8 +64,10 @@ fn write_answers<W: Write>(
 ) -> Result<(), SheetFault>
     requires few { length answers.now ≤ length commands.now }
     requires room { answer_count tally.old + length answers.now ≤ 2 ^ 32 }
-    ensures written { OnOk result (Appends (W.contents writer.old) (W.contents writer.new) (lines_of (replies_of commands.now answers.now))) }
-    ensures counted { OnOk result (tally.new ≡ counted_all tally.old (replies_of commands.now answers.now)) }
+    ensures written { OnOk result (Appends (W.contents writer.old) (W.contents writer.new)
+        (lines_of (replies_of commands.now answers.now))) }
+    ensures counted { OnOk result (tally.new ≡ counted_all tally.old
+        (replies_of commands.now answers.now)) }
     ensures faults { IfErr result (λ e. e ≡ SheetFault.Write) }
 {
     for place in 0..answers.len() {
@@ -82,8 +86,11 @@ fn do_first<W: Write, K: Keeper>(
     requires some { 1 ≤ length commands.now }
     requires room { answer_count tally.old + length commands.now ≤ 2 ^ 32 }
     ensures few { IfOk result (λ n. (1 ≤ n) × (n ≤ length commands.now)) }
-    ensures does { IfOk result (λ n. DoesAll desk.old.limits (take n commands.now) (state_of desk.old.image) (state_of desk.new.image) (W.contents writer.old) (W.contents writer.new) tally.old tally.new) }
-    ensures stops { IfErr result (StopsAtFirst K.may_hold commands.now desk.old desk.new (W.contents writer.old) (W.contents writer.new)) }
+    ensures does { IfOk result (λ n. DoesAll desk.old.limits (take n commands.now)
+        (state_of desk.old.image) (state_of desk.new.image) (W.contents writer.old)
+        (W.contents writer.new) tally.old tally.new) }
+    ensures stops { IfErr result (StopsAtFirst K.may_hold commands.now desk.old desk.new
+        (W.contents writer.old) (W.contents writer.new)) }
     ensures desk { LeavesDesk K.may_hold desk.old desk.new result }
 {
     let answers = match desk.act_on_first(commands) {
@@ -106,8 +113,11 @@ pub(crate) fn do_all<W: Write, K: Keeper>(
     tally: &mut Tally,
 ) -> Result<(), SheetFault>
     requires room { answer_count tally.old + length commands.now ≤ 2 ^ 32 }
-    ensures does { OnOk result (DoesAll desk.old.limits commands.now (state_of desk.old.image) (state_of desk.new.image) (W.contents writer.old) (W.contents writer.new) tally.old tally.new) }
-    ensures stops { IfErr result (StopsAmong K.may_hold commands.now desk.old desk.new (W.contents writer.old) (W.contents writer.new)) }
+    ensures does { OnOk result (DoesAll desk.old.limits commands.now (state_of desk.old.image)
+        (state_of desk.new.image) (W.contents writer.old)
+        (W.contents writer.new) tally.old tally.new) }
+    ensures stops { IfErr result (StopsAmong K.may_hold commands.now desk.old desk.new
+        (W.contents writer.old) (W.contents writer.new)) }
     ensures desk { LeavesDesk K.may_hold desk.old desk.new result }
 {
     let mut done = 0;
@@ -126,8 +136,11 @@ pub(crate) fn settle<W: Write, K: Keeper>(
 ) -> Result<(), SheetFault>
     requires room { answer_count tally.old + length waiting.old.items ≤ 2 ^ 32 }
     ensures none { OnOk result (waiting.new.items ≡ []) }
-    ensures does { OnOk result (DoesAll desk.old.limits waiting.old.items (state_of desk.old.image) (state_of desk.new.image) (W.contents writer.old) (W.contents writer.new) tally.old tally.new) }
-    ensures stops { IfErr result (StopsAmong K.may_hold waiting.old.items desk.old desk.new (W.contents writer.old) (W.contents writer.new)) }
+    ensures does { OnOk result (DoesAll desk.old.limits waiting.old.items (state_of desk.old.image)
+        (state_of desk.new.image) (W.contents writer.old)
+        (W.contents writer.new) tally.old tally.new) }
+    ensures stops { IfErr result (StopsAmong K.may_hold waiting.old.items desk.old desk.new
+        (W.contents writer.old) (W.contents writer.new)) }
     ensures desk { LeavesDesk K.may_hold desk.old desk.new result }
 {
     do_all(waiting, writer, desk, tally)?;
@@ -146,9 +159,14 @@ fn refuse<W: Write, K: Keeper>(
 ) -> Result<(), SheetFault>
     requires malformed { FirstMalformed (edit_fields row.now) (place_of field) }
     requires room { answer_count tally.old + length waiting.old.items < 2 ^ 32 }
-    ensures takes { OnOk result (Takes desk.old.limits (edit_fields row.now) waiting.old.items waiting.new.items (state_of desk.old.image) (state_of desk.new.image) (W.contents writer.old) (W.contents writer.new) tally.old tally.new) }
+    ensures takes { OnOk result (Takes desk.old.limits
+        (edit_fields row.now) waiting.old.items waiting.new.items (state_of desk.old.image)
+        (state_of desk.new.image) (W.contents writer.old)
+        (W.contents writer.new) tally.old tally.new) }
     ensures none { OnOk result (waiting.new.items ≡ []) }
-    ensures stops { IfErr result (StopsTaking K.may_hold (edit_fields row.now) waiting.old.items desk.old desk.new (W.contents writer.old) (W.contents writer.new) tally.old) }
+    ensures stops { IfErr result (StopsTaking K.may_hold
+        (edit_fields row.now) waiting.old.items desk.old desk.new (W.contents writer.old)
+        (W.contents writer.new) tally.old) }
     ensures desk { LeavesDesk K.may_hold desk.old desk.new result }
 {
     settle(waiting, writer, desk, tally)?;
@@ -173,9 +191,14 @@ pub(crate) fn take_row<W: Write, K: Keeper>(
     requires width { length (fields_of row.now.fields.now) ≤ width_of row.now.sheet }
     requires room { answer_count tally.old + length waiting.old.items < 2 ^ 32 }
     requires few { length waiting.old.items < together }
-    ensures takes { OnOk result (Takes desk.old.limits (edit_fields row.now) waiting.old.items waiting.new.items (state_of desk.old.image) (state_of desk.new.image) (W.contents writer.old) (W.contents writer.new) tally.old tally.new) }
+    ensures takes { OnOk result (Takes desk.old.limits
+        (edit_fields row.now) waiting.old.items waiting.new.items (state_of desk.old.image)
+        (state_of desk.new.image) (W.contents writer.old)
+        (W.contents writer.new) tally.old tally.new) }
     ensures few { OnOk result (length waiting.new.items < together) }
-    ensures stops { IfErr result (StopsTaking K.may_hold (edit_fields row.now) waiting.old.items desk.old desk.new (W.contents writer.old) (W.contents writer.new) tally.old) }
+    ensures stops { IfErr result (StopsTaking K.may_hold
+        (edit_fields row.now) waiting.old.items desk.old desk.new (W.contents writer.old)
+        (W.contents writer.new) tally.old) }
     ensures desk { LeavesDesk K.may_hold desk.old desk.new result }
 {
     let said = match command_in(alloc, row) {

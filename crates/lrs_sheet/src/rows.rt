@@ -42,9 +42,12 @@ pub(crate) fn next_row<R: Read>(
 ) -> Result<bool, SheetFault>
     requires { IsPlain rows.old }
     ensures plain { IfOk result (λ found. found ≡ true → IsPlain rows.new) }
-    ensures width { IfOk result (λ found. found ≡ true → expected_len rows.new ≡ Some (length (fields_of row.new))) }
-    ensures same_width { IfOk result (λ found. found ≡ true → IfSome (expected_len rows.old) (λ wanted. length (fields_of row.new) ≡ wanted)) }
-    ensures found { IfOk result (λ found. found ≡ true → Gave R.remaining rows.old rows.new (fields_of row.new ∷ [])) }
+    ensures width { IfOk result (λ found. found ≡ true
+        → expected_len rows.new ≡ Some (length (fields_of row.new))) }
+    ensures same_width { IfOk result (λ found. found ≡ true
+        → IfSome (expected_len rows.old) (λ wanted. length (fields_of row.new) ≡ wanted)) }
+    ensures found { IfOk result (λ found. found ≡ true
+        → Gave R.remaining rows.old rows.new (fields_of row.new ∷ [])) }
     ensures ended { IfOk result (λ found. found ≡ false → EndsAfter R.remaining rows.old []) }
     ensures faults { IfErr result (IsReadFault R.remaining rows.old) }
 {

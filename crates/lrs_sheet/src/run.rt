@@ -50,11 +50,17 @@ fn take_rows<R: Read, W: Write, K: Keeper>(
     requires together { 1 ≤ together }
     requires none { waiting.old.items ≡ [] }
     requires fresh { tally.old ≡ tally_of [] }
-    ensures taken { IfOk result (HasTaken sheet K.may_hold R.remaining rows.old desk.old desk.new (W.contents writer.old) (W.contents writer.new) tally.new waiting.new.items) }
+    ensures taken { IfOk result (HasTaken sheet K.may_hold R.remaining rows.old desk.old desk.new
+        (W.contents writer.old) (W.contents writer.new) tally.new waiting.new.items) }
     ensures few { OnOk result (length waiting.new.items < together) }
-    ensures stops { IfErr result (λ e. DoesRows sheet together R.remaining rows.old desk.old.limits (state_of desk.old.image) (state_of desk.new.image) (W.contents writer.old) (W.contents writer.new) (Err e)) }
+    ensures stops { IfErr result (λ e. DoesRows sheet together R.remaining rows.old desk.old.limits
+        (state_of desk.old.image) (state_of desk.new.image) (W.contents writer.old)
+        (W.contents writer.new) (Err e)) }
     ensures desk { LeavesDesk K.may_hold desk.old desk.new result }
-    ensures broken { result ≡ Err (SheetFault.Desk Fault.Keep) → (c : Result ImageRows Table) → K.may_hold desk.new.keeper c → BreaksAfter sheet together R.remaining rows.old desk.old.limits (state_of desk.old.image) (W.contents writer.old) (W.contents writer.new) c }
+    ensures broken { result ≡ Err (SheetFault.Desk Fault.Keep) → (c : Result ImageRows Table)
+        → K.may_hold desk.new.keeper c
+        → BreaksAfter sheet together R.remaining rows.old desk.old.limits (state_of desk.old.image)
+        (W.contents writer.old) (W.contents writer.new) c }
 {
     for _turn in 0..MAX_RECORDS {
         match next_row(rows, row) {
@@ -85,9 +91,14 @@ fn do_rows<R: Read, W: Write, K: Keeper>(
     requires plain { IsPlain rows.old }
     requires width { expected_len rows.old ≡ Some (width_of sheet) }
     requires together { 1 ≤ together }
-    ensures rows { DoesRows sheet together R.remaining rows.old desk.old.limits (state_of desk.old.image) (state_of desk.new.image) (W.contents writer.old) (W.contents writer.new) result }
+    ensures rows { DoesRows sheet together R.remaining rows.old desk.old.limits
+        (state_of desk.old.image) (state_of desk.new.image) (W.contents writer.old)
+        (W.contents writer.new) result }
     ensures desk { LeavesDesk K.may_hold desk.old desk.new result }
-    ensures broken { result ≡ Err (SheetFault.Desk Fault.Keep) → (c : Result ImageRows Table) → K.may_hold desk.new.keeper c → BreaksAfter sheet together R.remaining rows.old desk.old.limits (state_of desk.old.image) (W.contents writer.old) (W.contents writer.new) c }
+    ensures broken { result ≡ Err (SheetFault.Desk Fault.Keep) → (c : Result ImageRows Table)
+        → K.may_hold desk.new.keeper c
+        → BreaksAfter sheet together R.remaining rows.old desk.old.limits (state_of desk.old.image)
+        (W.contents writer.old) (W.contents writer.new) c }
 {
     let mut tally = Tally::default();
     let mut waiting = Vec::new(alloc);
@@ -125,9 +136,14 @@ pub fn run_sheet<R: Read + Drop, W: Write, K: Keeper>(
     desk: &mut Desk<K>,
 ) -> Result<Tally, SheetFault>
     requires together { 1 ≤ together }
-    ensures runs { IfSome (R.remaining reader) (λ input. Runs sheet together desk.old.limits input (state_of desk.old.image) (state_of desk.new.image) (W.contents writer.old) (W.contents writer.new) result) }
+    ensures runs { IfSome (R.remaining reader) (λ input.
+        Runs sheet together desk.old.limits input (state_of desk.old.image)
+        (state_of desk.new.image) (W.contents writer.old) (W.contents writer.new) result) }
     ensures desk { LeavesDesk K.may_hold desk.old desk.new result }
-    ensures broken { result ≡ Err (SheetFault.Desk Fault.Keep) → (c : Result ImageRows Table) → K.may_hold desk.new.keeper c → IfSome (R.remaining reader) (λ input. BreaksOff sheet together desk.old.limits input (state_of desk.old.image) (W.contents writer.old) (W.contents writer.new) c) }
+    ensures broken { result ≡ Err (SheetFault.Desk Fault.Keep) → (c : Result ImageRows Table)
+        → K.may_hold desk.new.keeper c → IfSome (R.remaining reader) (λ input.
+        BreaksOff sheet together desk.old.limits input (state_of desk.old.image)
+        (W.contents writer.old) (W.contents writer.new) c) }
 {
     let mut rows = open(alloc, reader);
     let mut row = ByteRecord::new(alloc);
@@ -157,13 +173,18 @@ pub fn run_edits<R: Read + Drop, W: Write, K: Keeper>(
 ) -> Result<Tally, SheetFault>
     // What is done and written is the reply to the sheet, from the state that the desk's image stands for. After a
     // failed commit this is ahead of the lines by one record.
-    ensures runs { IfSome (R.remaining reader) (λ input. RunsEdits desk.old.limits input (state_of desk.old.image) (state_of desk.new.image) (W.contents writer.old) (W.contents writer.new) result) }
+    ensures runs { IfSome (R.remaining reader) (λ input.
+        RunsEdits desk.old.limits input (state_of desk.old.image) (state_of desk.new.image)
+        (W.contents writer.old) (W.contents writer.new) result) }
 
     // The keeper goes along, unless a commit failed.
     ensures desk { LeavesDesk K.may_hold desk.old desk.new result }
 
     // After a failed commit the keeper has the state of the records that have lines, or that of one more.
-    ensures broken { result ≡ Err (SheetFault.Desk Fault.Keep) → (c : Result ImageRows Table) → K.may_hold desk.new.keeper c → IfSome (R.remaining reader) (λ input. HasBrokenOff desk.old.limits input (state_of desk.old.image) (W.contents writer.old) (W.contents writer.new) c) }
+    ensures broken { result ≡ Err (SheetFault.Desk Fault.Keep) → (c : Result ImageRows Table)
+        → K.may_hold desk.new.keeper c → IfSome (R.remaining reader) (λ input.
+        HasBrokenOff desk.old.limits input (state_of desk.old.image) (W.contents writer.old)
+        (W.contents writer.new) c) }
 {
     run_sheet(alloc, Sheet::Edits, 1, reader, writer, desk)
 }
@@ -185,13 +206,18 @@ pub fn run_survey<R: Read + Drop, W: Write, K: Keeper>(
 ) -> Result<Tally, SheetFault>
     // What is done and written is the reply to the survey, from the state that the desk's image stands for. After a
     // failed commit this is ahead of the lines by one record.
-    ensures runs { IfSome (R.remaining reader) (λ input. RunsSurvey desk.old.limits input (state_of desk.old.image) (state_of desk.new.image) (W.contents writer.old) (W.contents writer.new) result) }
+    ensures runs { IfSome (R.remaining reader) (λ input.
+        RunsSurvey desk.old.limits input (state_of desk.old.image) (state_of desk.new.image)
+        (W.contents writer.old) (W.contents writer.new) result) }
 
     // The keeper goes along, unless a commit failed.
     ensures desk { LeavesDesk K.may_hold desk.old desk.new result }
 
     // After a failed commit the keeper has the state of the records that have lines, or that of one more.
-    ensures broken { result ≡ Err (SheetFault.Desk Fault.Keep) → (c : Result ImageRows Table) → K.may_hold desk.new.keeper c → IfSome (R.remaining reader) (λ input. SurveyHasBrokenOff desk.old.limits input (state_of desk.old.image) (W.contents writer.old) (W.contents writer.new) c) }
+    ensures broken { result ≡ Err (SheetFault.Desk Fault.Keep) → (c : Result ImageRows Table)
+        → K.may_hold desk.new.keeper c → IfSome (R.remaining reader) (λ input.
+        SurveyHasBrokenOff desk.old.limits input (state_of desk.old.image) (W.contents writer.old)
+        (W.contents writer.new) c) }
 {
     run_sheet(alloc, Sheet::Survey, 1, reader, writer, desk)
 }

@@ -4,7 +4,7 @@ use Rattle.std.specs.Prelude.{Contains, codes, map, nat_le, if◌then◌else◌}
 use Rattle.std.specs.Str.Parse.{digits_value}
 use Rattle.std.proofs.lemmas.Bool.{and_from}
 use Rattle.lrs_measure.specs.Lists.{is_from_to, is_nothing}
-use Rattle.lrs_element.specs.Limits.{is_link, is_link_number, longest_link}
+use Rattle.lrs_measure.specs.Limits.{is_link, is_link_number, longest_link}
 use Rattle.lrs_element.specs.declared.link.Piece.{Piece}
 use Rattle.lrs_position.specs.Expressions.{Ends}
 use Rattle.lrs_position.specs.declared.expression.Expr.{Expr}
@@ -14,7 +14,7 @@ use Rattle.lrs_machine.specs.Keys.{is_key}
 use Rattle.lrs_machine.specs.Lines.{Text}
 use Rattle.lrs_machine.specs.declared.answer.Field.{Field}
 use Rattle.lrs_machine.specs.declared.answer.Field.TheVariants as field
-use Rattle.lrs_machine.specs.declared.command.Entry.{Entry}
+use Rattle.lrs_machine.specs.declared.command.NewAsset.{NewAsset}
 use Rattle.lrs_machine.specs.declared.command.Command.{Command}
 use Rattle.lrs_machine.specs.declared.command.Command.TheVariants as verb
 use Rattle.lrs_sheet_records.proofs.Deciding.{argument_in, at-most, expression_in, mark_in, piece_in}
@@ -24,7 +24,7 @@ use Rattle.lrs_sheet_records.proofs.OneCommand.{one-command, one-place, well-for
 use Rattle.lrs_sheet_records.specs.Laws.{RecordsAreJudged}
 use Rattle.lrs_sheet_records.specs.Records.{FirstMalformedAmong, SayAll, SaysAmong, text_at, texts_of}
 use Rattle.lrs_sheet_records.specs.Shapes.{Number, Word, SideOf, MethodOf, At, PiecesOf, MarksOf, OrNothing, Pieces, PositionBy}
-use Rattle.lrs_sheet_records.specs.Verbs.{all_verbs, arguments_of, entry_arguments, entry_shapes, method_of, or_nothing, shapes_of, verb_of}
+use Rattle.lrs_sheet_records.specs.Verbs.{all_verbs, arguments_of, new_asset_arguments, new_asset_shapes, method_of, or_nothing, shapes_of, verb_of}
 use Rattle.lrs_sheet_records.specs.Words.{SaysNumber, words_of}
 
 -- what is read by a method is of the method
@@ -54,7 +54,7 @@ abbrev location_in : Text → Text → Text → Ends
 location_in by start end = record { from = expression_in (method_from by) start; to = end_in by end }
 
 -- an entry by its fields
-abbrev entry_in : List Text → Entry
+abbrev entry_in : List Text → NewAsset
 entry_in row = record {
   asset = digits_value 10 (text_at row 2);
   class = text_at row 3;
@@ -65,7 +65,7 @@ entry_in row = record {
   offset = digits_value 10 (text_at row 10);
 }
 
-entry-read : (row : List Text) → arguments_in row 2 entry_shapes ≡ entry_arguments (entry_in row)
+entry-read : (row : List Text) → arguments_in row 2 new_asset_shapes ≡ new_asset_arguments (entry_in row)
 entry-read row =
     let by = read-method (method_from (text_at row 6)) (text_at row 7) in
     let end = end-read (texts_of row) field.E (text_at row 8) in

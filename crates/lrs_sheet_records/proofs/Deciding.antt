@@ -15,7 +15,7 @@ use Rattle.std.proofs.lemmas.Slice.Eq.{bytes_eq-Decides}
 use Rattle.lrs_measure.specs.Lists.{is_from_to, is_nothing}
 use Rattle.lrs_measure.specs.Numerals.{has_sign, numerator_text, denominator_text, signed_value}
 use Rattle.lrs_measure.proofs.Lowest.{reduced, IsQuotient-reduced, IsLowest-reduced}
-use Rattle.lrs_element.specs.Limits.{longest_link, longest_route, greatest_measure}
+use Rattle.lrs_measure.specs.Limits.{longest_link, longest_route, greatest_measure}
 use Rattle.lrs_element.specs.declared.link.Piece.{Piece}
 use Rattle.lrs_element.specs.declared.marks.Mark.{Mark}
 use Rattle.lrs_position.specs.Expressions.{greatest_denominator}

@@ -9,7 +9,7 @@ use Rattle.lrs_position.specs.declared.expression.Expr.{Expr}
 use Rattle.lrs_machine.specs.Lines.{Text, fields}
 use Rattle.lrs_machine.specs.declared.answer.Field.{Field}
 use Rattle.lrs_machine.specs.declared.answer.Field.TheVariants as field
-use Rattle.lrs_machine.specs.declared.command.Entry.{Entry}
+use Rattle.lrs_machine.specs.declared.command.NewAsset.{NewAsset}
 use Rattle.lrs_machine.specs.declared.command.Command.{Command}
 use Rattle.lrs_machine.specs.declared.command.Command.TheVariants as verb
 use Rattle.lrs_machine.proofs.Joined.{differ}
@@ -18,7 +18,7 @@ use Rattle.lrs_sheet_records.proofs.Misfits.{fits-along}
 use Rattle.lrs_sheet_records.proofs.OneArgument.{one-list}
 use Rattle.lrs_sheet_records.specs.Records.{FirstMalformedAmong, IsWellFormedAmong, SayAll, SaysAmong, place_of, text_at, texts_of}
 use Rattle.lrs_sheet_records.specs.Shapes.{Argument, At, PiecesOf, Fits, Shape}
-use Rattle.lrs_sheet_records.specs.Verbs.{arguments_of, entry_arguments, or_nothing, shapes_of, verb_of}
+use Rattle.lrs_sheet_records.specs.Verbs.{arguments_of, new_asset_arguments, or_nothing, shapes_of, verb_of}
 
 -- the field at a place
 abbrev field_of : ℕ → Field
@@ -85,7 +85,7 @@ pieces-alike (Some ps) None e = cc
 pieces-alike (Some ps) (Some qs) e = let same : ps ≡ qs = cc in ap Some same
 
 -- equal arguments come only of equal entries
-entries-alike : (d e : Entry) → entry_arguments d ≡ entry_arguments e → d ≡ e
+entries-alike : (d e : NewAsset) → new_asset_arguments d ≡ new_asset_arguments e → d ≡ e
 entries-alike d e same =
     let asset : d.asset ≡ e.asset = cc in
     let class : d.class ≡ e.class = cc in

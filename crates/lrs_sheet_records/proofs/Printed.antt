@@ -6,7 +6,7 @@ use Rattle.std.specs.List.{AllByRecursion}
 use Rattle.std.proofs.lemmas.Bool.{and_parts, false≢true}
 use Rattle.csv.specs.Records.{field_at}
 use Rattle.lrs_measure.specs.Lists.{is_from_to}
-use Rattle.lrs_element.specs.Limits.{is_link_number, longest_link, longest_route}
+use Rattle.lrs_measure.specs.Limits.{is_link_number, longest_link, longest_route}
 use Rattle.lrs_element.specs.declared.link.Piece.{Piece}
 use Rattle.lrs_position.specs.Expressions.{are_alike, same_method}
 use Rattle.lrs_position.specs.Readings.{method_text}
@@ -17,7 +17,7 @@ use Rattle.lrs_machine.specs.Lines.{Text, expression_text}
 use Rattle.lrs_machine.specs.WellFormed.{ArePieces, IsEntry, IsEnd, IsWellFormed}
 use Rattle.lrs_machine.specs.declared.answer.Field.{Field}
 use Rattle.lrs_machine.specs.declared.answer.Field.TheVariants as field
-use Rattle.lrs_machine.specs.declared.command.Entry.{Entry}
+use Rattle.lrs_machine.specs.declared.command.NewAsset.{NewAsset}
 use Rattle.lrs_machine.specs.declared.command.Command.{Command}
 use Rattle.lrs_machine.specs.declared.command.Command.TheVariants as verb
 use Rattle.lrs_sheet_records.proofs.PrintedTexts.{below, decimal-says, from-to, marks-say, pieces-say, position-stated}
@@ -26,7 +26,7 @@ use Rattle.lrs_sheet_records.specs.Laws.{PrintedRecordsSay}
 use Rattle.lrs_sheet_records.specs.Records.{SayAll, text_at, texts_of}
 use Rattle.lrs_sheet_records.specs.Shapes.{Argument, At, OrNothing, Pieces, PiecesOf, PositionBy, Says, Shape, StatesBy}
 use Rattle.lrs_sheet_records.specs.Words.{SaysNumber}
-use Rattle.lrs_sheet_records.specs.Verbs.{all_verbs, arguments_of, entry_arguments, entry_shapes, method_of, or_nothing, shapes_of, verb_of}
+use Rattle.lrs_sheet_records.specs.Verbs.{all_verbs, arguments_of, new_asset_arguments, new_asset_shapes, method_of, or_nothing, shapes_of, verb_of}
 
 -- each argument is said by its text
 abbrev ArePrinted : (Field → Text) → List Shape → List Argument → Type 0
@@ -80,7 +80,7 @@ offset-says : (n : ℕ) → IsTrue (is_lateral_offset n) → SaysNumber 0 100_00
 offset-says n h = decimal-says 0 100_000 n (omega arith) (below 100_000 n h) (omega arith)
 
 -- the arguments of an entry, where field E has the text of its method
-entry-printed : (texts : Field → Text) (e : Entry) → texts field.E ≡ method_text (method_of e.location.from) → IsEntry e → AllByRecursion IsInLowestTerms (entry_arguments e) → ArePrinted texts entry_shapes (entry_arguments e)
+entry-printed : (texts : Field → Text) (e : NewAsset) → texts field.E ≡ method_text (method_of e.location.from) → IsEntry e → AllByRecursion IsInLowestTerms (new_asset_arguments e) → ArePrinted texts new_asset_shapes (new_asset_arguments e)
 entry-printed texts e by h kept =
     let start : StatesBy (texts field.E) (expression_text e.location.from) e.location.from = (method_of e.location.from, by, position-stated e.location.from h.location.first kept.1.1.1.1.1.0) in
     let end = end-printed texts field.E e.location.from e.location.to by h.location.alike h.location.end kept.1.1.1.1.1.1.0 in

@@ -14,7 +14,7 @@ use Rattle.lrs_measure.specs.Alphabets.{is_capital, has_length}
 use Rattle.lrs_measure.specs.Fraction.{Fraction, IsLowest}
 use Rattle.lrs_measure.specs.Lists.{is_from_to}
 use Rattle.lrs_measure.specs.Numerals.{IsSigned, numerator_text, denominator_text, signed_value}
-use Rattle.lrs_element.specs.Limits.{is_link_number, longest_link, longest_route, greatest_measure, most_pieces, most_marks}
+use Rattle.lrs_measure.specs.Limits.{is_link_number, longest_link, longest_route, greatest_measure, most_pieces, most_marks}
 use Rattle.lrs_element.specs.declared.link.Piece.{Piece}
 use Rattle.lrs_element.specs.declared.marks.Mark.{Mark}
 use Rattle.lrs_position.specs.Expressions.{is_entered, is_negative, greatest_denominator}

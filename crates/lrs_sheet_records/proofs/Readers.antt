@@ -8,7 +8,7 @@ use Rattle.std.proofs.lemmas.Bool.{and_from}
 use Rattle.std.proofs.lemmas.Option.{none-some}
 use Rattle.lrs_measure.specs.Numerals.{numerator_text, denominator_text, signed_value}
 use Rattle.lrs_measure.proofs.Lowest.{den_divides}
-use Rattle.lrs_element.specs.Limits.{longest_route, greatest_measure}
+use Rattle.lrs_measure.specs.Limits.{longest_route, greatest_measure}
 use Rattle.lrs_element.proofs.LineLemmas.{natural_quotient}
 use Rattle.lrs_position.specs.Expressions.{are_alike, greatest_denominator, is_entered, is_negative, same_method}
 use Rattle.lrs_position.specs.Readings.{States, distance_text, method_text}

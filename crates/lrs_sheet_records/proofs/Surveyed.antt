@@ -3,12 +3,12 @@ use Rattle.std.proofs.Common.{◌≡◌, ℕ, List, [], ◌∷◌, Err, refl, ar
 use Rattle.std.specs.Prelude.{Contains, IsTrue, codes}
 use Rattle.csv.specs.Records.{field_at}
 use Rattle.lrs_machine.specs.Keys.{is_key}
-use Rattle.lrs_machine.specs.declared.command.Entry.{Entry}
+use Rattle.lrs_machine.specs.declared.command.NewAsset.{NewAsset}
 use Rattle.lrs_sheet_records.proofs.Misfits.{misfit-malformed}
-use Rattle.lrs_sheet_records.specs.Fields.{ReadsEntry}
+use Rattle.lrs_sheet_records.specs.Fields.{ReadsNewAsset}
 use Rattle.lrs_sheet_records.specs.Records.{SayAll, place_of, text_at}
-use Rattle.lrs_sheet_records.specs.Surveys.{RefusesEntry, SaysEntry, as_edit}
-use Rattle.lrs_sheet_records.specs.Verbs.{all_verbs, entry_arguments, entry_shapes}
+use Rattle.lrs_sheet_records.specs.Surveys.{RefusesNewAsset, SaysNewAsset, as_edit}
+use Rattle.lrs_sheet_records.specs.Verbs.{all_verbs, new_asset_arguments, new_asset_shapes}
 use Rattle.lrs_sheet_records.specs.declared.fault.ReadFault.{ReadFault}
 use Rattle.lrs_sheet_records.specs.declared.fault.ReadFault.TheVariants as fault
 
@@ -22,14 +22,14 @@ unfolding field_at
 no-key key = cc key
 
 -- the nine fields of an entry, after a well formed key
-pub says-entry : (fields : List (List ℕ)) (key : List ℕ) (entry : Entry) → IsTrue (is_key (text_at (as_edit fields) 0)) → key ≡ text_at (as_edit fields) 0
-    → SayAll (as_edit fields) 2 entry_shapes (entry_arguments entry) → SaysEntry fields key entry
+pub says-entry : (fields : List (List ℕ)) (key : List ℕ) (entry : NewAsset) → IsTrue (is_key (text_at (as_edit fields) 0)) → key ≡ text_at (as_edit fields) 0
+    → SayAll (as_edit fields) 2 new_asset_shapes (new_asset_arguments entry) → SaysNewAsset fields key entry
 unfolding field_at
 says-entry [] key entry is same say = absurd (no-key is)
 says-entry (first ∷ others) key entry is same say = record { is_key = is; same_key = same; is_verb = enter-known; same_verb = refl; arguments = say }
 
 -- the first of them that does not fit
-pub refuses-entry : (fields : List (List ℕ)) (e : ReadFault) → IsTrue (is_key (text_at (as_edit fields) 0)) → ReadsEntry (as_edit fields) (Err e) → RefusesEntry fields e
+pub refuses-entry : (fields : List (List ℕ)) (e : ReadFault) → IsTrue (is_key (text_at (as_edit fields) 0)) → ReadsNewAsset (as_edit fields) (Err e) → RefusesNewAsset fields e
 unfolding field_at
 refuses-entry fields fault.Memory key reads = absurd reads
 refuses-entry [] (fault.Field at) key misfit = absurd (no-key key)

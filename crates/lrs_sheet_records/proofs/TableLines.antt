@@ -7,13 +7,13 @@ use Rattle.lrs_position.specs.Readings as readings
 use Rattle.lrs_position.specs.declared.expression.Expr.{Expr}
 use Rattle.lrs_position.specs.declared.expression.Expr.TheVariants.{Abs, Rel, Int}
 use Rattle.lrs_events.specs.Names.{side_text}
-use Rattle.lrs_machine.specs.declared.command.Entry.{Entry}
+use Rattle.lrs_machine.specs.declared.command.NewAsset.{NewAsset}
 use Rattle.lrs_machine.specs.declared.command.Command.TheVariants as verb
-use Rattle.lrs_machine.specs.Lines.{Text, fields, method_text, expression_text, end_text, entry_fields, some_pieces_text, marks_text}
+use Rattle.lrs_machine.specs.Lines.{Text, fields, method_text, expression_text, end_text, new_asset_fields, some_pieces_text, marks_text}
 use Rattle.lrs_sheet_records.specs.CanonicalRecords.{argument_text}
 use Rattle.lrs_sheet_records.specs.Laws.{LinesAreTheTables}
 use Rattle.lrs_sheet_records.specs.Shapes.{At, PiecesOf}
-use Rattle.lrs_sheet_records.specs.Verbs.{entry_arguments, method_of, or_nothing}
+use Rattle.lrs_sheet_records.specs.Verbs.{new_asset_arguments, method_of, or_nothing}
 
 -- an expression's method has one text
 method-line : (e : Expr) → method_text e ≡ readings.method_text (method_of e)
@@ -32,7 +32,7 @@ pieces-line None = refl
 pieces-line (Some ps) = refl
 
 -- the fields of an entry after a verb
-entry-line : (name : Text) (e : Entry) → fields (name ∷ entry_fields e) ≡ fields (name ∷ map argument_text (entry_arguments e))
+entry-line : (name : Text) (e : NewAsset) → fields (name ∷ new_asset_fields e) ≡ fields (name ∷ map argument_text (new_asset_arguments e))
 entry-line name e =
     let method = method-line e.location.from in
     let end = end-line e.location.to in

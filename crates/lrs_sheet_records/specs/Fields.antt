@@ -3,13 +3,13 @@ use Rattle.std.specs.Prelude.{◌≡◌, ◌⊎◌, ℕ, ◌+◌, ◌<◌, ◌�
 use Rattle.lrs_machine.specs.Lines.{Text}
 use Rattle.lrs_machine.specs.declared.answer.Field.{Field}
 use Rattle.lrs_machine.specs.declared.answer.Field.TheVariants as field
-use Rattle.lrs_machine.specs.declared.command.Entry.{Entry}
+use Rattle.lrs_machine.specs.declared.command.NewAsset.{NewAsset}
 use Rattle.lrs_machine.specs.declared.command.Command.{Command}
 use Rattle.lrs_sheet_records.specs.declared.fault.ReadFault.{ReadFault}
 use Rattle.lrs_sheet_records.specs.declared.fault.ReadFault.TheVariants as fault
 use Rattle.lrs_sheet_records.specs.Records.{SayAll, place_of, text_at, texts_of}
 use Rattle.lrs_sheet_records.specs.Shapes.{Argument, Fits, Says, Shape}
-use Rattle.lrs_sheet_records.specs.Verbs.{IsVerb, arguments_of, entry_arguments, entry_shapes, shapes_of, verb_of}
+use Rattle.lrs_sheet_records.specs.Verbs.{IsVerb, arguments_of, new_asset_arguments, new_asset_shapes, shapes_of, verb_of}
 
 -- the first field, from a place on, that does not fit the shapes that begin there
 abbrev pub FirstMisfit : List Text → ℕ → List Shape → ℕ → Type 0
@@ -50,7 +50,7 @@ ReadsCommand fields (Err (fault.Field at)) =
 ReadsCommand fields (Err fault.Memory) = ⊤
 
 -- the nine fields of an entry
-abbrev pub ReadsEntry : List Text → Result Entry ReadFault → Type 0
-ReadsEntry fields (Ok entry) = SayAll fields 2 entry_shapes (entry_arguments entry)
-ReadsEntry fields (Err (fault.Field field)) = FirstMisfit fields 2 entry_shapes (place_of field)
-ReadsEntry fields (Err fault.Memory) = ⊥
+abbrev pub ReadsNewAsset : List Text → Result NewAsset ReadFault → Type 0
+ReadsNewAsset fields (Ok entry) = SayAll fields 2 new_asset_shapes (new_asset_arguments entry)
+ReadsNewAsset fields (Err (fault.Field field)) = FirstMisfit fields 2 new_asset_shapes (place_of field)
+ReadsNewAsset fields (Err fault.Memory) = ⊥

@@ -1,7 +1,7 @@
 -- The table of verbs: what the fields of each one say, and the arguments of a command of it.
 use Rattle.std.specs.Prelude.{List, [], ◌∷◌, ◌++◌, Option, Some, None, codes, map, Contains, if◌then◌else◌}
 use Rattle.std.specs.Str.{bytes_eq}
-use Rattle.lrs_element.specs.Limits.{longest_link, longest_route}
+use Rattle.lrs_measure.specs.Limits.{longest_link, longest_route}
 use Rattle.lrs_position.specs.Expressions.{Ends}
 use Rattle.lrs_position.specs.declared.expression.Expr.{Expr}
 use Rattle.lrs_position.specs.declared.expression.Expr.TheVariants as expression
@@ -9,7 +9,7 @@ use Rattle.lrs_position.specs.declared.expression.Method.{Method}
 use Rattle.lrs_position.specs.declared.expression.Method.TheVariants as method
 use Rattle.lrs_machine.specs.Lines.{Text}
 use Rattle.lrs_machine.specs.declared.answer.Field.TheVariants as field
-use Rattle.lrs_machine.specs.declared.command.Entry.{Entry}
+use Rattle.lrs_machine.specs.declared.command.NewAsset.{NewAsset}
 use Rattle.lrs_machine.specs.declared.command.Command.{Command}
 use Rattle.lrs_machine.specs.declared.command.Command.TheVariants as verb
 use Rattle.lrs_sheet_records.specs.Shapes.{Argument, Nothing, Number, Word, KindOf, SideOf, MethodOf, At, PiecesOf, MarksOf, Shape, Whole, ClassName, RouteName, ReferentName, AssetValue, ClassKind, RouteSide, MethodName, PositionBy, Pieces, Marks, OrNothing}
@@ -33,8 +33,8 @@ abbrev pub chainage : Shape
 chainage = Whole 0 longest_route
 
 -- What is entered: an asset of a class on a route and on a side, from where to where by a method, at a point without an end, and its value and its lateral offset.
-abbrev pub entry_columns : List Column
-entry_columns =
+abbrev pub new_asset_columns : List Column
+new_asset_columns =
     record { name = codes "asset"; shape = asset_number }
     ∷ record { name = codes "class"; shape = ClassName }
     ∷ record { name = codes "route"; shape = RouteName }
@@ -46,8 +46,8 @@ entry_columns =
     ∷ record { name = codes "offset"; shape = Whole 0 100_000 }
     ∷ []
 
-abbrev pub entry_shapes : List Shape
-entry_shapes = map (λ column. column.shape) entry_columns
+abbrev pub new_asset_shapes : List Shape
+new_asset_shapes = map (λ column. column.shape) new_asset_columns
 
 -- The verbs that there are.
 abbrev pub verbs : List Verb
@@ -57,7 +57,7 @@ verbs =
     ∷ record { name = codes "route"; shapes = RouteName ∷ Pieces ∷ Marks ∷ [] }
     ∷ record { name = codes "ref"; shapes = ReferentName ∷ RouteName ∷ MethodName ∷ PositionBy field.C ∷ [] }
     ∷ record { name = codes "unref"; shapes = ReferentName ∷ [] }
-    ∷ record { name = codes "enter"; shapes = entry_shapes }
+    ∷ record { name = codes "enter"; shapes = new_asset_shapes }
     ∷ record { name = codes "retire"; shapes = asset_number ∷ RouteName ∷ MethodName ∷ PositionBy field.C ∷ OrNothing (PositionBy field.C) ∷ [] }
     ∷ record { name = codes "split"; shapes = RouteName ∷ chainage ∷ RouteName ∷ [] }
     ∷ record { name = codes "join"; shapes = RouteName ∷ RouteName ∷ [] }
@@ -65,7 +65,7 @@ verbs =
     ∷ record { name = codes "recalibrate"; shapes = RouteName ∷ Marks ∷ [] }
     ∷ record { name = codes "realign"; shapes = RouteName ∷ chainage ∷ chainage ∷ OrNothing Pieces ∷ Marks ∷ [] }
     ∷ record { name = codes "close"; shapes = RouteName ∷ [] }
-    ∷ record { name = codes "supersede"; shapes = entry_shapes }
+    ∷ record { name = codes "supersede"; shapes = new_asset_shapes }
     ∷ record { name = codes "turn"; shapes = RouteName ∷ [] }
     ∷ []
 
@@ -138,8 +138,8 @@ or_nothing argument (Some x) = argument x
 abbrev pub location_arguments : Ends → List Argument
 location_arguments ends = MethodOf (method_of ends.from) ∷ At ends.from ∷ or_nothing At ends.to ∷ []
 
-abbrev pub entry_arguments : Entry → List Argument
-entry_arguments e = Number e.asset ∷ Word e.class ∷ Word e.route ∷ SideOf e.side ∷ location_arguments e.location ++ Word e.value ∷ Number e.offset ∷ []
+abbrev pub new_asset_arguments : NewAsset → List Argument
+new_asset_arguments e = Number e.asset ∷ Word e.class ∷ Word e.route ∷ SideOf e.side ∷ location_arguments e.location ++ Word e.value ∷ Number e.offset ∷ []
 
 -- the arguments of a command, in the order of the fields a, b, ..
 abbrev pub arguments_of : Command → List Argument
@@ -148,7 +148,7 @@ arguments_of (verb.Class c) = Word c.name ∷ KindOf c.kind ∷ []
 arguments_of (verb.Route name pieces marks) = Word name ∷ PiecesOf pieces ∷ MarksOf marks ∷ []
 arguments_of (verb.Ref name route at) = Word name ∷ Word route ∷ MethodOf (method_of at) ∷ At at ∷ []
 arguments_of (verb.Unref name) = Word name ∷ []
-arguments_of (verb.Enter e) = entry_arguments e
+arguments_of (verb.Enter e) = new_asset_arguments e
 arguments_of (verb.Retire asset route location) = Number asset ∷ Word route ∷ location_arguments location
 arguments_of (verb.Split route at name) = Word route ∷ Number at ∷ Word name ∷ []
 arguments_of (verb.Join first second) = Word first ∷ Word second ∷ []
@@ -156,5 +156,5 @@ arguments_of (verb.Renumber route name) = Word route ∷ Word name ∷ []
 arguments_of (verb.Recalibrate route marks) = Word route ∷ MarksOf marks ∷ []
 arguments_of (verb.Realign route first end pieces marks) = Word route ∷ Number first ∷ Number end ∷ or_nothing PiecesOf pieces ∷ MarksOf marks ∷ []
 arguments_of (verb.Close route) = Word route ∷ []
-arguments_of (verb.Supersede e) = entry_arguments e
+arguments_of (verb.Supersede e) = new_asset_arguments e
 arguments_of (verb.Turn route) = Word route ∷ []

@@ -2,7 +2,7 @@
 use Rattle.std.specs.Prelude.{◌≡◌, ◌==◌, ℕ, ◌≤◌, Bool, if◌then◌else◌, List, [], ◌∷◌, length, codes, slice_index_or, ⊤}
 use Rattle.std.specs.List.{slice_split}
 use Rattle.std.specs.Str.Parse.{IsNumeral, digits_value}
-use Rattle.lrs_element.specs.Limits.{longest_link, longest_route, greatest_measure}
+use Rattle.lrs_measure.specs.Limits.{longest_link, longest_route, greatest_measure}
 use Rattle.lrs_element.specs.declared.link.Piece.{Piece}
 use Rattle.lrs_element.specs.declared.marks.Mark.{Mark}
 use Rattle.lrs_machine.specs.Lines.{Text}

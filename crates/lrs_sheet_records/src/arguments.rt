@@ -3,7 +3,7 @@
 ghost use Rattle.std.specs.Prelude.{◌≡◌, ◌≤◌, length, codes};
 ghost use Rattle.lrs_sheet_records.specs.Kinds.{edit_fields};
 ghost use Rattle.lrs_sheet_records.specs.Records as spec;
-ghost use Rattle.lrs_sheet_records.specs.Fields.{NothingFrom, ReadsArguments, ReadsEntry};
+ghost use Rattle.lrs_sheet_records.specs.Fields.{NothingFrom, ReadsArguments, ReadsNewAsset};
 
 use crate::fault::ReadFault;
 use crate::place::{
@@ -16,7 +16,8 @@ use crate::shape::{
 use crate::sheet::{SheetRecord, text_at};
 use lrs_element::Link;
 use lrs_events::Class;
-use lrs_machine::{Command, Entry, Field};
+use lrs_machine::{Command, Field, NewAsset};
+use lrs_measure::limits::{GREATEST_LINK, LONGEST_LINK};
 use std::alloc::Global;
 
 /// The field at a place after those of the key and the verb.
@@ -56,8 +57,8 @@ pub(crate) fn link_of(row: &SheetRecord<'_>) -> Result<Command, ReadFault>
     requires { length (edit_fields row.now) ≤ 11 }
     ensures { ReadsArguments (edit_fields row.now) (codes "link") result }
 {
-    let number = whole_at(row, Field::A, 1, 999_999)? as u32;
-    let length = whole_at(row, Field::B, 1, 1_000_000_000)? as u32;
+    let number = whole_at(row, Field::A, 1, u64::from(GREATEST_LINK))? as u32;
+    let length = whole_at(row, Field::B, 1, u64::from(LONGEST_LINK))? as u32;
     nothing_from(row, Field::C)?;
     Ok(Command::Link(Link { number, length }))
 }
@@ -108,10 +109,10 @@ pub(crate) fn unref_of(row: &SheetRecord<'_>) -> Result<Command, ReadFault>
     Ok(Command::Unref { name })
 }
 
-/// The fields of an entry.
-pub(crate) fn entry_of(row: &SheetRecord<'_>) -> Result<Entry, ReadFault>
+/// The fields of an asked.
+pub(crate) fn new_asset_of(row: &SheetRecord<'_>) -> Result<NewAsset, ReadFault>
     requires { length (edit_fields row.now) ≤ 11 }
-    ensures { ReadsEntry (edit_fields row.now) result }
+    ensures { ReadsNewAsset (edit_fields row.now) result }
 {
     let asset = asset_at(row, Field::A)?;
     let class = class_name_at(row, Field::B)?;
@@ -122,7 +123,7 @@ pub(crate) fn entry_of(row: &SheetRecord<'_>) -> Result<Entry, ReadFault>
     let end = end_at(row, Field::E, method, Field::G)?;
     let value = value_at(row, Field::H)?;
     let offset = offset_at(row, Field::I)?;
-    Ok(Entry {
+    Ok(NewAsset {
         asset,
         class,
         route,
@@ -137,8 +138,8 @@ pub(crate) fn enter_of(row: &SheetRecord<'_>) -> Result<Command, ReadFault>
     requires { length (edit_fields row.now) ≤ 11 }
     ensures { ReadsArguments (edit_fields row.now) (codes "enter") result }
 {
-    match entry_of(row) {
-        Ok(entry) => Ok(Command::Enter(entry)),
+    match new_asset_of(row) {
+        Ok(asked) => Ok(Command::Enter(asked)),
         Err(fault) => Err(fault),
     }
 }
@@ -147,8 +148,8 @@ pub(crate) fn supersede_of(row: &SheetRecord<'_>) -> Result<Command, ReadFault>
     requires { length (edit_fields row.now) ≤ 11 }
     ensures { ReadsArguments (edit_fields row.now) (codes "supersede") result }
 {
-    match entry_of(row) {
-        Ok(entry) => Ok(Command::Supersede(entry)),
+    match new_asset_of(row) {
+        Ok(asked) => Ok(Command::Supersede(asked)),
         Err(fault) => Err(fault),
     }
 }

@@ -7,6 +7,7 @@ ghost use Rattle.lrs_element.specs.declared.marks.Mark.{Mark as DeclaredMark};
 ghost use Rattle.lrs_sheet_records.specs.Words.{AreSaid, IsMarkText, IsPieceText, SaysNumber, parts_of, sign_text, words_of};
 
 use lrs_element::{Mark, Piece};
+use lrs_measure::limits::{GREATEST_LINK, GREATEST_MEASURE, LONGEST_LINK, LONGEST_ROUTE};
 use lrs_measure::read_digits;
 use std::alloc::{AllocError, Global};
 
@@ -48,7 +49,8 @@ fn place_of_byte(text: &[u8], byte: u8) -> Option<usize>
 /// A text up to the first `byte`, and what stands behind it if it is there.
 fn cut_at(text: &[u8], byte: u8) -> (&[u8], Option<&[u8]>)
     ensures last { IfNone result.1 (parts_of byte text.now ≡ result.0.now ∷ []) }
-    ensures more { IfSome result.1 (λ rest. parts_of byte text.now ≡ result.0.now ∷ parts_of byte rest.now) }
+    ensures more { IfSome result.1 (λ rest. parts_of byte text.now ≡ result.0.now
+        ∷ parts_of byte rest.now) }
 {
     match place_of_byte(text, byte) {
         Some(place) => (&text[..place], Some(&text[place + 1..])),
@@ -84,7 +86,8 @@ fn two_parts(word: &[u8]) -> Option<(&[u8], &[u8])>
 
 /// The four parts of a word between colons.
 fn four_parts(word: &[u8]) -> Option<(&[u8], &[u8], &[u8], &[u8])>
-    ensures some { IfSome result (λ parts. parts_of 58 word.now ≡ parts.0.now ∷ parts.1.now ∷ parts.2.now ∷ parts.3.now ∷ []) }
+    ensures some { IfSome result (λ parts. parts_of 58 word.now ≡ parts.0.now ∷ parts.1.now
+        ∷ parts.2.now ∷ parts.3.now ∷ []) }
     ensures none { IfNone result (length (parts_of 58 word.now) ≢ 4) }
 {
     let (first, Some(rest)) = cut_at(word, b':') else {
@@ -106,13 +109,13 @@ fn read_piece(word: &[u8]) -> Option<Piece>
     let Some((link, from, to, direction)) = four_parts(word) else {
         return None;
     };
-    let Some(link) = number(link, 1, 999_999) else {
+    let Some(link) = number(link, 1, u64::from(GREATEST_LINK)) else {
         return None;
     };
-    let Some(from) = number(from, 0, 1_000_000_000) else {
+    let Some(from) = number(from, 0, u64::from(LONGEST_LINK)) else {
         return None;
     };
-    let Some(to) = number(to, 0, 1_000_000_000) else {
+    let Some(to) = number(to, 0, u64::from(LONGEST_LINK)) else {
         return None;
     };
     let Some(forward) = is_forward(direction) else {
@@ -133,10 +136,10 @@ fn read_mark(word: &[u8]) -> Option<Mark>
     let Some((chainage, measure)) = two_parts(word) else {
         return None;
     };
-    let Some(chainage) = number(chainage, 0, 10_000_000_000) else {
+    let Some(chainage) = number(chainage, 0, LONGEST_ROUTE) else {
         return None;
     };
-    let Some(measure) = number(measure, 0, 100_000_000_000) else {
+    let Some(measure) = number(measure, 0, GREATEST_MEASURE) else {
         return None;
     };
     Some(Mark { chainage, measure })
@@ -182,8 +185,10 @@ pub(crate) fn read_list<T: Word + Drop>(
     alloc: Global,
     text: &[u8],
 ) -> Result<Option<Vec<T>>, AllocError>
-    ensures some { IfOk result (λ list. IfSome list (λ xs. AreSaid T.says (words_of text.now) xs.items)) }
-    ensures none { IfOk result (λ list. IfNone list ((xs : List T) → AreSaid T.says (words_of text.now) xs → length xs ≤ 1_000 → ⊥)) }
+    ensures some { IfOk result (λ list. IfSome list (λ xs.
+        AreSaid T.says (words_of text.now) xs.items)) }
+    ensures none { IfOk result (λ list. IfNone list
+        ((xs : List T) → AreSaid T.says (words_of text.now) xs → length xs ≤ 1_000 → ⊥)) }
 {
     let mut list = Vec::new(alloc);
     let mut rest = text;

@@ -15,6 +15,7 @@ use crate::shape::{pieces_at, place_of, whole_at};
 use crate::sheet::{SheetRecord, text_at};
 use lrs_events::{Side, Value, read_side};
 use lrs_machine::{AssetNumber, Chainage, Field, LateralOffset, PieceList};
+use lrs_measure::limits::{GREATEST_ASSET, LONGEST_ROUTE};
 use lrs_position::{EnteredPosition, EventLocation, Method, RefName, read_expr, read_method};
 use std::alloc::Global;
 
@@ -52,7 +53,7 @@ pub(crate) fn side_at(row: &SheetRecord<'_>, field: Field) -> Result<Side, ReadF
 pub(crate) fn asset_at(row: &SheetRecord<'_>, field: Field) -> Result<AssetNumber, ReadFault>
     ensures { ReadsField asset_number Number (edit_fields row.now) field result }
 {
-    match AssetNumber::new(whole_at(row, field, 1, 1_000_000_000_000)?) {
+    match AssetNumber::new(whole_at(row, field, 1, GREATEST_ASSET)?) {
         Some(asset) => Ok(asset),
         None => unreachable!(),
     }
@@ -62,7 +63,7 @@ pub(crate) fn asset_at(row: &SheetRecord<'_>, field: Field) -> Result<AssetNumbe
 pub(crate) fn chainage_at(row: &SheetRecord<'_>, field: Field) -> Result<Chainage, ReadFault>
     ensures { ReadsField chainage Number (edit_fields row.now) field result }
 {
-    match Chainage::new(whole_at(row, field, 0, 10_000_000_000)?) {
+    match Chainage::new(whole_at(row, field, 0, LONGEST_ROUTE)?) {
         Some(at) => Ok(at),
         None => unreachable!(),
     }
@@ -115,7 +116,8 @@ pub(crate) fn end_at(
     field: Field,
 ) -> Result<Option<EnteredPosition>, ReadFault>
     requires { spec.texts_of (edit_fields row.now) by ≡ method_text method }
-    ensures { ReadsField (OrNothing (PositionBy by)) (or_nothing At) (edit_fields row.now) field result }
+    ensures { ReadsField (OrNothing (PositionBy by)) (or_nothing At)
+        (edit_fields row.now) field result }
 {
     if text_at(row, place_of(field)).is_empty() {
         return Ok(None);
@@ -132,7 +134,8 @@ pub(crate) fn some_pieces_at(
     row: &SheetRecord<'_>,
     field: Field,
 ) -> Result<Option<PieceList>, ReadFault>
-    ensures { ReadsList (OrNothing Shapes.Pieces) (or_nothing PiecesOf) (edit_fields row.now) field result }
+    ensures { ReadsList (OrNothing Shapes.Pieces) (or_nothing PiecesOf)
+        (edit_fields row.now) field result }
 {
     if text_at(row, place_of(field)).is_empty() {
         return Ok(None);

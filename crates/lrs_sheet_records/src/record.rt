@@ -4,14 +4,14 @@ ghost use Rattle.std.specs.Prelude.{◌≡◌, ◌≤◌, length, IfOk, IfErr};
 ghost use Rattle.csv.specs.Records.{fields_of};
 ghost use Rattle.lrs_sheet_records.specs.Kinds.{edit_fields, width_of};
 ghost use Rattle.lrs_sheet_records.specs.Records.{SaysCommand, Refuses};
-ghost use Rattle.lrs_sheet_records.specs.Surveys.{SaysEntry, RefusesEntry};
+ghost use Rattle.lrs_sheet_records.specs.Surveys.{SaysNewAsset, RefusesNewAsset};
 
-use crate::arguments::entry_of;
+use crate::arguments::new_asset_of;
 use crate::fault::ReadFault;
 use crate::sheet::{Sheet, SheetRecord, text_at};
 use crate::verb::command_by_verb;
 use csv::ByteRecord;
-use lrs_machine::{Command, Entry, Field, Key};
+use lrs_machine::{Command, Field, Key, NewAsset};
 use std::alloc::Global;
 
 /// The key and the command that a record of at most eleven fields says.
@@ -37,16 +37,16 @@ pub fn command_of(alloc: Global, row: &ByteRecord) -> Result<(Key, Command), Rea
     }
 }
 
-/// The key and the entry that a record of a survey, of at most ten fields, says: those of the command `enter`.
+/// The key and the asked that a record of a survey, of at most ten fields, says: those of the command `enter`.
 ///
 /// # Errors
 ///
 /// `Field` with the first field that is malformed, in the order of the columns, each by the letter that it
 /// has in an edit sheet.
-pub fn survey_of(row: &ByteRecord) -> Result<(Key, Entry), ReadFault>
+pub fn survey_of(row: &ByteRecord) -> Result<(Key, NewAsset), ReadFault>
     requires { length (fields_of row.now) ≤ 10 }
-    ensures says { IfOk result (λ said. SaysEntry (fields_of row.now) said.0 said.1) }
-    ensures refuses { IfErr result (RefusesEntry (fields_of row.now)) }
+    ensures says { IfOk result (λ said. SaysNewAsset (fields_of row.now) said.0 said.1) }
+    ensures refuses { IfErr result (RefusesNewAsset (fields_of row.now)) }
 {
     let surveyed = SheetRecord {
         fields: row,
@@ -55,8 +55,8 @@ pub fn survey_of(row: &ByteRecord) -> Result<(Key, Entry), ReadFault>
     let Some(key) = Key::new(text_at(&surveyed, 0)) else {
         return Err(ReadFault::Field(Field::Key));
     };
-    match entry_of(&surveyed) {
-        Ok(entry) => Ok((key, entry)),
+    match new_asset_of(&surveyed) {
+        Ok(asked) => Ok((key, asked)),
         Err(fault) => Err(fault),
     }
 }
@@ -70,7 +70,7 @@ pub fn command_in(alloc: Global, row: &SheetRecord<'_>) -> Result<(Key, Command)
     match row.sheet {
         Sheet::Edits => command_of(alloc, row.fields),
         Sheet::Survey => match survey_of(row.fields) {
-            Ok((key, entry)) => Ok((key, Command::Enter(entry))),
+            Ok((key, asked)) => Ok((key, Command::Enter(asked))),
             Err(fault) => Err(fault),
         },
     }

@@ -76,7 +76,8 @@ fn not_opened<D: Disk + Drop, R: ReadImage>(
     refusal: Refusal<D>,
     reader: &R,
 ) -> NotOpened<D>
-    ensures unsound { (t : Table) → result.fault ≡ LoadFault.Unsound t → HoldsUnsound t result.left }
+    ensures unsound { (t : Table) → result.fault ≡ LoadFault.Unsound t
+        → HoldsUnsound t result.left }
     ensures store { result.fault ≡ LoadFault.Store → HoldsNoUnsound result.left }
     ensures still { IsHandedOn refusal.left result.left }
 {
@@ -117,10 +118,13 @@ pub fn open_keeper_files<D: Disk + Drop, R: ReadImage + Drop>(
     ensures unloaded { IfOk result (λ k. k.is_loaded ≡ false) }
     ensures usable { IfOk result (λ k. k.is_broken ≡ false) }
     ensures second { IfOk result (λ k. IsSecond (file_state k.conn)) }
-    ensures found { IfOk result (λ k. HasCleanDisk (file_state k.conn) → HasOpened (image_of D.Disk files) (file_state k.conn)) }
-    ensures unsound { IfErr result (λ e. (t : Table) → e.fault ≡ LoadFault.Unsound t → HoldsUnsound t e.left) }
+    ensures found { IfOk result (λ k. HasCleanDisk (file_state k.conn)
+        → HasOpened (image_of D.Disk files) (file_state k.conn)) }
+    ensures unsound { IfErr result (λ e. (t : Table) → e.fault ≡ LoadFault.Unsound t
+        → HoldsUnsound t e.left) }
     ensures store { IfErr result (λ e. e.fault ≡ LoadFault.Store → HoldsNoUnsound e.left) }
-    ensures still { IfErr result (λ e. HoldsStill (image_of D.Disk files) (λ given. given ≡ files) e.left) }
+    ensures still { IfErr result (λ e. HoldsStill (image_of D.Disk files) (λ given.
+        given ≡ files) e.left) }
     ensures left { IfErr result (λ e. e.left ≢ Left.Nothing) }
 {
     let tables = match open_files(alloc, files, options) {
@@ -152,10 +156,13 @@ pub fn open_keeper<S: Start, R: ReadImage + Drop>(
     ensures unloaded { IfOk result (λ k. k.is_loaded ≡ false) }
     ensures usable { IfOk result (λ k. k.is_broken ≡ false) }
     ensures second { IfOk result (λ k. IsSecond (file_state k.conn)) }
-    ensures found { IfOk result (λ k. HasCleanDisk (file_state k.conn) → HasOpened (image_at S.Start) (file_state k.conn)) }
-    ensures unsound { IfErr result (λ e. (t : Table) → e.fault ≡ LoadFault.Unsound t → HoldsUnsound t e.left) }
+    ensures found { IfOk result (λ k. HasCleanDisk (file_state k.conn)
+        → HasOpened (image_at S.Start) (file_state k.conn)) }
+    ensures unsound { IfErr result (λ e. (t : Table) → e.fault ≡ LoadFault.Unsound t
+        → HoldsUnsound t e.left) }
     ensures store { IfErr result (λ e. e.fault ≡ LoadFault.Store → HoldsNoUnsound e.left) }
-    ensures still { IfErr result (λ e. HoldsStill (image_at S.Start) (λ files. IsFresh true files.log × IsFresh false files.db) e.left) }
+    ensures still { IfErr result (λ e. HoldsStill (image_at S.Start) (λ files.
+        IsFresh true files.log × IsFresh false files.db) e.left) }
 {
     let tables = match open_file(rt, path, start) {
         Ok(tables) => tables,
@@ -178,8 +185,10 @@ pub fn open_keeper<S: Start, R: ReadImage + Drop>(
 pub fn close_keeper<D: Disk + Drop, R: ReadImage + Drop>(
     keeper: TableKeeper<FileStore<D>, R>,
 ) -> Result<Files<D>, CloseFault>
-    ensures usable { IfOk result (λ files. IsTrue (D.Disk.is_usable files.log) × IsTrue (D.Disk.is_usable files.db)) }
-    ensures copied { IfOk result (λ files. AreClean D.Disk files.log files.db → IsCopied keeper.conn files) }
+    ensures usable { IfOk result (λ files. IsTrue (D.Disk.is_usable files.log)
+        × IsTrue (D.Disk.is_usable files.db)) }
+    ensures copied { IfOk result (λ files. AreClean D.Disk files.log files.db
+        → IsCopied keeper.conn files) }
 {
     close_files(Tables {
         conn: keeper.into_connection(),

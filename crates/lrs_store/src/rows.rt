@@ -13,8 +13,10 @@ use std::alloc::Global;
 
 /// The rows of the version, and of links, classes and assets. A key of one whole number is the number of its row.
 fn read_named<S: Store>(alloc: Global, store: &mut S) -> Result<NamedRows, StoreError>
-    ensures seen { IfOk result (λ r. HasSeen S.Store.view S.Store.recovers (HasNamed r) store.old store.new) }
-    ensures err { IfErr result (HasStopped S.Store.view S.Store.faults S.Store.recovers store.old store.new) }
+    ensures seen { IfOk result (λ r. HasSeen S.Store.view S.Store.recovers
+        (HasNamed r) store.old store.new) }
+    ensures err { IfErr result
+        (HasStopped S.Store.view S.Store.faults S.Store.recovers store.old store.new) }
 {
     let version = read_tree(alloc, store, 0, &[0])?;
     let link = read_tree(alloc, store, 1, &[0, 2])?;
@@ -30,8 +32,10 @@ fn read_named<S: Store>(alloc: Global, store: &mut S) -> Result<NamedRows, Store
 
 /// The rows of routes.
 fn read_routes<S: Store>(alloc: Global, store: &mut S) -> Result<RouteRows, StoreError>
-    ensures seen { IfOk result (λ r. HasSeen S.Store.view S.Store.recovers (HasRoutes r) store.old store.new) }
-    ensures err { IfErr result (HasStopped S.Store.view S.Store.faults S.Store.recovers store.old store.new) }
+    ensures seen { IfOk result (λ r. HasSeen S.Store.view S.Store.recovers
+        (HasRoutes r) store.old store.new) }
+    ensures err { IfErr result
+        (HasStopped S.Store.view S.Store.faults S.Store.recovers store.old store.new) }
 {
     let piece = read_tree(alloc, store, 5, &[1, 2, 3, 4, 5, 6])?;
     let mark = read_tree(alloc, store, 7, &[1, 2, 3, 4])?;
@@ -47,8 +51,10 @@ fn read_routes<S: Store>(alloc: Global, store: &mut S) -> Result<RouteRows, Stor
 
 /// The rows of the ledgers, and of edits and origins.
 fn read_ledgers<S: Store>(alloc: Global, store: &mut S) -> Result<LedgerRows, StoreError>
-    ensures seen { IfOk result (λ r. HasSeen S.Store.view S.Store.recovers (HasLedgers r) store.old store.new) }
-    ensures err { IfErr result (HasStopped S.Store.view S.Store.faults S.Store.recovers store.old store.new) }
+    ensures seen { IfOk result (λ r. HasSeen S.Store.view S.Store.recovers
+        (HasLedgers r) store.old store.new) }
+    ensures err { IfErr result
+        (HasStopped S.Store.view S.Store.faults S.Store.recovers store.old store.new) }
 {
     let entered = read_tree(alloc, store, 13, &[1, 2, 3, 4, 5, 6])?;
     let gone = read_tree(alloc, store, 15, &[1, 2, 3, 4, 5, 6, 7])?;
@@ -67,8 +73,10 @@ fn read_ledgers<S: Store>(alloc: Global, store: &mut S) -> Result<LedgerRows, St
 /// # Errors
 /// When the store fails, or memory runs out.
 pub(crate) fn read_trees<S: Store>(alloc: Global, store: &mut S) -> Result<StoredRows, StoreError>
-    ensures seen { IfOk result (λ r. HasSeen S.Store.view S.Store.recovers (λ db. tables_of r ≡ stored db) store.old store.new) }
-    ensures err { IfErr result (HasStopped S.Store.view S.Store.faults S.Store.recovers store.old store.new) }
+    ensures seen { IfOk result (λ r. HasSeen S.Store.view S.Store.recovers (λ db.
+        tables_of r ≡ stored db) store.old store.new) }
+    ensures err { IfErr result
+        (HasStopped S.Store.view S.Store.faults S.Store.recovers store.old store.new) }
 {
     let named = read_named(alloc, store)?;
     let routes = read_routes(alloc, store)?;

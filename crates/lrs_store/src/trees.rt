@@ -53,8 +53,10 @@ pub(crate) fn read_tree<S: Store>(
     tree: u32,
     places: &[usize],
 ) -> Result<Vec<Row>, StoreError>
-    ensures seen { IfOk result (λ rows. HasSeen S.Store.view S.Store.recovers (λ db. rows.items ≡ rows_of db tree places.now) store.old store.new) }
-    ensures err { IfErr result (HasStopped S.Store.view S.Store.faults S.Store.recovers store.old store.new) }
+    ensures seen { IfOk result (λ rows. HasSeen S.Store.view S.Store.recovers (λ db.
+        rows.items ≡ rows_of db tree places.now) store.old store.new) }
+    ensures err { IfErr result
+        (HasStopped S.Store.view S.Store.faults S.Store.recovers store.old store.new) }
 {
     let mut work = Workspace::new(alloc);
     let rows = all_rows(store, &mut work, tree)?;

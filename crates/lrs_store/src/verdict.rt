@@ -22,8 +22,10 @@ use std::alloc::Global;
 
 /// Which of the known tables a store lists.
 fn known_of<S: Alter>(alloc: Global, store: &S) -> Result<Known, StoreError>
-    ensures known { IsClean (S.Store.view store.now) → IfOk result (λ known. ListsKnown known ((S.Store.view store.now).trees catalog_tree)) }
-    ensures err { IsClean (S.Store.view store.now) → IfErr result (StopsFor (S.Store.view store.now)) }
+    ensures known { IsClean (S.Store.view store.now)
+        → IfOk result (λ known. ListsKnown known ((S.Store.view store.now).trees catalog_tree)) }
+    ensures err { IsClean (S.Store.view store.now)
+        → IfErr result (StopsFor (S.Store.view store.now)) }
 {
     if store.is_broken() {
         return Err(StoreError::Broken);
@@ -37,8 +39,10 @@ fn known_of<S: Alter>(alloc: Global, store: &S) -> Result<Known, StoreError>
 
 /// The rows of a store's tables, if they are those of an inventory: those of version 1 tell no origins.
 fn rows_of<S: Alter>(alloc: Global, store: &mut S) -> Result<Option<StoredRows>, StoreError>
-    ensures found { IfOk result (λ found. HasSeen S.Store.view S.Store.recovers (HasFound found) store.old store.new) }
-    ensures err { IfErr result (HasStopped S.Store.view S.Store.faults S.Store.recovers store.old store.new) }
+    ensures found { IfOk result (λ found. HasSeen S.Store.view S.Store.recovers
+        (HasFound found) store.old store.new) }
+    ensures err { IfErr result
+        (HasStopped S.Store.view S.Store.faults S.Store.recovers store.old store.new) }
 {
     let known = known_of(alloc, store)?;
     let mut rows = read_trees(alloc, store)?;
@@ -54,8 +58,10 @@ fn rows_of<S: Alter>(alloc: Global, store: &mut S) -> Result<Option<StoredRows>,
 
 /// Why these rows are no image's: with none, or rows that hold an image, that is not known here.
 fn fault_of<R: ReadImage>(reader: &R, alloc: Global, rows: Option<StoredRows>) -> LoadFault
-    ensures unsound { (t : DeclaredTable) → result ≡ LoadFault.Unsound t → IsSomeAnd rows (λ r. content_of (tables_of r) ≡ Err t) }
-    ensures store { result ≡ LoadFault.Store → IfSome rows (λ r. (t : DeclaredTable) → content_of (tables_of r) ≢ Err t) }
+    ensures unsound { (t : DeclaredTable) → result ≡ LoadFault.Unsound t
+        → IsSomeAnd rows (λ r. content_of (tables_of r) ≡ Err t) }
+    ensures store { result ≡ LoadFault.Store → IfSome rows (λ r.
+        (t : DeclaredTable) → content_of (tables_of r) ≢ Err t) }
 {
     let Some(rows) = rows else {
         return LoadFault::Store;
@@ -71,10 +77,14 @@ fn fault_of<R: ReadImage>(reader: &R, alloc: Global, rows: Option<StoredRows>) -
 /// refused for something else, or where it fails; `Memory` if memory runs out. Nothing is written: what a later opening
 /// may find, it might find before.
 pub fn judge<S: Alter, R: ReadImage>(alloc: Global, store: &mut S, reader: &R) -> LoadFault
-    ensures quiet { doubt (S.Store.view store.old).is_clean ≤ doubt (S.Store.view store.new).is_clean }
-    ensures outcomes { (db : Trees) → S.Store.recovers store.new db → S.Store.recovers store.old db }
-    ensures unsound { (t : DeclaredTable) → result ≡ LoadFault.Unsound t → IsUnsoundThere S.Store.view S.Store.recovers t store.new }
-    ensures store { result ≡ LoadFault.Store → IsSoundThere S.Store.view S.Store.faults S.Store.recovers store.new }
+    ensures quiet { doubt (S.Store.view store.old).is_clean
+        ≤ doubt (S.Store.view store.new).is_clean }
+    ensures outcomes { (db : Trees) → S.Store.recovers store.new db
+        → S.Store.recovers store.old db }
+    ensures unsound { (t : DeclaredTable) → result ≡ LoadFault.Unsound t
+        → IsUnsoundThere S.Store.view S.Store.recovers t store.new }
+    ensures store { result ≡ LoadFault.Store
+        → IsSoundThere S.Store.view S.Store.faults S.Store.recovers store.new }
 {
     store.rollback();
     match rows_of(alloc, store) {

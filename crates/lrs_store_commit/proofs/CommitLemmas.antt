@@ -8,7 +8,7 @@ use Rattle.lrs_image.specs.declared.change.Change.{Change}
 use Rattle.lrs_store_rows.specs.Tables.{Tables}
 use Rattle.lrs_store_tables.specs.Stored.{stored, IsWriting, Makes}
 use Rattle.lrs_store_tables.specs.Writing.{AreWritten, Writes, WritesEach}
-use Rattle.lrs_store_commit.specs.NewAssets.{IsEntry, with_entries}
+use Rattle.lrs_store_commit.specs.NewAssets.{IsNewAsset, with_new_assets}
 use Rattle.lrs_store_commit.proofs.Entering.{entries_written}
 use Rattle.lrs_store_tables.proofs.Transactions.{survives_transaction}
 use Rattle.lrs_store_tables.specs.Resting.{IsReady}
@@ -28,8 +28,8 @@ writes_none n s writing = record { writing = writing; was_open = λ opened. open
 pub writes_one : (n : ℕ) (c : Change) (a b : State) → Writes n c a b → WritesEach n (c ∷ []) a b
 writes_one n c a b one = record { writing = one.writing; was_open = λ _. one.was_open; is_open = λ _. one.was_open; rows = (stored b.now.trees, one.rows, refl) }
 
-pub writes_entries : (n : ℕ) (cs : List Change) (a b : State) → 0 < length cs → AllByRecursion IsEntry cs → IsTrue a.is_open → Makes (with_entries n cs) a b → WritesEach n cs a b
-writes_entries n cs a b some entries opened made =
+pub writes_new_assets : (n : ℕ) (cs : List Change) (a b : State) → 0 < length cs → AllByRecursion IsNewAsset cs → IsTrue a.is_open → Makes (with_new_assets n cs) a b → WritesEach n cs a b
+writes_new_assets n cs a b some entries opened made =
     record { writing = made.writing; was_open = λ _. opened; is_open = λ _. opened; rows = entries_written n cs (stored a.now.trees) (stored b.now.trees) some entries made.rows }
 
 pub writes_behind : (n k : ℕ) (cs ds : List Change) (a b d : State) → k ≡ n + length cs → 0 < length ds → WritesEach n cs a b → WritesEach k ds b d → WritesEach n (cs ++ ds) a d

@@ -14,7 +14,7 @@ use Rattle.lrs_store_rows.specs.Encoding.{span_row, edit_row, numbered}
 use Rattle.lrs_store_tables.specs.RowLaws.{same_refl, same_trans, none_less}
 use Rattle.lrs_store_tables.specs.Changing.{with_asset, with_entered, with_gone, with_edit, renamed_route}
 use Rattle.lrs_store_tables.specs.Writing.{changed_refs, changed_spans, written, IsWritten, AreWritten}
-use Rattle.lrs_store_commit.specs.NewAssets.{IsEntry, with_one_span, entered_with, asset_rows, origin_rows, span_rows, entered_rows, with_entries}
+use Rattle.lrs_store_commit.specs.NewAssets.{IsNewAsset, with_one_span, entered_with, asset_rows, origin_rows, span_rows, entered_rows, with_new_assets}
 use Rattle.lrs_store_commit.proofs.EntryRows.{between}
 use Rattle.lrs_store_commit.proofs.SameName.{renamed_itself}
 use Rattle.lrs_store_tables.proofs.Steady.{steady-with_entered, steady-with_gone, steady-with_edit}
@@ -71,21 +71,21 @@ module _ (e : Edit) (a : Asset) (route : Name) (s : Span) (ps : List Part) where
   its_written : (n : ℕ) (before after : Tables) → AreSame (with_entry n its before) after → IsWritten n its before after
   its_written n before after h = record { changed = None; changed_are = tt; made = None; made_are = tt; rows = same_trans _ (with_entry n its before) _ (its_rows n before) h }
 
-is_written : (n : ℕ) (c : Change) (before after : Tables) → IsEntry c → AreSame (with_entry n c before) after → IsWritten n c before after
+is_written : (n : ℕ) (c : Change) (before after : Tables) → IsNewAsset c → AreSame (with_entry n c before) after → IsWritten n c before after
 is_written n c before after h =
     subst (λ (d : Difference). AreSame (with_entry n (record { edit = c.edit; difference = d }) before) after → IsWritten n (record { edit = c.edit; difference = d }) before after) (sym h.is)
     (its_written c.edit h.asset h.route h.span (h.first ∷ h.others) n before after)
 
 -- ---- several
 
-each_written : (n : ℕ) (cs : List Change) (before after : Tables) → 0 < length cs → AllByRecursion IsEntry cs → AreSame (with_each n cs before) after → AreWritten n cs before after
+each_written : (n : ℕ) (cs : List Change) (before after : Tables) → 0 < length cs → AllByRecursion IsNewAsset cs → AreSame (with_each n cs before) after → AreWritten n cs before after
 each_written n [] before after some all h = absurd (omega (arith, some))
 each_written n (c ∷ []) before after some all h = (after, is_written n c before after all.0 h, refl)
 each_written n (c ∷ d ∷ cs) before after some all h =
     let middle = with_entry n c before in (middle, is_written n c before middle all.0 (same_refl middle), each_written (n + 1) (d ∷ cs) middle after (omega arith) all.1 h)
 
 -- a table gets the rows of one, and then those of the others
-one_first : (n : ℕ) (c : Change) (cs : List Change) (t : Tables) → AreSame (with_entries (n + 1) cs (with_entry n c t)) (with_entries n (c ∷ cs) t)
+one_first : (n : ℕ) (c : Change) (cs : List Change) (t : Tables) → AreSame (with_new_assets (n + 1) cs (with_entry n c t)) (with_new_assets n (c ∷ cs) t)
 one_first n c cs t = record {
   version = IsPermutation-refl t.version;
   link = IsPermutation-refl t.link;
@@ -101,10 +101,10 @@ one_first n c cs t = record {
   origin = between (flat_map origin_rows cs) (origin_rows c) t.origin;
 }
 
-each_together : (n : ℕ) (cs : List Change) (t : Tables) → AreSame (with_each n cs t) (with_entries n cs t)
+each_together : (n : ℕ) (cs : List Change) (t : Tables) → AreSame (with_each n cs t) (with_new_assets n cs t)
 each_together n [] t = same_refl t
-each_together n (c ∷ cs) t = same_trans _ (with_entries (n + 1) cs (with_entry n c t)) _ (each_together (n + 1) cs (with_entry n c t)) (one_first n c cs t)
+each_together n (c ∷ cs) t = same_trans _ (with_new_assets (n + 1) cs (with_entry n c t)) _ (each_together (n + 1) cs (with_entry n c t)) (one_first n c cs t)
 
 -- Entries that are put table by table are written.
-pub entries_written : (n : ℕ) (cs : List Change) (before after : Tables) → 0 < length cs → AllByRecursion IsEntry cs → AreSame (with_entries n cs before) after → AreWritten n cs before after
-entries_written n cs before after some all h = each_written n cs before after some all (same_trans _ (with_entries n cs before) _ (each_together n cs before) h)
+pub entries_written : (n : ℕ) (cs : List Change) (before after : Tables) → 0 < length cs → AllByRecursion IsNewAsset cs → AreSame (with_new_assets n cs before) after → AreWritten n cs before after
+entries_written n cs before after some all h = each_written n cs before after some all (same_trans _ (with_new_assets n cs before) _ (each_together n cs before) h)

@@ -11,12 +11,12 @@ use Rattle.lrs_events.specs.declared.class.Asset.{Asset}
 use Rattle.lrs_events.specs.declared.span.Span.{Span}
 use Rattle.lrs_events.specs.declared.part.Part.{Part}
 use Rattle.lrs_events.specs.declared.part.Gone.{Gone}
-use Rattle.lrs_machine.specs.declared.image.RouteEntry.{RouteEntry}
+use Rattle.lrs_machine.specs.declared.image.RouteRow.{RouteRow}
 use Rattle.lrs_image.specs.declared.change.RouteChange.{RouteChange}
 use Rattle.lrs_image.specs.declared.change.Difference.{Difference}
 use Rattle.lrs_image.specs.declared.change.Change.{Change}
 use Rattle.lrs_image.specs.Change.{no_difference}
-use Rattle.lrs_store_commit.specs.NewAssets.{with_one_span, BringsOneSpan, BringsOneAsset, IsEntry}
+use Rattle.lrs_store_commit.specs.NewAssets.{with_one_span, BringsOneSpan, BringsOneAsset, IsNewAsset}
 
 -- what is true of all is true of one more
 pub all_more : {X : Type 0} (P : X → Type 0) (xs : List X) (x : X) → AllByRecursion P xs → P x → AllByRecursion P (xs ++ x ∷ [])
@@ -47,7 +47,7 @@ brings_span r name course marks gone come spans_gone spans_come =
     let one = alone r.spans_come spans_come in
     record { span = one.one; is = same_change r.route r.name r.course r.marks r.refs.gone r.refs.come r.spans_gone r.spans_come one.one name course marks (none_left r.refs.gone gone) (none_left r.refs.come come) (none_left r.spans_gone spans_gone) one.is }
 
-same_difference : (link : Option Link) (class : Option Class) (asset : Option Asset) (changed : Option RouteChange) (dropped : Option Name) (made : Option RouteEntry) (entered : List Part) (gone : List Gone) (a : Asset)
+same_difference : (link : Option Link) (class : Option Class) (asset : Option Asset) (changed : Option RouteChange) (dropped : Option Name) (made : Option RouteRow) (entered : List Part) (gone : List Gone) (a : Asset)
     → link ≡ None → class ≡ None → asset ≡ Some a → dropped ≡ None → made ≡ None → gone ≡ []
     → ◌≡◌ {A = Difference} (record { link = link; class = class; asset = asset; changed = changed; dropped = dropped; made = made; entered = entered; gone = gone }) (record no_difference { asset = Some a; changed = changed; entered = entered })
 same_difference link class asset changed dropped made entered gone a h i j k l m = rw (h, i, j, k, l, m)
@@ -65,7 +65,7 @@ pub not_empty : {X : Type 0} (xs : List X) → 0 < length xs → IsSome xs
 not_empty [] some = absurd (omega (arith, some))
 not_empty (x ∷ xs) some = record { first = x; others = xs; is = refl }
 
-pub enters : (c : Change) (r : RouteChange) → c.difference.changed ≡ Some r → 0 < length c.difference.entered → BringsOneSpan r → BringsOneAsset c.difference → IsEntry c
+pub enters : (c : Change) (r : RouteChange) → c.difference.changed ≡ Some r → 0 < length c.difference.entered → BringsOneSpan r → BringsOneAsset c.difference → IsNewAsset c
 enters c r changed some spanned named =
     let parts = not_empty c.difference.entered some in
     record {
@@ -78,11 +78,11 @@ enters c r changed some spanned named =
     }
 
 -- what an entry has
-pub its_asset : (c : Change) (h : IsEntry c) → c.difference.asset ≡ Some h.asset
+pub its_asset : (c : Change) (h : IsNewAsset c) → c.difference.asset ≡ Some h.asset
 its_asset c h = ap (λ (d : Difference). d.asset) h.is
 
-pub its_change : (c : Change) (h : IsEntry c) → c.difference.changed ≡ Some (with_one_span h.route h.span)
+pub its_change : (c : Change) (h : IsNewAsset c) → c.difference.changed ≡ Some (with_one_span h.route h.span)
 its_change c h = ap (λ (d : Difference). d.changed) h.is
 
-pub its_parts : (c : Change) (h : IsEntry c) → c.difference.entered ≡ h.first ∷ h.others
+pub its_parts : (c : Change) (h : IsNewAsset c) → c.difference.entered ≡ h.first ∷ h.others
 its_parts c h = ap (λ (d : Difference). d.entered) h.is

@@ -15,7 +15,7 @@ use Rattle.lrs_store_rows.specs.Laws.{origin_row}
 use Rattle.lrs_store_rows.specs.Encoding.{asset_row, entered_row, edit_row, numbered}
 use Rattle.lrs_store_tables.specs.Stored.{Makes}
 use Rattle.lrs_store_tables.specs.Changing.{with_entered}
-use Rattle.lrs_store_commit.specs.NewAssets.{IsEntry, HasTwoParts, asset_rows, origin_rows, spans_on, span_rows, entered_rows, first_rows, other_rows, with_assets_of, with_origins_of, with_spans_of, with_firsts_of, with_others_of, with_parts_of, with_edits_of}
+use Rattle.lrs_store_commit.specs.NewAssets.{IsNewAsset, HasTwoParts, asset_rows, origin_rows, spans_on, span_rows, entered_rows, first_rows, other_rows, with_assets_of, with_origins_of, with_spans_of, with_firsts_of, with_others_of, with_parts_of, with_edits_of}
 use Rattle.lrs_store_commit.proofs.EntryLemmas.{its_asset, its_change, its_parts}
 use Rattle.lrs_store_tables.proofs.Steady.{IsSteady}
 use Rattle.lrs_store_commit.proofs.Then.{makes_then}
@@ -29,17 +29,17 @@ pub many_numbered : {X R : Type 0} (row : ℕ → X → R) (n : ℕ) (xs : List 
 many_numbered row n [] = refl
 many_numbered row n (x ∷ xs) = ap suc (many_numbered row (n + 1) xs)
 
-pub many_assets : (cs : List Change) → AllByRecursion IsEntry cs → length (flat_map asset_rows cs) ≡ length cs
-many_assets = as_many asset_rows IsEntry (λ c h. subst (λ (o : Option Asset). length (map asset_row (option_to_list o)) ≡ 1) (sym (its_asset c h)) refl)
+pub many_assets : (cs : List Change) → AllByRecursion IsNewAsset cs → length (flat_map asset_rows cs) ≡ length cs
+many_assets = as_many asset_rows IsNewAsset (λ c h. subst (λ (o : Option Asset). length (map asset_row (option_to_list o)) ≡ 1) (sym (its_asset c h)) refl)
 
-pub many_origins : (cs : List Change) → AllByRecursion IsEntry cs → length (flat_map origin_rows cs) ≡ length cs
-many_origins = as_many origin_rows IsEntry (λ c h. subst (λ (o : Option Asset). length (map origin_row (option_to_list o)) ≡ 1) (sym (its_asset c h)) refl)
+pub many_origins : (cs : List Change) → AllByRecursion IsNewAsset cs → length (flat_map origin_rows cs) ≡ length cs
+many_origins = as_many origin_rows IsNewAsset (λ c h. subst (λ (o : Option Asset). length (map origin_row (option_to_list o)) ≡ 1) (sym (its_asset c h)) refl)
 
-pub many_spans : (cs : List Change) → AllByRecursion IsEntry cs → length (flat_map span_rows cs) ≡ length cs
-many_spans = as_many span_rows IsEntry (λ c h. subst (λ (o : Option RouteChange). length (spans_on o) ≡ 1) (sym (its_change c h)) refl)
+pub many_spans : (cs : List Change) → AllByRecursion IsNewAsset cs → length (flat_map span_rows cs) ≡ length cs
+many_spans = as_many span_rows IsNewAsset (λ c h. subst (λ (o : Option RouteChange). length (spans_on o) ≡ 1) (sym (its_change c h)) refl)
 
-pub many_firsts : (cs : List Change) → AllByRecursion IsEntry cs → length (flat_map first_rows cs) ≡ length cs
-many_firsts = as_many first_rows IsEntry (λ c h. subst (λ (ps : List Part). length (take 1 (map entered_row ps)) ≡ 1) (sym (its_parts c h)) refl)
+pub many_firsts : (cs : List Change) → AllByRecursion IsNewAsset cs → length (flat_map first_rows cs) ≡ length cs
+many_firsts = as_many first_rows IsNewAsset (λ c h. subst (λ (ps : List Part). length (take 1 (map entered_row ps)) ≡ 1) (sym (its_parts c h)) refl)
 
 pub many_seconds : (cs : List Change) → AllByRecursion HasTwoParts cs → length (flat_map other_rows cs) ≡ length cs
 many_seconds = as_many other_rows HasTwoParts (λ c h. omega (arith, h, length-map c.difference.entered entered_row, length-drop 1 (entered_rows c)))

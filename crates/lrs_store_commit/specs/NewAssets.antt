@@ -31,7 +31,7 @@ abbrev pub entered_with : Asset → Name → Span → List Part → Difference
 entered_with asset route span parts = record no_difference { asset = Some asset; changed = Some (with_one_span route span); entered = parts }
 
 -- The change only enters an asset, with one span of it: one part of the ledger or more.
-pub record IsEntry (c : Change) : Type 0 where
+pub record IsNewAsset (c : Change) : Type 0 where
   pub asset : Asset
   pub route : Name
   pub span : Span
@@ -92,5 +92,5 @@ abbrev pub with_edits_of : ℕ → List Change → Tables → Tables
 with_edits_of n cs t = record t { edit = numbered (λ k c. edit_row k c.edit) n cs ++ t.edit }
 
 -- The rows of entries, table by table: as each by itself would leave them, but for their order.
-abbrev pub with_entries : ℕ → List Change → Tables → Tables
-with_entries n cs t = with_edits_of n cs (with_parts_of cs (with_spans_of cs (with_origins_of cs (with_assets_of cs t))))
+abbrev pub with_new_assets : ℕ → List Change → Tables → Tables
+with_new_assets n cs t = with_edits_of n cs (with_parts_of cs (with_spans_of cs (with_origins_of cs (with_assets_of cs t))))

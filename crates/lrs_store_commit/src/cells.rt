@@ -34,7 +34,7 @@ pub fn fill_origin<'a>(asset: &'a Asset, cells: &mut [ValueRef<'a>]) -> Result<(
     ensures room { length cells.new ≡ 2 }
 {
     let own = number(asset.number)?;
-    let entry = number(asset.entry)?;
+    let entry = number(asset.entered_by)?;
     cells.copy_from_slice(&[own, entry]);
     Ok(())
 }

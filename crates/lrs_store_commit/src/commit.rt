@@ -8,15 +8,15 @@ ghost use Rattle.lrs_store_tables.specs.Writing.{MakesOf, Writes, WritesEach, Ar
 ghost use Rattle.lrs_store_tables.specs.Changing.{without_route, with_entered, with_gone};
 ghost use Rattle.lrs_store_tables.specs.Resting.{IsReady};
 
-use crate::insert_assets::put_entries;
+use crate::insert_assets::insert_new_assets;
 use crate::insert_lists::Ledger;
 use crate::insert_named::put_named;
 use crate::lists::write_all;
-use crate::new_assets::are_entries;
+use crate::new_assets::are_new_assets;
 use crate::routes::{change_route, drop_route, put_route};
 use lrs_events::{Gone, Part};
 use lrs_image::{Change, Difference, RouteChange};
-use lrs_machine::RouteEntry;
+use lrs_machine::RouteRow;
 use lrs_measure::Rows;
 use lrs_position::RouteName;
 use lrs_store_tables::insert::put_edit;
@@ -25,7 +25,8 @@ use sqlite::{Alter, Connection, Error, Transaction};
 /// A route goes, if one does.
 fn drop_some<S: Alter>(tx: &mut Transaction<'_, S>, route: &Option<RouteName>) -> Result<(), Error>
     ensures same_reference { tx.new.conn.ghost_name ≡ tx.old.conn.ghost_name }
-    ensures does { OkDoes result (state S.Store tx.old.conn.now) (state S.Store tx.new.conn.now) (Makes (with_some without_route route.now)) }
+    ensures does { OkDoes result (state S.Store tx.old.conn.now) (state S.Store tx.new.conn.now)
+        (Makes (with_some without_route route.now)) }
     ensures survives { LeavesStore (state S.Store tx.old.conn.now) (state S.Store tx.new.conn.now) }
 {
     match route {
@@ -40,7 +41,9 @@ fn change_some<S: Alter>(
     change: &Option<RouteChange>,
 ) -> Result<(), Error>
     ensures same_reference { tx.new.conn.ghost_name ≡ tx.old.conn.ghost_name }
-    ensures does { OkDoes result (state S.Store tx.old.conn.now) (state S.Store tx.new.conn.now) (MakesOf (changed_course change.now) (λ pieces. with_some (λ c. changed_route c pieces) change.now)) }
+    ensures does { OkDoes result (state S.Store tx.old.conn.now) (state S.Store tx.new.conn.now)
+        (MakesOf (changed_course change.now) (λ pieces.
+        with_some (λ c. changed_route c pieces) change.now)) }
     ensures survives { LeavesStore (state S.Store tx.old.conn.now) (state S.Store tx.new.conn.now) }
 {
     match change {
@@ -50,13 +53,18 @@ fn change_some<S: Alter>(
 }
 
 /// A route comes, if one does.
-fn put_some<S: Alter>(tx: &mut Transaction<'_, S>, entry: &Option<RouteEntry>) -> Result<(), Error>
+fn put_some<S: Alter>(
+    tx: &mut Transaction<'_, S>,
+    route_row: &Option<RouteRow>,
+) -> Result<(), Error>
     ensures same_reference { tx.new.conn.ghost_name ≡ tx.old.conn.ghost_name }
-    ensures does { OkDoes result (state S.Store tx.old.conn.now) (state S.Store tx.new.conn.now) (MakesOf (new_course entry.now) (λ pieces. with_some (λ e. new_route e pieces) entry.now)) }
+    ensures does { OkDoes result (state S.Store tx.old.conn.now) (state S.Store tx.new.conn.now)
+        (MakesOf (new_course route_row.now) (λ pieces.
+        with_some (λ e. new_route e pieces) route_row.now)) }
     ensures survives { LeavesStore (state S.Store tx.old.conn.now) (state S.Store tx.new.conn.now) }
 {
-    match entry {
-        Some(entry) => put_route(tx, entry),
+    match route_row {
+        Some(route_row) => put_route(tx, route_row),
         None => Ok(()),
     }
 }
@@ -64,7 +72,8 @@ fn put_some<S: Alter>(tx: &mut Transaction<'_, S>, entry: &Option<RouteEntry>) -
 /// Puts rows of the ledger of what was entered.
 fn put_entered<S: Alter>(tx: &mut Transaction<'_, S>, parts: &Rows<Part>) -> Result<(), Error>
     ensures same_reference { tx.new.conn.ghost_name ≡ tx.old.conn.ghost_name }
-    ensures does { OkDoes result (state S.Store tx.old.conn.now) (state S.Store tx.new.conn.now) (Makes (with_entered parts.now)) }
+    ensures does { OkDoes result (state S.Store tx.old.conn.now) (state S.Store tx.new.conn.now)
+        (Makes (with_entered parts.now)) }
     ensures survives { LeavesStore (state S.Store tx.old.conn.now) (state S.Store tx.new.conn.now) }
 {
     write_all(tx, &Ledger, parts.as_slice())?;
@@ -74,7 +83,8 @@ fn put_entered<S: Alter>(tx: &mut Transaction<'_, S>, parts: &Rows<Part>) -> Res
 /// Puts rows of the ledger of what is gone.
 fn put_gone<S: Alter>(tx: &mut Transaction<'_, S>, gone: &Rows<Gone>) -> Result<(), Error>
     ensures same_reference { tx.new.conn.ghost_name ≡ tx.old.conn.ghost_name }
-    ensures does { OkDoes result (state S.Store tx.old.conn.now) (state S.Store tx.new.conn.now) (Makes (with_gone gone.now)) }
+    ensures does { OkDoes result (state S.Store tx.old.conn.now) (state S.Store tx.new.conn.now)
+        (Makes (with_gone gone.now)) }
     ensures survives { LeavesStore (state S.Store tx.old.conn.now) (state S.Store tx.new.conn.now) }
 {
     write_all(tx, &Ledger, gone.as_slice())?;
@@ -84,7 +94,8 @@ fn put_gone<S: Alter>(tx: &mut Transaction<'_, S>, gone: &Rows<Gone>) -> Result<
 /// Puts the rows that come into the ledgers.
 fn put_ledgers<S: Alter>(tx: &mut Transaction<'_, S>, difference: &Difference) -> Result<(), Error>
     ensures same_reference { tx.new.conn.ghost_name ≡ tx.old.conn.ghost_name }
-    ensures does { OkDoes result (state S.Store tx.old.conn.now) (state S.Store tx.new.conn.now) (Makes (with_ledgers difference.now)) }
+    ensures does { OkDoes result (state S.Store tx.old.conn.now) (state S.Store tx.new.conn.now)
+        (Makes (with_ledgers difference.now)) }
     ensures survives { LeavesStore (state S.Store tx.old.conn.now) (state S.Store tx.new.conn.now) }
 {
     put_entered(tx, &difference.entered)?;
@@ -96,7 +107,8 @@ fn put_ledgers<S: Alter>(tx: &mut Transaction<'_, S>, difference: &Difference) -
 /// changes may get its referents, and a name is in the table once.
 fn write_rows<S: Alter>(tx: &mut Transaction<'_, S>, n: u64, change: &Change) -> Result<(), Error>
     ensures same_reference { tx.new.conn.ghost_name ≡ tx.old.conn.ghost_name }
-    ensures does { OkDoes result (state S.Store tx.old.conn.now) (state S.Store tx.new.conn.now) (Writes n change.now) }
+    ensures does { OkDoes result (state S.Store tx.old.conn.now) (state S.Store tx.new.conn.now)
+        (Writes n change.now) }
     ensures survives { LeavesStore (state S.Store tx.old.conn.now) (state S.Store tx.new.conn.now) }
 {
     let difference = &change.difference;
@@ -120,13 +132,16 @@ fn write_next<S: Alter>(
     requires fits { n + length changes.now < 2 ^ 64 }
     ensures same_reference { tx.new.conn.ghost_name ≡ tx.old.conn.ghost_name }
     ensures count { IfOk result (λ count. (0 < count) × (count ≤ length changes.now)) }
-    ensures does { HasCleanDisk (state S.Store tx.new.conn.now) → IsWriting (state S.Store tx.old.conn.now) → IfOk result (λ count. WritesEach n (take count changes.now) (state S.Store tx.old.conn.now) (state S.Store tx.new.conn.now)) }
+    ensures does { HasCleanDisk (state S.Store tx.new.conn.now)
+        → IsWriting (state S.Store tx.old.conn.now)
+        → IfOk result (λ count. WritesEach n (take count changes.now)
+        (state S.Store tx.old.conn.now) (state S.Store tx.new.conn.now)) }
     ensures survives { LeavesStore (state S.Store tx.old.conn.now) (state S.Store tx.new.conn.now) }
 {
     if changes.len() >= 8 {
         let eight = &changes[..8];
-        if are_entries(eight) {
-            put_entries(tx, n, eight)?;
+        if are_new_assets(eight) {
+            insert_new_assets(tx, n, eight)?;
             return Ok(8);
         }
     }
@@ -142,7 +157,8 @@ fn write_each<S: Alter>(
 ) -> Result<(), Error>
     requires fits { n + length changes.now < 2 ^ 64 }
     ensures same_reference { tx.new.conn.ghost_name ≡ tx.old.conn.ghost_name }
-    ensures does { OkDoes result (state S.Store tx.old.conn.now) (state S.Store tx.new.conn.now) (WritesEach n changes.now) }
+    ensures does { OkDoes result (state S.Store tx.old.conn.now) (state S.Store tx.new.conn.now)
+        (WritesEach n changes.now) }
     ensures survives { LeavesStore (state S.Store tx.old.conn.now) (state S.Store tx.new.conn.now) }
 {
     let mut done = 0;
@@ -168,10 +184,16 @@ pub fn write_changes<S: Alter>(
     requires some { 0 < length changes.now }
     requires fits { n + length changes.now < 2 ^ 64 }
     ensures autocommit { conn.new.in_transaction ≡ false }
-    ensures written { HasCleanDisk (state S.Store conn.new) → OnOk result (AreWritten n changes.now (stored (state S.Store conn.old).now.trees) (stored (state S.Store conn.new).committed.trees)) }
-    ensures is_open { HasCleanDisk (state S.Store conn.new) → OnOk result (IsTrue (state S.Store conn.old).is_open × IsTrue (state S.Store conn.new).is_open) }
+    ensures written { HasCleanDisk (state S.Store conn.new)
+        → OnOk result (AreWritten n changes.now (stored (state S.Store conn.old).now.trees)
+        (stored (state S.Store conn.new).committed.trees)) }
+    ensures is_open { HasCleanDisk (state S.Store conn.new)
+        → OnOk result (IsTrue (state S.Store conn.old).is_open
+        × IsTrue (state S.Store conn.new).is_open) }
     ensures ready { OnOk result (IsReady (state S.Store conn.new)) }
-    ensures crash { Survives (state S.Store conn.old) (state S.Store conn.new) (λ db. IsTrue (state S.Store conn.old).is_open × AreWritten n changes.now (stored (state S.Store conn.old).now.trees) (stored db)) }
+    ensures crash { Survives (state S.Store conn.old) (state S.Store conn.new) (λ db.
+        IsTrue (state S.Store conn.old).is_open × AreWritten n changes.now
+        (stored (state S.Store conn.old).now.trees) (stored db)) }
 {
     let mut tx = conn.transaction();
     write_each(&mut tx, n, changes)?;

@@ -16,7 +16,8 @@ use sqlite::{Alter, Error, Transaction};
 /// The pieces of a route go.
 pub fn drop_pieces<S: Alter>(tx: &mut Transaction<'_, S>, route: &RouteName) -> Result<(), Error>
     ensures same_reference { tx.new.conn.ghost_name ≡ tx.old.conn.ghost_name }
-    ensures does { OkDoes result (state S.Store tx.old.conn.now) (state S.Store tx.new.conn.now) (Makes (without_pieces route.now)) }
+    ensures does { OkDoes result (state S.Store tx.old.conn.now) (state S.Store tx.new.conn.now)
+        (Makes (without_pieces route.now)) }
     ensures survives { LeavesStore (state S.Store tx.old.conn.now) (state S.Store tx.new.conn.now) }
 {
     let name = ValueRef::Text(route.bytes());
@@ -27,7 +28,8 @@ pub fn drop_pieces<S: Alter>(tx: &mut Transaction<'_, S>, route: &RouteName) -> 
 /// The marks of a route go.
 pub fn drop_marks<S: Alter>(tx: &mut Transaction<'_, S>, route: &RouteName) -> Result<(), Error>
     ensures same_reference { tx.new.conn.ghost_name ≡ tx.old.conn.ghost_name }
-    ensures does { OkDoes result (state S.Store tx.old.conn.now) (state S.Store tx.new.conn.now) (Makes (without_marks route.now)) }
+    ensures does { OkDoes result (state S.Store tx.old.conn.now) (state S.Store tx.new.conn.now)
+        (Makes (without_marks route.now)) }
     ensures survives { LeavesStore (state S.Store tx.old.conn.now) (state S.Store tx.new.conn.now) }
 {
     let name = ValueRef::Text(route.bytes());
@@ -38,7 +40,8 @@ pub fn drop_marks<S: Alter>(tx: &mut Transaction<'_, S>, route: &RouteName) -> R
 /// The referents of a route go.
 pub fn drop_refs<S: Alter>(tx: &mut Transaction<'_, S>, route: &RouteName) -> Result<(), Error>
     ensures same_reference { tx.new.conn.ghost_name ≡ tx.old.conn.ghost_name }
-    ensures does { OkDoes result (state S.Store tx.old.conn.now) (state S.Store tx.new.conn.now) (Makes (without_refs route.now)) }
+    ensures does { OkDoes result (state S.Store tx.old.conn.now) (state S.Store tx.new.conn.now)
+        (Makes (without_refs route.now)) }
     ensures survives { LeavesStore (state S.Store tx.old.conn.now) (state S.Store tx.new.conn.now) }
 {
     let name = ValueRef::Text(route.bytes());
@@ -49,7 +52,8 @@ pub fn drop_refs<S: Alter>(tx: &mut Transaction<'_, S>, route: &RouteName) -> Re
 /// The spans of a route go.
 pub fn drop_spans<S: Alter>(tx: &mut Transaction<'_, S>, route: &RouteName) -> Result<(), Error>
     ensures same_reference { tx.new.conn.ghost_name ≡ tx.old.conn.ghost_name }
-    ensures does { OkDoes result (state S.Store tx.old.conn.now) (state S.Store tx.new.conn.now) (Makes (without_spans route.now)) }
+    ensures does { OkDoes result (state S.Store tx.old.conn.now) (state S.Store tx.new.conn.now)
+        (Makes (without_spans route.now)) }
     ensures survives { LeavesStore (state S.Store tx.old.conn.now) (state S.Store tx.new.conn.now) }
 {
     let name = ValueRef::Text(route.bytes());

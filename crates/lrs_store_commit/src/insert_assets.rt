@@ -7,7 +7,7 @@ ghost use Rattle.sqlite.specs.Held.{state};
 ghost use Rattle.lrs_store_rows.specs.Encoding.{edit_row};
 ghost use Rattle.lrs_store_tables.specs.Stored.{IsWriting, Makes, OkDoes, LeavesStore};
 ghost use Rattle.lrs_store_tables.specs.Cells.{asset_cells, origin_cells, span_cells, entered_cells, edit_cells};
-ghost use Rattle.lrs_store_commit.specs.NewAssets.{IsEntry, HasTwoParts, asset_rows, origin_rows, span_rows, first_rows, other_rows, with_assets_of, with_origins_of, with_spans_of, with_firsts_of, with_others_of, with_parts_of, with_edits_of, with_entries};
+ghost use Rattle.lrs_store_commit.specs.NewAssets.{IsNewAsset, HasTwoParts, asset_rows, origin_rows, span_rows, first_rows, other_rows, with_assets_of, with_origins_of, with_spans_of, with_firsts_of, with_others_of, with_parts_of, with_edits_of, with_new_assets};
 
 use crate::cells::{fill_asset, fill_edit, fill_origin, fill_part, fill_span};
 use crate::eight_rows::{Filled, fill_eight};
@@ -18,12 +18,12 @@ use lrs_image::Change;
 use sqlite::types::ValueRef;
 use sqlite::{Alter, Error, Transaction};
 
-/// The asset of an entry.
+/// The asset of an route_row.
 #[derive(Clone, Copy)]
 struct Assets;
 
 impl Filled<Assets> for Change {
-    ghost has = { λ of c. IsEntry c };
+    ghost has = { λ of c. IsNewAsset c };
 
     ghost columns = { 4 };
 
@@ -47,7 +47,7 @@ impl Filled<Assets> for Change {
 struct Origins;
 
 impl Filled<Origins> for Change {
-    ghost has = { λ of c. IsEntry c };
+    ghost has = { λ of c. IsNewAsset c };
 
     ghost columns = { 2 };
 
@@ -71,7 +71,7 @@ impl Filled<Origins> for Change {
 struct Spans;
 
 impl Filled<Spans> for Change {
-    ghost has = { λ of c. IsEntry c };
+    ghost has = { λ of c. IsNewAsset c };
 
     ghost columns = { 5 };
 
@@ -95,7 +95,7 @@ impl Filled<Spans> for Change {
 struct FirstParts;
 
 impl Filled<FirstParts> for Change {
-    ghost has = { λ of c. IsEntry c };
+    ghost has = { λ of c. IsNewAsset c };
 
     ghost columns = { 6 };
 
@@ -137,7 +137,7 @@ impl Filled<SecondParts> for Change {
 struct Edits;
 
 impl Filled<Edits> for Change {
-    ghost has = { λ of c. IsEntry c };
+    ghost has = { λ of c. IsNewAsset c };
 
     ghost columns = { 3 };
 
@@ -151,9 +151,10 @@ impl Filled<Edits> for Change {
 /// Puts the rows of the assets of eight entries.
 fn put_assets<S: Alter>(tx: &mut Transaction<'_, S>, entries: &[Change]) -> Result<(), Error>
     requires eight { length entries.now ≡ 8 }
-    requires there { AllByRecursion IsEntry entries.now }
+    requires there { AllByRecursion IsNewAsset entries.now }
     ensures same_reference { tx.new.conn.ghost_name ≡ tx.old.conn.ghost_name }
-    ensures does { OkDoes result (state S.Store tx.old.conn.now) (state S.Store tx.new.conn.now) (Makes (with_assets_of entries.now)) }
+    ensures does { OkDoes result (state S.Store tx.old.conn.now) (state S.Store tx.new.conn.now)
+        (Makes (with_assets_of entries.now)) }
     ensures survives { LeavesStore (state S.Store tx.old.conn.now) (state S.Store tx.new.conn.now) }
 {
     let mut cells = [ValueRef::Null; 32];
@@ -168,9 +169,10 @@ fn put_assets<S: Alter>(tx: &mut Transaction<'_, S>, entries: &[Change]) -> Resu
 /// Puts the rows that tell which edits entered them.
 fn put_origins<S: Alter>(tx: &mut Transaction<'_, S>, entries: &[Change]) -> Result<(), Error>
     requires eight { length entries.now ≡ 8 }
-    requires there { AllByRecursion IsEntry entries.now }
+    requires there { AllByRecursion IsNewAsset entries.now }
     ensures same_reference { tx.new.conn.ghost_name ≡ tx.old.conn.ghost_name }
-    ensures does { OkDoes result (state S.Store tx.old.conn.now) (state S.Store tx.new.conn.now) (Makes (with_origins_of entries.now)) }
+    ensures does { OkDoes result (state S.Store tx.old.conn.now) (state S.Store tx.new.conn.now)
+        (Makes (with_origins_of entries.now)) }
     ensures survives { LeavesStore (state S.Store tx.old.conn.now) (state S.Store tx.new.conn.now) }
 {
     let mut cells = [ValueRef::Null; 16];
@@ -185,9 +187,10 @@ fn put_origins<S: Alter>(tx: &mut Transaction<'_, S>, entries: &[Change]) -> Res
 /// Puts the rows of their spans.
 fn put_spans<S: Alter>(tx: &mut Transaction<'_, S>, entries: &[Change]) -> Result<(), Error>
     requires eight { length entries.now ≡ 8 }
-    requires there { AllByRecursion IsEntry entries.now }
+    requires there { AllByRecursion IsNewAsset entries.now }
     ensures same_reference { tx.new.conn.ghost_name ≡ tx.old.conn.ghost_name }
-    ensures does { OkDoes result (state S.Store tx.old.conn.now) (state S.Store tx.new.conn.now) (Makes (with_spans_of entries.now)) }
+    ensures does { OkDoes result (state S.Store tx.old.conn.now) (state S.Store tx.new.conn.now)
+        (Makes (with_spans_of entries.now)) }
     ensures survives { LeavesStore (state S.Store tx.old.conn.now) (state S.Store tx.new.conn.now) }
 {
     let mut cells = [ValueRef::Null; 40];
@@ -202,9 +205,10 @@ fn put_spans<S: Alter>(tx: &mut Transaction<'_, S>, entries: &[Change]) -> Resul
 /// Puts the rows of the first parts of eight entries.
 fn put_first_parts<S: Alter>(tx: &mut Transaction<'_, S>, entries: &[Change]) -> Result<(), Error>
     requires eight { length entries.now ≡ 8 }
-    requires there { AllByRecursion IsEntry entries.now }
+    requires there { AllByRecursion IsNewAsset entries.now }
     ensures same_reference { tx.new.conn.ghost_name ≡ tx.old.conn.ghost_name }
-    ensures does { OkDoes result (state S.Store tx.old.conn.now) (state S.Store tx.new.conn.now) (Makes (with_firsts_of entries.now)) }
+    ensures does { OkDoes result (state S.Store tx.old.conn.now) (state S.Store tx.new.conn.now)
+        (Makes (with_firsts_of entries.now)) }
     ensures survives { LeavesStore (state S.Store tx.old.conn.now) (state S.Store tx.new.conn.now) }
 {
     let mut cells = [ValueRef::Null; 48];
@@ -221,7 +225,8 @@ fn put_second_parts<S: Alter>(tx: &mut Transaction<'_, S>, entries: &[Change]) -
     requires eight { length entries.now ≡ 8 }
     requires there { AllByRecursion HasTwoParts entries.now }
     ensures same_reference { tx.new.conn.ghost_name ≡ tx.old.conn.ghost_name }
-    ensures does { OkDoes result (state S.Store tx.old.conn.now) (state S.Store tx.new.conn.now) (Makes (with_others_of entries.now)) }
+    ensures does { OkDoes result (state S.Store tx.old.conn.now) (state S.Store tx.new.conn.now)
+        (Makes (with_others_of entries.now)) }
     ensures survives { LeavesStore (state S.Store tx.old.conn.now) (state S.Store tx.new.conn.now) }
 {
     let mut cells = [ValueRef::Null; 48];
@@ -238,9 +243,10 @@ fn put_others_in_turn<S: Alter>(
     tx: &mut Transaction<'_, S>,
     entries: &[Change],
 ) -> Result<(), Error>
-    requires there { AllByRecursion IsEntry entries.now }
+    requires there { AllByRecursion IsNewAsset entries.now }
     ensures same_reference { tx.new.conn.ghost_name ≡ tx.old.conn.ghost_name }
-    ensures does { OkDoes result (state S.Store tx.old.conn.now) (state S.Store tx.new.conn.now) (Makes (with_others_of entries.now)) }
+    ensures does { OkDoes result (state S.Store tx.old.conn.now) (state S.Store tx.new.conn.now)
+        (Makes (with_others_of entries.now)) }
     ensures survives { LeavesStore (state S.Store tx.old.conn.now) (state S.Store tx.new.conn.now) }
 {
     for i in 0..entries.len() {
@@ -253,9 +259,10 @@ fn put_others_in_turn<S: Alter>(
 /// Puts the rows of the parts of eight entries after the first: by one statement, if each has two parts.
 fn put_other_parts<S: Alter>(tx: &mut Transaction<'_, S>, entries: &[Change]) -> Result<(), Error>
     requires eight { length entries.now ≡ 8 }
-    requires there { AllByRecursion IsEntry entries.now }
+    requires there { AllByRecursion IsNewAsset entries.now }
     ensures same_reference { tx.new.conn.ghost_name ≡ tx.old.conn.ghost_name }
-    ensures does { OkDoes result (state S.Store tx.old.conn.now) (state S.Store tx.new.conn.now) (Makes (with_others_of entries.now)) }
+    ensures does { OkDoes result (state S.Store tx.old.conn.now) (state S.Store tx.new.conn.now)
+        (Makes (with_others_of entries.now)) }
     ensures survives { LeavesStore (state S.Store tx.old.conn.now) (state S.Store tx.new.conn.now) }
 {
     if have_two_parts(entries) {
@@ -268,9 +275,10 @@ fn put_other_parts<S: Alter>(tx: &mut Transaction<'_, S>, entries: &[Change]) ->
 /// Puts the rows of the parts of eight entries.
 fn put_parts<S: Alter>(tx: &mut Transaction<'_, S>, entries: &[Change]) -> Result<(), Error>
     requires eight { length entries.now ≡ 8 }
-    requires there { AllByRecursion IsEntry entries.now }
+    requires there { AllByRecursion IsNewAsset entries.now }
     ensures same_reference { tx.new.conn.ghost_name ≡ tx.old.conn.ghost_name }
-    ensures does { OkDoes result (state S.Store tx.old.conn.now) (state S.Store tx.new.conn.now) (Makes (with_parts_of entries.now)) }
+    ensures does { OkDoes result (state S.Store tx.old.conn.now) (state S.Store tx.new.conn.now)
+        (Makes (with_parts_of entries.now)) }
     ensures survives { LeavesStore (state S.Store tx.old.conn.now) (state S.Store tx.new.conn.now) }
 {
     put_first_parts(tx, entries)?;
@@ -281,11 +289,14 @@ fn put_parts<S: Alter>(tx: &mut Transaction<'_, S>, entries: &[Change]) -> Resul
 /// Puts the rows of the edits of eight entries. The first has this number, each next one more.
 fn put_edits<S: Alter>(tx: &mut Transaction<'_, S>, n: u64, entries: &[Change]) -> Result<(), Error>
     requires eight { length entries.now ≡ 8 }
-    requires there { AllByRecursion IsEntry entries.now }
+    requires there { AllByRecursion IsNewAsset entries.now }
     requires fits { n + 8 < 2 ^ 64 }
     ensures same_reference { tx.new.conn.ghost_name ≡ tx.old.conn.ghost_name }
-    ensures does { OkDoes result (state S.Store tx.old.conn.now) (state S.Store tx.new.conn.now) (Makes (with_edits_of n entries.now)) }
-    ensures is_open { HasCleanDisk (state S.Store tx.new.conn.now) → IsWriting (state S.Store tx.old.conn.now) → OnOk result (IsTrue (state S.Store tx.old.conn.now).is_open) }
+    ensures does { OkDoes result (state S.Store tx.old.conn.now) (state S.Store tx.new.conn.now)
+        (Makes (with_edits_of n entries.now)) }
+    ensures is_open { HasCleanDisk (state S.Store tx.new.conn.now)
+        → IsWriting (state S.Store tx.old.conn.now)
+        → OnOk result (IsTrue (state S.Store tx.old.conn.now).is_open) }
     ensures survives { LeavesStore (state S.Store tx.old.conn.now) (state S.Store tx.new.conn.now) }
 {
     let mut cells = [ValueRef::Null; 24];
@@ -298,18 +309,21 @@ fn put_edits<S: Alter>(tx: &mut Transaction<'_, S>, n: u64, entries: &[Change]) 
 }
 
 /// Puts the rows of eight entries. Assets come first, since their origins and spans refer to them. The edit of the first
-/// entry has this number, each next one more.
-pub fn put_entries<S: Alter>(
+/// route_row has this number, each next one more.
+pub fn insert_new_assets<S: Alter>(
     tx: &mut Transaction<'_, S>,
     n: u64,
     entries: &[Change],
 ) -> Result<(), Error>
     requires eight { length entries.now ≡ 8 }
-    requires entries { AllByRecursion IsEntry entries.now }
+    requires entries { AllByRecursion IsNewAsset entries.now }
     requires fits { n + 8 < 2 ^ 64 }
     ensures same_reference { tx.new.conn.ghost_name ≡ tx.old.conn.ghost_name }
-    ensures does { OkDoes result (state S.Store tx.old.conn.now) (state S.Store tx.new.conn.now) (Makes (with_entries n entries.now)) }
-    ensures is_open { HasCleanDisk (state S.Store tx.new.conn.now) → IsWriting (state S.Store tx.old.conn.now) → OnOk result (IsTrue (state S.Store tx.old.conn.now).is_open) }
+    ensures does { OkDoes result (state S.Store tx.old.conn.now) (state S.Store tx.new.conn.now)
+        (Makes (with_new_assets n entries.now)) }
+    ensures is_open { HasCleanDisk (state S.Store tx.new.conn.now)
+        → IsWriting (state S.Store tx.old.conn.now)
+        → OnOk result (IsTrue (state S.Store tx.old.conn.now).is_open) }
     ensures survives { LeavesStore (state S.Store tx.old.conn.now) (state S.Store tx.new.conn.now) }
 {
     put_assets(tx, entries)?;

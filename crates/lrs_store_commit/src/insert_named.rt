@@ -15,7 +15,8 @@ use sqlite::{Alter, Error, Transaction};
 /// Puts the row of a link that comes.
 fn put_some_link<S: Alter>(tx: &mut Transaction<'_, S>, link: &Option<Link>) -> Result<(), Error>
     ensures same_reference { tx.new.conn.ghost_name ≡ tx.old.conn.ghost_name }
-    ensures does { OkDoes result (state S.Store tx.old.conn.now) (state S.Store tx.new.conn.now) (Makes (with_some with_link link.now)) }
+    ensures does { OkDoes result (state S.Store tx.old.conn.now) (state S.Store tx.new.conn.now)
+        (Makes (with_some with_link link.now)) }
     ensures survives { LeavesStore (state S.Store tx.old.conn.now) (state S.Store tx.new.conn.now) }
 {
     match link {
@@ -27,7 +28,8 @@ fn put_some_link<S: Alter>(tx: &mut Transaction<'_, S>, link: &Option<Link>) -> 
 /// Puts the row of a class that comes.
 fn put_some_class<S: Alter>(tx: &mut Transaction<'_, S>, class: &Option<Class>) -> Result<(), Error>
     ensures same_reference { tx.new.conn.ghost_name ≡ tx.old.conn.ghost_name }
-    ensures does { OkDoes result (state S.Store tx.old.conn.now) (state S.Store tx.new.conn.now) (Makes (with_some with_class class.now)) }
+    ensures does { OkDoes result (state S.Store tx.old.conn.now) (state S.Store tx.new.conn.now)
+        (Makes (with_some with_class class.now)) }
     ensures survives { LeavesStore (state S.Store tx.old.conn.now) (state S.Store tx.new.conn.now) }
 {
     match class {
@@ -39,7 +41,8 @@ fn put_some_class<S: Alter>(tx: &mut Transaction<'_, S>, class: &Option<Class>) 
 /// Puts the rows of an asset: itself, and the edit that entered it.
 fn put_entered_asset<S: Alter>(tx: &mut Transaction<'_, S>, asset: &Asset) -> Result<(), Error>
     ensures same_reference { tx.new.conn.ghost_name ≡ tx.old.conn.ghost_name }
-    ensures does { OkDoes result (state S.Store tx.old.conn.now) (state S.Store tx.new.conn.now) (Makes (with_asset asset.now)) }
+    ensures does { OkDoes result (state S.Store tx.old.conn.now) (state S.Store tx.new.conn.now)
+        (Makes (with_asset asset.now)) }
     ensures survives { LeavesStore (state S.Store tx.old.conn.now) (state S.Store tx.new.conn.now) }
 {
     put_asset(tx, asset)?;
@@ -50,7 +53,8 @@ fn put_entered_asset<S: Alter>(tx: &mut Transaction<'_, S>, asset: &Asset) -> Re
 /// Puts the rows of an asset that comes.
 fn put_some_asset<S: Alter>(tx: &mut Transaction<'_, S>, asset: &Option<Asset>) -> Result<(), Error>
     ensures same_reference { tx.new.conn.ghost_name ≡ tx.old.conn.ghost_name }
-    ensures does { OkDoes result (state S.Store tx.old.conn.now) (state S.Store tx.new.conn.now) (Makes (with_some with_asset asset.now)) }
+    ensures does { OkDoes result (state S.Store tx.old.conn.now) (state S.Store tx.new.conn.now)
+        (Makes (with_some with_asset asset.now)) }
     ensures survives { LeavesStore (state S.Store tx.old.conn.now) (state S.Store tx.new.conn.now) }
 {
     match asset {
@@ -65,7 +69,8 @@ pub fn put_named<S: Alter>(
     difference: &Difference,
 ) -> Result<(), Error>
     ensures same_reference { tx.new.conn.ghost_name ≡ tx.old.conn.ghost_name }
-    ensures does { OkDoes result (state S.Store tx.old.conn.now) (state S.Store tx.new.conn.now) (Makes (with_named difference.now)) }
+    ensures does { OkDoes result (state S.Store tx.old.conn.now) (state S.Store tx.new.conn.now)
+        (Makes (with_named difference.now)) }
     ensures survives { LeavesStore (state S.Store tx.old.conn.now) (state S.Store tx.new.conn.now) }
 {
     put_some_link(tx, &difference.link)?;

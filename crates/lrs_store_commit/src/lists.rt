@@ -18,7 +18,8 @@ pub trait Written<C> {
     /// Writes the row of the value, which has this number in its list.
     fn write<S: Alter>(&self, tx: &mut Transaction<'_, S>, of: &C, n: u64) -> Result<(), Error>
         ensures same_reference { tx.new.conn.ghost_name ≡ tx.old.conn.ghost_name }
-        ensures does { OkDoes result (state S.Store tx.old.conn.now) (state S.Store tx.new.conn.now) (Makes (all of.now n (self.now ∷ []))) }
+        ensures does { OkDoes result (state S.Store tx.old.conn.now) (state S.Store tx.new.conn.now)
+            (Makes (all of.now n (self.now ∷ []))) }
         ensures survives { LeavesStore (state S.Store tx.old.conn.now) (state S.Store tx.new.conn.now) };
 
     // No value changes nothing, and one more value makes its change of what the others made.
@@ -34,7 +35,8 @@ pub fn write_all<C, R: Written<C>, S: Alter>(
     rows: &[R],
 ) -> Result<(), Error>
     ensures same_reference { tx.new.conn.ghost_name ≡ tx.old.conn.ghost_name }
-    ensures does { OkDoes result (state S.Store tx.old.conn.now) (state S.Store tx.new.conn.now) (Makes (R.all of.now 0 rows.now)) }
+    ensures does { OkDoes result (state S.Store tx.old.conn.now) (state S.Store tx.new.conn.now)
+        (Makes (R.all of.now 0 rows.now)) }
     ensures survives { LeavesStore (state S.Store tx.old.conn.now) (state S.Store tx.new.conn.now) }
 {
     for i in 0..rows.len() {

@@ -40,7 +40,8 @@ impl Written<Origins> for Asset {
 /// Puts the rows that tell which edits entered these assets.
 fn put_origins<S: Alter>(tx: &mut Transaction<'_, S>, assets: &[Asset]) -> Result<(), Error>
     ensures same_reference { tx.new.conn.ghost_name ≡ tx.old.conn.ghost_name }
-    ensures does { OkDoes result (state S.Store tx.old.conn.now) (state S.Store tx.new.conn.now) (Makes (with_origins assets.now)) }
+    ensures does { OkDoes result (state S.Store tx.old.conn.now) (state S.Store tx.new.conn.now)
+        (Makes (with_origins assets.now)) }
     ensures survives { LeavesStore (state S.Store tx.old.conn.now) (state S.Store tx.new.conn.now) }
 {
     write_all(tx, &Origins, assets)?;
@@ -50,8 +51,11 @@ fn put_origins<S: Alter>(tx: &mut Transaction<'_, S>, assets: &[Asset]) -> Resul
 /// All rows go that tell which edits entered assets.
 fn clear_origins<S: Alter>(tx: &mut Transaction<'_, S>) -> Result<(), Error>
     ensures same_reference { tx.new.conn.ghost_name ≡ tx.old.conn.ghost_name }
-    ensures does { OkDoes result (state S.Store tx.old.conn.now) (state S.Store tx.new.conn.now) (Makes without_origins) }
-    ensures is_open { HasCleanDisk (state S.Store tx.new.conn.now) → IsWriting (state S.Store tx.old.conn.now) → OnOk result (IsTrue (state S.Store tx.old.conn.now).is_open) }
+    ensures does { OkDoes result (state S.Store tx.old.conn.now) (state S.Store tx.new.conn.now)
+        (Makes without_origins) }
+    ensures is_open { HasCleanDisk (state S.Store tx.new.conn.now)
+        → IsWriting (state S.Store tx.old.conn.now)
+        → OnOk result (IsTrue (state S.Store tx.old.conn.now).is_open) }
     ensures survives { LeavesStore (state S.Store tx.old.conn.now) (state S.Store tx.new.conn.now) }
 {
     tx.execute("DELETE FROM origin", &[])?;
@@ -61,7 +65,8 @@ fn clear_origins<S: Alter>(tx: &mut Transaction<'_, S>) -> Result<(), Error>
 /// The row of the version goes.
 fn clear_version<S: Alter>(tx: &mut Transaction<'_, S>) -> Result<(), Error>
     ensures same_reference { tx.new.conn.ghost_name ≡ tx.old.conn.ghost_name }
-    ensures does { OkDoes result (state S.Store tx.old.conn.now) (state S.Store tx.new.conn.now) (Makes without_version) }
+    ensures does { OkDoes result (state S.Store tx.old.conn.now) (state S.Store tx.new.conn.now)
+        (Makes without_version) }
     ensures survives { LeavesStore (state S.Store tx.old.conn.now) (state S.Store tx.new.conn.now) }
 {
     tx.execute("DELETE FROM version", &[])?;
@@ -71,7 +76,8 @@ fn clear_version<S: Alter>(tx: &mut Transaction<'_, S>) -> Result<(), Error>
 /// Writes the rows of version 2 over those of version 1.
 fn write_second<S: Alter>(tx: &mut Transaction<'_, S>, assets: &[Asset]) -> Result<(), Error>
     ensures same_reference { tx.new.conn.ghost_name ≡ tx.old.conn.ghost_name }
-    ensures does { OkDoes result (state S.Store tx.old.conn.now) (state S.Store tx.new.conn.now) (BringsUp assets.now) }
+    ensures does { OkDoes result (state S.Store tx.old.conn.now) (state S.Store tx.new.conn.now)
+        (BringsUp assets.now) }
     ensures survives { LeavesStore (state S.Store tx.old.conn.now) (state S.Store tx.new.conn.now) }
 {
     clear_origins(tx)?;
@@ -90,10 +96,16 @@ pub fn bring_up<S: Alter>(conn: &mut Connection<S>, assets: &[Asset]) -> Result<
     requires autocommit { conn.old.in_transaction ≡ false }
     requires ready { IsReady (state S.Store conn.old) }
     ensures autocommit { conn.new.in_transaction ≡ false }
-    ensures brought_up { HasCleanDisk (state S.Store conn.new) → OnOk result (AreSame (brought_up assets.now (stored (state S.Store conn.old).now.trees)) (stored (state S.Store conn.new).committed.trees)) }
-    ensures is_open { HasCleanDisk (state S.Store conn.new) → OnOk result (IsTrue (state S.Store conn.old).is_open × IsTrue (state S.Store conn.new).is_open) }
+    ensures brought_up { HasCleanDisk (state S.Store conn.new)
+        → OnOk result (AreSame (brought_up assets.now (stored (state S.Store conn.old).now.trees))
+        (stored (state S.Store conn.new).committed.trees)) }
+    ensures is_open { HasCleanDisk (state S.Store conn.new)
+        → OnOk result (IsTrue (state S.Store conn.old).is_open
+        × IsTrue (state S.Store conn.new).is_open) }
     ensures ready { OnOk result (IsReady (state S.Store conn.new)) }
-    ensures crash { Survives (state S.Store conn.old) (state S.Store conn.new) (λ db. IsTrue (state S.Store conn.old).is_open × AreSame (brought_up assets.now (stored (state S.Store conn.old).now.trees)) (stored db)) }
+    ensures crash { Survives (state S.Store conn.old) (state S.Store conn.new) (λ db.
+        IsTrue (state S.Store conn.old).is_open × AreSame
+        (brought_up assets.now (stored (state S.Store conn.old).now.trees)) (stored db)) }
 {
     let mut tx = conn.transaction();
     write_second(&mut tx, assets)?;

@@ -2,7 +2,7 @@
 
 ghost use Rattle.std.specs.Prelude.{◌≡◌, None, Some, [], length, IsTrue};
 ghost use Rattle.std.specs.List.{AllByRecursion};
-ghost use Rattle.lrs_store_commit.specs.NewAssets.{IsEntry, BringsOneSpan, BringsOneAsset, HasTwoParts};
+ghost use Rattle.lrs_store_commit.specs.NewAssets.{IsNewAsset, BringsOneSpan, BringsOneAsset, HasTwoParts};
 
 use lrs_image::{Change, Difference, RouteChange};
 
@@ -41,9 +41,9 @@ fn brings_one_asset(difference: &Difference) -> bool
     }
 }
 
-/// Whether the change is an entry.
-fn is_entry(change: &Change) -> bool
-    ensures { IsTrue result → IsEntry change.now }
+/// Whether the change is an route_row.
+fn is_new_asset(change: &Change) -> bool
+    ensures { IsTrue result → IsNewAsset change.now }
 {
     let difference = &change.difference;
     if difference.entered.is_empty() {
@@ -56,11 +56,11 @@ fn is_entry(change: &Change) -> bool
 }
 
 /// Whether all are entries.
-pub fn are_entries(changes: &[Change]) -> bool
-    ensures { IsTrue result → AllByRecursion IsEntry changes.now }
+pub fn are_new_assets(changes: &[Change]) -> bool
+    ensures { IsTrue result → AllByRecursion IsNewAsset changes.now }
 {
     for i in 0..changes.len() {
-        if !is_entry(&changes[i]) {
+        if !is_new_asset(&changes[i]) {
             return false;
         }
     }

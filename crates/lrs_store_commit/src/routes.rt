@@ -13,7 +13,7 @@ use crate::update::{rename_marks, rename_pieces, rename_refs, rename_spans};
 use lrs_element::{Course, Marks};
 use lrs_events::Span;
 use lrs_image::{ReferentChange, RouteChange};
-use lrs_machine::RouteEntry;
+use lrs_machine::RouteRow;
 use lrs_measure::Rows;
 use lrs_position::{RefName, Referent, RouteName};
 use sqlite::{Alter, Error, Transaction};
@@ -25,7 +25,8 @@ fn put_pieces<S: Alter>(
     course: &Course,
 ) -> Result<(), Error>
     ensures same_reference { tx.new.conn.ghost_name ≡ tx.old.conn.ghost_name }
-    ensures does { OkDoes result (state S.Store tx.old.conn.now) (state S.Store tx.new.conn.now) (MakesOf (Some course.now) (with_some (with_pieces route.now 0))) }
+    ensures does { OkDoes result (state S.Store tx.old.conn.now) (state S.Store tx.new.conn.now)
+        (MakesOf (Some course.now) (with_some (with_pieces route.now 0))) }
     ensures survives { LeavesStore (state S.Store tx.old.conn.now) (state S.Store tx.new.conn.now) }
 {
     let of = Coming { route: *route };
@@ -40,7 +41,8 @@ fn put_marks<S: Alter>(
     marks: &Marks,
 ) -> Result<(), Error>
     ensures same_reference { tx.new.conn.ghost_name ≡ tx.old.conn.ghost_name }
-    ensures does { OkDoes result (state S.Store tx.old.conn.now) (state S.Store tx.new.conn.now) (Makes (with_marks route.now 0 marks.now)) }
+    ensures does { OkDoes result (state S.Store tx.old.conn.now) (state S.Store tx.new.conn.now)
+        (Makes (with_marks route.now 0 marks.now)) }
     ensures survives { LeavesStore (state S.Store tx.old.conn.now) (state S.Store tx.new.conn.now) }
 {
     let of = Coming { route: *route };
@@ -55,7 +57,8 @@ fn put_refs<S: Alter>(
     refs: &Rows<Referent>,
 ) -> Result<(), Error>
     ensures same_reference { tx.new.conn.ghost_name ≡ tx.old.conn.ghost_name }
-    ensures does { OkDoes result (state S.Store tx.old.conn.now) (state S.Store tx.new.conn.now) (Makes (with_refs route.now refs.now)) }
+    ensures does { OkDoes result (state S.Store tx.old.conn.now) (state S.Store tx.new.conn.now)
+        (Makes (with_refs route.now refs.now)) }
     ensures survives { LeavesStore (state S.Store tx.old.conn.now) (state S.Store tx.new.conn.now) }
 {
     let of = Coming { route: *route };
@@ -70,7 +73,8 @@ fn put_spans<S: Alter>(
     spans: &[Span],
 ) -> Result<(), Error>
     ensures same_reference { tx.new.conn.ghost_name ≡ tx.old.conn.ghost_name }
-    ensures does { OkDoes result (state S.Store tx.old.conn.now) (state S.Store tx.new.conn.now) (Makes (with_spans route.now spans.now)) }
+    ensures does { OkDoes result (state S.Store tx.old.conn.now) (state S.Store tx.new.conn.now)
+        (Makes (with_spans route.now spans.now)) }
     ensures survives { LeavesStore (state S.Store tx.old.conn.now) (state S.Store tx.new.conn.now) }
 {
     let of = Coming { route: *route };
@@ -85,7 +89,8 @@ fn take_refs<S: Alter>(
     names: &Rows<RefName>,
 ) -> Result<(), Error>
     ensures same_reference { tx.new.conn.ghost_name ≡ tx.old.conn.ghost_name }
-    ensures does { OkDoes result (state S.Store tx.old.conn.now) (state S.Store tx.new.conn.now) (Makes (less_refs names.now)) }
+    ensures does { OkDoes result (state S.Store tx.old.conn.now) (state S.Store tx.new.conn.now)
+        (Makes (less_refs names.now)) }
     ensures survives { LeavesStore (state S.Store tx.old.conn.now) (state S.Store tx.new.conn.now) }
 {
     let of = Going { route: *route };
@@ -100,7 +105,8 @@ fn take_spans<S: Alter>(
     spans: &Rows<Span>,
 ) -> Result<(), Error>
     ensures same_reference { tx.new.conn.ghost_name ≡ tx.old.conn.ghost_name }
-    ensures does { OkDoes result (state S.Store tx.old.conn.now) (state S.Store tx.new.conn.now) (Makes (less_spans route.now spans.now)) }
+    ensures does { OkDoes result (state S.Store tx.old.conn.now) (state S.Store tx.new.conn.now)
+        (Makes (less_spans route.now spans.now)) }
     ensures survives { LeavesStore (state S.Store tx.old.conn.now) (state S.Store tx.new.conn.now) }
 {
     let of = Going { route: *route };
@@ -115,7 +121,8 @@ fn put_new_pieces<S: Alter>(
     course: &Course,
 ) -> Result<(), Error>
     ensures same_reference { tx.new.conn.ghost_name ≡ tx.old.conn.ghost_name }
-    ensures does { OkDoes result (state S.Store tx.old.conn.now) (state S.Store tx.new.conn.now) (MakesOf (Some course.now) (with_some (new_pieces route.now))) }
+    ensures does { OkDoes result (state S.Store tx.old.conn.now) (state S.Store tx.new.conn.now)
+        (MakesOf (Some course.now) (with_some (new_pieces route.now))) }
     ensures survives { LeavesStore (state S.Store tx.old.conn.now) (state S.Store tx.new.conn.now) }
 {
     drop_pieces(tx, route)?;
@@ -130,7 +137,8 @@ fn replace_pieces<S: Alter>(
     course: &Option<Course>,
 ) -> Result<(), Error>
     ensures same_reference { tx.new.conn.ghost_name ≡ tx.old.conn.ghost_name }
-    ensures does { OkDoes result (state S.Store tx.old.conn.now) (state S.Store tx.new.conn.now) (MakesOf course.now (with_some (new_pieces route.now))) }
+    ensures does { OkDoes result (state S.Store tx.old.conn.now) (state S.Store tx.new.conn.now)
+        (MakesOf course.now (with_some (new_pieces route.now))) }
     ensures survives { LeavesStore (state S.Store tx.old.conn.now) (state S.Store tx.new.conn.now) }
 {
     match course {
@@ -146,7 +154,8 @@ fn put_new_marks<S: Alter>(
     marks: &Marks,
 ) -> Result<(), Error>
     ensures same_reference { tx.new.conn.ghost_name ≡ tx.old.conn.ghost_name }
-    ensures does { OkDoes result (state S.Store tx.old.conn.now) (state S.Store tx.new.conn.now) (Makes (new_marks route.now marks.now)) }
+    ensures does { OkDoes result (state S.Store tx.old.conn.now) (state S.Store tx.new.conn.now)
+        (Makes (new_marks route.now marks.now)) }
     ensures survives { LeavesStore (state S.Store tx.old.conn.now) (state S.Store tx.new.conn.now) }
 {
     drop_marks(tx, route)?;
@@ -161,7 +170,8 @@ fn replace_marks<S: Alter>(
     marks: &Option<Marks>,
 ) -> Result<(), Error>
     ensures same_reference { tx.new.conn.ghost_name ≡ tx.old.conn.ghost_name }
-    ensures does { OkDoes result (state S.Store tx.old.conn.now) (state S.Store tx.new.conn.now) (Makes (with_some (new_marks route.now) marks.now)) }
+    ensures does { OkDoes result (state S.Store tx.old.conn.now) (state S.Store tx.new.conn.now)
+        (Makes (with_some (new_marks route.now) marks.now)) }
     ensures survives { LeavesStore (state S.Store tx.old.conn.now) (state S.Store tx.new.conn.now) }
 {
     match marks {
@@ -177,7 +187,8 @@ fn change_refs<S: Alter>(
     refs: &ReferentChange,
 ) -> Result<(), Error>
     ensures same_reference { tx.new.conn.ghost_name ≡ tx.old.conn.ghost_name }
-    ensures does { OkDoes result (state S.Store tx.old.conn.now) (state S.Store tx.new.conn.now) (Makes (changed_refs route.now refs.now)) }
+    ensures does { OkDoes result (state S.Store tx.old.conn.now) (state S.Store tx.new.conn.now)
+        (Makes (changed_refs route.now refs.now)) }
     ensures survives { LeavesStore (state S.Store tx.old.conn.now) (state S.Store tx.new.conn.now) }
 {
     take_refs(tx, route, &refs.gone)?;
@@ -188,7 +199,8 @@ fn change_refs<S: Alter>(
 /// Deletes the spans that go, and puts those that come.
 fn change_spans<S: Alter>(tx: &mut Transaction<'_, S>, change: &RouteChange) -> Result<(), Error>
     ensures same_reference { tx.new.conn.ghost_name ≡ tx.old.conn.ghost_name }
-    ensures does { OkDoes result (state S.Store tx.old.conn.now) (state S.Store tx.new.conn.now) (Makes (changed_spans change.now)) }
+    ensures does { OkDoes result (state S.Store tx.old.conn.now) (state S.Store tx.new.conn.now)
+        (Makes (changed_spans change.now)) }
     ensures survives { LeavesStore (state S.Store tx.old.conn.now) (state S.Store tx.new.conn.now) }
 {
     take_spans(tx, &change.route, &change.spans_gone)?;
@@ -203,7 +215,8 @@ fn rename_route<S: Alter>(
     name: &RouteName,
 ) -> Result<(), Error>
     ensures same_reference { tx.new.conn.ghost_name ≡ tx.old.conn.ghost_name }
-    ensures does { OkDoes result (state S.Store tx.old.conn.now) (state S.Store tx.new.conn.now) (Makes (renamed_route route.now name.now)) }
+    ensures does { OkDoes result (state S.Store tx.old.conn.now) (state S.Store tx.new.conn.now)
+        (Makes (renamed_route route.now name.now)) }
     ensures survives { LeavesStore (state S.Store tx.old.conn.now) (state S.Store tx.new.conn.now) }
 {
     rename_pieces(tx, route, name)?;
@@ -220,7 +233,8 @@ fn rename_if_new<S: Alter>(
     name: &RouteName,
 ) -> Result<(), Error>
     ensures same_reference { tx.new.conn.ghost_name ≡ tx.old.conn.ghost_name }
-    ensures does { OkDoes result (state S.Store tx.old.conn.now) (state S.Store tx.new.conn.now) (Makes (renamed_route route.now name.now)) }
+    ensures does { OkDoes result (state S.Store tx.old.conn.now) (state S.Store tx.new.conn.now)
+        (Makes (renamed_route route.now name.now)) }
     ensures survives { LeavesStore (state S.Store tx.old.conn.now) (state S.Store tx.new.conn.now) }
 {
     if route == name {
@@ -233,7 +247,8 @@ fn rename_if_new<S: Alter>(
 /// Puts other pieces and marks of a route, where they change.
 fn change_line<S: Alter>(tx: &mut Transaction<'_, S>, change: &RouteChange) -> Result<(), Error>
     ensures same_reference { tx.new.conn.ghost_name ≡ tx.old.conn.ghost_name }
-    ensures does { OkDoes result (state S.Store tx.old.conn.now) (state S.Store tx.new.conn.now) (MakesOf change.now.course (changed_line change.now)) }
+    ensures does { OkDoes result (state S.Store tx.old.conn.now) (state S.Store tx.new.conn.now)
+        (MakesOf change.now.course (changed_line change.now)) }
     ensures survives { LeavesStore (state S.Store tx.old.conn.now) (state S.Store tx.new.conn.now) }
 {
     replace_pieces(tx, &change.route, &change.course)?;
@@ -247,7 +262,8 @@ pub fn change_route<S: Alter>(
     change: &RouteChange,
 ) -> Result<(), Error>
     ensures same_reference { tx.new.conn.ghost_name ≡ tx.old.conn.ghost_name }
-    ensures does { OkDoes result (state S.Store tx.old.conn.now) (state S.Store tx.new.conn.now) (MakesOf change.now.course (changed_route change.now)) }
+    ensures does { OkDoes result (state S.Store tx.old.conn.now) (state S.Store tx.new.conn.now)
+        (MakesOf change.now.course (changed_route change.now)) }
     ensures survives { LeavesStore (state S.Store tx.old.conn.now) (state S.Store tx.new.conn.now) }
 {
     change_line(tx, change)?;
@@ -260,7 +276,8 @@ pub fn change_route<S: Alter>(
 /// A route goes, with what lies on it.
 pub fn drop_route<S: Alter>(tx: &mut Transaction<'_, S>, route: &RouteName) -> Result<(), Error>
     ensures same_reference { tx.new.conn.ghost_name ≡ tx.old.conn.ghost_name }
-    ensures does { OkDoes result (state S.Store tx.old.conn.now) (state S.Store tx.new.conn.now) (Makes (without_route route.now)) }
+    ensures does { OkDoes result (state S.Store tx.old.conn.now) (state S.Store tx.new.conn.now)
+        (Makes (without_route route.now)) }
     ensures survives { LeavesStore (state S.Store tx.old.conn.now) (state S.Store tx.new.conn.now) }
 {
     drop_pieces(tx, route)?;
@@ -271,15 +288,16 @@ pub fn drop_route<S: Alter>(tx: &mut Transaction<'_, S>, route: &RouteName) -> R
 }
 
 /// A route comes, with what lies on it.
-pub fn put_route<S: Alter>(tx: &mut Transaction<'_, S>, entry: &RouteEntry) -> Result<(), Error>
+pub fn put_route<S: Alter>(tx: &mut Transaction<'_, S>, route_row: &RouteRow) -> Result<(), Error>
     ensures same_reference { tx.new.conn.ghost_name ≡ tx.old.conn.ghost_name }
-    ensures does { OkDoes result (state S.Store tx.old.conn.now) (state S.Store tx.new.conn.now) (MakesOf (Some entry.now.route.course) (new_route entry.now)) }
+    ensures does { OkDoes result (state S.Store tx.old.conn.now) (state S.Store tx.new.conn.now)
+        (MakesOf (Some route_row.now.route.course) (new_route route_row.now)) }
     ensures survives { LeavesStore (state S.Store tx.old.conn.now) (state S.Store tx.new.conn.now) }
 {
-    let route = &entry.route;
+    let route = &route_row.route;
     put_pieces(tx, &route.name, &route.course)?;
     put_marks(tx, &route.name, &route.marks)?;
     put_refs(tx, &route.name, &route.refs)?;
-    put_spans(tx, &route.name, entry.spans.rows())?;
+    put_spans(tx, &route.name, route_row.spans.rows())?;
     Ok(())
 }

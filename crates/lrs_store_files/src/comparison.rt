@@ -121,14 +121,17 @@ impl Same for Order {
 
 #[tactic(auto, using(crate::proofs::PlainTables::all_true))]
 fn have_same_uniques(first: &Table, second: &Table) -> bool
-    ensures { IsTrue result ↔ ((first.now.uniques ≡ second.now.uniques) × (first.now.orders ≡ second.now.orders)) }
+    ensures { IsTrue result ↔ ((first.now.uniques ≡ second.now.uniques)
+        × (first.now.orders ≡ second.now.orders)) }
 {
     are_same(first.uniques.as_slice(), second.uniques.as_slice())
         && are_same(first.orders.as_slice(), second.orders.as_slice())
 }
 
 fn have_same_keys(first: &Table, second: &Table) -> bool
-    ensures { IsTrue result ↔ ((first.now.key ≡ second.now.key) × (first.now.primary ≡ second.now.primary) × (first.now.uniques ≡ second.now.uniques) × (first.now.orders ≡ second.now.orders)) }
+    ensures { IsTrue result ↔ ((first.now.key ≡ second.now.key)
+        × (first.now.primary ≡ second.now.primary) × (first.now.uniques ≡ second.now.uniques)
+        × (first.now.orders ≡ second.now.orders)) }
 {
     first.key == second.key
         && first.primary.is_same(&second.primary)
@@ -153,7 +156,9 @@ impl Same for Table {
 
 /// Whether a schema has these tables and indexes, all plain, and no view.
 pub fn has_only(schema: &Schema, tables: &[Table], indexes: &[Index]) -> bool
-    ensures { IsTrue result ↔ ((schema.now ≡ record { tables = tables.now; indexes = indexes.now; views = [] }) × AllByRecursion IsPlainTable tables.now) }
+    ensures { IsTrue result
+        ↔ ((schema.now ≡ record { tables = tables.now; indexes = indexes.now; views = [] })
+        × AllByRecursion IsPlainTable tables.now) }
 {
     are_same(schema.tables.as_slice(), tables)
         && are_same(schema.indexes.as_slice(), indexes)

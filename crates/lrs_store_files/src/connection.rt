@@ -20,7 +20,11 @@ use std::alloc::Global;
 /// Makes the table of origins, without a row.
 fn make_origins<S: Alter>(tx: &mut Transaction<'_, S>) -> Result<(), Error>
     ensures same_reference { tx.new.conn.ghost_name ≡ tx.old.conn.ghost_name }
-    ensures made { HasCleanDisk (state S.Store tx.new.conn.now) → IsTrue (state S.Store tx.old.conn.now).in_transaction → (IsTrue (state S.Store tx.old.conn.now).is_open → (state S.Store tx.old.conn.now).now.schema ≡ up_to_edit) → OnOk result (HasOrigins (state S.Store tx.old.conn.now) (state S.Store tx.new.conn.now)) }
+    ensures made { HasCleanDisk (state S.Store tx.new.conn.now)
+        → IsTrue (state S.Store tx.old.conn.now).in_transaction
+        → (IsTrue (state S.Store tx.old.conn.now).is_open
+        → (state S.Store tx.old.conn.now).now.schema ≡ up_to_edit)
+        → OnOk result (HasOrigins (state S.Store tx.old.conn.now) (state S.Store tx.new.conn.now)) }
     ensures survives { LeavesStore (state S.Store tx.old.conn.now) (state S.Store tx.new.conn.now) }
 {
     tx.execute(
@@ -36,10 +40,13 @@ fn make_origins<S: Alter>(tx: &mut Transaction<'_, S>) -> Result<(), Error>
 /// When the store fails, or memory runs out. The rows are as they were.
 pub fn grow<S: Alter>(conn: &mut Connection<S>) -> Result<(), Error>
     requires autocommit { conn.old.in_transaction ≡ false }
-    requires first { HasCleanDisk (state S.Store conn.old) → IsTrue (state S.Store conn.old).is_open → (state S.Store conn.old).now.schema ≡ up_to_edit }
+    requires first { HasCleanDisk (state S.Store conn.old) → IsTrue (state S.Store conn.old).is_open
+        → (state S.Store conn.old).now.schema ≡ up_to_edit }
     ensures autocommit { conn.new.in_transaction ≡ false }
-    ensures grown { HasCleanDisk (state S.Store conn.new) → OnOk result (IsGrown (state S.Store conn.old) (state S.Store conn.new)) }
-    ensures survives { Survives (state S.Store conn.old) (state S.Store conn.new) (λ db. AreSame (without_origins (stored (state S.Store conn.old).now.trees)) (stored db)) }
+    ensures grown { HasCleanDisk (state S.Store conn.new)
+        → OnOk result (IsGrown (state S.Store conn.old) (state S.Store conn.new)) }
+    ensures survives { Survives (state S.Store conn.old) (state S.Store conn.new) (λ db.
+        AreSame (without_origins (stored (state S.Store conn.old).now.trees)) (stored db)) }
 {
     let mut tx = conn.transaction();
     make_origins(&mut tx)?;
@@ -77,7 +84,8 @@ fn made<S: Alter>(mut conn: Connection<S>) -> Result<Tables<S>, NotTaken<S>>
     requires found { IsFound (state S.Store conn) }
     requires nothing { (state S.Store conn).now.schema ≡ no_schema }
     ensures autocommit { IfOk result (λ t. t.conn.in_transaction ≡ false) }
-    ensures clean { IfOk result (λ t. HasCleanDisk (state S.Store t.conn) → HasCleanDisk (state S.Store conn)) }
+    ensures clean { IfOk result (λ t. HasCleanDisk (state S.Store t.conn)
+        → HasCleanDisk (state S.Store conn)) }
     ensures ready { IfOk result (λ t. IsReady (state S.Store t.conn)) }
     ensures rows { IfOk result (λ t. IsTaken (state S.Store conn) (state S.Store t.conn)) }
     ensures left { IfErr result (λ e. LeavesFound (state S.Store conn) (state S.Store e.1)) }
@@ -93,7 +101,8 @@ fn grown<S: Alter>(mut conn: Connection<S>) -> Result<Tables<S>, NotTaken<S>>
     requires found { IsFound (state S.Store conn) }
     requires first { (state S.Store conn).now.schema ≡ up_to_edit }
     ensures autocommit { IfOk result (λ t. t.conn.in_transaction ≡ false) }
-    ensures clean { IfOk result (λ t. HasCleanDisk (state S.Store t.conn) → HasCleanDisk (state S.Store conn)) }
+    ensures clean { IfOk result (λ t. HasCleanDisk (state S.Store t.conn)
+        → HasCleanDisk (state S.Store conn)) }
     ensures ready { IfOk result (λ t. IsReady (state S.Store t.conn)) }
     ensures rows { IfOk result (λ t. IsTaken (state S.Store conn) (state S.Store t.conn)) }
     ensures left { IfErr result (λ e. LeavesFound (state S.Store conn) (state S.Store e.1)) }
@@ -125,11 +134,13 @@ pub fn over<S: Alter>(alloc: Global, conn: Connection<S>) -> Result<Tables<S>, N
     requires autocommit { conn.in_transaction ≡ false }
     requires found { IsFound (state S.Store conn) }
     ensures autocommit { IfOk result (λ t. t.conn.in_transaction ≡ false) }
-    ensures clean { IfOk result (λ t. HasCleanDisk (state S.Store t.conn) → HasCleanDisk (state S.Store conn)) }
+    ensures clean { IfOk result (λ t. HasCleanDisk (state S.Store t.conn)
+        → HasCleanDisk (state S.Store conn)) }
     ensures ready { IfOk result (λ t. IsReady (state S.Store t.conn)) }
     ensures rows { IfOk result (λ t. IsTaken (state S.Store conn) (state S.Store t.conn)) }
     ensures same { (state S.Store conn).now.schema ≡ inventory → IfOk result (λ t. t.conn ≡ conn) }
-    ensures other { ((state S.Store conn).now.schema ≡ no_schema → ⊥) → ((state S.Store conn).now.schema ≡ up_to_edit → ⊥) → IfErr result (λ e. e.1 ≡ conn) }
+    ensures other { ((state S.Store conn).now.schema ≡ no_schema → ⊥)
+        → ((state S.Store conn).now.schema ≡ up_to_edit → ⊥) → IfErr result (λ e. e.1 ≡ conn) }
     ensures left { IfErr result (λ e. LeavesFound (state S.Store conn) (state S.Store e.1)) }
 {
     let Ok(wanted) = wanted(alloc) else {

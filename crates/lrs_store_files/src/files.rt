@@ -46,8 +46,10 @@ pub fn open_files<D: Disk + Drop>(
     requires db { IsTrue (D.Disk.is_usable files.db) }
     ensures autocommit { IfOk result (λ t. t.conn.in_transaction ≡ false) }
     ensures ready { IfOk result (λ t. IsReady (file_state t.conn)) }
-    ensures found { IfOk result (λ t. HasCleanDisk (file_state t.conn) → HasFound (image_of D.Disk files) (file_state t.conn)) }
-    ensures left { IfErr result (λ e. IsSomeAnd e.left (IsLeftOf (image_of D.Disk files) (λ given. given ≡ files))) }
+    ensures found { IfOk result (λ t. HasCleanDisk (file_state t.conn)
+        → HasFound (image_of D.Disk files) (file_state t.conn)) }
+    ensures left { IfErr result (λ e. IsSomeAnd e.left
+        (IsLeftOf (image_of D.Disk files) (λ given. given ≡ files))) }
 {
     match Connection::open_files(alloc, files, options) {
         Ok(conn) => match over(alloc, conn) {
@@ -86,8 +88,10 @@ pub fn open_file<S: Start>(
 ) -> Result<Tables<FileStore<FileFrom<S>>>, Refusal<FileFrom<S>>>
     ensures autocommit { IfOk result (λ t. t.conn.in_transaction ≡ false) }
     ensures ready { IfOk result (λ t. IsReady (file_state t.conn)) }
-    ensures found { IfOk result (λ t. HasCleanDisk (file_state t.conn) → HasFound (image_at S.Start) (file_state t.conn)) }
-    ensures left { IfErr result (λ e. IfSome e.left (IsLeftOf (image_at S.Start) (λ files. IsFresh true files.log × IsFresh false files.db))) }
+    ensures found { IfOk result (λ t. HasCleanDisk (file_state t.conn)
+        → HasFound (image_at S.Start) (file_state t.conn)) }
+    ensures left { IfErr result (λ e. IfSome e.left
+        (IsLeftOf (image_at S.Start) (λ files. IsFresh true files.log × IsFresh false files.db))) }
 {
     match Connection::open_from(rt, path, false, start) {
         Ok(conn) => match over(rt.alloc(), conn) {
@@ -114,7 +118,8 @@ pub enum CloseFault {
 }
 
 fn close_fault_of(error: Error) -> CloseFault
-    ensures memory { error ≡ Error.SqliteFailure ErrorCode.OutOfMemory → result ≡ CloseFault.Memory }
+    ensures memory { error ≡ Error.SqliteFailure ErrorCode.OutOfMemory
+        → result ≡ CloseFault.Memory }
     ensures only { result ≡ CloseFault.Memory → error ≡ Error.SqliteFailure ErrorCode.OutOfMemory }
 {
     match error {
@@ -128,8 +133,10 @@ fn close_fault_of(error: Error) -> CloseFault
 /// # Errors
 /// When memory runs out, or the store fails.
 pub fn close_files<D: Disk + Drop>(tables: Tables<FileStore<D>>) -> Result<Files<D>, CloseFault>
-    ensures usable { IfOk result (λ files. IsTrue (D.Disk.is_usable files.log) × IsTrue (D.Disk.is_usable files.db)) }
-    ensures copied { IfOk result (λ files. AreClean D.Disk files.log files.db → IsCopied tables.conn files) }
+    ensures usable { IfOk result (λ files. IsTrue (D.Disk.is_usable files.log)
+        × IsTrue (D.Disk.is_usable files.db)) }
+    ensures copied { IfOk result (λ files. AreClean D.Disk files.log files.db
+        → IsCopied tables.conn files) }
 {
     match tables.conn.close_files() {
         Ok(files) => Ok(files),

@@ -10,7 +10,7 @@ use Rattle.lrs_events.specs.declared.class.Asset.{Asset}
 use Rattle.lrs_events.specs.declared.part.Part.{Part}
 use Rattle.lrs_events.specs.declared.part.Gone.{Gone}
 use Rattle.lrs_events.specs.Parts.{part_before}
-use Rattle.lrs_machine.specs.Bounds.{most_assets}
+use Rattle.lrs_measure.specs.Limits.{most_assets}
 use Rattle.lrs_machine.specs.Sound.{RouteSpans, asset_before, is_asset, are_assets, are_parts, are_entered, gone_before, parts_of, are_balanced, are_gone}
 
 pub assets_ask : (classes : List Class) (assets : List Asset) → are_assets classes assets ≡ true → each_two asset_before assets ≡ true

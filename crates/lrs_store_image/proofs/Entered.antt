@@ -8,12 +8,12 @@ use Rattle.lrs_events.specs.declared.class.Asset.{Asset}
 use Rattle.lrs_events.specs.declared.part.Part.{Part}
 use Rattle.lrs_machine.specs.Sound.{asset_before}
 use Rattle.lrs_machine.proofs.Pairs.{each_two-map}
-use Rattle.lrs_store_rows.specs.Content.{with_entry}
+use Rattle.lrs_store_rows.specs.Content.{with_edit}
 use Rattle.lrs_store_image.specs.Entering.{entered_by, entered_all}
 
 module _ (p : Part) where
-  entered_as : (a : Asset) (b : Bool) → nat_eq p.asset a.number ≡ b → entered_by p a ≡ record a { entry = cond b p.edit a.entry }
-  entered_as a b e = ap (λ c. let x : Asset = record a { entry = cond c p.edit a.entry } in x) e
+  entered_as : (a : Asset) (b : Bool) → nat_eq p.asset a.number ≡ b → entered_by p a ≡ record a { entered_by = cond b p.edit a.entered_by }
+  entered_as a b e = ap (λ c. let x : Asset = record a { entered_by = cond c p.edit a.entered_by } in x) e
 
   other : (m : ℕ) → (p.asset ≡ m → ⊥) → (a : Asset) → a.number ≡ m → entered_by p a ≡ a
   other m n a e = entered_as a false (ne_eqb p.asset a.number (λ k. n (k ∙ e)))
@@ -55,13 +55,13 @@ order_kept [] assets = refl
 order_kept (p ∷ ps) assets = each_two-map asset_before (entered_by p) (entered_all ps assets) ∙ order_kept ps assets
 
 -- the first part of an asset tells its edit
-by_first : (p : Part) (ps : List Part) (assets : List Asset) → map (entered_by p) (map (with_entry ps) assets) ≡ map (with_entry (p ∷ ps)) assets
+by_first : (p : Part) (ps : List Part) (assets : List Asset) → map (entered_by p) (map (with_edit ps) assets) ≡ map (with_edit (p ∷ ps)) assets
 by_first p ps [] = refl
-by_first p ps (a ∷ assets) = ap (λ xs. with_entry (p ∷ ps) a ∷ xs) (by_first p ps assets)
+by_first p ps (a ∷ assets) = ap (λ xs. with_edit (p ∷ ps) a ∷ xs) (by_first p ps assets)
 
-pub all_entered : (ps : List Part) (assets : List Asset) → entered_all ps (map (with_entry []) assets) ≡ map (with_entry ps) assets
+pub all_entered : (ps : List Part) (assets : List Asset) → entered_all ps (map (with_edit []) assets) ≡ map (with_edit ps) assets
 all_entered [] assets = refl
 all_entered (p ∷ ps) assets = ap (map (entered_by p)) (all_entered ps assets) ∙ by_first p ps assets
 
-pub order_without : (assets : List Asset) → each_two asset_before (map (with_entry []) assets) ≡ each_two asset_before assets
-order_without assets = each_two-map asset_before (with_entry []) assets
+pub order_without : (assets : List Asset) → each_two asset_before (map (with_edit []) assets) ≡ each_two asset_before assets
+order_without assets = each_two-map asset_before (with_edit []) assets

@@ -3,7 +3,7 @@ use Rattle.std.proofs.Common.{◌≡◌, Ok, List, refl}
 use Rattle.std.specs.Prelude.{Result}
 use Rattle.lrs_events.specs.Parts.{part_before}
 use Rattle.lrs_machine.specs.declared.image.Image.{Image}
-use Rattle.lrs_machine.specs.declared.image.RouteEntry.{RouteEntry}
+use Rattle.lrs_machine.specs.declared.image.RouteRow.{RouteRow}
 use Rattle.lrs_machine.specs.declared.table.Table.{Table}
 use Rattle.lrs_machine.specs.declared.table.Table.TheVariants as table
 use Rattle.lrs_machine.specs.Sound.{link_before, are_links, class_before, are_classes, asset_before, are_assets, are_courses, are_entered, gone_before, are_gone, are_edits}
@@ -19,7 +19,7 @@ use Rattle.lrs_store_image.specs.Reading.{named_read, entries_read, ledgers_read
 use Rattle.lrs_store_image.proofs.Chained.{alike, in_parts}
 
 -- the image, once links, classes, assets and routes are read
-abbrev pub with_ledgers : Tables → Named → List RouteEntry → Result Image Table
+abbrev pub with_ledgers : Tables → Named → List RouteRow → Result Image Table
 with_ledgers t n routes = ledgers_read n routes t.entered t.gone t.edit >>= (λ l. Ok (with_entries_of n routes l))
 
 -- the image, once links, classes and assets are read

@@ -11,7 +11,7 @@ use Rattle.lrs_store_rows.specs.Decoding.{Origin}
 use Rattle.lrs_store_rows.specs.Content.{origin_before, are_origins_of, has_origins, version_of}
 
 abbrev pub is_of : Asset → Origin → Bool
-is_of a o = nat_eq o.asset a.number && nat_eq o.edit a.entry
+is_of a o = nat_eq o.asset a.number && nat_eq o.edit a.entered_by
 
 not_so_many : (assets : List Asset) (os : List Origin) → (length assets ≡ length os → ⊥) → are_origins_of assets os ≡ false
 not_so_many [] [] f = absurd (f refl)
@@ -55,7 +55,7 @@ same_numbers [] (o ∷ os) h = absurd (false≢true h)
 same_numbers (a ∷ assets) [] h = absurd (false≢true h)
 same_numbers (a ∷ assets) (o ∷ os) h =
     let both = and_parts (is_of a o) (are_origins_of assets os) h in
-    ap₂ (λ n ns. n ∷ ns) (eqb-true o.asset a.number (and_parts (nat_eq o.asset a.number) (nat_eq o.edit a.entry) both.0).0) (same_numbers assets os both.1)
+    ap₂ (λ n ns. n ∷ ns) (eqb-true o.asset a.number (and_parts (nat_eq o.asset a.number) (nat_eq o.edit a.entered_by) both.0).0) (same_numbers assets os both.1)
 
 -- origins that a version has are in the order of their assets
 pub origins_ask : (version : ℕ) (assets : List Asset) (entered : List Part) → each_two asset_before assets ≡ true → (os : List Origin) → (are_origins entered assets && has_origins version assets os) ≡ true → each_two origin_before os ≡ true

@@ -6,7 +6,7 @@ use Rattle.lrs_events.specs.declared.part.Part.{Part}
 
 -- an asset, with the edit of a part that is of it
 abbrev pub entered_by : Part → Asset → Asset
-entered_by p a = record a { entry = if nat_eq p.asset a.number then p.edit else a.entry }
+entered_by p a = record a { entered_by = if nat_eq p.asset a.number then p.edit else a.entered_by }
 
 -- assets with the edits of these parts, the first part of an asset last
 abbrev pub entered_all : List Part → List Asset → List Asset

@@ -3,7 +3,7 @@ use Rattle.std.specs.Prelude.{List, [], map, Result, Ok, Err}
 use Rattle.sqlite_value.specs.Order.{Row}
 use Rattle.lrs_events.specs.Parts.{part_before}
 use Rattle.lrs_machine.specs.declared.image.Image.{Image}
-use Rattle.lrs_machine.specs.declared.image.RouteEntry.{RouteEntry}
+use Rattle.lrs_machine.specs.declared.image.RouteRow.{RouteRow}
 use Rattle.lrs_machine.specs.declared.table.Table.{Table}
 use Rattle.lrs_machine.specs.declared.table.Table.TheVariants as table
 use Rattle.lrs_machine.specs.Sound.{link_before, are_links, class_before, are_classes, asset_before, are_assets, are_courses, are_entered, gone_before, are_gone, are_edits}
@@ -12,7 +12,7 @@ use Rattle.lrs_image.specs.declared.keeper.LoadFault.{LoadFault}
 use Rattle.lrs_image.specs.declared.keeper.LoadFault.TheVariants as load
 use Rattle.lrs_store_rows.specs.Tables.{Tables, LinkRow, ClassRow, AssetRow, PieceRow, MarkRow, RefRow, SpanRow, EnteredRow, GoneRow, EditRow}
 use Rattle.lrs_store_rows.specs.Decoding.{each_sorted, link_of, class_of, asset_of, part_of, gone_of}
-use Rattle.lrs_store_rows.specs.Content.{◌>>=◌, read, courses_of, measured_of, routes_of, entries_of, edits_of, with_entry}
+use Rattle.lrs_store_rows.specs.Content.{◌>>=◌, read, courses_of, measured_of, routes_of, entries_of, edits_of, with_edit}
 use Rattle.lrs_store_routes.specs.Measuring.{are_all_measured}
 use Rattle.lrs_store_routes.specs.Referring.{are_all_referred}
 use Rattle.lrs_store_routes.specs.Spans.{are_sound}
@@ -39,7 +39,7 @@ named_read links classes assets =
     Ok (record { links = links; classes = classes; assets = assets }))))
 
 -- the routes with all that lies on them, or the first of their tables that is unsound
-abbrev pub entries_read : Named → List PieceRow → List MarkRow → List RefRow → List SpanRow → Result (List RouteEntry) Table
+abbrev pub entries_read : Named → List PieceRow → List MarkRow → List RefRow → List SpanRow → Result (List RouteRow) Table
 entries_read n pieces marks refs spans =
     read table.Piece (courses_of pieces) (are_courses n.links) >>= (λ courses.
     read table.Mark (measured_of marks courses) are_all_measured >>= (λ measured.
@@ -47,7 +47,7 @@ entries_read n pieces marks refs spans =
     read table.Span (entries_of n.assets spans routes) (are_sound n.links n.classes n.assets))))
 
 -- the ledgers and the edits, or the first of their tables that is unsound
-abbrev pub ledgers_read : Named → List RouteEntry → List EnteredRow → List GoneRow → List EditRow → Result Ledgers Table
+abbrev pub ledgers_read : Named → List RouteRow → List EnteredRow → List GoneRow → List EditRow → Result Ledgers Table
 ledgers_read n routes entered gone edits =
     read table.Entered (each_sorted part_before part_of entered) (are_entered n.links n.assets) >>= (λ entered.
     read table.Gone (each_sorted gone_before gone_of gone) (are_gone n.links n.assets (route_spans routes) entered) >>= (λ gone.
@@ -55,9 +55,9 @@ ledgers_read n routes entered gone edits =
     Ok (record { entered = entered; gone = gone; edits = edits }))))
 
 -- the image of what was read; the ledger tells which edit entered an asset
-abbrev pub with_entries_of : Named → List RouteEntry → Ledgers → Image
+abbrev pub with_entries_of : Named → List RouteRow → Ledgers → Image
 with_entries_of n routes l =
-    record { links = n.links; classes = n.classes; assets = map (with_entry l.entered) n.assets; routes = routes; entered = l.entered; gone = l.gone; edits = l.edits }
+    record { links = n.links; classes = n.classes; assets = map (with_edit l.entered) n.assets; routes = routes; entered = l.entered; gone = l.gone; edits = l.edits }
 
 -- rows of the tables beside those of the version and of origins
 abbrev pub tables_beside : NamedRows → RouteRows → List Row → List Row → List Row → Tables

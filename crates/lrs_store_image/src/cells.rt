@@ -1,23 +1,12 @@
 //! The rows of a table as they were read, cell by cell; their texts are borrowed.
 
 ghost use Rattle.std.specs.Prelude.{◌≡◌, map, IfOk};
-ghost use Rattle.lrs_store_tables.specs.Stored.{whole_at, piece_in, mark_in, ref_in, span_in};
+ghost use Rattle.lrs_store_tables.specs.Stored.{piece_in, mark_in, ref_in, span_in};
 
 use lrs_store_routes::{MarkCells, PieceCells, RefCells, SpanCells};
-use lrs_store_tables::decode::text_at;
+use lrs_store_tables::decode::{text_at, whole_at};
 use sqlite::Row;
-use sqlite::types::ValueRef;
 use std::alloc::{AllocError, Global};
-
-/// The whole number in a column; what is none reads as -1, which no table allows.
-fn whole_at(row: &Row, at: usize) -> i64
-    ensures { result ≡ whole_at at row.now }
-{
-    match row.get_ref(at) {
-        Ok(ValueRef::Int(n)) => n,
-        _ => -1,
-    }
-}
 
 fn piece(row: &Row) -> PieceCells<'_>
     ensures { result ≡ piece_in row.now }

@@ -49,7 +49,8 @@ fn line_of(alloc: Global, text: &[u8]) -> Result<Option<Line>, AllocError>
 
 /// The edit of this number whose key and line are of these texts.
 fn edit(alloc: Global, n: u64, key: &[u8], line: &[u8]) -> Result<Option<NumberedEdit>, AllocError>
-    ensures { IfOk result (λ said. said ≡ only_if (is_key key.now && is_utf8 line.now) (record { n = n; said = record { key = key.now; line = line.now } })) }
+    ensures { IfOk result (λ said. said ≡ only_if (is_key key.now && is_utf8 line.now)
+        (record { n = n; said = record { key = key.now; line = line.now } })) }
 {
     let Some(key) = key_of(key) else {
         return Ok(None);
@@ -78,7 +79,8 @@ fn said(alloc: Global, row: &Row) -> Result<Option<NumberedEdit>, AllocError>
 /// # Errors
 /// When memory runs out.
 pub(crate) fn all_said(alloc: Global, rows: &[Row]) -> Result<Option<Vec<NumberedEdit>>, AllocError>
-    ensures { IfOk result (λ found. option_map (λ v. v.items) found ≡ each_of (λ r. edit_of (edit_in r)) rows.now) }
+    ensures { IfOk result (λ found. option_map (λ v. v.items) found ≡ each_of (λ r.
+        edit_of (edit_in r)) rows.now) }
 {
     let mut found = Vec::new(alloc);
     for row in rows {

@@ -15,7 +15,8 @@ fn is_nothing(rows: &[Row]) -> bool
 }
 
 fn no_named(rows: &NamedRows) -> bool
-    ensures { result ≡ (is_nothing rows.now.version.items && is_nothing rows.now.link.items && is_nothing rows.now.class.items && is_nothing rows.now.asset.items) }
+    ensures { result ≡ (is_nothing rows.now.version.items && is_nothing rows.now.link.items
+        && is_nothing rows.now.class.items && is_nothing rows.now.asset.items) }
 {
     is_nothing(rows.version.as_slice())
         && is_nothing(rows.link.as_slice())
@@ -24,7 +25,8 @@ fn no_named(rows: &NamedRows) -> bool
 }
 
 fn no_routes(rows: &RouteRows) -> bool
-    ensures { result ≡ (is_nothing rows.now.piece.items && is_nothing rows.now.mark.items && is_nothing rows.now.referent.items && is_nothing rows.now.span.items) }
+    ensures { result ≡ (is_nothing rows.now.piece.items && is_nothing rows.now.mark.items
+        && is_nothing rows.now.referent.items && is_nothing rows.now.span.items) }
 {
     is_nothing(rows.piece.as_slice())
         && is_nothing(rows.mark.as_slice())
@@ -33,7 +35,8 @@ fn no_routes(rows: &RouteRows) -> bool
 }
 
 fn no_ledgers(rows: &LedgerRows) -> bool
-    ensures { result ≡ (is_nothing rows.now.entered.items && is_nothing rows.now.gone.items && is_nothing rows.now.edit.items && is_nothing rows.now.origin.items) }
+    ensures { result ≡ (is_nothing rows.now.entered.items && is_nothing rows.now.gone.items
+        && is_nothing rows.now.edit.items && is_nothing rows.now.origin.items) }
 {
     is_nothing(rows.entered.as_slice())
         && is_nothing(rows.gone.as_slice())

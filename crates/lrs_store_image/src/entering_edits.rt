@@ -3,7 +3,7 @@
 ghost use Rattle.std.specs.Prelude.{◌≡◌, ◌<◌, [], map, length, get_or, set, true, IfOk};
 ghost use Rattle.lrs_measure.specs.Lists.{each_two};
 ghost use Rattle.lrs_machine.specs.Sound.{asset_before};
-ghost use Rattle.lrs_store_rows.specs.Content.{with_entry};
+ghost use Rattle.lrs_store_rows.specs.Content.{with_edit};
 ghost use Rattle.lrs_store_image.specs.Entering.{entered_by, entered_all, IsPlaceOf};
 
 use lrs_events::{Asset, Part};
@@ -21,12 +21,16 @@ fn place_of(assets: &[Asset], number: u64) -> Option<usize>
     }
 }
 
-fn set_entry(assets: &mut Vec<Asset>, at: usize, edit: u64)
+fn set_edit(assets: &mut Vec<Asset>, at: usize, edit: u64)
     requires { at < length assets.old.items }
-    ensures { assets.new.items ≡ set assets.old.items at (record (get_or assets.old.items at (record { number = 0; class = []; value = []; lateral = 0; entry = 0 })) { entry = edit }) }
+    ensures { assets.new.items ≡ set assets.old.items at
+        (record
+        (get_or assets.old.items at
+        (record { number = 0; class = []; value = []; lateral = 0; entered_by = 0 }))
+        { entered_by = edit }) }
 {
     let asset = Asset {
-        entry: edit,
+        entered_by: edit,
         ..assets[at]
     };
     assets[at] = asset;
@@ -38,7 +42,7 @@ fn enter(assets: &mut Vec<Asset>, part: &Part)
     ensures { assets.new.items ≡ map (entered_by part.now) assets.old.items }
 {
     match place_of(assets, part.asset) {
-        Some(at) => set_entry(assets, at, part.edit),
+        Some(at) => set_edit(assets, at, part.edit),
         None => {}
     }
 }
@@ -53,18 +57,21 @@ fn enter_all(assets: &mut Vec<Asset>, entered: &[Part])
     }
 }
 
-fn without_entry(asset: &Asset) -> Asset
-    ensures { result ≡ with_entry [] asset.now }
+fn without_edit(asset: &Asset) -> Asset
+    ensures { result ≡ with_edit [] asset.now }
 {
-    Asset { entry: 0, ..*asset }
+    Asset {
+        entered_by: 0,
+        ..*asset
+    }
 }
 
-fn without_entries(alloc: Global, assets: &[Asset]) -> Result<Vec<Asset>, AllocError>
-    ensures { IfOk result (λ found. found.items ≡ map (with_entry []) assets.now) }
+fn without_edits(alloc: Global, assets: &[Asset]) -> Result<Vec<Asset>, AllocError>
+    ensures { IfOk result (λ found. found.items ≡ map (with_edit []) assets.now) }
 {
     let mut found = Vec::with_capacity(alloc, assets.len())?;
     for asset in assets {
-        found.push(without_entry(asset))?;
+        found.push(without_edit(asset))?;
     }
     Ok(found)
 }
@@ -74,15 +81,15 @@ fn without_entries(alloc: Global, assets: &[Asset]) -> Result<Vec<Asset>, AllocE
 ///
 /// # Errors
 /// When memory runs out.
-pub fn with_entries(
+pub fn with_edits(
     alloc: Global,
     entered: &[Part],
     assets: &[Asset],
 ) -> Result<Rows<Asset>, AllocError>
     requires order { each_two asset_before assets.now ≡ true }
-    ensures { IfOk result (λ found. found ≡ map (with_entry entered.now) assets.now) }
+    ensures { IfOk result (λ found. found ≡ map (with_edit entered.now) assets.now) }
 {
-    let mut found = without_entries(alloc, assets)?;
+    let mut found = without_edits(alloc, assets)?;
     enter_all(&mut found, entered);
     Ok(Rows::from_vec(found))
 }

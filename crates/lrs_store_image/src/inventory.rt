@@ -14,24 +14,24 @@ use crate::registers::{Named, read_named};
 use crate::route_lists::read_entries;
 use crate::rows::{origins, version};
 use lrs_image::LoadFault;
-use lrs_machine::{Image, RouteEntry};
+use lrs_machine::{Image, RouteRow};
 use lrs_measure::Rows;
 use lrs_store_keeper::rows::{LedgerRows, NamedRows, RouteRows, StoredRows};
 use sqlite::Row;
 use std::alloc::{AllocError, Global};
 
 /// The image of what was read; the ledger tells which edit entered an asset.
-fn with_entries(
+fn with_edits(
     alloc: Global,
     named: Named,
-    routes: Rows<RouteEntry>,
+    routes: Rows<RouteRow>,
     ledgers: Ledgers,
 ) -> Result<Image, AllocError>
     requires { each_two asset_before named.assets ≡ true }
     ensures { IfOk result (λ image. image ≡ with_entries_of named routes ledgers) }
 {
     let entered = ledgers.entered.as_slice();
-    let assets = entering_edits::with_entries(alloc, entered, named.assets.as_slice())?;
+    let assets = entering_edits::with_edits(alloc, entered, named.assets.as_slice())?;
     Ok(Image {
         links: named.links,
         classes: named.classes,
@@ -55,13 +55,14 @@ fn read_inventory(
     gone: Vec<Row>,
     edits: Vec<Row>,
 ) -> Result<Image, LoadFault>
-    ensures image { Reads (inventory_of (tables_beside rows routes entered.items gone.items edits.items)) result }
+    ensures image { Reads
+        (inventory_of (tables_beside rows routes entered.items gone.items edits.items)) result }
     ensures assets { IfOk result (λ image. each_two asset_before image.assets ≡ true) }
 {
     let named = read_named(alloc, rows.link, rows.class, rows.asset)?;
     let routes = read_entries(alloc, &named, routes)?;
     let ledgers = read_ledgers(alloc, &named, routes.as_slice(), entered, gone, edits)?;
-    Ok(with_entries(alloc, named, routes, ledgers)?)
+    Ok(with_edits(alloc, named, routes, ledgers)?)
 }
 
 /// The image of the rows of a store that has some.

@@ -12,7 +12,7 @@ use crate::registers::Named;
 use crate::rows;
 use lrs_events::{Gone, Part};
 use lrs_image::LoadFault;
-use lrs_machine::{Edit, RouteEntry};
+use lrs_machine::{Edit, RouteRow};
 use lrs_measure::Rows;
 use sqlite::Row;
 use std::alloc::Global;
@@ -32,7 +32,7 @@ pub struct Ledgers {
 pub(crate) fn read_ledgers(
     alloc: Global,
     named: &Named,
-    routes: &[RouteEntry],
+    routes: &[RouteRow],
     entered: Vec<Row>,
     gone: Vec<Row>,
     edits: Vec<Row>,
@@ -41,7 +41,8 @@ pub(crate) fn read_ledgers(
     requires assets { are_assets named.now.classes named.now.assets ≡ true }
     requires courses { are_courses named.now.links (route_courses routes.now) ≡ true }
     requires spans { list_all (fits_route named.now.assets) routes.now ≡ true }
-    ensures { Reads (ledgers_read named.now routes.now (map entered_in entered.items) (map gone_in gone.items) (map edit_in edits.items)) result }
+    ensures { Reads (ledgers_read named.now routes.now (map entered_in entered.items)
+        (map gone_in gone.items) (map edit_in edits.items)) result }
 {
     let links = named.links.as_slice();
     let assets = named.assets.as_slice();

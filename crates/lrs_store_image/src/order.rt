@@ -2,15 +2,16 @@
 
 ghost use Rattle.std.specs.Prelude.{◌≡◌, IsPermutation};
 ghost use Rattle.std.specs.List.Sorted.{IsSortedBy};
-ghost use Rattle.lrs_events.specs.Parts.{part_key, side_number, part_before};
-ghost use Rattle.lrs_machine.specs.Sound.{link_before, class_before, asset_before, gone_key, gone_before};
+ghost use Rattle.lrs_events.specs.Parts.{part_before};
+ghost use Rattle.lrs_machine.specs.Sound.{link_before, class_before, asset_before, gone_before};
 ghost use Rattle.lrs_store_rows.specs.Decoding.{number_before};
 ghost use Rattle.lrs_store_rows.specs.Content.{origin_before};
 
 use crate::edits::NumberedEdit;
 use crate::origins::Origin;
 use lrs_element::Link;
-use lrs_events::{Asset, Class, Gone, LinkSide, Part};
+use lrs_events::{Asset, Class, Gone, Part};
+use lrs_image_sound::{gone_key, part_key};
 
 /// The links by number.
 pub(crate) fn sorted_links(mut links: Vec<Link>) -> Vec<Link>
@@ -37,41 +38,6 @@ pub(crate) fn sorted_assets(mut assets: Vec<Asset>) -> Vec<Asset>
 {
     assets.sort_unstable_by(|a, b| a.number.cmp(&b.number));
     assets
-}
-
-fn side_number(side: LinkSide) -> u64
-    ensures { result ≡ side_number side }
-{
-    match side {
-        LinkSide::Left => 0,
-        LinkSide::Right => 1,
-    }
-}
-
-fn part_key(part: &Part) -> [u64; 5]
-    ensures { result ≡ part_key part.now }
-{
-    [
-        part.edit,
-        part.asset,
-        u64::from(part.link),
-        u64::from(part.from),
-        side_number(part.side),
-    ]
-}
-
-fn gone_key(gone: &Gone) -> [u64; 6]
-    ensures { result ≡ gone_key gone.now }
-{
-    let part = &gone.part;
-    [
-        part.edit,
-        u64::from(gone.abandoned),
-        part.asset,
-        u64::from(part.link),
-        u64::from(part.from),
-        side_number(part.side),
-    ]
 }
 
 /// Parts by edit, asset, link, start and side.

@@ -48,9 +48,10 @@ fn is_nothing(origins: &[Origin]) -> bool
 }
 
 fn is_of(asset: &Asset, origin: &Origin) -> bool
-    ensures { result ≡ (nat_eq origin.now.asset asset.now.number && nat_eq origin.now.edit asset.now.entry) }
+    ensures { result ≡ (nat_eq origin.now.asset asset.now.number
+        && nat_eq origin.now.edit asset.now.entered_by) }
 {
-    origin.asset == asset.number && origin.edit == asset.entry
+    origin.asset == asset.number && origin.edit == asset.entered_by
 }
 
 fn are_as_many(assets: &[Asset], origins: &[Origin]) -> bool
@@ -97,7 +98,8 @@ pub(crate) fn are_sound(
     origins: &[Origin],
 ) -> Result<bool, AllocError>
     requires { each_two asset_before assets.now ≡ true }
-    ensures { IfOk result (λ sound. sound ≡ (are_origins entered.now assets.now && has_origins version assets.now origins.now)) }
+    ensures { IfOk result (λ sound. sound ≡ (are_origins entered.now assets.now
+        && has_origins version assets.now origins.now)) }
 {
     let agree = lrs_image_sound::are_origins(alloc, entered, assets)?;
     Ok(agree && has_origins(version, assets, origins))

@@ -32,7 +32,8 @@ pub(crate) fn read_named(
     classes: Vec<Row>,
     assets: Vec<Row>,
 ) -> Result<Named, LoadFault>
-    ensures named { Reads (named_read (map link_in links.items) (map class_in classes.items) (map asset_in assets.items)) result }
+    ensures named { Reads (named_read (map link_in links.items) (map class_in classes.items)
+        (map asset_in assets.items)) result }
     ensures links { IfOk result (λ named. are_links named.links ≡ true) }
     ensures classes { IfOk result (λ named. are_classes named.classes ≡ true) }
     ensures assets { IfOk result (λ named. are_assets named.classes named.assets ≡ true) }

@@ -11,7 +11,7 @@ ghost use Rattle.lrs_store_image.specs.Reading.{entries_read};
 use crate::registers::Named;
 use crate::routes::{courses, measured, routes, spans};
 use lrs_image::LoadFault;
-use lrs_machine::RouteEntry;
+use lrs_machine::RouteRow;
 use lrs_measure::Rows;
 use lrs_store_keeper::rows::RouteRows;
 use std::alloc::Global;
@@ -25,12 +25,15 @@ pub(crate) fn read_entries(
     alloc: Global,
     named: &Named,
     rows: RouteRows,
-) -> Result<Rows<RouteEntry>, LoadFault>
+) -> Result<Rows<RouteRow>, LoadFault>
     requires links { are_links named.now.links ≡ true }
     requires classes { are_classes named.now.classes ≡ true }
     requires assets { are_assets named.now.classes named.now.assets ≡ true }
-    ensures entries { Reads (entries_read named.now (map piece_in rows.piece.items) (map mark_in rows.mark.items) (map ref_in rows.referent.items) (map span_in rows.span.items)) result }
-    ensures courses { IfOk result (λ entries. are_courses named.now.links (route_courses entries) ≡ true) }
+    ensures entries { Reads (entries_read named.now (map piece_in rows.piece.items)
+        (map mark_in rows.mark.items) (map ref_in rows.referent.items)
+        (map span_in rows.span.items)) result }
+    ensures courses { IfOk result (λ entries. are_courses named.now.links (route_courses entries)
+        ≡ true) }
     ensures spans { IfOk result (λ entries. list_all (fits_route named.now.assets) entries ≡ true) }
 {
     let courses = courses(alloc, named.links.as_slice(), rows.piece)?;

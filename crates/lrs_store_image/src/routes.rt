@@ -17,7 +17,7 @@ use crate::fault::as_loaded;
 use lrs_element::Link;
 use lrs_events::{Asset, Class};
 use lrs_image::LoadFault;
-use lrs_machine::RouteEntry;
+use lrs_machine::RouteRow;
 use lrs_measure::Rows;
 use lrs_position::Route;
 use lrs_store_routes::{
@@ -36,7 +36,8 @@ pub(crate) fn courses(
     rows: Vec<Row>,
 ) -> Result<Rows<RouteCourse>, LoadFault>
     requires links { are_links links.now ≡ true }
-    ensures courses { Reads (read table.Piece (courses_of (map piece_in rows.items)) (are_courses links.now)) result }
+    ensures courses { Reads (read table.Piece (courses_of (map piece_in rows.items))
+        (are_courses links.now)) result }
     ensures fit { IfOk result (λ courses. are_route_courses courses ≡ true) }
 {
     let cells = cells::pieces(alloc, rows.as_slice())?;
@@ -53,7 +54,8 @@ pub(crate) fn measured(
     courses: Rows<RouteCourse>,
 ) -> Result<Rows<Measured>, LoadFault>
     requires courses { are_route_courses courses ≡ true }
-    ensures measured { Reads (read table.Mark (measured_of (map mark_in rows.items) courses) are_all_measured) result }
+    ensures measured { Reads (read table.Mark (measured_of
+        (map mark_in rows.items) courses) are_all_measured) result }
     ensures courses { IfOk result (λ measured. courses_of_measured measured ≡ courses) }
     ensures marks { IfOk result (λ measured. are_all_measured measured ≡ true) }
 {
@@ -72,8 +74,10 @@ pub(crate) fn routes(
 ) -> Result<Rows<Route>, LoadFault>
     requires courses { are_route_courses (courses_of_measured measured) ≡ true }
     requires marks { are_all_measured measured ≡ true }
-    ensures routes { Reads (read table.Ref (routes_of (map ref_in rows.items) measured) are_all_referred) result }
-    ensures courses { IfOk result (λ routes. courses_of_routes routes ≡ courses_of_measured measured) }
+    ensures routes { Reads (read table.Ref (routes_of
+        (map ref_in rows.items) measured) are_all_referred) result }
+    ensures courses { IfOk result (λ routes. courses_of_routes routes
+        ≡ courses_of_measured measured) }
 {
     let cells = cells::referents(alloc, rows.as_slice())?;
     as_loaded(read_referents(alloc, &cells, measured.into_vec()))
@@ -89,11 +93,13 @@ pub(crate) fn spans(
     assets: &[Asset],
     rows: Vec<Row>,
     routes: Rows<Route>,
-) -> Result<Rows<RouteEntry>, LoadFault>
+) -> Result<Rows<RouteRow>, LoadFault>
     requires classes { each_two class_before classes.now ≡ true }
     requires assets { each_two asset_before assets.now ≡ true }
     requires routes { each_two named_before routes ≡ true }
-    ensures entries { (links : List DeclaredLink) → are_courses links (courses_over routes) ≡ true → Reads (read table.Span (entries_of assets.now (map span_in rows.items) routes) (are_sound links classes.now assets.now)) result }
+    ensures entries { (links : List DeclaredLink) → are_courses links (courses_over routes) ≡ true
+        → Reads (read table.Span (entries_of assets.now (map span_in rows.items) routes)
+        (are_sound links classes.now assets.now)) result }
 {
     let cells = cells::spans(alloc, rows.as_slice())?;
     as_loaded(read_spans(alloc, classes, assets, &cells, routes.into_vec()))

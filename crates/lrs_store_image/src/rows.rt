@@ -19,7 +19,7 @@ use crate::tests;
 use lrs_element::Link;
 use lrs_events::{Asset, Class, Gone, Part};
 use lrs_image::LoadFault;
-use lrs_machine::{Edit, RouteEntry, Table};
+use lrs_machine::{Edit, RouteRow, Table};
 use lrs_measure::Rows;
 use lrs_store_tables::decode::{number_at, said_all};
 use sqlite::Row;
@@ -30,7 +30,8 @@ use std::alloc::Global;
 /// # Errors
 /// When the table is unsound, or memory runs out.
 pub fn links(alloc: Global, rows: &[Row]) -> Result<Rows<Link>, LoadFault>
-    ensures { Reads (read table.Link (each_sorted link_before link_of (map link_in rows.now)) are_links) result }
+    ensures { Reads (read table.Link (each_sorted link_before link_of
+        (map link_in rows.now)) are_links) result }
 {
     let Some(found) = said_all::<Link>(alloc, rows)? else {
         return Err(LoadFault::Unsound(Table::Link));
@@ -43,7 +44,8 @@ pub fn links(alloc: Global, rows: &[Row]) -> Result<Rows<Link>, LoadFault>
 /// # Errors
 /// When the table is unsound, or memory runs out.
 pub fn classes(alloc: Global, rows: &[Row]) -> Result<Rows<Class>, LoadFault>
-    ensures { Reads (read table.Class (each_sorted class_before class_of (map class_in rows.now)) are_classes) result }
+    ensures { Reads (read table.Class (each_sorted class_before class_of
+        (map class_in rows.now)) are_classes) result }
 {
     let Some(found) = said_all::<Class>(alloc, rows)? else {
         return Err(LoadFault::Unsound(Table::Class));
@@ -57,7 +59,8 @@ pub fn classes(alloc: Global, rows: &[Row]) -> Result<Rows<Class>, LoadFault>
 /// When the table is unsound, or memory runs out.
 pub fn assets(alloc: Global, classes: &[Class], rows: &[Row]) -> Result<Rows<Asset>, LoadFault>
     requires { are_classes classes.now ≡ true }
-    ensures { Reads (read table.Asset (each_sorted asset_before asset_of (map asset_in rows.now)) (are_assets classes.now)) result }
+    ensures { Reads (read table.Asset (each_sorted asset_before asset_of (map asset_in rows.now))
+        (are_assets classes.now)) result }
 {
     let Some(found) = said_all::<Asset>(alloc, rows)? else {
         return Err(LoadFault::Unsound(Table::Asset));
@@ -77,7 +80,8 @@ pub fn entered(
 ) -> Result<Rows<Part>, LoadFault>
     requires links { are_links links.now ≡ true }
     requires assets { each_two asset_before assets.now ≡ true }
-    ensures { Reads (read table.Entered (each_sorted part_before part_of (map entered_in rows.now)) (are_entered links.now assets.now)) result }
+    ensures { Reads (read table.Entered (each_sorted part_before part_of (map entered_in rows.now))
+        (are_entered links.now assets.now)) result }
 {
     let Some(found) = said_all::<Part>(alloc, rows)? else {
         return Err(LoadFault::Unsound(Table::Entered));
@@ -93,7 +97,7 @@ pub fn gone(
     alloc: Global,
     links: &[Link],
     assets: &[Asset],
-    routes: &[RouteEntry],
+    routes: &[RouteRow],
     entered: &[Part],
     rows: &[Row],
 ) -> Result<Rows<Gone>, LoadFault>
@@ -102,7 +106,8 @@ pub fn gone(
     requires courses { are_courses links.now (route_courses routes.now) ≡ true }
     requires spans { list_all (fits_route assets.now) routes.now ≡ true }
     requires entered { are_entered links.now assets.now entered.now ≡ true }
-    ensures { Reads (read table.Gone (each_sorted gone_before gone_of (map gone_in rows.now)) (are_gone links.now assets.now (route_spans routes.now) entered.now)) result }
+    ensures { Reads (read table.Gone (each_sorted gone_before gone_of (map gone_in rows.now))
+        (are_gone links.now assets.now (route_spans routes.now) entered.now)) result }
 {
     let Some(found) = said_all::<Gone>(alloc, rows)? else {
         return Err(LoadFault::Unsound(Table::Gone));
@@ -120,7 +125,8 @@ pub fn edits(
     gone: &[Gone],
     rows: &[Row],
 ) -> Result<Rows<Edit>, LoadFault>
-    ensures { Reads (read table.Edit (edits_of (map edit_in rows.now)) (are_edits entered.now gone.now)) result }
+    ensures { Reads (read table.Edit (edits_of (map edit_in rows.now))
+        (are_edits entered.now gone.now)) result }
 {
     let Some(found) = all_said(alloc, rows)? else {
         return Err(LoadFault::Unsound(Table::Edit));
@@ -179,7 +185,9 @@ pub fn origins(
     rows: &[Row],
 ) -> Result<Rows<Origin>, LoadFault>
     requires { each_two asset_before assets.now ≡ true }
-    ensures { Reads (read table.Origin (each_sorted origin_before origin_of (map origin_in rows.now)) (λ os. are_origins entered.now assets.now && has_origins version assets.now os)) result }
+    ensures { Reads (read table.Origin (each_sorted origin_before origin_of
+        (map origin_in rows.now)) (λ os. are_origins entered.now assets.now
+        && has_origins version assets.now os)) result }
 {
     let Some(found) = said_all::<Origin>(alloc, rows)? else {
         return Err(LoadFault::Unsound(Table::Origin));

@@ -21,7 +21,7 @@ use crate::origins::{Origin, are_sound};
 use lrs_element::Link;
 use lrs_events::{Asset, Class, Gone, Part};
 use lrs_image::LoadFault;
-use lrs_machine::{Edit, RouteEntry, Table};
+use lrs_machine::{Edit, RouteRow, Table};
 use lrs_measure::Rows;
 use std::alloc::Global;
 
@@ -59,7 +59,8 @@ pub fn classes(found: Vec<Class>) -> Result<Rows<Class>, Table>
 /// When it is unsound.
 pub fn assets(classes: &[Class], found: Vec<Asset>) -> Result<Rows<Asset>, Table>
     requires { are_classes classes.now ≡ true }
-    ensures { result ≡ read table.Asset (Some (sorted asset_before found.items)) (are_assets classes.now) }
+    ensures { result ≡ read table.Asset (Some (sorted asset_before found.items))
+        (are_assets classes.now) }
 {
     let assets = sorted_assets(found);
     if !lrs_image_sound::are_assets(classes, &assets) {
@@ -80,7 +81,8 @@ pub fn entered(
 ) -> Result<Rows<Part>, LoadFault>
     requires links { are_links links.now ≡ true }
     requires assets { each_two asset_before assets.now ≡ true }
-    ensures { Reads (read table.Entered (Some (sorted part_before found.items)) (are_entered links.now assets.now)) result }
+    ensures { Reads (read table.Entered (Some (sorted part_before found.items))
+        (are_entered links.now assets.now)) result }
 {
     let entered = sorted_parts(found);
     let sound = lrs_image_sound::are_entered(alloc, links, assets, &entered)?;
@@ -98,7 +100,7 @@ pub fn gone(
     alloc: Global,
     links: &[Link],
     assets: &[Asset],
-    routes: &[RouteEntry],
+    routes: &[RouteRow],
     entered: &[Part],
     found: Vec<Gone>,
 ) -> Result<Rows<Gone>, LoadFault>
@@ -107,7 +109,8 @@ pub fn gone(
     requires courses { are_courses links.now (route_courses routes.now) ≡ true }
     requires spans { list_all (fits_route assets.now) routes.now ≡ true }
     requires entered { are_entered links.now assets.now entered.now ≡ true }
-    ensures { Reads (read table.Gone (Some (sorted gone_before found.items)) (are_gone links.now assets.now (route_spans routes.now) entered.now)) result }
+    ensures { Reads (read table.Gone (Some (sorted gone_before found.items))
+        (are_gone links.now assets.now (route_spans routes.now) entered.now)) result }
 {
     let gone = sorted_gone(found);
     let sound = lrs_image_sound::are_gone(alloc, links, assets, routes, entered, &gone)?;
@@ -127,7 +130,8 @@ pub fn edits(
     gone: &[Gone],
     found: Vec<NumberedEdit>,
 ) -> Result<Rows<Edit>, LoadFault>
-    ensures { Reads (read table.Edit (counted 1 (sorted number_before found.items)) (are_edits entered.now gone.now)) result }
+    ensures { Reads (read table.Edit (counted 1 (sorted number_before found.items))
+        (are_edits entered.now gone.now)) result }
 {
     let sorted = sorted_edits(found);
     let Some(edits) = counted(alloc, sorted)? else {
@@ -153,7 +157,8 @@ pub fn origins(
     found: Vec<Origin>,
 ) -> Result<Rows<Origin>, LoadFault>
     requires assets { each_two asset_before assets.now ≡ true }
-    ensures { Reads (read table.Origin (Some (sorted origin_before found.items)) (λ os. are_origins entered.now assets.now && has_origins version assets.now os)) result }
+    ensures { Reads (read table.Origin (Some (sorted origin_before found.items)) (λ os.
+        are_origins entered.now assets.now && has_origins version assets.now os)) result }
 {
     let origins = sorted_origins(found);
     let sound = are_sound(alloc, version, assets, entered, &origins)?;

@@ -17,7 +17,7 @@ use Rattle.lrs_events.specs.declared.class.Class.{Class}
 use Rattle.lrs_events.specs.declared.class.Asset.{Asset}
 use Rattle.lrs_events.specs.Names.{is_class_name, is_value}
 use Rattle.lrs_events_lanes.proofs.Members.{all-filter}
-use Rattle.lrs_machine.specs.declared.image.RouteEntry.{RouteEntry}
+use Rattle.lrs_machine.specs.declared.image.RouteRow.{RouteRow}
 use Rattle.lrs_machine.specs.declared.image.Edit.{Edit}
 use Rattle.lrs_machine.specs.declared.image.Image.{Image}
 use Rattle.lrs_machine.specs.Keys.{is_key}
@@ -67,7 +67,7 @@ abbrev are_names : List Referent → Bool
 are_names refs = list_all (λ r. is_referent_name r.name) refs
 
 -- the names on a route are names
-abbrev has_names : RouteEntry → Bool
+abbrev has_names : RouteRow → Bool
 has_names e = is_route_name e.route.name && are_names e.route.refs
 
 abbrev route_has_names : Route → Bool
@@ -82,44 +82,44 @@ route_names c r true fits come h =
     and_from (is_route_name c.name) (are_names (changed_refs c.refs r.refs)) come.0 (refs_after c r.refs come.1 both.1)
 route_names c r false fits come h = h
 
-entry_names : (c : RouteChange) (e : RouteEntry) → ChangesTexts c → has_names e ≡ true → has_names (entry_after c e) ≡ true
-entry_names c e come h = route_names c e.route (fits_after c e.route) refl come h
+new_asset_names : (c : RouteChange) (e : RouteRow) → ChangesTexts c → has_names e ≡ true → has_names (entry_after c e) ≡ true
+new_asset_names c e come h = route_names c e.route (fits_after c e.route) refl come h
 
-made_names : (o : Option RouteEntry) → IfSome o MakesTexts → IfSome o (λ e. has_names e ≡ true)
+made_names : (o : Option RouteRow) → IfSome o MakesTexts → IfSome o (λ e. has_names e ≡ true)
 made_names None h = tt
 made_names (Some e) h = and_from (is_route_name e.route.name) (are_names e.route.refs) h.0 h.1
 
 -- ---- all routes
 
-changed_names : (c : RouteChange) (o : Option RouteEntry) → ChangesTexts c → IfSome o (λ e. has_names e ≡ true) → IfSome (option_map (entry_after c) o) (λ e. has_names e ≡ true)
+changed_names : (c : RouteChange) (o : Option RouteRow) → ChangesTexts c → IfSome o (λ e. has_names e ≡ true) → IfSome (option_map (entry_after c) o) (λ e. has_names e ≡ true)
 changed_names c None come h = tt
-changed_names c (Some e) come h = entry_names c e come h
+changed_names c (Some e) come h = new_asset_names c e come h
 
-routes_names : (o : Option RouteChange) (routes : List RouteEntry) → IfSome o ChangesTexts → list_all has_names routes ≡ true → list_all has_names (routes_after o routes) ≡ true
+routes_names : (o : Option RouteChange) (routes : List RouteRow) → IfSome o ChangesTexts → list_all has_names routes ≡ true → list_all has_names (routes_after o routes) ≡ true
 routes_names None routes come h = h
 routes_names (Some c) routes come h =
     all_with has_names route_before (option_map (entry_after c) (find (is_named c.route) routes)) (without c.route routes)
     (changed_names c (find (is_named c.route) routes) come (found_passes has_names (is_named c.route) routes h))
     (all-filter has_names _ routes h)
 
-left_names : (o : Option Name) (routes : List RouteEntry) → list_all has_names routes ≡ true → list_all has_names (without_some o routes) ≡ true
+left_names : (o : Option Name) (routes : List RouteRow) → list_all has_names routes ≡ true → list_all has_names (without_some o routes) ≡ true
 left_names None routes h = h
 left_names (Some name) routes h = all-filter has_names _ routes h
 
-both_names : (routes : List RouteEntry) → list_all (λ e. is_route_name e.route.name) routes ≡ true → list_all (λ e. are_names e.route.refs) routes ≡ true → list_all has_names routes ≡ true
+both_names : (routes : List RouteRow) → list_all (λ e. is_route_name e.route.name) routes ≡ true → list_all (λ e. are_names e.route.refs) routes ≡ true → list_all has_names routes ≡ true
 both_names [] h k = refl
 both_names (e ∷ es) h k =
     let one = and_parts (is_route_name e.route.name) (list_all (λ e. is_route_name e.route.name) es) h in
     let two = and_parts (are_names e.route.refs) (list_all (λ e. are_names e.route.refs) es) k in
     and_from (has_names e) (list_all has_names es) (and_from (is_route_name e.route.name) (are_names e.route.refs) one.0 two.0) (both_names es one.1 two.1)
 
-own_names : (routes : List RouteEntry) → list_all has_names routes ≡ true → list_all (λ e. is_route_name e.route.name) routes ≡ true
+own_names : (routes : List RouteRow) → list_all has_names routes ≡ true → list_all (λ e. is_route_name e.route.name) routes ≡ true
 own_names [] h = refl
 own_names (e ∷ es) h =
     let both = and_parts (has_names e) (list_all has_names es) h in
     and_from (is_route_name e.route.name) (list_all (λ e. is_route_name e.route.name) es) (and_parts (is_route_name e.route.name) (are_names e.route.refs) both.0).0 (own_names es both.1)
 
-referent_names : (routes : List RouteEntry) → list_all has_names routes ≡ true → list_all (λ e. are_names e.route.refs) routes ≡ true
+referent_names : (routes : List RouteRow) → list_all has_names routes ≡ true → list_all (λ e. are_names e.route.refs) routes ≡ true
 referent_names [] h = refl
 referent_names (e ∷ es) h =
     let both = and_parts (has_names e) (list_all has_names es) h in

@@ -5,7 +5,7 @@ use Rattle.std.specs.Str.{IsUtf8}
 use Rattle.lrs_position.specs.declared.route.Referent.{Referent}
 use Rattle.lrs_position.specs.Names.{is_route_name, is_referent_name}
 use Rattle.lrs_events.specs.Names.{is_class_name, is_value}
-use Rattle.lrs_machine.specs.declared.image.RouteEntry.{RouteEntry}
+use Rattle.lrs_machine.specs.declared.image.RouteRow.{RouteRow}
 use Rattle.lrs_machine.specs.Keys.{is_key}
 use Rattle.lrs_image.specs.declared.change.RouteChange.{RouteChange}
 use Rattle.lrs_image.specs.declared.change.Change.{Change}
@@ -15,7 +15,7 @@ abbrev pub AreNames : List Referent → Type 0
 AreNames refs = IsTrue (list_all (λ r. is_referent_name r.name) refs)
 
 -- so does each on a route that comes, and the route has a name that a route can have
-abbrev pub MakesTexts : RouteEntry → Type 0
+abbrev pub MakesTexts : RouteRow → Type 0
 MakesTexts e = IsTrue (is_route_name e.route.name) × AreNames e.route.refs
 
 -- the same of a route that stays: its new name, and the referents that come

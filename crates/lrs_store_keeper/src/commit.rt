@@ -27,12 +27,16 @@ fn write_as<S: Alter>(
     requires some { 0 < length changes.now }
     requires fits { n + length changes.now < 2 ^ 64 }
     requires edits { HasEdits edits (state S.Store conn.old) }
-    requires can { (c : Result Image Table) → MayHold (state S.Store conn.old) c → IfOk c (CanMakeAll changes.now) }
+    requires can { (c : Result Image Table) → MayHold (state S.Store conn.old) c
+        → IfOk c (CanMakeAll changes.now) }
     ensures autocommit { conn.new.in_transaction ≡ false }
     ensures ready { OnOk result (IsReady (state S.Store conn.new)) }
     ensures edits { OnOk result (HasEdits (edits + length changes.now) (state S.Store conn.new)) }
-    ensures ok { OnOk result ((c : Result Image Table) → MayHold (state S.Store conn.new) c → IsChangedBy (MayHold (state S.Store conn.old)) changes.now c) }
-    ensures err { OnErr result ((c : Result Image Table) → MayHold (state S.Store conn.new) c → MayHold (state S.Store conn.old) c ⊎ IsChangedBy (MayHold (state S.Store conn.old)) changes.now c) }
+    ensures ok { OnOk result ((c : Result Image Table) → MayHold (state S.Store conn.new) c
+        → IsChangedBy (MayHold (state S.Store conn.old)) changes.now c) }
+    ensures err { OnErr result ((c : Result Image Table) → MayHold (state S.Store conn.new) c
+        → MayHold (state S.Store conn.old) c ⊎ IsChangedBy
+        (MayHold (state S.Store conn.old)) changes.now c) }
 {
     all_texts(changes);
     match write_changes(conn, n, changes) {
@@ -51,12 +55,16 @@ pub(crate) fn write_next<S: Alter>(
     requires autocommit { conn.old.in_transaction ≡ false }
     requires ready { IsReady (state S.Store conn.old) }
     requires edits { HasEdits edits (state S.Store conn.old) }
-    requires can { (c : Result Image Table) → MayHold (state S.Store conn.old) c → IfOk c (CanMakeAll changes.now) }
+    requires can { (c : Result Image Table) → MayHold (state S.Store conn.old) c
+        → IfOk c (CanMakeAll changes.now) }
     ensures autocommit { conn.new.in_transaction ≡ false }
     ensures ready { OnOk result (IsReady (state S.Store conn.new)) }
     ensures edits { IfOk result (λ n. HasEdits n (state S.Store conn.new)) }
-    ensures ok { OnOk result ((c : Result Image Table) → MayHold (state S.Store conn.new) c → IsChangedBy (MayHold (state S.Store conn.old)) changes.now c) }
-    ensures err { OnErr result ((c : Result Image Table) → MayHold (state S.Store conn.new) c → MayHold (state S.Store conn.old) c ⊎ IsChangedBy (MayHold (state S.Store conn.old)) changes.now c) }
+    ensures ok { OnOk result ((c : Result Image Table) → MayHold (state S.Store conn.new) c
+        → IsChangedBy (MayHold (state S.Store conn.old)) changes.now c) }
+    ensures err { OnErr result ((c : Result Image Table) → MayHold (state S.Store conn.new) c
+        → MayHold (state S.Store conn.old) c ⊎ IsChangedBy
+        (MayHold (state S.Store conn.old)) changes.now c) }
 {
     if changes.is_empty() {
         return Ok(edits);

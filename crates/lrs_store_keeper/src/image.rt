@@ -37,7 +37,9 @@ pub(crate) fn read_alone<S: Alter>(conn: &mut Connection<S>) -> Result<StoredRow
     requires ready { IsReady (state S.Store conn.old) }
     ensures autocommit { conn.new.in_transaction ≡ false }
     ensures ready { OnOk result (IsReady (state S.Store conn.new)) }
-    ensures rows { HasCleanDisk (state S.Store conn.new) → (db : Trees) → (state S.Store conn.new).may_leave db → IfOk result (λ r. AreSame (stored db) (tables_of r)) }
+    ensures rows { HasCleanDisk (state S.Store conn.new) → (db : Trees)
+        → (state S.Store conn.new).may_leave db → IfOk result (λ r.
+        AreSame (stored db) (tables_of r)) }
     ensures survives { LeavesStore (state S.Store conn.old) (state S.Store conn.new) }
 {
     let mut tx = conn.transaction();
@@ -76,7 +78,8 @@ pub(crate) fn image_of<R: ReadImage>(
     rows: StoredRows,
 ) -> Result<Image, LoadFault>
     ensures image { IfOk result (λ image. AreRowsOf image (tables_of rows)) }
-    ensures unsound { (t : DeclaredTable) → result ≡ Err (LoadFault.Unsound t) → content_of (tables_of rows) ≡ Err t }
+    ensures unsound { (t : DeclaredTable) → result ≡ Err (LoadFault.Unsound t)
+        → content_of (tables_of rows) ≡ Err t }
 {
     if !is_second(rows.named.version.as_slice()) {
         return Err(LoadFault::Store);
@@ -111,11 +114,14 @@ pub(crate) fn load_from<S: Alter, R: ReadImage>(
     requires ready { IsReady (state S.Store conn.old) }
     ensures autocommit { conn.new.in_transaction ≡ false }
     ensures ready { OnOk result (IsReady (state S.Store conn.new)) }
-    ensures unbroken { IfErr result (λ e. e.must_reopen ≡ false → IsReady (state S.Store conn.new)) }
-    ensures image { IfOk result (λ image. (c : Result ImageRows DeclaredTable) → MayHold (state S.Store conn.new) c → c ≡ Ok image) }
+    ensures unbroken { IfErr result (λ e. e.must_reopen ≡ false
+        → IsReady (state S.Store conn.new)) }
+    ensures image { IfOk result (λ image. (c : Result ImageRows DeclaredTable)
+        → MayHold (state S.Store conn.new) c → c ≡ Ok image) }
     ensures edits { IfOk result (λ image. HasEdits (length image.edits) (state S.Store conn.new)) }
     ensures sound { IfOk result IsSound }
-    ensures unsound { IfErr result (λ e. (t : DeclaredTable) → e.fault ≡ LoadFault.Unsound t → (c : Result ImageRows DeclaredTable) → MayHold (state S.Store conn.new) c → c ≡ Err t) }
+    ensures unsound { IfErr result (λ e. (t : DeclaredTable) → e.fault ≡ LoadFault.Unsound t
+        → (c : Result ImageRows DeclaredTable) → MayHold (state S.Store conn.new) c → c ≡ Err t) }
     ensures survives { LeavesStore (state S.Store conn.old) (state S.Store conn.new) }
 {
     let rows = match read_alone(conn) {

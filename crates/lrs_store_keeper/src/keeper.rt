@@ -95,11 +95,15 @@ impl<S: Alter, R: ReadImage + Drop> TableKeeper<S, R> {
         requires ready { IsReady (state S.Store conn) }
         ensures unloaded { IfOk result (λ k. k.is_loaded ≡ false) }
         ensures usable { IfOk result (λ k. k.is_broken ≡ false) }
-        ensures clean { IfOk result (λ k. HasCleanDisk (state S.Store k.conn) → HasCleanDisk (state S.Store conn)) }
+        ensures clean { IfOk result (λ k. HasCleanDisk (state S.Store k.conn)
+            → HasCleanDisk (state S.Store conn)) }
         ensures second { IfOk result (λ k. IsSecond (state S.Store k.conn)) }
-        ensures content { IfOk result (λ k. (c : Result ImageRows DeclaredTable) → MayHold (state S.Store k.conn) c → MayHold (state S.Store conn) c) }
-        ensures unsound { IfErr result (λ e. (t : DeclaredTable) → e.0 ≡ LoadFault.Unsound t → (c : Result ImageRows DeclaredTable) → MayHold (state S.Store e.1) c → c ≡ Err t) }
-        ensures err { IfErr result (λ e. (c : Result ImageRows DeclaredTable) → MayHold (state S.Store e.1) c → MayHold (state S.Store conn) c) }
+        ensures content { IfOk result (λ k. (c : Result ImageRows DeclaredTable)
+            → MayHold (state S.Store k.conn) c → MayHold (state S.Store conn) c) }
+        ensures unsound { IfErr result (λ e. (t : DeclaredTable) → e.0 ≡ LoadFault.Unsound t
+            → (c : Result ImageRows DeclaredTable) → MayHold (state S.Store e.1) c → c ≡ Err t) }
+        ensures err { IfErr result (λ e. (c : Result ImageRows DeclaredTable)
+            → MayHold (state S.Store e.1) c → MayHold (state S.Store conn) c) }
     {
         match make_second(&reader, alloc, &mut conn) {
             Ok(()) => Ok(TableKeeper::over(conn, reader)),

@@ -25,7 +25,9 @@ fn read_versions_alone<S: Alter>(conn: &mut Connection<S>) -> Result<Vec<Row>, E
     requires ready { IsReady (state S.Store conn.old) }
     ensures autocommit { conn.new.in_transaction ≡ false }
     ensures ready { OnOk result (IsReady (state S.Store conn.new)) }
-    ensures rows { HasCleanDisk (state S.Store conn.new) → (db : Trees) → (state S.Store conn.new).may_leave db → IfOk result (λ rows. HasVersions rows.items (stored db)) }
+    ensures rows { HasCleanDisk (state S.Store conn.new) → (db : Trees)
+        → (state S.Store conn.new).may_leave db → IfOk result (λ rows.
+        HasVersions rows.items (stored db)) }
     ensures survives { LeavesStore (state S.Store conn.old) (state S.Store conn.new) }
 {
     let mut tx = conn.transaction();
@@ -58,7 +60,8 @@ fn held_image<S: Alter, R: ReadImage>(
     ensures autocommit { conn.new.in_transaction ≡ false }
     ensures ready { OnOk result (IsReady (state S.Store conn.new)) }
     ensures image { IfOk result (λ image. HoldsImage (state S.Store conn.new) image) }
-    ensures unsound { (t : DeclaredTable) → result ≡ Err (LoadFault.Unsound t) → (c : Result ImageRows DeclaredTable) → MayHold (state S.Store conn.new) c → c ≡ Err t }
+    ensures unsound { (t : DeclaredTable) → result ≡ Err (LoadFault.Unsound t)
+        → (c : Result ImageRows DeclaredTable) → MayHold (state S.Store conn.new) c → c ≡ Err t }
     ensures survives { LeavesStore (state S.Store conn.old) (state S.Store conn.new) }
 {
     let rows = match read_alone(conn) {
@@ -77,7 +80,8 @@ fn write_second<S: Alter>(conn: &mut Connection<S>, image: &Image) -> Result<(),
     ensures clean { HasCleanDisk (state S.Store conn.new) → HasCleanDisk (state S.Store conn.old) }
     ensures ready { OnOk result (IsReady (state S.Store conn.new)) }
     ensures second { OnOk result (IsSecond (state S.Store conn.new)) }
-    ensures content { (c : Result ImageRows DeclaredTable) → MayHold (state S.Store conn.new) c → MayHold (state S.Store conn.old) c }
+    ensures content { (c : Result ImageRows DeclaredTable) → MayHold (state S.Store conn.new) c
+        → MayHold (state S.Store conn.old) c }
     ensures never { (t : DeclaredTable) → result ≡ Err (LoadFault.Unsound t) → ⊥ }
 {
     match bring_up(conn, image.assets.as_slice()) {
@@ -98,8 +102,10 @@ fn rewrite<S: Alter, R: ReadImage>(
     ensures clean { HasCleanDisk (state S.Store conn.new) → HasCleanDisk (state S.Store conn.old) }
     ensures ready { OnOk result (IsReady (state S.Store conn.new)) }
     ensures second { OnOk result (IsSecond (state S.Store conn.new)) }
-    ensures content { (c : Result ImageRows DeclaredTable) → MayHold (state S.Store conn.new) c → MayHold (state S.Store conn.old) c }
-    ensures unsound { (t : DeclaredTable) → result ≡ Err (LoadFault.Unsound t) → (c : Result ImageRows DeclaredTable) → MayHold (state S.Store conn.new) c → c ≡ Err t }
+    ensures content { (c : Result ImageRows DeclaredTable) → MayHold (state S.Store conn.new) c
+        → MayHold (state S.Store conn.old) c }
+    ensures unsound { (t : DeclaredTable) → result ≡ Err (LoadFault.Unsound t)
+        → (c : Result ImageRows DeclaredTable) → MayHold (state S.Store conn.new) c → c ≡ Err t }
 {
     match held_image(reader, alloc, conn) {
         Ok(image) => write_second(conn, &image),
@@ -119,8 +125,10 @@ pub(crate) fn make_second<S: Alter, R: ReadImage>(
     ensures clean { HasCleanDisk (state S.Store conn.new) → HasCleanDisk (state S.Store conn.old) }
     ensures ready { OnOk result (IsReady (state S.Store conn.new)) }
     ensures second { OnOk result (IsSecond (state S.Store conn.new)) }
-    ensures content { (c : Result ImageRows DeclaredTable) → MayHold (state S.Store conn.new) c → MayHold (state S.Store conn.old) c }
-    ensures unsound { (t : DeclaredTable) → result ≡ Err (LoadFault.Unsound t) → (c : Result ImageRows DeclaredTable) → MayHold (state S.Store conn.new) c → c ≡ Err t }
+    ensures content { (c : Result ImageRows DeclaredTable) → MayHold (state S.Store conn.new) c
+        → MayHold (state S.Store conn.old) c }
+    ensures unsound { (t : DeclaredTable) → result ≡ Err (LoadFault.Unsound t)
+        → (c : Result ImageRows DeclaredTable) → MayHold (state S.Store conn.new) c → c ≡ Err t }
 {
     match has_second(conn) {
         Ok(true) => Ok(()),

@@ -51,7 +51,10 @@ pub struct StoredRows {
 /// The rows of links, classes and assets, and of the version.
 fn read_named<S: Alter>(tx: &mut Transaction<'_, S>) -> Result<NamedRows, Error>
     ensures same_reference { tx.new.conn.ghost_name ≡ tx.old.conn.ghost_name }
-    ensures read { HasCleanDisk (state S.Store tx.new.conn.now) → IsWriting (state S.Store tx.old.conn.now) → IfOk result (λ r. HasRead (AreNamed r) (state S.Store tx.old.conn.now) (state S.Store tx.new.conn.now)) }
+    ensures read { HasCleanDisk (state S.Store tx.new.conn.now)
+        → IsWriting (state S.Store tx.old.conn.now)
+        → IfOk result (λ r. HasRead (AreNamed r) (state S.Store tx.old.conn.now)
+        (state S.Store tx.new.conn.now)) }
     ensures survives { LeavesStore (state S.Store tx.old.conn.now) (state S.Store tx.new.conn.now) }
 {
     let version = read_versions(tx)?;
@@ -69,7 +72,10 @@ fn read_named<S: Alter>(tx: &mut Transaction<'_, S>) -> Result<NamedRows, Error>
 /// The rows of routes.
 fn read_routes<S: Alter>(tx: &mut Transaction<'_, S>) -> Result<RouteRows, Error>
     ensures same_reference { tx.new.conn.ghost_name ≡ tx.old.conn.ghost_name }
-    ensures read { HasCleanDisk (state S.Store tx.new.conn.now) → IsWriting (state S.Store tx.old.conn.now) → IfOk result (λ r. HasRead (AreOfRoutes r) (state S.Store tx.old.conn.now) (state S.Store tx.new.conn.now)) }
+    ensures read { HasCleanDisk (state S.Store tx.new.conn.now)
+        → IsWriting (state S.Store tx.old.conn.now)
+        → IfOk result (λ r. HasRead (AreOfRoutes r) (state S.Store tx.old.conn.now)
+        (state S.Store tx.new.conn.now)) }
     ensures survives { LeavesStore (state S.Store tx.old.conn.now) (state S.Store tx.new.conn.now) }
 {
     let piece = read_pieces(tx)?;
@@ -87,7 +93,10 @@ fn read_routes<S: Alter>(tx: &mut Transaction<'_, S>) -> Result<RouteRows, Error
 /// The rows of the ledgers, and of edits and origins.
 fn read_ledgers<S: Alter>(tx: &mut Transaction<'_, S>) -> Result<LedgerRows, Error>
     ensures same_reference { tx.new.conn.ghost_name ≡ tx.old.conn.ghost_name }
-    ensures read { HasCleanDisk (state S.Store tx.new.conn.now) → IsWriting (state S.Store tx.old.conn.now) → IfOk result (λ r. HasRead (AreOfLedgers r) (state S.Store tx.old.conn.now) (state S.Store tx.new.conn.now)) }
+    ensures read { HasCleanDisk (state S.Store tx.new.conn.now)
+        → IsWriting (state S.Store tx.old.conn.now)
+        → IfOk result (λ r. HasRead (AreOfLedgers r) (state S.Store tx.old.conn.now)
+        (state S.Store tx.new.conn.now)) }
     ensures survives { LeavesStore (state S.Store tx.old.conn.now) (state S.Store tx.new.conn.now) }
 {
     let entered = read_entered(tx)?;
@@ -105,7 +114,10 @@ fn read_ledgers<S: Alter>(tx: &mut Transaction<'_, S>) -> Result<LedgerRows, Err
 /// The rows of all tables, each read by one statement.
 pub(crate) fn read_rows<S: Alter>(tx: &mut Transaction<'_, S>) -> Result<StoredRows, Error>
     ensures same_reference { tx.new.conn.ghost_name ≡ tx.old.conn.ghost_name }
-    ensures read { HasCleanDisk (state S.Store tx.new.conn.now) → IsWriting (state S.Store tx.old.conn.now) → IfOk result (λ r. HasRead (λ t. AreSame t (tables_of r)) (state S.Store tx.old.conn.now) (state S.Store tx.new.conn.now)) }
+    ensures read { HasCleanDisk (state S.Store tx.new.conn.now)
+        → IsWriting (state S.Store tx.old.conn.now)
+        → IfOk result (λ r. HasRead (λ t. AreSame t (tables_of r)) (state S.Store tx.old.conn.now)
+        (state S.Store tx.new.conn.now)) }
     ensures survives { LeavesStore (state S.Store tx.old.conn.now) (state S.Store tx.new.conn.now) }
 {
     let named = read_named(tx)?;

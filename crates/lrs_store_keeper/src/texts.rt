@@ -10,7 +10,7 @@ ghost use Rattle.lrs_store_keeper.specs.Texts.{HasTexts, HaveTexts, AreNames, Ma
 
 use lrs_events::{Asset, Class};
 use lrs_image::{Change, RouteChange};
-use lrs_machine::{Edit, RouteEntry};
+use lrs_machine::{Edit, RouteRow};
 use lrs_position::Referent;
 
 /// Each name of a referent is one.
@@ -41,12 +41,12 @@ fn asset(asset: &Option<Asset>)
 }
 
 /// The names on a route that comes are names.
-fn made(entry: &Option<RouteEntry>)
-    ensures { IfSome entry.now MakesTexts }
+fn made(route_row: &Option<RouteRow>)
+    ensures { IfSome route_row.now MakesTexts }
 {
-    if let Some(entry) = entry {
-        let _name = entry.route.name.bytes();
-        referents(entry.route.refs.as_slice());
+    if let Some(route_row) = route_row {
+        let _name = route_row.route.name.bytes();
+        referents(route_row.route.refs.as_slice());
     }
 }
 

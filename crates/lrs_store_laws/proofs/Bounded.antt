@@ -10,7 +10,7 @@ use Rattle.lrs_element.specs.declared.link.Link.{Link}
 use Rattle.lrs_element.specs.declared.link.Piece.{Piece}
 use Rattle.lrs_element.specs.declared.link.Ground.{Ground}
 use Rattle.lrs_element.specs.declared.marks.Mark.{Mark}
-use Rattle.lrs_element.specs.Limits.{longest_link, longest_route, most_marks, most_pieces}
+use Rattle.lrs_measure.specs.Limits.{longest_link, longest_route, most_marks, most_pieces, most_edits}
 use Rattle.lrs_element.specs.Course.{expand, millimetres, course_of, piece_count, is_too_long}
 use Rattle.lrs_element.specs.Marks.{bad_mark, first_bad_mark}
 use Rattle.lrs_element.proofs.LineLemmas.{Follow, KeepRules-from_none, rises_next}
@@ -18,14 +18,13 @@ use Rattle.lrs_position.specs.Routes.{is_route_course}
 use Rattle.lrs_events.specs.declared.class.Asset.{Asset}
 use Rattle.lrs_events.specs.declared.part.Part.{Part}
 use Rattle.lrs_machine.specs.declared.image.Image.{Image}
-use Rattle.lrs_machine.specs.Bounds.{most_edits}
 use Rattle.lrs_machine.specs.Entered.{is_asset_number, is_lateral_offset}
 use Rattle.lrs_machine.specs.Sound.{asset_before, is_asset, is_on_a_link, is_part, is_named_by}
 use Rattle.lrs_machine.proofs.Members.{In, any_found, all_at, In-map, In-flat_map, In-range_with_len, In-append_left, In-append_right}
 use Rattle.lrs_machine.proofs.Pairs.{part_asset}
 use Rattle.lrs_machine.proofs.SoundImages.{Tested}
 use Rattle.lrs_store_rows.specs.Decoding.{class_of_asset}
-use Rattle.lrs_store_rows.specs.Content.{with_entry, edit_entering}
+use Rattle.lrs_store_rows.specs.Content.{with_edit, edit_entering}
 use Rattle.lrs_store_laws.proofs.Written.{PartFits}
 
 -- ---- links and assets
@@ -46,17 +45,17 @@ class_found a (b ∷ assets) order (inr m) =
     ap (λ t. cond t (Some b.class) (class_of_asset assets a.number)) (ne_eqb b.number a.number (λ e. absurd (omega (arith, e, below)))) ∙ class_found a assets both.1 m
 
 -- ... whichever edit entered it
-pub class_of-entered : (told : List Part) (assets : List Asset) (n : ℕ) → class_of_asset (map (with_entry told) assets) n ≡ class_of_asset assets n
+pub class_of-entered : (told : List Part) (assets : List Asset) (n : ℕ) → class_of_asset (map (with_edit told) assets) n ≡ class_of_asset assets n
 class_of-entered told [] n = refl
 class_of-entered told (a ∷ assets) n = ap (λ o. cond (nat_eq a.number n) (Some a.class) o) (class_of-entered told assets n)
 
 -- the ledger tells the edit that entered an asset
-pub entered_back : (a : Asset) (ps : List Part) → list_any (λ p. nat_eq p.asset a.number) ps ≡ true → list_all (λ p. not (nat_eq p.asset a.number) || nat_eq p.edit a.entry) ps ≡ true → edit_entering ps a.number ≡ a.entry
+pub entered_back : (a : Asset) (ps : List Part) → list_any (λ p. nat_eq p.asset a.number) ps ≡ true → list_all (λ p. not (nat_eq p.asset a.number) || nat_eq p.edit a.entered_by) ps ≡ true → edit_entering ps a.number ≡ a.entered_by
 entered_back a [] h k = absurd (false≢true h)
 entered_back a (p ∷ ps) h k =
-    elim (nat_eq p.asset a.number) as (λ b. (b || list_any (λ p. nat_eq p.asset a.number) ps) ≡ true → ((not b || nat_eq p.edit a.entry) && list_all (λ p. not (nat_eq p.asset a.number) || nat_eq p.edit a.entry) ps) ≡ true
-    → cond b p.edit (edit_entering ps a.number) ≡ a.entry) [
-      | true ↦ λ _ all. eqb-true p.edit a.entry (and_parts (nat_eq p.edit a.entry) _ all).0
+    elim (nat_eq p.asset a.number) as (λ b. (b || list_any (λ p. nat_eq p.asset a.number) ps) ≡ true → ((not b || nat_eq p.edit a.entered_by) && list_all (λ p. not (nat_eq p.asset a.number) || nat_eq p.edit a.entered_by) ps) ≡ true
+    → cond b p.edit (edit_entering ps a.number) ≡ a.entered_by) [
+      | true ↦ λ _ all. eqb-true p.edit a.entered_by (and_parts (nat_eq p.edit a.entered_by) _ all).0
       | false ↦ λ some all. entered_back a ps some all
     ] h k
 

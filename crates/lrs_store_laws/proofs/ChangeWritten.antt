@@ -14,7 +14,7 @@ use Rattle.lrs_position.specs.declared.route.Referent.{Referent}
 use Rattle.lrs_position.specs.Routes.{are_referents}
 use Rattle.lrs_events.specs.Spans.{are_rows}
 use Rattle.lrs_machine.specs.declared.image.Image.{Image}
-use Rattle.lrs_machine.specs.declared.image.RouteEntry.{RouteEntry}
+use Rattle.lrs_machine.specs.declared.image.RouteRow.{RouteRow}
 use Rattle.lrs_machine.specs.Sound.{RouteReferents, RouteSpans, route_before, IsSound, spans_of, referents_of, are_spans_of, is_span, keeps_exclusive}
 use Rattle.lrs_image.specs.declared.change.RouteChange.{RouteChange}
 use Rattle.lrs_image.specs.Change.{apply, without, without_some, routes_after, entry_after, CanChangeRoute, GoesApart}
@@ -33,21 +33,21 @@ use Rattle.lrs_store_laws.proofs.Routes.{AreOthers, IsBeside, comes, changes}
 use Rattle.lrs_store_laws.proofs.Apart.{differ, referents, others_apart, put_in, taken, found_is_named, gone_elsewhere, IsKept, all_that_stay, stays_first}
 
 -- What is asked of the routes of a sound image.
-record AreSound (routes : List RouteEntry) : Type 0 where
+record AreSound (routes : List RouteRow) : Type 0 where
   order : each_two route_before routes ≡ true
   once : each_two differ (referents routes) ≡ true
-  rows : AllByRecursion (λ (e : RouteEntry). are_rows e.spans ≡ true) routes
+  rows : AllByRecursion (λ (e : RouteRow). are_rows e.spans ≡ true) routes
 
 goes_apart : (c : RouteChange) (dropped : Option Name) → GoesApart (Some c) dropped → IsKept dropped c.route × IsKept dropped c.name
 goes_apart c None h = (tt, tt)
 goes_apart c (Some name) h = h
 
-changes_some : (changed : Option RouteChange) (dropped : Option Name) (pieces : Option (List Piece)) → ArePieces (changed_course changed) pieces → (routes : List RouteEntry) → AreSound routes
+changes_some : (changed : Option RouteChange) (dropped : Option Name) (pieces : Option (List Piece)) → ArePieces (changed_course changed) pieces → (routes : List RouteRow) → AreSound routes
     → CanChangeRoute changed routes → GoesApart changed dropped → each_two route_before (routes_after changed routes) ≡ true → (i : Image) (t : Tables)
     → Encodes (over i (without_some dropped routes)) t → Encodes (over i (without_some dropped (routes_after changed routes))) (with_some (λ c. changed_route c pieces) changed t)
 changes_some None dropped pieces are routes sound can apart order i t h = h
 changes_some (Some c) dropped pieces are routes sound can apart order i t h =
-    let e = can.entry in
+    let e = can.row in
     let after = entry_after c e in
     let others = without c.route routes in
     let name = found_is_named c.route routes e can.found in
@@ -61,16 +61,16 @@ changes_some (Some c) dropped pieces are routes sound can apart order i t h =
     let beside : IsBeside c e (without_some dropped others) = record {
       named = name;
       fits = can.becomes.fits;
-      old = all_that_stay dropped (λ (o : RouteEntry). same_name o.route.name c.route ≡ false) others (subst (λ n. AreOthers n others) name (others_apart e others routes same sound.order));
-      new = all_that_stay dropped (λ (o : RouteEntry). same_name o.route.name c.name ≡ false) others (subst (λ n. AreOthers n others) new_name (others_apart after others (routes_after (Some c) routes) same_after order));
-      refs = all_that_stay dropped (λ (o : RouteEntry). AllByRecursion (λ (r : Referent). list_any (same_name r.name) c.refs.gone ≡ false) o.route.refs) others (gone_elsewhere e others routes c.refs.gone same sound.once can.becomes.named);
-      spans = keys_are_rows e.spans (all_permuted (λ (r : RouteEntry). are_rows r.spans ≡ true) routes (e ∷ others) same sound.rows).0 c.route c.spans_gone can.becomes.there;
+      old = all_that_stay dropped (λ (o : RouteRow). same_name o.route.name c.route ≡ false) others (subst (λ n. AreOthers n others) name (others_apart e others routes same sound.order));
+      new = all_that_stay dropped (λ (o : RouteRow). same_name o.route.name c.name ≡ false) others (subst (λ n. AreOthers n others) new_name (others_apart after others (routes_after (Some c) routes) same_after order));
+      refs = all_that_stay dropped (λ (o : RouteRow). AllByRecursion (λ (r : Referent). list_any (same_name r.name) c.refs.gone ≡ false) o.route.refs) others (gone_elsewhere e others routes c.refs.gone same sound.once can.becomes.named);
+      spans = keys_are_rows e.spans (all_permuted (λ (r : RouteRow). are_rows r.spans ≡ true) routes (e ∷ others) same sound.rows).0 c.route c.spans_gone can.becomes.there;
     } in
     encodes_over i (after ∷ without_some dropped others) (without_some dropped (routes_after (Some c) routes)) (changed_route c pieces t) stays_after
     (changes c pieces are e i (without_some dropped others) t beside
     (encodes_over i (without_some dropped routes) (e ∷ without_some dropped others) t (IsPermutation-sym _ _ stays) h))
 
-comes_some : (made : Option RouteEntry) (pieces : Option (List Piece)) → ArePieces (new_course made) pieces → (routes : List RouteEntry) → each_two route_before (insert_some route_before made routes) ≡ true → (i : Image) (t : Tables)
+comes_some : (made : Option RouteRow) (pieces : Option (List Piece)) → ArePieces (new_course made) pieces → (routes : List RouteRow) → each_two route_before (insert_some route_before made routes) ≡ true → (i : Image) (t : Tables)
     → Encodes (over i routes) t → Encodes (over i (insert_some route_before made routes)) (with_some (λ e. new_route e pieces) made t)
 comes_some None pieces are routes order i t h = h
 comes_some (Some e) pieces are routes order i t h =
@@ -82,8 +82,8 @@ are_sound i h =
     let tests = passes i h in
     record {
       order = routes_in_order i h;
-      once = ap (each_two differ) (sym (flat_map-map (λ (r : RouteReferents). r.refs) (λ (e : RouteEntry). record { length = length e.route.course; refs = e.route.refs }) i.routes)) ∙ (and_parts (list_all (λ (r : RouteReferents). are_referents r.length r.refs) (referents_of i)) (each_two differ (flat_map (λ (r : RouteReferents). r.refs) (referents_of i))) tests.referents).1;
-      rows = all_unmap (λ (s : RouteSpans). are_rows s.rows ≡ true) (λ (e : RouteEntry). record { course = e.route.course; rows = e.spans }) i.routes
+      once = ap (each_two differ) (sym (flat_map-map (λ (r : RouteReferents). r.refs) (λ (e : RouteRow). record { length = length e.route.course; refs = e.route.refs }) i.routes)) ∙ (and_parts (list_all (λ (r : RouteReferents). are_referents r.length r.refs) (referents_of i)) (each_two differ (flat_map (λ (r : RouteReferents). r.refs) (referents_of i))) tests.referents).1;
+      rows = all_unmap (λ (s : RouteSpans). are_rows s.rows ≡ true) (λ (e : RouteRow). record { course = e.route.course; rows = e.spans }) i.routes
           (all_weaker (λ (s : RouteSpans). are_spans_of i.assets s ≡ true) (λ (s : RouteSpans). are_rows s.rows ≡ true) (λ s k. (and_parts (are_rows s.rows) (list_all (is_span i.assets (length s.course)) s.rows) k).0) (spans_of i)
           (all_from_test (are_spans_of i.assets) (spans_of i) (and_parts (list_all (are_spans_of i.assets) (spans_of i)) (list_all (keeps_exclusive i.links i.assets (spans_of i)) i.classes) tests.spans).0));
     }

@@ -18,7 +18,7 @@ use Rattle.lrs_events.specs.declared.class.Asset.{Asset}
 use Rattle.lrs_events.specs.declared.span.Span.{Span}
 use Rattle.lrs_events.specs.Parts.{part_before}
 use Rattle.lrs_events.specs.Spans.{span_before}
-use Rattle.lrs_machine.specs.declared.image.RouteEntry.{RouteEntry}
+use Rattle.lrs_machine.specs.declared.image.RouteRow.{RouteRow}
 use Rattle.lrs_machine.specs.declared.image.Image.{Image}
 use Rattle.lrs_machine.specs.declared.table.Table.{Table}
 use Rattle.lrs_machine.specs.declared.table.Table.TheVariants as table
@@ -27,7 +27,7 @@ use Rattle.lrs_machine.proofs.Members.{In, In-map, map_found, any_found, all_at}
 use Rattle.lrs_machine.proofs.Pairs.{each_two-map}
 use Rattle.lrs_store_rows.specs.Tables.{Tables, PieceRow, OriginRow}
 use Rattle.lrs_store_rows.specs.Decoding.{each_of, each_sorted, sorted, OfRoute, said_of, Numbered, number_before, counted, link_of, class_of, asset_of, piece_of, mark_of, referent_of, span_of, part_of, gone_of, edit_of, Origin, origin_of}
-use Rattle.lrs_store_rows.specs.Content.{read, with_name, routes_named, course_in_fewest, course_of_route, courses_of, each_of_known, Measured, is_one_of, measured_with, measured_of, referent_before, route_with, routes_of, entry_with, entries_of, edits_of, marks_of, referents_of, spans_of, with_entry, inventory_of, version_of, origin_before, are_origins_of, has_origins, has_no_rows, image_of, content_of}
+use Rattle.lrs_store_rows.specs.Content.{read, with_name, routes_named, course_in_fewest, course_of_route, courses_of, each_of_known, Measured, is_one_of, measured_with, measured_of, referent_before, route_with, routes_of, row_with, entries_of, edits_of, marks_of, referents_of, spans_of, with_edit, inventory_of, version_of, origin_before, are_origins_of, has_origins, has_no_rows, image_of, content_of}
 use Rattle.lrs_store_rows.specs.Content as content
 use Rattle.lrs_store_rows.specs.Encoding.{link_row, class_row, asset_row, piece_row, mark_row, ref_row, span_row, entered_row, gone_row, edit_row, numbered, ArePiecesOf}
 use Rattle.lrs_store_rows.specs.Encoded.{Encodes}
@@ -61,7 +61,7 @@ pub record IsRead (t : Tables) (i : Image) : Type 0 where
   pub link : each_sorted link_before link_of t.link ≡ Some i.links
   pub class : each_sorted class_before class_of t.class ≡ Some i.classes
   pub asset : each_sorted asset_before asset_of t.asset ≡ Some assets_read
-  pub with_entries : i.assets ≡ map (with_entry i.entered) assets_read
+  pub with_edits : i.assets ≡ map (with_edit i.entered) assets_read
   pub piece : courses_of t.piece ≡ Some courses
   pub courses_pass : are_courses i.links courses ≡ true
   pub mark : measured_of t.mark courses ≡ Some measured
@@ -95,7 +95,7 @@ is_read t i h =
       link = links.decoded;
       class = classes.decoded;
       asset = assets.decoded;
-      with_entries = refl;
+      with_edits = refl;
       piece = courses.decoded;
       courses_pass = courses.passes;
       mark = measured.decoded;
@@ -157,7 +157,7 @@ named_in name n es h =
 
 -- ---- what a route is made of
 
-abbrev pub name_of : RouteEntry → Name
+abbrev pub name_of : RouteRow → Name
 name_of e = e.route.name
 
 -- the fewest pieces that were read of a route
@@ -216,10 +216,10 @@ module _ (t : Tables) (i : Image) (r : IsRead t i) where
   abbrev pub is_a_route : Name → Bool
   is_a_route name = list_any (λ (route : Route). same_name route.name name) r.routes
 
-  pub span_read : (said : List (OfRoute Span)) × (each_of_known (span_of r.assets_read) is_a_route t.span ≡ Some said) × (Some (map (entry_with said) r.routes) ≡ Some i.routes)
+  pub span_read : (said : List (OfRoute Span)) × (each_of_known (span_of r.assets_read) is_a_route t.span ≡ Some said) × (Some (map (row_with said) r.routes) ≡ Some i.routes)
   span_read = bind_some (each_of_known (span_of r.assets_read) is_a_route t.span) _ i.routes r.span
 
-  entries_are : map (entry_with span_read.0) r.routes ≡ i.routes
+  entries_are : map (row_with span_read.0) r.routes ≡ i.routes
   entries_are = some_is _ i.routes span_read.2
 
   -- the names are the same in each table
@@ -256,11 +256,11 @@ module _ (t : Tables) (i : Image) (r : IsRead t i) where
   route_names : map (λ (route : Route). route.name) r.routes ≡ map (λ (m : Measured). m.course.route) r.measured
   route_names = each_map (route_with ref_read.0) (λ (route : Route). route.name) (λ (m : Measured). m.course.route) (λ m route h. (is_made m route h).name) r.measured r.routes ref_read.2
 
-  entry_names : map name_of i.routes ≡ map (λ (route : Route). route.name) r.routes
-  entry_names = sym (ap (map name_of) entries_are) ∙ map-map name_of (entry_with span_read.0) r.routes
+  new_asset_names : map name_of i.routes ≡ map (λ (route : Route). route.name) r.routes
+  new_asset_names = sym (ap (map name_of) entries_are) ∙ map-map name_of (row_with span_read.0) r.routes
 
   pub to_courses : map name_of i.routes ≡ map (λ (c : RouteCourse). c.route) r.courses
-  to_courses = entry_names ∙ route_names ∙ measured_names
+  to_courses = new_asset_names ∙ route_names ∙ measured_names
 
   in_order : each_two name_before (map name_of i.routes) ≡ true
   in_order =
@@ -269,18 +269,18 @@ module _ (t : Tables) (i : Image) (r : IsRead t i) where
 
   -- where a route of the image comes from
 
-  record ComesFrom (e : RouteEntry) : Type 0 where
+  record ComesFrom (e : RouteRow) : Type 0 where
     course : RouteCourse
     known_course : In course r.courses
     measured : Measured
     has_marks : IsMeasured course measured
     route : Route
     made : IsMade measured route
-    entry : e ≡ entry_with span_read.0 route
+    entry : e ≡ row_with span_read.0 route
 
-  comes_from : (e : RouteEntry) → In e i.routes → ComesFrom e
+  comes_from : (e : RouteRow) → In e i.routes → ComesFrom e
   comes_from e m =
-      let route = map_found (entry_with span_read.0) e r.routes (subst (In e) (sym entries_are) m) in
+      let route = map_found (row_with span_read.0) e r.routes (subst (In e) (sym entries_are) m) in
       let measured = each_member (route_with ref_read.0) r.measured r.routes route.0 ref_read.2 route.1 in
       let course = each_member (measured_with mark_read.0) r.courses r.measured measured.0 mark_read.2 measured.1 in
       record {
@@ -299,16 +299,16 @@ module _ (t : Tables) (i : Image) (r : IsRead t i) where
       (has_pieces piece_read.0 named.0 c named.2).1
 
   -- the pieces of a route of the image
-  pub record HasOwn (e : RouteEntry) : Type 0 where
+  pub record HasOwn (e : RouteRow) : Type 0 where
     pub pieces : HasPieces piece_read.0 (let c : RouteCourse = record { route = e.route.name; entries = e.route.course } in c)
     pub marks : counted 0 (sorted number_before (said_of e.route.name mark_read.0)) ≡ Some e.route.marks
     pub refs : e.route.refs ≡ sorted referent_before (said_of e.route.name ref_read.0)
     pub spans : e.spans ≡ sorted span_before (said_of e.route.name span_read.0)
 
-  pub has_own : (e : RouteEntry) → In e i.routes → HasOwn e
+  pub has_own : (e : RouteRow) → In e i.routes → HasOwn e
   has_own e m =
       let from = comes_from e m in
-      let here : RouteEntry = entry_with span_read.0 from.route in
+      let here : RouteRow = row_with span_read.0 from.route in
       let same_course : from.course ≡ record { route = from.route.name; entries = from.route.course } =
       sym (λ i. record { route = (from.made.name ∙ ap (λ (c : RouteCourse). c.route) from.has_marks.course) i; entries = (from.made.course ∙ ap (λ (c : RouteCourse). c.entries) from.has_marks.course) i }) in
       let name : from.route.name ≡ from.measured.course.route = from.made.name in
@@ -323,7 +323,7 @@ module _ (t : Tables) (i : Image) (r : IsRead t i) where
   abbrev pieces : Name → List Piece
   pieces = pieces_in piece_read.0
 
-  are_pieces : (e : RouteEntry) → In e i.routes → ArePiecesOf e.route.course (pieces e.route.name)
+  are_pieces : (e : RouteRow) → In e i.routes → ArePiecesOf e.route.course (pieces e.route.name)
   are_pieces e m =
       let own = (has_own e m).pieces in
       let same : own.pieces ≡ pieces e.route.name = ap or_nothing (sym own.counts) in
@@ -356,7 +356,7 @@ module _ (t : Tables) (i : Image) (r : IsRead t i) where
       rows_of_routes ref_row name_of (λ e. map (ref_row e.route.name) e.route.refs) ref_read.0 t.ref i.routes
       (rows_back referent_of referent_said referent_back t.ref ref_read.0 known.each)
       in_order
-      (λ s m. subst (In s.route) (sym (entry_names ∙ route_names)) (named_in (λ (m : Measured). m.course.route) s.route r.measured (known.known s m)))
+      (λ s m. subst (In s.route) (sym (new_asset_names ∙ route_names)) (named_in (λ (m : Measured). m.course.route) s.route r.measured (known.known s m)))
       (λ e m. sorted_back (ref_row e.route.name) referent_before (said_of e.route.name ref_read.0) e.route.refs (has_own e m).refs)
 
   spans_back : IsPermutation (flat_map (λ e. map (span_row e.route.name) e.spans) i.routes) t.span
@@ -365,14 +365,14 @@ module _ (t : Tables) (i : Image) (r : IsRead t i) where
       rows_of_routes span_row name_of (λ e. map (span_row e.route.name) e.spans) span_read.0 t.span i.routes
       (rows_back (span_of r.assets_read) span_said (span_back r.assets_read) t.span span_read.0 known.each)
       in_order
-      (λ s m. subst (In s.route) (sym entry_names) (named_in (λ (route : Route). route.name) s.route r.routes (known.known s m)))
+      (λ s m. subst (In s.route) (sym new_asset_names) (named_in (λ (route : Route). route.name) s.route r.routes (known.known s m)))
       (λ e m. sorted_back (span_row e.route.name) span_before (said_of e.route.name span_read.0) e.spans (has_own e m).spans)
 
   -- ---- the other rows
 
   assets_back : IsPermutation (map asset_row i.assets) t.asset
   assets_back =
-      subst (λ rows. IsPermutation rows t.asset) (sym (ap (map asset_row) r.with_entries ∙ map-map asset_row (with_entry i.entered) r.assets_read))
+      subst (λ rows. IsPermutation rows t.asset) (sym (ap (map asset_row) r.with_edits ∙ map-map asset_row (with_edit i.entered) r.assets_read))
       (table_back asset_before asset_of asset_row asset_back t.asset r.assets_read r.asset)
 
   edits_back : IsPermutation (numbered edit_row 1 i.edits) t.edit
@@ -385,7 +385,7 @@ module _ (t : Tables) (i : Image) (r : IsRead t i) where
   encodes : IsPermutation (map origin_row i.assets) t.origin → t.version ≡ pos 2 ∷ [] → Encodes i t
   encodes origins two = record {
     pieces = pieces;
-    are = all_by (λ (e : RouteEntry). ArePiecesOf e.route.course (pieces e.route.name)) i.routes are_pieces;
+    are = all_by (λ (e : RouteRow). ArePiecesOf e.route.course (pieces e.route.name)) i.routes are_pieces;
     rows = record {
       version = subst (IsPermutation (pos 2 ∷ [])) (sym two) (IsPermutation-refl (pos 2 ∷ []));
       link = table_back link_before link_of link_row link_back t.link i.links r.link;
@@ -409,9 +409,9 @@ origins_are [] [] h = refl
 origins_are [] (o ∷ os) h = absurd (cc)
 origins_are (a ∷ assets) [] h = absurd (cc)
 origins_are (a ∷ assets) (o ∷ os) h =
-    let both = and_parts (nat_eq o.asset a.number && nat_eq o.edit a.entry) (are_origins_of assets os) h in
-    let same = and_parts (nat_eq o.asset a.number) (nat_eq o.edit a.entry) both.0 in
-    let first : origin_said o ≡ origin_row a = λ i. record { asset = pos (eqb-true o.asset a.number same.0 i); edit = pos (eqb-true o.edit a.entry same.1 i) } in
+    let both = and_parts (nat_eq o.asset a.number && nat_eq o.edit a.entered_by) (are_origins_of assets os) h in
+    let same = and_parts (nat_eq o.asset a.number) (nat_eq o.edit a.entered_by) both.0 in
+    let first : origin_said o ≡ origin_row a = λ i. record { asset = pos (eqb-true o.asset a.number same.0 i); edit = pos (eqb-true o.edit a.entered_by same.1 i) } in
     ap (λ r. r ∷ map origin_said os) first ∙ ap (λ rs. origin_row a ∷ rs) (origins_are assets os both.1)
 
 -- what was read of the whole store

@@ -11,7 +11,7 @@ use Rattle.lrs_position.specs.Names.{is_route_name, is_referent_name}
 use Rattle.lrs_events.specs.declared.class.Class.{Class}
 use Rattle.lrs_events.specs.declared.class.Asset.{Asset}
 use Rattle.lrs_events.specs.Names.{is_class_name, is_value}
-use Rattle.lrs_machine.specs.declared.image.RouteEntry.{RouteEntry}
+use Rattle.lrs_machine.specs.declared.image.RouteRow.{RouteRow}
 use Rattle.lrs_machine.specs.declared.image.Edit.{Edit}
 use Rattle.lrs_machine.specs.declared.image.Image.{Image}
 use Rattle.lrs_machine.specs.declared.table.Table.{Table}
@@ -23,7 +23,7 @@ use Rattle.lrs_machine.proofs.Members.{In, In-map, map_found, all_of}
 use Rattle.lrs_store_rows.specs.Tables.{Tables, ClassRow, AssetRow, RefRow, EditRow}
 use Rattle.lrs_store_rows.specs.Decoding.{only_if, whole, short, each_of, each_sorted, sorted, OfRoute, said_of, Numbered, number_before, counted, kind_numbered, is_forward_numbered, class_of, asset_of, piece_of, referent_of, edit_of, origin_of}
 use Rattle.lrs_store_rows.specs.Decoding as option
-use Rattle.lrs_store_rows.specs.Content.{read, with_name, routes_named, referent_before, with_entry, inventory_of, version_of, origin_before, has_origins, has_no_rows, image_of, content_of}
+use Rattle.lrs_store_rows.specs.Content.{read, with_name, routes_named, referent_before, with_edit, inventory_of, version_of, origin_before, has_origins, has_no_rows, image_of, content_of}
 use Rattle.lrs_store_rows.specs.Content as content
 use Rattle.lrs_store_laws.specs.ImageLaws.{HasTexts, ContentHasTexts}
 use Rattle.lrs_store_laws.proofs.Decoded.{some_is, bind_some, only_some, says_piece, each_member}
@@ -86,17 +86,17 @@ named_member n (r ∷ said) m = by (with_name_member n r.route (routes_named sai
 module _ (t : Tables) (i : Image) (r : IsRead t i) where
   value_of : (a : Asset) → In a i.assets → is_value a.value ≡ true
   value_of a m =
-      let bare = map_found (with_entry i.entered) a r.assets_read (subst (In a) r.with_entries m) in
+      let bare = map_found (with_edit i.entered) a r.assets_read (subst (In a) r.with_edits m) in
       let row = row_of asset_before asset_of t.asset r.assets_read bare.0 r.asset bare.1 in
       subst (λ (a : Asset). is_value a.value ≡ true) (sym bare.2) (value_known row.0 bare.0 row.2)
 
-  route_of : (e : RouteEntry) → In e i.routes → is_route_name e.route.name ≡ true
+  route_of : (e : RouteRow) → In e i.routes → is_route_name e.route.name ≡ true
   route_of e m =
       let s = named_member e.route.name (piece_read t i r).0 (subst (In e.route.name) (to_courses t i r ∙ course_names t i r) (In-map name_of e i.routes m)) in
       let row = each_member piece_of t.piece (piece_read t i r).0 s.0 (piece_read t i r).1 s.1 in
       subst (λ n. is_route_name n ≡ true) s.2 (says_piece row.0 s.0 row.2).named
 
-  referents_of_entry : (e : RouteEntry) → In e i.routes → (x : Referent) → In x e.route.refs → is_referent_name x.name ≡ true
+  referents_of_entry : (e : RouteRow) → In e i.routes → (x : Referent) → In x e.route.refs → is_referent_name x.name ≡ true
   referents_of_entry e m x k =
       let said = (ref_read t i r).0 in
       let known = are_known referent_of (is_measured t i r) t.ref said (ref_read t i r).1 in
@@ -115,8 +115,8 @@ module _ (t : Tables) (i : Image) (r : IsRead t i) where
   has_texts = record {
     classes = all_of (λ (c : Class). is_class_name c.name) i.classes (λ c m. let row = row_of class_before class_of t.class i.classes c r.class m in class_named row.0 c row.2);
     values = all_of (λ (a : Asset). is_value a.value) i.assets value_of;
-    routes = all_of (λ (e : RouteEntry). is_route_name e.route.name) i.routes route_of;
-    referents = all_of (λ (e : RouteEntry). list_all (λ x. is_referent_name x.name) e.route.refs) i.routes (λ e m. all_of (λ (x : Referent). is_referent_name x.name) e.route.refs (referents_of_entry e m));
+    routes = all_of (λ (e : RouteRow). is_route_name e.route.name) i.routes route_of;
+    referents = all_of (λ (e : RouteRow). list_all (λ x. is_referent_name x.name) e.route.refs) i.routes (λ e m. all_of (λ (x : Referent). is_referent_name x.name) e.route.refs (referents_of_entry e m));
     keys = all_of (λ (e : Edit). is_key e.key) i.edits (λ e m. (and_parts (is_key e.key) (is_utf8 e.line) (texts_of_edit e m)).0);
     lines = all_of (λ (e : Edit). is_utf8 e.line) i.edits (λ e m. (and_parts (is_key e.key) (is_utf8 e.line) (texts_of_edit e m)).1);
   }

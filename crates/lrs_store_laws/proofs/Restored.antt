@@ -22,7 +22,7 @@ use Rattle.lrs_events.specs.Names.{is_class_name, is_value}
 use Rattle.lrs_events.specs.Parts.{part_before}
 use Rattle.lrs_events.specs.Places.{differs}
 use Rattle.lrs_events.specs.Spans.{span_before, is_row, are_rows, are_apart}
-use Rattle.lrs_machine.specs.declared.image.RouteEntry.{RouteEntry}
+use Rattle.lrs_machine.specs.declared.image.RouteRow.{RouteRow}
 use Rattle.lrs_machine.specs.declared.image.Edit.{Edit}
 use Rattle.lrs_machine.specs.declared.image.Image.{Image}
 use Rattle.lrs_machine.specs.declared.table.Table.{Table}
@@ -36,7 +36,7 @@ use Rattle.lrs_machine.proofs.SoundImages.{passed, and_three, Tested, tested, or
 use Rattle.lrs_store_rows.specs.Tables.{Tables}
 use Rattle.lrs_store_rows.specs.Decoding.{only_if, if_true, each_of, each_sorted, sorted, OfRoute, said_of, Numbered, number_before, counted, link_of, class_of, asset_of, piece_of, mark_of, referent_of, class_of_asset, span_of, part_of, gone_of, edit_of}
 use Rattle.lrs_store_rows.specs.Decoding as option
-use Rattle.lrs_store_rows.specs.Content.{read, routes_named, course_in_fewest, course_of_route, courses_of, each_of_known, Measured, is_one_of, measured_with, measured_of, referent_before, route_with, routes_of, entry_with, entries_of, edits_of, marks_of, referents_of, spans_of, with_entry, inventory_of, origin_before, has_origins, image_of, content_of}
+use Rattle.lrs_store_rows.specs.Content.{read, routes_named, course_in_fewest, course_of_route, courses_of, each_of_known, Measured, is_one_of, measured_with, measured_of, referent_before, route_with, routes_of, row_with, entries_of, edits_of, marks_of, referents_of, spans_of, with_edit, inventory_of, origin_before, has_origins, image_of, content_of}
 use Rattle.lrs_store_rows.specs.Content as content
 use Rattle.lrs_store_rows.specs.Encoding.{link_row, class_row, asset_row, piece_row, mark_row, ref_row, span_row, entered_row, gone_row, edit_row, numbered, ArePiecesOf}
 use Rattle.lrs_store_rows.specs.Encoded.{encoded, ArePiecesOfAll}
@@ -96,7 +96,7 @@ route_fits r =
       on = λ x m. ltb-true x.at (length r.course) (all_at (λ x. nat_lt x.at (length r.course)) x r.refs refs.1 m);
     }
 
-abbrev name_of : RouteEntry → Name
+abbrev name_of : RouteRow → Name
 name_of e = e.route.name
 
 module _ (pieces : Name → List Piece) (i : Image) (texts : HasTexts i) (is_sound : IsSound i) (are : ArePiecesOfAll pieces i.routes) where
@@ -151,9 +151,9 @@ module _ (pieces : Name → List Piece) (i : Image) (texts : HasTexts i) (is_sou
 
   -- assets are read without their edits
   abbrev bare : List Asset
-  bare = map (with_entry []) i.assets
+  bare = map (with_edit []) i.assets
 
-  asset_said : (a : Asset) → In a i.assets → asset_of (asset_row a) ≡ Some (with_entry [] a)
+  asset_said : (a : Asset) → In a i.assets → asset_of (asset_row a) ≡ Some (with_edit [] a)
   asset_said a m =
       let b = asset_bounds i t a m in
       let c = any_found (λ (c : Class). same_name c.name a.class) i.classes (asset_class i t a m) in
@@ -162,7 +162,7 @@ module _ (pieces : Name → List Piece) (i : Image) (texts : HasTexts i) (is_sou
 
   assets_there : each_sorted asset_before asset_of (map asset_row i.assets) ≡ Some bare
   assets_there =
-      in_order_there asset_before asset_of (map asset_row i.assets) bare (each_there asset_of asset_row (with_entry []) i.assets asset_said) (each_two-map asset_before (with_entry []) i.assets ∙ t.asset_order)
+      in_order_there asset_before asset_of (map asset_row i.assets) bare (each_there asset_of asset_row (with_edit []) i.assets asset_said) (each_two-map asset_before (with_edit []) i.assets ∙ t.asset_order)
 
   entered_there : each_sorted part_before part_of (map entered_row i.entered) ≡ Some i.entered
   entered_there = table_there part_before part_of entered_row i.entered
@@ -193,33 +193,33 @@ module _ (pieces : Name → List Piece) (i : Image) (texts : HasTexts i) (is_sou
       let three = and_three (each_two course_before (sound.courses_of i)) (list_all (is_course i.links) (sound.courses_of i)) (each_two (λ c d. not (meets c.entries d.entries)) (sound.courses_of i)) all.0 in
       each_two-map name_before name_of i.routes ∙ sym (each_two-map course_before (λ e. record { route = e.route.name; entries = e.route.course }) i.routes) ∙ three.0
 
-  pieces_of_entry : (e : RouteEntry) → In e i.routes → ArePiecesOf e.route.course (pieces e.route.name)
-  pieces_of_entry e m = all_in (λ (e : RouteEntry). ArePiecesOf e.route.course (pieces e.route.name)) e i.routes are m
+  pieces_of_entry : (e : RouteRow) → In e i.routes → ArePiecesOf e.route.course (pieces e.route.name)
+  pieces_of_entry e m = all_in (λ (e : RouteRow). ArePiecesOf e.route.course (pieces e.route.name)) e i.routes are m
 
-  named : (e : RouteEntry) → In e i.routes → is_route_name e.route.name ≡ true
-  named e m = all_at (λ (e : RouteEntry). is_route_name e.route.name) e i.routes texts.routes m
+  named : (e : RouteRow) → In e i.routes → is_route_name e.route.name ≡ true
+  named e m = all_at (λ (e : RouteRow). is_route_name e.route.name) e i.routes texts.routes m
 
-  on_links : (e : RouteEntry) → In e i.routes → list_all (is_on_a_link i.links) e.route.course ≡ true
+  on_links : (e : RouteRow) → In e i.routes → list_all (is_on_a_link i.links) e.route.course ≡ true
   on_links e m =
       let course = all_at (is_course i.links) _ (sound.courses_of i) t.courses (In-map (λ e. record { route = e.route.name; entries = e.route.course }) e i.routes m) in
       (and_three (is_route_course e.route.course) (list_all (is_on_a_link i.links) e.route.course) (each_two differs e.route.course) course).1
 
   -- pieces
 
-  abbrev own_pieces : RouteEntry → List (Numbered Piece)
+  abbrev own_pieces : RouteRow → List (Numbered Piece)
   own_pieces e = numbered under 0 (pieces e.route.name)
 
   abbrev pieces_told : List (OfRoute (Numbered Piece))
   pieces_told = all_told name_of own_pieces i.routes
 
-  few_pieces : (e : RouteEntry) → In e i.routes → length (pieces e.route.name) ≤ 1_000
+  few_pieces : (e : RouteRow) → In e i.routes → length (pieces e.route.name) ≤ 1_000
   few_pieces e m =
       let own = pieces_of_entry e m in
       let as_many : length (pieces e.route.name) ≡ piece_count e.route.course = own.fewest.fewest ∙ ap piece_count own.course_is in
       let few = (route_fits e.route).course.few_pieces in
       omega (arith, as_many, few)
 
-  pieces_of_route : (e : RouteEntry) → In e i.routes → each_of piece_of (numbered (piece_row e.route.name) 0 (pieces e.route.name)) ≡ Some (map (told e.route.name) (own_pieces e))
+  pieces_of_route : (e : RouteRow) → In e i.routes → each_of piece_of (numbered (piece_row e.route.name) 0 (pieces e.route.name)) ≡ Some (map (told e.route.name) (own_pieces e))
   pieces_of_route e m =
       let own = pieces_of_entry e m in
       let few = few_pieces e m in
@@ -232,10 +232,10 @@ module _ (pieces : Name → List Piece) (i : Image) (texts : HasTexts i) (is_sou
   pieces_say : each_of piece_of (flat_map (λ e. numbered (piece_row e.route.name) 0 (pieces e.route.name)) i.routes) ≡ Some pieces_told
   pieces_say = each_flat piece_of (λ e. numbered (piece_row e.route.name) 0 (pieces e.route.name)) (λ e. map (told e.route.name) (own_pieces e)) i.routes pieces_of_route
 
-  abbrev course_of_entry : RouteEntry → RouteCourse
+  abbrev course_of_entry : RouteRow → RouteCourse
   course_of_entry e = record { route = e.route.name; entries = e.route.course }
 
-  course_there : (e : RouteEntry) → In e i.routes → course_of_route pieces_told e.route.name ≡ Some (course_of_entry e)
+  course_there : (e : RouteRow) → In e i.routes → course_of_route pieces_told e.route.name ≡ Some (course_of_entry e)
   course_there e m =
       let own = pieces_of_entry e m in
       bind_is (counted 0 (sorted number_before (said_of e.route.name pieces_told))) _ (pieces e.route.name) _
@@ -253,13 +253,13 @@ module _ (pieces : Name → List Piece) (i : Image) (texts : HasTexts i) (is_sou
 
   -- marks
 
-  abbrev own_marks : RouteEntry → List (Numbered Mark)
+  abbrev own_marks : RouteRow → List (Numbered Mark)
   own_marks e = numbered under 0 e.route.marks
 
   abbrev marks_told : List (OfRoute (Numbered Mark))
   marks_told = all_told name_of own_marks i.routes
 
-  marks_of_route : (e : RouteEntry) → In e i.routes → each_of mark_of (numbered (mark_row e.route.name) 0 e.route.marks) ≡ Some (map (told e.route.name) (own_marks e))
+  marks_of_route : (e : RouteRow) → In e i.routes → each_of mark_of (numbered (mark_row e.route.name) 0 e.route.marks) ≡ Some (map (told e.route.name) (own_marks e))
   marks_of_route e m =
       let fits = route_fits e.route in
       let few = fits.marks.few in
@@ -269,11 +269,11 @@ module _ (pieces : Name → List Piece) (i : Image) (texts : HasTexts i) (is_sou
       mark_there e.route.name n x (omega (arith, l, few)) (omega (arith, b.0, short)) (omega (arith, b.1)))
       ∙ ap Some (numbered-told e.route.name 0 e.route.marks)
 
-  abbrev measured_of_entry : RouteEntry → Measured
+  abbrev measured_of_entry : RouteRow → Measured
   measured_of_entry e = record { course = course_of_entry e; marks = e.route.marks }
 
   -- a route is one of those that are known by their names
-  is_known : {Y : Type 0} (name : Y → Name) (f : RouteEntry → Y) → ((e : RouteEntry) → name (f e) ≡ e.route.name) → (e : RouteEntry) → In e i.routes → list_any (λ y. same_name (name y) e.route.name) (map f i.routes) ≡ true
+  is_known : {Y : Type 0} (name : Y → Name) (f : RouteRow → Y) → ((e : RouteRow) → name (f e) ≡ e.route.name) → (e : RouteRow) → In e i.routes → list_any (λ y. same_name (name y) e.route.name) (map f i.routes) ≡ true
   is_known name f same e m = any_of (λ y. same_name (name y) e.route.name) (f e) (map f i.routes) (In-map f e i.routes m) ((bytes_decides (name (f e)) e.route.name).1 (same e))
 
   measured_there : measured_of (flat_map (λ e. numbered (mark_row e.route.name) 0 e.route.marks) i.routes) (sound.courses_of i) ≡ Some (map measured_of_entry i.routes)
@@ -289,17 +289,17 @@ module _ (pieces : Name → List Piece) (i : Image) (texts : HasTexts i) (is_sou
 
   -- referents
 
-  abbrev own_refs : RouteEntry → List Referent
+  abbrev own_refs : RouteRow → List Referent
   own_refs e = e.route.refs
 
   abbrev refs_told : List (OfRoute Referent)
   refs_told = all_told name_of own_refs i.routes
 
-  refs_of_route : (e : RouteEntry) → In e i.routes → each_of referent_of (map (ref_row e.route.name) e.route.refs) ≡ Some (map (told e.route.name) e.route.refs)
+  refs_of_route : (e : RouteRow) → In e i.routes → each_of referent_of (map (ref_row e.route.name) e.route.refs) ≡ Some (map (told e.route.name) e.route.refs)
   refs_of_route e m =
       let fits = route_fits e.route in
       let short = fits.course.short in
-      let texts_of = all_at (λ (e : RouteEntry). list_all (λ r. is_referent_name r.name) e.route.refs) e i.routes texts.referents m in
+      let texts_of = all_at (λ (e : RouteRow). list_all (λ r. is_referent_name r.name) e.route.refs) e i.routes texts.referents m in
       each_there referent_of (ref_row e.route.name) (told e.route.name) e.route.refs (λ r k.
       let on = fits.on r k in
       referent_there e.route.name r (omega (arith, on, short)) (all_at (λ (r : Referent). is_referent_name r.name) r e.route.refs texts_of k))
@@ -314,33 +314,33 @@ module _ (pieces : Name → List Piece) (i : Image) (texts : HasTexts i) (is_sou
   abbrev is_measured : Name → Bool
   is_measured route = list_any (λ (m : Measured). same_name m.course.route route) (map measured_of_entry i.routes)
 
-  routes_there : routes_of (flat_map (λ e. map (ref_row e.route.name) e.route.refs) i.routes) (map measured_of_entry i.routes) ≡ Some (map (λ (e : RouteEntry). e.route) i.routes)
+  routes_there : routes_of (flat_map (λ e. map (ref_row e.route.name) e.route.refs) i.routes) (map measured_of_entry i.routes) ≡ Some (map (λ (e : RouteRow). e.route) i.routes)
   routes_there =
       bind_is (each_of_known referent_of is_measured (flat_map (λ e. map (ref_row e.route.name) e.route.refs) i.routes)) _ refs_told _
       (known_there referent_of is_measured (flat_map (λ e. map (ref_row e.route.name) e.route.refs) i.routes) refs_told
       (each_flat referent_of (λ e. map (ref_row e.route.name) e.route.refs) (λ e. map (told e.route.name) e.route.refs) i.routes refs_of_route)
       (told_known name_of own_refs is_measured i.routes (is_known (λ (m : Measured). m.course.route) measured_of_entry (λ e. refl))))
-      (each_there (route_with refs_told) measured_of_entry (λ (e : RouteEntry). e.route) i.routes (λ e m.
+      (each_there (route_with refs_told) measured_of_entry (λ (e : RouteRow). e.route) i.routes (λ e m.
       with_refs e.route (sorted referent_before (said_of e.route.name refs_told))
       (ap (sorted referent_before) (said_back name_of own_refs e i.routes courses_order m) ∙ sorted-same referent_before e.route.refs (route_fits e.route).order)))
 
   -- spans
 
-  abbrev own_spans : RouteEntry → List Span
+  abbrev own_spans : RouteRow → List Span
   own_spans e = e.spans
 
   abbrev spans_told : List (OfRoute Span)
   spans_told = all_told name_of own_spans i.routes
 
-  spans_test : (e : RouteEntry) → In e i.routes → are_spans_of i.assets (spans_of e) ≡ true
+  spans_test : (e : RouteRow) → In e i.routes → are_spans_of i.assets (spans_of e) ≡ true
   spans_test e m = all_at (are_spans_of i.assets) (spans_of e) (sound.spans_of i) t.spans (In-map spans_of e i.routes m)
 
-  span_order : (e : RouteEntry) → In e i.routes → each_two span_before e.spans ≡ true
+  span_order : (e : RouteRow) → In e i.routes → each_two span_before e.spans ≡ true
   span_order e m =
       let rows = and_parts (are_rows e.spans) (list_all (is_span i.assets (length e.route.course)) e.spans) (spans_test e m) in
       (and_three (list_all is_row e.spans) (each_two span_before e.spans) (each_two are_apart e.spans) rows.0).1
 
-  span_said : (e : RouteEntry) → In e i.routes → (s : Span) → In s e.spans → span_of bare (span_row e.route.name s) ≡ Some (told e.route.name s)
+  span_said : (e : RouteRow) → In e i.routes → (s : Span) → In s e.spans → span_of bare (span_row e.route.name s) ≡ Some (told e.route.name s)
   span_said e m s k =
       let rows = and_parts (are_rows e.spans) (list_all (is_span i.assets (length e.route.course)) e.spans) (spans_test e m) in
       let row = (and_three (list_all is_row e.spans) (each_two span_before e.spans) (each_two are_apart e.spans) rows.0).0 in
@@ -357,25 +357,25 @@ module _ (pieces : Name → List Piece) (i : Image) (texts : HasTexts i) (is_sou
       span_there bare e.route.name s (omega (arith, number, least)) class filled (omega (arith, within, short))
 
   abbrev is_a_route : Name → Bool
-  is_a_route name = list_any (λ (route : Route). same_name route.name name) (map (λ (e : RouteEntry). e.route) i.routes)
+  is_a_route name = list_any (λ (route : Route). same_name route.name name) (map (λ (e : RouteRow). e.route) i.routes)
 
-  entries_there : entries_of bare (flat_map (λ e. map (span_row e.route.name) e.spans) i.routes) (map (λ (e : RouteEntry). e.route) i.routes) ≡ Some i.routes
+  entries_there : entries_of bare (flat_map (λ e. map (span_row e.route.name) e.spans) i.routes) (map (λ (e : RouteRow). e.route) i.routes) ≡ Some i.routes
   entries_there =
       bind_is (each_of_known (span_of bare) is_a_route (flat_map (λ e. map (span_row e.route.name) e.spans) i.routes)) _ spans_told _
       (known_there (span_of bare) is_a_route (flat_map (λ e. map (span_row e.route.name) e.spans) i.routes) spans_told
       (each_flat (span_of bare) (λ e. map (span_row e.route.name) e.spans) (λ e. map (told e.route.name) e.spans) i.routes (λ e m. each_there (span_of bare) (span_row e.route.name) (told e.route.name) e.spans (span_said e m)))
-      (told_known name_of own_spans is_a_route i.routes (is_known (λ (r : Route). r.name) (λ (e : RouteEntry). e.route) (λ e. refl))))
-      (ap Some (map-map (entry_with spans_told) (λ (e : RouteEntry). e.route) i.routes ∙ same_all (λ e. entry_with spans_told e.route) i.routes (λ e m.
+      (told_known name_of own_spans is_a_route i.routes (is_known (λ (r : Route). r.name) (λ (e : RouteRow). e.route) (λ e. refl))))
+      (ap Some (map-map (row_with spans_told) (λ (e : RouteRow). e.route) i.routes ∙ same_all (λ e. row_with spans_told e.route) i.routes (λ e m.
       let own : sorted span_before (said_of e.route.name spans_told) ≡ e.spans = ap (sorted span_before) (said_back name_of own_spans e i.routes courses_order m) ∙ sorted-same span_before e.spans (span_order e m) in
       λ j. record { route = e.route; spans = own j })))
 
   -- ---- the image
 
-  entries_back : map (with_entry i.entered) bare ≡ i.assets
-  entries_back = map-map (with_entry i.entered) (with_entry []) i.assets ∙ same_all (λ a. with_entry i.entered (with_entry [] a)) i.assets (λ a m.
+  entries_back : map (with_edit i.entered) bare ≡ i.assets
+  entries_back = map-map (with_edit i.entered) (with_edit []) i.assets ∙ same_all (λ a. with_edit i.entered (with_edit [] a)) i.assets (λ a m.
       let origin = origin_of i t a m in
       let entry = entered_back a i.entered origin.0 origin.1 in
-      λ j. record a { entry = entry j })
+      λ j. record a { entered_by = entry j })
 
   inventory_is : inventory_of (encoded pieces i) ≡ Ok i
   inventory_is =
@@ -386,9 +386,9 @@ module _ (pieces : Name → List Piece) (i : Image) (texts : HasTexts i) (is_sou
       (read_is table.Piece (courses_of rows.piece) (are_courses i.links) _ (sound.courses_of i) _ courses_there course_test
       (read_is table.Mark (measured_of rows.mark (sound.courses_of i)) (λ ms. are_all_marks (map marks_of ms)) _ (map measured_of_entry i.routes) _ measured_there
       (ap are_all_marks (map-map marks_of measured_of_entry i.routes) ∙ mark_test)
-      (read_is table.Ref (routes_of rows.ref (map measured_of_entry i.routes)) (λ rs. are_all_referents (map referents_of rs)) _ (map (λ (e : RouteEntry). e.route) i.routes) _ routes_there
-      (ap are_all_referents (map-map referents_of (λ (e : RouteEntry). e.route) i.routes) ∙ ref_test)
-      (read_is table.Span (entries_of bare rows.span (map (λ (e : RouteEntry). e.route) i.routes)) (λ es. are_spans i.links i.classes bare (map spans_of es)) _ i.routes _ entries_there
+      (read_is table.Ref (routes_of rows.ref (map measured_of_entry i.routes)) (λ rs. are_all_referents (map referents_of rs)) _ (map (λ (e : RouteRow). e.route) i.routes) _ routes_there
+      (ap are_all_referents (map-map referents_of (λ (e : RouteRow). e.route) i.routes) ∙ ref_test)
+      (read_is table.Span (entries_of bare rows.span (map (λ (e : RouteRow). e.route) i.routes)) (λ es. are_spans i.links i.classes bare (map spans_of es)) _ i.routes _ entries_there
       (spans-same [] i.links i.classes i.assets (sound.spans_of i) ∙ span_test)
       (read_is table.Entered (each_sorted part_before part_of rows.entered) (are_entered i.links bare) _ i.entered _ entered_there (entered-same [] i.links i.assets i.entered ∙ entered_test)
       (read_is table.Gone (each_sorted gone_before gone_of rows.gone) (are_gone i.links bare (sound.spans_of i) i.entered) _ i.gone _ gone_is_there (gone-same [] i.links i.assets (sound.spans_of i) i.entered i.gone ∙ gone_test)

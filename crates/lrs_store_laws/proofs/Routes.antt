@@ -11,7 +11,7 @@ use Rattle.lrs_position.specs.declared.route.Referent.{Referent}
 use Rattle.lrs_position.specs.Routes.{referent_before}
 use Rattle.lrs_events.specs.Spans.{span_before}
 use Rattle.lrs_events.specs.Changes.{without_rows}
-use Rattle.lrs_machine.specs.declared.image.RouteEntry.{RouteEntry}
+use Rattle.lrs_machine.specs.declared.image.RouteRow.{RouteRow}
 use Rattle.lrs_machine.specs.declared.image.Image.{Image}
 use Rattle.lrs_image.specs.declared.change.RouteChange.{RouteChange}
 use Rattle.lrs_image.specs.Change.{fits_after, route_after, entry_after, course_after}
@@ -33,30 +33,30 @@ abbrev pub with_own : Name → List Piece → (Name → List Piece) → Name →
 with_own route own pieces name = cond (same_name name route) own (pieces name)
 
 -- no other route has the name
-abbrev pub AreOthers : Name → List RouteEntry → Type 0
-AreOthers route others = AllByRecursion (λ (e : RouteEntry). same_name e.route.name route ≡ false) others
+abbrev pub AreOthers : Name → List RouteRow → Type 0
+AreOthers route others = AllByRecursion (λ (e : RouteRow). same_name e.route.name route ≡ false) others
 
-other_pieces : (route : Name) (own : List Piece) (pieces : Name → List Piece) (others : List RouteEntry) → AreOthers route others → AllByRecursion (λ (e : RouteEntry). with_own route own pieces e.route.name ≡ pieces e.route.name) others
+other_pieces : (route : Name) (own : List Piece) (pieces : Name → List Piece) (others : List RouteRow) → AreOthers route others → AllByRecursion (λ (e : RouteRow). with_own route own pieces e.route.name ≡ pieces e.route.name) others
 other_pieces route own pieces others =
-    all_weaker (λ (e : RouteEntry). same_name e.route.name route ≡ false) (λ (e : RouteEntry). with_own route own pieces e.route.name ≡ pieces e.route.name) (λ e h. ap (λ b. cond b own (pieces e.route.name)) h) others
+    all_weaker (λ (e : RouteRow). same_name e.route.name route ≡ false) (λ (e : RouteRow). with_own route own pieces e.route.name ≡ pieces e.route.name) (λ e h. ap (λ b. cond b own (pieces e.route.name)) h) others
 
-others_alike : (route : Name) (own : List Piece) (pieces : Name → List Piece) (i : Image) (others : List RouteEntry) → AreOthers route others → encoded (with_own route own pieces) (over i others) ≡ encoded pieces (over i others)
+others_alike : (route : Name) (own : List Piece) (pieces : Name → List Piece) (i : Image) (others : List RouteRow) → AreOthers route others → encoded (with_own route own pieces) (over i others) ≡ encoded pieces (over i others)
 others_alike route own pieces i others apart =
     ap (λ (l : List PieceRow). record (encoded pieces (over i others)) { piece = l })
     (flat_map_alike (pieces_of (with_own route own pieces)) (pieces_of pieces) others
-    (all_weaker (λ (e : RouteEntry). with_own route own pieces e.route.name ≡ pieces e.route.name) (λ (e : RouteEntry). pieces_of (with_own route own pieces) e ≡ pieces_of pieces e)
+    (all_weaker (λ (e : RouteRow). with_own route own pieces e.route.name ≡ pieces e.route.name) (λ (e : RouteRow). pieces_of (with_own route own pieces) e ≡ pieces_of pieces e)
     (λ e h. ap (λ ps. numbered (piece_row e.route.name) 0 ps) h) others (other_pieces route own pieces others apart)))
 
-others_are : (route : Name) (own : List Piece) (pieces : Name → List Piece) (others : List RouteEntry) → AreOthers route others → ArePiecesOfAll pieces others → ArePiecesOfAll (with_own route own pieces) others
+others_are : (route : Name) (own : List Piece) (pieces : Name → List Piece) (others : List RouteRow) → AreOthers route others → ArePiecesOfAll pieces others → ArePiecesOfAll (with_own route own pieces) others
 others_are route own pieces others apart =
-    all_both (λ (e : RouteEntry). with_own route own pieces e.route.name ≡ pieces e.route.name) (λ (e : RouteEntry). ArePiecesOf e.route.course (pieces e.route.name)) (λ (e : RouteEntry). ArePiecesOf e.route.course (with_own route own pieces e.route.name))
+    all_both (λ (e : RouteRow). with_own route own pieces e.route.name ≡ pieces e.route.name) (λ (e : RouteRow). ArePiecesOf e.route.course (pieces e.route.name)) (λ (e : RouteRow). ArePiecesOf e.route.course (with_own route own pieces e.route.name))
     (λ e same are. subst (ArePiecesOf e.route.course) (sym same) are) others (other_pieces route own pieces others apart)
 
 own_is : (route : Name) (own : List Piece) (pieces : Name → List Piece) → with_own route own pieces route ≡ own
 own_is route own pieces = ap (λ b. cond b own (pieces route)) (same_itself route)
 
 -- a route that comes
-pub comes : (e : RouteEntry) (made : Option (List Piece)) → ArePieces (Some e.route.course) made → (i : Image) (others : List RouteEntry) (t : Tables) → AreOthers e.route.name others
+pub comes : (e : RouteRow) (made : Option (List Piece)) → ArePieces (Some e.route.course) made → (i : Image) (others : List RouteRow) (t : Tables) → AreOthers e.route.name others
     → Encodes (over i others) t → Encodes (over i (e ∷ others)) (new_route e made t)
 comes e None are i others t apart h = absurd are
 comes e (Some own) are i others t apart h =
@@ -69,26 +69,26 @@ comes e (Some own) are i others t apart h =
     (subst (AreSame (encoded pieces (over i (e ∷ others)))) same (same_refl _))
 
 -- A route that can change, beside the others: it has the old name, no other has the old or the new one, and what goes is on it alone.
-pub record IsBeside (c : RouteChange) (e : RouteEntry) (others : List RouteEntry) : Type 0 where
+pub record IsBeside (c : RouteChange) (e : RouteRow) (others : List RouteRow) : Type 0 where
   pub named : e.route.name ≡ c.route
   pub fits : fits_after c e.route ≡ true
   pub old : AreOthers c.route others
   pub new : AreOthers c.name others
-  pub refs : AllByRecursion (λ (o : RouteEntry). AllByRecursion (λ (r : Referent). list_any (same_name r.name) c.refs.gone ≡ false) o.route.refs) others
+  pub refs : AllByRecursion (λ (o : RouteRow). AllByRecursion (λ (r : Referent). list_any (same_name r.name) c.refs.gone ≡ false) o.route.refs) others
   pub spans : AreKeyedAs c e.spans
 
-clear_of : (c : RouteChange) (e : RouteEntry) (others : List RouteEntry) → IsBeside c e others → (pieces : Name → List Piece) (i : Image) → IsClearOf c.route c.refs.gone (encoded pieces (over i others))
+clear_of : (c : RouteChange) (e : RouteRow) (others : List RouteRow) → IsBeside c e others → (pieces : Name → List Piece) (i : Image) → IsClearOf c.route c.refs.gone (encoded pieces (over i others))
 clear_of c e others h pieces i = record {
   piece = all-flat_map (λ (r : PieceRow). same_name r.route c.route ≡ false) (pieces_of pieces) others
-      (all_weaker (λ (o : RouteEntry). same_name o.route.name c.route ≡ false) (λ (o : RouteEntry). AllByRecursion (λ (r : PieceRow). same_name r.route c.route ≡ false) (pieces_of pieces o)) (λ o k. numbered_all (λ (r : PieceRow). same_name r.route c.route ≡ false) (piece_row o.route.name) (λ n p. k) 0 (pieces o.route.name)) others h.old);
+      (all_weaker (λ (o : RouteRow). same_name o.route.name c.route ≡ false) (λ (o : RouteRow). AllByRecursion (λ (r : PieceRow). same_name r.route c.route ≡ false) (pieces_of pieces o)) (λ o k. numbered_all (λ (r : PieceRow). same_name r.route c.route ≡ false) (piece_row o.route.name) (λ n p. k) 0 (pieces o.route.name)) others h.old);
   mark = all-flat_map (λ (r : MarkRow). same_name r.route c.route ≡ false) marks_of others
-      (all_weaker (λ (o : RouteEntry). same_name o.route.name c.route ≡ false) (λ (o : RouteEntry). AllByRecursion (λ (r : MarkRow). same_name r.route c.route ≡ false) (marks_of o)) (λ o k. numbered_all (λ (r : MarkRow). same_name r.route c.route ≡ false) (mark_row o.route.name) (λ n p. k) 0 o.route.marks) others h.old);
+      (all_weaker (λ (o : RouteRow). same_name o.route.name c.route ≡ false) (λ (o : RouteRow). AllByRecursion (λ (r : MarkRow). same_name r.route c.route ≡ false) (marks_of o)) (λ o k. numbered_all (λ (r : MarkRow). same_name r.route c.route ≡ false) (mark_row o.route.name) (λ n p. k) 0 o.route.marks) others h.old);
   ref = all-flat_map (λ (r : RefRow). same_name r.route c.route ≡ false) refs_of others
-      (all_weaker (λ (o : RouteEntry). same_name o.route.name c.route ≡ false) (λ (o : RouteEntry). AllByRecursion (λ (r : RefRow). same_name r.route c.route ≡ false) (refs_of o)) (λ o k. all-map (λ (r : RefRow). same_name r.route c.route ≡ false) (ref_row o.route.name) (λ r. k) o.route.refs) others h.old);
+      (all_weaker (λ (o : RouteRow). same_name o.route.name c.route ≡ false) (λ (o : RouteRow). AllByRecursion (λ (r : RefRow). same_name r.route c.route ≡ false) (refs_of o)) (λ o k. all-map (λ (r : RefRow). same_name r.route c.route ≡ false) (ref_row o.route.name) (λ r. k) o.route.refs) others h.old);
   span = all-flat_map (λ (r : SpanRow). same_name r.route c.route ≡ false) spans_of others
-      (all_weaker (λ (o : RouteEntry). same_name o.route.name c.route ≡ false) (λ (o : RouteEntry). AllByRecursion (λ (r : SpanRow). same_name r.route c.route ≡ false) (spans_of o)) (λ o k. all-map (λ (r : SpanRow). same_name r.route c.route ≡ false) (span_row o.route.name) (λ s. k) o.spans) others h.old);
+      (all_weaker (λ (o : RouteRow). same_name o.route.name c.route ≡ false) (λ (o : RouteRow). AllByRecursion (λ (r : SpanRow). same_name r.route c.route ≡ false) (spans_of o)) (λ o k. all-map (λ (r : SpanRow). same_name r.route c.route ≡ false) (span_row o.route.name) (λ s. k) o.spans) others h.old);
   kept = all-flat_map (λ (r : RefRow). list_any (same_name r.name) c.refs.gone ≡ false) refs_of others
-      (all_weaker (λ (o : RouteEntry). AllByRecursion (λ (r : Referent). list_any (same_name r.name) c.refs.gone ≡ false) o.route.refs) (λ (o : RouteEntry). AllByRecursion (λ (r : RefRow). list_any (same_name r.name) c.refs.gone ≡ false) (refs_of o)) (λ o k. all_map (λ (r : RefRow). list_any (same_name r.name) c.refs.gone ≡ false) (ref_row o.route.name) o.route.refs k) others h.refs);
+      (all_weaker (λ (o : RouteRow). AllByRecursion (λ (r : Referent). list_any (same_name r.name) c.refs.gone ≡ false) o.route.refs) (λ (o : RouteRow). AllByRecursion (λ (r : RefRow). list_any (same_name r.name) c.refs.gone ≡ false) (refs_of o)) (λ o k. all_map (λ (r : RefRow). list_any (same_name r.name) c.refs.gone ≡ false) (ref_row o.route.name) o.route.refs k) others h.refs);
 }
 
 pieces_after : (course : Option (List Ground)) (changed : Option (List Piece)) → ArePieces course changed → (own : List Ground) (ps : List Piece) → ArePiecesOf own ps → ArePiecesOf (unwrap_or course own) (unwrap_or changed ps)
@@ -98,7 +98,7 @@ pieces_after (Some course) None are own ps h = absurd are
 pieces_after (Some course) (Some new) are own ps h = are
 
 -- a route that changes
-pub changes : (c : RouteChange) (changed : Option (List Piece)) → ArePieces c.course changed → (e : RouteEntry) (i : Image) (others : List RouteEntry) (t : Tables) → IsBeside c e others
+pub changes : (c : RouteChange) (changed : Option (List Piece)) → ArePieces c.course changed → (e : RouteRow) (i : Image) (others : List RouteRow) (t : Tables) → IsBeside c e others
     → Encodes (over i (e ∷ others)) t → Encodes (over i (entry_after c e ∷ others)) (changed_route c changed t)
 changes c changed are e i others t it h =
     let after = becomes c e.route it.fits in

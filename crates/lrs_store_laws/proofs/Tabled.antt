@@ -7,7 +7,7 @@ use Rattle.std.proofs.lemmas.List.Elements.{All-from_recursion, recursion_from_A
 use Rattle.sqlite_keyed.proofs.ListLemmas.{IsPermutation-flat_map, IsPermutation-same, all-map, all-filter}
 use Rattle.lrs_measure.specs.Texts.{Name, same_name}
 use Rattle.lrs_element.specs.declared.link.Piece.{Piece}
-use Rattle.lrs_machine.specs.declared.image.RouteEntry.{RouteEntry}
+use Rattle.lrs_machine.specs.declared.image.RouteRow.{RouteRow}
 use Rattle.lrs_machine.specs.declared.image.Image.{Image}
 use Rattle.lrs_image.specs.Change.{is_named, without, without_some}
 use Rattle.lrs_store_rows.specs.Tables.{Tables, AreSame, PieceRow, MarkRow, RefRow, SpanRow}
@@ -20,28 +20,28 @@ use Rattle.lrs_store_tables.proofs.Steady.{IsSteady, steady-without_route}
 use Rattle.lrs_store_laws.proofs.Lists.{numbered_all, filter-flat_map}
 
 -- an image with these routes
-abbrev pub over : Image → List RouteEntry → Image
+abbrev pub over : Image → List RouteRow → Image
 over i routes = record i { routes = routes }
 
 -- the rows of one route
 
-abbrev pub pieces_of : (Name → List Piece) → RouteEntry → List PieceRow
+abbrev pub pieces_of : (Name → List Piece) → RouteRow → List PieceRow
 pieces_of pieces e = numbered (piece_row e.route.name) 0 (pieces e.route.name)
 
-abbrev pub marks_of : RouteEntry → List MarkRow
+abbrev pub marks_of : RouteRow → List MarkRow
 marks_of e = numbered (mark_row e.route.name) 0 e.route.marks
 
-abbrev pub refs_of : RouteEntry → List RefRow
+abbrev pub refs_of : RouteRow → List RefRow
 refs_of e = map (ref_row e.route.name) e.route.refs
 
-abbrev pub spans_of : RouteEntry → List SpanRow
+abbrev pub spans_of : RouteRow → List SpanRow
 spans_of e = map (span_row e.route.name) e.spans
 
 pub all_permuted : {X : Type 0} (P : X → Type 0) (xs ys : List X) → IsPermutation xs ys → AllByRecursion P xs → AllByRecursion P ys
 all_permuted P xs ys same h = recursion_from_All P ys (All-permutation P xs ys same (All-from_recursion P xs h))
 
 -- The rows are the same in whichever order the routes are.
-pub same_over : (pieces : Name → List Piece) (i : Image) (routes others : List RouteEntry) → IsPermutation routes others → AreSame (encoded pieces (over i routes)) (encoded pieces (over i others))
+pub same_over : (pieces : Name → List Piece) (i : Image) (routes others : List RouteRow) → IsPermutation routes others → AreSame (encoded pieces (over i routes)) (encoded pieces (over i others))
 same_over pieces i routes others same = record {
   version = IsPermutation-refl _;
   link = IsPermutation-refl _;
@@ -57,10 +57,10 @@ same_over pieces i routes others same = record {
   origin = IsPermutation-refl _;
 }
 
-pub encodes_over : (i : Image) (routes others : List RouteEntry) (t : Tables) → IsPermutation others routes → Encodes (over i routes) t → Encodes (over i others) t
+pub encodes_over : (i : Image) (routes others : List RouteRow) (t : Tables) → IsPermutation others routes → Encodes (over i routes) t → Encodes (over i others) t
 encodes_over i routes others t same e = record {
   pieces = e.pieces;
-  are = all_permuted (λ (r : RouteEntry). ArePiecesOf r.route.course (e.pieces r.route.name)) routes others (IsPermutation-sym _ _ same) e.are;
+  are = all_permuted (λ (r : RouteRow). ArePiecesOf r.route.course (e.pieces r.route.name)) routes others (IsPermutation-sym _ _ same) e.are;
   rows = same_trans _ _ _ (same_over e.pieces i others routes same) e.rows;
 }
 
@@ -70,7 +70,7 @@ encodes_by f steady i new t e pieces are rows = record { pieces = pieces; are = 
 
 -- A route that goes takes its rows with it.
 module _ (route : Name) where
-  dropped : (pieces : Name → List Piece) (i : Image) (routes : List RouteEntry) → AreSame (encoded pieces (over i (without route routes))) (without_route route (encoded pieces (over i routes)))
+  dropped : (pieces : Name → List Piece) (i : Image) (routes : List RouteRow) → AreSame (encoded pieces (over i (without route routes))) (without_route route (encoded pieces (over i routes)))
   dropped pieces i routes = record {
     version = IsPermutation-refl _;
     link = IsPermutation-refl _;
@@ -86,12 +86,12 @@ module _ (route : Name) where
     origin = IsPermutation-refl _;
   }
 
-  drops : (i : Image) (routes : List RouteEntry) (t : Tables) → Encodes (over i routes) t → Encodes (over i (without route routes)) (without_route route t)
+  drops : (i : Image) (routes : List RouteRow) (t : Tables) → Encodes (over i routes) t → Encodes (over i (without route routes)) (without_route route t)
   drops i routes t e =
       encodes_by (without_route route) (steady-without_route route) (over i routes) (over i (without route routes)) t e e.pieces
-      (all-filter (λ (r : RouteEntry). ArePiecesOf r.route.course (e.pieces r.route.name)) (λ r. not (is_named route r)) routes e.are)
+      (all-filter (λ (r : RouteRow). ArePiecesOf r.route.course (e.pieces r.route.name)) (λ r. not (is_named route r)) routes e.are)
       (dropped e.pieces i routes)
 
-pub drops_some : (route : Option Name) (i : Image) (routes : List RouteEntry) (t : Tables) → Encodes (over i routes) t → Encodes (over i (without_some route routes)) (with_some without_route route t)
+pub drops_some : (route : Option Name) (i : Image) (routes : List RouteRow) (t : Tables) → Encodes (over i routes) t → Encodes (over i (without_some route routes)) (with_some without_route route t)
 drops_some None i routes t e = e
 drops_some (Some route) i routes t e = drops route i routes t e

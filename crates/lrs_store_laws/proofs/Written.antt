@@ -8,7 +8,7 @@ use Rattle.lrs_measure.specs.Texts.{Name}
 use Rattle.lrs_element.specs.declared.link.Link.{Link}
 use Rattle.lrs_element.specs.declared.link.Piece.{Piece}
 use Rattle.lrs_element.specs.declared.marks.Mark.{Mark}
-use Rattle.lrs_element.specs.Limits.{is_link}
+use Rattle.lrs_measure.specs.Limits.{is_link}
 use Rattle.lrs_position.specs.declared.route.Referent.{Referent}
 use Rattle.lrs_position.specs.Names.{is_route_name, is_referent_name}
 use Rattle.lrs_events.specs.declared.class.Kind.{Kind}
@@ -27,7 +27,7 @@ use Rattle.lrs_machine.specs.declared.image.Edit.{Edit}
 use Rattle.lrs_machine.specs.Keys.{is_key}
 use Rattle.lrs_store_rows.specs.Decoding.{if_true, only_if, below, whole, short, OfRoute, Numbered, kind_numbered, side_numbered, link_side_numbered, is_forward_numbered, is_abandoned_numbered, link_of, class_of, asset_of, piece_of, mark_of, referent_of, class_of_asset, span_of, part_of, gone_of, edit_of}
 use Rattle.lrs_store_rows.specs.Decoding as option
-use Rattle.lrs_store_rows.specs.Content.{with_entry}
+use Rattle.lrs_store_rows.specs.Content.{with_edit}
 use Rattle.lrs_store_rows.specs.Encoding.{kind_number, side_number, link_side_number, direction_number, cause_number, link_row, class_row, asset_row, piece_row, mark_row, ref_row, span_row, entered_row, gone_row, edit_row}
 
 -- ---- steps
@@ -78,11 +78,11 @@ link_there l n m =
 pub class_there : (c : Class) → is_class_name c.name ≡ true → class_of (class_row c) ≡ Some c
 class_there c h = bind_is (option.◌>>=◌ (whole (pos (kind_number c.kind))) kind_numbered) _ c.kind _ (kind_there c.kind) (only_is (is_class_name c.name) c h)
 
-pub asset_there : (a : Asset) → a.number < 2 ^ 63 → a.lateral < 2 ^ 32 → is_class_name a.class ≡ true → is_value a.value ≡ true → asset_of (asset_row a) ≡ Some (with_entry [] a)
+pub asset_there : (a : Asset) → a.number < 2 ^ 63 → a.lateral < 2 ^ 32 → is_class_name a.class ≡ true → is_value a.value ≡ true → asset_of (asset_row a) ≡ Some (with_edit [] a)
 asset_there a n l c v =
     bind_is (whole (pos a.number)) _ a.number _ (stored (2 ^ 63) a.number n)
     (bind_is (short (pos a.lateral)) _ a.lateral _ (stored (2 ^ 32) a.lateral l)
-    (only_is (is_class_name a.class && is_value a.value) (with_entry [] a) (and_from _ _ c v)))
+    (only_is (is_class_name a.class && is_value a.value) (with_edit [] a) (and_from _ _ c v)))
 
 abbrev pub piece_told : Name → ℕ → Piece → OfRoute (Numbered Piece)
 piece_told route n p = record { route = route; said = record { n = n; said = p } }

@@ -17,9 +17,9 @@ use Rattle.lrs_events.specs.declared.class.Asset.{Asset}
 use Rattle.lrs_events.specs.declared.span.Span.{Span}
 use Rattle.lrs_events.specs.Spans.{are_rows}
 use Rattle.lrs_events_lanes.proofs.Members.{each_two-filter}
-use Rattle.lrs_machine.specs.declared.image.RouteEntry.{RouteEntry}
+use Rattle.lrs_machine.specs.declared.image.RouteRow.{RouteRow}
 use Rattle.lrs_machine.specs.Sound.{RouteCourse, course_before, is_course, are_courses, are_spans_of, is_span, keeps_exclusive}
-use Rattle.lrs_machine.specs.Bounds.{most_routes}
+use Rattle.lrs_measure.specs.Limits.{most_routes}
 use Rattle.lrs_machine.proofs.Members.{all_weaker}
 use Rattle.lrs_machine.proofs.Pairs.{each_two-map}
 use Rattle.lrs_image_sound.specs.Tables.{route_courses}
@@ -27,7 +27,7 @@ use Rattle.lrs_image_sound.proofs.Sweeping.{each_two-permutation}
 use Rattle.lrs_store_rows.specs.Tables.{SpanRow}
 use Rattle.lrs_store_rows.specs.Decoding.{each_of, only_if, OfRoute, said_of, sorted, span_of}
 use Rattle.lrs_store_rows.specs.Decoding as option
-use Rattle.lrs_store_rows.specs.Content.{each_of_known, entry_with, entries_of, spans_of}
+use Rattle.lrs_store_rows.specs.Content.{each_of_known, row_with, entries_of, spans_of}
 use Rattle.lrs_store_routes.specs.Courses.{passing}
 use Rattle.lrs_store_rows.proofs.Unordered.{IsPermutation-filter}
 use Rattle.lrs_store_routes.proofs.Reading.{each_of-passing}
@@ -61,7 +61,7 @@ said_of_agree route said h =
 -- ---- one route
 
 module _ (route : Route) where
-  abbrev mk : List Span → RouteEntry
+  abbrev mk : List Span → RouteRow
   mk rows = record { route = route; spans = rows }
 
   pub entry-permutation : (xs ys : List (OfRoute Span)) → IsPermutation xs ys → canonical_entry xs route ≡ canonical_entry ys route
@@ -75,12 +75,12 @@ module _ (route : Route) where
   made true rows = refl
   made false rows = refl
 
-  entry_is : (said : List (OfRoute Span)) → canonical_entry said route ≡ only_if (are_rows (entry_with said route).spans) (entry_with said route)
-  entry_is said = made (are_rows (entry_with said route).spans) (entry_with said route).spans
+  entry_is : (said : List (OfRoute Span)) → canonical_entry said route ≡ only_if (are_rows (row_with said route).spans) (row_with said route)
+  entry_is said = made (are_rows (row_with said route).spans) (row_with said route).spans
 
 -- ---- all routes
 
-abbrev own : RouteEntry → Bool
+abbrev own : RouteRow → Bool
 own e = are_rows e.spans
 
 each_of-same : {Row X : Type 0} (f g : Row → Option X) → ((r : Row) → f r ≡ g r) → (rs : List Row) → each_of f rs ≡ each_of g rs
@@ -92,45 +92,45 @@ each_of-some f [] = refl
 each_of-some {Row} {X} f (r ∷ rs) = ap (λ (o : Option (List X)). option.◌>>=◌ o (λ xs. Some (f r ∷ xs))) (each_of-some f rs)
 
 module _ (said : List (OfRoute Span)) (routes : List Route) where
-  abbrev entries : List RouteEntry
-  entries = map (entry_with said) routes
+  abbrev entries : List RouteRow
+  entries = map (row_with said) routes
 
   entries_are : each_of (canonical_entry said) routes ≡ only_if (list_all own entries) entries
   entries_are =
-      each_of-same (canonical_entry said) (λ r. option.◌>>=◌ (Some (entry_with said r)) (λ e. only_if (own e) e)) (λ r. entry_is r said) routes
-      ∙ each_of-passing (λ (r : Route). Some (entry_with said r)) own routes
-      ∙ ap (λ (o : Option (List RouteEntry)). option.◌>>=◌ o (λ es. only_if (list_all own es) es)) (each_of-some (entry_with said) routes)
+      each_of-same (canonical_entry said) (λ r. option.◌>>=◌ (Some (row_with said r)) (λ e. only_if (own e) e)) (λ r. entry_is r said) routes
+      ∙ each_of-passing (λ (r : Route). Some (row_with said r)) own routes
+      ∙ ap (λ (o : Option (List RouteRow)). option.◌>>=◌ o (λ es. only_if (list_all own es) es)) (each_of-some (row_with said) routes)
 
-  found : (es : List RouteEntry) → each_of (canonical_entry said) routes ≡ Some es → es ≡ entries
+  found : (es : List RouteRow) → each_of (canonical_entry said) routes ≡ Some es → es ≡ entries
   found es h = by (list_all own entries) (sym entries_are ∙ h)
     where
-      by : (b : Bool) → ◌≡◌ {A = Option (List RouteEntry)} (only_if b entries) (Some es) → es ≡ entries
+      by : (b : Bool) → ◌≡◌ {A = Option (List RouteRow)} (only_if b entries) (Some es) → es ≡ entries
       by true k = sym (some_alike k)
       by false k = absurd (cc k)
 
 -- entries run over what their routes run over
-courses_of_entries : (said : List (OfRoute Span)) (routes : List Route) → route_courses (map (entry_with said) routes) ≡ courses_over routes
+courses_of_entries : (said : List (OfRoute Span)) (routes : List Route) → route_courses (map (row_with said) routes) ≡ courses_over routes
 courses_of_entries said [] = refl
 courses_of_entries said (r ∷ rs) = ap (λ (l : List RouteCourse). record { route = r.name; entries = r.course } ∷ l) (courses_of_entries said rs)
 
-pub courses_stay : (said : List (OfRoute Span)) (routes : List Route) (es : List RouteEntry) (links : List Link) → each_of (canonical_entry said) routes ≡ Some es
+pub courses_stay : (said : List (OfRoute Span)) (routes : List Route) (es : List RouteRow) (links : List Link) → each_of (canonical_entry said) routes ≡ Some es
     → are_courses links (courses_over routes) ≡ true → are_courses links (route_courses es) ≡ true
 courses_stay said routes es links h k = ap (are_courses links) (ap route_courses (found said routes es h) ∙ courses_of_entries said routes) ∙ k
 
 -- ---- the test of all
 
-module _ (test : List RouteEntry → Bool) where
-  pub none_found : (o : Option (List RouteEntry)) → None ≡ o → None ≡ passing o test
-  none_found o h = ap (λ (p : Option (List RouteEntry)). passing p test) h
+module _ (test : List RouteRow → Bool) where
+  pub none_found : (o : Option (List RouteRow)) → None ≡ o → None ≡ passing o test
+  none_found o h = ap (λ (p : Option (List RouteRow)). passing p test) h
 
-  pub refused : (o : Option (List RouteEntry)) (es : List RouteEntry) → Some es ≡ o → test es ≡ false → None ≡ passing o test
-  refused o es h f = ap (λ b. cond b (Some es) None) (sym f) ∙ ap (λ (p : Option (List RouteEntry)). passing p test) h
+  pub refused : (o : Option (List RouteRow)) (es : List RouteRow) → Some es ≡ o → test es ≡ false → None ≡ passing o test
+  refused o es h f = ap (λ b. cond b (Some es) None) (sym f) ∙ ap (λ (p : Option (List RouteRow)). passing p test) h
 
-  pub passed : (o : Option (List RouteEntry)) (es : List RouteEntry) → Some es ≡ o → test es ≡ true → Some es ≡ passing o test
-  passed o es h f = ap (λ b. cond b (Some es) None) (sym f) ∙ ap (λ (p : Option (List RouteEntry)). passing p test) h
+  pub passed : (o : Option (List RouteRow)) (es : List RouteRow) → Some es ≡ o → test es ≡ true → Some es ≡ passing o test
+  passed o es h f = ap (λ b. cond b (Some es) None) (sym f) ∙ ap (λ (p : Option (List RouteRow)). passing p test) h
 
   -- a test that asks for canonical rows need not be told of others
-  asked_again : (es : List RouteEntry) → (test es ≡ true → list_all own es ≡ true) → passing (only_if (list_all own es) es) test ≡ only_if (test es) es
+  asked_again : (es : List RouteRow) → (test es ≡ true → list_all own es ≡ true) → passing (only_if (list_all own es) es) test ≡ only_if (test es) es
   asked_again es asks = by (list_all own es) refl
     where
       by : (b : Bool) → list_all own es ≡ b → passing (only_if b es) test ≡ only_if (test es) es
@@ -138,24 +138,24 @@ module _ (test : List RouteEntry → Bool) where
       by false e = ap (λ b. cond b (Some es) None) (sym (false_from_ne_true (test es) (λ t. clash (list_all own es) e (asks t))))
 
 module _ (links : List Link) (classes : List Class) (assets : List Asset) where
-  abbrev sound : List RouteEntry → Bool
+  abbrev sound : List RouteRow → Bool
   sound = are_sound links classes assets
 
-  asks_rows : (es : List RouteEntry) → sound es ≡ true → list_all own es ≡ true
+  asks_rows : (es : List RouteRow) → sound es ≡ true → list_all own es ≡ true
   asks_rows es h =
       all_weaker (λ e. are_spans_of assets (spans_of e)) own es (λ e t. (and_parts (are_rows e.spans) (list_all (is_span assets (length e.route.course)) e.spans) t).0)
       (sym (list_all-map (are_spans_of assets) spans_of es) ∙ (and_parts (list_all (are_spans_of assets) (map spans_of es)) (list_all (keeps_exclusive links assets (map spans_of es)) classes) h).0)
 
   pub nothing_said : (rows : List SpanRow) (routes : List Route) → None ≡ each_of_known (span_of assets) (is_one_of routes) rows → None ≡ passing (entries_of assets rows routes) sound
-  nothing_said rows routes h = ap (λ (o : Option (List (OfRoute Span))). passing (option.◌>>=◌ o (λ said. Some (map (entry_with said) routes))) sound) h
+  nothing_said rows routes h = ap (λ (o : Option (List (OfRoute Span))). passing (option.◌>>=◌ o (λ said. Some (map (row_with said) routes))) sound) h
 
   -- What is said in the order of routes makes the entries that what is said in the order of rows makes.
   pub entries_found : (rows : List SpanRow) (routes : List Route) (xs ys : List (OfRoute Span)) → Some xs ≡ each_of_known (span_of assets) (is_one_of routes) rows → IsPermutation xs ys
       → passing (each_of (canonical_entry ys) routes) sound ≡ passing (entries_of assets rows routes) sound
   entries_found rows routes xs ys h same =
-      ap (λ (o : Option (List RouteEntry)). passing o sound) (each_of-same (canonical_entry ys) (canonical_entry xs) (λ r. sym (entry-permutation r xs ys same)) routes ∙ entries_are xs routes)
-      ∙ asked_again sound (map (entry_with xs) routes) (asks_rows (map (entry_with xs) routes))
-      ∙ ap (λ (o : Option (List (OfRoute Span))). passing (option.◌>>=◌ o (λ said. Some (map (entry_with said) routes))) sound) h
+      ap (λ (o : Option (List RouteRow)). passing o sound) (each_of-same (canonical_entry ys) (canonical_entry xs) (λ r. sym (entry-permutation r xs ys same)) routes ∙ entries_are xs routes)
+      ∙ asked_again sound (map (row_with xs) routes) (asks_rows (map (row_with xs) routes))
+      ∙ ap (λ (o : Option (List (OfRoute Span))). passing (option.◌>>=◌ o (λ said. Some (map (row_with said) routes))) sound) h
 
 -- Routes whose courses are sound are in the order of their names.
 pub courses_rise : (links : List Link) (routes : List Route) → are_courses links (courses_over routes) ≡ true → each_two named_before routes ≡ true

@@ -13,7 +13,7 @@ use Rattle.lrs_element.specs.Course.{meets}
 use Rattle.lrs_element.specs.Marks.{bad_mark}
 use Rattle.lrs_position.specs.Routes.{is_route_course, have_marks}
 use Rattle.lrs_events.specs.Places.{differs}
-use Rattle.lrs_machine.specs.Bounds.{most_routes}
+use Rattle.lrs_measure.specs.Limits.{most_routes}
 use Rattle.lrs_machine.specs.Sound.{RouteCourse, course_before, is_course, is_on_a_link, are_courses}
 use Rattle.lrs_machine.proofs.Members.{all_weaker, list_any-map}
 use Rattle.lrs_machine.proofs.Pairs.{each_two-map}

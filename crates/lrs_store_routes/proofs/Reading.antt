@@ -14,7 +14,7 @@ use Rattle.lrs_element.specs.Course.{course_of, first_repeated, meets}
 use Rattle.lrs_position.specs.Routes.{is_route_course}
 use Rattle.lrs_events.specs.Places.{differs}
 use Rattle.lrs_machine.specs.declared.table.Table.{Table}
-use Rattle.lrs_machine.specs.Bounds.{most_routes}
+use Rattle.lrs_measure.specs.Limits.{most_routes}
 use Rattle.lrs_machine.specs.Sound.{RouteCourse, is_on_a_link, is_course, course_before, are_courses}
 use Rattle.lrs_machine.proofs.Members.{all_weaker}
 use Rattle.lrs_machine.proofs.Pairs.{each_two-map}

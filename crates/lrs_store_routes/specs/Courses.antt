@@ -7,7 +7,7 @@ use Rattle.lrs_element.specs.declared.link.Piece.{Piece}
 use Rattle.lrs_element.specs.declared.link.Ground.{Ground}
 use Rattle.lrs_element.specs.Course.{meets}
 use Rattle.lrs_position.specs.Routes.{is_route_course}
-use Rattle.lrs_machine.specs.Bounds.{most_routes}
+use Rattle.lrs_measure.specs.Limits.{most_routes}
 use Rattle.lrs_events.specs.Places.{differs}
 use Rattle.lrs_measure.specs.Texts.{Name}
 use Rattle.lrs_machine.specs.Sound.{RouteCourse, is_on_a_link}

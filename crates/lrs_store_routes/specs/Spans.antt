@@ -8,7 +8,7 @@ use Rattle.lrs_events.specs.declared.class.Class.{Class}
 use Rattle.lrs_events.specs.declared.class.Asset.{Asset}
 use Rattle.lrs_events.specs.declared.span.Span.{Span}
 use Rattle.lrs_events.specs.Spans.{are_rows, are_apart, span_before}
-use Rattle.lrs_machine.specs.declared.image.RouteEntry.{RouteEntry}
+use Rattle.lrs_machine.specs.declared.image.RouteRow.{RouteRow}
 use Rattle.lrs_machine.specs.Sound.{RouteCourse, are_spans}
 use Rattle.lrs_store_rows.specs.Tables.{SpanRow}
 use Rattle.lrs_store_rows.specs.Decoding.{OfRoute, said_of, sorted, only_if, span_of}
@@ -44,7 +44,7 @@ abbrev pub canonical : List Span → Option (List Span)
 canonical rows = only_if (are_rows (sorted span_before rows)) (sorted span_before rows)
 
 -- the route with its spans, if these are canonical
-abbrev pub canonical_entry : List (OfRoute Span) → Route → Option RouteEntry
+abbrev pub canonical_entry : List (OfRoute Span) → Route → Option RouteRow
 canonical_entry said route = option.◌>>=◌ (canonical (said_of route.name said)) (λ rows. Some (record { route = route; spans = rows }))
 
 -- the courses of routes
@@ -52,5 +52,5 @@ abbrev pub courses_over : List Route → List RouteCourse
 courses_over routes = map (λ r. record { route = r.name; entries = r.course }) routes
 
 -- the test of the table of spans
-abbrev pub are_sound : List Link → List Class → List Asset → List RouteEntry → Bool
+abbrev pub are_sound : List Link → List Class → List Asset → List RouteRow → Bool
 are_sound links classes assets entries = are_spans links classes assets (map spans_of entries)

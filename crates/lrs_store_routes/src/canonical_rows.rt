@@ -2,7 +2,6 @@
 
 ghost use Rattle.std.specs.Prelude.{◌≡◌, ◌&&◌, true, IsPermutation, IfOk};
 ghost use Rattle.std.specs.List.{list_all};
-ghost use Rattle.std.specs.Ordering.{is_lt};
 ghost use Rattle.std.specs.List.Sorted.{IsSortedBy};
 ghost use Rattle.std.specs.Option.{option_map};
 ghost use Rattle.lrs_measure.specs.Lists.{each_two};
@@ -10,11 +9,8 @@ ghost use Rattle.lrs_events.specs.Spans.{are_apart, are_rows, is_row, same_side,
 ghost use Rattle.lrs_store_routes.specs.Spans.{agree, canonical, follows};
 
 use lrs_events::{Side, Span};
-use lrs_events_lanes::{RowOrder, comes_before};
-use std::cmp::Ordering;
-
-/// How long a route may be, in millimetres.
-const LONGEST_ROUTE: u64 = 10_000_000_000;
+use lrs_events_lanes::{RowOrder, comes_before, compare};
+use lrs_measure::limits::LONGEST_ROUTE;
 
 fn is_row(row: &Span) -> bool
     ensures { result ≡ is_row row.now }
@@ -67,25 +63,12 @@ fn are_rows(rows: &[Span]) -> bool
     are_filled(rows) && follow_each_other(rows)
 }
 
-/// How two rows lie to each other, as a sort asks it.
-fn compare(r: &Span, s: &Span) -> Ordering
-    ensures { is_lt result ≡ span_before r.now s.now }
-{
-    if comes_before(RowOrder::ByAsset, r, s) {
-        Ordering::Less
-    } else if comes_before(RowOrder::ByAsset, s, r) {
-        Ordering::Greater
-    } else {
-        Ordering::Equal
-    }
-}
-
 /// Sorts rows. It takes no memory.
 fn sort(rows: &mut Vec<Span>)
     ensures same { IsPermutation rows.old.items rows.new.items }
     ensures sorted { IsSortedBy span_before rows.new.items }
 {
-    rows.sort_unstable_by(|r, s| compare(r, s));
+    rows.sort_unstable_by(|r, s| compare(RowOrder::ByAsset, r, s));
 }
 
 /// Rows in their order, if they are canonical, where none tells another class of an asset than another. It

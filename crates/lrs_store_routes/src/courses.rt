@@ -15,7 +15,7 @@ ghost use Rattle.lrs_store_rows.specs.Decoding.{each_of, only_if};
 ghost use Rattle.lrs_store_rows.specs.Content.{read, routes_named, course_of_route, courses_of};
 ghost use Rattle.lrs_store_routes.specs.Courses.{is_filled, is_good_course, good_course, good_route, good_route_over, fit_together, passing};
 ghost use Rattle.lrs_store_routes.specs.Measuring.{are_route_courses};
-ghost use Rattle.lrs_machine.specs.Bounds.{most_routes};
+ghost use Rattle.lrs_measure.specs.Limits.{most_routes};
 ghost use Rattle.lrs_store_routes.specs.declared.fault.ReadFault.TheVariants as ReadFault;
 ghost use Rattle.lrs_store_routes.specs.Grouping.{route_before};
 
@@ -26,12 +26,10 @@ use crate::fault::ReadFault;
 use crate::groups::{counted_of, names_of, sort_by_route};
 use lrs_element::{Course, CourseFault, Link, Piece, have_repeat};
 use lrs_machine::Table;
+use lrs_measure::limits::MOST_ROUTES;
 use lrs_position::RouteName;
 use std::alloc::{AllocError, Global};
 use std::marker::Model;
-
-/// How many routes there may be at one time.
-const MOST_ROUTES: usize = 10_000;
 
 /// The course that runs over pieces, one or more, if a route can have it.
 fn course_over(
@@ -42,7 +40,8 @@ fn course_over(
     requires links { are_links links.now ≡ true }
     requires filled { AllByRecursion IsFilled pieces.now }
     requires some { is_nothing (course_of pieces.now) ≡ false }
-    ensures { IfOk result (λ course. course ≡ only_if (is_good_course links.now (course_of pieces.now)) (course_of pieces.now)) }
+    ensures { IfOk result (λ course. course ≡ only_if
+        (is_good_course links.now (course_of pieces.now)) (course_of pieces.now)) }
 {
     match Course::new(alloc, pieces, &links) {
         Ok(course) => Ok(Some(course)),
@@ -155,7 +154,8 @@ fn courses_named(
 ) -> Result<Option<Vec<RouteCourse>>, AllocError>
     requires links { are_links links.now ≡ true }
     requires sorted { IsSortedBy route_before rows.now }
-    ensures { IfOk result (λ found. option_map (λ v. v.items) found ≡ each_of (good_route links.now rows.now) names.now) }
+    ensures { IfOk result (λ found. option_map (λ v. v.items) found
+        ≡ each_of (good_route links.now rows.now) names.now) }
 {
     let mut courses = Vec::new(alloc);
     for name in names {
@@ -178,7 +178,8 @@ pub(crate) fn courses_of_routes(
 ) -> Result<Option<Vec<RouteCourse>>, AllocError>
     requires links { are_links links.now ≡ true }
     requires sorted { IsSortedBy route_before rows.now }
-    ensures { IfOk result (λ found. option_map (λ v. v.items) found ≡ each_of (good_route links.now rows.now) (routes_named rows.now)) }
+    ensures { IfOk result (λ found. option_map (λ v. v.items) found
+        ≡ each_of (good_route links.now rows.now) (routes_named rows.now)) }
 {
     let names = names_of(alloc, rows)?;
     courses_named(alloc, links, rows, &names)
@@ -186,7 +187,8 @@ pub(crate) fn courses_of_routes(
 
 fn push_pieces(pieces: &mut Vec<Piece>, course: &Course) -> Result<(), AllocError>
     requires filled { AllByRecursion IsFilled pieces.old.items }
-    ensures course { IfOk result (λ _. course_of pieces.new.items ≡ course_of pieces.old.items ++ course.now) }
+    ensures course { IfOk result (λ _. course_of pieces.new.items ≡ course_of pieces.old.items
+        ++ course.now) }
     ensures filled { IfOk result (λ _. AllByRecursion IsFilled pieces.new.items) }
 {
     pieces.extend_from_slice(course.pieces())?;
@@ -195,7 +197,8 @@ fn push_pieces(pieces: &mut Vec<Piece>, course: &Course) -> Result<(), AllocErro
 
 /// The pieces of all courses in one list.
 fn all_pieces(alloc: Global, courses: &[RouteCourse]) -> Result<Vec<Piece>, AllocError>
-    ensures course { IfOk result (λ pieces. course_of pieces.items ≡ flat_map (λ c. c.entries) courses.now) }
+    ensures course { IfOk result (λ pieces. course_of pieces.items ≡ flat_map (λ c.
+        c.entries) courses.now) }
     ensures filled { IfOk result (λ pieces. AllByRecursion IsFilled pieces.items) }
 {
     let mut pieces = Vec::new(alloc);
@@ -208,7 +211,8 @@ fn all_pieces(alloc: Global, courses: &[RouteCourse]) -> Result<Vec<Piece>, Allo
 /// Whether no two courses share a millimetre, where none has one twice.
 fn are_apart(alloc: Global, courses: &[RouteCourse]) -> Result<bool, AllocError>
     requires { list_all (λ c. each_two differs c.entries) courses.now ≡ true }
-    ensures { IfOk result (λ apart. apart ≡ each_two (λ c d. not (meets c.entries d.entries)) courses.now) }
+    ensures { IfOk result (λ apart. apart ≡ each_two (λ c d.
+        not (meets c.entries d.entries)) courses.now) }
 {
     let pieces = all_pieces(alloc, courses)?;
     let repeat = have_repeat(alloc, &pieces)?;
@@ -241,7 +245,9 @@ fn sound_courses(
 ) -> Result<Option<Vec<RouteCourse>>, AllocError>
     requires links { are_links links.now ≡ true }
     requires sorted { IsSortedBy route_before rows.now }
-    ensures { IfOk result (λ found. option_map (λ v. v.items) found ≡ passing (each_of (course_of_route rows.now) (routes_named rows.now)) (are_courses links.now)) }
+    ensures { IfOk result (λ found. option_map (λ v. v.items) found
+        ≡ passing (each_of (course_of_route rows.now) (routes_named rows.now))
+        (are_courses links.now)) }
 {
     let Some(courses) = courses_of_routes(alloc, links, rows)? else {
         return Ok(None);
@@ -260,7 +266,8 @@ fn courses_said(
     rows: &[PieceCells<'_>],
 ) -> Result<Option<Vec<RouteCourse>>, AllocError>
     requires { are_links links.now ≡ true }
-    ensures { IfOk result (λ found. option_map (λ v. v.items) found ≡ passing (courses_of rows.now) (are_courses links.now)) }
+    ensures { IfOk result (λ found. option_map (λ v. v.items) found
+        ≡ passing (courses_of rows.now) (are_courses links.now)) }
 {
     let Some(mut said) = pieces_said(alloc, rows)? else {
         return Ok(None);
@@ -281,8 +288,10 @@ pub fn read_courses(
 ) -> Result<Vec<RouteCourse>, ReadFault>
     requires { are_links links.now ≡ true }
     ensures fit { IfOk result (λ courses. are_route_courses courses.items ≡ true) }
-    ensures courses { IfOk result (λ courses. read table.Piece (courses_of rows.now) (are_courses links.now) ≡ Ok courses.items) }
-    ensures unsound { (t : DeclaredTable) → result ≡ Err (ReadFault.Unsound t) → read table.Piece (courses_of rows.now) (are_courses links.now) ≡ Err t }
+    ensures courses { IfOk result (λ courses. read table.Piece (courses_of rows.now)
+        (are_courses links.now) ≡ Ok courses.items) }
+    ensures unsound { (t : DeclaredTable) → result ≡ Err (ReadFault.Unsound t)
+        → read table.Piece (courses_of rows.now) (are_courses links.now) ≡ Err t }
 {
     let found = courses_said(alloc, links, rows)?;
     match found {

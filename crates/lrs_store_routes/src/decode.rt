@@ -4,30 +4,13 @@ ghost use Rattle.std.specs.Prelude.{◌≡◌, ◌&&◌, nat_lt, IfOk};
 ghost use Rattle.std.specs.Option.{option_map};
 ghost use Rattle.lrs_position.specs.Names.{is_route_name};
 ghost use Rattle.lrs_store_rows.specs.Decoding.{each_of, only_if, is_forward_numbered, piece_of};
-ghost use Rattle.lrs_store_rows.specs.Decoding as decoding;
 
 use crate::cells::PieceCells;
 use crate::decoded_rows::{Numbered, OfRoute};
 use lrs_element::Piece;
 use lrs_position::RouteName;
+use lrs_store_rows::{short, whole};
 use std::alloc::{AllocError, Global};
-
-/// A number that is not negative.
-pub fn whole(n: i64) -> Option<u64>
-    ensures { result ≡ decoding.whole n }
-{
-    if n < 0 { None } else { Some(n as u64) }
-}
-
-/// A number of 32 bits.
-fn short(n: i64) -> Option<u32>
-    ensures { result ≡ decoding.short n }
-{
-    if n < 0 || n > 4_294_967_295 {
-        return None;
-    }
-    Some(n as u32)
-}
 
 fn is_forward(n: u64) -> Option<bool>
     ensures { result ≡ is_forward_numbered n }
@@ -47,7 +30,8 @@ fn route_name(text: &[u8]) -> Option<RouteName>
 
 /// A piece of a route, which has a millimetre.
 fn piece_of_route(text: &[u8], n: u64, piece: Piece) -> Option<OfRoute<Numbered<Piece>>>
-    ensures { result ≡ only_if (is_route_name text.now && nat_lt piece.from piece.to) (record { route = text.now; said = record { n = n; said = piece } }) }
+    ensures { result ≡ only_if (is_route_name text.now && nat_lt piece.from piece.to)
+        (record { route = text.now; said = record { n = n; said = piece } }) }
 {
     let route = route_name(text)?;
     if piece.to <= piece.from {

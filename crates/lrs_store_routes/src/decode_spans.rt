@@ -8,9 +8,10 @@ ghost use Rattle.lrs_store_rows.specs.Decoding.{only_if, side_numbered, class_of
 ghost use Rattle.lrs_store_rows.specs.Content.{each_of_known};
 ghost use Rattle.lrs_store_routes.specs.Spans.{named_before, is_one_of, known_span};
 
-use crate::{OfRoute, SpanCells, whole};
+use crate::{OfRoute, SpanCells};
 use lrs_events::{Asset, ClassName, Side, Span};
 use lrs_position::{Route, RouteName};
+use lrs_store_rows::whole;
 use std::alloc::{AllocError, Global};
 
 /// The class of the asset of this number, by binary search.
@@ -88,7 +89,8 @@ pub(crate) fn spans_said(
 ) -> Result<Option<Vec<OfRoute<Span>>>, AllocError>
     requires assets { each_two asset_before assets.now ≡ true }
     requires routes { each_two named_before routes.now ≡ true }
-    ensures { IfOk result (λ found. option_map (λ v. v.items) found ≡ each_of_known (span_of assets.now) (is_one_of routes.now) rows.now) }
+    ensures { IfOk result (λ found. option_map (λ v. v.items) found
+        ≡ each_of_known (span_of assets.now) (is_one_of routes.now) rows.now) }
 {
     let mut found = Vec::new(alloc);
     for row in rows {

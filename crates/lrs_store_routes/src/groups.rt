@@ -26,7 +26,8 @@ pub fn sort_by_route<T>(rows: &mut Vec<OfRoute<T>>)
 fn rows_before<T>(rows: &[OfRoute<T>], route: &RouteName) -> usize
     requires { IsSortedBy route_before rows.now }
     ensures within { result ≤ length rows.now }
-    ensures point { IsPartitionPoint (λ r. name_before r.route route.now ≡ true) (λ r. name_before r.route route.now ≡ false) rows.now result }
+    ensures point { IsPartitionPoint (λ r. name_before r.route route.now ≡ true) (λ r.
+        name_before r.route route.now ≡ false) rows.now result }
 {
     rows.partition_point(|row| row.route.bytes().cmp(route.bytes()).is_lt())
 }
@@ -35,7 +36,8 @@ fn rows_before<T>(rows: &[OfRoute<T>], route: &RouteName) -> usize
 fn rows_up_to<T>(rows: &[OfRoute<T>], route: &RouteName) -> usize
     requires { IsSortedBy route_before rows.now }
     ensures within { result ≤ length rows.now }
-    ensures point { IsPartitionPoint (λ r. not (name_before route.now r.route) ≡ true) (λ r. not (name_before route.now r.route) ≡ false) rows.now result }
+    ensures point { IsPartitionPoint (λ r. not (name_before route.now r.route) ≡ true) (λ r.
+        not (name_before route.now r.route) ≡ false) rows.now result }
 {
     rows.partition_point(|row| !route.bytes().cmp(row.route.bytes()).is_lt())
 }
@@ -109,7 +111,8 @@ pub(crate) fn counted_of<T: Copy>(
     route: &RouteName,
 ) -> Result<Option<Vec<T>>, AllocError>
     requires { IsSortedBy route_before rows.now }
-    ensures { IfOk result (λ found. option_map (λ v. v.items) found ≡ counted 0 (sorted number_before (said_of route.now rows.now))) }
+    ensures { IfOk result (λ found. option_map (λ v. v.items) found
+        ≡ counted 0 (sorted number_before (said_of route.now rows.now))) }
 {
     let mut said = said_of(alloc, rows, route)?;
     sort_by_number(&mut said);

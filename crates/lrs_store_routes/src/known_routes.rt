@@ -13,7 +13,8 @@ use lrs_position::RouteName;
 fn names_before(names: &[RouteName], text: &[u8]) -> usize
     requires { IsSortedBy name_before names.now }
     ensures within { result ≤ length names.now }
-    ensures point { IsPartitionPoint (λ n. name_before n text.now ≡ true) (λ n. name_before n text.now ≡ false) names.now result }
+    ensures point { IsPartitionPoint (λ n. name_before n text.now ≡ true) (λ n.
+        name_before n text.now ≡ false) names.now result }
 {
     names.partition_point(|name| name.bytes().cmp(text).is_lt())
 }
@@ -43,7 +44,8 @@ fn known_name(names: &[RouteName], text: &[u8]) -> Option<RouteName>
 /// What is said of the route whose name this text is, if it is one of these names.
 pub(crate) fn of_known<T: Copy>(names: &[RouteName], text: &[u8], said: T) -> Option<OfRoute<T>>
     requires { IsSortedBy name_before names.now }
-    ensures { result ≡ only_if (is_name_of names.now text.now) (record { route = text.now; said = said }) }
+    ensures { result ≡ only_if (is_name_of names.now text.now)
+        (record { route = text.now; said = said }) }
 {
     let route = known_name(names, text)?;
     Some(OfRoute { route, said })

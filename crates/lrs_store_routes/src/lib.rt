@@ -17,7 +17,6 @@ mod spans;
 
 pub use cells::{MarkCells, PieceCells, RefCells, SpanCells};
 pub use courses::{RouteCourse, read_courses};
-pub use decode::whole;
 pub use decoded_rows::OfRoute;
 pub use fault::ReadFault;
 pub use groups::{said_of, sort_by_route};

@@ -15,7 +15,6 @@ ghost use Rattle.lrs_store_routes.specs.declared.fault.ReadFault.TheVariants as 
 
 use crate::cells::MarkCells;
 use crate::courses::RouteCourse;
-use crate::decode::whole;
 use crate::decoded_rows::{Numbered, OfRoute};
 use crate::fault::ReadFault;
 use crate::groups::{counted_of, sort_by_route};
@@ -23,6 +22,7 @@ use crate::known_routes::of_known;
 use lrs_element::{Mark, Marks};
 use lrs_machine::Table;
 use lrs_position::RouteName;
+use lrs_store_rows::whole;
 use std::alloc::{AllocError, Global};
 use std::marker::Model;
 
@@ -75,7 +75,8 @@ fn marks_said(
     rows: &[MarkCells<'_>],
 ) -> Result<Option<Vec<OfRoute<Numbered<Mark>>>>, AllocError>
     requires { IsSortedBy name_before names.now }
-    ensures { IfOk result (λ found. option_map (λ v. v.items) found ≡ each_of (known mark_of (is_name_of names.now)) rows.now) }
+    ensures { IfOk result (λ found. option_map (λ v. v.items) found
+        ≡ each_of (known mark_of (is_name_of names.now)) rows.now) }
 {
     let mut found = Vec::new(alloc);
     for row in rows {
@@ -123,7 +124,8 @@ fn measure_all(
     courses: Vec<RouteCourse>,
 ) -> Result<Option<Vec<Measured>>, AllocError>
     requires { IsSortedBy route_before rows.now }
-    ensures { IfOk result (λ found. option_map (λ v. v.items) found ≡ each_of (good_measured rows.now) courses.items) }
+    ensures { IfOk result (λ found. option_map (λ v. v.items) found
+        ≡ each_of (good_measured rows.now) courses.items) }
 {
     let mut found = Vec::new(alloc);
     for course in courses {
@@ -142,7 +144,8 @@ fn measured_said(
     courses: Vec<RouteCourse>,
 ) -> Result<Option<Vec<Measured>>, AllocError>
     requires { are_route_courses courses.items ≡ true }
-    ensures { IfOk result (λ found. option_map (λ v. v.items) found ≡ passing (measured_of rows.now courses.items) are_all_measured) }
+    ensures { IfOk result (λ found. option_map (λ v. v.items) found
+        ≡ passing (measured_of rows.now courses.items) are_all_measured) }
 {
     let names = names_of_courses(alloc, &courses)?;
     let Some(mut said) = marks_said(alloc, &names, rows)? else {
@@ -163,10 +166,12 @@ pub fn read_marks(
     courses: Vec<RouteCourse>,
 ) -> Result<Vec<Measured>, ReadFault>
     requires { are_route_courses courses.items ≡ true }
-    ensures measured { IfOk result (λ measured. read table.Mark (measured_of rows.now courses.items) are_all_measured ≡ Ok measured.items) }
+    ensures measured { IfOk result (λ measured. read table.Mark
+        (measured_of rows.now courses.items) are_all_measured ≡ Ok measured.items) }
     ensures courses { IfOk result (λ measured. courses_of_measured measured.items ≡ courses.items) }
     ensures marks { IfOk result (λ measured. are_all_measured measured.items ≡ true) }
-    ensures unsound { (t : DeclaredTable) → result ≡ Err (ReadFault.Unsound t) → read table.Mark (measured_of rows.now courses.items) are_all_measured ≡ Err t }
+    ensures unsound { (t : DeclaredTable) → result ≡ Err (ReadFault.Unsound t)
+        → read table.Mark (measured_of rows.now courses.items) are_all_measured ≡ Err t }
 {
     let found = measured_said(alloc, rows, courses)?;
     match found {

@@ -20,15 +20,16 @@ ghost use Rattle.lrs_store_routes.specs.declared.fault.ReadFault.TheVariants as 
 
 use crate::cells::RefCells;
 use crate::courses::RouteCourse;
-use crate::decode::whole;
 use crate::decoded_rows::OfRoute;
 use crate::fault::ReadFault;
 use crate::groups::{said_of, sort_by_route};
 use crate::known_routes::of_known;
 use crate::marks::Measured;
+use lrs_image_sound::{differ, push_names};
 use lrs_machine::Table;
 use lrs_measure::Rows;
 use lrs_position::{RefName, Referent, Route, RouteName};
+use lrs_store_rows::whole;
 use std::alloc::{AllocError, Global};
 
 fn referent_name(text: &[u8]) -> Option<RefName>
@@ -54,7 +55,8 @@ fn referents_said(
     rows: &[RefCells<'_>],
 ) -> Result<Option<Vec<OfRoute<Referent>>>, AllocError>
     requires { IsSortedBy name_before names.now }
-    ensures { IfOk result (λ found. option_map (λ v. v.items) found ≡ each_of (known referent_of (is_name_of names.now)) rows.now) }
+    ensures { IfOk result (λ found. option_map (λ v. v.items) found
+        ≡ each_of (known referent_of (is_name_of names.now)) rows.now) }
 {
     let mut found = Vec::new(alloc);
     for row in rows {
@@ -161,7 +163,8 @@ fn refer_all(
 ) -> Result<Option<Vec<Route>>, AllocError>
     requires rows { IsSortedBy route_before rows.now }
     requires measured { list_all is_measured measured.items ≡ true }
-    ensures { IfOk result (λ found. option_map (λ v. v.items) found ≡ each_of (route_with rows.now) measured.items) }
+    ensures { IfOk result (λ found. option_map (λ v. v.items) found
+        ≡ each_of (route_with rows.now) measured.items) }
 {
     let mut found = Vec::new(alloc);
     for route in measured {
@@ -182,7 +185,8 @@ fn routes_said(
 ) -> Result<Option<Vec<Route>>, AllocError>
     requires courses { are_route_courses (courses_of_measured measured.items) ≡ true }
     requires marks { are_all_measured measured.items ≡ true }
-    ensures { IfOk result (λ found. option_map (λ v. v.items) found ≡ routes_of rows.now measured.items) }
+    ensures { IfOk result (λ found. option_map (λ v. v.items) found
+        ≡ routes_of rows.now measured.items) }
 {
     let names = names_of_measured(alloc, &measured)?;
     let Some(mut said) = referents_said(alloc, &names, rows)? else {
@@ -192,32 +196,16 @@ fn routes_said(
     refer_all(alloc, &said, measured)
 }
 
-fn push_names(names: &mut Vec<RefName>, refs: &[Referent]) -> Result<(), AllocError>
-    ensures { IfOk result (λ _. names.new.items ≡ names.old.items ++ map (λ r. r.name) refs.now) }
-{
-    for referent in refs {
-        names.push(referent.name)?;
-    }
-    Ok(())
-}
-
 /// The names of the referents of all routes.
 fn names_of_referents(alloc: Global, routes: &[Route]) -> Result<Vec<RefName>, AllocError>
-    ensures { IfOk result (λ names. names.items ≡ map (λ r. r.name) (flat_map (λ r. r.refs) routes.now)) }
+    ensures { IfOk result (λ names. names.items ≡ map (λ r.
+        r.name) (flat_map (λ r. r.refs) routes.now)) }
 {
     let mut names = Vec::new(alloc);
     for route in routes {
         push_names(&mut names, route.refs.as_slice())?;
     }
     Ok(names)
-}
-
-/// Whether no two names are the same. A sort brings two that are side by side.
-fn differ(mut names: Vec<RefName>) -> bool
-    ensures { result ≡ each_two (λ k l. not (same_name k l)) names.items }
-{
-    names.sort_unstable();
-    names.is_sorted_by(|k, l| k.bytes().cmp(l.bytes()).is_lt())
 }
 
 /// Whether no name is that of two referents.
@@ -236,7 +224,8 @@ fn sound_routes(
 ) -> Result<Option<Vec<Route>>, AllocError>
     requires courses { are_route_courses (courses_of_measured measured.items) ≡ true }
     requires marks { are_all_measured measured.items ≡ true }
-    ensures { IfOk result (λ found. option_map (λ v. v.items) found ≡ passing (routes_of rows.now measured.items) are_all_referred) }
+    ensures { IfOk result (λ found. option_map (λ v. v.items) found
+        ≡ passing (routes_of rows.now measured.items) are_all_referred) }
 {
     let Some(routes) = routes_said(alloc, rows, measured)? else {
         return Ok(None);
@@ -260,9 +249,12 @@ pub fn read_referents(
 ) -> Result<Vec<Route>, ReadFault>
     requires courses { are_route_courses (courses_of_measured measured.items) ≡ true }
     requires marks { are_all_measured measured.items ≡ true }
-    ensures routes { IfOk result (λ routes. read table.Ref (routes_of rows.now measured.items) are_all_referred ≡ Ok routes.items) }
-    ensures courses { IfOk result (λ routes. courses_of_routes routes.items ≡ courses_of_measured measured.items) }
-    ensures unsound { (t : DeclaredTable) → result ≡ Err (ReadFault.Unsound t) → read table.Ref (routes_of rows.now measured.items) are_all_referred ≡ Err t }
+    ensures routes { IfOk result (λ routes. read table.Ref
+        (routes_of rows.now measured.items) are_all_referred ≡ Ok routes.items) }
+    ensures courses { IfOk result (λ routes. courses_of_routes routes.items
+        ≡ courses_of_measured measured.items) }
+    ensures unsound { (t : DeclaredTable) → result ≡ Err (ReadFault.Unsound t)
+        → read table.Ref (routes_of rows.now measured.items) are_all_referred ≡ Err t }
 {
     let found = sound_routes(alloc, rows, measured)?;
     match found {

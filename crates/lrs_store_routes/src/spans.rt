@@ -21,16 +21,16 @@ use crate::{OfRoute, ReadFault, SpanCells, said_of, sort_by_route};
 use lrs_events::{Asset, Class, Span};
 use lrs_events_spans::Spans;
 use lrs_image_sound::are_spans;
-use lrs_machine::{RouteEntry, Table};
+use lrs_machine::{RouteRow, Table};
 use lrs_position::Route;
 use std::alloc::{AllocError, Global};
 
 /// A route with its spans, if these are canonical.
-fn entry_of(
+fn row_of(
     alloc: Global,
     said: &[OfRoute<Span>],
     route: Route,
-) -> Result<Option<RouteEntry>, AllocError>
+) -> Result<Option<RouteRow>, AllocError>
     requires sorted { IsSortedBy route_before said.now }
     requires agree { each_two agree_said said.now ≡ true }
     ensures { IfOk result (λ found. found ≡ canonical_entry said.now route) }
@@ -40,7 +40,7 @@ fn entry_of(
         return Ok(None);
     };
     let spans = Spans::of_rows(alloc, sorted)?;
-    Ok(Some(RouteEntry { route, spans }))
+    Ok(Some(RouteRow { route, spans }))
 }
 
 /// Routes with their spans, if these are canonical.
@@ -48,17 +48,18 @@ fn entries_with(
     alloc: Global,
     said: &[OfRoute<Span>],
     routes: Vec<Route>,
-) -> Result<Option<Vec<RouteEntry>>, AllocError>
+) -> Result<Option<Vec<RouteRow>>, AllocError>
     requires sorted { IsSortedBy route_before said.now }
     requires agree { each_two agree_said said.now ≡ true }
-    ensures { IfOk result (λ found. option_map (λ v. v.items) found ≡ each_of (canonical_entry said.now) routes.items) }
+    ensures { IfOk result (λ found. option_map (λ v. v.items) found
+        ≡ each_of (canonical_entry said.now) routes.items) }
 {
     let mut entries = Vec::new(alloc);
     for route in routes {
-        let Some(entry) = entry_of(alloc, said, route)? else {
+        let Some(route_row) = row_of(alloc, said, route)? else {
             return Ok(None);
         };
-        entries.push(entry)?;
+        entries.push(route_row)?;
     }
     Ok(Some(entries))
 }
@@ -70,12 +71,16 @@ fn sound_entries(
     assets: &[Asset],
     said: &[OfRoute<Span>],
     routes: Vec<Route>,
-) -> Result<Option<Vec<RouteEntry>>, AllocError>
+) -> Result<Option<Vec<RouteRow>>, AllocError>
     requires classes { each_two class_before classes.now ≡ true }
     requires assets { each_two asset_before assets.now ≡ true }
     requires sorted { IsSortedBy route_before said.now }
     requires agree { each_two agree_said said.now ≡ true }
-    ensures { IfOk result (λ found. (links : List Link) → are_courses links (courses_over routes.items) ≡ true → option_map (λ v. v.items) found ≡ passing (each_of (canonical_entry said.now) routes.items) (are_sound links classes.now assets.now)) }
+    ensures { IfOk result (λ found. (links : List Link)
+        → are_courses links (courses_over routes.items) ≡ true
+        → option_map (λ v. v.items) found ≡ passing
+        (each_of (canonical_entry said.now) routes.items)
+        (are_sound links classes.now assets.now)) }
 {
     let Some(entries) = entries_with(alloc, said, routes)? else {
         return Ok(None);
@@ -94,11 +99,14 @@ fn entries_said(
     assets: &[Asset],
     rows: &[SpanCells<'_>],
     routes: Vec<Route>,
-) -> Result<Option<Vec<RouteEntry>>, AllocError>
+) -> Result<Option<Vec<RouteRow>>, AllocError>
     requires classes { each_two class_before classes.now ≡ true }
     requires assets { each_two asset_before assets.now ≡ true }
     requires routes { each_two named_before routes.items ≡ true }
-    ensures { IfOk result (λ found. (links : List Link) → are_courses links (courses_over routes.items) ≡ true → option_map (λ v. v.items) found ≡ passing (entries_of assets.now rows.now routes.items) (are_sound links classes.now assets.now)) }
+    ensures { IfOk result (λ found. (links : List Link)
+        → are_courses links (courses_over routes.items) ≡ true
+        → option_map (λ v. v.items) found ≡ passing (entries_of assets.now rows.now routes.items)
+        (are_sound links classes.now assets.now)) }
 {
     let Some(mut said) = spans_said(alloc, assets, &routes, rows)? else {
         return Ok(None);
@@ -119,12 +127,18 @@ pub fn read_spans(
     assets: &[Asset],
     rows: &[SpanCells<'_>],
     routes: Vec<Route>,
-) -> Result<Vec<RouteEntry>, ReadFault>
+) -> Result<Vec<RouteRow>, ReadFault>
     requires classes { each_two class_before classes.now ≡ true }
     requires assets { each_two asset_before assets.now ≡ true }
     requires routes { each_two named_before routes.items ≡ true }
-    ensures entries { IfOk result (λ entries. (links : List Link) → are_courses links (courses_over routes.items) ≡ true → read table.Span (entries_of assets.now rows.now routes.items) (are_sound links classes.now assets.now) ≡ Ok entries.items) }
-    ensures unsound { (t : DeclaredTable) → result ≡ Err (ReadFault.Unsound t) → (links : List Link) → are_courses links (courses_over routes.items) ≡ true → read table.Span (entries_of assets.now rows.now routes.items) (are_sound links classes.now assets.now) ≡ Err t }
+    ensures entries { IfOk result (λ entries. (links : List Link)
+        → are_courses links (courses_over routes.items) ≡ true
+        → read table.Span (entries_of assets.now rows.now routes.items)
+        (are_sound links classes.now assets.now) ≡ Ok entries.items) }
+    ensures unsound { (t : DeclaredTable) → result ≡ Err (ReadFault.Unsound t) → (links : List Link)
+        → are_courses links (courses_over routes.items) ≡ true
+        → read table.Span (entries_of assets.now rows.now routes.items)
+        (are_sound links classes.now assets.now) ≡ Err t }
 {
     let found = entries_said(alloc, classes, assets, rows, routes)?;
     match found {

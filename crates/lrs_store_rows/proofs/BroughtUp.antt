@@ -9,7 +9,7 @@ use Rattle.lrs_events.specs.declared.class.Asset.{Asset}
 use Rattle.lrs_machine.specs.declared.image.Image.{Image}
 use Rattle.lrs_machine.specs.declared.table.Table.{Table}
 use Rattle.lrs_machine.specs.declared.table.Table.TheVariants as table
-use Rattle.lrs_machine.specs.Bounds.{most_edits}
+use Rattle.lrs_measure.specs.Limits.{most_edits}
 use Rattle.lrs_machine.specs.Entered.{is_asset_number, is_lateral_offset}
 use Rattle.lrs_machine.specs.Sound.{is_asset, are_origins, is_named_by}
 use Rattle.lrs_machine.proofs.Members.{In, any_found, all_at}
@@ -25,13 +25,13 @@ use Rattle.lrs_store_rows.proofs.Contents.{content_is_sound}
 
 -- an asset and the edit that entered it
 abbrev origin : Asset → Origin
-origin a = record { asset = a.number; edit = a.entry }
+origin a = record { asset = a.number; edit = a.entered_by }
 
 -- ---- what a sound image says of its assets
 
 -- its number and its edit can be stored
 abbrev is_stored : Asset → Bool
-is_stored a = nat_lt a.number (2 ^ 63) && nat_lt a.entry (2 ^ 63)
+is_stored a = nat_lt a.number (2 ^ 63) && nat_lt a.entered_by (2 ^ 63)
 
 all_from : {X : Type 0} (p : X → Bool) (xs : List X) → ((x : X) → In x xs → p x ≡ true) → list_all p xs ≡ true
 all_from p [] h = refl
@@ -45,7 +45,7 @@ module _ (i : Image) (t : Tested i) where
       let most = leb-true _ _ (and_parts (nat_le 1 a.number) (nat_le a.number 1_000_000_000_000) number.0).1 in
       lt-ltb _ _ (omega (arith, most))
 
-  entry_fits : (a : Asset) → In a i.assets → nat_lt a.entry (2 ^ 63) ≡ true
+  entry_fits : (a : Asset) → In a i.assets → nat_lt a.entered_by (2 ^ 63) ≡ true
   entry_fits a m =
       let part = any_found (λ p. nat_eq p.asset a.number) i.entered (origin_of i t a m).0 in
       let edit = entered_by_entry i t a part.0 m part.1 (eqb-true _ _ part.2) in
@@ -61,11 +61,11 @@ said_back : (assets : List Asset) → list_all is_stored assets ≡ true → eac
 said_back [] h = refl
 said_back (a ∷ assets) h =
     let here = and_parts (is_stored a) (list_all is_stored assets) h in
-    let fits = and_parts (nat_lt a.number (2 ^ 63)) (nat_lt a.entry (2 ^ 63)) here.0 in
-    by (nat_lt a.number (2 ^ 63)) (nat_lt a.entry (2 ^ 63)) (each_of option.origin_of (map origin_row assets)) fits.0 fits.1 (said_back assets here.1)
+    let fits = and_parts (nat_lt a.number (2 ^ 63)) (nat_lt a.entered_by (2 ^ 63)) here.0 in
+    by (nat_lt a.number (2 ^ 63)) (nat_lt a.entered_by (2 ^ 63)) (each_of option.origin_of (map origin_row assets)) fits.0 fits.1 (said_back assets here.1)
   where
     by : (b c : Bool) (o : Option (List Origin)) → b ≡ true → c ≡ true → o ≡ Some (map origin assets)
-        → option.◌>>=◌ (option.◌>>=◌ (option.only_if b a.number) (λ asset. option.◌>>=◌ (option.only_if c a.entry) (λ edit. Some (let x : Origin = record { asset = asset; edit = edit } in x))))
+        → option.◌>>=◌ (option.◌>>=◌ (option.only_if b a.number) (λ asset. option.◌>>=◌ (option.only_if c a.entered_by) (λ edit. Some (let x : Origin = record { asset = asset; edit = edit } in x))))
         (λ x. option.◌>>=◌ o (λ xs. Some (x ∷ xs))) ≡ Some (map origin (a ∷ assets))
     by true true o f g is = ap (λ r. option.◌>>=◌ r (λ xs. Some (origin a ∷ xs))) is
     by true false o f g is = absurd (cc)
@@ -84,7 +84,7 @@ sorted-same before (x ∷ xs) h =
 
 theirs : (assets : List Asset) → are_origins_of assets (map origin assets) ≡ true
 theirs [] = refl
-theirs (a ∷ assets) = and_from _ _ (and_from _ _ (eq-eqb a.number a.number refl) (eq-eqb a.entry a.entry refl)) (theirs assets)
+theirs (a ∷ assets) = and_from _ _ (and_from _ _ (eq-eqb a.number a.number refl) (eq-eqb a.entered_by a.entered_by refl)) (theirs assets)
 
 -- ---- the last table
 

@@ -7,7 +7,7 @@ use Rattle.lrs_measure.specs.Texts.{same_name}
 use Rattle.lrs_position.specs.declared.route.Route.{Route}
 use Rattle.lrs_position.specs.Routes.{is_route}
 use Rattle.lrs_events.specs.declared.class.Asset.{Asset}
-use Rattle.lrs_machine.specs.declared.image.RouteEntry.{RouteEntry}
+use Rattle.lrs_machine.specs.declared.image.RouteRow.{RouteRow}
 use Rattle.lrs_machine.specs.declared.image.Image.{Image}
 use Rattle.lrs_machine.specs.declared.table.Table.{Table}
 use Rattle.lrs_machine.specs.declared.table.Table.TheVariants as table
@@ -17,7 +17,7 @@ use Rattle.lrs_machine.specs.Sound.{RouteCourse, Test, first_failed, first_unsou
 use Rattle.lrs_store_rows.specs.Tables.{Tables, MarkRow, RefRow, SpanRow}
 use Rattle.lrs_store_rows.specs.Decoding.{if_true, each_of, each_sorted, sorted, said_of, number_before, counted, link_of, class_of, asset_of, mark_of, referent_of, span_of, part_of, gone_of, origin_of}
 use Rattle.lrs_store_rows.specs.Decoding as option
-use Rattle.lrs_store_rows.specs.Content.{read, Measured, courses_of, each_of_known, is_one_of, marks_of, measured_with, measured_of, referent_before, referents_of, route_with, routes_of, spans_of, entry_with, entries_of, edits_of, inventory_of, version_of, origin_before, has_origins, image_of, content_of, has_no_rows}
+use Rattle.lrs_store_rows.specs.Content.{read, Measured, courses_of, each_of_known, is_one_of, marks_of, measured_with, measured_of, referent_before, referents_of, route_with, routes_of, spans_of, row_with, entries_of, edits_of, inventory_of, version_of, origin_before, has_origins, image_of, content_of, has_no_rows}
 use Rattle.lrs_store_rows.specs.Content as content
 use Rattle.lrs_store_rows.proofs.Entries.{assets-same, spans-same, entered-same, gone-same}
 
@@ -94,7 +94,7 @@ routes-measured rows ms =
 -- the spans are read route by route
 entries-routes : (assets : List Asset) (rows : List SpanRow) (rs : List Route) → IfSome (entries_of assets rows rs) (λ es. map (λ e. e.route) es ≡ map (λ r. r) rs)
 entries-routes assets rows rs =
-    behind_some _ (each_of_known (span_of assets) (λ name. list_any (λ route. same_name route.name name) rs) rows) _ (λ said. map-map (λ (e : RouteEntry). e.route) (entry_with said) rs)
+    behind_some _ (each_of_known (span_of assets) (λ name. list_any (λ route. same_name route.name name) rs) rows) _ (λ said. map-map (λ (e : RouteRow). e.route) (row_with said) rs)
 
 first_failed-passed : (t : Test) (ts : List Test) → t.passes ≡ true → first_failed (t ∷ ts) ≡ first_failed ts
 first_failed-passed t ts h = ap (λ b. cond b (first_failed ts) (Some t.table)) h
@@ -128,7 +128,7 @@ inventory_is_sound t =
     let of_courses : map (λ m. m.course) ms ≡ courses = is_some_as _ _ ms (measured-courses t.mark courses) mark.decoded ∙ map_id courses in
     let of_ms : map measured rs ≡ ms = is_some_as _ _ rs (routes-measured t.ref ms) ref.decoded ∙ map_id ms in
     let of_rs : map (λ e. e.route) es ≡ rs = is_some_as _ _ es (entries-routes assets t.span rs) span.decoded ∙ map_id rs in
-    let through : map (λ e. measured e.route) es ≡ ms = sym (map-map measured (λ (e : RouteEntry). e.route) es) ∙ ap (map measured) of_rs ∙ of_ms in
+    let through : map (λ e. measured e.route) es ≡ ms = sym (map-map measured (λ (e : RouteRow). e.route) es) ∙ ap (map measured) of_rs ∙ of_ms in
     all_passed _ (
       link.passes,
       (
@@ -136,11 +136,11 @@ inventory_is_sound t =
         (
           assets-same entered classes assets ∙ asset.passes,
           (
-            ap (are_courses links) (sym (map-map (λ (m : Measured). m.course) (λ (e : RouteEntry). measured e.route) es) ∙ ap (map (λ (m : Measured). m.course)) through ∙ of_courses) ∙ piece.passes,
+            ap (are_courses links) (sym (map-map (λ (m : Measured). m.course) (λ (e : RouteRow). measured e.route) es) ∙ ap (map (λ (m : Measured). m.course)) through ∙ of_courses) ∙ piece.passes,
             (
-              ap are_all_marks (sym (map-map marks_of (λ (e : RouteEntry). measured e.route) es) ∙ ap (map marks_of) through) ∙ mark.passes,
+              ap are_all_marks (sym (map-map marks_of (λ (e : RouteRow). measured e.route) es) ∙ ap (map marks_of) through) ∙ mark.passes,
               (
-                ap are_all_referents (sym (map-map referents_of (λ (e : RouteEntry). e.route) es) ∙ ap (map referents_of) of_rs) ∙ ref.passes,
+                ap are_all_referents (sym (map-map referents_of (λ (e : RouteRow). e.route) es) ∙ ap (map referents_of) of_rs) ∙ ref.passes,
                 (
                   spans-same entered links classes assets (map spans_of es) ∙ span.passes,
                   (

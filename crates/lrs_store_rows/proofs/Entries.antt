@@ -14,12 +14,12 @@ use Rattle.lrs_events.specs.declared.part.Part.{Part}
 use Rattle.lrs_events.specs.declared.part.Gone.{Gone}
 use Rattle.lrs_events.specs.Spans.{are_rows}
 use Rattle.lrs_machine.specs.Segments.{is_exclusive}
-use Rattle.lrs_machine.specs.Bounds.{most_assets, most_pairs}
+use Rattle.lrs_measure.specs.Limits.{most_assets, most_pairs}
 use Rattle.lrs_events.specs.Parts.{part_before}
 use Rattle.lrs_machine.specs.Sound.{RouteSpans, asset_before, is_asset, are_assets, holds_in, places_of, are_spans, share_nothing, pairs_of, are_parts, are_entered, gone_before, parts_of, is_balanced_at, are_gone}
 use Rattle.lrs_machine.proofs.Members.{list_any-map}
 use Rattle.lrs_machine.proofs.Pairs.{each_two-map}
-use Rattle.lrs_store_rows.specs.Content.{with_entry}
+use Rattle.lrs_store_rows.specs.Content.{with_edit}
 
 count-map : {X Y : Type 0} (p : Y → Bool) (f : X → Y) (xs : List X) → count_by p (map f xs) ≡ count_by (λ x. p (f x)) xs
 count-map p f [] = refl
@@ -27,7 +27,7 @@ count-map p f (x ∷ xs) = sum_by-cons (λ y. cond (p y) 1 0) (f x) (map f xs) �
 
 module _ (told : List Part) where
   abbrev entry : Asset → Asset
-  entry = with_entry told
+  entry = with_edit told
 
   pub assets-same : (classes : List Class) (assets : List Asset) → are_assets classes (map entry assets) ≡ are_assets classes assets
   assets-same classes assets =

@@ -22,7 +22,7 @@ use Rattle.lrs_events.specs.Spans.{span_before, is_row, are_apart, are_rows}
 use Rattle.lrs_events_lanes.proofs.Inserted.{IsPermutation-insert_by}
 use Rattle.lrs_events_rows.proofs.Unique.{less_one}
 use Rattle.lrs_events_rows.proofs.Rows.{NameCases, name_cases, before, same, behind}
-use Rattle.lrs_machine.specs.declared.image.RouteEntry.{RouteEntry}
+use Rattle.lrs_machine.specs.declared.image.RouteRow.{RouteRow}
 use Rattle.lrs_machine.specs.declared.table.Table.TheVariants as table
 use Rattle.lrs_machine.specs.Sound.{RouteCourse, are_spans_of, keeps_exclusive, are_spans}
 use Rattle.lrs_machine.proofs.Members.{all_weaker}
@@ -31,7 +31,7 @@ use Rattle.lrs_image_sound.proofs.Rearranged.{all_alike}
 use Rattle.lrs_store_rows.specs.Tables.{PieceRow, MarkRow, RefRow, SpanRow, EditRow}
 use Rattle.lrs_store_rows.specs.Decoding.{if_true, only_if, each_of, each_sorted, sorted, OfRoute, said_of, Numbered, number_before, counted, piece_of, mark_of, referent_of, span_of, edit_of}
 use Rattle.lrs_store_rows.specs.Decoding as option
-use Rattle.lrs_store_rows.specs.Content.{read, with_name, routes_named, course_in_fewest, course_of_route, courses_of, each_of_known, Measured, is_one_of, measured_with, measured_of, referent_before, route_with, routes_of, entry_with, entries_of, edits_of, spans_of, version_of}
+use Rattle.lrs_store_rows.specs.Content.{read, with_name, routes_named, course_in_fewest, course_of_route, courses_of, each_of_known, Measured, is_one_of, measured_with, measured_of, referent_before, route_with, routes_of, row_with, entries_of, edits_of, spans_of, version_of}
 use Rattle.lrs_store_rows.proofs.Unordered.{AreAlike, each_of-permutation, IsPermutation-filter, insert_by-comm, SortAlike, sort_alike}
 use Rattle.lrs_store_rows.proofs.Orders.{names_rank, numbers_rank, referents_rank, spans_rank}
 
@@ -224,20 +224,20 @@ module _ (assets : List Asset) where
       and_left (are_rows rows) _ (and_left (list_all is_row rows && each_two span_before rows) (each_two are_apart rows) (and_right (list_all is_row rows) (each_two span_before rows) f))
 
   abbrev are_rows_with : List (OfRoute Span) → List Route → Bool
-  are_rows_with said routes = list_all (are_spans_of assets) (map spans_of (map (entry_with said) routes))
+  are_rows_with said routes = list_all (are_spans_of assets) (map spans_of (map (row_with said) routes))
 
   module _ (us vs : List (OfRoute Span)) (h : IsPermutation us vs) where
     -- the routes get the same spans, or some route gets none in order
     abbrev EntriesAlike : List Route → Type 0
-    EntriesAlike routes = (map (entry_with us) routes ≡ map (entry_with vs) routes) ⊎ ((are_rows_with us routes ≡ false) × (are_rows_with vs routes ≡ false))
+    EntriesAlike routes = (map (row_with us) routes ≡ map (row_with vs) routes) ⊎ ((are_rows_with us routes ≡ false) × (are_rows_with vs routes ≡ false))
 
     entry_alike : (r : Route) (rs : List Route) → SortAlike span_before spans_rank (said_of r.name us) (said_of r.name vs) → EntriesAlike rs → EntriesAlike (r ∷ rs)
-    entry_alike r rs (inl e) (inl g) = inl (ap₂ (λ s es. (let x : RouteEntry = record { route = r; spans = s } in x) ∷ es) e g)
-    entry_alike r rs (inl e) (inr k) = inr (and_right (are_spans_of assets (spans_of (entry_with us r))) (are_rows_with us rs) k.0, and_right (are_spans_of assets (spans_of (entry_with vs r))) (are_rows_with vs rs) k.1)
+    entry_alike r rs (inl e) (inl g) = inl (ap₂ (λ s es. (let x : RouteRow = record { route = r; spans = s } in x) ∷ es) e g)
+    entry_alike r rs (inl e) (inr k) = inr (and_right (are_spans_of assets (spans_of (row_with us r))) (are_rows_with us rs) k.0, and_right (are_spans_of assets (spans_of (row_with vs r))) (are_rows_with vs rs) k.1)
     entry_alike r rs (inr f) g =
         inr (
-          and_left (are_spans_of assets (spans_of (entry_with us r))) (are_rows_with us rs) (no_rows r.course (sorted span_before (said_of r.name us)) f.0),
-          and_left (are_spans_of assets (spans_of (entry_with vs r))) (are_rows_with vs rs) (no_rows r.course (sorted span_before (said_of r.name vs)) f.1),
+          and_left (are_spans_of assets (spans_of (row_with us r))) (are_rows_with us rs) (no_rows r.course (sorted span_before (said_of r.name us)) f.0),
+          and_left (are_spans_of assets (spans_of (row_with vs r))) (are_rows_with vs rs) (no_rows r.course (sorted span_before (said_of r.name vs)) f.1),
         )
 
     entries_alike : (routes : List Route) → EntriesAlike routes
@@ -245,22 +245,22 @@ module _ (assets : List Asset) where
     entries_alike (r ∷ rs) = entry_alike r rs (sort_alike span_before spans_rank (said_of r.name us) (said_of r.name vs) (said_alike r.name us vs h)) (entries_alike rs)
 
   module _ (links : List Link) (classes : List Class) where
-    abbrev passes : List RouteEntry → Bool
+    abbrev passes : List RouteRow → Bool
     passes es = are_spans links classes assets (map spans_of es)
 
-    fails : (es : List RouteEntry) → list_all (are_spans_of assets) (map spans_of es) ≡ false → read table.Span (Some es) passes ≡ Err table.Span
+    fails : (es : List RouteRow) → list_all (are_spans_of assets) (map spans_of es) ≡ false → read table.Span (Some es) passes ≡ Err table.Span
     fails es f = ap (λ b. cond b (Ok es) (Err table.Span)) (and_left (list_all (are_spans_of assets) (map spans_of es)) (list_all (keeps_exclusive links assets (map spans_of es)) classes) f)
 
     spans_read : (routes : List Route) (a b : Option (List (OfRoute Span))) → AreAlike a b
-        → read table.Span (option.◌>>=◌ a (λ said. Some (map (entry_with said) routes))) passes ≡ read table.Span (option.◌>>=◌ b (λ said. Some (map (entry_with said) routes))) passes
+        → read table.Span (option.◌>>=◌ a (λ said. Some (map (row_with said) routes))) passes ≡ read table.Span (option.◌>>=◌ b (λ said. Some (map (row_with said) routes))) passes
     spans_read routes None None h = refl
     spans_read routes None (Some vs) h = absurd h
     spans_read routes (Some us) None h = absurd h
     spans_read routes (Some us) (Some vs) h = by (entries_alike us vs h routes)
       where
-        by : EntriesAlike us vs h routes → read table.Span (Some (map (entry_with us) routes)) passes ≡ read table.Span (Some (map (entry_with vs) routes)) passes
+        by : EntriesAlike us vs h routes → read table.Span (Some (map (row_with us) routes)) passes ≡ read table.Span (Some (map (row_with vs) routes)) passes
         by (inl e) = ap (λ es. read table.Span (Some es) passes) e
-        by (inr f) = fails (map (entry_with us) routes) f.0 ∙ sym (fails (map (entry_with vs) routes) f.1)
+        by (inr f) = fails (map (row_with us) routes) f.0 ∙ sym (fails (map (row_with vs) routes) f.1)
 
     pub spans_alike : (xs ys : List SpanRow) (routes : List Route) → IsPermutation xs ys → read table.Span (entries_of assets xs routes) passes ≡ read table.Span (entries_of assets ys routes) passes
     spans_alike xs ys routes h =

@@ -10,13 +10,13 @@ use Rattle.lrs_events.specs.Parts.{part_before}
 use Rattle.lrs_machine.specs.declared.image.Image.{Image}
 use Rattle.lrs_machine.specs.declared.table.Table.{Table}
 use Rattle.lrs_machine.specs.declared.table.Table.TheVariants as table
-use Rattle.lrs_machine.specs.Bounds.{most_assets}
+use Rattle.lrs_measure.specs.Limits.{most_assets}
 use Rattle.lrs_machine.specs.Image.{nothing}
 use Rattle.lrs_machine.specs.Sound.{link_before, are_links, class_before, are_classes, asset_before, is_asset, are_assets, are_courses, are_all_marks, are_all_referents, are_spans, are_parts, are_entered, gone_before, parts_of, are_balanced, are_gone, are_edits, are_origins}
 use Rattle.lrs_machine.proofs.Pairs.{each_two-map}
 use Rattle.lrs_store_rows.specs.Tables.{Tables, AreSame}
 use Rattle.lrs_store_rows.specs.Decoding.{each_sorted, link_of, class_of, asset_of, part_of, gone_of, Origin, origin_of}
-use Rattle.lrs_store_rows.specs.Content.{read, courses_of, marks_of, measured_of, referents_of, routes_of, spans_of, entries_of, edits_of, with_entry, inventory_of, version_of, origin_before, are_origins_of, has_origins, image_of, has_no_rows, content_of}
+use Rattle.lrs_store_rows.specs.Content.{read, courses_of, marks_of, measured_of, referents_of, routes_of, spans_of, entries_of, edits_of, with_edit, inventory_of, version_of, origin_before, are_origins_of, has_origins, image_of, has_no_rows, content_of}
 use Rattle.lrs_store_rows.specs.Content as content
 use Rattle.lrs_store_rows.specs.OrderLaws.{ContentIsOfRows}
 use Rattle.lrs_store_rows.proofs.Unordered.{read_alike}
@@ -49,8 +49,8 @@ same_numbers [] [] h = refl
 same_numbers [] (o ∷ os) h = absurd (false≢true h)
 same_numbers (a ∷ assets) [] h = absurd (false≢true h)
 same_numbers (a ∷ assets) (o ∷ os) h =
-    let both = and_parts (nat_eq o.asset a.number && nat_eq o.edit a.entry) (are_origins_of assets os) h in
-    ap₂ (λ n ns. n ∷ ns) (eqb-true o.asset a.number (and_parts (nat_eq o.asset a.number) (nat_eq o.edit a.entry) both.0).0) (same_numbers assets os both.1)
+    let both = and_parts (nat_eq o.asset a.number && nat_eq o.edit a.entered_by) (are_origins_of assets os) h in
+    ap₂ (λ n ns. n ∷ ns) (eqb-true o.asset a.number (and_parts (nat_eq o.asset a.number) (nat_eq o.edit a.entered_by) both.0).0) (same_numbers assets os both.1)
 
 -- Origins that a version has are in the order of their assets.
 origins_rise : (version : ℕ) (assets : List Asset) (os : List Origin) → each_two asset_before assets ≡ true → has_origins version assets os ≡ true → each_two origin_before os ≡ true
@@ -88,7 +88,7 @@ inventory_alike a b same k l h =
     (λ xs passes. (and_parts (each_two gone_before xs) (are_parts links assets (parts_of xs)) (and_parts (each_two gone_before xs && are_parts links assets (parts_of xs)) (are_balanced links assets (map spans_of es) entered (parts_of xs)) passes).0).0)
     a.gone b.gone same.gone) (λ gone _.
     then_same table.Edit (edits_of a.edit) (edits_of b.edit) (are_edits entered gone) _ _ k l (ap (λ o. read table.Edit o (are_edits entered gone)) (edits_alike a.edit b.edit same.edit)) (λ edits _.
-    h _ (each_two-map asset_before (with_entry entered) assets ∙ assets_rise classes assets asset)))))))))))
+    h _ (each_two-map asset_before (with_edit entered) assets ∙ assets_rise classes assets asset)))))))))))
 
 -- the last table, and all tables behind version
 abbrev last : Tables → ℕ → Image → Result Image Table

@@ -15,7 +15,7 @@ use Rattle.lrs_events.specs.declared.class.Asset.{Asset}
 use Rattle.lrs_events.specs.declared.part.Part.{Part}
 use Rattle.lrs_events.specs.declared.span.Span.{Span}
 use Rattle.lrs_events.specs.Spans.{span_before}
-use Rattle.lrs_machine.specs.declared.image.RouteEntry.{RouteEntry}
+use Rattle.lrs_machine.specs.declared.image.RouteRow.{RouteRow}
 use Rattle.lrs_machine.specs.declared.image.Edit.{Edit}
 use Rattle.lrs_machine.specs.declared.image.Image.{Image}
 use Rattle.lrs_machine.specs.declared.table.Table.{Table}
@@ -90,12 +90,12 @@ route_with said m =
 abbrev pub routes_of : List RefRow → List Measured → Option (List Route)
 routes_of rows measured = option.◌>>=◌ (each_of_known referent_of (λ route. list_any (λ m. same_name m.course.route route) measured) rows) (λ said. each_of (route_with said) measured)
 
-abbrev pub entry_with : List (OfRoute Span) → Route → RouteEntry
-entry_with said route = record { route = route; spans = sorted span_before (said_of route.name said) }
+abbrev pub row_with : List (OfRoute Span) → Route → RouteRow
+row_with said route = record { route = route; spans = sorted span_before (said_of route.name said) }
 
 -- the routes with their spans, where no span is of another
-abbrev pub entries_of : List Asset → List SpanRow → List Route → Option (List RouteEntry)
-entries_of assets rows routes = option.◌>>=◌ (each_of_known (span_of assets) (λ name. list_any (λ route. same_name route.name name) routes) rows) (λ said. Some (map (entry_with said) routes))
+abbrev pub entries_of : List Asset → List SpanRow → List Route → Option (List RouteRow)
+entries_of assets rows routes = option.◌>>=◌ (each_of_known (span_of assets) (λ name. list_any (λ route. same_name route.name name) routes) rows) (λ said. Some (map (row_with said) routes))
 
 -- the edits in the order of their numbers, which are those from 1 on
 abbrev pub edits_of : List EditRow → Option (List Edit)
@@ -107,7 +107,7 @@ marks_of m = record { course = m.course.entries; marks = m.marks }
 abbrev pub referents_of : Route → RouteReferents
 referents_of r = record { length = length r.course; refs = r.refs }
 
-abbrev pub spans_of : RouteEntry → RouteSpans
+abbrev pub spans_of : RouteRow → RouteSpans
 spans_of e = record { course = e.route.course; rows = e.spans }
 
 -- the edit of the first of these parts that is of the asset, or 0
@@ -116,8 +116,8 @@ edit_entering [] asset = 0
 edit_entering (p ∷ ps) asset = if nat_eq p.asset asset then p.edit else edit_entering ps asset
 
 -- an asset with the edit that entered it
-abbrev pub with_entry : List Part → Asset → Asset
-with_entry entered a = record a { entry = edit_entering entered a.number }
+abbrev pub with_edit : List Part → Asset → Asset
+with_edit entered a = record a { entered_by = edit_entering entered a.number }
 
 -- The image of the rows beside `version` and `origin`: the ledger tells which edit entered an asset.
 abbrev pub inventory_of : Tables → Result Image Table
@@ -132,7 +132,7 @@ inventory_of t = do
   entered ← read table.Entered (each_sorted part_before part_of t.entered) (are_entered links assets)
   gone ← read table.Gone (each_sorted gone_before gone_of t.gone) (are_gone links assets (map spans_of entries) entered)
   edits ← read table.Edit (edits_of t.edit) (are_edits entered gone)
-  Ok (record { links = links; classes = classes; assets = map (with_entry entered) assets; routes = entries; entered = entered; gone = gone; edits = edits })
+  Ok (record { links = links; classes = classes; assets = map (with_edit entered) assets; routes = entries; entered = entered; gone = gone; edits = edits })
 
 -- one row, which says 1 or 2
 abbrev pub version_of : List ℤ → Option ℕ
@@ -147,7 +147,7 @@ abbrev pub are_origins_of : List Asset → List Origin → Bool
 are_origins_of [] [] = true
 are_origins_of [] (o ∷ os) = false
 are_origins_of (a ∷ as_) [] = false
-are_origins_of (a ∷ as_) (o ∷ os) = nat_eq o.asset a.number && nat_eq o.edit a.entry && are_origins_of as_ os
+are_origins_of (a ∷ as_) (o ∷ os) = nat_eq o.asset a.number && nat_eq o.edit a.entered_by && are_origins_of as_ os
 
 -- version 1 has no origins, and version 2 has that of each asset
 abbrev pub has_origins : ℕ → List Asset → List Origin → Bool

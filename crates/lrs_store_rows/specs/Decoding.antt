@@ -6,7 +6,7 @@ use Rattle.lrs_measure.specs.Texts.{Name, same_name}
 use Rattle.lrs_element.specs.declared.link.Link.{Link}
 use Rattle.lrs_element.specs.declared.link.Piece.{Piece}
 use Rattle.lrs_element.specs.declared.marks.Mark.{Mark}
-use Rattle.lrs_element.specs.Limits.{is_link}
+use Rattle.lrs_measure.specs.Limits.{is_link}
 use Rattle.lrs_position.specs.declared.route.Referent.{Referent}
 use Rattle.lrs_position.specs.Names.{is_route_name, is_referent_name}
 use Rattle.lrs_events.specs.declared.class.Kind.{Kind}
@@ -122,7 +122,7 @@ abbrev pub asset_of : AssetRow → Option Asset
 asset_of r = do
   number ← whole r.number
   lateral ← short r.lateral
-  only_if (is_class_name r.class && is_value r.value) (record { number = number; class = r.class; value = r.value; lateral = lateral; entry = 0 })
+  only_if (is_class_name r.class && is_value r.value) (record { number = number; class = r.class; value = r.value; lateral = lateral; entered_by = 0 })
 
 abbrev pub piece_of : PieceRow → Option (OfRoute (Numbered Piece))
 piece_of r = do

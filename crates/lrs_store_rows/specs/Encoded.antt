@@ -3,7 +3,7 @@ use Rattle.std.specs.Prelude.{ℕ, pos, List, [], ◌∷◌, map}
 use Rattle.std.specs.List.{AllByRecursion, flat_map}
 use Rattle.lrs_measure.specs.Texts.{Name}
 use Rattle.lrs_element.specs.declared.link.Piece.{Piece}
-use Rattle.lrs_machine.specs.declared.image.RouteEntry.{RouteEntry}
+use Rattle.lrs_machine.specs.declared.image.RouteRow.{RouteRow}
 use Rattle.lrs_machine.specs.declared.image.Image.{Image}
 use Rattle.lrs_store_rows.specs.Tables.{Tables, AreSame}
 use Rattle.lrs_store_rows.specs.Encoding.{link_row, class_row, asset_row, piece_row, mark_row, ref_row, span_row, entered_row, gone_row, edit_row, numbered, ArePiecesOf}
@@ -27,8 +27,8 @@ encoded pieces i = record {
 }
 
 -- these are the fewest pieces of each of the routes
-abbrev pub ArePiecesOfAll : (Name → List Piece) → List RouteEntry → Type 0
-ArePiecesOfAll pieces routes = AllByRecursion (λ (e : RouteEntry). ArePiecesOf e.route.course (pieces e.route.name)) routes
+abbrev pub ArePiecesOfAll : (Name → List Piece) → List RouteRow → Type 0
+ArePiecesOfAll pieces routes = AllByRecursion (λ (e : RouteRow). ArePiecesOf e.route.course (pieces e.route.name)) routes
 
 -- The rows are those that the image is written as, in any order.
 pub record Encodes (i : Image) (t : Tables) : Type 0 where

@@ -17,7 +17,7 @@ ContentIsSound = (t : Tables) (i : Image) → content_of t ≡ Ok i → IsSound 
 
 -- the row that tells which edit entered an asset
 abbrev pub origin_row : Asset → OriginRow
-origin_row a = record { asset = pos a.number; edit = pos a.entry }
+origin_row a = record { asset = pos a.number; edit = pos a.entered_by }
 
 -- the store as one of version 2, with the origins of these assets
 abbrev pub brought_up : List Asset → Tables → Tables

@@ -3,4 +3,7 @@
 #![tactic(auto)]
 
 pub mod laws;
+mod numbers;
 pub mod order_laws;
+
+pub use numbers::{short, whole};

@@ -3,7 +3,7 @@ use Rattle.std.proofs.Common.{◌≡◌, ℕ, ◌+◌, ◌<◌, ◌++◌, take, 
 use Rattle.std.proofs.Math.Seq.{take-suc, split_at}
 use Rattle.std.specs.Prelude.{IsTrue}
 use Rattle.std.proofs.Math.Bool.{Bool-set}
-use Rattle.lrs_element.specs.Limits.{is_link}
+use Rattle.lrs_measure.specs.Limits.{is_link}
 use Rattle.lrs_store_rows.specs.Tables.{LinkRow}
 use Rattle.lrs_store_rows.specs.Decoding.{each_of, only_if, if_true, whole, link_of}
 use Rattle.lrs_store_rows.specs.Decoding as option

@@ -15,7 +15,7 @@ use Rattle.lrs_events.specs.declared.span.Span.{Span}
 use Rattle.lrs_events.specs.declared.part.Part.{Part}
 use Rattle.lrs_events.specs.declared.part.Gone.{Gone}
 use Rattle.lrs_machine.specs.declared.image.Edit.{Edit}
-use Rattle.lrs_machine.specs.declared.image.RouteEntry.{RouteEntry}
+use Rattle.lrs_machine.specs.declared.image.RouteRow.{RouteRow}
 use Rattle.lrs_image.specs.declared.change.ReferentChange.{ReferentChange}
 use Rattle.lrs_image.specs.declared.change.RouteChange.{RouteChange}
 use Rattle.lrs_image.specs.declared.change.Difference.{Difference}
@@ -137,7 +137,7 @@ steady-changed_route c pieces a b h =
     steady-renamed_route c.route c.name _ _ (steady-changed_spans c _ _ (steady-changed_refs c.route c.refs _ _
     (steady_some (new_marks c.route) (steady-new_marks c.route) c.marks _ _ (steady_some (new_pieces c.route) (steady-new_pieces c.route) pieces a b h))))
 
-pub steady-new_route : (e : RouteEntry) (pieces : Option (List Piece)) → IsSteady (new_route e pieces)
+pub steady-new_route : (e : RouteRow) (pieces : Option (List Piece)) → IsSteady (new_route e pieces)
 steady-new_route e pieces a b h =
     steady-with_spans e.route.name e.spans _ _ (steady-with_refs e.route.name e.route.refs _ _ (steady-with_marks e.route.name 0 e.route.marks _ _
     (steady_some (it.with_pieces e.route.name 0) (λ ps. steady-with_pieces e.route.name 0 ps) pieces a b h)))

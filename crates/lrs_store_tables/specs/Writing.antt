@@ -4,7 +4,7 @@ use Rattle.lrs_measure.specs.Texts.{Name}
 use Rattle.lrs_element.specs.declared.link.Ground.{Ground}
 use Rattle.lrs_element.specs.declared.link.Piece.{Piece}
 use Rattle.lrs_element.specs.declared.marks.Mark.{Mark}
-use Rattle.lrs_machine.specs.declared.image.RouteEntry.{RouteEntry}
+use Rattle.lrs_machine.specs.declared.image.RouteRow.{RouteRow}
 use Rattle.lrs_image.specs.declared.change.ReferentChange.{ReferentChange}
 use Rattle.lrs_image.specs.declared.change.RouteChange.{RouteChange}
 use Rattle.lrs_image.specs.declared.change.Difference.{Difference}
@@ -51,7 +51,7 @@ abbrev pub changed_route : RouteChange → Option (List Piece) → Tables → Ta
 changed_route c pieces t = renamed_route c.route c.name (changed_spans c (changed_refs c.route c.refs (changed_line c pieces t)))
 
 -- a route that comes
-abbrev pub new_route : RouteEntry → Option (List Piece) → Tables → Tables
+abbrev pub new_route : RouteRow → Option (List Piece) → Tables → Tables
 new_route e pieces t = with_spans e.route.name e.spans (with_refs e.route.name e.route.refs (with_marks e.route.name 0 e.route.marks (with_some (with_pieces e.route.name 0) pieces t)))
 
 -- the course that a route gets, if one stays or comes
@@ -60,7 +60,7 @@ abbrev pub changed_course : Option RouteChange → Option (List Ground)
 changed_course None = None
 changed_course (Some c) = c.course
 
-abbrev pub new_course : Option RouteEntry → Option (List Ground)
+abbrev pub new_course : Option RouteRow → Option (List Ground)
 new_course None = None
 new_course (Some e) = Some e.route.course
 

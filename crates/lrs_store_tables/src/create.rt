@@ -10,7 +10,9 @@ use sqlite::{Alter, Error, Transaction};
 
 fn make_version<S: Alter>(tx: &mut Transaction<'_, S>) -> Result<(), Error>
     ensures same_reference { tx.new.conn.ghost_name ≡ tx.old.conn.ghost_name }
-    ensures made { HasCleanDisk (state S.Store tx.new.conn.now) → IsMaking no_schema (state S.Store tx.old.conn.now) → OnOk result (IsMaking up_to_version (state S.Store tx.new.conn.now)) }
+    ensures made { HasCleanDisk (state S.Store tx.new.conn.now)
+        → IsMaking no_schema (state S.Store tx.old.conn.now)
+        → OnOk result (IsMaking up_to_version (state S.Store tx.new.conn.now)) }
     ensures survives { LeavesStore (state S.Store tx.old.conn.now) (state S.Store tx.new.conn.now) }
 {
     tx.execute(
@@ -22,7 +24,9 @@ fn make_version<S: Alter>(tx: &mut Transaction<'_, S>) -> Result<(), Error>
 
 fn make_link<S: Alter>(tx: &mut Transaction<'_, S>) -> Result<(), Error>
     ensures same_reference { tx.new.conn.ghost_name ≡ tx.old.conn.ghost_name }
-    ensures made { HasCleanDisk (state S.Store tx.new.conn.now) → IsMaking up_to_version (state S.Store tx.old.conn.now) → OnOk result (IsMaking up_to_link (state S.Store tx.new.conn.now)) }
+    ensures made { HasCleanDisk (state S.Store tx.new.conn.now)
+        → IsMaking up_to_version (state S.Store tx.old.conn.now)
+        → OnOk result (IsMaking up_to_link (state S.Store tx.new.conn.now)) }
     ensures survives { LeavesStore (state S.Store tx.old.conn.now) (state S.Store tx.new.conn.now) }
 {
     tx.execute(
@@ -34,7 +38,9 @@ fn make_link<S: Alter>(tx: &mut Transaction<'_, S>) -> Result<(), Error>
 
 fn make_class<S: Alter>(tx: &mut Transaction<'_, S>) -> Result<(), Error>
     ensures same_reference { tx.new.conn.ghost_name ≡ tx.old.conn.ghost_name }
-    ensures made { HasCleanDisk (state S.Store tx.new.conn.now) → IsMaking up_to_link (state S.Store tx.old.conn.now) → OnOk result (IsMaking up_to_class (state S.Store tx.new.conn.now)) }
+    ensures made { HasCleanDisk (state S.Store tx.new.conn.now)
+        → IsMaking up_to_link (state S.Store tx.old.conn.now)
+        → OnOk result (IsMaking up_to_class (state S.Store tx.new.conn.now)) }
     ensures survives { LeavesStore (state S.Store tx.old.conn.now) (state S.Store tx.new.conn.now) }
 {
     tx.execute(
@@ -46,7 +52,9 @@ fn make_class<S: Alter>(tx: &mut Transaction<'_, S>) -> Result<(), Error>
 
 fn make_asset<S: Alter>(tx: &mut Transaction<'_, S>) -> Result<(), Error>
     ensures same_reference { tx.new.conn.ghost_name ≡ tx.old.conn.ghost_name }
-    ensures made { HasCleanDisk (state S.Store tx.new.conn.now) → IsMaking up_to_class (state S.Store tx.old.conn.now) → OnOk result (IsMaking up_to_asset (state S.Store tx.new.conn.now)) }
+    ensures made { HasCleanDisk (state S.Store tx.new.conn.now)
+        → IsMaking up_to_class (state S.Store tx.old.conn.now)
+        → OnOk result (IsMaking up_to_asset (state S.Store tx.new.conn.now)) }
     ensures survives { LeavesStore (state S.Store tx.old.conn.now) (state S.Store tx.new.conn.now) }
 {
     tx.execute(
@@ -59,7 +67,9 @@ fn make_asset<S: Alter>(tx: &mut Transaction<'_, S>) -> Result<(), Error>
 /// Makes the tables of links, classes and assets, after that of the version.
 fn make_assets<S: Alter>(tx: &mut Transaction<'_, S>) -> Result<(), Error>
     ensures same_reference { tx.new.conn.ghost_name ≡ tx.old.conn.ghost_name }
-    ensures made { HasCleanDisk (state S.Store tx.new.conn.now) → IsMaking no_schema (state S.Store tx.old.conn.now) → OnOk result (IsMaking up_to_asset (state S.Store tx.new.conn.now)) }
+    ensures made { HasCleanDisk (state S.Store tx.new.conn.now)
+        → IsMaking no_schema (state S.Store tx.old.conn.now)
+        → OnOk result (IsMaking up_to_asset (state S.Store tx.new.conn.now)) }
     ensures survives { LeavesStore (state S.Store tx.old.conn.now) (state S.Store tx.new.conn.now) }
 {
     make_version(tx)?;
@@ -70,7 +80,9 @@ fn make_assets<S: Alter>(tx: &mut Transaction<'_, S>) -> Result<(), Error>
 
 fn make_piece<S: Alter>(tx: &mut Transaction<'_, S>) -> Result<(), Error>
     ensures same_reference { tx.new.conn.ghost_name ≡ tx.old.conn.ghost_name }
-    ensures made { HasCleanDisk (state S.Store tx.new.conn.now) → IsMaking up_to_asset (state S.Store tx.old.conn.now) → OnOk result (IsMaking up_to_piece (state S.Store tx.new.conn.now)) }
+    ensures made { HasCleanDisk (state S.Store tx.new.conn.now)
+        → IsMaking up_to_asset (state S.Store tx.old.conn.now)
+        → OnOk result (IsMaking up_to_piece (state S.Store tx.new.conn.now)) }
     ensures survives { LeavesStore (state S.Store tx.old.conn.now) (state S.Store tx.new.conn.now) }
 {
     tx.execute(
@@ -82,7 +94,9 @@ fn make_piece<S: Alter>(tx: &mut Transaction<'_, S>) -> Result<(), Error>
 
 fn make_mark<S: Alter>(tx: &mut Transaction<'_, S>) -> Result<(), Error>
     ensures same_reference { tx.new.conn.ghost_name ≡ tx.old.conn.ghost_name }
-    ensures made { HasCleanDisk (state S.Store tx.new.conn.now) → IsMaking up_to_piece (state S.Store tx.old.conn.now) → OnOk result (IsMaking up_to_mark (state S.Store tx.new.conn.now)) }
+    ensures made { HasCleanDisk (state S.Store tx.new.conn.now)
+        → IsMaking up_to_piece (state S.Store tx.old.conn.now)
+        → OnOk result (IsMaking up_to_mark (state S.Store tx.new.conn.now)) }
     ensures survives { LeavesStore (state S.Store tx.old.conn.now) (state S.Store tx.new.conn.now) }
 {
     tx.execute(
@@ -94,7 +108,9 @@ fn make_mark<S: Alter>(tx: &mut Transaction<'_, S>) -> Result<(), Error>
 
 fn make_ref<S: Alter>(tx: &mut Transaction<'_, S>) -> Result<(), Error>
     ensures same_reference { tx.new.conn.ghost_name ≡ tx.old.conn.ghost_name }
-    ensures made { HasCleanDisk (state S.Store tx.new.conn.now) → IsMaking up_to_mark (state S.Store tx.old.conn.now) → OnOk result (IsMaking up_to_ref (state S.Store tx.new.conn.now)) }
+    ensures made { HasCleanDisk (state S.Store tx.new.conn.now)
+        → IsMaking up_to_mark (state S.Store tx.old.conn.now)
+        → OnOk result (IsMaking up_to_ref (state S.Store tx.new.conn.now)) }
     ensures survives { LeavesStore (state S.Store tx.old.conn.now) (state S.Store tx.new.conn.now) }
 {
     tx.execute(
@@ -106,7 +122,9 @@ fn make_ref<S: Alter>(tx: &mut Transaction<'_, S>) -> Result<(), Error>
 
 fn make_span<S: Alter>(tx: &mut Transaction<'_, S>) -> Result<(), Error>
     ensures same_reference { tx.new.conn.ghost_name ≡ tx.old.conn.ghost_name }
-    ensures made { HasCleanDisk (state S.Store tx.new.conn.now) → IsMaking up_to_ref (state S.Store tx.old.conn.now) → OnOk result (IsMaking up_to_span (state S.Store tx.new.conn.now)) }
+    ensures made { HasCleanDisk (state S.Store tx.new.conn.now)
+        → IsMaking up_to_ref (state S.Store tx.old.conn.now)
+        → OnOk result (IsMaking up_to_span (state S.Store tx.new.conn.now)) }
     ensures survives { LeavesStore (state S.Store tx.old.conn.now) (state S.Store tx.new.conn.now) }
 {
     tx.execute(
@@ -119,7 +137,9 @@ fn make_span<S: Alter>(tx: &mut Transaction<'_, S>) -> Result<(), Error>
 /// Makes the tables of routes.
 fn make_routes<S: Alter>(tx: &mut Transaction<'_, S>) -> Result<(), Error>
     ensures same_reference { tx.new.conn.ghost_name ≡ tx.old.conn.ghost_name }
-    ensures made { HasCleanDisk (state S.Store tx.new.conn.now) → IsMaking up_to_asset (state S.Store tx.old.conn.now) → OnOk result (IsMaking up_to_span (state S.Store tx.new.conn.now)) }
+    ensures made { HasCleanDisk (state S.Store tx.new.conn.now)
+        → IsMaking up_to_asset (state S.Store tx.old.conn.now)
+        → OnOk result (IsMaking up_to_span (state S.Store tx.new.conn.now)) }
     ensures survives { LeavesStore (state S.Store tx.old.conn.now) (state S.Store tx.new.conn.now) }
 {
     make_piece(tx)?;
@@ -130,7 +150,9 @@ fn make_routes<S: Alter>(tx: &mut Transaction<'_, S>) -> Result<(), Error>
 
 fn make_entered<S: Alter>(tx: &mut Transaction<'_, S>) -> Result<(), Error>
     ensures same_reference { tx.new.conn.ghost_name ≡ tx.old.conn.ghost_name }
-    ensures made { HasCleanDisk (state S.Store tx.new.conn.now) → IsMaking up_to_span (state S.Store tx.old.conn.now) → OnOk result (IsMaking up_to_entered (state S.Store tx.new.conn.now)) }
+    ensures made { HasCleanDisk (state S.Store tx.new.conn.now)
+        → IsMaking up_to_span (state S.Store tx.old.conn.now)
+        → OnOk result (IsMaking up_to_entered (state S.Store tx.new.conn.now)) }
     ensures survives { LeavesStore (state S.Store tx.old.conn.now) (state S.Store tx.new.conn.now) }
 {
     tx.execute(
@@ -142,7 +164,9 @@ fn make_entered<S: Alter>(tx: &mut Transaction<'_, S>) -> Result<(), Error>
 
 fn make_gone<S: Alter>(tx: &mut Transaction<'_, S>) -> Result<(), Error>
     ensures same_reference { tx.new.conn.ghost_name ≡ tx.old.conn.ghost_name }
-    ensures made { HasCleanDisk (state S.Store tx.new.conn.now) → IsMaking up_to_entered (state S.Store tx.old.conn.now) → OnOk result (IsMaking up_to_gone (state S.Store tx.new.conn.now)) }
+    ensures made { HasCleanDisk (state S.Store tx.new.conn.now)
+        → IsMaking up_to_entered (state S.Store tx.old.conn.now)
+        → OnOk result (IsMaking up_to_gone (state S.Store tx.new.conn.now)) }
     ensures survives { LeavesStore (state S.Store tx.old.conn.now) (state S.Store tx.new.conn.now) }
 {
     tx.execute(
@@ -154,7 +178,9 @@ fn make_gone<S: Alter>(tx: &mut Transaction<'_, S>) -> Result<(), Error>
 
 fn make_edit<S: Alter>(tx: &mut Transaction<'_, S>) -> Result<(), Error>
     ensures same_reference { tx.new.conn.ghost_name ≡ tx.old.conn.ghost_name }
-    ensures made { HasCleanDisk (state S.Store tx.new.conn.now) → IsMaking up_to_gone (state S.Store tx.old.conn.now) → OnOk result (IsMaking up_to_edit (state S.Store tx.new.conn.now)) }
+    ensures made { HasCleanDisk (state S.Store tx.new.conn.now)
+        → IsMaking up_to_gone (state S.Store tx.old.conn.now)
+        → OnOk result (IsMaking up_to_edit (state S.Store tx.new.conn.now)) }
     ensures survives { LeavesStore (state S.Store tx.old.conn.now) (state S.Store tx.new.conn.now) }
 {
     tx.execute(
@@ -166,7 +192,9 @@ fn make_edit<S: Alter>(tx: &mut Transaction<'_, S>) -> Result<(), Error>
 
 fn make_origin<S: Alter>(tx: &mut Transaction<'_, S>) -> Result<(), Error>
     ensures same_reference { tx.new.conn.ghost_name ≡ tx.old.conn.ghost_name }
-    ensures made { HasCleanDisk (state S.Store tx.new.conn.now) → IsMaking up_to_edit (state S.Store tx.old.conn.now) → OnOk result (IsMaking up_to_origin (state S.Store tx.new.conn.now)) }
+    ensures made { HasCleanDisk (state S.Store tx.new.conn.now)
+        → IsMaking up_to_edit (state S.Store tx.old.conn.now)
+        → OnOk result (IsMaking up_to_origin (state S.Store tx.new.conn.now)) }
     ensures survives { LeavesStore (state S.Store tx.old.conn.now) (state S.Store tx.new.conn.now) }
 {
     tx.execute(
@@ -179,7 +207,9 @@ fn make_origin<S: Alter>(tx: &mut Transaction<'_, S>) -> Result<(), Error>
 /// Makes the ledgers, and the tables of edits and of what they entered.
 fn make_edits<S: Alter>(tx: &mut Transaction<'_, S>) -> Result<(), Error>
     ensures same_reference { tx.new.conn.ghost_name ≡ tx.old.conn.ghost_name }
-    ensures made { HasCleanDisk (state S.Store tx.new.conn.now) → IsMaking up_to_span (state S.Store tx.old.conn.now) → OnOk result (IsMaking up_to_origin (state S.Store tx.new.conn.now)) }
+    ensures made { HasCleanDisk (state S.Store tx.new.conn.now)
+        → IsMaking up_to_span (state S.Store tx.old.conn.now)
+        → OnOk result (IsMaking up_to_origin (state S.Store tx.new.conn.now)) }
     ensures survives { LeavesStore (state S.Store tx.old.conn.now) (state S.Store tx.new.conn.now) }
 {
     make_entered(tx)?;
@@ -191,7 +221,9 @@ fn make_edits<S: Alter>(tx: &mut Transaction<'_, S>) -> Result<(), Error>
 /// Makes all tables, without a row.
 pub fn make_tables<S: Alter>(tx: &mut Transaction<'_, S>) -> Result<(), Error>
     ensures same_reference { tx.new.conn.ghost_name ≡ tx.old.conn.ghost_name }
-    ensures made { HasCleanDisk (state S.Store tx.new.conn.now) → IsMaking no_schema (state S.Store tx.old.conn.now) → OnOk result (IsMaking up_to_origin (state S.Store tx.new.conn.now)) }
+    ensures made { HasCleanDisk (state S.Store tx.new.conn.now)
+        → IsMaking no_schema (state S.Store tx.old.conn.now)
+        → OnOk result (IsMaking up_to_origin (state S.Store tx.new.conn.now)) }
     ensures survives { LeavesStore (state S.Store tx.old.conn.now) (state S.Store tx.new.conn.now) }
 {
     make_assets(tx)?;

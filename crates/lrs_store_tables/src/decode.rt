@@ -3,7 +3,7 @@
 ghost use Rattle.std.specs.Prelude.{◌≡◌, ◌&&◌, IfOk};
 ghost use Rattle.std.specs.Option.{option_map};
 ghost use Rattle.sqlite_value.specs.Order.{column};
-ghost use Rattle.lrs_element.specs.Limits.{is_link};
+ghost use Rattle.lrs_measure.specs.Limits.{is_link};
 ghost use Rattle.lrs_events.specs.Names.{is_class_name, is_value};
 ghost use Rattle.lrs_store_rows.specs.Decoding.{each_of, only_if, kind_numbered, link_side_numbered, is_abandoned_numbered};
 ghost use Rattle.lrs_store_rows.specs.Decoding as decoding;
@@ -11,12 +11,14 @@ ghost use Rattle.lrs_store_tables.specs.Stored.{whole_at, text_at};
 
 use lrs_element::Link;
 use lrs_events::{Asset, Class, ClassName, Gone, Kind, LinkSide, Part, Value};
+use lrs_measure::limits::{GREATEST_LINK, LONGEST_LINK};
+use lrs_store_rows::{short, whole};
 use sqlite::Row;
 use sqlite::types::ValueRef;
 use std::alloc::{AllocError, Global};
 
 /// The whole number in a column; what is none reads as -1.
-fn whole_at(row: &Row, at: usize) -> i64
+pub fn whole_at(row: &Row, at: usize) -> i64
     ensures { result ≡ whole_at at row.now }
 {
     match row.get_ref(at) {
@@ -35,28 +37,11 @@ pub fn text_at(row: &Row, at: usize) -> &[u8]
     }
 }
 
-/// A number that is not negative.
-fn whole(n: i64) -> Option<u64>
-    ensures { result ≡ decoding.whole n }
-{
-    if n < 0 { None } else { Some(n as u64) }
-}
-
 /// The number in a column, if it is whole and not negative.
 pub fn number_at(row: &Row, at: usize) -> Option<u64>
     ensures { result ≡ decoding.whole (whole_at at row.now) }
 {
     whole(whole_at(row, at))
-}
-
-/// A number of 32 bits.
-fn short(n: i64) -> Option<u32>
-    ensures { result ≡ decoding.short n }
-{
-    if n < 0 || n > 4_294_967_295 {
-        return None;
-    }
-    Some(n as u32)
 }
 
 fn kind_numbered(n: u64) -> Option<Kind>
@@ -104,7 +89,9 @@ fn value(text: &[u8]) -> Option<Value>
 
 /// An asset whose class and value are of these texts.
 fn asset(number: u64, lateral: u32, class: &[u8], text: &[u8]) -> Option<Asset>
-    ensures { result ≡ only_if (is_class_name class.now && is_value text.now) (record { number = number; class = class.now; value = text.now; lateral = lateral; entry = 0 }) }
+    ensures { result ≡ only_if (is_class_name class.now && is_value text.now)
+        (record
+        { number = number; class = class.now; value = text.now; lateral = lateral; entered_by = 0 }) }
 {
     let class = class_name(class)?;
     let value = value(text)?;
@@ -113,7 +100,7 @@ fn asset(number: u64, lateral: u32, class: &[u8], text: &[u8]) -> Option<Asset>
         class,
         value,
         lateral,
-        entry: 0,
+        entered_by: 0,
     })
 }
 
@@ -147,7 +134,10 @@ pub fn said_all<T: Said>(alloc: Global, rows: &[Row]) -> Result<Option<Vec<T>>, 
 fn is_link(number: u64, length: u64) -> bool
     ensures { result ≡ is_link number length }
 {
-    1 <= number && number <= 999_999 && 1 <= length && length <= 1_000_000_000
+    1 <= number
+        && number <= u64::from(GREATEST_LINK)
+        && 1 <= length
+        && length <= u64::from(LONGEST_LINK)
 }
 
 impl Said for Link {

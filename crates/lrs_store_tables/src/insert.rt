@@ -16,8 +16,11 @@ use sqlite::{Alter, Error, Transaction};
 /// Puts the row of the version.
 pub fn put_version<S: Alter>(tx: &mut Transaction<'_, S>, version: u64) -> Result<(), Error>
     ensures same_reference { tx.new.conn.ghost_name ≡ tx.old.conn.ghost_name }
-    ensures does { OkDoes result (state S.Store tx.old.conn.now) (state S.Store tx.new.conn.now) (Makes (with_version version)) }
-    ensures is_open { HasCleanDisk (state S.Store tx.new.conn.now) → IsWriting (state S.Store tx.old.conn.now) → OnOk result (IsTrue (state S.Store tx.old.conn.now).is_open) }
+    ensures does { OkDoes result (state S.Store tx.old.conn.now) (state S.Store tx.new.conn.now)
+        (Makes (with_version version)) }
+    ensures is_open { HasCleanDisk (state S.Store tx.new.conn.now)
+        → IsWriting (state S.Store tx.old.conn.now)
+        → OnOk result (IsTrue (state S.Store tx.old.conn.now).is_open) }
     ensures survives { LeavesStore (state S.Store tx.old.conn.now) (state S.Store tx.new.conn.now) }
 {
     let version = number(version)?;
@@ -28,7 +31,8 @@ pub fn put_version<S: Alter>(tx: &mut Transaction<'_, S>, version: u64) -> Resul
 /// Puts the row of a link.
 pub fn put_link<S: Alter>(tx: &mut Transaction<'_, S>, link: &Link) -> Result<(), Error>
     ensures same_reference { tx.new.conn.ghost_name ≡ tx.old.conn.ghost_name }
-    ensures does { OkDoes result (state S.Store tx.old.conn.now) (state S.Store tx.new.conn.now) (Makes (with_link link.now)) }
+    ensures does { OkDoes result (state S.Store tx.old.conn.now) (state S.Store tx.new.conn.now)
+        (Makes (with_link link.now)) }
     ensures survives { LeavesStore (state S.Store tx.old.conn.now) (state S.Store tx.new.conn.now) }
 {
     let own = number(link.number as u64)?;
@@ -40,7 +44,8 @@ pub fn put_link<S: Alter>(tx: &mut Transaction<'_, S>, link: &Link) -> Result<()
 /// Puts the row of a class.
 pub fn put_class<S: Alter>(tx: &mut Transaction<'_, S>, class: &Class) -> Result<(), Error>
     ensures same_reference { tx.new.conn.ghost_name ≡ tx.old.conn.ghost_name }
-    ensures does { OkDoes result (state S.Store tx.old.conn.now) (state S.Store tx.new.conn.now) (Makes (with_class class.now)) }
+    ensures does { OkDoes result (state S.Store tx.old.conn.now) (state S.Store tx.new.conn.now)
+        (Makes (with_class class.now)) }
     ensures survives { LeavesStore (state S.Store tx.old.conn.now) (state S.Store tx.new.conn.now) }
 {
     let name = ValueRef::Text(class.name.bytes());
@@ -52,7 +57,8 @@ pub fn put_class<S: Alter>(tx: &mut Transaction<'_, S>, class: &Class) -> Result
 /// Puts the row of an asset.
 pub fn put_asset<S: Alter>(tx: &mut Transaction<'_, S>, asset: &Asset) -> Result<(), Error>
     ensures same_reference { tx.new.conn.ghost_name ≡ tx.old.conn.ghost_name }
-    ensures does { OkDoes result (state S.Store tx.old.conn.now) (state S.Store tx.new.conn.now) (Makes (with_asset_row asset.now)) }
+    ensures does { OkDoes result (state S.Store tx.old.conn.now) (state S.Store tx.new.conn.now)
+        (Makes (with_asset_row asset.now)) }
     ensures survives { LeavesStore (state S.Store tx.old.conn.now) (state S.Store tx.new.conn.now) }
 {
     let own = number(asset.number)?;
@@ -69,20 +75,24 @@ pub fn put_asset<S: Alter>(tx: &mut Transaction<'_, S>, asset: &Asset) -> Result
 /// Puts the row that tells which edit entered an asset.
 pub fn put_origin<S: Alter>(tx: &mut Transaction<'_, S>, asset: &Asset) -> Result<(), Error>
     ensures same_reference { tx.new.conn.ghost_name ≡ tx.old.conn.ghost_name }
-    ensures does { OkDoes result (state S.Store tx.old.conn.now) (state S.Store tx.new.conn.now) (Makes (with_origin asset.now)) }
+    ensures does { OkDoes result (state S.Store tx.old.conn.now) (state S.Store tx.new.conn.now)
+        (Makes (with_origin asset.now)) }
     ensures survives { LeavesStore (state S.Store tx.old.conn.now) (state S.Store tx.new.conn.now) }
 {
     let own = number(asset.number)?;
-    let entry = number(asset.entry)?;
-    tx.execute("INSERT INTO origin VALUES (?1, ?2)", &[own, entry])?;
+    let edit = number(asset.entered_by)?;
+    tx.execute("INSERT INTO origin VALUES (?1, ?2)", &[own, edit])?;
     Ok(())
 }
 
 /// Puts the row of an edit under its number.
 pub fn put_edit<S: Alter>(tx: &mut Transaction<'_, S>, n: u64, edit: &Edit) -> Result<(), Error>
     ensures same_reference { tx.new.conn.ghost_name ≡ tx.old.conn.ghost_name }
-    ensures does { OkDoes result (state S.Store tx.old.conn.now) (state S.Store tx.new.conn.now) (Makes (with_edit n edit.now)) }
-    ensures is_open { HasCleanDisk (state S.Store tx.new.conn.now) → IsWriting (state S.Store tx.old.conn.now) → OnOk result (IsTrue (state S.Store tx.old.conn.now).is_open) }
+    ensures does { OkDoes result (state S.Store tx.old.conn.now) (state S.Store tx.new.conn.now)
+        (Makes (with_edit n edit.now)) }
+    ensures is_open { HasCleanDisk (state S.Store tx.new.conn.now)
+        → IsWriting (state S.Store tx.old.conn.now)
+        → OnOk result (IsTrue (state S.Store tx.old.conn.now).is_open) }
     ensures survives { LeavesStore (state S.Store tx.old.conn.now) (state S.Store tx.new.conn.now) }
 {
     let own = number(n)?;

@@ -15,7 +15,9 @@ use sqlite::{Alter, Connection, Error, Transaction};
 /// Makes all tables, and puts the row of the version.
 fn start<S: Alter>(tx: &mut Transaction<'_, S>) -> Result<(), Error>
     ensures same_reference { tx.new.conn.ghost_name ≡ tx.old.conn.ghost_name }
-    ensures started { HasCleanDisk (state S.Store tx.new.conn.now) → IsMaking no_schema (state S.Store tx.old.conn.now) → OnOk result (IsStarted (state S.Store tx.new.conn.now)) }
+    ensures started { HasCleanDisk (state S.Store tx.new.conn.now)
+        → IsMaking no_schema (state S.Store tx.old.conn.now)
+        → OnOk result (IsStarted (state S.Store tx.new.conn.now)) }
     ensures survives { LeavesStore (state S.Store tx.old.conn.now) (state S.Store tx.new.conn.now) }
 {
     make_tables(tx)?;
@@ -29,10 +31,13 @@ fn start<S: Alter>(tx: &mut Transaction<'_, S>) -> Result<(), Error>
 /// When the store fails, or memory runs out. What is stored is then as it was, or a new store.
 pub fn make_store<S: Alter>(conn: &mut Connection<S>) -> Result<(), Error>
     requires autocommit { conn.old.in_transaction ≡ false }
-    requires blank { HasCleanDisk (state S.Store conn.old) → IsTrue (state S.Store conn.old).is_open → (state S.Store conn.old).now.schema ≡ no_schema }
+    requires blank { HasCleanDisk (state S.Store conn.old) → IsTrue (state S.Store conn.old).is_open
+        → (state S.Store conn.old).now.schema ≡ no_schema }
     ensures autocommit { conn.new.in_transaction ≡ false }
-    ensures made { HasCleanDisk (state S.Store conn.new) → OnOk result (IsNew (state S.Store conn.new)) }
-    ensures crash { Survives (state S.Store conn.old) (state S.Store conn.new) (λ db. AreSame new_rows (stored db)) }
+    ensures made { HasCleanDisk (state S.Store conn.new)
+        → OnOk result (IsNew (state S.Store conn.new)) }
+    ensures crash { Survives (state S.Store conn.old) (state S.Store conn.new) (λ db.
+        AreSame new_rows (stored db)) }
 {
     let mut tx = conn.transaction();
     start(&mut tx)?;

@@ -10,8 +10,12 @@ use sqlite::{Alter, Error, Row, Transaction};
 /// The rows of the table `version`.
 pub fn read_versions<S: Alter>(tx: &mut Transaction<'_, S>) -> Result<Vec<Row>, Error>
     ensures same_reference { tx.new.conn.ghost_name ≡ tx.old.conn.ghost_name }
-    ensures rows { HasCleanDisk (state S.Store tx.new.conn.now) → IsWriting (state S.Store tx.old.conn.now) → IfOk result (λ rows. IsPermutation (stored (state S.Store tx.old.conn.now).now.trees).version (map version_in rows.items)) }
-    ensures same { OkDoes result (state S.Store tx.old.conn.now) (state S.Store tx.new.conn.now) (IsUnchanged) }
+    ensures rows { HasCleanDisk (state S.Store tx.new.conn.now)
+        → IsWriting (state S.Store tx.old.conn.now)
+        → IfOk result (λ rows. IsPermutation (stored
+        (state S.Store tx.old.conn.now).now.trees).version (map version_in rows.items)) }
+    ensures same { OkDoes result (state S.Store tx.old.conn.now) (state S.Store tx.new.conn.now)
+        (IsUnchanged) }
     ensures survives { LeavesStore (state S.Store tx.old.conn.now) (state S.Store tx.new.conn.now) }
 {
     let rows = tx.query_all("SELECT v FROM version", &[])?;
@@ -21,8 +25,12 @@ pub fn read_versions<S: Alter>(tx: &mut Transaction<'_, S>) -> Result<Vec<Row>, 
 /// The rows of the table `link`.
 pub fn read_links<S: Alter>(tx: &mut Transaction<'_, S>) -> Result<Vec<Row>, Error>
     ensures same_reference { tx.new.conn.ghost_name ≡ tx.old.conn.ghost_name }
-    ensures rows { HasCleanDisk (state S.Store tx.new.conn.now) → IsWriting (state S.Store tx.old.conn.now) → IfOk result (λ rows. IsPermutation (stored (state S.Store tx.old.conn.now).now.trees).link (map link_in rows.items)) }
-    ensures same { OkDoes result (state S.Store tx.old.conn.now) (state S.Store tx.new.conn.now) (IsUnchanged) }
+    ensures rows { HasCleanDisk (state S.Store tx.new.conn.now)
+        → IsWriting (state S.Store tx.old.conn.now)
+        → IfOk result (λ rows. IsPermutation (stored (state S.Store tx.old.conn.now).now.trees).link
+        (map link_in rows.items)) }
+    ensures same { OkDoes result (state S.Store tx.old.conn.now) (state S.Store tx.new.conn.now)
+        (IsUnchanged) }
     ensures survives { LeavesStore (state S.Store tx.old.conn.now) (state S.Store tx.new.conn.now) }
 {
     let rows = tx.query_all("SELECT number, length FROM link", &[])?;
@@ -32,8 +40,12 @@ pub fn read_links<S: Alter>(tx: &mut Transaction<'_, S>) -> Result<Vec<Row>, Err
 /// The rows of the table `class`.
 pub fn read_classes<S: Alter>(tx: &mut Transaction<'_, S>) -> Result<Vec<Row>, Error>
     ensures same_reference { tx.new.conn.ghost_name ≡ tx.old.conn.ghost_name }
-    ensures rows { HasCleanDisk (state S.Store tx.new.conn.now) → IsWriting (state S.Store tx.old.conn.now) → IfOk result (λ rows. IsPermutation (stored (state S.Store tx.old.conn.now).now.trees).class (map class_in rows.items)) }
-    ensures same { OkDoes result (state S.Store tx.old.conn.now) (state S.Store tx.new.conn.now) (IsUnchanged) }
+    ensures rows { HasCleanDisk (state S.Store tx.new.conn.now)
+        → IsWriting (state S.Store tx.old.conn.now)
+        → IfOk result (λ rows. IsPermutation (stored
+        (state S.Store tx.old.conn.now).now.trees).class (map class_in rows.items)) }
+    ensures same { OkDoes result (state S.Store tx.old.conn.now) (state S.Store tx.new.conn.now)
+        (IsUnchanged) }
     ensures survives { LeavesStore (state S.Store tx.old.conn.now) (state S.Store tx.new.conn.now) }
 {
     let rows = tx.query_all("SELECT name, kind FROM class", &[])?;
@@ -43,8 +55,12 @@ pub fn read_classes<S: Alter>(tx: &mut Transaction<'_, S>) -> Result<Vec<Row>, E
 /// The rows of the table `asset`.
 pub fn read_assets<S: Alter>(tx: &mut Transaction<'_, S>) -> Result<Vec<Row>, Error>
     ensures same_reference { tx.new.conn.ghost_name ≡ tx.old.conn.ghost_name }
-    ensures rows { HasCleanDisk (state S.Store tx.new.conn.now) → IsWriting (state S.Store tx.old.conn.now) → IfOk result (λ rows. IsPermutation (stored (state S.Store tx.old.conn.now).now.trees).asset (map asset_in rows.items)) }
-    ensures same { OkDoes result (state S.Store tx.old.conn.now) (state S.Store tx.new.conn.now) (IsUnchanged) }
+    ensures rows { HasCleanDisk (state S.Store tx.new.conn.now)
+        → IsWriting (state S.Store tx.old.conn.now)
+        → IfOk result (λ rows. IsPermutation (stored
+        (state S.Store tx.old.conn.now).now.trees).asset (map asset_in rows.items)) }
+    ensures same { OkDoes result (state S.Store tx.old.conn.now) (state S.Store tx.new.conn.now)
+        (IsUnchanged) }
     ensures survives { LeavesStore (state S.Store tx.old.conn.now) (state S.Store tx.new.conn.now) }
 {
     let rows = tx.query_all("SELECT number, class, value, lateral FROM asset", &[])?;
@@ -54,8 +70,12 @@ pub fn read_assets<S: Alter>(tx: &mut Transaction<'_, S>) -> Result<Vec<Row>, Er
 /// The rows of the table `piece`.
 pub fn read_pieces<S: Alter>(tx: &mut Transaction<'_, S>) -> Result<Vec<Row>, Error>
     ensures same_reference { tx.new.conn.ghost_name ≡ tx.old.conn.ghost_name }
-    ensures rows { HasCleanDisk (state S.Store tx.new.conn.now) → IsWriting (state S.Store tx.old.conn.now) → IfOk result (λ rows. IsPermutation (stored (state S.Store tx.old.conn.now).now.trees).piece (map piece_in rows.items)) }
-    ensures same { OkDoes result (state S.Store tx.old.conn.now) (state S.Store tx.new.conn.now) (IsUnchanged) }
+    ensures rows { HasCleanDisk (state S.Store tx.new.conn.now)
+        → IsWriting (state S.Store tx.old.conn.now)
+        → IfOk result (λ rows. IsPermutation (stored
+        (state S.Store tx.old.conn.now).now.trees).piece (map piece_in rows.items)) }
+    ensures same { OkDoes result (state S.Store tx.old.conn.now) (state S.Store tx.new.conn.now)
+        (IsUnchanged) }
     ensures survives { LeavesStore (state S.Store tx.old.conn.now) (state S.Store tx.new.conn.now) }
 {
     let rows = tx.query_all("SELECT route, n, link, a, b, dir FROM piece", &[])?;
@@ -65,8 +85,12 @@ pub fn read_pieces<S: Alter>(tx: &mut Transaction<'_, S>) -> Result<Vec<Row>, Er
 /// The rows of the table `mark`.
 pub fn read_marks<S: Alter>(tx: &mut Transaction<'_, S>) -> Result<Vec<Row>, Error>
     ensures same_reference { tx.new.conn.ghost_name ≡ tx.old.conn.ghost_name }
-    ensures rows { HasCleanDisk (state S.Store tx.new.conn.now) → IsWriting (state S.Store tx.old.conn.now) → IfOk result (λ rows. IsPermutation (stored (state S.Store tx.old.conn.now).now.trees).mark (map mark_in rows.items)) }
-    ensures same { OkDoes result (state S.Store tx.old.conn.now) (state S.Store tx.new.conn.now) (IsUnchanged) }
+    ensures rows { HasCleanDisk (state S.Store tx.new.conn.now)
+        → IsWriting (state S.Store tx.old.conn.now)
+        → IfOk result (λ rows. IsPermutation (stored (state S.Store tx.old.conn.now).now.trees).mark
+        (map mark_in rows.items)) }
+    ensures same { OkDoes result (state S.Store tx.old.conn.now) (state S.Store tx.new.conn.now)
+        (IsUnchanged) }
     ensures survives { LeavesStore (state S.Store tx.old.conn.now) (state S.Store tx.new.conn.now) }
 {
     let rows = tx.query_all("SELECT route, n, chainage, measure FROM mark", &[])?;
@@ -76,8 +100,12 @@ pub fn read_marks<S: Alter>(tx: &mut Transaction<'_, S>) -> Result<Vec<Row>, Err
 /// The rows of the table `ref`.
 pub fn read_refs<S: Alter>(tx: &mut Transaction<'_, S>) -> Result<Vec<Row>, Error>
     ensures same_reference { tx.new.conn.ghost_name ≡ tx.old.conn.ghost_name }
-    ensures rows { HasCleanDisk (state S.Store tx.new.conn.now) → IsWriting (state S.Store tx.old.conn.now) → IfOk result (λ rows. IsPermutation (stored (state S.Store tx.old.conn.now).now.trees).ref (map ref_in rows.items)) }
-    ensures same { OkDoes result (state S.Store tx.old.conn.now) (state S.Store tx.new.conn.now) (IsUnchanged) }
+    ensures rows { HasCleanDisk (state S.Store tx.new.conn.now)
+        → IsWriting (state S.Store tx.old.conn.now)
+        → IfOk result (λ rows. IsPermutation (stored (state S.Store tx.old.conn.now).now.trees).ref
+        (map ref_in rows.items)) }
+    ensures same { OkDoes result (state S.Store tx.old.conn.now) (state S.Store tx.new.conn.now)
+        (IsUnchanged) }
     ensures survives { LeavesStore (state S.Store tx.old.conn.now) (state S.Store tx.new.conn.now) }
 {
     let rows = tx.query_all("SELECT name, route, place FROM ref", &[])?;
@@ -87,8 +115,12 @@ pub fn read_refs<S: Alter>(tx: &mut Transaction<'_, S>) -> Result<Vec<Row>, Erro
 /// The rows of the table `span`.
 pub fn read_spans<S: Alter>(tx: &mut Transaction<'_, S>) -> Result<Vec<Row>, Error>
     ensures same_reference { tx.new.conn.ghost_name ≡ tx.old.conn.ghost_name }
-    ensures rows { HasCleanDisk (state S.Store tx.new.conn.now) → IsWriting (state S.Store tx.old.conn.now) → IfOk result (λ rows. IsPermutation (stored (state S.Store tx.old.conn.now).now.trees).span (map span_in rows.items)) }
-    ensures same { OkDoes result (state S.Store tx.old.conn.now) (state S.Store tx.new.conn.now) (IsUnchanged) }
+    ensures rows { HasCleanDisk (state S.Store tx.new.conn.now)
+        → IsWriting (state S.Store tx.old.conn.now)
+        → IfOk result (λ rows. IsPermutation (stored (state S.Store tx.old.conn.now).now.trees).span
+        (map span_in rows.items)) }
+    ensures same { OkDoes result (state S.Store tx.old.conn.now) (state S.Store tx.new.conn.now)
+        (IsUnchanged) }
     ensures survives { LeavesStore (state S.Store tx.old.conn.now) (state S.Store tx.new.conn.now) }
 {
     let rows = tx.query_all("SELECT asset, route, lo, hi, side FROM span", &[])?;
@@ -98,8 +130,12 @@ pub fn read_spans<S: Alter>(tx: &mut Transaction<'_, S>) -> Result<Vec<Row>, Err
 /// The rows of the table `entered`.
 pub fn read_entered<S: Alter>(tx: &mut Transaction<'_, S>) -> Result<Vec<Row>, Error>
     ensures same_reference { tx.new.conn.ghost_name ≡ tx.old.conn.ghost_name }
-    ensures rows { HasCleanDisk (state S.Store tx.new.conn.now) → IsWriting (state S.Store tx.old.conn.now) → IfOk result (λ rows. IsPermutation (stored (state S.Store tx.old.conn.now).now.trees).entered (map entered_in rows.items)) }
-    ensures same { OkDoes result (state S.Store tx.old.conn.now) (state S.Store tx.new.conn.now) (IsUnchanged) }
+    ensures rows { HasCleanDisk (state S.Store tx.new.conn.now)
+        → IsWriting (state S.Store tx.old.conn.now)
+        → IfOk result (λ rows. IsPermutation (stored
+        (state S.Store tx.old.conn.now).now.trees).entered (map entered_in rows.items)) }
+    ensures same { OkDoes result (state S.Store tx.old.conn.now) (state S.Store tx.new.conn.now)
+        (IsUnchanged) }
     ensures survives { LeavesStore (state S.Store tx.old.conn.now) (state S.Store tx.new.conn.now) }
 {
     let rows = tx.query_all("SELECT edit, asset, link, lo, hi, side FROM entered", &[])?;
@@ -109,8 +145,12 @@ pub fn read_entered<S: Alter>(tx: &mut Transaction<'_, S>) -> Result<Vec<Row>, E
 /// The rows of the table `gone`.
 pub fn read_gone<S: Alter>(tx: &mut Transaction<'_, S>) -> Result<Vec<Row>, Error>
     ensures same_reference { tx.new.conn.ghost_name ≡ tx.old.conn.ghost_name }
-    ensures rows { HasCleanDisk (state S.Store tx.new.conn.now) → IsWriting (state S.Store tx.old.conn.now) → IfOk result (λ rows. IsPermutation (stored (state S.Store tx.old.conn.now).now.trees).gone (map gone_in rows.items)) }
-    ensures same { OkDoes result (state S.Store tx.old.conn.now) (state S.Store tx.new.conn.now) (IsUnchanged) }
+    ensures rows { HasCleanDisk (state S.Store tx.new.conn.now)
+        → IsWriting (state S.Store tx.old.conn.now)
+        → IfOk result (λ rows. IsPermutation (stored (state S.Store tx.old.conn.now).now.trees).gone
+        (map gone_in rows.items)) }
+    ensures same { OkDoes result (state S.Store tx.old.conn.now) (state S.Store tx.new.conn.now)
+        (IsUnchanged) }
     ensures survives { LeavesStore (state S.Store tx.old.conn.now) (state S.Store tx.new.conn.now) }
 {
     let rows = tx.query_all(
@@ -123,8 +163,12 @@ pub fn read_gone<S: Alter>(tx: &mut Transaction<'_, S>) -> Result<Vec<Row>, Erro
 /// The rows of the table `edit`.
 pub fn read_edits<S: Alter>(tx: &mut Transaction<'_, S>) -> Result<Vec<Row>, Error>
     ensures same_reference { tx.new.conn.ghost_name ≡ tx.old.conn.ghost_name }
-    ensures rows { HasCleanDisk (state S.Store tx.new.conn.now) → IsWriting (state S.Store tx.old.conn.now) → IfOk result (λ rows. IsPermutation (stored (state S.Store tx.old.conn.now).now.trees).edit (map edit_in rows.items)) }
-    ensures same { OkDoes result (state S.Store tx.old.conn.now) (state S.Store tx.new.conn.now) (IsUnchanged) }
+    ensures rows { HasCleanDisk (state S.Store tx.new.conn.now)
+        → IsWriting (state S.Store tx.old.conn.now)
+        → IfOk result (λ rows. IsPermutation (stored (state S.Store tx.old.conn.now).now.trees).edit
+        (map edit_in rows.items)) }
+    ensures same { OkDoes result (state S.Store tx.old.conn.now) (state S.Store tx.new.conn.now)
+        (IsUnchanged) }
     ensures survives { LeavesStore (state S.Store tx.old.conn.now) (state S.Store tx.new.conn.now) }
 {
     let rows = tx.query_all("SELECT number, token, line FROM edit", &[])?;
@@ -134,8 +178,12 @@ pub fn read_edits<S: Alter>(tx: &mut Transaction<'_, S>) -> Result<Vec<Row>, Err
 /// The rows of the table `origin`.
 pub fn read_origins<S: Alter>(tx: &mut Transaction<'_, S>) -> Result<Vec<Row>, Error>
     ensures same_reference { tx.new.conn.ghost_name ≡ tx.old.conn.ghost_name }
-    ensures rows { HasCleanDisk (state S.Store tx.new.conn.now) → IsWriting (state S.Store tx.old.conn.now) → IfOk result (λ rows. IsPermutation (stored (state S.Store tx.old.conn.now).now.trees).origin (map origin_in rows.items)) }
-    ensures same { OkDoes result (state S.Store tx.old.conn.now) (state S.Store tx.new.conn.now) (IsUnchanged) }
+    ensures rows { HasCleanDisk (state S.Store tx.new.conn.now)
+        → IsWriting (state S.Store tx.old.conn.now)
+        → IfOk result (λ rows. IsPermutation (stored
+        (state S.Store tx.old.conn.now).now.trees).origin (map origin_in rows.items)) }
+    ensures same { OkDoes result (state S.Store tx.old.conn.now) (state S.Store tx.new.conn.now)
+        (IsUnchanged) }
     ensures survives { LeavesStore (state S.Store tx.old.conn.now) (state S.Store tx.new.conn.now) }
 {
     let rows = tx.query_all("SELECT asset, edit FROM origin", &[])?;

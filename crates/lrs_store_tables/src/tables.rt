@@ -32,7 +32,8 @@ impl Tables<MemStore> {
     /// # Errors
     /// When memory runs out.
     pub fn in_memory(alloc: Global) -> Result<Tables<MemStore>, OpenFault>
-        ensures ready { IfOk result (λ t. (t.conn.in_transaction ≡ false) × IsReady (state over_memory t.conn)) }
+        ensures ready { IfOk result (λ t. (t.conn.in_transaction ≡ false)
+            × IsReady (state over_memory t.conn)) }
         ensures empty { IfOk result (λ t. HoldsOnly (state over_memory t.conn) new_rows) }
     {
         let Ok(mut conn) = Connection::open_in_memory(alloc) else {

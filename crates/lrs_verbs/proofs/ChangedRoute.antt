@@ -2,7 +2,7 @@
 use Rattle.std.proofs.Common.{◌≡◌, [], ◌∷◌, Some, None, sym, ap, subst, ◌∙◌}
 use Rattle.std.specs.List.{find, cons_option}
 use Rattle.std.specs.Option.{option_map}
-use Rattle.lrs_inventory.specs.Prelude.{each_two, Command, Image, RouteEntry, state_of, route_before, IsSound, State, Makes, RouteChange, Difference, is_named, entry_after, with_difference, CanDiffer, rerouting}
+use Rattle.lrs_inventory.specs.Prelude.{each_two, Command, Image, RouteRow, state_of, route_before, IsSound, State, Makes, RouteChange, Difference, is_named, entry_after, with_difference, CanDiffer, rerouting}
 use Rattle.lrs_machine.proofs.Members.{In}
 use Rattle.lrs_image.specs.Change.{CanBecome}
 use Rattle.lrs_image_laws.specs.Differences.{KeepsFromDropped}
@@ -14,11 +14,11 @@ use Rattle.lrs_image_laws.proofs.Rewriting.{new_order}
 use Rattle.lrs_inventory.specs.Changes.{route_on}
 use Rattle.lrs_inventory.specs.Plans.{plan_of, IsPlanOf}
 
-module _ (c : RouteChange) (i : Image) (r : RouteEntry) (s : IsSound i) (found : find (is_named c.route) i.routes ≡ Some r) where
+module _ (c : RouteChange) (i : Image) (r : RouteRow) (s : IsSound i) (found : find (is_named c.route) i.routes ≡ Some r) where
   abbrev d : Difference
   d = rerouting (Some c) None None
 
-  abbrev pub after : RouteEntry
+  abbrev pub after : RouteRow
   after = entry_after c r
 
   abbrev pub new : Image
@@ -41,7 +41,7 @@ module _ (c : RouteChange) (i : Image) (r : RouteEntry) (s : IsSound i) (found :
 
   pub differs_so : AreFit i (r.route.name ∷ []) (after ∷ []) → CanBecome c r → CanDiffer d i
   differs_so fits can = record {
-    route = record { entry = r; found = found; becomes = can };
+    route = record { row = r; found = found; becomes = can };
     apart = tt;
     names = ap (each_two route_before) (difference_rewrites d i s none_drops ∙ one_written) ∙ new_order i (r.route.name ∷ []) (after ∷ []) s fits;
   }

@@ -7,7 +7,7 @@ use Rattle.std.proofs.lemmas.List.{append-nil}
 use Rattle.std.specs.Prelude.{is_some, nat_lt}
 use Rattle.std.specs.Option.{option_map, ok_or}
 use Rattle.std.specs.Cmp.Lexicographic.{bytes_decides}
-use Rattle.lrs_inventory.specs.Prelude.{each_two, Name, same_name, Ground, Piece, Millimetre, course_of, runs_over, IsFilled, Referent, Alignment, referent_before, Gone, holds_by_spans, Cause, Image, RouteEntry, state_of, route_entry, referent_entry, referents_on, attempt, ◌>>=◌, IsSound, State, Makes, Difference, is_named, with_difference, AreGone}
+use Rattle.lrs_inventory.specs.Prelude.{each_two, Name, same_name, Ground, Piece, Millimetre, course_of, runs_over, IsFilled, Referent, Alignment, referent_before, Gone, holds_by_spans, Cause, Image, RouteRow, state_of, route_entry, referent_entry, referents_on, attempt, ◌>>=◌, IsSound, State, Makes, Difference, is_named, with_difference, AreGone}
 use Rattle.lrs_machine.specs.declared.answer.Cause.TheVariants as cause
 use Rattle.lrs_machine.specs.declared.command.Command.TheVariants as verb
 use Rattle.lrs_machine.specs.Machine.{abandon, drop_route}
@@ -37,11 +37,11 @@ module _ (route : Name) (i : Image) (n : ℕ) where
 
   pub refuses_route : find (is_named route) i.routes ≡ None → attempt n (verb.Close route) (state_of i) ≡ Err cause.NoRoute
   unfolding attempt
-  refuses_route none = ap (λ g. ok_or g cause.NoRoute >>= then_drop) (route_value i route ∙ ap (option_map (λ (e : RouteEntry). (route_entry e).1)) none)
+  refuses_route none = ap (λ g. ok_or g cause.NoRoute >>= then_drop) (route_value i route ∙ ap (option_map (λ (e : RouteRow). (route_entry e).1)) none)
 
 -- ---- referents of a route stand on its ground
 
-all_named : (r : RouteEntry) → AreNamed r r.route.course (names_of r.route.refs)
+all_named : (r : RouteRow) → AreNamed r r.route.course (names_of r.route.refs)
 all_named r = record { theirs = λ x on. on; there = there; known = known }
   where
     names : List Name
@@ -71,7 +71,7 @@ all_named r = record { theirs = λ x on. on; there = there; known = known }
 
 -- ---- The plan of the verb.
 
-module _ (route : Name) (i : Image) (r : RouteEntry) (gone : List Gone) (s : IsSound i) (found : find (is_named route) i.routes ≡ Some r) (led : AreGone (length i.edits + 1) Abandoned (holds_by_spans r.route.course r.spans) gone) where
+module _ (route : Name) (i : Image) (r : RouteRow) (gone : List Gone) (s : IsSound i) (found : find (is_named route) i.routes ≡ Some r) (led : AreGone (length i.edits + 1) Abandoned (holds_by_spans r.route.course r.spans) gone) where
   abbrev d : Difference
   d = without_route route gone
 

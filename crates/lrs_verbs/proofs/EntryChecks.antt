@@ -4,7 +4,7 @@ use Rattle.std.proofs.lemmas.Bool.{leb-true, leb-false, ne_eqb, cases_Bool}
 use Rattle.std.proofs.lemmas.List.{length-take, length-drop}
 use Rattle.std.specs.Prelude.{◌||◌, ◌&&◌, nat_eq, nat_le}
 use Rattle.std.specs.Option.{ok_or}
-use Rattle.lrs_inventory.specs.Prelude.{Ground, Alignment, Kind, places_on, is_among, Cause, Entry, contains_key, ◌>>=◌, ◌>>◌, refuse_at, Extent, extent_of, part_of, attempt, State, Retired}
+use Rattle.lrs_inventory.specs.Prelude.{Ground, Alignment, Kind, places_on, is_among, Cause, NewAsset, contains_key, ◌>>=◌, ◌>>◌, refuse_at, Extent, extent_of, part_of, attempt, State, Retired}
 use Rattle.lrs_measure.specs.Lists.{is_nothing}
 use Rattle.lrs_machine.specs.Segments.{is_exclusive}
 use Rattle.lrs_machine.specs.declared.answer.Cause.TheVariants as cause
@@ -32,7 +32,7 @@ nothing_there c x within = no_length (part_of c x) ∙ ap (λ n. nat_eq n 0) siz
 -- ---- the checks in their order
 
 -- what an entry asks for, where some kinds are not taken
-module _ (e : Entry) (s : State) (is_not_taken : Kind → Bool) where
+module _ (e : NewAsset) (s : State) (is_not_taken : Kind → Bool) where
   abbrev wanted : Result Wanted Cause
   wanted = wanted_of is_not_taken e s
 
@@ -92,7 +92,7 @@ module _ (e : Entry) (s : State) (is_not_taken : Kind → Bool) where
 
 -- ---- what the verbs do with it
 
-module _ (e : Entry) (n : ℕ) (s : State) where
+module _ (e : NewAsset) (n : ℕ) (s : State) where
   -- an asset is entered unless its places are held
   abbrev unless_held : Wanted → Result State Cause
   unless_held w = refuse_at (cond (is_exclusive w.kind) (first_holder s e.class w.places) None) cause.Overlap >> Ok (enter_asset n e w.places s)

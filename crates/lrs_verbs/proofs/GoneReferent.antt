@@ -10,7 +10,7 @@ use Rattle.std.proofs.lemmas.Map.Lookups.{exact_bytes}
 use Rattle.std.specs.Option.{option_map}
 use Rattle.std.specs.Ordering.{eq_by_cmp}
 use Rattle.std.specs.Cmp.Lexicographic.{bytes_decides}
-use Rattle.lrs_inventory.specs.Prelude.{each_two, Name, name_cmp, same_name, Ground, Millimetre, meets, runs_over, Referent, is_route, is_route_course, have_marks, are_referents, referent_before, Image, RouteEntry, state_of, referent_entry, referents_on, attempt, ◌>>◌, IsSound, changed_refs}
+use Rattle.lrs_inventory.specs.Prelude.{each_two, Name, name_cmp, same_name, Ground, Millimetre, meets, runs_over, Referent, is_route, is_route_course, have_marks, are_referents, referent_before, Image, RouteRow, state_of, referent_entry, referents_on, attempt, ◌>>◌, IsSound, changed_refs}
 use Rattle.lrs_element.specs.Course.{ground_at, is_at}
 use Rattle.lrs_machine.specs.declared.answer.Cause.TheVariants as cause
 use Rattle.lrs_machine.specs.declared.command.Command.TheVariants as verb
@@ -37,10 +37,10 @@ elsewhere c d m far on = is_false (runs_over c m) (λ t.
     let g = any_found (is_at m) c t in
     both_ways (meets c d) far (any_of (λ g. runs_over d (g.link, g.mm)) g.0 c g.1 (ap (runs_over d) (sym (at_is m g.0 g.2)) ∙ on)))
 
-over_found : (m : Millimetre) (r : RouteEntry) (routes : List RouteEntry) → each_two apart_courses routes ≡ true → In r routes → runs_over r.route.course m ≡ true → find (λ e. runs_over e.route.course m) routes ≡ Some r
+over_found : (m : Millimetre) (r : RouteRow) (routes : List RouteRow) → each_two apart_courses routes ≡ true → In r routes → runs_over r.route.course m ≡ true → find (λ e. runs_over e.route.course m) routes ≡ Some r
 over_found m r [] apart k on = absurd k
 over_found m r (y ∷ ys) apart (inl e) on =
-    ap (λ b. cond b (Some y) (find (λ z. runs_over z.route.course m) ys)) (ap (λ (z : RouteEntry). runs_over z.route.course m) (sym e) ∙ on) ∙ ap (λ (z : RouteEntry). Some z) (sym e)
+    ap (λ b. cond b (Some y) (find (λ z. runs_over z.route.course m) ys)) (ap (λ (z : RouteRow). runs_over z.route.course m) (sym e) ∙ on) ∙ ap (λ (z : RouteRow). Some z) (sym e)
 over_found m r (y ∷ ys) apart (inr k) on =
     let both = and_parts (list_all (apart_courses y) ys) (each_two apart_courses ys) apart in
     let far = not-true (meets y.route.course r.route.course) (all_at (apart_courses y) r ys both.0 k) in
@@ -48,7 +48,7 @@ over_found m r (y ∷ ys) apart (inr k) on =
 
 -- The referent of the name is one of this route, which runs over its millimetre.
 pub record IsOfRoute (name : Name) (place : Millimetre) (i : Image) : Type 0 where
-  pub entry : RouteEntry
+  pub entry : RouteRow
   pub known : In entry i.routes
   pub ref : Referent
   pub own : In ref entry.route.refs
@@ -66,7 +66,7 @@ of_route name place i s h =
       ref = row.ref;
       own = row.is;
       named = row.named;
-      over = ap (option_map (λ (e : RouteEntry). e.route.name)) (over_found place there.0 i.routes (courses_apart i s) there.1 row.on);
+      over = ap (option_map (λ (e : RouteRow). e.route.name)) (over_found place there.0 i.routes (courses_apart i s) there.1 row.on);
     }
 
 -- ---- rows of other names
@@ -137,7 +137,7 @@ module _ (name : Name) (place : Millimetre) (i : Image) (s : IsSound i) (h : (st
   abbrev on : IsOfRoute name place i
   on = of_route name place i s h
 
-  abbrev r : RouteEntry
+  abbrev r : RouteRow
   r = on.entry
 
   within : Referent → Bool
@@ -156,7 +156,7 @@ module _ (name : Name) (place : Millimetre) (i : Image) (s : IsSound i) (h : (st
   abbrev p : DifferAt r (new i r (without_one name) s on.known fits) i.routes (after i r (without_one name) s on.known fits)
   p = in_its_place i r (without_one name) s on.known fits
 
-  abbrev routes_after : List RouteEntry
+  abbrev routes_after : List RouteRow
   routes_after = after i r (without_one name) s on.known fits
 
   -- the referents of other routes have other names
@@ -181,7 +181,7 @@ module _ (name : Name) (place : Millimetre) (i : Image) (s : IsSound i) (h : (st
       let b = became i r (without_one name) s on.known fits in
       made_filtered r (new i r (without_one name) s on.known fits) i.routes routes_after p referents_on (is_kept_row name) ((λ j. filter_map (referent_entry (b.course j)) (b.refs j)) ∙ rows_kept name r.route.course r.route.refs) (from p.front ahead) (from p.rear behind)
     where
-      from : (routes : List RouteEntry) → ((q : Referent) → In q (flat_map refs_of routes) → is_kept name q ≡ true) → (x : Name × Millimetre) → In x (flat_map referents_on routes) → is_kept_row name x ≡ true
+      from : (routes : List RouteRow) → ((q : Referent) → In q (flat_map refs_of routes) → is_kept name q ≡ true) → (x : Name × Millimetre) → In x (flat_map referents_on routes) → is_kept_row name x ≡ true
       from routes others x n =
           let there = flat_map_found referents_on x routes n in
           let row = row_of there.0.route.course there.0.route.refs x.0 x.1 there.2 in

@@ -8,7 +8,7 @@ use Rattle.std.proofs.lemmas.List.Concat.{flat_map-append}
 use Rattle.std.specs.Prelude.{◌||◌, not}
 use Rattle.std.specs.Option.{option_map}
 use Rattle.std.specs.Cmp.Lexicographic.{bytes_decides}
-use Rattle.lrs_inventory.specs.Prelude.{each_two, insert_by, Name, Millimetre, runs_over, RouteEntry, route_before, is_named, without}
+use Rattle.lrs_inventory.specs.Prelude.{each_two, insert_by, Name, Millimetre, runs_over, RouteRow, route_before, is_named, without}
 use Rattle.lrs_measure.specs.Texts.{name_before}
 use Rattle.lrs_machine.proofs.Members.{In, all_at, all_of}
 use Rattle.lrs_machine.proofs.Pairs.{each_two-map}
@@ -99,28 +99,28 @@ module _ {X : Type 0} where
 
 -- ---- routes
 
-some_is : (a b : RouteEntry) → Some a ≡ Some b → b ≡ a
+some_is : (a b : RouteRow) → Some a ≡ Some b → b ≡ a
 some_is a b h = cc
 
 not_itself : (n : Name) → name_before n n ≡ true → ⊥
 not_itself n h = both_ways (name_before n n) (name_apart n n h) h
 
 -- no route behind one of the name has it
-others : (name : Name) (y : RouteEntry) (ys : List RouteEntry) → y.route.name ≡ name → list_all (route_before y) ys ≡ true → list_all (λ z. not (is_named name z)) ys ≡ true
+others : (name : Name) (y : RouteRow) (ys : List RouteRow) → y.route.name ≡ name → list_all (route_before y) ys ≡ true → list_all (λ z. not (is_named name z)) ys ≡ true
 others name y ys is h = all_of (λ z. not (is_named name z)) ys (λ z m. ap not (is_false (is_named name z) (λ t.
     let same : z.route.name ≡ name = (bytes_decides z.route.name name).0 t in
     not_itself name ((λ j. name_before (sym is j) (sym same j)) ∙ all_at (route_before y) z ys h m))))
 
-at_front : (new y : RouteEntry) (ys : List RouteEntry) → new.route.name ≡ y.route.name → list_all (route_before y) ys ≡ true → insert_by route_before new ys ≡ new ∷ ys
+at_front : (new y : RouteRow) (ys : List RouteRow) → new.route.name ≡ y.route.name → list_all (route_before y) ys ≡ true → insert_by route_before new ys ≡ new ∷ ys
 at_front new y [] is h = refl
 at_front new y (z ∷ zs) is h =
     ap (λ b. cond b (new ∷ z ∷ zs) (z ∷ insert_by route_before new zs)) (ap (λ n. name_before n z.route.name) is ∙ (and_parts (route_before y z) (list_all (route_before y) zs) h).0)
 
 -- One of the routes is found by its name.
-pub found_by_name : (r : RouteEntry) (routes : List RouteEntry) → each_two route_before routes ≡ true → In r routes → find (is_named r.route.name) routes ≡ Some r
+pub found_by_name : (r : RouteRow) (routes : List RouteRow) → each_two route_before routes ≡ true → In r routes → find (is_named r.route.name) routes ≡ Some r
 found_by_name r [] h m = absurd m
 found_by_name r (y ∷ ys) h (inl e) =
-    ap (λ b. cond b (Some y) (find (is_named r.route.name) ys)) ((bytes_decides y.route.name r.route.name).1 (ap (λ (x : RouteEntry). x.route.name) (sym e))) ∙ ap (λ (x : RouteEntry). Some x) (sym e)
+    ap (λ b. cond b (Some y) (find (is_named r.route.name) ys)) ((bytes_decides y.route.name r.route.name).1 (ap (λ (x : RouteRow). x.route.name) (sym e))) ∙ ap (λ (x : RouteRow). Some x) (sym e)
 found_by_name r (y ∷ ys) h (inr m) =
     let both = and_parts (list_all (route_before y) ys) (each_two route_before ys) h in
     let other = is_false (is_named r.route.name y) (λ t.
@@ -129,7 +129,7 @@ found_by_name r (y ∷ ys) h (inr m) =
     ap (λ b. cond b (Some y) (find (is_named r.route.name) ys)) other ∙ found_by_name r ys both.1 m
 
 -- The route of a name, taken out and put back as one of the same name, is in its place.
-pub in_place : (name : Name) (old new : RouteEntry) → new.route.name ≡ old.route.name → (routes : List RouteEntry) → each_two route_before routes ≡ true → find (is_named name) routes ≡ Some old
+pub in_place : (name : Name) (old new : RouteRow) → new.route.name ≡ old.route.name → (routes : List RouteRow) → each_two route_before routes ≡ true → find (is_named name) routes ≡ Some old
     → DifferAt old new routes (insert_by route_before new (without name routes))
 in_place name old new same [] h f = absurd (cc f)
 in_place name old new same (y ∷ ys) h f = by (cases_Bool (is_named name y)) (in_place name old new same ys both.1)
@@ -153,7 +153,7 @@ in_place name old new same (y ∷ ys) h f = by (cases_Bool (is_named name y)) (i
           rear = ys;
           before = λ j. sym is j ∷ ys;
           after = ap (insert_by route_before new) (without_is true e ∙ none_goes route_before (is_named name) ys (others name y ys named both.0))
-              ∙ at_front new y ys (same ∙ ap (λ (z : RouteEntry). z.route.name) is) both.0;
+              ∙ at_front new y ys (same ∙ ap (λ (z : RouteRow). z.route.name) is) both.0;
         }
     by (inr e) rest =
         let found = found_is false e in
@@ -168,10 +168,10 @@ in_place name old new same (y ∷ ys) h f = by (cases_Bool (is_named name y)) (i
         }
 
 -- the names stay in order
-pub names_stay : (old new : RouteEntry) (xs ys : List RouteEntry) → DifferAt old new xs ys → new.route.name ≡ old.route.name → each_two route_before xs ≡ true → each_two route_before ys ≡ true
+pub names_stay : (old new : RouteRow) (xs ys : List RouteRow) → DifferAt old new xs ys → new.route.name ≡ old.route.name → each_two route_before xs ≡ true → each_two route_before ys ≡ true
 names_stay old new xs ys d same h =
-    sym (each_two-map name_before (λ (e : RouteEntry). e.route.name) ys) ∙ ap (each_two name_before) (map_same old new xs ys d (λ (e : RouteEntry). e.route.name) same) ∙ each_two-map name_before (λ (e : RouteEntry). e.route.name) xs ∙ h
+    sym (each_two-map name_before (λ (e : RouteRow). e.route.name) ys) ∙ ap (each_two name_before) (map_same old new xs ys d (λ (e : RouteRow). e.route.name) same) ∙ each_two-map name_before (λ (e : RouteRow). e.route.name) xs ∙ h
 
 -- which route runs over a millimetre stays too
-pub ground_stays : (old new : RouteEntry) (xs ys : List RouteEntry) → DifferAt old new xs ys → new.route.name ≡ old.route.name → new.route.course ≡ old.route.course → (m : Millimetre) → route_on ys m ≡ route_on xs m
-ground_stays old new xs ys d same course m = found_same old new xs ys d (λ (e : RouteEntry). e.route.name) (λ e. runs_over e.route.course m) same (ap (λ c. runs_over c m) course)
+pub ground_stays : (old new : RouteRow) (xs ys : List RouteRow) → DifferAt old new xs ys → new.route.name ≡ old.route.name → new.route.course ≡ old.route.course → (m : Millimetre) → route_on ys m ≡ route_on xs m
+ground_stays old new xs ys d same course m = found_same old new xs ys d (λ (e : RouteRow). e.route.name) (λ e. runs_over e.route.course m) same (ap (λ c. runs_over c m) course)

@@ -6,10 +6,10 @@ use Rattle.std.proofs.lemmas.List.{length-append, length-map, length-drop}
 use Rattle.std.specs.Prelude.{◌||◌, ◌&&◌, not, is_some, nat_lt, nat_le, nat_eq, unwrap_or}
 use Rattle.std.specs.Option.{option_map, ok_or}
 use Rattle.std.specs.Cmp.Lexicographic.{bytes_decides}
-use Rattle.lrs_inventory.specs.Prelude.{each_two, Name, same_name, Ground, Piece, Mark, course_of, runs_over, is_too_long, longest_route, IsFilled, Referent, Alignment, is_route, referent_before, Asset, Span, are_rows, Cause, Image, RouteEntry, state_of, route_entry, State, attempt, ◌>>◌, ◌>>=◌, set_route, asset_before, is_span, are_spans_of, route_before, IsSound, Makes, RouteChange, Difference, is_named, changed_refs, fits_after, route_after, entry_after, with_difference, CanDiffer, are_names_of, rerouting}
+use Rattle.lrs_inventory.specs.Prelude.{each_two, Name, same_name, Ground, Piece, Mark, course_of, runs_over, is_too_long, longest_route, IsFilled, Referent, Alignment, is_route, referent_before, Asset, Span, are_rows, Cause, Image, RouteRow, state_of, route_entry, State, attempt, ◌>>◌, ◌>>=◌, set_route, asset_before, is_span, are_spans_of, route_before, IsSound, Makes, RouteChange, Difference, is_named, changed_refs, fits_after, route_after, entry_after, with_difference, CanDiffer, are_names_of, rerouting}
 use Rattle.lrs_measure.specs.Ordered.{insert_all}
 use Rattle.lrs_element.specs.Course.{piece_count}
-use Rattle.lrs_element.specs.Limits.{most_marks, most_pieces}
+use Rattle.lrs_measure.specs.Limits.{most_marks, most_pieces}
 use Rattle.lrs_element.specs.Lines.{moved_on}
 use Rattle.lrs_element.specs.Marks.{joined_marks, is_out_of_range, first_mark, last_mark}
 use Rattle.lrs_events_rows.specs.Joins.{is_of_one_class}
@@ -76,9 +76,9 @@ module _ (first second : Name) (i : Image) where
   abbrev then_first : Alignment → Result State Cause
   then_first a = ok_or (option_map (λ e. (route_entry e).1) (find (is_named second) i.routes)) cause.NoRoute >>= (λ b. do_join_of first second a b s)
 
-  join_is : (o : Option RouteEntry) → find (is_named first) i.routes ≡ o → do_join first second s ≡ (ok_or (option_map (λ e. (route_entry e).1) o) cause.NoRoute >>= then_first)
+  join_is : (o : Option RouteRow) → find (is_named first) i.routes ≡ o → do_join first second s ≡ (ok_or (option_map (λ e. (route_entry e).1) o) cause.NoRoute >>= then_first)
   join_is o is = (λ j. ok_or (route_value i first j) cause.NoRoute >>= (λ a. ok_or (route_value i second j) cause.NoRoute >>= (λ b. do_join_of first second a b s)))
-      ∙ ap (λ g. ok_or (option_map (λ (e : RouteEntry). (route_entry e).1) g) cause.NoRoute >>= then_first) is
+      ∙ ap (λ g. ok_or (option_map (λ (e : RouteRow). (route_entry e).1) g) cause.NoRoute >>= then_first) is
 
   -- what the verb does of an image is what an edit does
   module _ (n : ℕ) where
@@ -89,17 +89,17 @@ module _ (first second : Name) (i : Image) where
   pub refuses_first : (n : ℕ) → find (is_named first) i.routes ≡ None → attempt n (verb.Join first second) s ≡ Err cause.NoRoute
   refuses_first n none = tries n ∙ join_is None none
 
-  module _ (a : RouteEntry) (found : find (is_named first) i.routes ≡ Some a) where
+  module _ (a : RouteRow) (found : find (is_named first) i.routes ≡ Some a) where
     abbrev then_second : Alignment → Result State Cause
     then_second b = do_join_of first second (route_entry a).1 b s
 
-    second_is : (o : Option RouteEntry) → find (is_named second) i.routes ≡ o → do_join first second s ≡ (ok_or (option_map (λ e. (route_entry e).1) o) cause.NoRoute >>= then_second)
-    second_is o is = join_is (Some a) found ∙ ap (λ g. ok_or (option_map (λ (e : RouteEntry). (route_entry e).1) g) cause.NoRoute >>= then_second) is
+    second_is : (o : Option RouteRow) → find (is_named second) i.routes ≡ o → do_join first second s ≡ (ok_or (option_map (λ e. (route_entry e).1) o) cause.NoRoute >>= then_second)
+    second_is o is = join_is (Some a) found ∙ ap (λ g. ok_or (option_map (λ (e : RouteRow). (route_entry e).1) g) cause.NoRoute >>= then_second) is
 
     pub refuses_second : (n : ℕ) → find (is_named second) i.routes ≡ None → attempt n (verb.Join first second) s ≡ Err cause.NoRoute
     refuses_second n none = tries n ∙ second_is None none
 
-    module _ (b : RouteEntry) (also : find (is_named second) i.routes ≡ Some b) where
+    module _ (b : RouteRow) (also : find (is_named second) i.routes ≡ Some b) where
       abbrev course : List Ground
       course = a.route.course ++ b.route.course
 
@@ -144,15 +144,15 @@ module _ (first second : Name) (i : Image) where
 
 -- ---- what is known of two routes of an inventory
 
-module _ (i : Image) (a b : RouteEntry) (s : IsSound i) (m : In a i.routes) (n : In b i.routes) where
-  pub its_spans : (e : RouteEntry) → In e i.routes → are_spans_of i.assets (record { course = e.route.course; rows = e.spans }) ≡ true
-  its_spans e k = all_at (λ (e : RouteEntry). are_spans_of i.assets (record { course = e.route.course; rows = e.spans })) e i.routes (old_spans i s) k
+module _ (i : Image) (a b : RouteRow) (s : IsSound i) (m : In a i.routes) (n : In b i.routes) where
+  pub its_spans : (e : RouteRow) → In e i.routes → are_spans_of i.assets (record { course = e.route.course; rows = e.spans }) ≡ true
+  its_spans e k = all_at (λ (e : RouteRow). are_spans_of i.assets (record { course = e.route.course; rows = e.spans })) e i.routes (old_spans i s) k
 
   abbrev is_its : Span → Asset → Bool
   is_its r x = nat_eq x.number r.asset && same_name x.class r.class
 
   -- a row ends with the course of its route, and is of a known asset
-  known : (e : RouteEntry) (r : Span) → In e i.routes → In r e.spans → (r.to ≤ length e.route.course) × (list_any (is_its r) i.assets ≡ true)
+  known : (e : RouteRow) (r : Span) → In e i.routes → In r e.spans → (r.to ≤ length e.route.course) × (list_any (is_its r) i.assets ≡ true)
   known e r k l =
       let all = and_parts (are_rows e.spans) (list_all (is_span i.assets (length e.route.course)) e.spans) (its_spans e k) in
       let both = and_parts (nat_le r.to (length e.route.course)) (list_any (is_its r) i.assets) (all_at (is_span i.assets (length e.route.course)) r e.spans all.1 l) in
@@ -201,17 +201,17 @@ room_for first second h =
     omega (arith, low, n)
 
 -- behind so long a course no referent stands past the longest route
-pub refs_have_room : (b : RouteEntry) (n : ℕ) → n + length b.route.course ≤ longest_route → list_all (λ q. nat_lt (n + q.at) longest_route) b.route.refs ≡ true
+pub refs_have_room : (b : RouteRow) (n : ℕ) → n + length b.route.course ≤ longest_route → list_all (λ q. nat_lt (n + q.at) longest_route) b.route.refs ≡ true
 refs_have_room b n room = all_of (λ (q : Referent). nat_lt (n + q.at) longest_route) b.route.refs (λ q k.
     let low = ltb-true q.at (length b.route.course) (all_at (λ (q : Referent). nat_lt q.at (length b.route.course)) q b.route.refs
     (and_parts (each_two referent_before b.route.refs) (list_all (λ (q : Referent). nat_lt q.at (length b.route.course)) b.route.refs) (fits b).2).1 k) in
     lt-ltb (n + q.at) longest_route (omega (arith, low, room)))
 
 -- ---- The plan of the verb, where its checks pass.
-module _ (first second : Name) (i : Image) (a b : RouteEntry) (c : RouteChange) (s : IsSound i) (found : find (is_named first) i.routes ≡ Some a) (also : find (is_named second) i.routes ≡ Some b)
+module _ (first second : Name) (i : Image) (a b : RouteRow) (c : RouteChange) (s : IsSound i) (found : find (is_named first) i.routes ≡ Some a) (also : find (is_named second) i.routes ≡ Some b)
     (apart : same_name first second ≡ false) (short : is_too_long (a.route.course ++ b.route.course) ≡ false) (few : nat_lt most_marks (length (joined_marks a.route.marks b.route.marks)) ≡ false)
     (small : is_out_of_range (joined_marks a.route.marks b.route.marks) ≡ false) (is : GoesOn a b c) where
-  abbrev w : RouteEntry
+  abbrev w : RouteRow
   w = entry_after c a
 
   abbrev d : Difference
@@ -236,7 +236,7 @@ module _ (first second : Name) (i : Image) (a b : RouteEntry) (c : RouteChange) 
   unlike q p k l = by (made_two are_unlike refs_at a b i.routes q p (old_unlike i s) at_first.0 at_second.0 k l)
     where
       by : (a ≡ b) ⊎ ((are_unlike q p ≡ true) ⊎ (are_unlike p q ≡ true)) → same_name q.name p.name ≡ false
-      by (inl e) = absurd (both_ways (same_name a.route.name b.route.name) names_differ ((bytes_decides a.route.name b.route.name).1 (ap (λ (e : RouteEntry). e.route.name) e)))
+      by (inl e) = absurd (both_ways (same_name a.route.name b.route.name) names_differ ((bytes_decides a.route.name b.route.name).1 (ap (λ (e : RouteRow). e.route.name) e)))
       by (inr (inl h)) = not-true (same_name q.name p.name) h
       by (inr (inr h)) = same_either q.name p.name ∙ not-true (same_name p.name q.name) h
 
@@ -299,7 +299,7 @@ module _ (first second : Name) (i : Image) (a b : RouteEntry) (c : RouteChange) 
 
   changes_so : CanDiffer d i
   changes_so = record {
-    route = record { entry = a; found = found_by; becomes = record { fits = stays_fit; rows = is.rows; gone = is.spans_gone; there = is.spans_there; named = ap (are_names_of a) is.refs_gone } };
+    route = record { row = a; found = found_by; becomes = record { fits = stays_fit; rows = is.rows; gone = is.spans_gone; there = is.spans_there; named = ap (are_names_of a) is.refs_gone } };
     apart = (ap (λ n. same_name n second) (is.route ∙ at_first.1) ∙ apart, ap (λ n. same_name n second) (is.name ∙ at_first.1) ∙ apart);
     names = ap (each_two route_before) (difference_rewrites (rerouting (Some c) None None) i s (λ w n is e. absurd (cc e)) ∙ (λ j. rewritten (is.route j ∷ []) (cons_option (option_map (entry_after c) (found_by j)) []) i.routes))
         ∙ order_stays w a.route.name i.routes joined.name (routes_in_order i s);

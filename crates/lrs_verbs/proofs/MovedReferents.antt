@@ -5,7 +5,7 @@ use Rattle.std.specs.Prelude.{not, nat_lt}
 use Rattle.std.specs.List.{list_any, list_all}
 use Rattle.std.specs.Ordering.{eq_by_cmp}
 use Rattle.std.specs.Cmp.Lexicographic.{nat_list_cmp_total, texts_ties}
-use Rattle.lrs_inventory.specs.Prelude.{each_two, insert_by, name_cmp, same_name, Referent, are_referents, referent_before, RouteEntry, changed_refs}
+use Rattle.lrs_inventory.specs.Prelude.{each_two, insert_by, name_cmp, same_name, Referent, are_referents, referent_before, RouteRow, changed_refs}
 use Rattle.lrs_measure.specs.Ordered.{insert_all}
 use Rattle.lrs_events_lanes.proofs.Members.{each_two-filter}
 use Rattle.lrs_machine.proofs.Members.{In, any_found, all_at, all_of, two_at, In-map, map_found}
@@ -42,7 +42,7 @@ ordered (x ∷ xs) ys h k w =
     with z y m t (inl e) = ap (λ (q : Referent). same_name z.name q.name) e ∙ same_either z.name x.name ∙ not-true (same_name x.name z.name) t
     with z y m t (inr n) = w z y (inr m) n
 
-module _ (r : RouteEntry) (from to len size : ℕ) (low : from ≤ to) (high : to ≤ length r.route.course) (size_is : size ≡ (from + len) + (length r.route.course - to)) where
+module _ (r : RouteRow) (from to len size : ℕ) (low : from ≤ to) (high : to ≤ length r.route.course) (size_is : size ≡ (from + len) + (length r.route.course - to)) where
   abbrev refs : List Referent
   refs = r.route.refs
 

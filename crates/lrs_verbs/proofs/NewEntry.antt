@@ -11,9 +11,9 @@ use Rattle.std.specs.Prelude.{is_some, ◌||◌, ◌&&◌, not, nat_eq, nat_lt, 
 use Rattle.std.specs.List.{list_any, list_all}
 use Rattle.std.specs.Ordering.{nat_cmp, eq_by_cmp}
 use Rattle.std.specs.Cmp.Lexicographic.{bytes_decides}
-use Rattle.lrs_inventory.specs.Prelude.{each_two, insert_by, name_cmp, same_name, longest_route, is_too_long, is_route_course, have_marks, are_referents, Asset, Kind, Part, Span, Place, is_among, places_on, span_before, are_rows, Entry, RouteEntry, Image, Edit, state_of, holds_on, route_entry, referents_on, asset_entry, Extent, part_of, refuse_at, attempt, contains_key, route_before, asset_before, is_span, are_spans_of, is_on_a_link, are_courses, IsSound, RouteCourse, is_named, without, with_difference, IsOrderly}
+use Rattle.lrs_inventory.specs.Prelude.{each_two, insert_by, name_cmp, same_name, longest_route, is_too_long, is_route_course, have_marks, are_referents, Asset, Kind, Part, Span, Place, is_among, places_on, span_before, are_rows, NewAsset, RouteRow, Image, Edit, state_of, holds_on, route_entry, referents_on, asset_entry, Extent, part_of, refuse_at, attempt, contains_key, route_before, asset_before, is_span, are_spans_of, is_on_a_link, are_courses, IsSound, RouteCourse, is_named, without, with_difference, IsOrderly}
 use Rattle.lrs_measure.specs.Lists.{is_nothing}
-use Rattle.lrs_element.specs.Limits.{most_pieces}
+use Rattle.lrs_measure.specs.Limits.{most_pieces, most_pairs, most_assets, most_edits}
 use Rattle.lrs_element.specs.Course.{piece_count}
 use Rattle.lrs_events.specs.Changes.{changed}
 use Rattle.lrs_events.specs.Parts.{has_pair, part_before}
@@ -22,7 +22,6 @@ use Rattle.lrs_machine.specs.Segments.{is_exclusive}
 use Rattle.lrs_events_rows.proofs.Changing.{any_insert}
 use Rattle.lrs_machine.specs.declared.answer.Cause.TheVariants as cause
 use Rattle.lrs_machine.specs.declared.command.Command.TheVariants as verb
-use Rattle.lrs_machine.specs.Bounds.{most_pairs, most_assets, most_edits}
 use Rattle.lrs_machine.specs.Machine.{first_holder, enter_asset}
 use Rattle.lrs_machine.specs.Entered.{is_asset_number, is_lateral_offset}
 use Rattle.lrs_machine.specs.Sound.{is_asset, are_assets, spans_of, is_part, share_nothing, pairs_of, are_parts, parts_of, is_named_by, are_all_marks, are_all_referents, RouteMarks, RouteReferents}
@@ -57,7 +56,7 @@ use Rattle.lrs_verbs.proofs.NewParts.{of_edit, of_asset, few}
 use Rattle.lrs_image_laws.proofs.Appended.{all-append, later_part, apart_by_edit, no_pairs, pairs-append}
 
 -- a route is no longer than the longest
-longest : (r : RouteEntry) → length r.route.course ≤ longest_route
+longest : (r : RouteRow) → length r.route.course ≤ longest_route
 longest r =
     let fits = and_three (is_route_course r.route.course) (have_marks r.route.course r.route.marks) (are_referents (length r.route.course) r.route.refs) r.route.fits in
     let short = not-true (is_too_long r.route.course) (and_parts (not (is_nothing r.route.course)) (not (is_too_long r.route.course)) fits.0).1 in
@@ -90,7 +89,7 @@ others a (b ∷ bs) fresh =
     either m n h = grind (arith, nat_tests)
 
 -- what the checks of an entry have found
-pub record IsEntry (e : Entry) (i : Image) (r : RouteEntry) (x : Extent) : Type 0 where
+pub record IsEntry (e : NewAsset) (i : Image) (r : RouteRow) (x : Extent) : Type 0 where
   pub fresh : list_any (λ (a : Asset). nat_eq e.asset a.number) i.assets ≡ false
   pub asset : is_asset i.classes (asset_of (length i.edits + 1) e) ≡ true
   pub route : IsRouteIn i r
@@ -99,7 +98,7 @@ pub record IsEntry (e : Entry) (i : Image) (r : RouteEntry) (x : Extent) : Type 
   pub within : x.to ≤ length r.route.course
 
 -- An image in order, whose entered parts are of its edits and assets, and a route over its links.
-pub record IsOpen (i : Image) (r : RouteEntry) : Type 0 where
+pub record IsOpen (i : Image) (r : RouteRow) : Type 0 where
   pub orderly : IsOrderly i
   pub routes : each_two route_before i.routes ≡ true
   pub on_links : list_all (is_on_a_link i.links) r.route.course ≡ true
@@ -107,7 +106,7 @@ pub record IsOpen (i : Image) (r : RouteEntry) : Type 0 where
   pub edits : list_all (is_named_by i.edits) i.entered ≡ true
 
 -- Each route of a sound image is one.
-pub is_open : (i : Image) (r : RouteEntry) → IsSound i → In r i.routes → IsOpen i r
+pub is_open : (i : Image) (r : RouteRow) → IsSound i → In r i.routes → IsOpen i r
 is_open i r s m =
     let p = passes i s in
     let keys = each_two (λ (d f : Edit). not (same_name d.key f.key)) i.edits in
@@ -125,7 +124,7 @@ is_open i r s m =
 
 -- ---- the asset, its row and its ledger come
 
-module _ (e : Entry) (i : Image) (r : RouteEntry) (x : Extent) (parts : List Part) (ready : IsOpen i r) (is : IsEntry e i r x) (led : AreEntered (length i.edits + 1) r.route.course (row_of e x) parts) where
+module _ (e : NewAsset) (i : Image) (r : RouteRow) (x : Extent) (parts : List Part) (ready : IsOpen i r) (is : IsEntry e i r x) (led : AreEntered (length i.edits + 1) r.route.course (row_of e x) parts) where
   abbrev n : ℕ
   n = length i.edits + 1
 
@@ -139,13 +138,13 @@ module _ (e : Entry) (i : Image) (r : RouteEntry) (x : Extent) (parts : List Par
   asset = asset_of n e
 
   -- the route with the row
-  abbrev more : RouteEntry
+  abbrev more : RouteRow
   more = record r { spans = insert_by span_before row r.spans }
 
   abbrev new_assets : List Asset
   new_assets = insert_by asset_before asset i.assets
 
-  abbrev new_routes : List RouteEntry
+  abbrev new_routes : List RouteRow
   new_routes = insert_by route_before more (without e.route i.routes)
 
   abbrev new : Image
@@ -224,7 +223,7 @@ module _ (e : Entry) (i : Image) (r : RouteEntry) (x : Extent) (parts : List Par
       let known = λ (a : Asset). nat_eq a.number q.asset && same_name a.class q.class in
       and_weaker (nat_le q.to len) (list_any known i.assets) (nat_le q.to len) (list_any known new_assets) (λ k. k) (any-insert_by known asset_before asset i.assets) h
 
-  still_spans_of : (f : RouteEntry) → are_spans_of i.assets (spans_entry f) ≡ true → are_spans_of new_assets (spans_entry f) ≡ true
+  still_spans_of : (f : RouteRow) → are_spans_of i.assets (spans_entry f) ≡ true → are_spans_of new_assets (spans_entry f) ≡ true
   still_spans_of f h =
       and_weaker (are_rows f.spans) (list_all (is_span i.assets (length f.route.course)) f.spans) (are_rows f.spans) (list_all (is_span new_assets (length f.route.course)) f.spans)
       (λ k. k) (all_weaker (is_span i.assets (length f.route.course)) (is_span new_assets (length f.route.course)) f.spans (still_span (length f.route.course))) h
@@ -331,7 +330,7 @@ module _ (e : Entry) (i : Image) (r : RouteEntry) (x : Extent) (parts : List Par
 
 -- ---- the plan
 
-module _ (e : Entry) (i : Image) (r : RouteEntry) (x : Extent) (parts : List Part) (s : IsSound i) (is : IsEntry e i r x) (led : AreEntered (length i.edits + 1) r.route.course (row_of e x) parts) where
+module _ (e : NewAsset) (i : Image) (r : RouteRow) (x : Extent) (parts : List Part) (s : IsSound i) (is : IsEntry e i r x) (led : AreEntered (length i.edits + 1) r.route.course (row_of e x) parts) where
   abbrev edit : ℕ
   edit = length i.edits + 1
 
@@ -356,7 +355,7 @@ module _ (e : Entry) (i : Image) (r : RouteEntry) (x : Extent) (parts : List Par
   }
 
 -- what the checks of an entry have found
-pub is_entry : (e : Entry) (i : Image) (only_exclusive : Bool) (kind : Kind) (r : RouteEntry) (x : Extent) → IsWanted i only_exclusive e kind r x → AreInLimits e → IsEntry e i r x
+pub is_entry : (e : NewAsset) (i : Image) (only_exclusive : Bool) (kind : Kind) (r : RouteRow) (x : Extent) → IsWanted i only_exclusive e kind r x → AreInLimits e → IsEntry e i r x
 is_entry e i only_exclusive kind r x w limits =
     let known : list_any (λ c. same_name c.name e.class) i.classes ≡ true = sym (new_class.knows e.class i) ∙ ap is_some w.begun.class in
     record {
@@ -369,7 +368,7 @@ is_entry e i only_exclusive kind r x w limits =
     }
 
 -- The verb enters the asset, where its checks have passed.
-pub enters : (e : Entry) (i : Image) (kind : Kind) (r : RouteEntry) (x : Extent) (p : Plan) → IsSound i → IsWanted i false e kind r x → AreInLimits e
+pub enters : (e : NewAsset) (i : Image) (kind : Kind) (r : RouteRow) (x : Extent) (p : Plan) → IsSound i → IsWanted i false e kind r x → AreInLimits e
     → refuse_at (cond (is_exclusive kind) (first_holder (state_of i) e.class (places_on e.side (part_of r.route.course x))) None) cause.Overlap ≡ Ok tt
     → IsEntering (length i.edits + 1) e x r.route.course p → IsPlanOf (verb.Enter e) i p
 enters e i kind r x p s w limits free entered =

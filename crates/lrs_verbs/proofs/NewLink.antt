@@ -12,7 +12,7 @@ use Rattle.std.specs.Ordering.{nat_cmp, eq_by_cmp}
 use Rattle.lrs_inventory.specs.Prelude.{each_two, insert_by, Link, Ground, meets, is_route_course, differs, Image, contains_key, state_of, attempt, ◌>>◌, is_on_a_link, RouteCourse, are_courses, IsSound, with_difference, IsOrderly}
 use Rattle.lrs_machine.specs.declared.answer.Cause.TheVariants as cause
 use Rattle.lrs_machine.specs.declared.command.Command.TheVariants as verb
-use Rattle.lrs_machine.specs.Bounds.{most_routes}
+use Rattle.lrs_measure.specs.Limits.{most_routes}
 use Rattle.lrs_machine.specs.Register.{insert}
 use Rattle.lrs_machine.specs.Image.{link_entry}
 use Rattle.lrs_machine.specs.Machine.{refuse_if}

@@ -10,7 +10,7 @@ use Rattle.std.specs.List.{list_any, list_all, flat_map, filter_map, cons_option
 use Rattle.std.specs.Option.{option_map, option_or, ok_or}
 use Rattle.std.specs.Ordering.{eq_by_cmp}
 use Rattle.std.specs.Cmp.Lexicographic.{nat_list_cmp_total, texts_ties, bytes_decides}
-use Rattle.lrs_inventory.specs.Prelude.{each_two, insert_by, Name, name_cmp, same_name, Ground, Millimetre, Referent, Alignment, is_route, is_route_course, have_marks, are_referents, referent_before, Cause, Image, RouteEntry, state_of, referent_entry, referents_on, attempt, ◌>>◌, ◌>>=◌, IsSound, State, changed_refs}
+use Rattle.lrs_inventory.specs.Prelude.{each_two, insert_by, Name, name_cmp, same_name, Ground, Millimetre, Referent, Alignment, is_route, is_route_course, have_marks, are_referents, referent_before, Cause, Image, RouteRow, state_of, referent_entry, referents_on, attempt, ◌>>◌, ◌>>=◌, IsSound, State, changed_refs}
 use Rattle.lrs_element.specs.Course.{ground_at}
 use Rattle.lrs_position.specs.declared.expression.Expr.{Expr}
 use Rattle.lrs_position.specs.Locating.{cell}
@@ -198,7 +198,7 @@ other_name name i fresh q k = is_false (same_name name q.name) (λ t.
     false≢true (sym (ap is_some (ap (λ n. find name_cmp n (flat_map referents_on i.routes)) (sym ((bytes_decides name q.name).0 t)) ∙ fresh)) ∙ known))
 
 -- The verb puts a new referent on its route.
-module _ (name : Name) (at : ℕ) (place : Millimetre) (i : Image) (r : RouteEntry) (s : IsSound i) (m : In r i.routes) (fresh : (state_of i).referents name ≡ None)
+module _ (name : Name) (at : ℕ) (place : Millimetre) (i : Image) (r : RouteRow) (s : IsSound i) (m : In r i.routes) (fresh : (state_of i).referents name ≡ None)
     (there : ground_at r.route.course at ≡ Some place) (within : at < length r.route.course) where
   abbrev own : Referent
   own = record { name = name; at = at }
@@ -233,10 +233,10 @@ module _ (name : Name) (at : ℕ) (place : Millimetre) (i : Image) (r : RouteEnt
       (each_two-insert_by referent_before (before-chain nat_list_cmp_total (λ (q : Referent). q.name)) own refs (before-comparable nat_list_cmp_total (λ (q : Referent). q.name) own refs no_ties) own_refs.0)
       (all-insert_by inside referent_before own refs (lt-ltb at (length course) within) own_refs.1))
 
-  abbrev now : RouteEntry
+  abbrev now : RouteRow
   now = new i r (with_one own) s m fits
 
-  abbrev routes_after : List RouteEntry
+  abbrev routes_after : List RouteRow
   routes_after = after i r (with_one own) s m fits
 
   abbrev p : DifferAt r now i.routes routes_after

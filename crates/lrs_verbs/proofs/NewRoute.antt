@@ -10,12 +10,12 @@ use Rattle.std.specs.List.{list_any, list_all, position, flat_map, filter_map, A
 use Rattle.std.specs.Option.{option_map}
 use Rattle.std.specs.Ordering.{eq_by_cmp}
 use Rattle.std.specs.Cmp.Lexicographic.{nat_list_cmp_total}
-use Rattle.lrs_inventory.specs.Prelude.{each_two, Name, name_cmp, same_name, insert_by, Piece, Ground, Mark, Millimetre, expand, course_of, runs_over, meets, is_too_long, IsFilled, is_route_course, have_marks, are_referents, Referent, Place, differs, holds_by_spans, Cause, Image, RouteEntry, contains_key, state_of, route_entry, referent_entry, referents_on, holds_on, State, attempt, refuse_at, ◌>>◌, ◌>>=◌, set_route, RouteCourse, is_on_a_link, are_courses, are_spans_of, route_before, IsSound, no_difference, with_difference, IsOrderly, is_run_once}
+use Rattle.lrs_inventory.specs.Prelude.{each_two, Name, name_cmp, same_name, insert_by, Piece, Ground, Mark, Millimetre, expand, course_of, runs_over, meets, is_too_long, IsFilled, is_route_course, have_marks, are_referents, Referent, Place, differs, holds_by_spans, Cause, Image, RouteRow, contains_key, state_of, route_entry, referent_entry, referents_on, holds_on, State, attempt, refuse_at, ◌>>◌, ◌>>=◌, set_route, RouteCourse, is_on_a_link, are_courses, are_spans_of, route_before, IsSound, no_difference, with_difference, IsOrderly, is_run_once}
 use Rattle.lrs_element.specs.Course.{is_at}
 use Rattle.lrs_events_lanes.proofs.Inserted.{length-insert_by}
 use Rattle.lrs_machine.specs.declared.answer.Cause.TheVariants as cause
 use Rattle.lrs_machine.specs.declared.command.Command.TheVariants as verb
-use Rattle.lrs_machine.specs.Bounds.{most_routes}
+use Rattle.lrs_measure.specs.Limits.{most_routes}
 use Rattle.lrs_machine.specs.Machine.{refuse_if, check_pieces, check_free, check_marks, is_taken}
 use Rattle.lrs_machine.specs.Sound.{course_before, is_course, courses_of, RouteMarks, RouteReferents, are_all_referents, referents_of, RouteSpans}
 use Rattle.lrs_machine.proofs.Members.{In, any_of, any_found, all_of, list_any-map}
@@ -34,19 +34,19 @@ use Rattle.lrs_verbs.proofs.Unmoved.{can_differ}
 use Rattle.lrs_inventory.proofs.Grounds.{taken_is}
 
 -- the image with the route
-abbrev pub with_route : RouteEntry → Image → Image
+abbrev pub with_route : RouteRow → Image → Image
 with_route e i = record i { routes = insert_by route_before e i.routes }
 
-pub with_difference-route : (e : RouteEntry) (i : Image) → with_difference (record no_difference { made = Some e }) i ≡ with_route e i
+pub with_difference-route : (e : RouteRow) (i : Image) → with_difference (record no_difference { made = Some e }) i ≡ with_route e i
 with_difference-route e i = λ j. record (with_route e i) { entered = append-nil i.entered j; gone = append-nil i.gone j }
 
 -- ---- names
 
-abbrev pub has_name : Name → RouteEntry → Bool
+abbrev pub has_name : Name → RouteRow → Bool
 has_name name e = same_name e.route.name name
 
-ties : (name : Name) (routes : List RouteEntry) → list_any (λ e. eq_by_cmp name_cmp name e.route.name) routes ≡ list_any (has_name name) routes
-ties name routes = names_tie (λ (e : RouteEntry). e.route.name) name routes
+ties : (name : Name) (routes : List RouteRow) → list_any (λ e. eq_by_cmp name_cmp name e.route.name) routes ≡ list_any (has_name name) routes
+ties name routes = names_tie (λ (e : RouteRow). e.route.name) name routes
 
 pub knows : (name : Name) (i : Image) → contains_key (state_of i).routes name ≡ list_any (has_name name) i.routes
 unfolding state_of
@@ -106,7 +106,7 @@ module _ (name : Name) (pieces : List Piece) (marks : List Mark) (i : Image) (n 
 
 -- ---- the state has the route too
 
-module _ (e : RouteEntry) (i : Image) (fresh : list_any (has_name e.route.name) i.routes ≡ false) (no_refs : e.route.refs ≡ []) (no_spans : e.spans ≡ []) where
+module _ (e : RouteRow) (i : Image) (fresh : list_any (has_name e.route.name) i.routes ≡ false) (no_refs : e.route.refs ≡ []) (no_spans : e.spans ≡ []) where
   nothing_refers : referents_on e ≡ []
   nothing_refers = ap (filter_map (referent_entry e.route.course)) no_refs
 
@@ -123,16 +123,16 @@ module _ (e : RouteEntry) (i : Image) (fresh : list_any (has_name e.route.name) 
 
 -- ---- the image stays in order
 
-abbrev course_entry : RouteEntry → RouteCourse
+abbrev course_entry : RouteRow → RouteCourse
 course_entry e = record { route = e.route.name; entries = e.route.course }
 
-abbrev marks_entry : RouteEntry → RouteMarks
+abbrev marks_entry : RouteRow → RouteMarks
 marks_entry e = record { course = e.route.course; marks = e.route.marks }
 
-abbrev refs_entry : RouteEntry → RouteReferents
+abbrev refs_entry : RouteRow → RouteReferents
 refs_entry e = record { length = length e.route.course; refs = e.route.refs }
 
-abbrev spans_entry : RouteEntry → RouteSpans
+abbrev spans_entry : RouteRow → RouteSpans
 spans_entry e = record { course = e.route.course; rows = e.spans }
 
 abbrev are_free : RouteCourse → RouteCourse → Bool
@@ -146,7 +146,7 @@ nothing_taken i pieces h = by (position (λ p. is_taken (state_of i) (expand p))
     by None e k = e
     by (Some x) e k = absurd (cc k)
 
-module _ (e : RouteEntry) (pieces : List Piece) (i : Image) (fresh : list_any (has_name e.route.name) i.routes ≡ false) (made : IsMade i pieces e.route.course) (free : check_free (state_of i) pieces ≡ Ok tt)
+module _ (e : RouteRow) (pieces : List Piece) (i : Image) (fresh : list_any (has_name e.route.name) i.routes ≡ false) (made : IsMade i pieces e.route.course) (free : check_free (state_of i) pieces ≡ Ok tt)
     (no_refs : e.route.refs ≡ []) (no_spans : e.spans ≡ []) (o : IsOrderly i) where
   abbrev new : Image
   new = with_route e i
@@ -155,7 +155,7 @@ module _ (e : RouteEntry) (pieces : List Piece) (i : Image) (fresh : list_any (h
   fits = and_three (is_route_course e.route.course) (have_marks e.route.course e.route.marks) (are_referents (length e.route.course) e.route.refs) e.route.fits
 
   -- no route meets the new one
-  apart : (f : RouteEntry) → In f i.routes → meets e.route.course f.route.course ≡ false
+  apart : (f : RouteRow) → In f i.routes → meets e.route.course f.route.course ≡ false
   apart f m = ap (λ c. meets c f.route.course) (sym made.course) ∙ apart_from pieces f.route.course (λ p n.
       fails_at (λ g. meets (expand p) g.route.course) f i.routes (sym (taken_is i p) ∙ fails_at (λ q. is_taken (state_of i) (expand q)) p pieces (no_place (λ q. is_taken (state_of i) (expand q)) pieces (nothing_taken i pieces free)) n) m)
 
@@ -201,7 +201,7 @@ module _ (e : RouteEntry) (pieces : List Piece) (i : Image) (fresh : list_any (h
       let once : Referent → Referent → Bool = λ a b. not (same_name a.name b.name) in
       let all : List RouteReferents → List Referent = λ rs. flat_map (λ r. r.refs) rs in
       let same : all (referents_of new) ≡ all (referents_of i) =
-      flat_map-map (λ (r : RouteReferents). r.refs) refs_entry (insert_by route_before e i.routes) ∙ made-insert_by_none (λ (f : RouteEntry). f.route.refs) route_before e i.routes no_refs
+      flat_map-map (λ (r : RouteReferents). r.refs) refs_entry (insert_by route_before e i.routes) ∙ made-insert_by_none (λ (f : RouteRow). f.route.refs) route_before e i.routes no_refs
       ∙ sym (flat_map-map (λ (r : RouteReferents). r.refs) refs_entry i.routes) in
       and_weaker (list_all each (referents_of i)) (each_two once (all (referents_of i))) (list_all each (referents_of new)) (each_two once (all (referents_of new)))
       (all_mapped-insert_by each refs_entry route_before e i.routes fits.2) (λ k. ap (each_two once) same ∙ k) h
@@ -242,11 +242,11 @@ module _ (e : RouteEntry) (pieces : List Piece) (i : Image) (fresh : list_any (h
 
     on_ground : (m : Millimetre) → route_on (insert_by route_before e i.routes) m ≡ ground_after (route_plan e.route.name e own).ground (route_on i.routes) m
     on_ground m =
-        ap (option_map (λ (f : RouteEntry). f.route.name)) (find-insert_by (λ f. runs_over f.route.course m) route_before e i.routes (alone m))
+        ap (option_map (λ (f : RouteRow). f.route.name)) (find-insert_by (λ f. runs_over f.route.course m) route_before e i.routes (alone m))
         ∙ by (runs_over e.route.course m) (list.find (λ f. runs_over f.route.course m) i.routes)
         ∙ ap (λ b. cond (b || false) (Some e.route.name) (route_on i.routes m)) (sym (over m))
       where
-        by : (b : Bool) (f : Option RouteEntry) → option_map (λ (f : RouteEntry). f.route.name) (cond b (Some e) f) ≡ cond (b || false) (Some e.route.name) (option_map (λ (f : RouteEntry). f.route.name) f)
+        by : (b : Bool) (f : Option RouteRow) → option_map (λ (f : RouteRow). f.route.name) (cond b (Some e) f) ≡ cond (b || false) (Some e.route.name) (option_map (λ (f : RouteRow). f.route.name) f)
         by true f = refl
         by false f = refl
 
@@ -261,7 +261,7 @@ module _ (e : RouteEntry) (pieces : List Piece) (i : Image) (fresh : list_any (h
         gone = λ m h. absurd (false≢true h);
         passed = λ m h. absurd (false≢true h);
         apart = λ m h. refl;
-        come = λ m h. ap (option_map (λ (f : RouteEntry). f.route.name)) (none_found (λ f. runs_over f.route.course m) i.routes (alone m (sym (over m) ∙ h)));
+        come = λ m h. ap (option_map (λ (f : RouteRow). f.route.name)) (none_found (λ f. runs_over f.route.course m) i.routes (alone m (sym (over m) ∙ h)));
         once = ap is_run_once of ∙ runs_once;
       };
       referents = λ name. ap (find name_cmp name) (made-insert_by_none referents_on route_before e i.routes (nothing_refers e i fresh no_refs no_spans));
@@ -269,7 +269,7 @@ module _ (e : RouteEntry) (pieces : List Piece) (i : Image) (fresh : list_any (h
     }
 
 -- The verb makes the route, where its name is new, its ground is free and its marks are those of the course.
-module _ (name : Name) (pieces : List Piece) (marks line : List Mark) (course : List Ground) (i : Image) (e : RouteEntry) (fresh : contains_key (state_of i).routes name ≡ false)
+module _ (name : Name) (pieces : List Piece) (marks line : List Mark) (course : List Ground) (i : Image) (e : RouteRow) (fresh : contains_key (state_of i).routes name ≡ false)
     (is : new_course (state_of i) pieces ≡ Ok course) (free : check_free (state_of i) pieces ≡ Ok tt) (marked : new_marks (length course) marks ≡ Ok line) (of : IsEntryOf name course line e) (s : IsSound i) where
   no_such_name : list_any (has_name e.route.name) i.routes ≡ false
   no_such_name = ap (λ n. list_any (has_name n) i.routes) of.name ∙ sym (knows name i) ∙ fresh

@@ -4,10 +4,10 @@ use Rattle.std.specs.List.{find, list_all}
 use Rattle.std.proofs.lemmas.Bool.{not-true, and_parts, or_left, or_right, or_cases, or_parts, ltb-true, ltb-false, lt-ltb, leb-true, le-leb}
 use Rattle.std.specs.Prelude.{◌||◌, ◌&&◌, not, nat_lt, nat_le, nat_eq, slice_range, unwrap_or}
 use Rattle.std.specs.Option.{option_map, ok_or}
-use Rattle.lrs_inventory.specs.Prelude.{each_two, Name, Ground, Piece, Mark, course_of, is_too_long, longest_route, Referent, Alignment, referent_before, Span, are_rows, end_by, Cause, Image, RouteEntry, state_of, route_entry, attempt, ◌>>=◌, ◌>>◌, set_route, is_span, are_spans_of, IsSound, State, is_named}
+use Rattle.lrs_inventory.specs.Prelude.{each_two, Name, Ground, Piece, Mark, course_of, is_too_long, longest_route, Referent, Alignment, referent_before, Span, are_rows, end_by, Cause, Image, RouteRow, state_of, route_entry, attempt, ◌>>=◌, ◌>>◌, set_route, is_span, are_spans_of, IsSound, State, is_named}
 use Rattle.lrs_measure.specs.Lists.{is_nothing}
 use Rattle.lrs_element.specs.Course.{continues, piece_count}
-use Rattle.lrs_element.specs.Limits.{most_pieces}
+use Rattle.lrs_measure.specs.Limits.{most_pieces}
 use Rattle.lrs_events_rows.proofs.Members.{all_at, all_from}
 use Rattle.lrs_events_spans.specs.Realigning.{have_room_behind}
 use Rattle.lrs_machine.specs.declared.answer.Cause.TheVariants as cause
@@ -165,7 +165,7 @@ module _ (old come new : List Ground) (from to : ℕ) (low : from ≤ to) (high 
       le-leb ((r.to - to) + (from + length come)) longest_route (omega (arith, a, b, e, high)))
 
 -- the referents of a route stand before the end of the longest one
-pub in_limits : (r : RouteEntry) → list_all (λ q. nat_lt q.at longest_route) r.route.refs ≡ true
+pub in_limits : (r : RouteRow) → list_all (λ q. nat_lt q.at longest_route) r.route.refs ≡ true
 in_limits r = all_of (λ q. nat_lt q.at longest_route) r.route.refs (λ q m.
     let short = not-true (is_too_long r.route.course) (and_parts (not (is_nothing r.route.course)) (not (is_too_long r.route.course)) (fits r).0).1 in
     let most = ltb-false longest_route (length r.route.course) (or_parts (nat_lt most_pieces (piece_count r.route.course)) (nat_lt longest_route (length r.route.course)) short).1 in
@@ -174,9 +174,9 @@ in_limits r = all_of (λ q. nat_lt q.at longest_route) r.route.refs (λ q m.
     lt-ltb q.at longest_route (omega (arith, most, low)))
 
 -- the rows of a route end on it
-pub end_there : (i : Image) (r : RouteEntry) → IsSound i → members.In r i.routes → end_by (length r.route.course) r.spans ≡ true
+pub end_there : (i : Image) (r : RouteRow) → IsSound i → members.In r i.routes → end_by (length r.route.course) r.spans ≡ true
 end_there i r s m =
-    let spans = members.all_at (λ (e : RouteEntry). are_spans_of i.assets (record { course = e.route.course; rows = e.spans })) r i.routes (old_spans i s) m in
+    let spans = members.all_at (λ (e : RouteRow). are_spans_of i.assets (record { course = e.route.course; rows = e.spans })) r i.routes (old_spans i s) m in
     let each = (and_parts (are_rows r.spans) (list_all (is_span i.assets (length r.route.course)) r.spans) spans).1 in
     all_from (λ q. nat_le q.to (length r.route.course)) r.spans (λ q k. (and_parts (nat_le q.to (length r.route.course)) _ (all_at (is_span i.assets (length r.route.course)) q r.spans each k)).0)
 
@@ -236,14 +236,14 @@ module _ (route : Name) (from to : ℕ) (given : Option (List Piece)) (marks : L
       (λ h. ap (λ b. refuse_if b cause.TooLong >> (refuse_if (is_nothing new) cause.NothingLeft >> (check_marks (length new) marks >> Ok (set_route route new marks (abandon n (slice_range a.course from to) (state_of i))))))
       (still_too_long (take from a.course) (course_of pieces) (drop to a.course) h))
 
-  attempt_is : (o : Option RouteEntry) → find (is_named route) i.routes ≡ o → attempt n (verb.Realign route from to given marks) (state_of i) ≡ (ok_or (option_map (λ e. (route_entry e).1) o) cause.NoRoute >>= then_line)
+  attempt_is : (o : Option RouteRow) → find (is_named route) i.routes ≡ o → attempt n (verb.Realign route from to given marks) (state_of i) ≡ (ok_or (option_map (λ e. (route_entry e).1) o) cause.NoRoute >>= then_line)
   unfolding attempt
-  attempt_is o is = ap (λ g. ok_or g cause.NoRoute >>= does) (route_value i route ∙ ap (option_map (λ (e : RouteEntry). (route_entry e).1)) is) ∙ (λ j. ok_or (option_map (λ (e : RouteEntry). (route_entry e).1) o) cause.NoRoute >>= (λ a. same a j))
+  attempt_is o is = ap (λ g. ok_or g cause.NoRoute >>= does) (route_value i route ∙ ap (option_map (λ (e : RouteRow). (route_entry e).1)) is) ∙ (λ j. ok_or (option_map (λ (e : RouteRow). (route_entry e).1) o) cause.NoRoute >>= (λ a. same a j))
 
   pub refuses_route : find (is_named route) i.routes ≡ None → attempt n (verb.Realign route from to given marks) (state_of i) ≡ Err cause.NoRoute
   refuses_route none = attempt_is None none
 
-  module _ (r : RouteEntry) (found : find (is_named route) i.routes ≡ Some r) where
+  module _ (r : RouteRow) (found : find (is_named route) i.routes ≡ Some r) where
     pub refuses_stretch : (c : Cause) → check_stretch (length r.route.course) from to pieces ≡ Err c → attempt n (verb.Realign route from to given marks) (state_of i) ≡ Err c
     refuses_stretch c bad = attempt_is (Some r) found ∙ ap (λ q. q >> (new_line (state_of i) r.route.course from to pieces marks >>= written (route_entry r).1)) bad
 

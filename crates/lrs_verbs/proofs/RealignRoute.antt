@@ -6,7 +6,7 @@ use Rattle.std.proofs.lemmas.List.Folds.{list_any-append}
 use Rattle.std.specs.Prelude.{◌||◌, ◌&&◌, not, is_some, nat_lt, slice_get, slice_range, unwrap_or}
 use Rattle.std.specs.Option.{option_map, option_or}
 use Rattle.std.specs.Cmp.Lexicographic.{bytes_decides}
-use Rattle.lrs_inventory.specs.Prelude.{each_two, Name, same_name, Ground, Piece, Mark, Millimetre, course_of, expand, runs_over, meets, is_run_once, Referent, is_route, is_route_course, have_marks, are_referents, referent_before, differs, is_within, Image, RouteEntry, state_of, referent_entry, referents_on, set_route, are_spans_of, route_before, IsSound, State, Makes, RouteChange, Difference, is_named, changed_refs, fits_after, route_after, entry_after, with_difference, CanDiffer, are_names_of, rerouting}
+use Rattle.lrs_inventory.specs.Prelude.{each_two, Name, same_name, Ground, Piece, Mark, Millimetre, course_of, expand, runs_over, meets, is_run_once, Referent, is_route, is_route_course, have_marks, are_referents, referent_before, differs, is_within, Image, RouteRow, state_of, referent_entry, referents_on, set_route, are_spans_of, route_before, IsSound, State, Makes, RouteChange, Difference, is_named, changed_refs, fits_after, route_after, entry_after, with_difference, CanDiffer, are_names_of, rerouting}
 use Rattle.lrs_element.specs.Course.{is_at}
 use Rattle.lrs_position_index.proofs.Pieces.{across, behind}
 use Rattle.lrs_events_spans.specs.Realigning.{IsRealigned}
@@ -48,7 +48,7 @@ use Rattle.lrs_verbs.proofs.RealignChecks.{IsLine, line_is, lies, free_is, write
 use Rattle.lrs_verbs.proofs.Going.{names_kept}
 use Rattle.lrs_image_laws.specs.Splitting.{is_ahead}
 
-module _ (route : Name) (from to : ℕ) (given : Option (List Piece)) (marks : List Mark) (i : Image) (r : RouteEntry) (l : NewLine) (h : Realigned) (s : IsSound i) (found : find (is_named route) i.routes ≡ Some r)
+module _ (route : Name) (from to : ℕ) (given : Option (List Piece)) (marks : List Mark) (i : Image) (r : RouteRow) (l : NewLine) (h : Realigned) (s : IsSound i) (found : find (is_named route) i.routes ≡ Some r)
     (good : check_stretch (length r.route.course) from to (unwrap_or given []) ≡ Ok tt) (made : new_line (state_of i) r.route.course from to (unwrap_or given []) marks ≡ Ok l) (is : IsOnNewLine (length i.edits + 1) r from to l h) where
   abbrev n : ℕ
   n = length i.edits + 1
@@ -71,7 +71,7 @@ module _ (route : Name) (from to : ℕ) (given : Option (List Piece)) (marks : L
   abbrev c : RouteChange
   c = h.change
 
-  abbrev w : RouteEntry
+  abbrev w : RouteRow
   w = entry_after c r
 
   abbrev d : Difference
@@ -95,7 +95,7 @@ module _ (route : Name) (from to : ℕ) (given : Option (List Piece)) (marks : L
   whole : IsMade i pieces l.come
   whole = made_of i pieces l.come (free_is (state_of i) pieces l.come line.ground).0
 
-  free : (e : RouteEntry) → In e i.routes → meets come e.route.course ≡ false
+  free : (e : RouteRow) → In e i.routes → meets come e.route.course ≡ false
   free e m = apart_from pieces e.route.course (λ p k.
       fails_at (λ g. meets (expand p) g.route.course) e i.routes
       (sym (taken_is i p) ∙ fails_at (λ q. is_taken (state_of i) (expand q)) p pieces (no_place (λ q. is_taken (state_of i) (expand q)) pieces (nothing_taken i pieces (free_is (state_of i) pieces l.come line.ground).1)) k) m)
@@ -157,7 +157,7 @@ module _ (route : Name) (from to : ℕ) (given : Option (List Piece)) (marks : L
     refs_of = λ q m. moved.refs_of r from to (length come) (length new) low high size_is q (subst (In q) refs_now m);
     refs_are = λ x m off. subst (In (Rattle.lrs_image_laws.specs.Realigning.moved from to (length come) x)) (sym refs_now) (moved.refs_are r from to (length come) (length new) low high size_is x m off);
     spans = ap (λ g. are_spans_of i.assets (record { course = g; rows = w.spans })) course_now
-        ∙ realigned_has_rows i.assets old come from to r.spans w.spans low high is.rows rows_now (all_at (λ (e : RouteEntry). are_spans_of i.assets (record { course = e.route.course; rows = e.spans })) r i.routes (old_spans i s) there);
+        ∙ realigned_has_rows i.assets old come from to r.spans w.spans low high is.rows rows_now (all_at (λ (e : RouteRow). are_spans_of i.assets (record { course = e.route.course; rows = e.spans })) r i.routes (old_spans i s) there);
     realigned = rows_now;
     done = (λ j. do_realign n (own_name j) (record { from = from; to = to }) pieces marks (state_of i)) ∙ done ∙ (λ j. Ok (set_route (sym own_name j) (new_is j) (sym marked j) (abandon n stretch (state_of i))));
   }
@@ -188,7 +188,7 @@ module _ (route : Name) (from to : ℕ) (given : Option (List Piece)) (marks : L
 
   differs_so : CanDiffer d i
   differs_so = record {
-    route = record { entry = r; found = found_by; becomes = record { fits = stays_fit; rows = is.rows; gone = is.spans_gone; there = is.spans_there; named = ap (λ (refs : ReferentChange). are_names_of r refs.gone) is.refs ∙ names_kept (λ q. not (is_ahead from q)) r.route.refs } };
+    route = record { row = r; found = found_by; becomes = record { fits = stays_fit; rows = is.rows; gone = is.spans_gone; there = is.spans_there; named = ap (λ (refs : ReferentChange). are_names_of r refs.gone) is.refs ∙ names_kept (λ q. not (is_ahead from q)) r.route.refs } };
     apart = tt;
     names = ap (each_two route_before) (difference_rewrites (rerouting (Some c) None None) i s none_drops ∙ (λ j. rewritten (is.route j ∷ []) (cons_option (option_map (entry_after c) (found_by j)) []) i.routes))
         ∙ new_order i dropped (w ∷ []) s fits_in;
@@ -215,7 +215,7 @@ module _ (route : Name) (from to : ℕ) (given : Option (List Piece)) (marks : L
   stretch_runs m on = old_runs m ∙ or_right (runs_over before m) (runs_over stretch m || runs_over after m) (or_left (runs_over stretch m) (runs_over after m) on)
 
   none_there : (m : Millimetre) → runs_over come m ≡ true → route_on i.routes m ≡ None
-  none_there m on = ap (option_map (λ (e : RouteEntry). e.route.name)) (none_found (λ e. runs_over e.route.course m) i.routes (is_false (list_any (λ e. runs_over e.route.course m) i.routes) (λ t.
+  none_there m on = ap (option_map (λ (e : RouteRow). e.route.name)) (none_found (λ e. runs_over e.route.course m) i.routes (is_false (list_any (λ e. runs_over e.route.course m) i.routes) (λ t.
       let e = any_found (λ e. runs_over e.route.course m) i.routes t in
       both_ways (meets come e.0.route.course) (free e.0 e.1) (meet_at come e.0.route.course m on e.2))))
 
@@ -225,7 +225,7 @@ module _ (route : Name) (from to : ℕ) (given : Option (List Piece)) (marks : L
       ∙ (λ j. option_or (runs_on (w ∷ []) m) (cond (list_any (is_run_by m) (only_one r i.routes (routes_in_order i s) there j)) None (route_on i.routes m)))
       ∙ by (cases_Bool (runs_over come m)) (cases_Bool (runs_over before m)) (cases_Bool (runs_over after m)) (cases_Bool (runs_over stretch m))
     where
-      named : RouteEntry → Name
+      named : RouteRow → Name
       named e = e.route.name
 
       its_name : w.route.name ≡ route

@@ -3,7 +3,7 @@ use Rattle.std.proofs.Common.{◌≡◌, ℕ, true, List, length, Option, Some, 
 use Rattle.std.specs.Prelude.{is_none}
 use Rattle.std.specs.List.{find}
 use Rattle.std.specs.Option.{option_map, ok_or}
-use Rattle.lrs_inventory.specs.Prelude.{Name, Mark, Alignment, Cause, Image, RouteEntry, state_of, route_entry, State, attempt, ◌>>◌, ◌>>=◌, set_route, IsSound, Makes, RouteChange, is_named}
+use Rattle.lrs_inventory.specs.Prelude.{Name, Mark, Alignment, Cause, Image, RouteRow, state_of, route_entry, State, attempt, ◌>>◌, ◌>>=◌, set_route, IsSound, Makes, RouteChange, is_named}
 use Rattle.lrs_element.specs.Marks.{bad_mark}
 use Rattle.lrs_machine.specs.declared.answer.Cause.TheVariants as cause
 use Rattle.lrs_machine.specs.declared.command.Command.TheVariants as verb
@@ -24,14 +24,14 @@ module _ (route : Name) (marks : List Mark) (i : Image) (n : ℕ) where
   abbrev then_marks : Alignment → Result State Cause
   then_marks a = check_marks (length a.course) marks >> Ok (set_route route a.course marks (state_of i))
 
-  attempt_is : (o : Option RouteEntry) → find (is_named route) i.routes ≡ o → attempt n (verb.Recalibrate route marks) (state_of i) ≡ (ok_or (option_map (λ e. (route_entry e).1) o) cause.NoRoute >>= then_marks)
+  attempt_is : (o : Option RouteRow) → find (is_named route) i.routes ≡ o → attempt n (verb.Recalibrate route marks) (state_of i) ≡ (ok_or (option_map (λ e. (route_entry e).1) o) cause.NoRoute >>= then_marks)
   unfolding attempt
-  attempt_is o is = ap (λ g. ok_or g cause.NoRoute >>= then_marks) (route_value i route ∙ ap (option_map (λ (e : RouteEntry). (route_entry e).1)) is)
+  attempt_is o is = ap (λ g. ok_or g cause.NoRoute >>= then_marks) (route_value i route ∙ ap (option_map (λ (e : RouteRow). (route_entry e).1)) is)
 
   pub refuses_route : find (is_named route) i.routes ≡ None → attempt n (verb.Recalibrate route marks) (state_of i) ≡ Err cause.NoRoute
   refuses_route none = attempt_is None none
 
-  pub refuses_marks : (r : RouteEntry) → find (is_named route) i.routes ≡ Some r → (c : Cause) → new_marks (length r.route.course) marks ≡ Err c → attempt n (verb.Recalibrate route marks) (state_of i) ≡ Err c
+  pub refuses_marks : (r : RouteRow) → find (is_named route) i.routes ≡ Some r → (c : Cause) → new_marks (length r.route.course) marks ≡ Err c → attempt n (verb.Recalibrate route marks) (state_of i) ≡ Err c
   refuses_marks r found c bad = attempt_is (Some r) found ∙ by (check_marks (length r.route.course) marks) (set_route route r.route.course marks (state_of i)) bad
     where
       by : (x : Result (Unit {0}) Cause) (t : State) → ◌≡◌ {A = Result (List Mark) Cause} (x >> Ok marks) (Err c) → (x >> Ok t) ≡ Err c
@@ -39,14 +39,14 @@ module _ (route : Name) (marks : List Mark) (i : Image) (n : ℕ) where
       by (Err d) t h = let same : d ≡ c = cc h in ap Err same
 
 -- ---- The plan of the verb, where the marks are those of the route's course.
-module _ (route : Name) (marks line : List Mark) (i : Image) (r : RouteEntry) (s : IsSound i) (found : find (is_named route) i.routes ≡ Some r) (marked : new_marks (length r.route.course) marks ≡ Ok line) where
+module _ (route : Name) (marks line : List Mark) (i : Image) (r : RouteRow) (s : IsSound i) (found : find (is_named route) i.routes ≡ Some r) (marked : new_marks (length r.route.course) marks ≡ Ok line) where
   good : is_none (bad_mark (length r.route.course) line) ≡ true
   good = ap is_none (good_line (length r.route.course) marks line marked)
 
   abbrev change : RouteChange
   change = relabelled route route (Some line)
 
-  abbrev w : RouteEntry
+  abbrev w : RouteRow
   w = after route route (Some line) i r s found good
 
   its_name : w.route.name ≡ r.route.name

@@ -4,7 +4,7 @@ use Rattle.std.specs.Prelude.{is_none, is_some}
 use Rattle.std.specs.List.{find, list_any, AllByRecursion}
 use Rattle.std.proofs.lemmas.Bool.{false≢true}
 use Rattle.std.specs.Option.{option_map, ok_or}
-use Rattle.lrs_inventory.specs.Prelude.{Name, same_name, Piece, course_of, runs_over, IsFilled, Alignment, Cause, Image, RouteEntry, state_of, route_entry, State, attempt, ◌>>◌, ◌>>=◌, set_route, contains_key, IsSound, Makes, RouteChange, is_named}
+use Rattle.lrs_inventory.specs.Prelude.{Name, same_name, Piece, course_of, runs_over, IsFilled, Alignment, Cause, Image, RouteRow, state_of, route_entry, State, attempt, ◌>>◌, ◌>>=◌, set_route, contains_key, IsSound, Makes, RouteChange, is_named}
 use Rattle.lrs_element.specs.Marks.{bad_mark}
 use Rattle.lrs_machine.specs.declared.answer.Cause.TheVariants as cause
 use Rattle.lrs_machine.specs.declared.command.Command.TheVariants as verb
@@ -29,25 +29,25 @@ module _ (route name : Name) (i : Image) (n : ℕ) where
   abbrev then_name : Alignment → Result State Cause
   then_name a = refuse_if (contains_key (state_of i).routes name) cause.RouteKnown >> Ok (set_route name a.course a.marks (drop_route route (state_of i)))
 
-  attempt_is : (o : Option RouteEntry) → find (is_named route) i.routes ≡ o → attempt n (verb.Renumber route name) (state_of i) ≡ (ok_or (option_map (λ e. (route_entry e).1) o) cause.NoRoute >>= then_name)
+  attempt_is : (o : Option RouteRow) → find (is_named route) i.routes ≡ o → attempt n (verb.Renumber route name) (state_of i) ≡ (ok_or (option_map (λ e. (route_entry e).1) o) cause.NoRoute >>= then_name)
   unfolding attempt
-  attempt_is o is = ap (λ g. ok_or g cause.NoRoute >>= then_name) (route_value i route ∙ ap (option_map (λ (e : RouteEntry). (route_entry e).1)) is)
+  attempt_is o is = ap (λ g. ok_or g cause.NoRoute >>= then_name) (route_value i route ∙ ap (option_map (λ (e : RouteRow). (route_entry e).1)) is)
 
   pub refuses_route : find (is_named route) i.routes ≡ None → attempt n (verb.Renumber route name) (state_of i) ≡ Err cause.NoRoute
   refuses_route none = attempt_is None none
 
-  pub refuses_known : (r : RouteEntry) → find (is_named route) i.routes ≡ Some r → contains_key (state_of i).routes name ≡ true → attempt n (verb.Renumber route name) (state_of i) ≡ Err cause.RouteKnown
+  pub refuses_known : (r : RouteRow) → find (is_named route) i.routes ≡ Some r → contains_key (state_of i).routes name ≡ true → attempt n (verb.Renumber route name) (state_of i) ≡ Err cause.RouteKnown
   refuses_known r found known = attempt_is (Some r) found ∙ ap (λ b. refuse_if b cause.RouteKnown >> Ok (set_route name r.route.course r.route.marks (drop_route route (state_of i)))) known
 
 -- ---- The plan of the verb, where the name is new.
-module _ (route name : Name) (i : Image) (r : RouteEntry) (s : IsSound i) (found : find (is_named route) i.routes ≡ Some r) (fresh : contains_key (state_of i).routes name ≡ false) where
+module _ (route name : Name) (i : Image) (r : RouteRow) (s : IsSound i) (found : find (is_named route) i.routes ≡ Some r) (fresh : contains_key (state_of i).routes name ≡ false) where
   good : is_none (bad_mark (length r.route.course) r.route.marks) ≡ true
   good = (fits r).1
 
   abbrev change : RouteChange
   change = relabelled route name None
 
-  abbrev w : RouteEntry
+  abbrev w : RouteRow
   w = after route name None i r s found good
 
   its_name : w.route.name ≡ name
@@ -68,7 +68,7 @@ module _ (route name : Name) (i : Image) (r : RouteEntry) (s : IsSound i) (found
   same_there : IsAlike i r w
   same_there = alike i r w s there still
 
-  own : (e : RouteEntry) → In e i.routes → same_name w.route.name e.route.name ≡ true → same_name e.route.name r.route.name ≡ true
+  own : (e : RouteRow) → In e i.routes → same_name w.route.name e.route.name ≡ true → same_name e.route.name r.route.name ≡ true
   own = own_if_new i r w s there still its_marks no_such
 
   made : Makes (verb.Renumber route name) i (new change i r s found)

@@ -3,7 +3,7 @@ use Rattle.std.proofs.Common.{◌≡◌, true, List, [], ◌∷◌, filter, Opti
 use Rattle.std.specs.List.{find, list_all}
 use Rattle.std.proofs.lemmas.Bool.{and_from, and_parts}
 use Rattle.std.specs.Prelude.{◌&&◌, length, unwrap_or}
-use Rattle.lrs_inventory.specs.Prelude.{Name, Mark, is_route, is_route_course, have_marks, are_referents, are_rows, Image, RouteEntry, is_span, are_spans_of, IsSound, RouteChange, is_named, changed_refs, fits_after, route_after, spans_after, entry_after}
+use Rattle.lrs_inventory.specs.Prelude.{Name, Mark, is_route, is_route_course, have_marks, are_referents, are_rows, Image, RouteRow, is_span, are_spans_of, IsSound, RouteChange, is_named, changed_refs, fits_after, route_after, spans_after, entry_after}
 use Rattle.lrs_machine.proofs.Members.{all_at}
 use Rattle.lrs_image_sound.proofs.Fitting.{fits}
 use Rattle.lrs_image.specs.Change.{CanBecome}
@@ -22,11 +22,11 @@ all_stay (x ∷ xs) = ap (λ t. x ∷ t) (all_stay xs)
 abbrev pub relabelled : Name → Name → Option (List Mark) → RouteChange
 relabelled route name marks = record (no_change route) { name = name; marks = marks }
 
-module _ (route name : Name) (marks : Option (List Mark)) (i : Image) (r : RouteEntry) (s : IsSound i) (found : find (is_named route) i.routes ≡ Some r) (good : have_marks r.route.course (unwrap_or marks r.route.marks) ≡ true) where
+module _ (route name : Name) (marks : Option (List Mark)) (i : Image) (r : RouteRow) (s : IsSound i) (found : find (is_named route) i.routes ≡ Some r) (good : have_marks r.route.course (unwrap_or marks r.route.marks) ≡ true) where
   abbrev pub c : RouteChange
   c = relabelled route name marks
 
-  abbrev pub after : RouteEntry
+  abbrev pub after : RouteRow
   after = entry_after c r
 
   same_refs : changed_refs c.refs r.route.refs ≡ r.route.refs
@@ -57,4 +57,4 @@ module _ (route name : Name) (marks : Option (List Mark)) (i : Image) (r : Route
   can_become = record { fits = stays_fit; rows = ap are_rows same_spans ∙ its_rows; gone = refl; there = refl; named = refl }
     where
       its_rows : are_rows r.spans ≡ true
-      its_rows = (and_parts (are_rows r.spans) (list_all (is_span i.assets (length r.route.course)) r.spans) (all_at (λ (e : RouteEntry). are_spans_of i.assets (record { course = e.route.course; rows = e.spans })) r i.routes (old_spans i s) (at c i r s found))).0
+      its_rows = (and_parts (are_rows r.spans) (list_all (is_span i.assets (length r.route.course)) r.spans) (all_at (λ (e : RouteRow). are_spans_of i.assets (record { course = e.route.course; rows = e.spans })) r i.routes (old_spans i s) (at c i r s found))).0

@@ -6,7 +6,7 @@ use Rattle.std.proofs.lemmas.Bool.{false≢true, and_parts, and_from, cases_Bool
 use Rattle.std.specs.Prelude.{◌&&◌, not, nat_eq, nat_le, nat_lt, slice_get}
 use Rattle.std.specs.List.{list_any}
 use Rattle.std.specs.Cmp.Lexicographic.{bytes_decides}
-use Rattle.lrs_inventory.specs.Prelude.{same_name, Ground, Asset, B, Span, Place, places_on, holds_by_spans, Removal, is_within, IsRemoval, Image, RouteEntry, state_of, asset_entry, holds_on, Extent, part_of, IsSound}
+use Rattle.lrs_inventory.specs.Prelude.{same_name, Ground, Asset, B, Span, Place, places_on, holds_by_spans, Removal, is_within, IsRemoval, Image, RouteRow, state_of, asset_entry, holds_on, Extent, part_of, IsSound}
 use Rattle.lrs_measure.specs.Lists.{is_nothing}
 use Rattle.lrs_element.specs.Course.{is_at}
 use Rattle.lrs_events.specs.declared.side.LinkSide.{LinkSide}
@@ -28,7 +28,7 @@ use Rattle.lrs_image_laws.proofs.FromReferents.{ground_there}
 use Rattle.lrs_image_laws.proofs.Holding.{alone, rows_held_at}
 use Rattle.lrs_verbs.proofs.TakenInPlace.{IsTakenSo, among_at, on_both_sides, on_stretch, handed_back}
 
-module _ (i : Image) (r : RouteEntry) (asset : Asset) (x : Extent) (s : IsSound i) (m : In r i.routes) (known : get (state_of i).assets asset.number ≡ Some (asset_entry asset).1) where
+module _ (i : Image) (r : RouteRow) (asset : Asset) (x : Extent) (s : IsSound i) (m : In r i.routes) (known : get (state_of i).assets asset.number ≡ Some (asset_entry asset).1) where
   abbrev c : List Ground
   c = r.route.course
 

@@ -3,7 +3,7 @@ use Rattle.std.proofs.Common.{◌≡◌, ℕ, ◌+◌, ◌≤◌, Bool, true, fa
 use Rattle.std.specs.List.{find, list_any}
 use Rattle.std.specs.Option.{option_and_then, option_map}
 use Rattle.std.specs.Prelude.{◌||◌, not}
-use Rattle.lrs_inventory.specs.Prelude.{Name, alignment_of, Asset, Kind, B, places_on, Removal, IsRemoval, IsPlan, Cause, Image, RouteEntry, state_of, asset_entry, route_entry, ◌>>◌, Extent, part_of, extent_of, attempt, IsSound, Retired, is_named}
+use Rattle.lrs_inventory.specs.Prelude.{Name, alignment_of, Asset, Kind, B, places_on, Removal, IsRemoval, IsPlan, Cause, Image, RouteRow, state_of, asset_entry, route_entry, ◌>>◌, Extent, part_of, extent_of, attempt, IsSound, Retired, is_named}
 use Rattle.lrs_measure.specs.Lists.{is_nothing}
 use Rattle.lrs_position.specs.Expressions.{Ends}
 use Rattle.lrs_machine.specs.declared.answer.Cause.TheVariants as cause
@@ -54,11 +54,11 @@ module _ (i : Image) (asset : ℕ) where
     refuses_class = checks.refuses_asset asset route ends (length i.edits + 1) (state_of i)
 
     pub refuses_route : (kind : Kind) → kind_of_asset (state_of i) asset ≡ Some kind → find (is_named route) i.routes ≡ None → attempt (length i.edits + 1) (verb.Retire asset route ends) (state_of i) ≡ Err cause.NoRoute
-    refuses_route kind known none = checks.refuses_route asset route ends (length i.edits + 1) (state_of i) kind known (route_value i route ∙ ap (option_map (λ (e : RouteEntry). (route_entry e).1)) none)
+    refuses_route kind known none = checks.refuses_route asset route ends (length i.edits + 1) (state_of i) kind known (route_value i route ∙ ap (option_map (λ (e : RouteRow). (route_entry e).1)) none)
 
 -- ---- the plan
 
-module _ (i : Image) (r : RouteEntry) (asset : Asset) (kind : Kind) (ends : Ends) (s : IsSound i) (has : HasAsset i asset kind r) where
+module _ (i : Image) (r : RouteRow) (asset : Asset) (kind : Kind) (ends : Ends) (s : IsSound i) (has : HasAsset i asset kind r) where
   abbrev n : ℕ
   n = length i.edits + 1
 
@@ -66,7 +66,7 @@ module _ (i : Image) (r : RouteEntry) (asset : Asset) (kind : Kind) (ends : Ends
   kind_is = its_kind i asset.number asset refl has.known ∙ has.class
 
   there : get (state_of i).routes r.route.name ≡ Some (alignment_of r.route)
-  there = route_value i r.route.name ∙ ap (option_map (λ (e : RouteEntry). (route_entry e).1)) has.route
+  there = route_value i r.route.name ∙ ap (option_map (λ (e : RouteRow). (route_entry e).1)) has.route
 
   pub refuses_kind : is_wrong_kind kind ends.to ≡ true → attempt n (verb.Retire asset.number r.route.name ends) (state_of i) ≡ Err cause.WrongKind
   refuses_kind = checks.refuses_kind asset.number r.route.name ends n (state_of i) kind kind_is (alignment_of r.route) there

@@ -6,7 +6,7 @@ use Rattle.std.proofs.lemmas.Bool.{and_parts, and_from}
 use Rattle.std.proofs.lemmas.List.{append-nil}
 use Rattle.std.proofs.lemmas.List.Folds.{list_all-map, flat_map-map}
 use Rattle.std.specs.Option.{option_map}
-use Rattle.lrs_inventory.specs.Prelude.{each_two, Name, name_cmp, insert_by, Millimetre, is_route, is_route_course, have_marks, are_referents, Place, are_rows, holds_by_spans, Command, Image, RouteEntry, state_of, route_entry, referents_on, holds_on, attempt, are_courses, are_spans_of, is_span, route_before, IsSound, RouteChange, changed_refs, entry_after, is_named, without, with_difference, CanDiffer, are_names_of, IsOrderly}
+use Rattle.lrs_inventory.specs.Prelude.{each_two, Name, name_cmp, insert_by, Millimetre, is_route, is_route_course, have_marks, are_referents, Place, are_rows, holds_by_spans, Command, Image, RouteRow, state_of, route_entry, referents_on, holds_on, attempt, are_courses, are_spans_of, is_span, route_before, IsSound, RouteChange, changed_refs, entry_after, is_named, without, with_difference, CanDiffer, are_names_of, IsOrderly}
 use Rattle.lrs_measure.specs.Ordered.{insert_some}
 use Rattle.lrs_machine.specs.Sound.{RouteReferents, RouteSpans, are_all_marks, are_all_referents, referents_of, spans_of}
 use Rattle.lrs_machine.proofs.Members.{In, In-map, all_at}
@@ -24,15 +24,15 @@ use Rattle.lrs_verbs.specs.RouteReferents.{change_of_referents, difference_of_re
 use Rattle.lrs_image_laws.proofs.FromReferents.{other_names, refs_of}
 use Rattle.lrs_verbs.proofs.InPlace.{DifferAt, found_by_name, in_place, map_same, any_same, all_still, names_stay, ground_stays}
 
-some_is : (a b : RouteEntry) → Some a ≡ Some b → a ≡ b
+some_is : (a b : RouteRow) → Some a ≡ Some b → a ≡ b
 some_is a b h = cc
 
-module _ (i : Image) (r : RouteEntry) (c : ReferentChange) (s : IsSound i) (m : In r i.routes) (fits : is_route r.route.course r.route.marks (changed_refs c r.route.refs) ≡ true) where
+module _ (i : Image) (r : RouteRow) (c : ReferentChange) (s : IsSound i) (m : In r i.routes) (fits : is_route r.route.course r.route.marks (changed_refs c r.route.refs) ≡ true) where
   abbrev change : RouteChange
   change = change_of_referents r.route.name c
 
   -- the route after the change
-  abbrev pub new : RouteEntry
+  abbrev pub new : RouteRow
   new = entry_after change r
 
   pub became : HasBecome change r.route new.route
@@ -48,7 +48,7 @@ module _ (i : Image) (r : RouteEntry) (c : ReferentChange) (s : IsSound i) (m : 
   found_there = found_by_name r i.routes order m
 
   -- the routes after the change
-  abbrev pub after : List RouteEntry
+  abbrev pub after : List RouteRow
   after = insert_by route_before new (without r.route.name i.routes)
 
   pub in_its_place : DifferAt r new i.routes after
@@ -85,7 +85,7 @@ module _ (i : Image) (r : RouteEntry) (c : ReferentChange) (s : IsSound i) (m : 
   own_refs : are_referents (length r.route.course) (changed_refs c r.route.refs) ≡ true
   own_refs = (and_three (is_route_course r.route.course) (have_marks r.route.course r.route.marks) (are_referents (length r.route.course) (changed_refs c r.route.refs)) fits).2
 
-  abbrev refs_entry : RouteEntry → RouteReferents
+  abbrev refs_entry : RouteRow → RouteReferents
   refs_entry e = record { length = length e.route.course; refs = e.route.refs }
 
   abbrev are_fitting : RouteReferents → Bool
@@ -123,7 +123,7 @@ module _ (i : Image) (r : RouteEntry) (c : ReferentChange) (s : IsSound i) (m : 
 
   own_rows : are_rows r.spans ≡ true
   own_rows =
-      let entry : RouteEntry → RouteSpans = λ e. record { course = e.route.course; rows = e.spans } in
+      let entry : RouteRow → RouteSpans = λ e. record { course = e.route.course; rows = e.spans } in
       (and_parts (are_rows r.spans) (list_all (is_span i.assets (length r.route.course)) r.spans)
       (all_at (are_spans_of i.assets) (entry r) (spans_of i) (sound_is_orderly i s).spans (In-map entry r i.routes m))).0
 
@@ -135,7 +135,7 @@ module _ (i : Image) (r : RouteEntry) (c : ReferentChange) (s : IsSound i) (m : 
 
   can_differ : are_names_of r c.gone ≡ true → CanDiffer (difference_of_referents r.route.name c) i
   can_differ own = record {
-    route = record { entry = r; found = found_there; becomes = can_become own };
+    route = record { row = r; found = found_there; becomes = can_become own };
     apart = tt;
     names = ap (λ o. each_two route_before (insert_some route_before (option_map (entry_after change) o) (without r.route.name i.routes))) found_there ∙ names_in_order;
   }

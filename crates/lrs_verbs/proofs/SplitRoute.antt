@@ -7,7 +7,7 @@ use Rattle.std.proofs.lemmas.List.Folds.{list_any-append}
 use Rattle.std.specs.Prelude.{◌&&◌, not, is_some, nat_lt, nat_eq, unwrap_or}
 use Rattle.std.specs.Option.{option_map, ok_or}
 use Rattle.std.specs.Cmp.Lexicographic.{bytes_decides}
-use Rattle.lrs_inventory.specs.Prelude.{each_two, Name, same_name, Piece, Mark, Millimetre, course_of, runs_over, is_too_long, IsFilled, Referent, Alignment, is_route, Cause, Image, RouteEntry, state_of, route_entry, State, attempt, ◌>>◌, ◌>>=◌, set_route, contains_key, are_spans_of, route_before, IsSound, Makes, RouteChange, Difference, is_named, changed_refs, fits_after, route_after, entry_after, with_difference, CanDiffer, are_names_of, rerouting}
+use Rattle.lrs_inventory.specs.Prelude.{each_two, Name, same_name, Piece, Mark, Millimetre, course_of, runs_over, is_too_long, IsFilled, Referent, Alignment, is_route, Cause, Image, RouteRow, state_of, route_entry, State, attempt, ◌>>◌, ◌>>=◌, set_route, contains_key, are_spans_of, route_before, IsSound, Makes, RouteChange, Difference, is_named, changed_refs, fits_after, route_after, entry_after, with_difference, CanDiffer, are_names_of, rerouting}
 use Rattle.lrs_element.specs.Course.{is_at}
 use Rattle.lrs_element.specs.Marks.{is_inner_mark, marks_to, marks_from}
 use Rattle.lrs_element.proofs.LineLemmas.{KeepRules-from_none, ends_at}
@@ -40,7 +40,7 @@ use Rattle.lrs_verbs.proofs.Going.{names_kept}
 -- ---- what the verb does
 
 -- inside the course of a route a mark is an inner one
-pub inside_is_inner : (r : RouteEntry) (at : ℕ) → is_inside (length r.route.course) r.route.marks at ≡ is_inner_mark r.route.marks at
+pub inside_is_inner : (r : RouteRow) (at : ℕ) → is_inside (length r.route.course) r.route.marks at ≡ is_inner_mark r.route.marks at
 inside_is_inner r at =
     ap (λ n. nat_lt 0 at && nat_lt at n && list_any (λ (m : Mark). nat_eq m.chainage at) r.route.marks) (sym (ends_at (length r.route.course) r.route.marks (KeepRules-from_none (length r.route.course) r.route.marks (fits r).1)))
 
@@ -51,14 +51,14 @@ module _ (route name : Name) (at : ℕ) (i : Image) (n : ℕ) where
   abbrev then_name : Alignment → Result State Cause
   then_name a = refuse_if (contains_key (state_of i).routes name) cause.RouteKnown >> then_mark a
 
-  attempt_is : (o : Option RouteEntry) → find (is_named route) i.routes ≡ o → attempt n (verb.Split route at name) (state_of i) ≡ (ok_or (option_map (λ e. (route_entry e).1) o) cause.NoRoute >>= then_name)
+  attempt_is : (o : Option RouteRow) → find (is_named route) i.routes ≡ o → attempt n (verb.Split route at name) (state_of i) ≡ (ok_or (option_map (λ e. (route_entry e).1) o) cause.NoRoute >>= then_name)
   unfolding attempt
-  attempt_is o is = ap (λ g. ok_or g cause.NoRoute >>= then_name) (route_value i route ∙ ap (option_map (λ (e : RouteEntry). (route_entry e).1)) is)
+  attempt_is o is = ap (λ g. ok_or g cause.NoRoute >>= then_name) (route_value i route ∙ ap (option_map (λ (e : RouteRow). (route_entry e).1)) is)
 
   pub refuses_route : find (is_named route) i.routes ≡ None → attempt n (verb.Split route at name) (state_of i) ≡ Err cause.NoRoute
   refuses_route none = attempt_is None none
 
-  module _ (r : RouteEntry) (found : find (is_named route) i.routes ≡ Some r) where
+  module _ (r : RouteRow) (found : find (is_named route) i.routes ≡ Some r) where
     pub refuses_known : contains_key (state_of i).routes name ≡ true → attempt n (verb.Split route at name) (state_of i) ≡ Err cause.RouteKnown
     refuses_known known = attempt_is (Some r) found ∙ ap (λ b. refuse_if b cause.RouteKnown >> then_mark (route_entry r).1) known
 
@@ -74,7 +74,7 @@ pub filter_alike : {X : Type 0} (p q : X → Bool) (xs : List X) → ((x : X) �
 filter_alike p q [] same = refl
 filter_alike p q (x ∷ xs) same = λ j. cond (same x (inl refl) j) (x ∷ filter_alike p q xs (λ y m. same y (inr m)) j) (filter_alike p q xs (λ y m. same y (inr m)) j)
 
-module _ (r : RouteEntry) (at : ℕ) where
+module _ (r : RouteRow) (at : ℕ) where
   abbrev named : Referent → Name
   named q = q.name
 
@@ -105,12 +105,12 @@ module _ (r : RouteEntry) (at : ℕ) where
           absurd (both_ways (is_ahead at x.0) (not-true (is_ahead at x.0) k.1) (ap (is_ahead at) (sym (one x.0 k.0 (ap (same_name q.name) (sym x.2) ∙ n.2))) ∙ a))
 
 -- ---- The plan of the verb, where the name is new and the mark an inner one.
-module _ (route name : Name) (at : ℕ) (i : Image) (r : RouteEntry) (h : Halves) (s : IsSound i) (found : find (is_named route) i.routes ≡ Some r) (fresh : contains_key (state_of i).routes name ≡ false)
+module _ (route name : Name) (at : ℕ) (i : Image) (r : RouteRow) (h : Halves) (s : IsSound i) (found : find (is_named route) i.routes ≡ Some r) (fresh : contains_key (state_of i).routes name ≡ false)
     (inside : is_inside (length r.route.course) r.route.marks at ≡ true) (is : IsHalved r at name h) where
   abbrev c : RouteChange
   c = h.front
 
-  abbrev front : RouteEntry
+  abbrev front : RouteRow
   front = entry_after c r
 
   abbrev d : Difference
@@ -139,7 +139,7 @@ module _ (route name : Name) (at : ℕ) (i : Image) (r : RouteEntry) (h : Halves
 
   rows : (are_spans_of i.assets (record { course = take at r.route.course; rows = front.spans }) ≡ true) × (are_spans_of i.assets (record { course = drop at r.route.course; rows = h.rear.spans }) ≡ true)
   rows = parts_have_rows i.assets r.route.course at r.spans front.spans h.rear.spans (parts_are_routes r.route at inner is.front_short short_rear).0 is.front_rows is.rear_rows is.cut
-      (all_at (λ (e : RouteEntry). are_spans_of i.assets (record { course = e.route.course; rows = e.spans })) r i.routes (old_spans i s) there)
+      (all_at (λ (e : RouteRow). are_spans_of i.assets (record { course = e.route.course; rows = e.spans })) r i.routes (old_spans i s) there)
 
   front_course : front.route.course ≡ take at r.route.course
   front_course = become.course ∙ ap (λ o. unwrap_or o r.route.course) is.front_course
@@ -179,7 +179,7 @@ module _ (route name : Name) (at : ℕ) (i : Image) (r : RouteEntry) (h : Halves
 
   changes_so : CanDiffer d i
   changes_so = record {
-    route = record { entry = r; found = found_by; becomes = record { fits = stays_fit; rows = is.front_rows; gone = is.spans_gone; there = is.spans_there; named = ap (are_names_of r) is.refs_gone ∙ names_kept (λ q. not (is_ahead at q)) r.route.refs } };
+    route = record { row = r; found = found_by; becomes = record { fits = stays_fit; rows = is.front_rows; gone = is.spans_gone; there = is.spans_there; named = ap (are_names_of r) is.refs_gone ∙ names_kept (λ q. not (is_ahead at q)) r.route.refs } };
     apart = tt;
     names = ap (each_two route_before) (difference_rewrites (rerouting (Some c) None None) i s (λ w n is e. absurd (cc e)) ∙ (λ j. rewritten (is.route j ∷ []) (cons_option (option_map (entry_after c) (found_by j)) []) i.routes))
         ∙ front_order i r front h.rear at name s split;

@@ -6,7 +6,7 @@ use Rattle.std.proofs.lemmas.Bool.{and_parts, or_left}
 use Rattle.std.proofs.lemmas.List.{append-nil}
 use Rattle.std.specs.Prelude.{◌&&◌, not, slice_range}
 use Rattle.std.specs.Cmp.Lexicographic.{bytes_decides}
-use Rattle.lrs_inventory.specs.Prelude.{insert_by, Name, same_name, Ground, Asset, Kind, Part, Gone, Span, Place, is_among, places_on, span_before, holds_by_spans, Removal, is_within, IsRemoval, IsPlan, Entry, RouteEntry, Image, Retired, state_of, asset_entry, Extent, attempt, route_before, asset_before, IsSound, Difference, is_named, without, with_difference, AreGone, IsOrderly}
+use Rattle.lrs_inventory.specs.Prelude.{insert_by, Name, same_name, Ground, Asset, Kind, Part, Gone, Span, Place, is_among, places_on, span_before, holds_by_spans, Removal, is_within, IsRemoval, IsPlan, NewAsset, RouteRow, Image, Retired, state_of, asset_entry, Extent, attempt, route_before, asset_before, IsSound, Difference, is_named, without, with_difference, AreGone, IsOrderly}
 use Rattle.lrs_measure.specs.Ordered.{insert_all}
 use Rattle.lrs_events.specs.Changes.{changed, changed_rows, without_rows}
 use Rattle.lrs_events.specs.Members.{has_side}
@@ -58,11 +58,11 @@ passes_twice p (x ∷ xs) = by (p x) refl (passes_twice p xs)
     by false h rest = rest
 
 -- a route that is put among those of other names is no more among these
-put_out : (name : Name) (r : RouteEntry) (routes : List RouteEntry) → r.route.name ≡ name → without name (insert_by route_before r (without name routes)) ≡ without name routes
+put_out : (name : Name) (r : RouteRow) (routes : List RouteRow) → r.route.name ≡ name → without name (insert_by route_before r (without name routes)) ≡ without name routes
 put_out name r routes named =
     passed_by route_before (λ e. not (is_named name e)) r (without name routes) (ap not ((bytes_decides r.route.name name).1 named)) ∙ passes_twice (λ e. not (is_named name e)) routes
 
-module _ (e : Entry) (i : Image) (kind : Kind) (r : RouteEntry) (x : Extent) (removal : Removal) (parts : List Part) (gone : List Gone) (s : IsSound i) (w : IsWanted i true e kind r x) (limits : AreInLimits e)
+module _ (e : NewAsset) (i : Image) (kind : Kind) (r : RouteRow) (x : Extent) (removal : Removal) (parts : List Part) (gone : List Gone) (s : IsSound i) (w : IsWanted i true e kind r x) (limits : AreInLimits e)
     (plan : IsPlan r.spans removal.change) (is : IsRemoval (of_class_there e x) r.spans removal)
     (led : AreEntered (length i.edits + 1) r.route.course (row_of e x) parts)
     (lost : AreGone (length i.edits + 1) Retired (holds_by_spans r.route.course removal.left.items) gone) where
@@ -99,7 +99,7 @@ module _ (e : Entry) (i : Image) (kind : Kind) (r : RouteEntry) (x : Extent) (re
 
   -- ---- the others have lost it
 
-  abbrev left : RouteEntry
+  abbrev left : RouteRow
   left = record r { spans = changed_rows removal.change r.spans }
 
   abbrev mid : Image
@@ -159,7 +159,7 @@ module _ (e : Entry) (i : Image) (kind : Kind) (r : RouteEntry) (x : Extent) (re
   routes_are : routes_after (Some (with_rows_and_one e.route removal.change row)) i.routes ≡ routes_after (Some (with_row e.route row)) mid.routes
   routes_are =
       rows.routes_are i (routes_in_order i s) e.route gone_rows come_rows r w.begun.name found more rows_are
-      ∙ sym (entry.becomes e mid left x parts ready its_entry led ∙ ap (insert_by route_before (let f : RouteEntry = record r { spans = more } in f)) without_left)
+      ∙ sym (entry.becomes e mid left x parts ready its_entry led ∙ ap (insert_by route_before (let f : RouteRow = record r { spans = more } in f)) without_left)
 
   both : with_difference d i ≡ with_difference (entering n e x parts) mid
   both = λ j. record i { assets = insert_by asset_before (asset_of n e) i.assets; routes = routes_are j; entered = i.entered ++ parts; gone = sym (append-nil (i.gone ++ gone)) j }
@@ -183,12 +183,12 @@ module _ (e : Entry) (i : Image) (kind : Kind) (r : RouteEntry) (x : Extent) (re
   }
 
 -- what is removed between the ends of the stretch
-pub removed_there : (e : Entry) (x : Extent) (low high : ℕ) (rows : List Span) (removal : Removal) → low ≡ x.from → high ≡ x.to
+pub removed_there : (e : NewAsset) (x : Extent) (low high : ℕ) (rows : List Span) (removal : Removal) → low ≡ x.from → high ≡ x.to
     → IsRemoval (λ class asset j t. same_name class e.class && (is_within low high j && has_side e.side t)) rows removal → IsRemoval (of_class_there e x) rows removal
 removed_there e x low high rows removal from to h = coe 0 1 (k. IsRemoval (λ class asset j t. same_name class e.class && (is_within (from k) (to k) j && has_side e.side t)) rows removal) h
 
 -- The verb enters the asset in the place of others, where its checks have passed.
-pub supersedes : (e : Entry) (i : Image) (kind : Kind) (r : RouteEntry) (x : Extent) (removal : Removal) (p : Plan) → IsSound i → IsWanted i true e kind r x → AreInLimits e
+pub supersedes : (e : NewAsset) (i : Image) (kind : Kind) (r : RouteRow) (x : Extent) (removal : Removal) (p : Plan) → IsSound i → IsWanted i true e kind r x → AreInLimits e
     → IsPlan r.spans removal.change → IsRemoval (of_class_there e x) r.spans removal → IsSuperseding (length i.edits + 1) e x r.route.course removal p → IsPlanOf (verb.Supersede e) i p
 supersedes e i kind r x removal p s w limits plan is by =
     subst (IsPlanOf (verb.Supersede e) i) (sym by.plan_is) (makes e i kind r x removal by.parts by.gone s w limits plan is by.entered by.are_gone)

@@ -8,7 +8,7 @@ use Rattle.std.proofs.lemmas.List.Folds.{list_all-map, list_any-append}
 use Rattle.std.specs.Prelude.{◌||◌, ◌&&◌, not, nat_eq, slice_get, slice_range}
 use Rattle.std.specs.List.{list_any, list_all}
 use Rattle.std.specs.Cmp.Lexicographic.{bytes_decides}
-use Rattle.lrs_inventory.specs.Prelude.{each_two, insert_by, Name, name_cmp, same_name, Ground, meets, Asset, Gone, B, Span, Place, places_on, is_among, differs, holds_by_spans, Removal, IsRemoval, IsPlan, Command, Image, RouteEntry, state_of, holds_on, route_entry, referents_on, attempt, route_before, are_spans_of, are_courses, IsSound, RouteCourse, without, with_difference, IsOrderly, AreGone}
+use Rattle.lrs_inventory.specs.Prelude.{each_two, insert_by, Name, name_cmp, same_name, Ground, meets, Asset, Gone, B, Span, Place, places_on, is_among, differs, holds_by_spans, Removal, IsRemoval, IsPlan, Command, Image, RouteRow, state_of, holds_on, route_entry, referents_on, attempt, route_before, are_spans_of, are_courses, IsSound, RouteCourse, without, with_difference, IsOrderly, AreGone}
 use Rattle.lrs_element.specs.Course.{is_at}
 use Rattle.lrs_events.specs.declared.side.Side.{Side}
 use Rattle.lrs_events.specs.declared.side.LinkSide.{LinkSide}
@@ -125,12 +125,12 @@ same_where : (b t u : Bool) → (b ≡ true → t ≡ u) → (b && t) ≡ (b && 
 same_where true t u h = h refl
 same_where false t u h = refl
 
-module _ (i : Image) (r : RouteEntry) (taken : Taken) (takes : ℕ → Place → Bool) (removal : Removal) (s : IsSound i) (m : In r i.routes) (is : IsRemoval taken r.spans removal) (so : IsTakenSo i r.route.course taken takes) where
+module _ (i : Image) (r : RouteRow) (taken : Taken) (takes : ℕ → Place → Bool) (removal : Removal) (s : IsSound i) (m : In r i.routes) (is : IsRemoval taken r.spans removal) (so : IsTakenSo i r.route.course taken takes) where
   abbrev c : List Ground
   c = r.route.course
 
   -- the route with what the removal leaves
-  abbrev pub rest : RouteEntry
+  abbrev pub rest : RouteRow
   rest = record r { spans = changed_rows removal.change r.spans }
 
   it : IsAlone i r
@@ -188,11 +188,11 @@ module _ (i : Image) (r : RouteEntry) (taken : Taken) (takes : ℕ → Place →
 
   -- ---- the routes after it
 
-  module _ (routes : List RouteEntry) (differ : DifferAt r rest i.routes routes) where
+  module _ (routes : List RouteRow) (differ : DifferAt r rest i.routes routes) where
     there : In rest routes
     there = subst (In rest) (sym differ.after) (In-append_right rest differ.front (rest ∷ differ.rear) (inl refl))
 
-    abbrev course : RouteEntry → List Ground
+    abbrev course : RouteRow → List Ground
     course e = e.route.course
 
     abbrev apart : List Ground → List Ground → Bool
@@ -221,7 +221,7 @@ module _ (i : Image) (r : RouteEntry) (taken : Taken) (takes : ℕ → Place →
 
 -- ---- the image
 
-module _ (i : Image) (r : RouteEntry) (why : Reason) (taken : Taken) (takes : ℕ → Place → Bool) (removal : Removal) (gone : List Gone) (s : IsSound i) (route : IsRouteIn i r)
+module _ (i : Image) (r : RouteRow) (why : Reason) (taken : Taken) (takes : ℕ → Place → Bool) (removal : Removal) (gone : List Gone) (s : IsSound i) (route : IsRouteIn i r)
     (is : IsRemoval taken r.spans removal) (so : IsTakenSo i r.route.course taken takes) (led : AreGone (length i.edits + 1) why (holds_by_spans r.route.course removal.left.items) gone) where
   abbrev n : ℕ
   n = length i.edits + 1
@@ -233,10 +233,10 @@ module _ (i : Image) (r : RouteEntry) (why : Reason) (taken : Taken) (takes : �
   in_routes = route_in i r route
 
   -- the route with what the removal leaves
-  abbrev pub less : RouteEntry
+  abbrev pub less : RouteRow
   less = record r { spans = changed_rows removal.change r.spans }
 
-  abbrev new_routes : List RouteEntry
+  abbrev new_routes : List RouteRow
   new_routes = insert_by route_before less (without name i.routes)
 
   abbrev pub new : Image
@@ -308,7 +308,7 @@ module _ (i : Image) (r : RouteEntry) (why : Reason) (taken : Taken) (takes : �
 
 -- ---- the plan
 
-module _ (command : Command) (i : Image) (r : RouteEntry) (why : Reason) (taken : Taken) (takes : ℕ → Place → Bool) (removal : Removal) (gone : List Gone) (s : IsSound i) (route : IsRouteIn i r)
+module _ (command : Command) (i : Image) (r : RouteRow) (why : Reason) (taken : Taken) (takes : ℕ → Place → Bool) (removal : Removal) (gone : List Gone) (s : IsSound i) (route : IsRouteIn i r)
     (plan : IsPlan r.spans removal.change) (is : IsRemoval taken r.spans removal) (so : IsTakenSo i r.route.course taken takes)
     (led : AreGone (length i.edits + 1) why (holds_by_spans r.route.course removal.left.items) gone)
     (done : attempt (length i.edits + 1) command (state_of i) ≡ Ok (take_away (length i.edits + 1) why takes (state_of i))) where

@@ -5,7 +5,7 @@ use Rattle.std.specs.List.{find, list_any, list_all}
 use Rattle.std.proofs.lemmas.Bool.{and_parts}
 use Rattle.std.specs.Option.{option_map, ok_or}
 use Rattle.std.specs.Cmp.Lexicographic.{nat_list_cmp_total, bytes_decides}
-use Rattle.lrs_inventory.specs.Prelude.{each_two, Name, same_name, Referent, Alignment, is_route, referent_before, Asset, Span, has_row, are_rows, span_before, end_by, Image, RouteEntry, state_of, route_entry, attempt, ◌>>=◌, set_route, is_span, are_spans_of, IsSound, Makes, RouteChange, is_named, changed_refs, fits_after, route_after, are_names_of, rerouting, IsPlan}
+use Rattle.lrs_inventory.specs.Prelude.{each_two, Name, same_name, Referent, Alignment, is_route, referent_before, Asset, Span, has_row, are_rows, span_before, end_by, Image, RouteRow, state_of, route_entry, attempt, ◌>>=◌, set_route, is_span, are_spans_of, IsSound, Makes, RouteChange, is_named, changed_refs, fits_after, route_after, are_names_of, rerouting, IsPlan}
 use Rattle.lrs_measure.specs.Ordered.{insert_all}
 use Rattle.lrs_element.specs.Course.{turned}
 use Rattle.lrs_element.specs.Marks.{mirrored}
@@ -38,14 +38,14 @@ use Rattle.lrs_verbs.proofs.Going.{names_there}
 pub refuses_route : (route : Name) (i : Image) (n : ℕ) → find (is_named route) i.routes ≡ None → attempt n (verb.Turn route) (state_of i) ≡ Err cause.NoRoute
 unfolding attempt
 refuses_route route i n none =
-    ap (λ g. ok_or g cause.NoRoute >>= (λ (a : Alignment). Ok (set_route route (turned a.course) (mirrored a.marks) (state_of i)))) (route_value i route ∙ ap (option_map (λ (e : RouteEntry). (route_entry e).1)) none)
+    ap (λ g. ok_or g cause.NoRoute >>= (λ (a : Alignment). Ok (set_route route (turned a.course) (mirrored a.marks) (state_of i)))) (route_value i route ∙ ap (option_map (λ (e : RouteRow). (route_entry e).1)) none)
 
 -- no row of a route ends behind it
-pub rows_end : (i : Image) (r : RouteEntry) (name : Name) → IsSound i → find (is_named name) i.routes ≡ Some r → end_by (length r.route.course) r.spans ≡ true
+pub rows_end : (i : Image) (r : RouteRow) (name : Name) → IsSound i → find (is_named name) i.routes ≡ Some r → end_by (length r.route.course) r.spans ≡ true
 rows_end i r name s found =
     all_weaker (is_span i.assets (length r.route.course)) (λ (q : Span). nat_le q.to (length r.route.course)) r.spans
     (λ q h. (and_parts (nat_le q.to (length r.route.course)) (list_any (λ (a : Asset). nat_eq a.number q.asset && same_name a.class q.class) i.assets) h).0)
-    (and_parts (are_rows r.spans) (list_all (is_span i.assets (length r.route.course)) r.spans) (all_at (λ (e : RouteEntry). are_spans_of i.assets (record { course = e.route.course; rows = e.spans })) r i.routes (old_spans i s) (found_in name r i.routes found).0)).1
+    (and_parts (are_rows r.spans) (list_all (is_span i.assets (length r.route.course)) r.spans) (all_at (λ (e : RouteRow). are_spans_of i.assets (record { course = e.route.course; rows = e.spans })) r i.routes (old_spans i s) (found_in name r i.routes found).0)).1
 
 -- the difference of canonical rows is a plan
 pub plan_of_rows : (rows new : List Span) (change : SpanChange) → are_rows rows ≡ true → are_rows new ≡ true → change.gone.items ≡ missing new rows → IsChange rows change.gone.items change.come.items new → changed_rows change rows ≡ new → IsPlan rows change
@@ -79,7 +79,7 @@ chain = before-chain nat_list_cmp_total (λ (q : Referent). q.name)
 referents_strict : IsStrict referent_before
 referents_strict = record { never_both = λ x y h k. less_one x.name x.name (chain x y x h k) refl; through = chain }
 
-all_turn : (r : RouteEntry) → changed_refs (record { gone = map (λ (q : Referent). q.name) r.route.refs; come = map (from_end (length r.route.course)) r.route.refs }) r.route.refs ≡ map (from_end (length r.route.course)) r.route.refs
+all_turn : (r : RouteRow) → changed_refs (record { gone = map (λ (q : Referent). q.name) r.route.refs; come = map (from_end (length r.route.course)) r.route.refs }) r.route.refs ≡ map (from_end (length r.route.course)) r.route.refs
 all_turn r =
     ap (insert_all referent_before (map (from_end len) refs)) (all_go (λ (q : Referent). list_any (same_name q.name) (map named refs)) refs
     (all_of (λ (q : Referent). list_any (same_name q.name) (map named refs)) refs (λ q m. any_of (same_name q.name) q.name (map named refs) (In-map named q refs m) ((bytes_decides q.name q.name).1 refl))))
@@ -95,14 +95,14 @@ all_turn r =
     refs = r.route.refs
 
 -- ---- The plan of the verb.
-module _ (route : Name) (i : Image) (r : RouteEntry) (c : RouteChange) (s : IsSound i) (found : find (is_named route) i.routes ≡ Some r) (is : IsTurnedBy r c) where
+module _ (route : Name) (i : Image) (r : RouteRow) (c : RouteChange) (s : IsSound i) (found : find (is_named route) i.routes ≡ Some r) (is : IsTurnedBy r c) where
   own : r.route.name ≡ route
   own = (found_in route r i.routes found).1
 
   found_by : find (is_named c.route) i.routes ≡ Some r
   found_by = ap (λ n. find (is_named n) i.routes) (is.route ∙ own) ∙ found
 
-  abbrev w : RouteEntry
+  abbrev w : RouteRow
   w = after c i r s found_by
 
   refs_are : changed_refs c.refs r.route.refs ≡ map (from_end (length r.route.course)) r.route.refs
@@ -128,7 +128,7 @@ module _ (route : Name) (i : Image) (r : RouteEntry) (c : RouteChange) (s : IsSo
     marks = become.marks ∙ ap (λ o. unwrap_or o r.route.marks) is.marks;
     refs = become.refs ∙ refs_are;
     spans = ap (λ c. are_spans_of i.assets (record { course = c; rows = w.spans })) course
-        ∙ turned_has_rows i.assets r.route.course r.spans w.spans is.rows is.turned (all_at (λ (e : RouteEntry). are_spans_of i.assets (record { course = e.route.course; rows = e.spans })) r i.routes (old_spans i s) there);
+        ∙ turned_has_rows i.assets r.route.course r.spans w.spans is.rows is.turned (all_at (λ (e : RouteRow). are_spans_of i.assets (record { course = e.route.course; rows = e.spans })) r i.routes (old_spans i s) there);
     turned = is.turned;
   }
 

@@ -1,6 +1,6 @@
 -- The plans that verbs of routes make of the courses and marks that passed their checks.
 use Rattle.std.specs.Prelude.{◌≡◌, ℕ, List, [], Some, None, Result, Ok}
-use Rattle.lrs_inventory.specs.Prelude.{Name, Piece, Ground, Mark, course_of, is_too_long, Cause, RouteEntry, ◌>>◌, State, RouteChange, no_difference, rerouting}
+use Rattle.lrs_inventory.specs.Prelude.{Name, Piece, Ground, Mark, course_of, is_too_long, Cause, RouteRow, ◌>>◌, State, RouteChange, no_difference, rerouting}
 use Rattle.lrs_machine.specs.declared.answer.Cause.TheVariants as cause
 use Rattle.lrs_machine.specs.Machine.{refuse_if, check_pieces, check_marks}
 use Rattle.lrs_image_laws.specs.Differences.{no_change}
@@ -9,7 +9,7 @@ use Rattle.lrs_verbs.specs.declared.verbs.split.Halves.{Halves}
 use Rattle.lrs_inventory.specs.Plans.{plan_of}
 
 -- a route of this name, ground and measure line, on which nothing lies
-pub record IsEntryOf (route : Name) (ground : List Ground) (line : List Mark) (e : RouteEntry) : Type 0 where
+pub record IsEntryOf (route : Name) (ground : List Ground) (line : List Mark) (e : RouteRow) : Type 0 where
   pub name : e.route.name ≡ route
   pub course : e.route.course ≡ ground
   pub marks : e.route.marks ≡ line
@@ -17,7 +17,7 @@ pub record IsEntryOf (route : Name) (ground : List Ground) (line : List Mark) (e
   pub spans : e.spans ≡ []
 
 -- the plan by which this route comes, over these pieces
-abbrev pub route_plan : Name → RouteEntry → List Piece → Plan
+abbrev pub route_plan : Name → RouteRow → List Piece → Plan
 route_plan name e pieces = record (plan_of (record no_difference { made = Some e })) { ground = Some (record { route = name; gone = []; passed = []; come = pieces }) }
 
 -- the plan by which a route gets these marks

@@ -1,8 +1,8 @@
 -- A route that goes on as another.
 use Rattle.std.specs.Prelude.{◌++◌, ◌≡◌, true, nat_lt, List, [], map, length, Some, Result, Ok}
 use Rattle.std.specs.List.{list_all}
-use Rattle.lrs_inventory.specs.Prelude.{each_two, Ground, Mark, is_too_long, has_row, are_rows, span_before, end_by, Cause, RouteEntry, ◌>>◌, RouteChange, spans_after}
-use Rattle.lrs_element.specs.Limits.{most_marks}
+use Rattle.lrs_inventory.specs.Prelude.{each_two, Ground, Mark, is_too_long, has_row, are_rows, span_before, end_by, Cause, RouteRow, ◌>>◌, RouteChange, spans_after}
+use Rattle.lrs_measure.specs.Limits.{most_marks}
 use Rattle.lrs_element.specs.Marks.{joined_marks, is_out_of_range}
 use Rattle.lrs_events_rows.specs.Joins.{have_room, are_of_one_class, IsJoin}
 use Rattle.lrs_machine.specs.declared.answer.Cause.TheVariants as cause
@@ -23,13 +23,13 @@ joined_line first second = do
   Ok (joined_marks first second)
 
 -- The rows of the first end with its course, those of the second have room behind it, and an asset is of one class on both.
-pub record CanGoOn (a b : RouteEntry) : Type 0 where
+pub record CanGoOn (a b : RouteRow) : Type 0 where
   pub ends : end_by (length a.route.course) a.spans ≡ true
   pub room : have_room (length a.route.course) b.spans ≡ true
   pub one_class : are_of_one_class a.spans b.spans ≡ true
 
 -- What becomes of the first route of two: it goes on as the second.
-pub record GoesOn (a b : RouteEntry) (c : RouteChange) : Type 0 where
+pub record GoesOn (a b : RouteRow) (c : RouteChange) : Type 0 where
   pub route : c.route ≡ a.route.name
   pub name : c.name ≡ a.route.name
   pub course : c.course ≡ Some (a.route.course ++ b.route.course)

@@ -1,7 +1,7 @@
 -- What the checks of a realignment give, and what it changes.
 use Rattle.std.specs.Prelude.{◌-◌, filter, ◌≡◌, ℕ, ◌+◌, ◌||◌, ◌&&◌, true, false, nat_lt, nat_eq, List, [], map, length, slice_range, Option, Some, None, Result, Ok}
 use Rattle.std.specs.List.{AllByRecursion, list_all}
-use Rattle.lrs_inventory.specs.Prelude.{each_two, Name, Ground, Piece, Mark, course_of, is_too_long, IsFilled, Referent, has_row, Span, are_rows, span_before, holds_by_spans, is_within, Cause, RouteEntry, ◌>>=◌, ◌>>◌, State, Difference, spans_after, AreGone, rerouting}
+use Rattle.lrs_inventory.specs.Prelude.{each_two, Name, Ground, Piece, Mark, course_of, is_too_long, IsFilled, Referent, has_row, Span, are_rows, span_before, holds_by_spans, is_within, Cause, RouteRow, ◌>>=◌, ◌>>◌, State, Difference, spans_after, AreGone, rerouting}
 use Rattle.lrs_measure.specs.Lists.{is_nothing}
 use Rattle.lrs_events_rows.specs.Removals.{IsThat}
 use Rattle.lrs_events_spans.specs.Realigning.{IsRealigned}
@@ -59,7 +59,7 @@ abbrev pub referents_moved : ℕ → ℕ → ℕ → List Referent → ReferentC
 referents_moved from to len refs = record { gone = map (λ q. q.name) (refs_behind from refs); come = map (on_from to (from + len)) (refs_behind to refs) }
 
 -- What becomes of the route of an entry on a new line, by an edit, and of what lay and stood on the stretch.
-pub record IsOnNewLine (edit : ℕ) (e : RouteEntry) (from to : ℕ) (line : NewLine) (h : Realigned) : Type 0 where
+pub record IsOnNewLine (edit : ℕ) (e : RouteRow) (from to : ℕ) (line : NewLine) (h : Realigned) : Type 0 where
   pub route : h.change.route ≡ e.route.name
   pub name : h.change.name ≡ e.route.name
   pub course : h.change.course ≡ Some line.course

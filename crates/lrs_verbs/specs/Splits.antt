@@ -1,7 +1,7 @@
 -- A route in two parts.
 use Rattle.std.specs.Prelude.{Bool, filter, take, drop, ◌≡◌, ℕ, true, false, ◌&&◌, not, nat_lt, nat_eq, List, [], map, Some}
 use Rattle.std.specs.List.{list_any, list_all}
-use Rattle.lrs_inventory.specs.Prelude.{each_two, Name, Mark, is_too_long, Referent, has_row, are_rows, span_before, RouteEntry, spans_after}
+use Rattle.lrs_inventory.specs.Prelude.{each_two, Name, Mark, is_too_long, Referent, has_row, are_rows, span_before, RouteRow, spans_after}
 use Rattle.lrs_element.specs.Marks.{marks_to, marks_from}
 use Rattle.lrs_events_rows.specs.Cuts.{IsCut}
 use Rattle.lrs_image_laws.specs.Splitting.{back_by, is_ahead}
@@ -16,7 +16,7 @@ abbrev pub refs_behind : ℕ → List Referent → List Referent
 refs_behind at refs = filter (λ q. not (is_ahead at q)) refs
 
 -- What becomes of the route of an entry, and the rear as a route of its own.
-pub record IsHalved (e : RouteEntry) (at : ℕ) (name : Name) (h : Halves) : Type 0 where
+pub record IsHalved (e : RouteRow) (at : ℕ) (name : Name) (h : Halves) : Type 0 where
   pub route : h.front.route ≡ e.route.name
   pub front_name : h.front.name ≡ e.route.name
   pub front_course : h.front.course ≡ Some (take at e.route.course)

@@ -1,6 +1,6 @@
 -- What an edit takes away on a route: rows that go and come there, and the rows of a ledger for what is handed back.
 use Rattle.std.specs.Prelude.{◌≡◌, ℕ, ◌&&◌, nat_eq, List, Some}
-use Rattle.lrs_inventory.specs.Prelude.{Name, same_name, Asset, Kind, Gone, holds_by_spans, Removal, is_within, Image, RouteEntry, state_of, asset_entry, Extent, RouteChange, Difference, no_difference, AreGone}
+use Rattle.lrs_inventory.specs.Prelude.{Name, same_name, Asset, Kind, Gone, holds_by_spans, Removal, is_within, Image, RouteRow, state_of, asset_entry, Extent, RouteChange, Difference, no_difference, AreGone}
 use Rattle.lrs_events.specs.declared.change.SpanChange.{SpanChange}
 use Rattle.lrs_events_rows.specs.Removals.{Taken}
 use Rattle.lrs_machine.specs.Register.{get}
@@ -19,7 +19,7 @@ abbrev pub taking : Name → SpanChange → List Gone → Difference
 taking route change gone = record no_difference { changed = Some (with_rows route change); gone = gone }
 
 -- the plan by which an edit takes away, for a reason, what a removal hands back
-pub record IsTaking (edit : ℕ) (why : Reason) (r : RouteEntry) (removal : Removal) (p : Plan) : Type 0 where
+pub record IsTaking (edit : ℕ) (why : Reason) (r : RouteRow) (removal : Removal) (p : Plan) : Type 0 where
   pub gone : List Gone
   pub are_gone : AreGone edit why (holds_by_spans r.route.course removal.left.items) gone
   pub plan_is : p ≡ plan_of (taking r.route.name removal.change gone)
@@ -29,7 +29,7 @@ abbrev pub of_asset_within : Asset → Extent → Taken
 of_asset_within asset x class a j s = same_name class asset.class && nat_eq a asset.number && is_within x.from x.to j
 
 -- The asset is known, its class is of this kind, and the route is one of the inventory's.
-pub record HasAsset (i : Image) (asset : Asset) (kind : Kind) (r : RouteEntry) : Type 0 where
+pub record HasAsset (i : Image) (asset : Asset) (kind : Kind) (r : RouteRow) : Type 0 where
   pub known : get (state_of i).assets asset.number ≡ Some (asset_entry asset).1
   pub class : get (state_of i).classes asset.class ≡ Some kind
   pub route : IsRouteIn i r

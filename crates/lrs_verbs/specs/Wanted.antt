@@ -1,6 +1,6 @@
 -- What an entry asks for: a stretch of a route, for an asset of a class of a kind.
 use Rattle.std.specs.Prelude.{Bool, ◌≡◌, ◌<◌, ◌&&◌, not, length, Ok, Err}
-use Rattle.lrs_inventory.specs.Prelude.{Kind, places_on, Entry, Image, RouteEntry, state_of, Extent, part_of}
+use Rattle.lrs_inventory.specs.Prelude.{Kind, places_on, NewAsset, Image, RouteRow, state_of, Extent, part_of}
 use Rattle.lrs_machine.specs.Segments.{is_exclusive}
 use Rattle.lrs_machine.specs.Machine.{wanted_of}
 use Rattle.lrs_inventory.specs.declared.plan.Stop.{Stop}
@@ -13,12 +13,12 @@ abbrev pub is_left_out : Bool → Kind → Bool
 is_left_out only_exclusive kind = only_exclusive && not (is_exclusive kind)
 
 -- The checks of an entry have passed: it wants the places of a stretch of a route, for an asset of a class of this kind.
-pub record IsWanted (i : Image) (only_exclusive : Bool) (e : Entry) (kind : Kind) (r : RouteEntry) (x : Extent) : Type 0 where
+pub record IsWanted (i : Image) (only_exclusive : Bool) (e : NewAsset) (kind : Kind) (r : RouteRow) (x : Extent) : Type 0 where
   pub begun : HasBegun i e kind r
   pub filled : x.from < x.to
   pub within : EndsBy (length r.route.course) x
   pub wanted : wanted_of (is_left_out only_exclusive) e (state_of i) ≡ Ok (record { kind = kind; places = places_on e.side (part_of r.route.course x) })
 
 -- ... or the entry is refused, unless memory has run out
-abbrev pub IsRefused : Image → Bool → Entry → Stop → Type 0
+abbrev pub IsRefused : Image → Bool → NewAsset → Stop → Type 0
 IsRefused i only_exclusive e why = Answers (wanted_of (is_left_out only_exclusive) e (state_of i)) (Err why)

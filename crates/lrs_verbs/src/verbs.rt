@@ -58,7 +58,7 @@ pub fn plan_command(alloc: Global, inventory: &Inventory, command: &Command) -> 
         } => plan_route(alloc, inventory, *name, pieces.as_slice(), marks.as_slice()),
         Command::Ref { name, route, at } => plan_ref(alloc, inventory, *name, *route, *at),
         Command::Unref { name } => plan_unref(alloc, inventory, *name),
-        Command::Enter(entry) => plan_enter(alloc, inventory, entry),
+        Command::Enter(asked) => plan_enter(alloc, inventory, asked),
         Command::Retire {
             asset,
             route,
@@ -89,7 +89,7 @@ pub fn plan_command(alloc: Global, inventory: &Inventory, command: &Command) -> 
             marks.as_slice(),
         ),
         Command::Close { route } => plan_close(alloc, inventory, *route),
-        Command::Supersede(entry) => plan_supersede(alloc, inventory, entry),
+        Command::Supersede(asked) => plan_supersede(alloc, inventory, asked),
         Command::Turn { route } => plan_turn(alloc, inventory, *route),
     }
 }

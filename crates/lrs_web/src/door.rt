@@ -33,7 +33,8 @@ pub trait Door {
 
     /// The next connection.
     fn next(&mut self) -> Result<Self::Connection, DoorFault>
-        ensures gives { IfOk result (λ connection. Gives (waiting self.old) connection (waiting self.new)) }
+        ensures gives { IfOk result (λ connection.
+            Gives (waiting self.old) connection (waiting self.new)) }
         ensures keeps { OnErr result (KeepsAll (waiting self.old) (waiting self.new)) }
         ensures steady { OnOk result (failures self.new ≡ failures self.old) }
         ensures failed { OnErr result (HasRisen (failures self.old) (failures self.new)) };
@@ -55,7 +56,8 @@ fn serve_by<C: Read + Write, K: Keeper>(
     desk: &mut Desk<K>,
 ) -> bool
     requires { router.now ≡ rows }
-    ensures full { IsTrue result → IsFull K.may_hold (C.remaining connection.old) desk.old desk.new }
+    ensures full { IsTrue result → IsFull K.may_hold
+        (C.remaining connection.old) desk.old desk.new }
     ensures cut { IsCut K.may_hold (C.remaining connection.old) desk.old desk.new }
 {
     match receive(alloc, router, connection) {
@@ -73,7 +75,8 @@ fn serve_connection<C: Read + Write, K: Keeper>(
     connection: &mut C,
     desk: &mut Desk<K>,
 ) -> bool
-    ensures full { IsTrue result → IsFull K.may_hold (C.remaining connection.old) desk.old desk.new }
+    ensures full { IsTrue result → IsFull K.may_hold
+        (C.remaining connection.old) desk.old desk.new }
     ensures cut { IsCut K.may_hold (C.remaining connection.old) desk.old desk.new }
 {
     match routes(alloc) {
@@ -97,9 +100,12 @@ pub fn serve_all<D: Door, K: Keeper>(
     max: u32,
 ) -> Result<Served, DoorFault>
     ensures count { IfOk result (λ served. served.full + served.cut ≡ max) }
-    ensures visited { IfOk result (λ served. Visited K.may_hold D.Connection.remaining (D.waiting door.old) (D.waiting door.new) served.full served.cut desk.old desk.new) }
+    ensures visited { IfOk result (λ served. Visited K.may_hold D.Connection.remaining
+        (D.waiting door.old) (D.waiting door.new) served.full served.cut desk.old desk.new) }
     ensures failed { OnErr result (HasRisen (D.failures door.old) (D.failures door.new)) }
-    ensures stopped { OnErr result ((full : ℕ) × (cut : ℕ) × Visited K.may_hold D.Connection.remaining (D.waiting door.old) (D.waiting door.new) full cut desk.old desk.new) }
+    ensures stopped { OnErr result ((full : ℕ) × (cut : ℕ)
+        × Visited K.may_hold D.Connection.remaining (D.waiting door.old)
+        (D.waiting door.new) full cut desk.old desk.new) }
 {
     let mut full = 0;
     let mut cut = 0;

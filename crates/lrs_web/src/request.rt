@@ -60,7 +60,8 @@ fn question_reply<K: Keeper>(
     desk: &Desk<K>,
 ) -> Reply
     requires { verb_of resource ≡ Get }
-    ensures answered { AnswersAsked desk.now.must_reopen desk.now.image resource argument.now (answer_of result) ⊎ (answer_of result ≡ empty_answer 503) }
+    ensures answered { AnswersAsked desk.now.must_reopen desk.now.image resource argument.now
+        (answer_of result) ⊎ (answer_of result ≡ empty_answer 503) }
     ensures broken { desk.now.must_reopen ≡ true → answer_of result ≡ empty_answer 503 }
 {
     if desk.must_reopen() {
@@ -104,7 +105,8 @@ fn write_to<W: Write>(alloc: Global, reply: &Reply, writer: &mut W) -> Result<u1
 }
 
 pub(crate) fn refuse<W: Write>(writer: &mut W) -> Result<u16, WebFault>
-    ensures written { IfOk result (λ status. Writes (W.contents writer.old) (W.contents writer.new) status (empty_answer 503)) }
+    ensures written { IfOk result (λ status. Writes (W.contents writer.old)
+        (W.contents writer.new) status (empty_answer 503)) }
     ensures fault { result ≡ Err WebFault.Read → ⊥ }
 {
     match write_unavailable(writer) {
@@ -144,7 +146,8 @@ pub fn serve_one<R: Read, W: Write, K: Keeper>(
 ) -> Result<u16, WebFault>
     ensures served { IfOk result (λ status. (answer : Answer) × Writes (W.contents writer.old) (W.contents writer.new) status answer
         × IfSome (R.remaining reader.old) (λ input. Serves K.may_hold input desk.old answer desk.new)) }
-    ensures write { result ≡ Err WebFault.Write → IfSome (R.remaining reader.old) (λ input. (answer : Answer) × Serves K.may_hold input desk.old answer desk.new) }
+    ensures write { result ≡ Err WebFault.Write → IfSome (R.remaining reader.old) (λ input.
+        (answer : Answer) × Serves K.may_hold input desk.old answer desk.new) }
     ensures read { result ≡ Err WebFault.Read → desk.new ≡ desk.old }
 
     // Whatever the reader tells of its bytes, the desk is as some request leaves it.

@@ -30,7 +30,8 @@ fn lines_reply(status: StatusCode, lines: Vec<u8>) -> Reply
 
 /// The lines so far and one that names the fault, or an empty 503 where memory runs out for it.
 fn faulty_reply(mut lines: Vec<u8>, line: &[u8]) -> Reply
-    ensures { (answer_of result ≡ fault_answer line.now lines.items) ⊎ (answer_of result ≡ empty_answer 503) }
+    ensures { (answer_of result ≡ fault_answer line.now lines.items)
+        ⊎ (answer_of result ≡ empty_answer 503) }
 {
     match lines.extend_from_slice(line) {
         Ok(()) => lines_reply(StatusCode::UNPROCESSABLE_ENTITY, lines),

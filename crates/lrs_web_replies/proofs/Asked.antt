@@ -10,7 +10,7 @@ use Rattle.lrs_position.specs.declared.expression.Target.{Target}
 use Rattle.lrs_position.specs.Translating.{RoundTrip, Translates}
 use Rattle.lrs_machine.specs.Image.{state_of}
 use Rattle.lrs_machine.specs.declared.image.Image.{Image}
-use Rattle.lrs_machine.specs.declared.image.RouteEntry.{RouteEntry}
+use Rattle.lrs_machine.specs.declared.image.RouteRow.{RouteRow}
 use Rattle.lrs_machine.specs.Lines.{Text}
 use Rattle.lrs_image.specs.Change.{is_named}
 use Rattle.lrs_answers.specs.Answers.{AsksRoute}
@@ -40,7 +40,7 @@ refused failed i resource argument asked fault (Ok reply) is cannot answers = in
 refused failed i resource argument asked fault (Err e) is cannot answers = tt
 
 -- the route of a name is shown
-pub named_shown : (i : Image) (name : Name) (e : RouteEntry) (bytes : Text) (answer : Answer) → Some e ≡ find (is_named name) i.routes
+pub named_shown : (i : Image) (name : Name) (e : RouteRow) (bytes : Text) (answer : Answer) → Some e ≡ find (is_named name) i.routes
     → ((d : Data) × ShowsRoute e.route d × (bytes ≡ compact_text d)) → answer ≡ json_bytes 200 bytes → ShowsNamed i name answer
 named_shown i name e bytes answer found shows is =
     subst (λ o. MatchOption o (answer ≡ error_answer 404 (codes "NoRoute")) (λ e. (d : Data) × ShowsRoute e.route d × (answer ≡ json_answer 200 d))) found
@@ -53,7 +53,7 @@ named_unknown i name answer none is =
 
 -- a position by a method is shown
 pub position_shown : {E : Type 0} (i : Image) (route : Name) (e : Expr) (to : Destination) (target : Target) (found : Result Expr AskFault) (r : Result Reply E) → to ≡ Method target
-    → AsksRoute (state_of i) route (λ a entry_of answer. Translates a entry_of e target answer × RoundTrip a entry_of e target answer) found
+    → AsksRoute (state_of i) route (λ a chainage_on answer. Translates a chainage_on e target answer × RoundTrip a chainage_on e target answer) found
     → IfOk r (λ reply. answer_of reply ≡ shown (translated_data route) found) → IfOk r (λ reply. ShowsPosition i route e to (answer_of reply))
 position_shown i route e to target found (Ok reply) is asks shows = subst (λ d. ShowsPosition i route e d (answer_of reply)) (sym is) (found, asks, shows)
 position_shown i route e to target found (Err none) is asks shows = tt

@@ -34,7 +34,7 @@ IsFoundAt failed s route e found = (failed ≡ true → found ≡ Err MustReopen
 
 -- the millimetre of a route in which a position stands, and who holds it
 abbrev pub at_shown : Name → AtAnswer → Data
-at_shown route found = at_data route found.at found.entry found.hits
+at_shown route found = at_data route found.at found.ground found.hits
 
 -- what is found for a question passes, and is shown
 abbrev pub Shows : {A : Type 0} → (A → Data) → (Result A AskFault → Type 0) → Answer → Type 0
@@ -48,8 +48,8 @@ ShowsNamed i route answer =
 -- a position by a method, or on its link
 abbrev pub ShowsPosition : Image → Name → Expr → Destination → Answer → Type 0
 ShowsPosition i route e (Method target) =
-    Shows (translated_data route) (AsksRoute (state_of i) route (λ a entry_of answer. Translates a entry_of e target answer × RoundTrip a entry_of e target answer))
-ShowsPosition i route e Link = Shows (on_link_data route) (AsksRoute (state_of i) route (λ a entry_of answer. IsLinkPosition a entry_of e answer))
+    Shows (translated_data route) (AsksRoute (state_of i) route (λ a chainage_on answer. Translates a chainage_on e target answer × RoundTrip a chainage_on e target answer))
+ShowsPosition i route e Link = Shows (on_link_data route) (AsksRoute (state_of i) route (λ a chainage_on answer. IsLinkPosition a chainage_on e answer))
 
 -- The table: what each question is answered, of an image to which a commit has failed or has not.
 abbrev pub AnswersQuestion : Bool → Image → Question → Answer → Type 0

@@ -30,7 +30,7 @@ direction_text forward = if forward then codes "+" else codes "-"
 -- an asset that holds a millimetre, the edit that entered it, and the side on which it holds it
 abbrev pub hit_data : Hit → Data
 hit_data h = with (
-    (codes "asset", whole h.asset.number) ∷ (codes "class", string h.asset.class) ∷ (codes "entry", whole h.asset.entry)
+    (codes "asset", whole h.asset.number) ∷ (codes "class", string h.asset.class) ∷ (codes "entry", whole h.asset.entered_by)
     ∷ (codes "offset", whole h.asset.lateral) ∷ (codes "side", string (side_text h.side)) ∷ (codes "value", string h.asset.value) ∷ []
     )
 

@@ -40,15 +40,15 @@ fn at_value(
     alloc: Global,
     route: &RouteName,
     at: u64,
-    entry: Ground,
+    ground: Ground,
     hits: &[Hit],
 ) -> Result<Value, AllocError>
-    ensures { IfOk result (λ value. view value ≡ at_data route.now at entry hits.now) }
+    ensures { IfOk result (λ value. view value ≡ at_data route.now at ground hits.now) }
 {
     let hits = list_value(alloc, hits)?;
-    let direction = if entry.forward { "+" } else { "-" };
+    let direction = if ground.forward { "+" } else { "-" };
     let route = name_of(route);
-    json!(in alloc; {"at": at, "dir": direction, "hits": hits, "link": entry.link, "mm": entry.mm, "route": route})
+    json!(in alloc; {"at": at, "dir": direction, "hits": hits, "link": ground.link, "mm": ground.mm, "route": route})
 }
 
 /// The millimetre of a route in which a position stands, the millimetre of a link that it is, and who holds it.
@@ -60,12 +60,13 @@ pub fn at_json(
     alloc: Global,
     route: &RouteName,
     at: u64,
-    entry: Ground,
+    ground: Ground,
     hits: &[Hit],
 ) -> Result<Vec<u8>, AllocError>
-    ensures { IfOk result (λ bytes. bytes.items ≡ compact_text (at_data route.now at entry hits.now)) }
+    ensures { IfOk result (λ bytes. bytes.items ≡ compact_text
+        (at_data route.now at ground hits.now)) }
 {
-    let value = at_value(alloc, route, at, entry, hits)?;
+    let value = at_value(alloc, route, at, ground, hits)?;
     bytes_of(alloc, &value)
 }
 
@@ -86,7 +87,8 @@ fn route_value(alloc: Global, route: &Route) -> Result<Value, AllocError>
 /// When memory runs out.
 #[tactic(auto, using(crate::proofs::Whole::route_whole))]
 pub fn route_json(alloc: Global, route: &Route) -> Result<Vec<u8>, AllocError>
-    ensures { IfOk result (λ bytes. (json : Data) × ShowsRoute route.now json × (bytes.items ≡ compact_text json)) }
+    ensures { IfOk result (λ bytes. (json : Data) × ShowsRoute route.now json
+        × (bytes.items ≡ compact_text json)) }
 {
     let value = route_value(alloc, route)?;
     bytes_of(alloc, &value)
@@ -117,7 +119,8 @@ pub fn segments_json(
     side: Side,
     segments: &[Segment],
 ) -> Result<Vec<u8>, AllocError>
-    ensures { IfOk result (λ bytes. bytes.items ≡ compact_text (segments_data route.now side segments.now)) }
+    ensures { IfOk result (λ bytes. bytes.items ≡ compact_text
+        (segments_data route.now side segments.now)) }
 {
     let value = segments_value(alloc, route, side, segments)?;
     bytes_of(alloc, &value)
@@ -151,7 +154,8 @@ pub fn translated_json(
     route: &RouteName,
     expression: Expr,
 ) -> Result<Vec<u8>, AllocError>
-    ensures { IfOk result (λ bytes. bytes.items ≡ compact_text (translated_data route.now expression)) }
+    ensures { IfOk result (λ bytes. bytes.items ≡ compact_text
+        (translated_data route.now expression)) }
 {
     let value = translated_value(alloc, route, expression)?;
     bytes_of(alloc, &value)
@@ -180,7 +184,8 @@ pub fn link_json(
     link: u32,
     distance: Frac,
 ) -> Result<Vec<u8>, AllocError>
-    ensures { IfOk result (λ bytes. bytes.items ≡ compact_text (on_link_data route.now (link, distance))) }
+    ensures { IfOk result (λ bytes. bytes.items ≡ compact_text
+        (on_link_data route.now (link, distance))) }
 {
     let value = link_value(alloc, route, link, distance)?;
     bytes_of(alloc, &value)

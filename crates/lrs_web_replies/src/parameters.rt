@@ -54,7 +54,9 @@ fn method_in(alloc: Global, query: &[u8]) -> Result<Method, QuestionFault>
 
 fn position_by(alloc: Global, query: &[u8], method: Method) -> Result<Expr, QuestionFault>
     ensures read { IfOk result (GivesPositionBy query.now method) }
-    ensures unread { IfErr result (λ e. (e ≡ QuestionFault.Memory) ⊎ ((e ≡ QuestionFault.Malformed Parameter.Position) × ((position : Expression) → GivesPositionBy query.now method position → ⊥))) }
+    ensures unread { IfErr result (λ e. (e ≡ QuestionFault.Memory)
+        ⊎ ((e ≡ QuestionFault.Malformed Parameter.Position)
+        × ((position : Expression) → GivesPositionBy query.now method position → ⊥))) }
 {
     match value_of(alloc, query, "pos")? {
         Some(text) => match read_expr(method, text.as_str().as_bytes()) {
@@ -115,8 +117,11 @@ pub(crate) fn side_in(alloc: Global, query: &[u8]) -> Result<Side, QuestionFault
 
 /// The classes that these texts name.
 fn class_names(alloc: Global, texts: &[CowStr<'_>]) -> Result<Rows<ClassName>, QuestionFault>
-    ensures read { IfOk result (λ names. (names ≡ map cow_str_bytes texts.now) × IsTrue (are_class_names (map cow_str_bytes texts.now))) }
-    ensures unread { IfErr result (λ e. (e ≡ QuestionFault.Memory) ⊎ ((e ≡ QuestionFault.Malformed Parameter.Class) × (IsTrue (are_class_names (map cow_str_bytes texts.now)) → ⊥))) }
+    ensures read { IfOk result (λ names. (names ≡ map cow_str_bytes texts.now)
+        × IsTrue (are_class_names (map cow_str_bytes texts.now))) }
+    ensures unread { IfErr result (λ e. (e ≡ QuestionFault.Memory)
+        ⊎ ((e ≡ QuestionFault.Malformed Parameter.Class)
+        × (IsTrue (are_class_names (map cow_str_bytes texts.now)) → ⊥))) }
 {
     if texts.is_empty() {
         return Err(NO_CLASS);

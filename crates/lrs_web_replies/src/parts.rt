@@ -25,7 +25,7 @@ impl Shown for Hit {
         let class = format!(in alloc; "{class}")?;
         let side = format!(in alloc; "{side}")?;
         let value = format!(in alloc; "{value}")?;
-        json!(in alloc; {"asset": self.asset.number, "class": class, "entry": self.asset.entry, "offset": self.asset.lateral, "side": side, "value": value})
+        json!(in alloc; {"asset": self.asset.number, "class": class, "entry": self.asset.entered_by, "offset": self.asset.lateral, "side": side, "value": value})
     }
 }
 

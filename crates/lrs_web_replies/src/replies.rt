@@ -25,7 +25,7 @@ use lrs_answers::{AskFault, AtAnswer, at, segments, to_link, translate};
 use lrs_answers_totals::Counts;
 use lrs_events::Side;
 use lrs_image::KeptImage;
-use lrs_machine::{RouteEntry, Segment, Total};
+use lrs_machine::{RouteRow, Segment, Total};
 use lrs_measure::{Frac, Rows};
 use lrs_position::{Expr, RouteName};
 use lrs_web_requests::{Reply, Resource};
@@ -57,7 +57,7 @@ fn at_reply(
 {
     match found {
         Ok(found) => {
-            let bytes = at_json(alloc, route, found.at, found.entry, found.hits.as_slice())?;
+            let bytes = at_json(alloc, route, found.at, found.ground, found.hits.as_slice())?;
             Ok(json_reply(StatusCode::OK, bytes))
         }
         Err(fault) => refusal(alloc, fault),
@@ -65,9 +65,10 @@ fn at_reply(
 }
 
 /// The route of a name, with what lies on it, found by search.
-fn row_of<'k>(kept: &'k KeptImage, name: &RouteName) -> Option<&'k RouteEntry>
+fn row_of<'k>(kept: &'k KeptImage, name: &RouteName) -> Option<&'k RouteRow>
     requires sound { IsSound (image_of kept.now) }
-    ensures { option_map (λ row. row.now) result ≡ find (is_named name.now) (image_of kept.now).routes }
+    ensures { option_map (λ row. row.now) result
+        ≡ find (is_named name.now) (image_of kept.now).routes }
 {
     kept.routes.find(name)
 }
@@ -156,7 +157,8 @@ fn position_reply(
     to: Destination,
 ) -> Result<Reply, AllocError>
     requires sound { IsSound (image_of kept.now) }
-    ensures { IfOk result (λ reply. ShowsPosition (image_of kept.now) route.now position to (answer_of reply)) }
+    ensures { IfOk result (λ reply. ShowsPosition (image_of kept.now) route.now position to
+        (answer_of reply)) }
 {
     match to {
         Destination::Method(target) => {
@@ -180,7 +182,8 @@ fn answer_question(
 ) -> Result<Reply, AllocError>
     requires sound { IsSound (image_of kept.now) }
     requires counted { IsCounted (image_of kept.now) counts.now }
-    ensures { IfOk result (λ reply. AnswersQuestion has_failed (image_of kept.now) question.now (answer_of reply)) }
+    ensures { IfOk result (λ reply. AnswersQuestion has_failed (image_of kept.now) question.now
+        (answer_of reply)) }
 {
     match question {
         Question::At { route, position } => {
@@ -222,7 +225,8 @@ pub fn answer_asked(
     requires sound { IsSound (image_of kept.now) }
     requires counted { IsCounted (image_of kept.now) counts.now }
     requires verb { verb_of resource ≡ Get }
-    ensures { IfOk result (λ reply. AnswersAsked has_failed (image_of kept.now) resource argument.now (answer_of reply)) }
+    ensures { IfOk result (λ reply. AnswersAsked has_failed
+        (image_of kept.now) resource argument.now (answer_of reply)) }
 {
     match question_of(alloc, resource, argument) {
         Ok(question) => answer_question(alloc, kept, counts, has_failed, &question),

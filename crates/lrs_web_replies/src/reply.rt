@@ -66,7 +66,8 @@ pub(crate) fn refusal(alloc: Global, fault: AskFault) -> Result<Reply, AllocErro
 }
 
 fn malformed(alloc: Global, parameter: Parameter) -> Result<Reply, AllocError>
-    ensures { IfOk result (λ reply. answer_of reply ≡ spec.unasked (QuestionFault.Malformed parameter)) }
+    ensures { IfOk result (λ reply. answer_of reply
+        ≡ spec.unasked (QuestionFault.Malformed parameter)) }
 {
     let name = parameter.name();
     let cause = format!(in alloc; "Malformed:{name}")?;

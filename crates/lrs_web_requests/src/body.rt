@@ -30,7 +30,8 @@ impl From<io::Error> for BodyFault {
 /// Reads behind the filled part of a buffer until it is full or the input ends, and answers how much is filled.
 fn fill<R: Read>(reader: &mut R, buffer: &mut [u8], from: usize) -> io::Result<usize>
     requires { from ≤ length buffer.old }
-    ensures { IfOk result (Fills (R.remaining reader.old) (R.remaining reader.new) from buffer.old buffer.new) }
+    ensures { IfOk result (Fills (R.remaining reader.old)
+        (R.remaining reader.new) from buffer.old buffer.new) }
 {
     let mut filled = from;
     while filled < buffer.len() {

@@ -38,7 +38,8 @@ fn has_name(text: &[u8], field: &HeaderSpan, name: &[u8]) -> bool
 
 fn values_of<'b>(text: &'b [u8], fields: &[HeaderSpan], name: &[u8]) -> Values<'b>
     requires { All (IsHeaderWithin (length text.now)) fields.now }
-    ensures { summary_of result ≡ with_values nothing (values_named name.now (map (header_bytes text.now) fields.now)) }
+    ensures { summary_of result ≡ with_values nothing
+        (values_named name.now (map (header_bytes text.now) fields.now)) }
 {
     let mut values = Values::Nothing;
     for field in fields {

@@ -30,7 +30,8 @@ pub struct Reading {
 /// Reads once, behind the filled part of a buffer. It gives 0 only at the end of the input.
 pub fn read_on<R: Read>(reader: &mut R, buffer: &mut [u8], filled: usize) -> io::Result<usize>
     requires { filled < length buffer.old }
-    ensures { IfOk result (λ count. ReadsOn (R.remaining reader.old) (R.remaining reader.new) filled count buffer.old buffer.new) }
+    ensures { IfOk result (λ count. ReadsOn (R.remaining reader.old)
+        (R.remaining reader.new) filled count buffer.old buffer.new) }
 {
     reader.read(&mut buffer[filled..])
 }
@@ -55,8 +56,10 @@ pub fn read_head<R: Read>(
     spans: &mut [HeaderSpan],
 ) -> io::Result<Reading>
     ensures fits { IfOk result (λ reading. reading.filled ≤ length buffer.new) }
-    ensures consumed { IfOk result (λ reading. Consumes (R.remaining reader.old) (R.remaining reader.new) (take reading.filled buffer.new)) }
-    ensures parsed { IfOk result (λ reading. IsParsed (take reading.filled buffer.new) spans.new reading.outcome) }
+    ensures consumed { IfOk result (λ reading. Consumes (R.remaining reader.old)
+        (R.remaining reader.new) (take reading.filled buffer.new)) }
+    ensures parsed { IfOk result (λ reading. IsParsed
+        (take reading.filled buffer.new) spans.new reading.outcome) }
     ensures found { IfOk result (λ reading. IfSome (R.remaining reader.old) (λ input.
         Finds (length buffer.old) (length spans.old) input (take reading.filled buffer.new) spans.new reading.outcome)) }
 {

@@ -31,7 +31,8 @@ pub fn values_of<'q>(
     query: &'q [u8],
     name: &str,
 ) -> Result<Vec<CowStr<'q>>, AllocError>
-    ensures { IfOk result (λ values. map cow_str_bytes values.items ≡ parameters name.now query.now) }
+    ensures { IfOk result (λ values. map cow_str_bytes values.items
+        ≡ parameters name.now query.now) }
 {
     let mut values = Vec::new(alloc);
     for pair in parse(alloc, query) {

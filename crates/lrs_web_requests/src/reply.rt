@@ -124,7 +124,8 @@ fn phrase_of(status: StatusCode) -> &'static str
 }
 
 fn content_type_field(alloc: Global, content: &Option<Content>) -> Result<String, AllocError>
-    ensures { IfOk result (λ text. string_bytes text ≡ content_type_line (option_map (λ c. c.kind) content.now)) }
+    ensures { IfOk result (λ text. string_bytes text
+        ≡ content_type_line (option_map (λ c. c.kind) content.now)) }
 {
     match content {
         None => Ok(String::new(alloc)),
@@ -152,7 +153,8 @@ const UNAVAILABLE: &[u8] =
 
 /// Writes that the service lacks memory or its store, which takes no memory.
 pub fn write_unavailable<W: Write>(writer: &mut W) -> io::Result<()>
-    ensures { IfOk result (λ _. Appends (W.contents writer.old) (W.contents writer.new) (answer_text (empty_answer 503))) }
+    ensures { IfOk result (λ _. Appends (W.contents writer.old) (W.contents writer.new)
+        (answer_text (empty_answer 503))) }
 {
     writer.write_all(UNAVAILABLE)
 }

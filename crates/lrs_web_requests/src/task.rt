@@ -189,7 +189,8 @@ pub fn receive<R: Read>(
     reader: &mut R,
 ) -> Result<Task, BodyFault>
     requires { router.now ≡ rows }
-    ensures asked { IfOk result (λ task. IfSome (R.remaining reader.old) (λ input. Asks input (asked_by task))) }
+    ensures asked { IfOk result (λ task. IfSome (R.remaining reader.old) (λ input.
+        Asks input (asked_by task))) }
     ensures served { IfOk result (λ task. IsServed (asked_by task)) }
 {
     let mut buffer = [0u8; MOST_HEAD];

@@ -40,8 +40,10 @@ pub fn serve<R: Runtime<A = Global> + Net, K: Keeper>(
     desk: &mut Desk<K>,
 ) -> Result<Served, ServiceFault>
     ensures count { IfOk result (λ served. served.full + served.cut ≡ max) }
-    ensures visited { IfOk result (λ served. HasVisited K.may_hold served.full served.cut desk.old desk.new) }
-    ensures stopped { OnErr result ((full : ℕ) × (cut : ℕ) × HasVisited K.may_hold full cut desk.old desk.new) }
+    ensures visited { IfOk result (λ served.
+        HasVisited K.may_hold served.full served.cut desk.old desk.new) }
+    ensures stopped { OnErr result ((full : ℕ) × (cut : ℕ)
+        × HasVisited K.may_hold full cut desk.old desk.new) }
 {
     let address = SocketAddr::V4(SocketAddrV4::new(Ipv4Addr::LOCALHOST, port));
     let Ok(listener) = rt.bind(address) else {

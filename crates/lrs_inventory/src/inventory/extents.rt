@@ -11,19 +11,19 @@ ghost use Rattle.lrs_inventory.specs.Plans.{Answers};
 use crate::inventory::Inventory;
 use crate::plan::Stop;
 use lrs_events::{ClassName, Side};
-use lrs_machine::{Cause, RouteEntry};
+use lrs_machine::{Cause, RouteRow};
 use lrs_measure::Frac;
 use lrs_position::{EnteredPosition, EventLocation, PlaceFault, cell, locate, snap};
 use std::marker::Model;
 
 /// The millimetres of a route from one chainage up to another.
 #[derive(Clone, Copy, Debug, PartialEq, Eq)]
-pub struct Stretch {
+pub struct RouteStretch {
     from: u64,
     to: u64,
 }
 
-impl Model for Stretch {
+impl Model for RouteStretch {
     ghost use Rattle.lrs_machine.specs.Machine.{Extent};
 
     ghost Value = { Extent };
@@ -33,7 +33,7 @@ impl Model for Stretch {
     ghost inverse = { λ extent. record { from = extent.from; to = extent.to } };
 }
 
-impl Stretch {
+impl RouteStretch {
     /// The chainage at which it begins, in millimetres.
     pub fn from(self) -> u64
         ensures { result ≡ self.from }
@@ -71,14 +71,16 @@ impl Inventory {
     ///
     /// # Errors
     /// `NoRef` where it counts from a referent that is not on the route, and then `OffRoute`.
-    fn located(&self, entry: &RouteEntry, position: EnteredPosition) -> Result<Frac, Stop>
-        requires known { IsRouteIn self.now entry.now }
-        ensures answer { LocatesAs (state_of self.now) (alignment_of entry.now.route) position result }
+    fn located(&self, route_row: &RouteRow, position: EnteredPosition) -> Result<Frac, Stop>
+        requires known { IsRouteIn self.now route_row.now }
+        ensures answer { LocatesAs (state_of self.now)
+            (alignment_of route_row.now.route) position result }
         ensures lowest { IfOk result (λ chainage. IsLowest chainage) }
-        ensures on_route { IfOk result (λ chainage. IsOnRoute (length entry.now.route.course) chainage) }
+        ensures on_route { IfOk result (λ chainage.
+            IsOnRoute (length route_row.now.route.course) chainage) }
     {
         self.prove_sound();
-        match locate(&entry.route, position.expression()) {
+        match locate(&route_row.route, position.expression()) {
             Ok(chainage) => Ok(chainage),
             Err(fault) => Err(Stop::Refused(cause_of(fault))),
         }
@@ -88,25 +90,28 @@ impl Inventory {
     ///
     /// # Errors
     /// Those of `located`.
-    pub fn cell(&self, entry: &RouteEntry, position: EnteredPosition) -> Result<u64, Stop>
-        requires known { IsRouteIn self.now entry.now }
-        ensures answer { Answers (located_cell (state_of self.now) (alignment_of entry.now.route) (length entry.now.route.course) position) result }
-        ensures within { IfOk result (λ at. at < length entry.now.route.course) }
+    pub fn cell(&self, route_row: &RouteRow, position: EnteredPosition) -> Result<u64, Stop>
+        requires known { IsRouteIn self.now route_row.now }
+        ensures answer { Answers (located_cell (state_of self.now)
+            (alignment_of route_row.now.route)
+            (length route_row.now.route.course) position) result }
+        ensures within { IfOk result (λ at. at < length route_row.now.route.course) }
     {
-        let chainage = self.located(entry, position)?;
-        Ok(cell(chainage, entry.route.length()))
+        let chainage = self.located(route_row, position)?;
+        Ok(cell(chainage, route_row.route.length()))
     }
 
     /// The whole millimetre of a route's chainage that a position goes to where a stretch begins or ends.
     ///
     /// # Errors
     /// Those of `located`.
-    pub fn end(&self, entry: &RouteEntry, position: EnteredPosition) -> Result<u64, Stop>
-        requires known { IsRouteIn self.now entry.now }
-        ensures answer { Answers (located_end (state_of self.now) (alignment_of entry.now.route) position) result }
-        ensures within { IfOk result (λ at. at ≤ length entry.now.route.course) }
+    pub fn end(&self, route_row: &RouteRow, position: EnteredPosition) -> Result<u64, Stop>
+        requires known { IsRouteIn self.now route_row.now }
+        ensures answer { Answers (located_end (state_of self.now)
+            (alignment_of route_row.now.route) position) result }
+        ensures within { IfOk result (λ at. at ≤ length route_row.now.route.course) }
     {
-        let chainage = self.located(entry, position)?;
+        let chainage = self.located(route_row, position)?;
         Ok(snap(chainage))
     }
 
@@ -115,23 +120,28 @@ impl Inventory {
     ///
     /// # Errors
     /// Those of `located`, of its first position and then of its end.
-    pub fn extent(&self, entry: &RouteEntry, location: EventLocation) -> Result<Stretch, Stop>
-        requires known { IsRouteIn self.now entry.now }
-        ensures answer { Answers (extent_of (state_of self.now) (alignment_of entry.now.route) location) result }
-        ensures within { IfOk result (λ extent. EndsBy (length entry.now.route.course) extent) }
+    pub fn extent(
+        &self,
+        route_row: &RouteRow,
+        location: EventLocation,
+    ) -> Result<RouteStretch, Stop>
+        requires known { IsRouteIn self.now route_row.now }
+        ensures answer { Answers (extent_of (state_of self.now)
+            (alignment_of route_row.now.route) location) result }
+        ensures within { IfOk result (λ extent. EndsBy (length route_row.now.route.course) extent) }
     {
         match location.to() {
             None => {
-                let at = self.cell(entry, location.from())?;
-                Ok(Stretch {
+                let at = self.cell(route_row, location.from())?;
+                Ok(RouteStretch {
                     from: at,
                     to: at + 1,
                 })
             }
             Some(end) => {
-                let from = self.end(entry, location.from())?;
-                let to = self.end(entry, end)?;
-                Ok(Stretch { from, to })
+                let from = self.end(route_row, location.from())?;
+                let to = self.end(route_row, end)?;
+                Ok(RouteStretch { from, to })
             }
         }
     }
@@ -140,17 +150,18 @@ impl Inventory {
     /// this one.
     pub fn first_holder(
         &self,
-        entry: &RouteEntry,
+        route_row: &RouteRow,
         class: ClassName,
-        stretch: Stretch,
+        stretch: RouteStretch,
         side: Side,
     ) -> Option<u64>
-        requires known { IsRouteIn self.now entry.now }
+        requires known { IsRouteIn self.now route_row.now }
         requires filled { stretch.from < stretch.to }
-        requires within { EndsBy (length entry.now.route.course) stretch }
-        ensures { result ≡ first_holder (state_of self.now) class (places_on side (part_of entry.now.route.course stretch)) }
+        requires within { EndsBy (length route_row.now.route.course) stretch }
+        ensures { result ≡ first_holder (state_of self.now) class
+            (places_on side (part_of route_row.now.route.course stretch)) }
     {
         self.prove_sound();
-        entry.spans.over(stretch.from, stretch.to, class, side)
+        route_row.spans.over(stretch.from, stretch.to, class, side)
     }
 }

@@ -15,7 +15,7 @@ use crate::inventory::Inventory;
 use crate::plan::Stop;
 use lrs_element::{Course, CourseFault, Piece};
 use lrs_events::{Asset, ClassName, Kind};
-use lrs_machine::{Cause, Edit, Key, RouteEntry};
+use lrs_machine::{Cause, Edit, Key, RouteRow};
 use lrs_position::{RefName, RouteName};
 use std::alloc::{AllocError, Global};
 use std::collections::BTreeSet;
@@ -43,7 +43,8 @@ impl Inventory {
 
     /// The asset of a number.
     pub fn asset(&self, number: u64) -> Option<Asset>
-        ensures { option_map asset_entry result ≡ option_map (λ asset. (number, asset)) (get (state_of self.now).assets number) }
+        ensures { option_map asset_entry result ≡ option_map (λ asset.
+            (number, asset)) (get (state_of self.now).assets number) }
     {
         match self.kept.assets.find(&number) {
             Some(asset) => Some(*asset),
@@ -52,9 +53,11 @@ impl Inventory {
     }
 
     /// The route of a name, with what lies on it.
-    pub fn route(&self, name: &RouteName) -> Option<&RouteEntry>
-        ensures row { option_map (λ row. row.now) result ≡ find (is_named name.now) self.now.routes }
-        ensures route { option_map (λ row. route_entry row.now) result ≡ option_map (λ route. (name.now, route)) (get (state_of self.now).routes name.now) }
+    pub fn route(&self, name: &RouteName) -> Option<&RouteRow>
+        ensures row { option_map (λ row. row.now) result
+            ≡ find (is_named name.now) self.now.routes }
+        ensures route { option_map (λ row. route_entry row.now) result ≡ option_map (λ route.
+            (name.now, route)) (get (state_of self.now).routes name.now) }
     {
         self.kept.routes.find(name)
     }
@@ -68,8 +71,10 @@ impl Inventory {
 
     /// The edit of a key, with its number, which counts from 1.
     pub fn edit_of_key(&self, key: &Key) -> Option<(u64, &Edit)>
-        ensures number { option_map (λ found. found.0) result ≡ option_map (λ place. place + 1) (place_of_key key.now (state_of self.now).done) }
-        ensures line { IfSome result (λ found. (place : ℕ) → found.0 ≡ place + 1 → found.1.now.line ≡ line_at place (state_of self.now).done) }
+        ensures number { option_map (λ found. found.0) result ≡ option_map (λ place.
+            place + 1) (place_of_key key.now (state_of self.now).done) }
+        ensures line { IfSome result (λ found. (place : ℕ) → found.0 ≡ place + 1
+            → found.1.now.line ≡ line_at place (state_of self.now).done) }
     {
         match self.indexes.keys.find(key, self.kept.edits.as_slice()) {
             Some(place) => Some((place + 1, &self.kept.edits[place as usize])),
@@ -95,9 +100,11 @@ impl Inventory {
         to: u32,
         found: &mut BTreeSet<RouteName>,
     ) -> Result<(), AllocError>
-        ensures met { OnOk result ((route : Name) → RunsBetween (route_on self.now.routes) link from to route → IsAmong route found.new) }
+        ensures met { OnOk result ((route : Name) → RunsBetween
+            (route_on self.now.routes) link from to route → IsAmong route found.new) }
         ensures kept { (route : Name) → IsAmong route found.old → IsAmong route found.new }
-        ensures only { (route : Name) → IsAmong route found.new → IsAmong route found.old ⊎ RunsBetween (route_on self.now.routes) link from to route }
+        ensures only { (route : Name) → IsAmong route found.new → IsAmong route found.old
+            ⊎ RunsBetween (route_on self.now.routes) link from to route }
     {
         self.indexes.ground.routes_over(link, from, to, found)
     }

@@ -12,7 +12,7 @@ ghost use Rattle.lrs_inventory.specs.declared.plan.Stop.TheVariants as stop;
 use lrs_element::{Mark, MarkFault, Marks, Piece};
 use lrs_events::Kind;
 use lrs_inventory::{Inventory, Stop};
-use lrs_machine::{Cause, RouteEntry};
+use lrs_machine::{Cause, RouteRow};
 use lrs_position::{EventLocation, RouteName};
 use std::alloc::Global;
 
@@ -20,12 +20,14 @@ use std::alloc::Global;
 ///
 /// # Errors
 /// `NoRoute` where no route has the name.
-pub fn route_named<'a>(inventory: &'a Inventory, name: &RouteName) -> Result<&'a RouteEntry, Stop>
-    ensures found { IfOk result (λ row. find (is_named name.now) inventory.now.routes ≡ Some row.now) }
-    ensures missing { IfErr result (λ why. (why ≡ stop.Refused cause.NoRoute) × (find (is_named name.now) inventory.now.routes ≡ None)) }
+pub fn route_named<'a>(inventory: &'a Inventory, name: &RouteName) -> Result<&'a RouteRow, Stop>
+    ensures found { IfOk result (λ row. find (is_named name.now) inventory.now.routes
+        ≡ Some row.now) }
+    ensures missing { IfErr result (λ why. (why ≡ stop.Refused cause.NoRoute)
+        × (find (is_named name.now) inventory.now.routes ≡ None)) }
 {
     match inventory.route(name) {
-        Some(entry) => Ok(entry),
+        Some(route_row) => Ok(route_row),
         None => Err(Stop::Refused(Cause::NoRoute)),
     }
 }

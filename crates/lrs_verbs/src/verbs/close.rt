@@ -19,12 +19,12 @@ pub fn plan_close(alloc: Global, inventory: &Inventory, route: RouteName) -> Res
     ensures { Plans (verb.Close route) inventory.now result }
 {
     inventory.prove_sound();
-    let entry = route_named(inventory, &route)?;
+    let route_row = route_named(inventory, &route)?;
     let edit = inventory.edits() + 1;
-    let course = &entry.route.course;
-    let gone = taken_away(alloc, edit, entry.spans.rows(), course, true)?;
+    let course = &route_row.route.course;
+    let gone = taken_away(alloc, edit, route_row.spans.rows(), course, true)?;
     let freed = pieces_of(alloc, course)?;
-    let names = names_of(alloc, entry.route.refs.as_slice())?;
+    let names = names_of(alloc, route_row.route.refs.as_slice())?;
     Ok(closing(alloc, route, gone, freed, names))
 }
 

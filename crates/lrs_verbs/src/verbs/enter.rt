@@ -17,17 +17,17 @@ use lrs_element::Course;
 use lrs_events::{Asset, Kind, Part, Span};
 use lrs_events_parts::parts;
 use lrs_image::{ReferentChange, RouteChange};
-use lrs_inventory::{Inventory, Plan, Stop, Stretch};
-use lrs_machine::{Cause, Entry, RouteEntry};
+use lrs_inventory::{Inventory, Plan, RouteStretch, Stop};
+use lrs_machine::{Cause, NewAsset, RouteRow};
 use lrs_measure::Rows;
 use lrs_position::RouteName;
 use std::alloc::{AllocError, Global};
 
-pub fn plan_enter(alloc: Global, inventory: &Inventory, entry: &Entry) -> Result<Plan, Stop>
-    ensures { Plans (verb.Enter entry.now) inventory.now result }
+pub fn plan_enter(alloc: Global, inventory: &Inventory, asked: &NewAsset) -> Result<Plan, Stop>
+    ensures { Plans (verb.Enter asked.now) inventory.now result }
 {
-    match wanted_of(inventory, entry, false) {
-        Ok((kind, route, stretch)) => enter_on(alloc, inventory, entry, kind, route, stretch),
+    match wanted_of(inventory, asked, false) {
+        Ok((kind, route, stretch)) => enter_on(alloc, inventory, asked, kind, route, stretch),
         Err(why) => Err(why),
     }
 }
@@ -36,38 +36,40 @@ pub fn plan_enter(alloc: Global, inventory: &Inventory, entry: &Entry) -> Result
 fn enter_on(
     alloc: Global,
     inventory: &Inventory,
-    entry: &Entry,
+    asked: &NewAsset,
     kind: Kind,
-    route: &RouteEntry,
-    stretch: Stretch,
+    route: &RouteRow,
+    stretch: RouteStretch,
 ) -> Result<Plan, Stop>
-    requires wanted { IsWanted inventory.now false entry.now kind route.now stretch }
-    ensures { Plans (verb.Enter entry.now) inventory.now result }
+    requires wanted { IsWanted inventory.now false asked.now kind route.now stretch }
+    ensures { Plans (verb.Enter asked.now) inventory.now result }
 {
     inventory.prove_sound();
-    check_held(inventory, entry, kind, route, stretch)?;
+    check_held(inventory, asked, kind, route, stretch)?;
     let edit = inventory.edits() + 1;
-    let plan = entering(alloc, edit, entry, stretch, &route.route.course)?;
+    let plan = entering(alloc, edit, asked, stretch, &route.route.course)?;
     Ok(plan)
 }
 
 /// Refuses an asset of an exclusive class where others hold its places: the least of them.
 fn check_held(
     inventory: &Inventory,
-    entry: &Entry,
+    asked: &NewAsset,
     kind: Kind,
-    route: &RouteEntry,
-    stretch: Stretch,
+    route: &RouteRow,
+    stretch: RouteStretch,
 ) -> Result<(), Stop>
     requires known { IsRouteIn inventory.now route.now }
     requires filled { stretch.from < stretch.to }
     requires within { EndsBy (length route.now.route.course) stretch }
-    ensures { Answers (refuse_at (if is_exclusive kind then first_holder (state_of inventory.now) entry.now.class (places_on entry.now.side (part_of route.now.route.course stretch)) else None) cause.Overlap) result }
+    ensures { Answers (refuse_at (if is_exclusive kind then first_holder
+        (state_of inventory.now) asked.now.class (places_on asked.now.side
+        (part_of route.now.route.course stretch)) else None) cause.Overlap) result }
 {
     match kind {
         Kind::Point | Kind::Stretch => Ok(()),
         Kind::Exclusive => {
-            match inventory.first_holder(route, entry.class, stretch, entry.side) {
+            match inventory.first_holder(route, asked.class, stretch, asked.side) {
                 Some(asset) => Err(Stop::Refused(Cause::Overlap(asset))),
                 None => Ok(()),
             }
@@ -79,50 +81,50 @@ fn check_held(
 fn entering(
     alloc: Global,
     edit: u64,
-    entry: &Entry,
-    stretch: Stretch,
+    asked: &NewAsset,
+    stretch: RouteStretch,
     course: &Course,
 ) -> Result<Plan, AllocError>
-    requires row { IsTrue (is_row (row_of entry.now stretch)) }
+    requires row { IsTrue (is_row (row_of asked.now stretch)) }
     requires once { each_two differs course.now ≡ true }
-    ensures plan { IfOk result (λ plan. IsEntering edit entry.now stretch course.now plan) }
-    ensures limits { IfOk result (λ _. AreInLimits entry.now) }
+    ensures plan { IfOk result (λ plan. IsEntering edit asked.now stretch course.now plan) }
+    ensures limits { IfOk result (λ _. AreInLimits asked.now) }
 {
-    let row = row_of(entry, stretch);
-    let route = entry.route;
+    let row = row_of(asked, stretch);
+    let route = asked.route;
     let entered = entered_parts(alloc, edit, &row, course)?;
     let changed = with_row(alloc, route, &row)?;
     let mut plan = Plan::none(alloc);
-    plan.difference.asset = Some(asset_of(edit, entry));
+    plan.difference.asset = Some(asset_of(edit, asked));
     plan.difference.changed = Some(changed);
     plan.difference.entered = Rows::from_vec(entered);
     Ok(plan)
 }
 
 /// The asset that an edit enters.
-pub fn asset_of(edit: u64, entry: &Entry) -> Asset
-    ensures asset { result ≡ asset_of edit entry.now }
-    ensures limits { AreInLimits entry.now }
+pub fn asset_of(edit: u64, asked: &NewAsset) -> Asset
+    ensures asset { result ≡ asset_of edit asked.now }
+    ensures limits { AreInLimits asked.now }
 {
     Asset {
-        number: entry.asset.get(),
-        class: entry.class,
-        value: entry.value,
-        lateral: entry.offset.get(),
-        entry: edit,
+        number: asked.asset.get(),
+        class: asked.class,
+        value: asked.value,
+        lateral: asked.offset.get(),
+        entered_by: edit,
     }
 }
 
 /// The row that says what it holds.
-pub fn row_of(entry: &Entry, stretch: Stretch) -> Span
-    ensures { result ≡ row_of entry.now stretch }
+pub fn row_of(asked: &NewAsset, stretch: RouteStretch) -> Span
+    ensures { result ≡ row_of asked.now stretch }
 {
     Span {
-        asset: entry.asset.get(),
-        class: entry.class,
+        asset: asked.asset.get(),
+        class: asked.class,
         from: stretch.from(),
         to: stretch.to(),
-        side: entry.side,
+        side: asked.side,
     }
 }
 

@@ -15,13 +15,11 @@ use crate::verbs::route_changes::{no_change, pieces_of};
 use lrs_element::{Course, JoinFault, Marks, Piece};
 use lrs_image::RouteChange;
 use lrs_inventory::{GroundChange, Inventory, Plan, Stop, refuse_if};
-use lrs_machine::{Cause, RouteEntry};
+use lrs_machine::{Cause, RouteRow};
 use lrs_measure::Rows;
+use lrs_measure::limits::MOST_MARKS;
 use lrs_position::{Referent, Route, RouteName};
 use std::alloc::{AllocError, Global};
-
-/// The most marks of a route.
-const MOST_MARKS: usize = 1_000;
 
 pub fn plan_join(
     alloc: Global,
@@ -76,8 +74,8 @@ fn joined_marks(first: &Route, second: &Route) -> Result<Marks, Stop>
 #[tactic(auto, using(crate::proofs::Going::plan_there))]
 fn lengthened(
     alloc: Global,
-    front: &RouteEntry,
-    rear: &RouteEntry,
+    front: &RouteRow,
+    rear: &RouteRow,
     course: Course,
     marks: Marks,
 ) -> Result<RouteChange, AllocError>

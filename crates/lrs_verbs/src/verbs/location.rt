@@ -1,4 +1,4 @@
-//! What an entry asks for: the checks that `enter` and `supersede` share.
+//! What an asked asks for: the checks that `enter` and `supersede` share.
 
 ghost use Rattle.std.specs.Prelude.{IfErr, ◌≡◌, ◌||◌, IfOk};
 ghost use Rattle.lrs_machine.specs.Machine.{is_wrong_kind};
@@ -7,30 +7,31 @@ ghost use Rattle.lrs_verbs.specs.Wanted.{is_left_out, IsWanted, IsRefused};
 
 use crate::verbs::checks::is_wrong_kind;
 use lrs_events::Kind;
-use lrs_inventory::{Inventory, Stop, Stretch, refuse_if};
-use lrs_machine::{Cause, Entry, RouteEntry};
+use lrs_inventory::{Inventory, RouteStretch, Stop, refuse_if};
+use lrs_machine::{Cause, NewAsset, RouteRow};
 use lrs_position::EventLocation;
 
 /// What a new asset is to hold: the kind of its class, its route, and the stretch of this that it wants. Where it
 /// takes the places of others, only exclusive classes are taken.
 ///
 /// # Errors
-/// The first check of the entry that fails.
+/// The first check of the asked that fails.
 pub fn wanted_of<'a>(
     inventory: &'a Inventory,
-    entry: &Entry,
+    asked: &NewAsset,
     only_exclusive: bool,
-) -> Result<(Kind, &'a RouteEntry, Stretch), Stop>
-    ensures wanted { IfOk result (λ wanted. IsWanted inventory.now only_exclusive entry.now wanted.0 wanted.1.now wanted.2) }
-    ensures refused { IfErr result (λ why. IsRefused inventory.now only_exclusive entry.now why) }
+) -> Result<(Kind, &'a RouteRow, RouteStretch), Stop>
+    ensures wanted { IfOk result (λ wanted.
+        IsWanted inventory.now only_exclusive asked.now wanted.0 wanted.1.now wanted.2) }
+    ensures refused { IfErr result (λ why. IsRefused inventory.now only_exclusive asked.now why) }
 {
-    let is_known = inventory.asset(entry.asset.get()).is_some();
+    let is_known = inventory.asset(asked.asset.get()).is_some();
     refuse_if(is_known, Cause::AssetKnown)?;
-    match inventory.class(&entry.class) {
+    match inventory.class(&asked.class) {
         None => Err(Stop::Refused(Cause::NoClass)),
-        Some(kind) => match inventory.route(&entry.route) {
+        Some(kind) => match inventory.route(&asked.route) {
             None => Err(Stop::Refused(Cause::NoRoute)),
-            Some(route) => wanted_on(inventory, entry, only_exclusive, kind, route),
+            Some(route) => wanted_on(inventory, asked, only_exclusive, kind, route),
         },
     }
 }
@@ -38,18 +39,19 @@ pub fn wanted_of<'a>(
 /// What a new asset of a class of this kind is to hold of its route.
 fn wanted_on<'a>(
     inventory: &'a Inventory,
-    entry: &Entry,
+    asked: &NewAsset,
     only_exclusive: bool,
     kind: Kind,
-    route: &'a RouteEntry,
-) -> Result<(Kind, &'a RouteEntry, Stretch), Stop>
-    requires begun { HasBegun inventory.now entry.now kind route.now }
-    ensures wanted { IfOk result (λ wanted. IsWanted inventory.now only_exclusive entry.now wanted.0 wanted.1.now wanted.2) }
-    ensures refused { IfErr result (λ why. IsRefused inventory.now only_exclusive entry.now why) }
+    route: &'a RouteRow,
+) -> Result<(Kind, &'a RouteRow, RouteStretch), Stop>
+    requires begun { HasBegun inventory.now asked.now kind route.now }
+    ensures wanted { IfOk result (λ wanted.
+        IsWanted inventory.now only_exclusive asked.now wanted.0 wanted.1.now wanted.2) }
+    ensures refused { IfErr result (λ why. IsRefused inventory.now only_exclusive asked.now why) }
 {
-    let is_wrong = is_refused(kind, entry.location, only_exclusive);
+    let is_wrong = is_refused(kind, asked.location, only_exclusive);
     refuse_if(is_wrong, Cause::WrongKind)?;
-    let stretch = inventory.extent(route, entry.location)?;
+    let stretch = inventory.extent(route, asked.location)?;
     refuse_if(stretch.is_empty(), Cause::Empty)?;
     Ok((kind, route, stretch))
 }

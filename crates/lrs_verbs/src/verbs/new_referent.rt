@@ -23,11 +23,11 @@ pub fn plan_ref(
     inventory.prove_sound();
     let is_known = inventory.referent(&name).is_some();
     refuse_if(is_known, Cause::RefKnown)?;
-    let Some(entry) = inventory.route(&route) else {
+    let Some(route_row) = inventory.route(&route) else {
         return Err(Stop::Refused(Cause::NoRoute));
     };
-    let at = inventory.cell(entry, position)?;
-    let place = entry.route.course.ground(at);
+    let at = inventory.cell(route_row, position)?;
+    let place = route_row.route.course.ground(at);
     let refs = ReferentChange {
         gone: Rows::new(alloc),
         come: one_referent(alloc, Referent { name, at })?,

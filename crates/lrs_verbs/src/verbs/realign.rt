@@ -18,7 +18,7 @@ use lrs_events_spans::realignment::{Realigned as RealignedRows, plan_realign as 
 use lrs_image::{ReferentChange, RouteChange};
 use lrs_image_laws::taken_away;
 use lrs_inventory::{GroundChange, Inventory, Plan, Stop, refuse_if};
-use lrs_machine::{Cause, PieceList, RouteEntry};
+use lrs_machine::{Cause, PieceList, RouteRow};
 use lrs_measure::Rows;
 use lrs_position::{RefName, Referent, RouteName};
 use std::alloc::{AllocError, Global};
@@ -35,20 +35,20 @@ pub fn plan_realign(
     ensures { Plans (verb.Realign route from to pieces.now marks.now) inventory.now result }
 {
     inventory.prove_sound();
-    let entry = route_named(inventory, &route)?;
+    let route_row = route_named(inventory, &route)?;
     let pieces = given(pieces);
-    check_stretch(entry.route.course.len(), from, to, pieces)?;
+    check_stretch(route_row.route.course.len(), from, to, pieces)?;
     let line = new_line(
         alloc,
         inventory,
-        &entry.route.course,
+        &route_row.route.course,
         from,
         to,
         pieces,
         marks,
     )?;
     let edit = inventory.edits() + 1;
-    let realigned = realign_route(alloc, edit, entry, from, to, line)?;
+    let realigned = realign_route(alloc, edit, route_row, from, to, line)?;
     Ok(realigned_plan(alloc, route, realigned))
 }
 
@@ -90,7 +90,8 @@ fn new_line(
 ) -> Result<NewLine, Stop>
     requires order { from ≤ to }
     requires inside { to ≤ length course.now }
-    ensures { Answers (new_line (state_of inventory.now) course.now from to pieces.now marks.now) result }
+    ensures { Answers
+        (new_line (state_of inventory.now) course.now from to pieces.now marks.now) result }
 {
     let come = free_course(alloc, inventory, pieces)?;
     let course = replaced(course, from, to, &come)?;
@@ -149,19 +150,19 @@ struct Realigned {
 fn realign_route(
     alloc: Global,
     edit: u64,
-    entry: &RouteEntry,
+    route_row: &RouteRow,
     from: u64,
     to: u64,
     line: NewLine,
 ) -> Result<Realigned, AllocError>
     requires order { from ≤ to }
-    requires inside { to ≤ length entry.now.route.course }
-    requires once { each_two differs entry.now.route.course ≡ true }
-    requires ends { IsTrue (end_by (length entry.now.route.course) entry.now.spans) }
-    requires course { line.course ≡ replaced from to line.come entry.now.route.course }
-    ensures { IfOk result (λ realigned. IsOnNewLine edit entry.now from to line realigned) }
+    requires inside { to ≤ length route_row.now.route.course }
+    requires once { each_two differs route_row.now.route.course ≡ true }
+    requires ends { IsTrue (end_by (length route_row.now.route.course) route_row.now.spans) }
+    requires course { line.course ≡ replaced from to line.come route_row.now.route.course }
+    ensures { IfOk result (λ realigned. IsOnNewLine edit route_row.now from to line realigned) }
 {
-    let route = &entry.route;
+    let route = &route_row.route;
     let NewLine {
         come,
         course,
@@ -170,7 +171,7 @@ fn realign_route(
     let len = come.len();
     // It is not too long.
     let _len = course.len();
-    let RealignedRows { left, change: rows } = plan_rows(alloc, &entry.spans, from, to, len)?;
+    let RealignedRows { left, change: rows } = plan_rows(alloc, &route_row.spans, from, to, len)?;
     let abandoned = taken_away(alloc, edit, &left, &route.course, true)?;
     let freed = stretch_of(alloc, &route.course, from, to)?;
     let come = pieces_of(alloc, &come)?;

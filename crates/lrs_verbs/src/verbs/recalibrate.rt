@@ -21,8 +21,8 @@ pub fn plan_recalibrate(
     ensures { Plans (verb.Recalibrate route marks.now) inventory.now result }
 {
     inventory.prove_sound();
-    let entry = route_named(inventory, &route)?;
-    let len = entry.route.course.len();
+    let route_row = route_named(inventory, &route)?;
+    let len = route_row.route.course.len();
     let marks = new_marks(alloc, marks, len)?;
     Ok(recalibrated(alloc, route, marks))
 }

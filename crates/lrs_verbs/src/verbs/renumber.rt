@@ -23,10 +23,10 @@ pub fn plan_renumber(
     ensures { Plans (verb.Renumber route name) inventory.now result }
 {
     inventory.prove_sound();
-    let entry = route_named(inventory, &route)?;
+    let route_row = route_named(inventory, &route)?;
     let is_known = inventory.route(&name).is_some();
     refuse_if(is_known, Cause::RouteKnown)?;
-    let passed = pieces_of(alloc, &entry.route.course)?;
+    let passed = pieces_of(alloc, &route_row.route.course)?;
     Ok(renumbered(alloc, route, name, passed))
 }
 

@@ -12,8 +12,8 @@ use crate::verbs::route_changes::no_change;
 use lrs_events::{Asset, Kind, Span};
 use lrs_events_rows::removals::Removal;
 use lrs_image_laws::taken_away;
-use lrs_inventory::{Inventory, Plan, Stop, Stretch, refuse_if};
-use lrs_machine::{AssetNumber, Cause, RouteEntry};
+use lrs_inventory::{Inventory, Plan, RouteStretch, Stop, refuse_if};
+use lrs_machine::{AssetNumber, Cause, RouteRow};
 use lrs_measure::Rows;
 use lrs_position::{EventLocation, RouteName};
 use std::alloc::{AllocError, Global};
@@ -33,8 +33,8 @@ pub fn plan_retire(
             // Each asset's class is known.
             None => Err(Stop::Refused(Cause::NoAsset)),
             Some(kind) => {
-                let entry = route_named(inventory, &route)?;
-                retire_on(alloc, inventory, known, kind, entry, location)
+                let route_row = route_named(inventory, &route)?;
+                retire_on(alloc, inventory, known, kind, route_row, location)
             }
         },
     }
@@ -46,37 +46,39 @@ fn retire_on(
     inventory: &Inventory,
     asset: Asset,
     kind: Kind,
-    entry: &RouteEntry,
+    route_row: &RouteRow,
     location: EventLocation,
 ) -> Result<Plan, Stop>
-    requires known { HasAsset inventory.now asset kind entry.now }
-    ensures { Plans (verb.Retire asset.number entry.now.route.name location) inventory.now result }
+    requires known { HasAsset inventory.now asset kind route_row.now }
+    ensures { Plans
+        (verb.Retire asset.number route_row.now.route.name location) inventory.now result }
 {
     inventory.prove_sound();
     refuse_if(is_wrong_kind(kind, location), Cause::WrongKind)?;
-    let stretch = inventory.extent(entry, location)?;
+    let stretch = inventory.extent(route_row, location)?;
     refuse_if(stretch.is_empty(), Cause::Empty)?;
-    let removal = removal_of(alloc, entry, asset, stretch)?;
+    let removal = removal_of(alloc, route_row, asset, stretch)?;
     refuse_if(is_nothing(&removal.left), Cause::Empty)?;
     let edit = inventory.edits() + 1;
-    let plan = retiring(alloc, edit, entry, removal)?;
+    let plan = retiring(alloc, edit, route_row, removal)?;
     Ok(plan)
 }
 
 /// What of an asset lies on a stretch of a route, and the change that leaves the rest.
 fn removal_of(
     alloc: Global,
-    entry: &RouteEntry,
+    route_row: &RouteRow,
     asset: Asset,
-    stretch: Stretch,
+    stretch: RouteStretch,
 ) -> Result<Removal, AllocError>
     requires filled { stretch.from < stretch.to }
-    ensures plan { IfOk result (λ removal. IsPlan entry.now.spans removal.change) }
-    ensures removal { IfOk result (λ removal. IsRemoval (of_asset_within asset stretch) entry.now.spans removal) }
+    ensures plan { IfOk result (λ removal. IsPlan route_row.now.spans removal.change) }
+    ensures removal { IfOk result (λ removal. IsRemoval
+        (of_asset_within asset stretch) route_row.now.spans removal) }
 {
     let from = stretch.from();
     let to = stretch.to();
-    entry
+    route_row
         .spans
         .plan_remove_asset_within(alloc, asset.class, asset.number, from, to)
 }
@@ -92,14 +94,14 @@ fn is_nothing(rows: &[Span]) -> bool
 fn retiring(
     alloc: Global,
     edit: u64,
-    entry: &RouteEntry,
+    route_row: &RouteRow,
     removal: Removal,
 ) -> Result<Plan, AllocError>
     requires rows { IsTrue (are_rows removal.left.items) }
-    requires once { each_two differs entry.now.route.course ≡ true }
-    ensures { IfOk result (λ plan. IsTaking edit Retired entry.now removal plan) }
+    requires once { each_two differs route_row.now.route.course ≡ true }
+    ensures { IfOk result (λ plan. IsTaking edit Retired route_row.now removal plan) }
 {
-    let route = &entry.route;
+    let route = &route_row.route;
     let Removal { left, change } = removal;
     let gone = taken_away(alloc, edit, &left, &route.course, false)?;
     let mut changed = no_change(alloc, route.name);

@@ -11,7 +11,7 @@ use crate::verbs::route_changes::pieces_of;
 use lrs_element::{Course, Mark, Marks, Piece};
 use lrs_events_spans::Spans;
 use lrs_inventory::{GroundChange, Inventory, Plan, Stop, refuse_if};
-use lrs_machine::{Cause, RouteEntry};
+use lrs_machine::{Cause, RouteRow};
 use lrs_measure::Rows;
 use lrs_position::{Route, RouteName};
 use std::alloc::Global;
@@ -32,12 +32,12 @@ pub fn plan_route(
     check_free(inventory, pieces)?;
     let marks = new_marks(alloc, marks, course.len())?;
     let come = pieces_of(alloc, &course)?;
-    let entry = new_entry(alloc, name, course, marks);
-    Ok(route_plan(alloc, name, entry, come))
+    let route_row = new_entry(alloc, name, course, marks);
+    Ok(route_plan(alloc, name, route_row, come))
 }
 
 /// A route of this name, course and measure line, on which nothing lies.
-fn new_entry(alloc: Global, name: RouteName, course: Course, marks: Marks) -> RouteEntry
+fn new_entry(alloc: Global, name: RouteName, course: Course, marks: Marks) -> RouteRow
     requires fit { bad_mark (length course) marks ≡ None }
     ensures { IsEntryOf name course marks result }
 {
@@ -49,15 +49,15 @@ fn new_entry(alloc: Global, name: RouteName, course: Course, marks: Marks) -> Ro
         marks,
         refs: Rows::new(alloc),
     };
-    RouteEntry {
+    RouteRow {
         route,
         spans: Spans::empty(alloc),
     }
 }
 
 /// The plan by which a route comes, with its ground.
-fn route_plan(alloc: Global, route: RouteName, entry: RouteEntry, come: Rows<Piece>) -> Plan
-    ensures { result ≡ route_plan route entry come }
+fn route_plan(alloc: Global, route: RouteName, route_row: RouteRow, come: Rows<Piece>) -> Plan
+    ensures { result ≡ route_plan route route_row come }
 {
     let mut plan = Plan::none(alloc);
     plan.ground = Some(GroundChange {
@@ -66,6 +66,6 @@ fn route_plan(alloc: Global, route: RouteName, entry: RouteEntry, come: Rows<Pie
         passed: Rows::new(alloc),
         come,
     });
-    plan.difference.made = Some(entry);
+    plan.difference.made = Some(route_row);
     plan
 }

@@ -17,7 +17,7 @@ use lrs_events_rows::cuts::Cut;
 use lrs_events_spans::Spans;
 use lrs_image::RouteChange;
 use lrs_inventory::{GroundChange, Inventory, Plan, Stop, refuse_if};
-use lrs_machine::{Cause, RouteEntry};
+use lrs_machine::{Cause, RouteRow};
 use lrs_measure::Rows;
 use lrs_position::{RefName, Referent, Route, RouteName};
 use std::alloc::{AllocError, Global};
@@ -32,13 +32,13 @@ pub fn plan_split(
     ensures { Plans (verb.Split route at name) inventory.now result }
 {
     inventory.prove_sound();
-    let entry = route_named(inventory, &route)?;
+    let route_row = route_named(inventory, &route)?;
     let is_known = inventory.route(&name).is_some();
     refuse_if(is_known, Cause::RouteKnown)?;
-    let len = entry.route.course.len();
-    let is_inner = is_inside(len, entry.route.marks.list(), at);
+    let len = route_row.route.course.len();
+    let is_inner = is_inside(len, route_row.route.marks.list(), at);
     refuse_if(!is_inner, Cause::NoMark)?;
-    let halves = cut_route(alloc, entry, at, name)?;
+    let halves = cut_route(alloc, route_row, at, name)?;
     let passed = pieces_of(alloc, &halves.rear.route.course)?;
     Ok(split_plan(alloc, name, halves, passed))
 }
@@ -61,29 +61,29 @@ fn has_mark(marks: &[Mark], at: u64) -> bool
 #[derive(Drop)]
 struct Halves {
     front: RouteChange,
-    rear: RouteEntry,
+    rear: RouteRow,
 }
 
 /// The parts of a route at an inner mark.
 #[tactic(auto, using(crate::proofs::Going::plan_there))]
 fn cut_route(
     alloc: Global,
-    entry: &RouteEntry,
+    route_row: &RouteRow,
     at: u64,
     name: RouteName,
 ) -> Result<Halves, AllocError>
-    requires inner { IsTrue (is_inner_mark entry.now.route.marks at) }
-    requires inside { at ≤ length entry.now.route.course }
-    ensures { IfOk result (λ halves. IsHalved entry.now at name halves) }
+    requires inner { IsTrue (is_inner_mark route_row.now.route.marks at) }
+    requires inside { at ≤ length route_row.now.route.course }
+    ensures { IfOk result (λ halves. IsHalved route_row.now at name halves) }
 {
-    let route = &entry.route;
+    let route = &route_row.route;
     let (course, rear_course) = route.course.cut(at)?;
     // Neither is too long.
     let _len = course.len();
     let _rear_len = rear_course.len();
     let (marks, rear_marks) = route.marks.cut(at)?;
     let refs = refs_behind(alloc, route.refs.as_slice(), at)?;
-    let Cut { rear, change } = entry.spans.plan_cut(alloc, at)?;
+    let Cut { rear, change } = route_row.spans.plan_cut(alloc, at)?;
     let spans = Spans::of_rows(alloc, rear)?;
     let mut front = no_change(alloc, route.name);
     front.course = Some(course);
@@ -94,7 +94,7 @@ fn cut_route(
     let route = rear_route(name, rear_course, rear_marks, refs);
     Ok(Halves {
         front,
-        rear: RouteEntry { route, spans },
+        rear: RouteRow { route, spans },
     })
 }
 

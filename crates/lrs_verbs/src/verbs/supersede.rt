@@ -17,17 +17,17 @@ use lrs_events::{Kind, Span, SpanChange};
 use lrs_events_rows::removals::Removal;
 use lrs_image::RouteChange;
 use lrs_image_laws::taken_away;
-use lrs_inventory::{Inventory, Plan, Stop, Stretch};
-use lrs_machine::{Entry, RouteEntry};
+use lrs_inventory::{Inventory, Plan, RouteStretch, Stop};
+use lrs_machine::{NewAsset, RouteRow};
 use lrs_measure::Rows;
 use lrs_position::RouteName;
 use std::alloc::{AllocError, Global};
 
-pub fn plan_supersede(alloc: Global, inventory: &Inventory, entry: &Entry) -> Result<Plan, Stop>
-    ensures { Plans (verb.Supersede entry.now) inventory.now result }
+pub fn plan_supersede(alloc: Global, inventory: &Inventory, asked: &NewAsset) -> Result<Plan, Stop>
+    ensures { Plans (verb.Supersede asked.now) inventory.now result }
 {
-    match wanted_of(inventory, entry, true) {
-        Ok((kind, route, stretch)) => supersede_on(alloc, inventory, entry, kind, route, stretch),
+    match wanted_of(inventory, asked, true) {
+        Ok((kind, route, stretch)) => supersede_on(alloc, inventory, asked, kind, route, stretch),
         Err(why) => Err(why),
     }
 }
@@ -36,24 +36,24 @@ pub fn plan_supersede(alloc: Global, inventory: &Inventory, entry: &Entry) -> Re
 fn supersede_on(
     alloc: Global,
     inventory: &Inventory,
-    entry: &Entry,
+    asked: &NewAsset,
     kind: Kind,
-    route: &RouteEntry,
-    stretch: Stretch,
+    route: &RouteRow,
+    stretch: RouteStretch,
 ) -> Result<Plan, Stop>
-    requires wanted { IsWanted inventory.now true entry.now kind route.now stretch }
-    ensures { Plans (verb.Supersede entry.now) inventory.now result }
+    requires wanted { IsWanted inventory.now true asked.now kind route.now stretch }
+    ensures { Plans (verb.Supersede asked.now) inventory.now result }
 {
     inventory.prove_sound();
     let removal = route.spans.plan_remove_class_places(
         alloc,
-        entry.class,
+        asked.class,
         stretch.from(),
         stretch.to(),
-        entry.side,
+        asked.side,
     )?;
     let edit = inventory.edits() + 1;
-    let plan = superseding(alloc, edit, entry, stretch, &route.route.course, removal)?;
+    let plan = superseding(alloc, edit, asked, stretch, &route.route.course, removal)?;
     Ok(plan)
 }
 
@@ -61,24 +61,25 @@ fn supersede_on(
 fn superseding(
     alloc: Global,
     edit: u64,
-    entry: &Entry,
-    stretch: Stretch,
+    asked: &NewAsset,
+    stretch: RouteStretch,
     course: &Course,
     removal: Removal,
 ) -> Result<Plan, AllocError>
-    requires row { IsTrue (is_row (row_of entry.now stretch)) }
+    requires row { IsTrue (is_row (row_of asked.now stretch)) }
     requires left { IsTrue (are_rows removal.left.items) }
     requires once { each_two differs course.now ≡ true }
-    ensures plan { IfOk result (λ plan. IsSuperseding edit entry.now stretch course.now removal plan) }
-    ensures limits { IfOk result (λ _. AreInLimits entry.now) }
+    ensures plan { IfOk result (λ plan.
+        IsSuperseding edit asked.now stretch course.now removal plan) }
+    ensures limits { IfOk result (λ _. AreInLimits asked.now) }
 {
-    let row = row_of(entry, stretch);
+    let row = row_of(asked, stretch);
     let entered = entered_parts(alloc, edit, &row, course)?;
     let Removal { left, change } = removal;
     let gone = taken_away(alloc, edit, &left, course, false)?;
-    let changed = with_rows_and_one(alloc, entry.route, change, row)?;
+    let changed = with_rows_and_one(alloc, asked.route, change, row)?;
     let mut plan = Plan::none(alloc);
-    plan.difference.asset = Some(asset_of(edit, entry));
+    plan.difference.asset = Some(asset_of(edit, asked));
     plan.difference.changed = Some(changed);
     plan.difference.entered = Rows::from_vec(entered);
     plan.difference.gone = gone;

@@ -17,7 +17,7 @@ use lrs_events_rows::turns::turned;
 use lrs_events_spans::Spans;
 use lrs_image::{ReferentChange, RouteChange};
 use lrs_inventory::{Inventory, Plan, Stop};
-use lrs_machine::RouteEntry;
+use lrs_machine::RouteRow;
 use lrs_measure::Rows;
 use lrs_position::{Referent, RouteName};
 use std::alloc::{AllocError, Global};
@@ -26,25 +26,25 @@ pub fn plan_turn(alloc: Global, inventory: &Inventory, route: RouteName) -> Resu
     ensures { Plans (verb.Turn route) inventory.now result }
 {
     inventory.prove_sound();
-    let entry = route_named(inventory, &route)?;
-    let change = turn_route(alloc, entry)?;
+    let route_row = route_named(inventory, &route)?;
+    let change = turn_route(alloc, route_row)?;
     Ok(turn_plan(alloc, change))
 }
 
 /// What becomes of a route that is seen from its other end.
 #[tactic(auto, using(crate::proofs::Going::plan_there))]
-fn turn_route(alloc: Global, entry: &RouteEntry) -> Result<RouteChange, AllocError>
-    requires { IsTrue (end_by (length entry.now.route.course) entry.now.spans) }
-    ensures { IfOk result (λ change. IsTurnedBy entry.now change) }
+fn turn_route(alloc: Global, route_row: &RouteRow) -> Result<RouteChange, AllocError>
+    requires { IsTrue (end_by (length route_row.now.route.course) route_row.now.spans) }
+    ensures { IfOk result (λ change. IsTurnedBy route_row.now change) }
 {
-    let route = &entry.route;
+    let route = &route_row.route;
     let len = route.length();
     let course = route.course.turned()?;
     // It is not too long from there either.
     let _len = course.len();
     let marks = route.marks.mirrored()?;
     let refs = turn_refs(alloc, route.refs.as_slice(), len)?;
-    let SpanChange { gone, come } = turn_spans(alloc, &entry.spans, len)?;
+    let SpanChange { gone, come } = turn_spans(alloc, &route_row.spans, len)?;
     let mut change = no_change(alloc, route.name);
     change.course = Some(course);
     change.marks = Some(marks);
@@ -59,7 +59,8 @@ fn turn_spans(alloc: Global, spans: &Spans, len: u64) -> Result<SpanChange, Allo
     requires ends { IsTrue (end_by len spans.now) }
     requires len { len ≤ longest_route }
     ensures plan { IfOk result (λ change. IsPlan spans.now change) }
-    ensures turned { IfOk result (λ change. IsTurned len spans.now (changed_rows change spans.now)) }
+    ensures turned { IfOk result (λ change. IsTurned len spans.now
+        (changed_rows change spans.now)) }
 {
     let rows = spans.rows();
     let turned = turned(alloc, rows, len)?;

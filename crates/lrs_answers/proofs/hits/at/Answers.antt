@@ -8,7 +8,7 @@ returns-in-Err c = refused (image_of c.args.kept.now) c.args.route.now c.in-Some
 pub returns-in-Ok-answer_at : goal.returns-in-Ok-answer_at
 returns-in-Ok-answer_at c =
     stands (image_of c.args.kept.now) c.args.route.now c.in-Some.row.now c.args.expression c.requires.sound c.in-Some.ensures.known c.in-Some.ensures.route c.in-Ok.at c.in-Ok-answer_at.found c.in-Ok.ensures.answer
-    c.in-Ok-answer_at.ensures.at c.in-Ok-answer_at.ensures.entry c.in-Ok-answer_at.ensures.hits
+    c.in-Ok-answer_at.ensures.at c.in-Ok-answer_at.ensures.ground c.in-Ok-answer_at.ensures.hits
 
 pub returns-in-Err-answer_at : goal.returns-in-Err-answer_at
 returns-in-Err-answer_at c =

@@ -6,12 +6,12 @@ use Rattle.lrs_answers.proofs.position.translate.Goals as goal
 
 pub returns-in-Ok : goal.returns-in-Ok
 returns-in-Ok c = record {
-  answer = asks (image_of c.args.kept.now) c.args.route.now (λ a entry_of answer. Translates a entry_of c.args.expression c.args.target answer × RoundTrip a entry_of c.args.expression c.args.target answer)
+  answer = asks (image_of c.args.kept.now) c.args.route.now (λ a chainage_on answer. Translates a chainage_on c.args.expression c.args.target answer × RoundTrip a chainage_on c.args.expression c.args.target answer)
       c.in-Some.row.now (Ok c.in-Ok.translated) c.requires.sound c.in-Some.ensures.known c.in-Some.ensures.route (c.in-Ok.ensures.answer, c.in-Ok.ensures.round_trip);
 }
 
 pub returns-in-Err : goal.returns-in-Err
 returns-in-Err c = record {
-  answer = asks (image_of c.args.kept.now) c.args.route.now (λ a entry_of answer. Translates a entry_of c.args.expression c.args.target answer × RoundTrip a entry_of c.args.expression c.args.target answer)
+  answer = asks (image_of c.args.kept.now) c.args.route.now (λ a chainage_on answer. Translates a chainage_on c.args.expression c.args.target answer × RoundTrip a chainage_on c.args.expression c.args.target answer)
       c.in-Some.row.now (Err c.in-Err.fault) c.requires.sound c.in-Some.ensures.known c.in-Some.ensures.route (c.in-Err.ensures.answer, c.in-Err.ensures.round_trip);
 }

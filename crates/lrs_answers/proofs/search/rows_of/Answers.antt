@@ -22,7 +22,7 @@ returns c =
     let i = c.args.inventory.now in
     let a = c.args.asset.now in
     let names = c.in_ok-routes.routes in
-    let own : Part → Bool = λ part. nat_eq part.edit a.entry in
+    let own : Part → Bool = λ part. nat_eq part.edit a.entered_by in
     let ledger = c.deref.ensures.value ∙ ap (λ (j : Image). j.entered) c.kept.ensures.image in
     let parts = c.parts_of_edit-entered.ensures ∙ ap (filter own) ledger in
     IfOk-weaker c.rows_on_routes.result (λ found. found ≡ flat_map (rows_on_named a.class a.number i.routes) names.keys) (λ found. found ≡ flat_map (rows_on a.class a.number) i.routes)

@@ -2,7 +2,7 @@ use Rattle.std.proofs.Common.{ap, length, arith}
 use Rattle.std.specs.Prelude.{nat_lt}
 use Rattle.std.proofs.lemmas.Bool.{or_parts, ltb-false}
 use Rattle.lrs_element.specs.Course.{piece_count}
-use Rattle.lrs_element.specs.Limits.{most_pieces, longest_route}
+use Rattle.lrs_measure.specs.Limits.{most_pieces, longest_route}
 use Rattle.lrs_events_parts.proofs.ledger.parts_on.Goals as goal
 
 pub starts_of-requires-clause-few : goal.starts_of-requires-clause-few

@@ -10,7 +10,7 @@ returns-clause-filled c = ok_so _ _ c.parts.result (λ parts h. filled_each part
 
 pub returns-clause-held : goal.returns-clause-held
 returns-clause-held c =
-    let course = c.args.entry.now.route.course in
+    let course = c.args.route_row.now.route.course in
     let rows = c.rows.result.now in
     ok_both _ _ _ c.parts.result (λ parts once pairs.
     let made : AreOfRoute course rows parts.items = record { once = once; shows = shown course rows parts.items 0 pairs } in

@@ -1,7 +1,7 @@
 use Rattle.std.proofs.Common.{◌≡◌, take}
 use Rattle.std.specs.List.{flat_map}
-use Rattle.lrs_machine.specs.declared.image.RouteEntry.{RouteEntry}
+use Rattle.lrs_machine.specs.declared.image.RouteRow.{RouteRow}
 use Rattle.lrs_image_sound.proofs.spans.all_rows.Given as goal
 
-abbrev pub invariant-loop-entry : goal.invariant-loop-entry
-invariant-loop-entry l = l.rows.items ≡ flat_map (λ (e : RouteEntry). e.spans) (take l.entry-index l.routes)
+abbrev pub invariant-loop-route_row : goal.invariant-loop-route_row
+invariant-loop-route_row l = l.rows.items ≡ flat_map (λ (e : RouteRow). e.spans) (take l.route_row-index l.routes)

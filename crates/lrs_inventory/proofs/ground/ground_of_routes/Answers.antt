@@ -6,14 +6,14 @@ use Rattle.lrs_inventory.proofs.ground.ground_of_routes.Goals as goal
 
 pub add_all-requires-clause-once : goal.add_all-requires-clause-once
 add_all-requires-clause-once c =
-    ap is_run_once c.pieces.ensures.course ∙ own_once c.args.routes.now c.loop-entry.entry-index c.entry-item.result c.loop-entry-test.true c.entry-item.is c.requires.once
+    ap is_run_once c.pieces.ensures.course ∙ own_once c.args.routes.now c.loop-route_row.route_row-index c.route_row-item.result c.loop-route_row-test.true c.route_row-item.is c.requires.once
 
 pub add_all-requires-clause-free : goal.add_all-requires-clause-free
 add_all-requires-clause-free c =
-    ap (is_shared c.loop-entry.ground) c.pieces.ensures.course
-    ∙ own_free c.args.routes.now c.loop-entry.entry-index c.entry-item.result c.loop-entry-test.true c.entry-item.is c.loop-entry.ground c.loop-entry.invariant c.requires.once
+    ap (is_shared c.loop-route_row.ground) c.pieces.ensures.course
+    ∙ own_free c.args.routes.now c.loop-route_row.route_row-index c.route_row-item.result c.loop-route_row-test.true c.route_row-item.is c.loop-route_row.ground c.loop-route_row.invariant c.requires.once
 
-pub loop-entry-preserved : goal.loop-entry-preserved
-loop-entry-preserved c =
-    next_ground c.args.routes.now c.loop-entry.entry-index c.entry-item.result c.loop-entry-test.true c.entry-item.is c.loop-entry.ground c.loop-entry.invariant c.requires.once
+pub loop-route_row-preserved : goal.loop-route_row-preserved
+loop-route_row-preserved c =
+    next_ground c.args.routes.now c.loop-route_row.route_row-index c.route_row-item.result c.loop-route_row-test.true c.route_row-item.is c.loop-route_row.ground c.loop-route_row.invariant c.requires.once
     c.add_all.new.self c.pieces.result.now c.pieces.ensures.course c.in_ok-add_all.ensures.ok

@@ -15,7 +15,7 @@ loop-i-preserved g c =
     let last = state g.S.Store c.write_all.new.tx.conn.now in
     let entries = c.args.entries.now in
     let i = c.loop-i.i in
-    let entry = c.index-entries-i.result in
+    let route_row = c.index-entries-i.result in
     let bound : i < length entries = c.loop-i-test.true in
     record {
       same = c.write_all.ensures.same_reference ∙ c.loop-i.invariant.same;
@@ -23,8 +23,8 @@ loop-i-preserved g c =
           let all = c.loop-i.invariant.does (omega (arith, c.write_all.ensures.survives.clean)) writing in
           let one = c.in_ok-write_all.ensures.does clean all.writing in
           let parts = c.as_slice-parts.result.now in
-          let is = others_are entry parts (c.as_slice-parts.ensures ∙ ap (λ (x : Change). x.difference.entered) (sym c.index-entries-i.is)) in
-          let more : take (i + 1) entries ≡ take i entries ++ entry ∷ [] = take_more entries i entry bound ∙ ap (λ x. take i entries ++ x ∷ []) (sym c.index-entries-i.is) in
-          subst (λ cs. Makes (with_others_of cs) start last) (sym more) (puts_more_others (take i entries) entry _ start mid last is all one);
+          let is = others_are route_row parts (c.as_slice-parts.ensures ∙ ap (λ (x : Change). x.difference.entered) (sym c.index-entries-i.is)) in
+          let more : take (i + 1) entries ≡ take i entries ++ route_row ∷ [] = take_more entries i route_row bound ∙ ap (λ x. take i entries ++ x ∷ []) (sym c.index-entries-i.is) in
+          subst (λ cs. Makes (with_others_of cs) start last) (sym more) (puts_more_others (take i entries) route_row _ start mid last is all one);
       survives = survives_then start mid last _ _ (λ _. ⊥) (λ _ db none. none) (λ _ db none. none) c.loop-i.invariant.survives c.write_all.ensures.survives;
     }

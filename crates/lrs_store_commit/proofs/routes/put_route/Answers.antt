@@ -20,7 +20,7 @@ returns-clause-does g c clean writing =
     let m1 : HasCleanDisk s1 = omega (arith, m2, c.put_marks.ensures.survives.clean) in
     let o1 = (c.in_ok-put_pieces.ensures.does m1 writing) in
     let a1 = o1.makes in
-    let a2 = makes_on (with_some (with_pieces c.args.entry.now.route.name 0) o1.pieces) (with_marks c.args.entry.now.route.name 0 c.args.entry.now.route.marks) s0 s1 s2 (steady-with_marks c.args.entry.now.route.name 0 c.args.entry.now.route.marks) a1 (c.in_ok-put_marks.ensures.does m2 a1.writing) in
-    let a3 = makes_on (λ (t : Tables). (with_marks c.args.entry.now.route.name 0 c.args.entry.now.route.marks) ((with_some (with_pieces c.args.entry.now.route.name 0) o1.pieces) t)) (with_refs c.args.entry.now.route.name c.args.entry.now.route.refs) s0 s2 s3 (steady-with_refs c.args.entry.now.route.name c.args.entry.now.route.refs) a2 (c.in_ok-put_refs.ensures.does m3 a2.writing) in
-    let a4 = makes_on (λ (t : Tables). (with_refs c.args.entry.now.route.name c.args.entry.now.route.refs) ((λ (t : Tables). (with_marks c.args.entry.now.route.name 0 c.args.entry.now.route.marks) ((with_some (with_pieces c.args.entry.now.route.name 0) o1.pieces) t)) t)) (with_spans c.args.entry.now.route.name c.args.entry.now.spans) s0 s3 s4 (steady-with_spans c.args.entry.now.route.name c.args.entry.now.spans) a3 (rw (c.rows.ensures.rows) at (c.in_ok-put_spans.ensures.does clean a3.writing)) in
+    let a2 = makes_on (with_some (with_pieces c.args.route_row.now.route.name 0) o1.pieces) (with_marks c.args.route_row.now.route.name 0 c.args.route_row.now.route.marks) s0 s1 s2 (steady-with_marks c.args.route_row.now.route.name 0 c.args.route_row.now.route.marks) a1 (c.in_ok-put_marks.ensures.does m2 a1.writing) in
+    let a3 = makes_on (λ (t : Tables). (with_marks c.args.route_row.now.route.name 0 c.args.route_row.now.route.marks) ((with_some (with_pieces c.args.route_row.now.route.name 0) o1.pieces) t)) (with_refs c.args.route_row.now.route.name c.args.route_row.now.route.refs) s0 s2 s3 (steady-with_refs c.args.route_row.now.route.name c.args.route_row.now.route.refs) a2 (c.in_ok-put_refs.ensures.does m3 a2.writing) in
+    let a4 = makes_on (λ (t : Tables). (with_refs c.args.route_row.now.route.name c.args.route_row.now.route.refs) ((λ (t : Tables). (with_marks c.args.route_row.now.route.name 0 c.args.route_row.now.route.marks) ((with_some (with_pieces c.args.route_row.now.route.name 0) o1.pieces) t)) t)) (with_spans c.args.route_row.now.route.name c.args.route_row.now.spans) s0 s3 s4 (steady-with_spans c.args.route_row.now.route.name c.args.route_row.now.spans) a3 (rw (c.rows.ensures.rows) at (c.in_ok-put_spans.ensures.does clean a3.writing)) in
     record { pieces = o1.pieces; are = o1.are; makes = a4 }

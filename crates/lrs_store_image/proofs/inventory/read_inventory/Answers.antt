@@ -39,14 +39,14 @@ returns-clause-image c =
     let n = c.in_ok-named.named in
     let routes = c.in_ok-routes.routes in
     let ledgers = c.in_ok-ledgers.ledgers in
-    let l = Ok c.in_ok-with_entries.field-0 in
+    let l = Ok c.in_ok-with_edits.field-0 in
     let h = subst (λ es. ledgers_read n es t.entered t.gone t.edit ≡ Ok ledgers) c.as_slice.ensures c.in_ok-ledgers.ensures in
     reads_along _ _ l (inventory_in_parts t)
     (leads (named_read t.link t.class t.asset) (with_routes t) n l c.in_ok-named.ensures.named
     (leads (entries_read n t.piece t.mark t.ref t.span) (with_ledgers t n) routes l c.in_ok-routes.ensures.entries
-    (leads (ledgers_read n routes t.entered t.gone t.edit) (λ ledgers. Ok (with_entries_of n routes ledgers)) ledgers l h (ap Ok (sym c.in_ok-with_entries.ensures)))))
+    (leads (ledgers_read n routes t.entered t.gone t.edit) (λ ledgers. Ok (with_entries_of n routes ledgers)) ledgers l h (ap Ok (sym c.in_ok-with_edits.ensures)))))
 
 pub returns-clause-assets : goal.returns-clause-assets
 returns-clause-assets c =
     let n = c.in_ok-named.named in
-    ap (λ i. each_two asset_before i.assets) c.in_ok-with_entries.ensures ∙ order_with c.in_ok-ledgers.ledgers.entered n.assets ∙ assets_ask n.classes n.assets c.in_ok-named.ensures.assets
+    ap (λ i. each_two asset_before i.assets) c.in_ok-with_edits.ensures ∙ order_with c.in_ok-ledgers.ledgers.entered n.assets ∙ assets_ask n.classes n.assets c.in_ok-named.ensures.assets

@@ -14,7 +14,7 @@ returns-in_default c =
     let made = canonical_entry c.args.said.now in
     let steps : into_iter_items at.route-iterator ≡ x ∷ left = c.in-Some.ensures.steps.0 in
     let all : at.yielded ++ x ∷ left ≡ c.args.routes.items = ap (λ (l : List Route). at.yielded ++ l) (sym steps) ∙ at.invariant.0 ∙ c.into_iter-route-iterator.ensures.into_iter_gives.0 in
-    sym (ap (each_of made) (sym all) ∙ each_of-fails made at.yielded x left (sym c.in_ok-entry.ensures ∙ c.in_default.is))
+    sym (ap (each_of made) (sym all) ∙ each_of-fails made at.yielded x left (sym c.in_ok-route_row.ensures ∙ c.in_default.is))
 
 pub loop-route-preserved : goal.loop-route-preserved
 loop-route-preserved c =
@@ -28,6 +28,6 @@ loop-route-preserved c =
     let short = ap length steps in (
       append_assoc at.yielded (x ∷ []) left ∙ ap (λ (l : List Route). at.yielded ++ l) (sym steps) ∙ at.invariant.0,
       subst (λ zs. each_of made (at.yielded ++ x ∷ []) ≡ Some zs) (sym c.in_ok-push.ensures.items)
-          (each_of-push made at.yielded x c.in-Some-2.entry at.entries.items at.invariant.1 (sym c.in_ok-entry.ensures ∙ c.in-Some-2.is)),
+          (each_of-push made at.yielded x c.in-Some-2.route_row at.entries.items at.invariant.1 (sym c.in_ok-route_row.ensures ∙ c.in-Some-2.is)),
       omega (arith, gone, was, short),
     )

@@ -4,7 +4,7 @@ use Rattle.std.specs.Prelude.{◌≤◌}
 use Rattle.lrs_measure.specs.Lists.{each_two}
 use Rattle.lrs_measure.specs.Ordered.{insert_some}
 use Rattle.lrs_machine.specs.declared.image.Image.{Image}
-use Rattle.lrs_machine.specs.declared.image.RouteEntry.{RouteEntry}
+use Rattle.lrs_machine.specs.declared.image.RouteRow.{RouteRow}
 use Rattle.lrs_machine.specs.Sound.{route_before}
 use Rattle.lrs_image.specs.Change.{is_named, without}
 use Rattle.lrs_image.specs.Kept.{image_of, HasOpened}
@@ -22,7 +22,7 @@ returns-in_ok-opened-in-Some-clause-image c =
     let routes = c.make_room.new.self.routes.rows in
     let order = ap (λ (i : Image). each_two route_before i.routes) c.make_room.ensures.image ∙ routes_in_order (image_of c.args.self.now) c.requires.sound in
     let opened = c.in_ok-opened-in-Some.ensures in
-    let back = (λ j. insert_some route_before (opened.found j) (opened.others j)) ∙ back_in_place (λ (e : RouteEntry). e.route.name) name routes order in
+    let back = (λ j. insert_some route_before (opened.found j) (opened.others j)) ∙ back_in_place (λ (e : RouteRow). e.route.name) name routes order in
     (λ j. record (image_of c.make_room.new.self) { routes = back j }) ∙ c.make_room.ensures.image
 
 pub returns-in_ok-opened-in-Some-clause-ready : goal.returns-in_ok-opened-in-Some-clause-ready
@@ -31,7 +31,7 @@ returns-in_ok-opened-in-Some-clause-ready c =
     let routes = c.make_room.new.self.routes.rows in
     let order = ap (λ (i : Image). each_two route_before i.routes) c.make_room.ensures.image ∙ routes_in_order (image_of c.args.self.now) c.requires.sound in
     let opened = c.in_ok-opened-in-Some.ensures in
-    let back = (λ j. insert_some route_before (opened.found j) (opened.others j)) ∙ back_in_place (λ (e : RouteEntry). e.route.name) name routes order in
+    let back = (λ j. insert_some route_before (opened.found j) (opened.others j)) ∙ back_in_place (λ (e : RouteRow). e.route.name) name routes order in
     let room = c.in_ok-make_room.ensures.room in
     record {
       route = subst (λ changed. HasOpened changed c.in_ok-opened-in-Some.opened c.open_route.new.routes.rows) (sym c.in-Some.is) (record {

@@ -11,7 +11,7 @@ use Rattle.lrs_inventory.proofs.inventory.Inventory.located.Goals as goal
 pub returns-in-Ok-clause-answer : goal.returns-in-Ok-clause-answer
 returns-in-Ok-clause-answer c =
     let i = c.args.self.now in
-    let r = c.args.entry.now in
+    let r = c.args.route_row.now in
     let e = c.expression.result in
     let entered = subst (λ (e : Expr). IsTrue (is_entered e)) (sym c.expression.ensures.expression) c.expression.ensures.entered in
     subst (λ (e : Expr). IsLocatedAt (state_of i) (alignment_of r.route) e c.in-Ok.chainage) c.expression.ensures.expression
@@ -21,7 +21,7 @@ returns-in-Ok-clause-answer c =
 pub returns-in-Err-clause-answer : goal.returns-in-Err-clause-answer
 returns-in-Err-clause-answer c =
     let i = c.args.self.now in
-    let r = c.args.entry.now in
+    let r = c.args.route_row.now in
     let e = c.expression.result in
     let entered = subst (λ (e : Expr). IsTrue (is_entered e)) (sym c.expression.ensures.expression) c.expression.ensures.entered in
     ap (λ (e : Expr). located_chainage (state_of i) (alignment_of r.route) e) (sym c.expression.ensures.expression)

@@ -14,7 +14,7 @@ use Rattle.lrs_verbs.proofs.verbs.enter.enter_on.Goals as goal
 pub returns-in_err-check_held : goal.returns-in_err-check_held
 returns-in_err-check_held c =
     let i = c.args.inventory.now in
-    let e = c.args.entry.now in
+    let e = c.args.asked.now in
     let w = c.requires.wanted in
     let err = err_from_is_err_and c.from_residual.result c.from_residual.ensures.1 in
     rw (err.1, err.2) (stopped (verb.Enter e) i _ _ c.in_err-check_held.ensures
@@ -31,7 +31,7 @@ entering-requires-clause-once c = (alone c.args.inventory.now c.args.route.now c
 pub returns : goal.returns
 returns c =
     let i = c.args.inventory.now in
-    let e = c.args.entry.now in
+    let e = c.args.asked.now in
     let r = c.args.route.now in
     let x = c.args.stretch in
     enters e i c.args.kind r x c.in_ok-plan.plan c.prove_sound.ensures c.requires.wanted c.in_ok-plan.ensures.limits c.in_ok-check_held.ensures

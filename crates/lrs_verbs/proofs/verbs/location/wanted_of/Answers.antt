@@ -19,7 +19,7 @@ known i n m o b same found is = ap (contains_key (state_of i).assets) (sym same)
 pub returns-in_err-refuse_if-clause-refused : goal.returns-in_err-refuse_if-clause-refused
 returns-in_err-refuse_if-clause-refused c =
     let i = c.args.inventory.now in
-    let e = c.args.entry.now in
+    let e = c.args.asked.now in
     let test = is_left_out c.args.only_exclusive in
     let err = err_from_is_err_and c.from_residual.result c.from_residual.ensures.1 in
     rw (err.1, err.2) (answers_refused (wanted_of test e (state_of i)) c.is_some-is_known.result cause.AssetKnown c.refuse_if.result _ c.refuse_if.ensures c.in_err-refuse_if.was
@@ -28,7 +28,7 @@ returns-in_err-refuse_if-clause-refused c =
 pub returns-in-None-clause-refused : goal.returns-in-None-clause-refused
 returns-in-None-clause-refused c =
     let i = c.args.inventory.now in
-    let e = c.args.entry.now in
+    let e = c.args.asked.now in
     let fresh =
     known i c.get.result e.asset c.asset.result c.is_some-is_known.result c.get.ensures.number c.asset.ensures c.is_some-is_known.ensures
     ∙ passed c.is_some-is_known.result cause.AssetKnown c.refuse_if.result _ c.refuse_if.ensures c.in_ok-refuse_if.was in
@@ -37,7 +37,7 @@ returns-in-None-clause-refused c =
 pub returns-in-None-route-clause-refused : goal.returns-in-None-route-clause-refused
 returns-in-None-route-clause-refused c =
     let i = c.args.inventory.now in
-    let e = c.args.entry.now in
+    let e = c.args.asked.now in
     let fresh =
     known i c.get.result e.asset c.asset.result c.is_some-is_known.result c.get.ensures.number c.asset.ensures c.is_some-is_known.ensures
     ∙ passed c.is_some-is_known.result cause.AssetKnown c.refuse_if.result _ c.refuse_if.ensures c.in_ok-refuse_if.was in

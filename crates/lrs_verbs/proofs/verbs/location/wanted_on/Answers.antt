@@ -12,7 +12,7 @@ use Rattle.lrs_verbs.proofs.verbs.location.wanted_on.Goals as goal
 pub returns-in_err-refuse_if-clause-refused : goal.returns-in_err-refuse_if-clause-refused
 returns-in_err-refuse_if-clause-refused c =
     let s = state_of c.args.inventory.now in
-    let e = c.args.entry.now in
+    let e = c.args.asked.now in
     let b = c.requires.begun in
     let test = is_left_out c.args.only_exclusive in
     let err = err_from_is_err_and c.from_residual.result c.from_residual.ensures.1 in
@@ -22,7 +22,7 @@ returns-in_err-refuse_if-clause-refused c =
 pub returns-in_err-stretch-clause-refused : goal.returns-in_err-stretch-clause-refused
 returns-in_err-stretch-clause-refused c =
     let s = state_of c.args.inventory.now in
-    let e = c.args.entry.now in
+    let e = c.args.asked.now in
     let b = c.requires.begun in
     let a = alignment_of c.args.route.now.route in
     let test = is_left_out c.args.only_exclusive in
@@ -34,7 +34,7 @@ returns-in_err-stretch-clause-refused c =
 pub returns-in_err-refuse_if-2-clause-refused : goal.returns-in_err-refuse_if-2-clause-refused
 returns-in_err-refuse_if-2-clause-refused c =
     let s = state_of c.args.inventory.now in
-    let e = c.args.entry.now in
+    let e = c.args.asked.now in
     let b = c.requires.begun in
     let a = alignment_of c.args.route.now.route in
     let x = c.in_ok-stretch.stretch in
@@ -47,7 +47,7 @@ returns-in_err-refuse_if-2-clause-refused c =
 pub returns-clause-wanted : goal.returns-clause-wanted
 returns-clause-wanted c =
     let s = state_of c.args.inventory.now in
-    let e = c.args.entry.now in
+    let e = c.args.asked.now in
     let b = c.requires.begun in
     let a = alignment_of c.args.route.now.route in
     let x = c.in_ok-stretch.stretch in

@@ -8,13 +8,13 @@ use Rattle.lrs_verbs.proofs.verbs.realign.realign_route.Goals as goal
 
 pub plan_realign-requires-clause-room : goal.plan_realign-requires-clause-room
 plan_realign-requires-clause-room c =
-    subst (λ (n : ℕ). have_room_behind c.args.to (c.args.from + n) c.args.entry.now.spans ≡ true) (sym c.len-len.ensures.len)
-    (room c.args.entry.now.route.course c.args.line.come c.args.line.course c.args.from c.args.to c.requires.order c.requires.inside c.requires.course c.len-len-2.ensures.limits c.args.entry.now.spans c.requires.ends)
+    subst (λ (n : ℕ). have_room_behind c.args.to (c.args.from + n) c.args.route_row.now.spans ≡ true) (sym c.len-len.ensures.len)
+    (room c.args.route_row.now.route.course c.args.line.come c.args.line.course c.args.from c.args.to c.requires.order c.requires.inside c.requires.course c.len-len-2.ensures.limits c.args.route_row.now.spans c.requires.ends)
 
 pub moved_referents-requires-clause-limit : goal.moved_referents-requires-clause-limit
 moved_referents-requires-clause-limit c =
     subst (λ (n : ℕ). c.args.from + n ≤ longest_route) (sym c.len-len.ensures.len)
-    (limit c.args.entry.now.route.course c.args.line.come c.args.line.course c.args.from c.args.to c.requires.order c.requires.inside c.requires.course c.len-len-2.ensures.limits)
+    (limit c.args.route_row.now.route.course c.args.line.come c.args.line.course c.args.from c.args.to c.requires.order c.requires.inside c.requires.course c.len-len-2.ensures.limits)
 
 pub moved_referents-requires-clause-bounds : goal.moved_referents-requires-clause-bounds
-moved_referents-requires-clause-bounds c = ap (list_all (λ (q : Referent). nat_lt q.at longest_route)) c.as_slice-2.ensures ∙ in_limits c.args.entry.now
+moved_referents-requires-clause-bounds c = ap (list_all (λ (q : Referent). nat_lt q.at longest_route)) c.as_slice-2.ensures ∙ in_limits c.args.route_row.now

@@ -15,7 +15,7 @@ use Rattle.lrs_verbs.proofs.verbs.retire.retire_on.Goals as goal
 pub returns-in_err-refuse_if : goal.returns-in_err-refuse_if
 returns-in_err-refuse_if c =
     let i = c.args.inventory.now in
-    let r = c.args.entry.now in
+    let r = c.args.route_row.now in
     let command = verb.Retire c.args.asset.number r.route.name c.args.location in
     let err = err_from_is_err_and c.from_residual.result c.from_residual.ensures.1 in
     rw (err.1, err.2) (refused command i c.is_wrong_kind.result cause.WrongKind c.refuse_if.result _ c.refuse_if.ensures c.in_err-refuse_if.was
@@ -24,7 +24,7 @@ returns-in_err-refuse_if c =
 pub returns-in_err-stretch : goal.returns-in_err-stretch
 returns-in_err-stretch c =
     let i = c.args.inventory.now in
-    let r = c.args.entry.now in
+    let r = c.args.route_row.now in
     let command = verb.Retire c.args.asset.number r.route.name c.args.location in
     let right = sym c.is_wrong_kind.ensures ∙ passed c.is_wrong_kind.result cause.WrongKind c.refuse_if.result _ c.refuse_if.ensures c.in_ok-refuse_if.was in
     let err = err_from_is_err_and c.from_residual-in_err-stretch.result c.from_residual-in_err-stretch.ensures.1 in
@@ -34,7 +34,7 @@ returns-in_err-stretch c =
 pub returns-in_err-refuse_if-2 : goal.returns-in_err-refuse_if-2
 returns-in_err-refuse_if-2 c =
     let i = c.args.inventory.now in
-    let r = c.args.entry.now in
+    let r = c.args.route_row.now in
     let command = verb.Retire c.args.asset.number r.route.name c.args.location in
     let right = sym c.is_wrong_kind.ensures ∙ passed c.is_wrong_kind.result cause.WrongKind c.refuse_if.result _ c.refuse_if.ensures c.in_ok-refuse_if.was in
     let err = err_from_is_err_and c.from_residual-in_err-refuse_if-2.result c.from_residual-in_err-refuse_if-2.ensures.1 in
@@ -44,7 +44,7 @@ returns-in_err-refuse_if-2 c =
 pub returns-in_err-refuse_if-3 : goal.returns-in_err-refuse_if-3
 returns-in_err-refuse_if-3 c =
     let i = c.args.inventory.now in
-    let r = c.args.entry.now in
+    let r = c.args.route_row.now in
     let command = verb.Retire c.args.asset.number r.route.name c.args.location in
     let right = sym c.is_wrong_kind.ensures ∙ passed c.is_wrong_kind.result cause.WrongKind c.refuse_if.result _ c.refuse_if.ensures c.in_ok-refuse_if.was in
     let some = sym c.is_empty.ensures ∙ passed c.is_empty.result cause.Empty c.refuse_if-2.result _ c.refuse_if-2.ensures c.in_ok-refuse_if-2.was in
@@ -59,12 +59,12 @@ overflow_add-edit c =
     rw c.edits-edit.ensures (search (rules, few))
 
 pub retiring-requires-clause-once : goal.retiring-requires-clause-once
-retiring-requires-clause-once c = (alone c.args.inventory.now c.args.entry.now c.prove_sound.ensures (route_in c.args.inventory.now c.args.entry.now c.requires.known.route)).once
+retiring-requires-clause-once c = (alone c.args.inventory.now c.args.route_row.now c.prove_sound.ensures (route_in c.args.inventory.now c.args.route_row.now c.requires.known.route)).once
 
 pub returns : goal.returns
 returns c =
     let i = c.args.inventory.now in
-    let r = c.args.entry.now in
+    let r = c.args.route_row.now in
     let right = sym c.is_wrong_kind.ensures ∙ passed c.is_wrong_kind.result cause.WrongKind c.refuse_if.result _ c.refuse_if.ensures c.in_ok-refuse_if.was in
     let some = sym c.is_empty.ensures ∙ passed c.is_empty.result cause.Empty c.refuse_if-2.result _ c.refuse_if-2.ensures c.in_ok-refuse_if-2.was in
     let held = sym (c.is_nothing.ensures ∙ ap is_nothing c.deref.ensures.value) ∙ passed c.is_nothing.result cause.Empty c.refuse_if-3.result _ c.refuse_if-3.ensures c.in_ok-refuse_if-3.was in

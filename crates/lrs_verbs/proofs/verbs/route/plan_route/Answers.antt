@@ -63,8 +63,8 @@ returns-in_err-marks c =
     rw (e.1, e.2) (stopped (verb.Route name pieces marks) i (new_marks c.len.result marks) _ (subst (Answers (new_marks c.len.result marks)) c.in_err-marks.was c.new_marks.ensures)
     (λ d is. refuses_marks name pieces marks i _ fresh course made free d (ap (λ (n : ℕ). new_marks n marks) (sym c.len.ensures.len) ∙ is)))
 
-pub new_entry-entry-requires : goal.new_entry-entry-requires
-new_entry-entry-requires c =
+pub new_entry-route_row-requires : goal.new_entry-route_row-requires
+new_entry-route_row-requires c =
     let marks = c.args.marks.now in
     record { fit = good_line (length c.in_ok-course.course) marks c.in_ok-marks.marks (subst (λ (n : ℕ). new_marks n marks ≡ Ok c.in_ok-marks.marks) c.len.ensures.len (subst (Answers (new_marks c.len.result marks)) c.in_ok-marks.was c.new_marks.ensures)) }
 
@@ -80,7 +80,7 @@ returns c =
     let made = subst (Answers (new_course (state_of i) pieces)) c.in_ok-course.was c.course.ensures in
     let free = subst (Answers (check_free (state_of i) pieces)) c.in_ok-check_free.was c.check_free.ensures in
     let line = subst (λ (n : ℕ). new_marks n marks ≡ Ok c.in_ok-marks.marks) c.len.ensures.len (subst (Answers (new_marks c.len.result marks)) c.in_ok-marks.was c.new_marks.ensures) in
-    let entry = c.new_entry-entry.result in
+    let route_row = c.new_entry-route_row.result in
     subst (λ (p : Plan). IsPlanOf (verb.Route name pieces marks) i p) (sym c.route_plan.ensures)
-    (makes name pieces marks c.in_ok-marks.marks course i entry fresh made free line c.new_entry-entry.ensures c.prove_sound.ensures c.in_ok-come.come
-    (c.in_ok-come.ensures.course ∙ sym c.new_entry-entry.ensures.course) c.in_ok-come.ensures.filled)
+    (makes name pieces marks c.in_ok-marks.marks course i route_row fresh made free line c.new_entry-route_row.ensures c.prove_sound.ensures c.in_ok-come.come
+    (c.in_ok-come.ensures.course ∙ sym c.new_entry-route_row.ensures.course) c.in_ok-come.ensures.filled)

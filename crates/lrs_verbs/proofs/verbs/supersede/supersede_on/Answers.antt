@@ -17,7 +17,7 @@ superseding-requires-clause-once c = (alone c.args.inventory.now c.args.route.no
 pub returns : goal.returns
 returns c =
     let i = c.args.inventory.now in
-    let e = c.args.entry.now in
+    let e = c.args.asked.now in
     let r = c.args.route.now in
     let x = c.args.stretch in
     let removal = c.in_ok-removal.removal in

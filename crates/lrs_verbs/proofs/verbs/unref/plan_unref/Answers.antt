@@ -24,7 +24,7 @@ returns c =
     let name = c.args.name in
     let stands = sym c.referent.ensures ∙ c.in-Some.is in
     let on = of_route name (c.in-Some.link, c.in-Some.mm) i c.prove_sound.ensures stands in
-    let route = some_is c.in-Some-route_over.route on.entry.route.name (sym c.in-Some-route_over.is ∙ c.route_over.ensures ∙ on.over) in
+    let route = some_is c.in-Some-route_over.route on.route_row.route.name (sym c.in-Some-route_over.is ∙ c.route_over.ensures ∙ on.over) in
     subst (λ (p : Plan). IsPlanOf (verb.Unref name) i p)
     (sym (c.plan_of_referents.ensures ∙ (λ j. plan_of_referents (route j) (record { gone = c.in_ok-one_name.ensures j; come = c.new.ensures j }) (record { come = None; gone = c.in_ok-one_name-2.ensures j }))))
     (makes name (c.in-Some.link, c.in-Some.mm) i c.prove_sound.ensures stands)

@@ -1,7 +1,7 @@
 use Rattle.std.proofs.Common.{rules, ◌≡◌, ◌<◌, Some, length}
 use Rattle.lrs_store_commit.specs.NewAssets.{BringsOneSpan, BringsOneAsset}
 use Rattle.lrs_store_commit.proofs.EntryLemmas.{enters}
-use Rattle.lrs_store_commit.proofs.new_assets.is_entry.Goals as goal
+use Rattle.lrs_store_commit.proofs.new_assets.is_new_asset.Goals as goal
 
 pub returns-then-brings_one_span : goal.returns-then-brings_one_span
 returns-then-brings_one_span c known =

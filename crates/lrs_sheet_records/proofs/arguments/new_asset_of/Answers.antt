@@ -1,7 +1,7 @@
 use Rattle.std.proofs.Common.{rules, length, arith, ◌≤◌}
 use Rattle.lrs_sheet_records.specs.Kinds.{edit_fields}
 use Rattle.lrs_sheet_records.proofs.Misfits.{text_at-past}
-use Rattle.lrs_sheet_records.proofs.arguments.entry_of.Goals as goal
+use Rattle.lrs_sheet_records.proofs.arguments.new_asset_of.Goals as goal
 
 pub returns : goal.returns
 returns c =

@@ -3,7 +3,7 @@ use Rattle.std.specs.Prelude.{List, position}
 use Rattle.lrs_element.specs.declared.link.Ground.{Ground}
 use Rattle.lrs_element.specs.Course.{is_at}
 use Rattle.lrs_position.proofs.Entries.{walk_more, walk_found, walk_next, walk_inside}
-use Rattle.lrs_position.proofs.link_position.entry_of.Goals as goal
+use Rattle.lrs_position.proofs.link_position.chainage_on.Goals as goal
 
 pub overflow_add-result : goal.overflow_add-result
 overflow_add-result c =

@@ -3,7 +3,7 @@ use Rattle.lrs_measure.specs.Lists.{each_two}
 use Rattle.lrs_machine.specs.Sound.{asset_before}
 use Rattle.lrs_store_image.specs.Entering.{entered_all}
 use Rattle.lrs_store_image.proofs.Entered.{all_entered, order_without}
-use Rattle.lrs_store_image.proofs.entering_edits.with_entries.Goals as goal
+use Rattle.lrs_store_image.proofs.entering_edits.with_edits.Goals as goal
 
 pub enter_all-requires : goal.enter_all-requires
 enter_all-requires c = record { order = ap (each_two asset_before) c.in_ok-found.ensures ∙ order_without c.args.assets.now ∙ c.requires.order }

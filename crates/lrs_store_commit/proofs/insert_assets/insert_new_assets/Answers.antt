@@ -5,7 +5,7 @@ use Rattle.lrs_store_rows.specs.Tables.{Tables}
 use Rattle.lrs_store_commit.specs.NewAssets.{with_assets_of, with_origins_of, with_spans_of, with_parts_of, with_edits_of}
 use Rattle.lrs_store_commit.proofs.EntryRows.{steady-origins, steady-spans, steady-parts, steady-edits}
 use Rattle.lrs_store_commit.proofs.Then.{makes_on}
-use Rattle.lrs_store_commit.proofs.insert_assets.put_entries.Goals as goal
+use Rattle.lrs_store_commit.proofs.insert_assets.insert_new_assets.Goals as goal
 
 pub returns-clause-does : goal.returns-clause-does
 returns-clause-does g c clean writing =

@@ -1,7 +1,0 @@
-use Rattle.std.proofs.Common.{take}
-use Rattle.std.specs.List.{AllByRecursion}
-use Rattle.lrs_store_commit.specs.NewAssets.{IsEntry}
-use Rattle.lrs_store_commit.proofs.new_assets.are_entries.Given as goal
-
-abbrev pub invariant-loop-i : goal.invariant-loop-i
-invariant-loop-i l = AllByRecursion IsEntry (take l.i l.changes)
