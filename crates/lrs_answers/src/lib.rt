@@ -1,6 +1,5 @@
-//! What a road authority asks of an inventory, over the lists that are kept of it.
-//! Where an asset lies, by the ground where it was entered.
-//! The lines as which answers are printed.
+//! Answers to questions, over the lists of an inventory: the assets at a position, where an asset is, segments, positions
+//! by another method; and the lines as which answers are printed.
 #![tactic(auto)]
 
 mod asset_rows;

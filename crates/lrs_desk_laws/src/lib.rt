@@ -1,8 +1,5 @@
-//! What an inventory says of the ground determines its rows.
-//! A desk that stops: what its calls are as steps of a run.
-//!
-//! `lrs_machine_stops` says what may become of what is stored, step by step, and what holds of all such runs. The
-//! functions here are the calls of a desk, over any keeper, with contracts that say which steps they are.
+//! Laws of a desk: its calls are steps of runs that may stop, and what its inventory says of the ground determines its
+//! rows.
 #![tactic(auto)]
 
 pub mod row_laws;

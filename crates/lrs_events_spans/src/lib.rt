@@ -1,6 +1,5 @@
 //! What assets hold on one route: the canonical rows of a set of (class, asset, millimetre, side), found by search
-//! (ISO 19148, linearly located events).
-//! The rows of a route of which a stretch is replaced by other ground.
+//! and changed by differences.
 #![tactic(auto)]
 
 mod class_places;

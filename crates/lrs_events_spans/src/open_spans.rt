@@ -85,6 +85,7 @@ impl OpenSpans {
         ensures canonical { IsTrue (are_rows self.now.rows) }
         ensures tied { AreTied self.now.rows self.now.lanes }
     {
+        // For the prover alone: what its contract says is known from here on.
         let _rows = &self.rows;
         self.lanes.as_slice()
     }

@@ -1,4 +1,4 @@
-//! What is kept, and how it changes: changes as differences, images open for a change, and keepers.
+//! The image as it is kept: its lists in chunks, the changes that commands make of it, and keepers.
 #![tactic(auto)]
 
 mod change;

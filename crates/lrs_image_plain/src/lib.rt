@@ -1,3 +1,4 @@
+//! An image that is kept in memory.
 #![tactic(auto)]
 
 mod plain;

@@ -1,3 +1,4 @@
+//! The inventory: an image with its indexes, the look-ups that verbs and questions make, and the plans that change it.
 #![tactic(auto)]
 
 mod ground;

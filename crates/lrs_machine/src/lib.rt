@@ -1,5 +1,4 @@
-//! What is read off an inventory: totals by class, and segments of a route (ISO 19148, linear segment).
-//! The ground machine: commands under keys, their answers, and what they make of an inventory.
+//! The ground machine: commands under keys, their answers, what they make of an inventory, and what is read off it.
 //!
 //! What each command asks and changes is defined over a small model with one entry for each millimetre
 //! (`specs/Machine`). An image, which is what a desk keeps, stands for a state of that model
@@ -14,6 +13,7 @@ mod key;
 pub mod laws;
 mod line;
 mod operands;
+mod question;
 mod segment;
 mod table;
 mod texts;
@@ -27,6 +27,7 @@ pub use image::{Edit, Image, RouteRow};
 pub use key::Key;
 pub use line::Line;
 pub use operands::{AssetNumber, Chainage, LateralOffset, MarkList, PieceList};
+pub use question::{Destination, Question};
 pub use segment::{SegFault, Segment};
 pub use table::Table;
 pub use total::Total;

@@ -105,6 +105,7 @@ fn route_over(routes: &[Route], link: u32, mm: u32) -> Option<(&Route, u64)>
 fn chainage_on(course: &Course, link: u32, mm: u32) -> Option<u64>
     ensures { result ≡ ground.chainage_on course.now (link, mm) }
 {
+    // For the prover alone: what its contract says is known from here on.
     let _length = course.len();
     let mut start = 0;
     for piece in course.pieces() {

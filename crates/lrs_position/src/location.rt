@@ -61,6 +61,7 @@ fn locate_measure(route: &Route, measure: Frac) -> Result<Frac, PlaceFault>
         (referent_at route.now.refs) (Abs measure)) result }
     ensures number { IsLowest measure }
 {
+    // For the prover alone: what its contract says is known from here on.
     let _num = measure.num();
     let _length = route.length();
     if measure.den() > FINEST {

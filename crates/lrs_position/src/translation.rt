@@ -64,6 +64,7 @@ fn express_measure(route: &Route, chainage: Frac) -> Result<Expr, PlaceFault>
     ensures { IsExpression (alignment_of route.now)
         (referent_at route.now.refs) chainage Abs result }
 {
+    // For the prover alone: what its contract says is known from here on.
     let _length = route.length();
     match checked(route, chainage) {
         Err(fault) => Err(fault),

@@ -73,6 +73,7 @@ fn column_of(
     ensures values { IfOk result (λ column. (j : ℕ) → j < len
         → value_at column j ≡ value_of assets.now.rows (is_holder spans.now side j) class) }
 {
+    // For the prover alone: what its contract says is known from here on.
     let _canonical = spans.rows();
     let lane = spans.lane(class, side);
     let stretches = stretches_of(alloc, lane, assets, len)?;

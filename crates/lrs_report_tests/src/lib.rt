@@ -1,5 +1,4 @@
-//! Tests of lrs_events_spans: random calls beside a plain table of what assets hold, and each growth of a list refused.
-//! Tests of segments.
+//! Tests of spans, segments and strips: random changes beside a plain table of what assets hold, and refused growths.
 #![tactic(auto)]
 
 #[cfg(test)]

@@ -16,21 +16,21 @@ use crate::verdict::judge;
 use lrs_image::LoadFault;
 use lrs_store_files::files::{CloseFault, Refusal, Untaken, close_files, open_file, open_files};
 use lrs_store_keeper::{ReadImage, TableKeeper};
-use lrs_store_tables::tables::{OpenFault, Tables};
+use lrs_store_tables::tables::{StoreFault, Tables};
 use sqlite::{Connection, FileFrom, FileStore, Files, Leftover, Options, Start};
 use sqlite_disk::Disk;
 use std::alloc::Global;
 use std::rt::HostRuntime;
 
 /// Why no keeper is there, by why the tables are not opened.
-fn fault_of(fault: OpenFault) -> LoadFault
-    ensures memory { result ≡ LoadFault.Memory → fault ≡ OpenFault.Memory }
-    ensures store { fault ≡ OpenFault.Store → result ≡ LoadFault.Store }
+fn fault_of(fault: StoreFault) -> LoadFault
+    ensures memory { result ≡ LoadFault.Memory → fault ≡ StoreFault.Memory }
+    ensures store { fault ≡ StoreFault.Store → result ≡ LoadFault.Store }
     ensures unnamed { (t : Table) → result ≡ LoadFault.Unsound t → ⊥ }
 {
     match fault {
-        OpenFault::Memory => LoadFault::Memory,
-        OpenFault::Store => LoadFault::Store,
+        StoreFault::Memory => LoadFault::Memory,
+        StoreFault::Store => LoadFault::Store,
     }
 }
 
@@ -83,14 +83,14 @@ fn not_opened<D: Disk + Drop, R: ReadImage>(
 {
     let Refusal { fault, left } = refusal;
     match (fault, left) {
-        (OpenFault::Store, Some(mut left)) => {
+        (StoreFault::Store, Some(mut left)) => {
             let fault = judge_left(alloc, &mut left, reader);
             NotOpened {
                 fault,
                 left: Left::Untaken(left),
             }
         }
-        (OpenFault::Memory, Some(left)) => NotOpened {
+        (StoreFault::Memory, Some(left)) => NotOpened {
             fault: LoadFault::Memory,
             left: Left::Untaken(left),
         },

@@ -1,5 +1,4 @@
-//! Stores that no connection takes, since their rows break a rule of their tables: which of these is unsound.
-//! Files are opened as the keeper of an inventory.
+//! An inventory in the tables of a file: opened, kept and closed.
 #![tactic(auto)]
 
 pub mod files;

@@ -1,3 +1,4 @@
+//! Commits: the changes of some commands, written to the tables of a store by one transaction.
 #![tactic(auto)]
 
 pub mod cells;

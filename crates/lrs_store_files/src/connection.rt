@@ -13,7 +13,7 @@ ghost use Rattle.lrs_store_files.specs.Opening.{IsTaken, IsFound, LeavesFound, H
 
 use crate::table_list::{Known, wanted, which};
 use lrs_store_tables::new_store::make_store;
-use lrs_store_tables::tables::{OpenFault, Tables};
+use lrs_store_tables::tables::{StoreFault, Tables};
 use sqlite::{Alter, Connection, Error, ErrorCode, Transaction};
 use std::alloc::Global;
 
@@ -54,13 +54,13 @@ pub fn grow<S: Alter>(conn: &mut Connection<S>) -> Result<(), Error>
 }
 
 /// Why a store is not opened, by what its connection answered.
-pub fn fault_of(error: Error) -> OpenFault
-    ensures memory { error ≡ Error.SqliteFailure ErrorCode.OutOfMemory → result ≡ OpenFault.Memory }
-    ensures only { result ≡ OpenFault.Memory → error ≡ Error.SqliteFailure ErrorCode.OutOfMemory }
+pub fn fault_of(error: Error) -> StoreFault
+    ensures memory { error ≡ Error.SqliteFailure ErrorCode.OutOfMemory → result ≡ StoreFault.Memory }
+    ensures only { result ≡ StoreFault.Memory → error ≡ Error.SqliteFailure ErrorCode.OutOfMemory }
 {
     match error {
-        Error::SqliteFailure(ErrorCode::OutOfMemory) => OpenFault::Memory,
-        _ => OpenFault::Store,
+        Error::SqliteFailure(ErrorCode::OutOfMemory) => StoreFault::Memory,
+        _ => StoreFault::Store,
     }
 }
 
@@ -72,12 +72,13 @@ fn kept<S: Alter>(conn: Connection<S>) -> Tables<S>
     ensures ready { IsReady (state S.Store result.conn) }
     ensures rows { IsTaken (state S.Store conn) (state S.Store result.conn) }
 {
+    // For the prover alone: what its contract says is known from here on.
     let _live = conn.schema();
     Tables { conn }
 }
 
 /// A connection as it was opened, or whose tables were to be made: why they are not taken, and what an opening finds.
-type NotTaken<S> = (OpenFault, Connection<S>);
+type NotTaken<S> = (StoreFault, Connection<S>);
 
 fn made<S: Alter>(mut conn: Connection<S>) -> Result<Tables<S>, NotTaken<S>>
     requires autocommit { conn.in_transaction ≡ false }
@@ -109,6 +110,7 @@ fn grown<S: Alter>(mut conn: Connection<S>) -> Result<Tables<S>, NotTaken<S>>
 {
     match grow(&mut conn) {
         Ok(()) => {
+            // For the prover alone: what its contract says is known from here on.
             let _live = conn.schema();
             Ok(Tables { conn })
         }
@@ -117,7 +119,7 @@ fn grown<S: Alter>(mut conn: Connection<S>) -> Result<Tables<S>, NotTaken<S>>
 }
 
 /// A connection as it was opened.
-fn unchanged<S: Alter>(fault: OpenFault, conn: Connection<S>) -> NotTaken<S>
+fn unchanged<S: Alter>(fault: StoreFault, conn: Connection<S>) -> NotTaken<S>
     requires found { IsFound (state S.Store conn) }
     ensures same { result.1 ≡ conn }
     ensures left { LeavesFound (state S.Store conn) (state S.Store result.1) }
@@ -144,12 +146,12 @@ pub fn over<S: Alter>(alloc: Global, conn: Connection<S>) -> Result<Tables<S>, N
     ensures left { IfErr result (λ e. LeavesFound (state S.Store conn) (state S.Store e.1)) }
 {
     let Ok(wanted) = wanted(alloc) else {
-        return Err(unchanged(OpenFault::Memory, conn));
+        return Err(unchanged(StoreFault::Memory, conn));
     };
     match which(conn.schema(), &wanted) {
         Known::Second => Ok(kept(conn)),
         Known::Nothing => made(conn),
         Known::First => grown(conn),
-        Known::Other => Err(unchanged(OpenFault::Store, conn)),
+        Known::Other => Err(unchanged(StoreFault::Store, conn)),
     }
 }

@@ -11,7 +11,7 @@ ghost use Rattle.lrs_store_tables.specs.Resting.{IsReady};
 ghost use Rattle.lrs_store_files.specs.Found.{HasFound, IsLeftOf};
 
 use crate::connection::{fault_of, over};
-use lrs_store_tables::tables::{OpenFault, Tables};
+use lrs_store_tables::tables::{StoreFault, Tables};
 use sqlite::{Connection, Error, ErrorCode, FileFrom, FileStore, Files, Leftover, Options, Start};
 use sqlite_disk::Disk;
 use std::alloc::Global;
@@ -29,7 +29,7 @@ pub enum Untaken<D: Disk> {
 /// Why the store in files is not opened, and what is left of them: nothing where the system did not open them.
 #[derive(Drop)]
 pub struct Refusal<D: Disk> {
-    pub fault: OpenFault,
+    pub fault: StoreFault,
     pub left: Option<Untaken<D>>,
 }
 

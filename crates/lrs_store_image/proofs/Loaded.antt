@@ -3,18 +3,18 @@ use Rattle.std.proofs.Common.{◌≡◌, Result, Ok, Err, refl, sym, subst}
 use Rattle.std.specs.Prelude.{IfOk}
 use Rattle.lrs_machine.specs.declared.table.Table.{Table}
 use Rattle.lrs_image.specs.declared.keeper.LoadFault.{LoadFault}
-use Rattle.lrs_store_routes.specs.declared.fault.ReadFault.{ReadFault}
-use Rattle.lrs_store_routes.specs.declared.fault.ReadFault.TheVariants.{Memory, Unsound}
+use Rattle.lrs_store_routes.specs.declared.fault.RowsFault.{RowsFault}
+use Rattle.lrs_store_routes.specs.declared.fault.RowsFault.TheVariants.{Memory, Unsound}
 use Rattle.lrs_store_image.specs.Loading.{Reads}
 use Rattle.lrs_store_image.specs.Reading.{of_read}
 
 module _ {V A : Type 0} (f : V → A) (wanted : Result A Table) where
-  reads_from : (r : Result V ReadFault) → IfOk r (λ x. wanted ≡ Ok (f x)) → ((t : Table) → r ≡ Err (Unsound t) → wanted ≡ Err t) → Reads wanted (of_read f r)
+  reads_from : (r : Result V RowsFault) → IfOk r (λ x. wanted ≡ Ok (f x)) → ((t : Table) → r ≡ Err (Unsound t) → wanted ≡ Err t) → Reads wanted (of_read f r)
   reads_from (Ok x) ok unsound = ok
   reads_from (Err Memory) ok unsound = tt
   reads_from (Err (Unsound t)) ok unsound = unsound t refl
 
-  pub reads_of : (r : Result V ReadFault) (l : Result A LoadFault) → l ≡ of_read f r → IfOk r (λ x. wanted ≡ Ok (f x)) → ((t : Table) → r ≡ Err (Unsound t) → wanted ≡ Err t) → Reads wanted l
+  pub reads_of : (r : Result V RowsFault) (l : Result A LoadFault) → l ≡ of_read f r → IfOk r (λ x. wanted ≡ Ok (f x)) → ((t : Table) → r ≡ Err (Unsound t) → wanted ≡ Err t) → Reads wanted l
   reads_of r l is ok unsound = subst (Reads wanted) (sym is) (reads_from r ok unsound)
 
 -- the answer for other rows, of which the same is read

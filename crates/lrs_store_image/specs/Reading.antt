@@ -16,8 +16,8 @@ use Rattle.lrs_store_rows.specs.Content.{◌>>=◌, read, courses_of, measured_o
 use Rattle.lrs_store_routes.specs.Measuring.{are_all_measured}
 use Rattle.lrs_store_routes.specs.Referring.{are_all_referred}
 use Rattle.lrs_store_routes.specs.Spans.{are_sound}
-use Rattle.lrs_store_routes.specs.declared.fault.ReadFault.{ReadFault}
-use Rattle.lrs_store_routes.specs.declared.fault.ReadFault.TheVariants.{Memory, Unsound}
+use Rattle.lrs_store_routes.specs.declared.fault.RowsFault.{RowsFault}
+use Rattle.lrs_store_routes.specs.declared.fault.RowsFault.TheVariants.{Memory, Unsound}
 use Rattle.lrs_store_tables.specs.Stored.{link_in, class_in, asset_in, piece_in, mark_in, ref_in, span_in, entered_in, gone_in, edit_in}
 use Rattle.lrs_store_keeper.specs.declared.rows.NamedRows.{NamedRows}
 use Rattle.lrs_store_keeper.specs.declared.rows.RouteRows.{RouteRows}
@@ -25,7 +25,7 @@ use Rattle.lrs_store_image.specs.declared.registers.Named.{Named}
 use Rattle.lrs_store_image.specs.declared.ledgers.Ledgers.{Ledgers}
 
 -- the same rows, or the same fault
-abbrev pub of_read : {V A : Type 0} → (V → A) → Result V ReadFault → Result A LoadFault
+abbrev pub of_read : {V A : Type 0} → (V → A) → Result V RowsFault → Result A LoadFault
 of_read f (Ok x) = Ok (f x)
 of_read f (Err Memory) = Err load.Memory
 of_read f (Err (Unsound t)) = Err (load.Unsound t)

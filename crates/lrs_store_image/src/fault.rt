@@ -5,15 +5,15 @@ ghost use Rattle.lrs_store_image.specs.Reading.{of_read};
 
 use lrs_image::LoadFault;
 use lrs_measure::Rows;
-use lrs_store_routes::ReadFault;
+use lrs_store_routes::RowsFault;
 
 /// What the rows of a table give, in the terms of a keeper.
-pub(crate) fn as_loaded<T>(found: Result<Vec<T>, ReadFault>) -> Result<Rows<T>, LoadFault>
+pub(crate) fn as_loaded<T>(found: Result<Vec<T>, RowsFault>) -> Result<Rows<T>, LoadFault>
     ensures { result ≡ of_read (λ v. v.items) found }
 {
     match found {
         Ok(rows) => Ok(Rows::from_vec(rows)),
-        Err(ReadFault::Memory) => Err(LoadFault::Memory),
-        Err(ReadFault::Unsound(table)) => Err(LoadFault::Unsound(table)),
+        Err(RowsFault::Memory) => Err(LoadFault::Memory),
+        Err(RowsFault::Unsound(table)) => Err(LoadFault::Unsound(table)),
     }
 }

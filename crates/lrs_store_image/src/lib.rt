@@ -1,5 +1,4 @@
-//! The tables of a store, loaded one by one.
-//! The image that the rows of a store hold, or the first table that is unsound.
+//! The image that the rows of a store hold, or the first unsound table.
 #![tactic(auto)]
 
 mod cells;

@@ -9,7 +9,7 @@ ghost use Rattle.lrs_image.specs.Together.{CanMakeAll, IsChangedBy};
 ghost use Rattle.lrs_store_tables.specs.Resting.{IsReady};
 ghost use Rattle.lrs_store_keeper.specs.Holding.{MayHold, HasEdits};
 
-use crate::texts::all_texts;
+use crate::texts::prove_all_texts;
 use lrs_image::{Change, CommitFailed};
 use lrs_store_commit::commit::write_changes;
 use sqlite::{Alter, Connection};
@@ -38,7 +38,7 @@ fn write_as<S: Alter>(
         → MayHold (state S.Store conn.old) c ⊎ IsChangedBy
         (MayHold (state S.Store conn.old)) changes.now c) }
 {
-    all_texts(changes);
+    prove_all_texts(changes);
     match write_changes(conn, n, changes) {
         Ok(()) => Ok(()),
         Err(_) => Err(CommitFailed),

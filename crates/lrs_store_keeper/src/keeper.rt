@@ -18,7 +18,7 @@ use crate::memory::new_store;
 use crate::migration::make_second;
 use lrs_image::{Change, CommitFailed, Keeper, LoadFault};
 use lrs_machine::{Image, Table};
-use lrs_store_tables::tables::OpenFault;
+use lrs_store_tables::tables::StoreFault;
 use sqlite::{Alter, Connection, MemStore};
 use std::alloc::Global;
 use std::marker::Model;
@@ -125,7 +125,7 @@ impl<R: ReadImage + Drop> TableKeeper<MemStore, R> {
     ///
     /// # Errors
     /// When memory runs out.
-    pub fn in_memory(alloc: Global, reader: R) -> Result<TableKeeper<MemStore, R>, OpenFault>
+    pub fn in_memory(alloc: Global, reader: R) -> Result<TableKeeper<MemStore, R>, StoreFault>
         ensures empty { IfOk result (λ k. HoldsOnly (MayHold (state over_memory k.conn)) nothing) }
         ensures safe { IfOk result (λ k. IsSafe (state over_memory k.conn)) }
         ensures loaded { IfOk result (λ k. k.is_loaded ≡ true) }

@@ -7,7 +7,7 @@ ghost use Rattle.sqlite.specs.Steps.{over_memory};
 ghost use Rattle.lrs_store_tables.specs.Starting.{IsNew};
 
 use lrs_store_tables::new_store::make_store;
-use lrs_store_tables::tables::OpenFault;
+use lrs_store_tables::tables::StoreFault;
 use sqlite::{Connection, Error, ErrorCode, MemStore};
 use std::alloc::Global;
 
@@ -15,16 +15,16 @@ use std::alloc::Global;
 ///
 /// # Errors
 /// When memory runs out.
-pub(crate) fn new_store(alloc: Global) -> Result<Connection<MemStore>, OpenFault>
+pub(crate) fn new_store(alloc: Global) -> Result<Connection<MemStore>, StoreFault>
     ensures autocommit { IfOk result (λ conn. conn.in_transaction ≡ false) }
     ensures made { IfOk result (λ conn. IsNew (state over_memory conn)) }
 {
     let Ok(mut conn) = Connection::open_in_memory(alloc) else {
-        return Err(OpenFault::Memory);
+        return Err(StoreFault::Memory);
     };
     match make_store(&mut conn) {
         Ok(()) => Ok(conn),
-        Err(Error::SqliteFailure(ErrorCode::OutOfMemory)) => Err(OpenFault::Memory),
-        Err(_) => Err(OpenFault::Store),
+        Err(Error::SqliteFailure(ErrorCode::OutOfMemory)) => Err(StoreFault::Memory),
+        Err(_) => Err(StoreFault::Store),
     }
 }

@@ -1,4 +1,4 @@
-//! The texts that come with changes.
+//! For the prover alone: each text of a change is of its kind, as its type says. No function here changes anything.
 
 ghost use Rattle.std.specs.Prelude.{IsTrue, IfSome};
 ghost use Rattle.std.specs.List.{list_all};
@@ -14,7 +14,7 @@ use lrs_machine::{Edit, RouteRow};
 use lrs_position::Referent;
 
 /// Each name of a referent is one.
-fn referents(refs: &[Referent])
+fn prove_referents(refs: &[Referent])
     ensures { AreNames refs.now }
 {
     for referent in refs {
@@ -23,7 +23,7 @@ fn referents(refs: &[Referent])
 }
 
 /// The name of a class that comes is one.
-fn class(class: &Option<Class>)
+fn prove_class(class: &Option<Class>)
     ensures { IfSome class.now (λ c. IsTrue (is_class_name c.name)) }
 {
     if let Some(class) = class {
@@ -32,7 +32,7 @@ fn class(class: &Option<Class>)
 }
 
 /// The value of an asset that comes is one.
-fn asset(asset: &Option<Asset>)
+fn prove_asset(asset: &Option<Asset>)
     ensures { IfSome asset.now (λ a. IsTrue (is_value a.value)) }
 {
     if let Some(asset) = asset {
@@ -41,27 +41,27 @@ fn asset(asset: &Option<Asset>)
 }
 
 /// The names on a route that comes are names.
-fn made(route_row: &Option<RouteRow>)
+fn prove_made(route_row: &Option<RouteRow>)
     ensures { IfSome route_row.now MakesTexts }
 {
     if let Some(route_row) = route_row {
         let _name = route_row.route.name.bytes();
-        referents(route_row.route.refs.as_slice());
+        prove_referents(route_row.route.refs.as_slice());
     }
 }
 
 /// The names that a route gets are names.
-fn changed(change: &Option<RouteChange>)
+fn prove_changed(change: &Option<RouteChange>)
     ensures { IfSome change.now ChangesTexts }
 {
     if let Some(change) = change {
         let _name = change.name.bytes();
-        referents(change.refs.come.as_slice());
+        prove_referents(change.refs.come.as_slice());
     }
 }
 
 /// The key of an edit is one, and its line is a text.
-fn edit(edit: &Edit)
+fn prove_edit(edit: &Edit)
     ensures key { IsTrue (is_key edit.now.key) }
     ensures line { IsUtf8 edit.now.line }
 {
@@ -70,22 +70,22 @@ fn edit(edit: &Edit)
 }
 
 /// Each text that comes with a change is of its kind, as its type says.
-fn texts(change: &Change)
+fn prove_texts(change: &Change)
     ensures { HasTexts change.now }
 {
     let difference = &change.difference;
-    class(&difference.class);
-    asset(&difference.asset);
-    changed(&difference.changed);
-    made(&difference.made);
-    edit(&change.edit);
+    prove_class(&difference.class);
+    prove_asset(&difference.asset);
+    prove_changed(&difference.changed);
+    prove_made(&difference.made);
+    prove_edit(&change.edit);
 }
 
 /// So is each text that comes with one of the changes. It does nothing: a contract names it.
-pub(crate) fn all_texts(changes: &[Change])
+pub(crate) fn prove_all_texts(changes: &[Change])
     ensures { HaveTexts changes.now }
 {
     for change in changes {
-        texts(change);
+        prove_texts(change);
     }
 }

@@ -1,5 +1,5 @@
-//! An image and the rows that it is written as: the one determines the other.
-//! What is written of a change: the rows that stand for an image become those that stand for the changed one.
+//! Laws of stored rows: an image and its rows determine each other, and the rows written for a change stand for the
+//! changed image.
 #![tactic(auto)]
 
 pub mod change_laws;

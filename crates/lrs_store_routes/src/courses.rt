@@ -16,13 +16,13 @@ ghost use Rattle.lrs_store_rows.specs.Content.{read, routes_named, course_of_rou
 ghost use Rattle.lrs_store_routes.specs.Courses.{is_filled, is_good_course, good_course, good_route, good_route_over, fit_together, passing};
 ghost use Rattle.lrs_store_routes.specs.Measuring.{are_route_courses};
 ghost use Rattle.lrs_measure.specs.Limits.{most_routes};
-ghost use Rattle.lrs_store_routes.specs.declared.fault.ReadFault.TheVariants as ReadFault;
+ghost use Rattle.lrs_store_routes.specs.declared.fault.RowsFault.TheVariants as RowsFault;
 ghost use Rattle.lrs_store_routes.specs.Grouping.{route_before};
 
 use crate::cells::PieceCells;
 use crate::decode::pieces_said;
 use crate::decoded_rows::{Numbered, OfRoute};
-use crate::fault::ReadFault;
+use crate::fault::RowsFault;
 use crate::groups::{counted_of, names_of, sort_by_route};
 use lrs_element::{Course, CourseFault, Link, Piece, have_repeat};
 use lrs_machine::Table;
@@ -285,17 +285,17 @@ pub fn read_courses(
     alloc: Global,
     links: &[Link],
     rows: &[PieceCells<'_>],
-) -> Result<Vec<RouteCourse>, ReadFault>
+) -> Result<Vec<RouteCourse>, RowsFault>
     requires { are_links links.now ≡ true }
     ensures fit { IfOk result (λ courses. are_route_courses courses.items ≡ true) }
     ensures courses { IfOk result (λ courses. read table.Piece (courses_of rows.now)
         (are_courses links.now) ≡ Ok courses.items) }
-    ensures unsound { (t : DeclaredTable) → result ≡ Err (ReadFault.Unsound t)
+    ensures unsound { (t : DeclaredTable) → result ≡ Err (RowsFault.Unsound t)
         → read table.Piece (courses_of rows.now) (are_courses links.now) ≡ Err t }
 {
     let found = courses_said(alloc, links, rows)?;
     match found {
         Some(courses) => Ok(courses),
-        None => Err(ReadFault::Unsound(Table::Piece)),
+        None => Err(RowsFault::Unsound(Table::Piece)),
     }
 }

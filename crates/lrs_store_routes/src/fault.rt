@@ -5,20 +5,20 @@ use std::alloc::AllocError;
 
 /// Why rows give no part of an image.
 #[derive(Clone, Copy, Debug, PartialEq, Eq)]
-pub enum ReadFault {
+pub enum RowsFault {
     /// There is too little memory.
     Memory,
     /// The rows of this table are unsound.
     Unsound(Table),
 }
 
-impl From<AllocError> for ReadFault {
+impl From<AllocError> for RowsFault {
     ghost use Rattle.std.specs.Prelude.{◌≡◌};
-    ghost use Rattle.lrs_store_routes.specs.declared.fault.ReadFault.TheVariants.{Memory};
+    ghost use Rattle.lrs_store_routes.specs.declared.fault.RowsFault.TheVariants.{Memory};
 
     ghost from_gives = { λ _ e. e ≡ Memory };
 
-    fn from(_e: AllocError) -> ReadFault {
-        ReadFault::Memory
+    fn from(_e: AllocError) -> RowsFault {
+        RowsFault::Memory
     }
 }

@@ -1,5 +1,4 @@
-//! The routes of a store from the rows of its tables: pieces, marks, referents and spans, in any order.
-//! The spans of a store from the rows of their table, in any order, beside the routes that they lie on.
+//! Routes from the rows of a store, in any order: courses, marks, referents and spans.
 #![tactic(auto)]
 
 mod canonical_rows;
@@ -18,7 +17,7 @@ mod spans;
 pub use cells::{MarkCells, PieceCells, RefCells, SpanCells};
 pub use courses::{RouteCourse, read_courses};
 pub use decoded_rows::OfRoute;
-pub use fault::ReadFault;
+pub use fault::RowsFault;
 pub use groups::{said_of, sort_by_route};
 pub use marks::{Measured, read_marks};
 pub use referents::read_referents;

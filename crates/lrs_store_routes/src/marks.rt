@@ -11,12 +11,12 @@ ghost use Rattle.lrs_store_rows.specs.Content.{read, measured_of};
 ghost use Rattle.lrs_store_routes.specs.Courses.{passing};
 ghost use Rattle.lrs_store_routes.specs.Grouping.{route_before};
 ghost use Rattle.lrs_store_routes.specs.Measuring.{is_name_of, known, are_route_courses, courses_of_measured, good_measured, are_all_measured};
-ghost use Rattle.lrs_store_routes.specs.declared.fault.ReadFault.TheVariants as ReadFault;
+ghost use Rattle.lrs_store_routes.specs.declared.fault.RowsFault.TheVariants as RowsFault;
 
 use crate::cells::MarkCells;
 use crate::courses::RouteCourse;
 use crate::decoded_rows::{Numbered, OfRoute};
-use crate::fault::ReadFault;
+use crate::fault::RowsFault;
 use crate::groups::{counted_of, sort_by_route};
 use crate::known_routes::of_known;
 use lrs_element::{Mark, Marks};
@@ -164,18 +164,18 @@ pub fn read_marks(
     alloc: Global,
     rows: &[MarkCells<'_>],
     courses: Vec<RouteCourse>,
-) -> Result<Vec<Measured>, ReadFault>
+) -> Result<Vec<Measured>, RowsFault>
     requires { are_route_courses courses.items ≡ true }
     ensures measured { IfOk result (λ measured. read table.Mark
         (measured_of rows.now courses.items) are_all_measured ≡ Ok measured.items) }
     ensures courses { IfOk result (λ measured. courses_of_measured measured.items ≡ courses.items) }
     ensures marks { IfOk result (λ measured. are_all_measured measured.items ≡ true) }
-    ensures unsound { (t : DeclaredTable) → result ≡ Err (ReadFault.Unsound t)
+    ensures unsound { (t : DeclaredTable) → result ≡ Err (RowsFault.Unsound t)
         → read table.Mark (measured_of rows.now courses.items) are_all_measured ≡ Err t }
 {
     let found = measured_said(alloc, rows, courses)?;
     match found {
         Some(measured) => Ok(measured),
-        None => Err(ReadFault::Unsound(Table::Mark)),
+        None => Err(RowsFault::Unsound(Table::Mark)),
     }
 }

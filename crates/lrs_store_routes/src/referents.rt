@@ -16,12 +16,12 @@ ghost use Rattle.lrs_store_routes.specs.Courses.{passing};
 ghost use Rattle.lrs_store_routes.specs.Grouping.{route_before};
 ghost use Rattle.lrs_store_routes.specs.Measuring.{is_name_of, known, are_route_courses, courses_of_measured, are_all_measured};
 ghost use Rattle.lrs_store_routes.specs.Referring.{is_measured, route_if, have_own_names, are_all_referred, courses_of_routes};
-ghost use Rattle.lrs_store_routes.specs.declared.fault.ReadFault.TheVariants as ReadFault;
+ghost use Rattle.lrs_store_routes.specs.declared.fault.RowsFault.TheVariants as RowsFault;
 
 use crate::cells::RefCells;
 use crate::courses::RouteCourse;
 use crate::decoded_rows::OfRoute;
-use crate::fault::ReadFault;
+use crate::fault::RowsFault;
 use crate::groups::{said_of, sort_by_route};
 use crate::known_routes::of_known;
 use crate::marks::Measured;
@@ -246,19 +246,19 @@ pub fn read_referents(
     alloc: Global,
     rows: &[RefCells<'_>],
     measured: Vec<Measured>,
-) -> Result<Vec<Route>, ReadFault>
+) -> Result<Vec<Route>, RowsFault>
     requires courses { are_route_courses (courses_of_measured measured.items) ≡ true }
     requires marks { are_all_measured measured.items ≡ true }
     ensures routes { IfOk result (λ routes. read table.Ref
         (routes_of rows.now measured.items) are_all_referred ≡ Ok routes.items) }
     ensures courses { IfOk result (λ routes. courses_of_routes routes.items
         ≡ courses_of_measured measured.items) }
-    ensures unsound { (t : DeclaredTable) → result ≡ Err (ReadFault.Unsound t)
+    ensures unsound { (t : DeclaredTable) → result ≡ Err (RowsFault.Unsound t)
         → read table.Ref (routes_of rows.now measured.items) are_all_referred ≡ Err t }
 {
     let found = sound_routes(alloc, rows, measured)?;
     match found {
         Some(routes) => Ok(routes),
-        None => Err(ReadFault::Unsound(Table::Ref)),
+        None => Err(RowsFault::Unsound(Table::Ref)),
     }
 }

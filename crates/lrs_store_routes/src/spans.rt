@@ -12,12 +12,12 @@ ghost use Rattle.lrs_store_rows.specs.Decoding.{each_of};
 ghost use Rattle.lrs_store_rows.specs.Content.{read, entries_of};
 ghost use Rattle.lrs_store_routes.specs.Courses.{passing};
 ghost use Rattle.lrs_store_routes.specs.Grouping.{route_before};
-ghost use Rattle.lrs_store_routes.specs.declared.fault.ReadFault.TheVariants as ReadFault;
+ghost use Rattle.lrs_store_routes.specs.declared.fault.RowsFault.TheVariants as RowsFault;
 ghost use Rattle.lrs_store_routes.specs.Spans.{named_before, agree_said, canonical_entry, courses_over, are_sound};
 
 use crate::canonical_rows::canonical;
 use crate::decode_spans::spans_said;
-use crate::{OfRoute, ReadFault, SpanCells, said_of, sort_by_route};
+use crate::{OfRoute, RowsFault, SpanCells, said_of, sort_by_route};
 use lrs_events::{Asset, Class, Span};
 use lrs_events_spans::Spans;
 use lrs_image_sound::are_spans;
@@ -127,7 +127,7 @@ pub fn read_spans(
     assets: &[Asset],
     rows: &[SpanCells<'_>],
     routes: Vec<Route>,
-) -> Result<Vec<RouteRow>, ReadFault>
+) -> Result<Vec<RouteRow>, RowsFault>
     requires classes { each_two class_before classes.now ≡ true }
     requires assets { each_two asset_before assets.now ≡ true }
     requires routes { each_two named_before routes.items ≡ true }
@@ -135,7 +135,7 @@ pub fn read_spans(
         → are_courses links (courses_over routes.items) ≡ true
         → read table.Span (entries_of assets.now rows.now routes.items)
         (are_sound links classes.now assets.now) ≡ Ok entries.items) }
-    ensures unsound { (t : DeclaredTable) → result ≡ Err (ReadFault.Unsound t) → (links : List Link)
+    ensures unsound { (t : DeclaredTable) → result ≡ Err (RowsFault.Unsound t) → (links : List Link)
         → are_courses links (courses_over routes.items) ≡ true
         → read table.Span (entries_of assets.now rows.now routes.items)
         (are_sound links classes.now assets.now) ≡ Err t }
@@ -143,6 +143,6 @@ pub fn read_spans(
     let found = entries_said(alloc, classes, assets, rows, routes)?;
     match found {
         Some(entries) => Ok(entries),
-        None => Err(ReadFault::Unsound(Table::Span)),
+        None => Err(RowsFault::Unsound(Table::Span)),
     }
 }

@@ -1,5 +1,4 @@
-//! The tables of a store: which rows stand for a sound image, and which table is the first unsound one.
-//! What a store holds does not hang on the order of its rows.
+//! The rows of a store: what each row says, which rows stand for a sound image, and the first unsound table.
 #![tactic(auto)]
 
 pub mod laws;

@@ -1,4 +1,4 @@
-//! The tables of a store: rows that are read, put, taken and renamed, and changes that are kept as a whole.
+//! The tables of a store: created, read, and their rows decoded.
 #![tactic(auto)]
 
 pub mod create;

@@ -19,7 +19,7 @@ pub struct Tables<S: Alter> {
 
 /// Why a store is not opened.
 #[derive(Clone, Copy, Debug, PartialEq, Eq)]
-pub enum OpenFault {
+pub enum StoreFault {
     /// There is too little memory.
     Memory,
     /// The store failed.
@@ -31,18 +31,18 @@ impl Tables<MemStore> {
     ///
     /// # Errors
     /// When memory runs out.
-    pub fn in_memory(alloc: Global) -> Result<Tables<MemStore>, OpenFault>
+    pub fn in_memory(alloc: Global) -> Result<Tables<MemStore>, StoreFault>
         ensures ready { IfOk result (λ t. (t.conn.in_transaction ≡ false)
             × IsReady (state over_memory t.conn)) }
         ensures empty { IfOk result (λ t. HoldsOnly (state over_memory t.conn) new_rows) }
     {
         let Ok(mut conn) = Connection::open_in_memory(alloc) else {
-            return Err(OpenFault::Memory);
+            return Err(StoreFault::Memory);
         };
         match make_store(&mut conn) {
             Ok(()) => Ok(Tables { conn }),
-            Err(Error::SqliteFailure(ErrorCode::OutOfMemory)) => Err(OpenFault::Memory),
-            Err(_) => Err(OpenFault::Store),
+            Err(Error::SqliteFailure(ErrorCode::OutOfMemory)) => Err(StoreFault::Memory),
+            Err(_) => Err(StoreFault::Store),
         }
     }
 }

@@ -1,4 +1,4 @@
-//! The verbs: what each command would change of an inventory, and how the change is made.
+//! The verbs, a module each: the checks of a command in their order, and then the plan of what it changes.
 #![tactic(auto)]
 
 pub mod laws;

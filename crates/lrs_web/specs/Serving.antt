@@ -9,8 +9,8 @@ use Rattle.lrs_sheet_records.specs.declared.sheet.Sheet.{Sheet}
 use Rattle.lrs_sheet_records.specs.declared.sheet.Sheet.TheVariants.{Edits, Survey}
 use Rattle.lrs_web_requests.specs.declared.paths.Resource.{Resource}
 use Rattle.lrs_web_requests.specs.declared.paths.Resource.TheVariants as resource
-use Rattle.lrs_web_requests.specs.declared.reply.Verb.{Verb}
-use Rattle.lrs_web_requests.specs.Task.{Asked, Asks, refused, not_allowed, query, sheet}
+use Rattle.lrs_web_requests.specs.declared.response.Verb.{Verb}
+use Rattle.lrs_web_requests.specs.Request.{Asked, Asks, refused, not_allowed, query, sheet}
 use Rattle.lrs_web_requests.specs.Text.{Answer, answer_text, empty_answer}
 use Rattle.lrs_web_replies.specs.Answered.{AnswersAsked}
 use Rattle.lrs_web.specs.Sheets.{DoesSheet}

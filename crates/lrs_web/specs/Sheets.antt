@@ -11,8 +11,8 @@ use Rattle.lrs_sheet.specs.declared.fault.SheetFault.{SheetFault}
 use Rattle.lrs_sheet.specs.declared.fault.SheetFault.TheVariants as fault
 use Rattle.lrs_sheet_records.specs.declared.sheet.Sheet.{Sheet}
 use Rattle.lrs_sheet.specs.Sheets.{Runs, LeavesDesk, BreaksOff, records_together}
-use Rattle.lrs_web_requests.specs.declared.reply.ContentType.{ContentType}
-use Rattle.lrs_web_requests.specs.declared.reply.ContentType.TheVariants.{Csv}
+use Rattle.lrs_web_requests.specs.declared.response.ContentType.{ContentType}
+use Rattle.lrs_web_requests.specs.declared.response.ContentType.TheVariants.{Csv}
 use Rattle.lrs_web_requests.specs.Text.{Answer, empty_answer}
 
 -- the content type of lines; where there are none, the reply has no body and names no type

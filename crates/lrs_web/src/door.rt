@@ -2,7 +2,7 @@
 
 ghost use Rattle.std.specs.Prelude.{ℕ, ◌≡◌, ◌+◌, IfOk, IfErr, OnErr, IsTrue};
 ghost use Rattle.lrs_web_requests.specs.Routes.{rows};
-ghost use Rattle.lrs_web_requests.specs.Task.{Asked};
+ghost use Rattle.lrs_web_requests.specs.Request.{Asked};
 ghost use Rattle.lrs_web.specs.Door.{HasRisen};
 ghost use Rattle.lrs_web.specs.Visits.{IsCut, IsFull, Visited};
 

@@ -1,11 +1,11 @@
 //! One request is read, done and answered.
 
 ghost use Rattle.std.specs.Prelude.{◌≡◌, ◌⊎◌, IfOk, IfSome, Err, true};
-ghost use Rattle.lrs_web_requests.specs.Task.{Asked, IsServed, asked_by};
+ghost use Rattle.lrs_web_requests.specs.Request.{Asked, IsServed, asked_by};
 ghost use Rattle.lrs_web_requests.specs.Text.{Answer, answer_of, empty_answer};
 ghost use Rattle.lrs_web_replies.specs.Answered.{AnswersAsked};
-ghost use Rattle.lrs_web_requests.specs.Task.{verb_of};
-ghost use Rattle.lrs_web_requests.specs.declared.reply.Verb.TheVariants.{Get};
+ghost use Rattle.lrs_web_requests.specs.Request.{verb_of};
+ghost use Rattle.lrs_web_requests.specs.declared.response.Verb.TheVariants.{Get};
 ghost use Rattle.lrs_web.specs.Serving.{Does, Responds, Serves, Writes, allowed_answer, sheet_at};
 
 use crate::sheet::do_sheet;
@@ -14,7 +14,7 @@ use lrs_desk::{Desk, Keeper};
 use lrs_sheet::Sheet;
 use lrs_web_replies::answer_asked;
 use lrs_web_requests::{
-    BodyFault, Reply, Resource, Task, Verb, receive, routes, write_reply, write_unavailable,
+    BodyFault, Request, Resource, Response, Verb, receive, routes, write_reply, write_unavailable,
 };
 use std::alloc::Global;
 use std::io::{Read, Write};
@@ -42,10 +42,10 @@ fn sheet_of(resource: Resource) -> Sheet
     }
 }
 
-fn allowed_reply(verb: Verb) -> Reply
+fn allowed_reply(verb: Verb) -> Response
     ensures { answer_of result ≡ allowed_answer verb }
 {
-    Reply {
+    Response {
         status: StatusCode::METHOD_NOT_ALLOWED,
         allow: Some(verb),
         content: None,
@@ -58,41 +58,41 @@ fn question_reply<K: Keeper>(
     resource: Resource,
     argument: &[u8],
     desk: &Desk<K>,
-) -> Reply
+) -> Response
     requires { verb_of resource ≡ Get }
     ensures answered { AnswersAsked desk.now.must_reopen desk.now.image resource argument.now
         (answer_of result) ⊎ (answer_of result ≡ empty_answer 503) }
     ensures broken { desk.now.must_reopen ≡ true → answer_of result ≡ empty_answer 503 }
 {
     if desk.must_reopen() {
-        return Reply::empty(StatusCode::SERVICE_UNAVAILABLE);
+        return Response::empty(StatusCode::SERVICE_UNAVAILABLE);
     }
     let kept = desk.inventory().kept();
     let counts = desk.counts();
     match answer_asked(alloc, kept, counts, false, resource, argument) {
         Ok(reply) => reply,
-        Err(_) => Reply::empty(StatusCode::SERVICE_UNAVAILABLE),
+        Err(_) => Response::empty(StatusCode::SERVICE_UNAVAILABLE),
     }
 }
 
 /// Does what is asked for.
-fn do_task<K: Keeper>(alloc: Global, task: &Task, desk: &mut Desk<K>) -> Reply
+fn do_task<K: Keeper>(alloc: Global, task: &Request, desk: &mut Desk<K>) -> Response
     requires { IsServed (asked_by task.now) }
     ensures { Does K.may_hold (asked_by task.now) desk.old (answer_of result) desk.new }
 {
     match task {
-        Task::Refused(status) => Reply::empty(*status),
-        Task::NotAllowed(verb) => allowed_reply(*verb),
-        Task::Query(resource, argument) => {
+        Request::Refused(status) => Response::empty(*status),
+        Request::NotAllowed(verb) => allowed_reply(*verb),
+        Request::Query(resource, argument) => {
             question_reply(alloc, *resource, argument.as_slice(), desk)
         }
-        Task::Sheet(resource, bytes) => {
+        Request::Sheet(resource, bytes) => {
             do_sheet(alloc, sheet_of(*resource), bytes.as_slice(), desk)
         }
     }
 }
 
-fn write_to<W: Write>(alloc: Global, reply: &Reply, writer: &mut W) -> Result<u16, WebFault>
+fn write_to<W: Write>(alloc: Global, reply: &Response, writer: &mut W) -> Result<u16, WebFault>
     ensures written { IfOk result (λ status. (answer : Answer)
         × ((answer ≡ answer_of reply.now) ⊎ (answer ≡ empty_answer 503))
         × Writes (W.contents writer.old) (W.contents writer.new) status answer) }
@@ -118,7 +118,7 @@ pub(crate) fn refuse<W: Write>(writer: &mut W) -> Result<u16, WebFault>
 /// Does what is asked for, and writes the reply.
 pub(crate) fn respond<W: Write, K: Keeper>(
     alloc: Global,
-    task: &Task,
+    task: &Request,
     writer: &mut W,
     desk: &mut Desk<K>,
 ) -> Result<u16, WebFault>

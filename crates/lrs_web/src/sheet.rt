@@ -7,21 +7,21 @@ ghost use Rattle.lrs_web.specs.Sheets.{DoesSheet, IsAnswerAfter, fault_answer, l
 use http::StatusCode;
 use lrs_desk::{Desk, Keeper};
 use lrs_sheet::{RECORDS_TOGETHER, Sheet, SheetFault, Tally, run_sheet};
-use lrs_web_requests::{Content, ContentType, Reply};
+use lrs_web_requests::{Content, ContentType, Response};
 use std::alloc::Global;
 
 // Where there are no lines, the reply has no body.
-fn lines_reply(status: StatusCode, lines: Vec<u8>) -> Reply
+fn lines_reply(status: StatusCode, lines: Vec<u8>) -> Response
     ensures { answer_of result ≡ lines_answer status lines.items }
 {
     if lines.is_empty() {
-        return Reply::empty(status);
+        return Response::empty(status);
     }
     let content = Content {
         kind: ContentType::Csv,
         bytes: lines,
     };
-    Reply {
+    Response {
         status,
         allow: None,
         content: Some(content),
@@ -29,18 +29,18 @@ fn lines_reply(status: StatusCode, lines: Vec<u8>) -> Reply
 }
 
 /// The lines so far and one that names the fault, or an empty 503 where memory runs out for it.
-fn faulty_reply(mut lines: Vec<u8>, line: &[u8]) -> Reply
+fn faulty_reply(mut lines: Vec<u8>, line: &[u8]) -> Response
     ensures { (answer_of result ≡ fault_answer line.now lines.items)
         ⊎ (answer_of result ≡ empty_answer 503) }
 {
     match lines.extend_from_slice(line) {
         Ok(()) => lines_reply(StatusCode::UNPROCESSABLE_ENTITY, lines),
-        Err(_) => Reply::empty(StatusCode::SERVICE_UNAVAILABLE),
+        Err(_) => Response::empty(StatusCode::SERVICE_UNAVAILABLE),
     }
 }
 
 /// The reply to a sheet whose run ended so.
-fn reply_after(ended: Result<Tally, SheetFault>, lines: Vec<u8>) -> Reply
+fn reply_after(ended: Result<Tally, SheetFault>, lines: Vec<u8>) -> Response
     ensures { IsAnswerAfter ended lines.items (answer_of result) }
 {
     match ended {
@@ -48,7 +48,7 @@ fn reply_after(ended: Result<Tally, SheetFault>, lines: Vec<u8>) -> Reply
         Err(SheetFault::BadHeader) => faulty_reply(lines, b"-,fault,BadHeader\n"),
         Err(SheetFault::BadCsv) => faulty_reply(lines, b"-,fault,BadCsv\n"),
         Err(SheetFault::Read | SheetFault::Write | SheetFault::Desk(_) | SheetFault::Memory) => {
-            Reply::empty(StatusCode::SERVICE_UNAVAILABLE)
+            Response::empty(StatusCode::SERVICE_UNAVAILABLE)
         }
     }
 }
@@ -60,7 +60,7 @@ pub(crate) fn do_sheet<K: Keeper>(
     sheet: Sheet,
     bytes: &[u8],
     desk: &mut Desk<K>,
-) -> Reply
+) -> Response
     ensures { DoesSheet K.may_hold sheet bytes.now desk.old (answer_of result) desk.new }
 {
     let mut lines = Vec::new(alloc);

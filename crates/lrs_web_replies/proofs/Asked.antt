@@ -17,7 +17,7 @@ use Rattle.lrs_answers.specs.Answers.{AsksRoute}
 use Rattle.lrs_answers.specs.declared.fault.AskFault.{AskFault}
 use Rattle.lrs_web_requests.specs.Text.{Answer, answer_of}
 use Rattle.lrs_web_requests.specs.declared.paths.Resource.{Resource}
-use Rattle.lrs_web_requests.specs.declared.reply.Reply.{Reply}
+use Rattle.lrs_web_requests.specs.declared.response.Response.{Response}
 use Rattle.lrs_web_replies.specs.Answers.{ShowsRoute, translated_data}
 use Rattle.lrs_web_replies.specs.Questions.{AsksOf, CannotAsk}
 use Rattle.lrs_web_replies.specs.declared.question.Destination.{Destination}
@@ -27,13 +27,13 @@ use Rattle.lrs_web_replies.specs.declared.question.QuestionFault.{QuestionFault}
 use Rattle.lrs_web_replies.specs.Answered.{AnswersAsked, AnswersQuestion, ShowsNamed, ShowsPosition}
 use Rattle.lrs_web_replies.specs.Replies.{json_answer, json_bytes, error_answer, shown, unasked}
 
-pub answered : {E : Type 0} (failed : Bool) (i : Image) (resource : Resource) (argument : Text) (asked : Result Question QuestionFault) (q : Question) (r : Result Reply E)
+pub answered : {E : Type 0} (failed : Bool) (i : Image) (resource : Resource) (argument : Text) (asked : Result Question QuestionFault) (q : Question) (r : Result Response E)
     → asked ≡ Ok q → IfOk asked (AsksOf resource argument) → IfOk r (λ reply. AnswersQuestion failed i q (answer_of reply))
     → IfOk r (λ reply. AnswersAsked failed i resource argument (answer_of reply))
 answered failed i resource argument asked q (Ok reply) is asks answers = inl (q, subst (λ a. IfOk a (AsksOf resource argument)) is asks, answers)
 answered failed i resource argument asked q (Err e) is asks answers = tt
 
-pub refused : {E : Type 0} (failed : Bool) (i : Image) (resource : Resource) (argument : Text) (asked : Result Question QuestionFault) (fault : QuestionFault) (r : Result Reply E)
+pub refused : {E : Type 0} (failed : Bool) (i : Image) (resource : Resource) (argument : Text) (asked : Result Question QuestionFault) (fault : QuestionFault) (r : Result Response E)
     → asked ≡ Err fault → IfErr asked (CannotAsk resource argument) → IfOk r (λ reply. answer_of reply ≡ unasked fault)
     → IfOk r (λ reply. AnswersAsked failed i resource argument (answer_of reply))
 refused failed i resource argument asked fault (Ok reply) is cannot answers = inr (fault, subst (λ a. IfErr a (CannotAsk resource argument)) is cannot, answers)
@@ -52,7 +52,7 @@ named_unknown i name answer none is =
     subst (λ o. MatchOption o (answer ≡ error_answer 404 (codes "NoRoute")) (λ e. (d : Data) × ShowsRoute e.route d × (answer ≡ json_answer 200 d))) none is
 
 -- a position by a method is shown
-pub position_shown : {E : Type 0} (i : Image) (route : Name) (e : Expr) (to : Destination) (target : Target) (found : Result Expr AskFault) (r : Result Reply E) → to ≡ Method target
+pub position_shown : {E : Type 0} (i : Image) (route : Name) (e : Expr) (to : Destination) (target : Target) (found : Result Expr AskFault) (r : Result Response E) → to ≡ Method target
     → AsksRoute (state_of i) route (λ a chainage_on answer. Translates a chainage_on e target answer × RoundTrip a chainage_on e target answer) found
     → IfOk r (λ reply. answer_of reply ≡ shown (translated_data route) found) → IfOk r (λ reply. ShowsPosition i route e to (answer_of reply))
 position_shown i route e to target found (Ok reply) is asks shows = subst (λ d. ShowsPosition i route e d (answer_of reply)) (sym is) (found, asks, shows)

@@ -7,7 +7,7 @@ use Rattle.lrs_answers.specs.declared.fault.AskFault.{AskFault}
 use Rattle.lrs_answers.specs.declared.cause.AskCause.{AskCause}
 use Rattle.lrs_answers.specs.declared.cause.AskCause.TheVariants as cause
 use Rattle.lrs_answers.specs.Causes.{cause_of, cause_text}
-use Rattle.lrs_web_requests.specs.declared.reply.ContentType.TheVariants.{Json}
+use Rattle.lrs_web_requests.specs.declared.response.ContentType.TheVariants.{Json}
 use Rattle.lrs_web_requests.specs.Text.{Answer, empty_answer}
 use Rattle.lrs_web_replies.specs.Answers.{error_data}
 use Rattle.lrs_web_replies.specs.Questions.{parameter_text}

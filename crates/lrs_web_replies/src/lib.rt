@@ -1,6 +1,4 @@
-//! Answers to questions, as JSON (RFC 8259).
-//! Which question the parameters of a query ask.
-//! Replies to questions over HTTP.
+//! Questions over HTTP: asked by the parameters of a query, and answered as JSON (RFC 8259).
 #![tactic(auto)]
 
 mod answers;

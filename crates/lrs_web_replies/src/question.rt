@@ -1,8 +1,8 @@
 //! Questions, and how they are asked by parameters.
 
 ghost use Rattle.std.specs.Prelude.{◌≡◌, IfOk, IfErr};
-ghost use Rattle.lrs_web_requests.specs.declared.reply.Verb.TheVariants as verb;
-ghost use Rattle.lrs_web_requests.specs.Task.{verb_of};
+ghost use Rattle.lrs_web_requests.specs.declared.response.Verb.TheVariants as verb;
+ghost use Rattle.lrs_web_requests.specs.Request.{verb_of};
 ghost use Rattle.lrs_web_replies.specs.Questions.{AsksOf, CannotAsk, parameter_text};
 
 use crate::parameters::{classes_in, destination_in, position_in, route_in, side_in};

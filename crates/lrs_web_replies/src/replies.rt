@@ -6,9 +6,9 @@ ghost use Rattle.lrs_machine.specs.Image.{state_of};
 ghost use Rattle.lrs_machine.specs.Sound.{IsSound};
 ghost use Rattle.lrs_image.specs.Change.{is_named};
 ghost use Rattle.lrs_image.specs.Kept.{image_of};
-ghost use Rattle.lrs_web_requests.specs.Task.{verb_of};
+ghost use Rattle.lrs_web_requests.specs.Request.{verb_of};
 ghost use Rattle.lrs_web_requests.specs.Text.{answer_of};
-ghost use Rattle.lrs_web_requests.specs.declared.reply.Verb.TheVariants.{Get};
+ghost use Rattle.lrs_web_requests.specs.declared.response.Verb.TheVariants.{Get};
 ghost use Rattle.lrs_web_replies.specs.Answers.{segments_data, translated_data, on_link_data, totals_data};
 ghost use Rattle.lrs_answers_totals.specs.Running.{IsCounted};
 ghost use Rattle.lrs_web_replies.specs.Answered.{AnswersAsked, AnswersQuestion, IsFoundAt, ShowsNamed, ShowsPosition};
@@ -28,7 +28,7 @@ use lrs_image::KeptImage;
 use lrs_machine::{RouteRow, Segment, Total};
 use lrs_measure::{Frac, Rows};
 use lrs_position::{Expr, RouteName};
-use lrs_web_requests::{Reply, Resource};
+use lrs_web_requests::{Resource, Response};
 use std::alloc::{AllocError, Global};
 
 /// Where a position stands; once a commit has failed nobody says so.
@@ -52,7 +52,7 @@ fn at_reply(
     alloc: Global,
     route: &RouteName,
     found: Result<AtAnswer, AskFault>,
-) -> Result<Reply, AllocError>
+) -> Result<Response, AllocError>
     ensures { IfOk result (λ reply. answer_of reply ≡ shown (spec.at_shown route.now) found) }
 {
     match found {
@@ -74,7 +74,7 @@ fn row_of<'k>(kept: &'k KeptImage, name: &RouteName) -> Option<&'k RouteRow>
 }
 
 #[tactic(auto, using(crate::proofs::Asked::named_shown, crate::proofs::Asked::named_unknown))]
-fn route_reply(alloc: Global, kept: &KeptImage, route: &RouteName) -> Result<Reply, AllocError>
+fn route_reply(alloc: Global, kept: &KeptImage, route: &RouteName) -> Result<Response, AllocError>
     requires sound { IsSound (image_of kept.now) }
     ensures { IfOk result (λ reply. ShowsNamed (image_of kept.now) route.now (answer_of reply)) }
 {
@@ -92,7 +92,7 @@ fn segments_reply(
     route: &RouteName,
     side: Side,
     found: Result<Rows<Segment>, AskFault>,
-) -> Result<Reply, AllocError>
+) -> Result<Response, AllocError>
     ensures { IfOk result (λ reply. answer_of reply ≡ shown (segments_data route.now side) found) }
 {
     match found {
@@ -108,7 +108,7 @@ fn translated_reply(
     alloc: Global,
     route: &RouteName,
     found: Result<Expr, AskFault>,
-) -> Result<Reply, AllocError>
+) -> Result<Response, AllocError>
     ensures { IfOk result (λ reply. answer_of reply ≡ shown (translated_data route.now) found) }
 {
     match found {
@@ -124,7 +124,7 @@ fn link_reply(
     alloc: Global,
     route: &RouteName,
     found: Result<(u32, Frac), AskFault>,
-) -> Result<Reply, AllocError>
+) -> Result<Response, AllocError>
     ensures { IfOk result (λ reply. answer_of reply ≡ shown (on_link_data route.now) found) }
 {
     match found {
@@ -136,7 +136,7 @@ fn link_reply(
     }
 }
 
-fn totals_reply(alloc: Global, found: Result<Rows<Total>, AskFault>) -> Result<Reply, AllocError>
+fn totals_reply(alloc: Global, found: Result<Rows<Total>, AskFault>) -> Result<Response, AllocError>
     ensures { IfOk result (λ reply. answer_of reply ≡ shown totals_data found) }
 {
     match found {
@@ -155,7 +155,7 @@ fn position_reply(
     route: &RouteName,
     position: Expr,
     to: Destination,
-) -> Result<Reply, AllocError>
+) -> Result<Response, AllocError>
     requires sound { IsSound (image_of kept.now) }
     ensures { IfOk result (λ reply. ShowsPosition (image_of kept.now) route.now position to
         (answer_of reply)) }
@@ -179,7 +179,7 @@ fn answer_question(
     counts: &Counts,
     has_failed: bool,
     question: &Question,
-) -> Result<Reply, AllocError>
+) -> Result<Response, AllocError>
     requires sound { IsSound (image_of kept.now) }
     requires counted { IsCounted (image_of kept.now) counts.now }
     ensures { IfOk result (λ reply. AnswersQuestion has_failed (image_of kept.now) question.now
@@ -221,7 +221,7 @@ pub fn answer_asked(
     has_failed: bool,
     resource: Resource,
     argument: &[u8],
-) -> Result<Reply, AllocError>
+) -> Result<Response, AllocError>
     requires sound { IsSound (image_of kept.now) }
     requires counted { IsCounted (image_of kept.now) counts.now }
     requires verb { verb_of resource ≡ Get }

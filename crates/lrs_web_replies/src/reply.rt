@@ -7,18 +7,18 @@ ghost use Rattle.lrs_web_replies.specs.Replies as spec;
 use crate::{Parameter, QuestionFault, error_json};
 use http::StatusCode;
 use lrs_answers::{AskCause, AskFault, cause_of};
-use lrs_web_requests::{Content, ContentType, Reply};
+use lrs_web_requests::{Content, ContentType, Response};
 use std::alloc::{AllocError, Global};
 
 /// A reply with these bytes of JSON.
-pub(crate) fn json_reply(status: StatusCode, bytes: Vec<u8>) -> Reply
+pub(crate) fn json_reply(status: StatusCode, bytes: Vec<u8>) -> Response
     ensures { answer_of result ≡ spec.json_bytes status bytes.items }
 {
     let content = Content {
         kind: ContentType::Json,
         bytes,
     };
-    Reply {
+    Response {
         status,
         allow: None,
         content: Some(content),
@@ -30,7 +30,7 @@ pub(crate) fn error_reply(
     alloc: Global,
     status: StatusCode,
     cause: &str,
-) -> Result<Reply, AllocError>
+) -> Result<Response, AllocError>
     ensures { IfOk result (λ reply. answer_of reply ≡ spec.error_answer status cause.now) }
 {
     let bytes = error_json(alloc, cause)?;
@@ -53,7 +53,7 @@ fn status_for(cause: AskCause) -> StatusCode
 }
 
 /// The reply to a question that is refused.
-pub(crate) fn refusal(alloc: Global, fault: AskFault) -> Result<Reply, AllocError>
+pub(crate) fn refusal(alloc: Global, fault: AskFault) -> Result<Response, AllocError>
     ensures { IfOk result (λ reply. answer_of reply ≡ spec.refusal fault) }
 {
     match cause_of(fault) {
@@ -61,11 +61,11 @@ pub(crate) fn refusal(alloc: Global, fault: AskFault) -> Result<Reply, AllocErro
             let text = format!(in alloc; "{cause}")?;
             error_reply(alloc, status_for(cause), text.as_str())
         }
-        None => Ok(Reply::empty(StatusCode::SERVICE_UNAVAILABLE)),
+        None => Ok(Response::empty(StatusCode::SERVICE_UNAVAILABLE)),
     }
 }
 
-fn malformed(alloc: Global, parameter: Parameter) -> Result<Reply, AllocError>
+fn malformed(alloc: Global, parameter: Parameter) -> Result<Response, AllocError>
     ensures { IfOk result (λ reply. answer_of reply
         ≡ spec.unasked (QuestionFault.Malformed parameter)) }
 {
@@ -75,12 +75,12 @@ fn malformed(alloc: Global, parameter: Parameter) -> Result<Reply, AllocError>
 }
 
 /// The reply where nothing is asked.
-pub(crate) fn unasked(alloc: Global, fault: QuestionFault) -> Result<Reply, AllocError>
+pub(crate) fn unasked(alloc: Global, fault: QuestionFault) -> Result<Response, AllocError>
     ensures { IfOk result (λ reply. answer_of reply ≡ spec.unasked fault) }
 {
     match fault {
         QuestionFault::Malformed(parameter) => malformed(alloc, parameter),
         QuestionFault::NoRoute => error_reply(alloc, StatusCode::NOT_FOUND, "NoRoute"),
-        QuestionFault::Memory => Ok(Reply::empty(StatusCode::SERVICE_UNAVAILABLE)),
+        QuestionFault::Memory => Ok(Response::empty(StatusCode::SERVICE_UNAVAILABLE)),
     }
 }

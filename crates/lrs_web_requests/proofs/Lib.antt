@@ -5,4 +5,4 @@ pub mod LengthLemmas
 pub mod LiteralLemmas
 pub mod PathLemmas
 pub mod WriteLemmas
-pub mod TaskLemmas
+pub mod RequestLemmas

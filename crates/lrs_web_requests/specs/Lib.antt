@@ -6,4 +6,4 @@ pub mod Routes
 pub mod Paths
 pub mod Query
 pub mod Text
-pub mod Task
+pub mod Request

@@ -1,12 +1,12 @@
 -- The bytes of a reply (RFC 9112, section 4).
 use Rattle.std.specs.Prelude.{ℕ, List, [], ◌∷◌, ◌++◌, length, Option, Some, None, option_map, unwrap_or, codes, decimal}
 use Rattle.http.specs.StatusCode.{code_digits, reason_phrase}
-use Rattle.lrs_web_requests.specs.declared.reply.ContentType.{ContentType}
-use Rattle.lrs_web_requests.specs.declared.reply.ContentType.TheVariants.{Json, Csv}
-use Rattle.lrs_web_requests.specs.declared.reply.Verb.{Verb}
-use Rattle.lrs_web_requests.specs.declared.reply.Verb.TheVariants.{Get, Post}
-use Rattle.lrs_web_requests.specs.declared.reply.Content.{Content}
-use Rattle.lrs_web_requests.specs.declared.reply.Reply.{Reply}
+use Rattle.lrs_web_requests.specs.declared.response.ContentType.{ContentType}
+use Rattle.lrs_web_requests.specs.declared.response.ContentType.TheVariants.{Json, Csv}
+use Rattle.lrs_web_requests.specs.declared.response.Verb.{Verb}
+use Rattle.lrs_web_requests.specs.declared.response.Verb.TheVariants.{Get, Post}
+use Rattle.lrs_web_requests.specs.declared.response.Content.{Content}
+use Rattle.lrs_web_requests.specs.declared.response.Response.{Response}
 
 -- a reply without where it lies in memory
 pub record Answer : Type 0 where
@@ -61,7 +61,7 @@ content_body None = []
 content_body (Some content) = content.bytes.items
 
 -- what a reply says
-abbrev pub answer_of : Reply → Answer
+abbrev pub answer_of : Response → Answer
 answer_of reply = record {
   status = reply.status;
   content_type = option_map (λ content. content.kind) reply.content;

@@ -9,11 +9,11 @@ mod head;
 pub mod laws;
 mod paths;
 mod query;
-mod reply;
-mod task;
+mod request;
+mod response;
 
 pub use body::BodyFault;
 pub use paths::{Resource, routes};
 pub use query::{value_of, values_of};
-pub use reply::{Content, ContentType, Reply, Verb, write_reply, write_unavailable};
-pub use task::{Task, receive};
+pub use request::{Request, receive};
+pub use response::{Content, ContentType, Response, Verb, write_reply, write_unavailable};

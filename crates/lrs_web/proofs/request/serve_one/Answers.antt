@@ -1,4 +1,4 @@
-use Rattle.lrs_web_requests.specs.Task.{asked_by}
+use Rattle.lrs_web_requests.specs.Request.{asked_by}
 use Rattle.lrs_web.proofs.Responding.{nothing_done, serves_ok, serves_done, unserved}
 use Rattle.lrs_web.proofs.request.serve_one.Goals as goal
 

@@ -2,7 +2,7 @@ use Rattle.std.proofs.Common.{refl, inl, ◌∙◌, subst}
 use Rattle.std.specs.Io.KnownBytes.{Appends}
 use Rattle.lrs_web_requests.proofs.WriteLemmas.{Appends-then}
 use Rattle.lrs_web_requests.specs.Text.{answer_of}
-use Rattle.lrs_web_requests.proofs.reply.write_reply.Goals as goal
+use Rattle.lrs_web_requests.proofs.response.write_reply.Goals as goal
 
 pub returns : goal.returns
 returns g c =

@@ -55,18 +55,18 @@ pub struct Content {
 
 /// A reply before it is written.
 #[derive(Drop)]
-pub struct Reply {
+pub struct Response {
     pub status: StatusCode,
     pub allow: Option<Verb>,
     pub content: Option<Content>,
 }
 
-impl Reply {
+impl Response {
     /// A status and nothing else.
-    pub fn empty(status: StatusCode) -> Reply
+    pub fn empty(status: StatusCode) -> Response
         ensures { answer_of result ≡ empty_answer status }
     {
-        Reply {
+        Response {
             status,
             allow: None,
             content: None,
@@ -160,7 +160,7 @@ pub fn write_unavailable<W: Write>(writer: &mut W) -> io::Result<()>
 }
 
 /// Writes a reply, or that there was no memory for it, and answers the status that was written.
-pub fn write_reply<W: Write>(alloc: Global, writer: &mut W, reply: &Reply) -> io::Result<u16>
+pub fn write_reply<W: Write>(alloc: Global, writer: &mut W, reply: &Response) -> io::Result<u16>
     ensures { IfOk result (λ status. (answer : Answer)
         × ((answer ≡ answer_of reply.now) ⊎ (answer ≡ empty_answer 503))
         × (status ≡ answer.status)

@@ -5,14 +5,14 @@ ghost use Rattle.httparse.specs.Grammar.{RequestHead};
 ghost use Rattle.httparse.specs.Spans.{header_bytes, IsHeaderWithin, IsRequestOf, IsRequestWithin};
 ghost use Rattle.lrs_web_requests.specs.Routes.{rows};
 ghost use Rattle.lrs_web_requests.specs.Framing.{body_length};
-ghost use Rattle.lrs_web_requests.specs.declared.reply.Verb.TheVariants.{Post};
-ghost use Rattle.lrs_web_requests.specs.Task.{asked_by, asked_at, Asks, AsksByHead, most_head, most_fields, path_of, query_of, argument_of, name_in, verb_of, with_length, by_verb, IsServed};
+ghost use Rattle.lrs_web_requests.specs.declared.response.Verb.TheVariants.{Post};
+ghost use Rattle.lrs_web_requests.specs.Request.{asked_by, asked_at, Asks, AsksByHead, most_head, most_fields, path_of, query_of, argument_of, name_in, verb_of, with_length, by_verb, IsServed};
 
 use crate::body::{BodyFault, read_body};
 use crate::framing::length_of_body;
 use crate::head::{Outcome, read_head};
 use crate::paths::{Resource, find};
-use crate::reply::Verb;
+use crate::response::Verb;
 use http::StatusCode;
 use httparse::spans::{EMPTY_HEADER_SPAN, HeaderSpan, RequestSpans};
 use matchit::Router;
@@ -28,7 +28,7 @@ const BEFORE_NAME: usize = 10;
 
 /// What a request asks for.
 #[derive(Drop)]
-pub enum Task {
+pub enum Request {
     /// Nothing that is served: the status that says so.
     Refused(StatusCode),
     /// The path has only this method.
@@ -105,7 +105,7 @@ fn read_sheet<R: Read>(
     reader: &mut R,
     resource: Resource,
     head: Head<'_>,
-) -> Result<Task, BodyFault>
+) -> Result<Request, BodyFault>
     requires fields { All (IsHeaderWithin (length head.text.now)) head.fields.now }
     requires verb { verb_of resource ≡ Post }
     ensures served { IfOk result (λ task. IsServed (asked_by task)) }
@@ -114,11 +114,11 @@ fn read_sheet<R: Read>(
 {
     let length = match length_of_body(head.text, head.fields) {
         Ok(length) => length,
-        Err(status) => return Ok(Task::Refused(status)),
+        Err(status) => return Ok(Request::Refused(status)),
     };
     match read_body(alloc, reader, head.front, length)? {
-        Some(body) => Ok(Task::Sheet(resource, body)),
-        None => Ok(Task::Refused(StatusCode::BAD_REQUEST)),
+        Some(body) => Ok(Request::Sheet(resource, body)),
+        None => Ok(Request::Refused(StatusCode::BAD_REQUEST)),
     }
 }
 
@@ -127,7 +127,7 @@ fn read_task<R: Read>(
     router: &Router<Resource>,
     reader: &mut R,
     head: Head<'_>,
-) -> Result<Task, BodyFault>
+) -> Result<Request, BodyFault>
     requires router { router.now ≡ rows }
     requires fields { All (IsHeaderWithin (length head.text.now)) head.fields.now }
     ensures served { IfOk result (λ task. IsServed (asked_by task)) }
@@ -136,16 +136,16 @@ fn read_task<R: Read>(
 {
     let (path, _) = split_target(head.target);
     let Some(resource) = find(router, path) else {
-        return Ok(Task::Refused(StatusCode::NOT_FOUND));
+        return Ok(Request::Refused(StatusCode::NOT_FOUND));
     };
     let verb = verb_for(resource);
     if head.method != verb.name().as_bytes() {
-        return Ok(Task::NotAllowed(verb));
+        return Ok(Request::NotAllowed(verb));
     }
     match verb {
         Verb::Get => {
             let asked_by = argument(resource, head.target);
-            Ok(Task::Query(resource, Vec::from_slice(alloc, asked_by)?))
+            Ok(Request::Query(resource, Vec::from_slice(alloc, asked_by)?))
         }
         Verb::Post => read_sheet(alloc, reader, resource, head),
     }
@@ -159,7 +159,7 @@ fn read_on_from<R: Read>(
     text: &[u8],
     spans: &[HeaderSpan],
     head: RequestSpans,
-) -> Result<Task, BodyFault>
+) -> Result<Request, BodyFault>
     requires router { router.now ≡ rows }
     requires bytes { length text.now ≤ most_head }
     requires fields { length spans.now ≤ most_fields }
@@ -187,7 +187,7 @@ pub fn receive<R: Read>(
     alloc: Global,
     router: &Router<Resource>,
     reader: &mut R,
-) -> Result<Task, BodyFault>
+) -> Result<Request, BodyFault>
     requires { router.now ≡ rows }
     ensures asked { IfOk result (λ task. IfSome (R.remaining reader.old) (λ input.
         Asks input (asked_by task))) }
@@ -198,8 +198,8 @@ pub fn receive<R: Read>(
     let reading = read_head(reader, &mut buffer, &mut spans)?;
     let text = &buffer[..reading.filled];
     match reading.outcome {
-        Outcome::TooLarge => Ok(Task::Refused(StatusCode::REQUEST_HEADER_FIELDS_TOO_LARGE)),
-        Outcome::Unreadable => Ok(Task::Refused(StatusCode::BAD_REQUEST)),
+        Outcome::TooLarge => Ok(Request::Refused(StatusCode::REQUEST_HEADER_FIELDS_TOO_LARGE)),
+        Outcome::Unreadable => Ok(Request::Refused(StatusCode::BAD_REQUEST)),
         Outcome::Complete(head) => read_on_from(alloc, router, reader, text, &spans, head),
     }
 }

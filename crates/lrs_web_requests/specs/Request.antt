@@ -6,14 +6,14 @@ use Rattle.httparse.specs.Spans.{name_and_value}
 use Rattle.lrs_web_requests.specs.Reading.{IsTooLarge, IsUnreadable}
 use Rattle.lrs_web_requests.specs.Body.{body_at}
 use Rattle.lrs_web_requests.specs.Framing.{Field, body_length}
-use Rattle.lrs_web_requests.specs.declared.reply.Verb.{Verb}
-use Rattle.lrs_web_requests.specs.declared.reply.Verb.TheVariants.{Get, Post}
+use Rattle.lrs_web_requests.specs.declared.response.Verb.{Verb}
+use Rattle.lrs_web_requests.specs.declared.response.Verb.TheVariants.{Get, Post}
 use Rattle.lrs_web_requests.specs.Text.{method_name}
 use Rattle.lrs_web_requests.specs.declared.paths.Resource.{Resource}
 use Rattle.lrs_web_requests.specs.declared.paths.Resource.TheVariants.{At, Route, Segments, Totals, Translate, Edits, Surveys}
 use Rattle.lrs_web_requests.specs.Routes.{resource_at}
-use Rattle.lrs_web_requests.specs.declared.task.Task.{Task}
-use Rattle.lrs_web_requests.specs.declared.task.Task.TheVariants as task
+use Rattle.lrs_web_requests.specs.declared.request.Request.{Request}
+use Rattle.lrs_web_requests.specs.declared.request.Request.TheVariants as task
 
 -- what is asked for: nothing that is served, an answer to a question, with what it is asked by, or that a sheet is done
 pub data Asked : Type 0 where
@@ -22,7 +22,7 @@ pub data Asked : Type 0 where
   query : Resource → List ℕ → Asked
   sheet : Resource → List ℕ → Asked
 
-abbrev pub asked_by : Task → Asked
+abbrev pub asked_by : Request → Asked
 asked_by (task.Refused status) = refused status
 asked_by (task.NotAllowed verb) = not_allowed verb
 asked_by (task.Query resource text) = query resource text.items

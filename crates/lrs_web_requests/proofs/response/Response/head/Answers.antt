@@ -1,7 +1,7 @@
 use Rattle.std.proofs.Common.{ap, length, ◌∙◌}
 use Rattle.lrs_web_requests.specs.Text.{head_text, content_length_line}
 use Rattle.lrs_web_requests.proofs.WriteLemmas.{grown}
-use Rattle.lrs_web_requests.proofs.reply.Reply.head.Goals as goal
+use Rattle.lrs_web_requests.proofs.response.Response.head.Goals as goal
 
 pub returns : goal.returns
 unfolding head_text

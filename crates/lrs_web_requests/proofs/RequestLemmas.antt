@@ -3,8 +3,8 @@ use Rattle.std.proofs.Common.{ℕ, List, ◌++◌, Option, Some, None, Result, I
 use Rattle.std.proofs.lemmas.Result.{IfOk-weaker}
 use Rattle.std.specs.Io.KnownBytes.{Consumes}
 use Rattle.httparse.specs.Grammar.{RequestHead}
-use Rattle.lrs_web_requests.specs.declared.task.Task.{Task}
-use Rattle.lrs_web_requests.specs.Task.{Asked, Asks, AsksByHead, asked_by}
+use Rattle.lrs_web_requests.specs.declared.request.Request.{Request}
+use Rattle.lrs_web_requests.specs.Request.{Asked, Asks, AsksByHead, asked_by}
 
 -- what the head and the rest ask for is asked by the whole input
 asks_read : (a b : Option (List ℕ)) (text : List ℕ) (asked : Asked) → Consumes a b text
@@ -14,7 +14,7 @@ asks_read (Some x) None text asked consumed by = absurd consumed
 asks_read (Some x) (Some y) text asked consumed by =
     subst (λ input. Asks input asked) (sym consumed) (inr (inr by))
 
-pub received : {E : Type 0} (result : Result Task E) (a b : Option (List ℕ)) (text : List ℕ) → Consumes a b text
+pub received : {E : Type 0} (result : Result Request E) (a b : Option (List ℕ)) (text : List ℕ) → Consumes a b text
     → IfOk result (λ task. IfSome b (λ more. (h : RequestHead) × (rest : List ℕ) × AsksByHead (text ++ more) (asked_by task) h rest))
     → IfOk result (λ task. IfSome a (λ input. Asks input (asked_by task)))
 received result a b text consumed by = IfOk-weaker result _ _ (λ task asked. asks_read a b text (asked_by task) consumed asked) by

@@ -1,0 +1,46 @@
+//! Questions: what can be asked of an inventory.
+
+use lrs_events::{ClassName, Side};
+use lrs_measure::Rows;
+use lrs_position::{Expr, RouteName, Target};
+
+/// How a position is to be told.
+#[derive(Clone, Copy, PartialEq, Eq)]
+pub enum Destination {
+    /// By a method, on its route.
+    Method(Target),
+    /// On the link under it.
+    Link,
+}
+
+/// What is asked of an inventory: one variant for each kind of question.
+#[derive(Drop)]
+pub enum Question {
+    /// The millimetre of a route in which a position stands, and the assets that hold it.
+    At {
+        route: RouteName,
+        position: Expr,
+    },
+    /// A route: its course, marks and referents.
+    Route {
+        route: RouteName,
+    },
+    /// The segments of a side of a route by these exclusive classes.
+    Segments {
+        route: RouteName,
+        side: Side,
+        classes: Rows<ClassName>,
+    },
+    /// A position of a route by another method, or on its link.
+    Translate {
+        route: RouteName,
+        position: Expr,
+        to: Destination,
+    },
+    /// What there is of each class.
+    Totals,
+    /// The stretches that an asset holds.
+    Find {
+        asset: u64,
+    },
+}
