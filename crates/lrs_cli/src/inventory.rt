@@ -8,14 +8,13 @@ ghost use Rattle.lrs_store_keeper.specs.Holding.{MayHold};
 
 use lrs_cli_tasks::{ProgramFault, load_fault, open_desk};
 use lrs_desk::Desk;
-use lrs_store::files::open_keeper;
+use lrs_store::{Tables, open_file as open_tables};
 use lrs_store_image::Reader;
-use lrs_store_keeper::TableKeeper;
 use sqlite::{FileFrom, FileStore, Unknown};
 use std::rt::HostRuntime;
 
 /// Keeps an inventory in a file and its log.
-pub type FileKeeper = TableKeeper<FileStore<FileFrom<Unknown>>, Reader>;
+pub type FileKeeper = Tables<FileStore<FileFrom<Unknown>>, Reader>;
 
 /// Opens the inventory in a file, or makes one where there is none. The desk acts on what the file holds, and on
 /// nothing else.
@@ -26,7 +25,7 @@ pub fn open_file(rt: &HostRuntime, path: &str) -> Result<Desk<FileKeeper>, Progr
     ensures limits { IfOk result (λ desk. (desk.limits.routes ≡ most_routes)
         × (desk.limits.assets ≡ most_assets) × (desk.limits.edits ≡ most_edits)) }
 {
-    match open_keeper(rt, path, Unknown, Reader) {
+    match open_tables(rt, path, Unknown, Reader) {
         Ok(keeper) => open_desk(keeper, rt.alloc()),
         Err(refusal) => Err(load_fault(refusal.fault)),
     }

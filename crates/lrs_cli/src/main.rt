@@ -11,7 +11,7 @@ use lrs_cli_tasks::{
     Ending, Pace, ProgramFault, Shown, Task, inventory_of, is_in_memory, status, task_of,
 };
 use lrs_cli_words::{Job, QuestionFault, WordsFault, job_of};
-use lrs_store::files::close_keeper;
+use lrs_store::close_files;
 use std::env;
 use std::io::{ErrorKind, IsTerminal};
 use std::process::ExitCode;
@@ -24,7 +24,7 @@ fn do_in_file(rt: &HostRuntime, path: &str, task: &Task<'_>, shown: Shown) -> En
         Err(fault) => return Ending::Stopped(fault),
     };
     let ending = do_task(rt, &mut desk, task, Pace::InGroups, shown);
-    drop(close_keeper(desk.into_keeper()));
+    drop(close_files(desk.into_keeper()));
     ending
 }
 

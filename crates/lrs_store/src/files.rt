@@ -14,9 +14,11 @@ ghost use Rattle.lrs_store.specs.Refused.{IsUnsoundLeft, IsSoundLeft, WasLookedA
 
 use crate::verdict::judge;
 use lrs_image::LoadFault;
-use lrs_store_files::files::{CloseFault, Refusal, Untaken, close_files, open_file, open_files};
-use lrs_store_keeper::{ReadImage, TableKeeper};
-use lrs_store_tables::tables::{StoreFault, Tables};
+use lrs_store_files::files::{
+    CloseFault, Refusal, Untaken, close_tables, open_tables, open_tables_at,
+};
+use lrs_store_keeper::{ReadImage, Tables};
+use lrs_store_tables::tables::{StoreFault, TableStore};
 use sqlite::{Connection, FileFrom, FileStore, Files, Leftover, Options, Start};
 use sqlite_disk::Disk;
 use std::alloc::Global;
@@ -107,12 +109,12 @@ fn not_opened<D: Disk + Drop, R: ReadImage>(
 /// `Store` if a file fails or the files hold no store of an inventory, `Unsound` with the first unsound table of
 /// rows that break a rule of their tables or are not of version 2, and `Memory` if memory runs out. The files are
 /// given back in what is left, and hold what they held.
-pub fn open_keeper_files<D: Disk + Drop, R: ReadImage + Drop>(
+pub fn open_files<D: Disk + Drop, R: ReadImage + Drop>(
     alloc: Global,
     files: Files<D>,
     options: Options,
     reader: R,
-) -> Result<TableKeeper<FileStore<D>, R>, NotOpened<D>>
+) -> Result<Tables<FileStore<D>, R>, NotOpened<D>>
     requires log { IsTrue (D.Disk.is_usable files.log) }
     requires db { IsTrue (D.Disk.is_usable files.db) }
     ensures unloaded { IfOk result (λ k. k.is_loaded ≡ false) }
@@ -127,11 +129,11 @@ pub fn open_keeper_files<D: Disk + Drop, R: ReadImage + Drop>(
         given ≡ files) e.left) }
     ensures left { IfErr result (λ e. e.left ≢ Left.Nothing) }
 {
-    let tables = match open_files(alloc, files, options) {
+    let tables = match open_tables(alloc, files, options) {
         Ok(tables) => tables,
         Err(refusal) => return Err(not_opened(alloc, refusal, &reader)),
     };
-    match TableKeeper::open(alloc, tables.conn, reader) {
+    match Tables::open(alloc, tables.conn, reader) {
         Ok(keeper) => Ok(keeper),
         Err((fault, conn)) => Err(NotOpened {
             fault,
@@ -147,12 +149,12 @@ pub fn open_keeper_files<D: Disk + Drop, R: ReadImage + Drop>(
 /// `Store` if a file fails, another program has it, or it holds no store of an inventory, `Unsound` with the first
 /// unsound table of rows that break a rule of their tables or are not of version 2, and `Memory` if memory runs out.
 /// What is left of the files holds what they held.
-pub fn open_keeper<S: Start, R: ReadImage + Drop>(
+pub fn open_file<S: Start, R: ReadImage + Drop>(
     rt: &HostRuntime,
     path: &str,
     start: S,
     reader: R,
-) -> Result<TableKeeper<FileStore<FileFrom<S>>, R>, NotOpened<FileFrom<S>>>
+) -> Result<Tables<FileStore<FileFrom<S>>, R>, NotOpened<FileFrom<S>>>
     ensures unloaded { IfOk result (λ k. k.is_loaded ≡ false) }
     ensures usable { IfOk result (λ k. k.is_broken ≡ false) }
     ensures second { IfOk result (λ k. IsSecond (file_state k.conn)) }
@@ -164,11 +166,11 @@ pub fn open_keeper<S: Start, R: ReadImage + Drop>(
     ensures still { IfErr result (λ e. HoldsStill (image_at S.Start) (λ files.
         IsFresh true files.log × IsFresh false files.db) e.left) }
 {
-    let tables = match open_file(rt, path, start) {
+    let tables = match open_tables_at(rt, path, start) {
         Ok(tables) => tables,
         Err(refusal) => return Err(not_opened(rt.alloc(), refusal, &reader)),
     };
-    match TableKeeper::open(rt.alloc(), tables.conn, reader) {
+    match Tables::open(rt.alloc(), tables.conn, reader) {
         Ok(keeper) => Ok(keeper),
         Err((fault, conn)) => Err(NotOpened {
             fault,
@@ -182,15 +184,15 @@ pub fn open_keeper<S: Start, R: ReadImage + Drop>(
 ///
 /// # Errors
 /// When memory runs out, or the store fails. The log then has what the database lacks.
-pub fn close_keeper<D: Disk + Drop, R: ReadImage + Drop>(
-    keeper: TableKeeper<FileStore<D>, R>,
+pub fn close_files<D: Disk + Drop, R: ReadImage + Drop>(
+    keeper: Tables<FileStore<D>, R>,
 ) -> Result<Files<D>, CloseFault>
     ensures usable { IfOk result (λ files. IsTrue (D.Disk.is_usable files.log)
         × IsTrue (D.Disk.is_usable files.db)) }
     ensures copied { IfOk result (λ files. AreClean D.Disk files.log files.db
         → IsCopied keeper.conn files) }
 {
-    close_files(Tables {
+    close_tables(TableStore {
         conn: keeper.into_connection(),
     })
 }

@@ -13,7 +13,7 @@ ghost use Rattle.lrs_store_files.specs.Opening.{IsTaken, IsFound, LeavesFound, H
 
 use crate::table_list::{Known, wanted, which};
 use lrs_store_tables::new_store::make_store;
-use lrs_store_tables::tables::{StoreFault, Tables};
+use lrs_store_tables::tables::{StoreFault, TableStore};
 use sqlite::{Alter, Connection, Error, ErrorCode, Transaction};
 use std::alloc::Global;
 
@@ -64,7 +64,7 @@ pub fn fault_of(error: Error) -> StoreFault
     }
 }
 
-fn kept<S: Alter>(conn: Connection<S>) -> Tables<S>
+fn kept<S: Alter>(conn: Connection<S>) -> TableStore<S>
     requires autocommit { conn.in_transaction ≡ false }
     requires found { IsFound (state S.Store conn) }
     requires second { (state S.Store conn).now.schema ≡ inventory }
@@ -74,13 +74,13 @@ fn kept<S: Alter>(conn: Connection<S>) -> Tables<S>
 {
     // For the prover alone: what its contract says is known from here on.
     let _live = conn.schema();
-    Tables { conn }
+    TableStore { conn }
 }
 
 /// A connection as it was opened, or whose tables were to be made: why they are not taken, and what an opening finds.
 type NotTaken<S> = (StoreFault, Connection<S>);
 
-fn made<S: Alter>(mut conn: Connection<S>) -> Result<Tables<S>, NotTaken<S>>
+fn made<S: Alter>(mut conn: Connection<S>) -> Result<TableStore<S>, NotTaken<S>>
     requires autocommit { conn.in_transaction ≡ false }
     requires found { IsFound (state S.Store conn) }
     requires nothing { (state S.Store conn).now.schema ≡ no_schema }
@@ -92,12 +92,12 @@ fn made<S: Alter>(mut conn: Connection<S>) -> Result<Tables<S>, NotTaken<S>>
     ensures left { IfErr result (λ e. LeavesFound (state S.Store conn) (state S.Store e.1)) }
 {
     match make_store(&mut conn) {
-        Ok(()) => Ok(Tables { conn }),
+        Ok(()) => Ok(TableStore { conn }),
         Err(error) => Err((fault_of(error), conn)),
     }
 }
 
-fn grown<S: Alter>(mut conn: Connection<S>) -> Result<Tables<S>, NotTaken<S>>
+fn grown<S: Alter>(mut conn: Connection<S>) -> Result<TableStore<S>, NotTaken<S>>
     requires autocommit { conn.in_transaction ≡ false }
     requires found { IsFound (state S.Store conn) }
     requires first { (state S.Store conn).now.schema ≡ up_to_edit }
@@ -112,7 +112,7 @@ fn grown<S: Alter>(mut conn: Connection<S>) -> Result<Tables<S>, NotTaken<S>>
         Ok(()) => {
             // For the prover alone: what its contract says is known from here on.
             let _live = conn.schema();
-            Ok(Tables { conn })
+            Ok(TableStore { conn })
         }
         Err(error) => Err((fault_of(error), conn)),
     }
@@ -132,7 +132,7 @@ fn unchanged<S: Alter>(fault: StoreFault, conn: Connection<S>) -> NotTaken<S>
 ///
 /// # Errors
 /// When memory runs out, the store fails, or it has other tables: it is then as it was.
-pub fn over<S: Alter>(alloc: Global, conn: Connection<S>) -> Result<Tables<S>, NotTaken<S>>
+pub fn over<S: Alter>(alloc: Global, conn: Connection<S>) -> Result<TableStore<S>, NotTaken<S>>
     requires autocommit { conn.in_transaction ≡ false }
     requires found { IsFound (state S.Store conn) }
     ensures autocommit { IfOk result (λ t. t.conn.in_transaction ≡ false) }

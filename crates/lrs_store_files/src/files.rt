@@ -11,7 +11,7 @@ ghost use Rattle.lrs_store_tables.specs.Resting.{IsReady};
 ghost use Rattle.lrs_store_files.specs.Found.{HasFound, IsLeftOf};
 
 use crate::connection::{fault_of, over};
-use lrs_store_tables::tables::{StoreFault, Tables};
+use lrs_store_tables::tables::{StoreFault, TableStore};
 use sqlite::{Connection, Error, ErrorCode, FileFrom, FileStore, Files, Leftover, Options, Start};
 use sqlite_disk::Disk;
 use std::alloc::Global;
@@ -37,11 +37,11 @@ pub struct Refusal<D: Disk> {
 ///
 /// # Errors
 /// When memory runs out, a file fails, or the files hold no store of an inventory: they are then as they were.
-pub fn open_files<D: Disk + Drop>(
+pub fn open_tables<D: Disk + Drop>(
     alloc: Global,
     files: Files<D>,
     options: Options,
-) -> Result<Tables<FileStore<D>>, Refusal<D>>
+) -> Result<TableStore<FileStore<D>>, Refusal<D>>
     requires log { IsTrue (D.Disk.is_usable files.log) }
     requires db { IsTrue (D.Disk.is_usable files.db) }
     ensures autocommit { IfOk result (λ t. t.conn.in_transaction ≡ false) }
@@ -81,11 +81,11 @@ fn refused<D: Disk + Drop>(left: Option<Leftover<D>>) -> Option<Untaken<D>>
 /// # Errors
 /// When memory runs out, a file fails, another program has it, or it holds no store of an inventory: the files are then
 /// as they were.
-pub fn open_file<S: Start>(
+pub fn open_tables_at<S: Start>(
     rt: &HostRuntime,
     path: &str,
     start: S,
-) -> Result<Tables<FileStore<FileFrom<S>>>, Refusal<FileFrom<S>>>
+) -> Result<TableStore<FileStore<FileFrom<S>>>, Refusal<FileFrom<S>>>
     ensures autocommit { IfOk result (λ t. t.conn.in_transaction ≡ false) }
     ensures ready { IfOk result (λ t. IsReady (file_state t.conn)) }
     ensures found { IfOk result (λ t. HasCleanDisk (file_state t.conn)
@@ -132,7 +132,9 @@ fn close_fault_of(error: Error) -> CloseFault
 ///
 /// # Errors
 /// When memory runs out, or the store fails.
-pub fn close_files<D: Disk + Drop>(tables: Tables<FileStore<D>>) -> Result<Files<D>, CloseFault>
+pub fn close_tables<D: Disk + Drop>(
+    tables: TableStore<FileStore<D>>,
+) -> Result<Files<D>, CloseFault>
     ensures usable { IfOk result (λ files. IsTrue (D.Disk.is_usable files.log)
         × IsTrue (D.Disk.is_usable files.db)) }
     ensures copied { IfOk result (λ files. AreClean D.Disk files.log files.db

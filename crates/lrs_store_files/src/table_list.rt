@@ -5,7 +5,7 @@ ghost use Rattle.lrs_store_tables.specs.Schema.{inventory};
 ghost use Rattle.lrs_store_tables.specs.Making.{no_schema, up_to_edit};
 
 use crate::comparison::has_only;
-use lrs_store_tables::tables::Tables;
+use lrs_store_tables::tables::TableStore;
 use sqlite_schema::schema::Schema;
 use std::alloc::{AllocError, Global};
 
@@ -32,7 +32,7 @@ pub enum Known {
 pub fn wanted(alloc: Global) -> Result<Schema, AllocError>
     ensures { IfOk result (λ schema. schema ≡ inventory) }
 {
-    let Ok(made) = Tables::in_memory(alloc) else {
+    let Ok(made) = TableStore::in_memory(alloc) else {
         return Err(AllocError);
     };
     made.conn.schema().copy(alloc)

@@ -28,7 +28,7 @@ use std::marker::Model;
 /// After a commit or a load that failed the connection is not used again: each call fails from then on, until
 /// the store is opened anew.
 #[derive(Drop)]
-pub struct TableKeeper<S: Alter, R: ReadImage> {
+pub struct Tables<S: Alter, R: ReadImage> {
     conn: Connection<S>,
     reader: R,
     edits: u64,
@@ -37,7 +37,7 @@ pub struct TableKeeper<S: Alter, R: ReadImage> {
     failures: u64,
 }
 
-impl<S: Alter, R: ReadImage> Model for TableKeeper<S, R> {
+impl<S: Alter, R: ReadImage> Model for Tables<S, R> {
     ghost use Rattle.std.specs.Prelude.{◌≡◌, false};
     ghost use Rattle.sqlite.specs.Held.{state};
     ghost use Rattle.lrs_store_keeper.specs.KeeperView.{KeeperView, view_code};
@@ -59,16 +59,16 @@ impl<S: Alter, R: ReadImage> Model for TableKeeper<S, R> {
     ghost invariant = { λ k. k.is_broken ≡ false → IsUsable (state S.Store k.conn) k.conn.in_transaction k.is_loaded k.edits };
 }
 
-impl<S: Alter, R: ReadImage> TableKeeper<S, R> {
+impl<S: Alter, R: ReadImage> Tables<S, R> {
     /// Keeps what the tables of a store hold, of which nothing is loaded yet.
-    pub fn over(conn: Connection<S>, reader: R) -> TableKeeper<S, R>
+    pub fn over(conn: Connection<S>, reader: R) -> Tables<S, R>
         requires autocommit { conn.in_transaction ≡ false }
         requires ready { IsReady (state S.Store conn) }
         ensures same { result.conn ≡ conn }
         ensures unloaded { result.is_loaded ≡ false }
         ensures usable { result.is_broken ≡ false }
     {
-        TableKeeper {
+        Tables {
             conn,
             reader,
             edits: 0,
@@ -79,7 +79,7 @@ impl<S: Alter, R: ReadImage> TableKeeper<S, R> {
     }
 }
 
-impl<S: Alter, R: ReadImage + Drop> TableKeeper<S, R> {
+impl<S: Alter, R: ReadImage + Drop> Tables<S, R> {
     /// Keeps what the tables of a store hold. Rows of version 1, and those of a store that has none, become rows
     /// of version 2, in one transaction, and hold the same image. Nothing is loaded yet.
     ///
@@ -90,7 +90,7 @@ impl<S: Alter, R: ReadImage + Drop> TableKeeper<S, R> {
         alloc: Global,
         mut conn: Connection<S>,
         reader: R,
-    ) -> Result<TableKeeper<S, R>, (LoadFault, Connection<S>)>
+    ) -> Result<Tables<S, R>, (LoadFault, Connection<S>)>
         requires autocommit { conn.in_transaction ≡ false }
         requires ready { IsReady (state S.Store conn) }
         ensures unloaded { IfOk result (λ k. k.is_loaded ≡ false) }
@@ -106,7 +106,7 @@ impl<S: Alter, R: ReadImage + Drop> TableKeeper<S, R> {
             → MayHold (state S.Store e.1) c → MayHold (state S.Store conn) c) }
     {
         match make_second(&reader, alloc, &mut conn) {
-            Ok(()) => Ok(TableKeeper::over(conn, reader)),
+            Ok(()) => Ok(Tables::over(conn, reader)),
             Err(fault) => Err((fault, conn)),
         }
     }
@@ -115,24 +115,24 @@ impl<S: Alter, R: ReadImage + Drop> TableKeeper<S, R> {
     pub fn into_connection(self) -> Connection<S>
         ensures { result ≡ self.conn }
     {
-        let TableKeeper { conn, .. } = self;
+        let Tables { conn, .. } = self;
         conn
     }
 }
 
-impl<R: ReadImage + Drop> TableKeeper<MemStore, R> {
+impl<R: ReadImage + Drop> Tables<MemStore, R> {
     /// Keeps the image without entries in a new store in memory. Nothing has to be loaded before the first commit.
     ///
     /// # Errors
     /// When memory runs out.
-    pub fn in_memory(alloc: Global, reader: R) -> Result<TableKeeper<MemStore, R>, StoreFault>
+    pub fn in_memory(alloc: Global, reader: R) -> Result<Tables<MemStore, R>, StoreFault>
         ensures empty { IfOk result (λ k. HoldsOnly (MayHold (state over_memory k.conn)) nothing) }
         ensures safe { IfOk result (λ k. IsSafe (state over_memory k.conn)) }
         ensures loaded { IfOk result (λ k. k.is_loaded ≡ true) }
         ensures usable { IfOk result (λ k. k.is_broken ≡ false) }
     {
         let conn = new_store(alloc)?;
-        Ok(TableKeeper {
+        Ok(Tables {
             conn,
             reader,
             edits: 0,
@@ -143,7 +143,7 @@ impl<R: ReadImage + Drop> TableKeeper<MemStore, R> {
     }
 }
 
-impl<S: Alter, R: ReadImage> Keeper for TableKeeper<S, R> {
+impl<S: Alter, R: ReadImage> Keeper for Tables<S, R> {
     ghost use Rattle.sqlite.specs.Held.{state};
     ghost use Rattle.lrs_store_keeper.specs.Holding.{MayHold, IsSafe, finds_left};
 

@@ -10,4 +10,4 @@ pub mod rows;
 mod texts;
 
 pub use image::ReadImage;
-pub use keeper::TableKeeper;
+pub use keeper::Tables;

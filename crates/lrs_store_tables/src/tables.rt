@@ -13,7 +13,7 @@ use std::alloc::Global;
 
 /// The tables of an inventory in a store.
 #[derive(Drop)]
-pub struct Tables<S: Alter> {
+pub struct TableStore<S: Alter> {
     pub conn: Connection<S>,
 }
 
@@ -26,12 +26,12 @@ pub enum StoreFault {
     Store,
 }
 
-impl Tables<MemStore> {
+impl TableStore<MemStore> {
     /// A new store in memory, without entries.
     ///
     /// # Errors
     /// When memory runs out.
-    pub fn in_memory(alloc: Global) -> Result<Tables<MemStore>, StoreFault>
+    pub fn in_memory(alloc: Global) -> Result<TableStore<MemStore>, StoreFault>
         ensures ready { IfOk result (λ t. (t.conn.in_transaction ≡ false)
             × IsReady (state over_memory t.conn)) }
         ensures empty { IfOk result (λ t. HoldsOnly (state over_memory t.conn) new_rows) }
@@ -40,7 +40,7 @@ impl Tables<MemStore> {
             return Err(StoreFault::Memory);
         };
         match make_store(&mut conn) {
-            Ok(()) => Ok(Tables { conn }),
+            Ok(()) => Ok(TableStore { conn }),
             Err(Error::SqliteFailure(ErrorCode::OutOfMemory)) => Err(StoreFault::Memory),
             Err(_) => Err(StoreFault::Store),
         }

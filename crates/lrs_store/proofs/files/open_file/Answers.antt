@@ -3,7 +3,7 @@ use Rattle.sqlite_std_file.specs.File.{IsFresh}
 use Rattle.sqlite_wal.specs.Files.{image_at}
 use Rattle.sqlite.specs.Files.{file_state}
 use Rattle.lrs_store.proofs.OpenedLemmas.{has_opened, holds_still, still_refused}
-use Rattle.lrs_store.proofs.files.open_keeper.Goals as goal
+use Rattle.lrs_store.proofs.files.open_file.Goals as goal
 
 pub returns-in-Ok-open-clause-found : goal.returns-in-Ok-open-clause-found
 returns-in-Ok-open-clause-found g c clean =

@@ -2,7 +2,7 @@ use Rattle.std.proofs.Common.{refl}
 use Rattle.sqlite_trees.specs.View.{doubt}
 use Rattle.sqlite.specs.Steps.{over_memory}
 use Rattle.lrs_store_keeper.proofs.NewLemmas.{no_edits, holds_nothing}
-use Rattle.lrs_store_keeper.proofs.keeper.TableKeeper+MemStore+R.in_memory.Goals as goal
+use Rattle.lrs_store_keeper.proofs.keeper.Tables+MemStore+R.in_memory.Goals as goal
 
 pub invariant_of-result : goal.invariant_of-result
 invariant_of-result g c e =

@@ -7,7 +7,7 @@ use Rattle.lrs_store_keeper.specs.Holding.{MayHold}
 use Rattle.lrs_store_keeper.specs.KeeperView.{KeeperView}
 use Rattle.lrs_store_keeper.proofs.CommitLemmas.{old_or_some}
 use Rattle.lrs_store_keeper.proofs.Sound.{found_sound}
-use Rattle.lrs_store_keeper.proofs.keeper.TableKeeperKeeper.commit.Goals as goal
+use Rattle.lrs_store_keeper.proofs.keeper.TablesKeeper.commit.Goals as goal
 
 pub returns-in-Ok-clause-ok : goal.returns-in-Ok-clause-ok
 returns-in-Ok-clause-ok g c =

@@ -1,7 +1,7 @@
 use Rattle.std.proofs.Common.{◌≡◌}
 use Rattle.sqlite.specs.Files.{file_state, image_of}
 use Rattle.lrs_store.proofs.OpenedLemmas.{has_opened, holds_still, still_given, something_left}
-use Rattle.lrs_store.proofs.files.open_keeper_files.Goals as goal
+use Rattle.lrs_store.proofs.files.open_files.Goals as goal
 
 pub returns-in-Ok-open-clause-found : goal.returns-in-Ok-open-clause-found
 returns-in-Ok-open-clause-found g c clean =
