@@ -5,5 +5,6 @@ pub mod Segmented
 pub mod Totals
 pub mod Ground
 pub mod Named
+pub mod Told
 pub mod Lines
 pub mod Causes

@@ -1,18 +1,22 @@
 -- Answers as they are printed: words with a space between them, a line for each place, asset, row or class.
-use Rattle.std.specs.Prelude.{ℕ, Bool, List, [], ◌∷◌, ◌++◌, codes, if◌then◌else◌}
+use Rattle.std.specs.Prelude.{ℕ, Bool, List, [], ◌∷◌, ◌++◌, codes, if◌then◌else◌, length}
 use Rattle.std.specs.List.{flat_map}
 use Rattle.std.specs.Fmt.{decimal}
 use Rattle.lrs_measure.specs.Fraction.{Fraction}
-use Rattle.lrs_measure.specs.Printing.{fraction_text}
+use Rattle.lrs_measure.specs.Printing.{fraction_text, metres_text}
 use Rattle.lrs_measure.specs.Texts.{Name}
 use Rattle.lrs_position.specs.declared.expression.Expr.{Expr}
+use Rattle.lrs_position.specs.declared.route.Route.{Route}
 use Rattle.lrs_position.specs.Readings.{expression_text}
 use Rattle.lrs_events.specs.Names.{side_text}
 use Rattle.lrs_machine.specs.declared.total.Total.{Total}
 use Rattle.lrs_machine.specs.declared.hit.Hit.{Hit}
 use Rattle.lrs_machine.specs.Lines.{Text, words}
+use Rattle.lrs_report.specs.Strips.{strip_text}
 use Rattle.lrs_answers.specs.declared.rows.FoundRow.{FoundRow}
 use Rattle.lrs_answers.specs.declared.hits.AtAnswer.{AtAnswer}
+use Rattle.lrs_answers.specs.declared.told.Told.{Told}
+use Rattle.lrs_answers.specs.declared.told.Told.TheVariants as told
 
 -- words with a space between them, and the end of the line
 abbrev pub line_of : List Text → Text
@@ -58,3 +62,17 @@ expression_line e = expression_text e ++ 10 ∷ []
 -- a link, and behind a colon the distance from its start
 abbrev pub link_position_text : ℕ → Fraction → Text
 link_position_text link distance = decimal link ++ 58 ∷ fraction_text distance ++ 10 ∷ []
+
+-- a route and its length in metres
+abbrev pub route_text : Route → Text
+route_text r = line_of (r.name ∷ metres_text (length r.course) ∷ [])
+
+-- What is told to a question, in lines.
+abbrev pub told_text : Told → Text
+told_text (told.At route found) = at_text route found
+told_text (told.Route route) = route_text route
+told_text (told.Segments route side len classes segments) = strip_text route side len classes segments
+told_text (told.Translated route e) = expression_line e
+told_text (told.OnLink route link distance) = link_position_text link distance
+told_text (told.Totals totals) = totals_text totals
+told_text (told.Found rows) = found_text rows

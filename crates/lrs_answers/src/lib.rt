@@ -15,12 +15,15 @@ mod route;
 mod rows;
 mod search;
 mod segmentation;
+mod told;
 
 pub use cause::{AskCause, cause_of};
 pub use fault::AskFault;
 pub use hits::{AtAnswer, at};
-pub use lines::{write_at, write_expression, write_found, write_link_position, write_totals};
+pub use lines::write_told;
 pub use position::{to_link, translate};
+pub use route::{length_of, named_route};
 pub use rows::{FoundRow, push_rows};
 pub use search::find;
 pub use segmentation::segments;
+pub use told::Told;

@@ -3,12 +3,13 @@
 ghost use Rattle.std.specs.Prelude.{◌≡◌, ◌++◌, OnOk};
 ghost use Rattle.std.specs.List.{flat_map};
 ghost use Rattle.std.specs.Io.KnownBytes.{Appends};
-ghost use Rattle.lrs_answers.specs.Lines.{at_text, expression_line, found_text, hit_text, link_position_text, place_text, row_text, total_text, totals_text};
+ghost use Rattle.lrs_answers.specs.Lines.{at_text, expression_line, found_text, hit_text, link_position_text, place_text, route_text, row_text, told_text, total_text, totals_text};
 
-use crate::{AtAnswer, FoundRow};
+use crate::{AtAnswer, FoundRow, Told};
 use lrs_machine::{Hit, Total};
-use lrs_measure::Frac;
-use lrs_position::{Expr, RouteName};
+use lrs_measure::{Frac, Metres};
+use lrs_position::{Expr, Route, RouteName};
+use lrs_report::strip;
 use std::io;
 use std::io::Write;
 
@@ -50,12 +51,8 @@ fn write_hits<W: Write>(writer: &mut W, hits: &[Hit]) -> io::Result<()>
     Ok(())
 }
 
-/// Writes where a position stands, and a line for each asset that holds it. It takes no memory beyond the writer's, and
-/// does not flush the writer.
-///
-/// # Errors
-/// That of the writer. Part of the lines may be written then.
-pub fn write_at<W: Write>(writer: &mut W, route: &RouteName, found: &AtAnswer) -> io::Result<()>
+/// Writes where a position stands, and a line for each asset that holds it.
+fn write_at<W: Write>(writer: &mut W, route: &RouteName, found: &AtAnswer) -> io::Result<()>
     ensures { OnOk result (Appends (W.contents writer.old) (W.contents writer.new)
         (at_text route.now found.now)) }
 {
@@ -76,10 +73,7 @@ fn write_row<W: Write>(writer: &mut W, row: &FoundRow) -> io::Result<()>
 }
 
 /// Writes a line for each row of an asset.
-///
-/// # Errors
-/// That of the writer. Part of the lines may be written then.
-pub fn write_found<W: Write>(writer: &mut W, rows: &[FoundRow]) -> io::Result<()>
+fn write_found<W: Write>(writer: &mut W, rows: &[FoundRow]) -> io::Result<()>
     ensures { OnOk result (Appends (W.contents writer.old) (W.contents writer.new)
         (found_text rows.now)) }
 {
@@ -103,10 +97,7 @@ fn write_total<W: Write>(writer: &mut W, total: &Total) -> io::Result<()>
 }
 
 /// Writes a line for each class.
-///
-/// # Errors
-/// That of the writer. Part of the lines may be written then.
-pub fn write_totals<W: Write>(writer: &mut W, totals: &[Total]) -> io::Result<()>
+fn write_totals<W: Write>(writer: &mut W, totals: &[Total]) -> io::Result<()>
     ensures { OnOk result (Appends (W.contents writer.old) (W.contents writer.new)
         (totals_text totals.now)) }
 {
@@ -117,10 +108,7 @@ pub fn write_totals<W: Write>(writer: &mut W, totals: &[Total]) -> io::Result<()
 }
 
 /// Writes the line of a position expression.
-///
-/// # Errors
-/// That of the writer.
-pub fn write_expression<W: Write>(writer: &mut W, expression: Expr) -> io::Result<()>
+fn write_expression<W: Write>(writer: &mut W, expression: Expr) -> io::Result<()>
     ensures { OnOk result (Appends (W.contents writer.old) (W.contents writer.new)
         (expression_line expression)) }
 {
@@ -128,12 +116,47 @@ pub fn write_expression<W: Write>(writer: &mut W, expression: Expr) -> io::Resul
 }
 
 /// Writes the line of a position on a link: the link, and the distance in millimetres from its start.
-///
-/// # Errors
-/// That of the writer.
-pub fn write_link_position<W: Write>(writer: &mut W, link: u32, distance: Frac) -> io::Result<()>
+fn write_link_position<W: Write>(writer: &mut W, link: u32, distance: Frac) -> io::Result<()>
     ensures { OnOk result (Appends (W.contents writer.old) (W.contents writer.new)
         (link_position_text link distance)) }
 {
     writeln!(writer, "{link}:{distance}")
+}
+
+/// Writes the line of a route: its name, and its length in metres.
+fn write_route<W: Write>(writer: &mut W, route: &Route) -> io::Result<()>
+    ensures { OnOk result (Appends (W.contents writer.old) (W.contents writer.new)
+        (route_text route.now)) }
+{
+    let length = Metres::new(route.length());
+    writer.write_all(route.name.bytes())?;
+    writeln!(writer, " {length}")
+}
+
+/// Writes what is told to a question, in lines. It takes no memory beyond the writer's, and does not flush the writer.
+///
+/// # Errors
+/// That of the writer. Part of the lines may be written then.
+pub fn write_told<W: Write>(writer: &mut W, told: &Told) -> io::Result<()>
+    ensures { OnOk result (Appends (W.contents writer.old) (W.contents writer.new)
+        (told_text told.now)) }
+{
+    match told {
+        Told::At { route, found } => write_at(writer, route, found),
+        Told::Route(route) => write_route(writer, route),
+        Told::Segments {
+            route,
+            side,
+            length,
+            classes,
+            segments,
+        } => {
+            let classes = classes.as_slice();
+            strip(writer, route, *side, *length, classes, segments.as_slice())
+        }
+        Told::Translated { position, .. } => write_expression(writer, *position),
+        Told::OnLink { link, distance, .. } => write_link_position(writer, *link, *distance),
+        Told::Totals(totals) => write_totals(writer, totals.as_slice()),
+        Told::Found(rows) => write_found(writer, rows.as_slice()),
+    }
 }

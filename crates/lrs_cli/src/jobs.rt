@@ -14,25 +14,25 @@ use std::rt::Runtime;
 pub fn do_task<R: Runtime<A = Global> + Net, K: Keeper>(
     rt: &R,
     desk: &mut Desk<K>,
-    task: &Task<'_>,
+    task: Task<'_>,
     of_file: Pace,
     shown: Shown,
 ) -> Ending
     requires open { desk.old.must_reopen ≡ false }
 {
     match task {
-        Task::Sheet { kind, from } => match do_sheet(rt, desk, *kind, from, of_file, shown) {
+        Task::Sheet { kind, from } => match do_sheet(rt, desk, kind, from, of_file, shown) {
             Ok(tally) if tally.refused == 0 => Ending::Done,
             Ok(_) => Ending::RecordsRefused,
             Err(fault) => Ending::Stopped(fault),
         },
         Task::Question(question) => do_question(rt, desk, question),
-        Task::Service(service) => do_service(rt, desk, *service),
+        Task::Service(service) => do_service(rt, desk, service),
     }
 }
 
 /// Does a task in a fresh inventory in memory.
-pub fn do_in_memory<R: Runtime<A = Global> + Net>(rt: &R, task: &Task<'_>, shown: Shown) -> Ending {
+pub fn do_in_memory<R: Runtime<A = Global> + Net>(rt: &R, task: Task<'_>, shown: Shown) -> Ending {
     match open_in_memory(rt.alloc()) {
         Ok(mut desk) => do_task(rt, &mut desk, task, Pace::InPieces, shown),
         Err(fault) => Ending::Stopped(fault),

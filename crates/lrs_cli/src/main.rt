@@ -18,7 +18,7 @@ use std::process::ExitCode;
 
 // Does a task in the inventory of a file, which is closed afterwards. Where it cannot be closed, its log still has
 // what was committed. Each reply goes out once its record is committed, and before the next is read.
-fn do_in_file(rt: &HostRuntime, path: &str, task: &Task<'_>, shown: Shown) -> Ending {
+fn do_in_file(rt: &HostRuntime, path: &str, task: Task<'_>, shown: Shown) -> Ending {
     let mut desk = match open_file(rt, path) {
         Ok(desk) => desk,
         Err(fault) => return Ending::Stopped(fault),
@@ -37,9 +37,9 @@ fn do_job(rt: &HostRuntime, job: &Job<'_>, shown: Shown) -> Ending {
     };
     let db = inventory_of(job);
     if is_in_memory(db) {
-        do_in_memory(rt, &task, shown)
+        do_in_memory(rt, task, shown)
     } else {
-        do_in_file(rt, db, &task, shown)
+        do_in_file(rt, db, task, shown)
     }
 }
 

@@ -1,24 +1,14 @@
 //! Questions: asked of a desk, and their answers printed.
 
 ghost use Rattle.std.specs.Prelude.{◌≡◌, ◌⊎◌, IfOk, IfErr, Err, false};
-ghost use Rattle.lrs_machine.specs.Image.{state_of};
-ghost use Rattle.lrs_report.specs.Strips.{strip_text};
-ghost use Rattle.lrs_answers.specs.Answers.{IsAt};
-ghost use Rattle.lrs_answers.specs.Finding.{IsFound};
-ghost use Rattle.lrs_answers.specs.Segmented.{IsSegmented};
-ghost use Rattle.lrs_answers.specs.Lines.{at_text, expression_line, found_text, link_position_text, totals_text};
-ghost use Rattle.lrs_cli_tasks.specs.Asking.{AreTotals, HasAnswered, IsOnLink, IsPrinted, IsSaid, IsTranslated, ending_of, length_on, stop_of};
+ghost use Rattle.lrs_answers.specs.Lines.{told_text};
+ghost use Rattle.lrs_answers.specs.Told.{IsTold};
+ghost use Rattle.lrs_cli_tasks.specs.Asking.{HasAnswered, IsPrinted, ending_of, stop_of};
 
 use crate::endings::Ending;
 use crate::fault::ProgramFault;
-use lrs_answers::{
-    cause_of, write_at, write_expression, write_found, write_link_position, write_totals,
-};
-use lrs_cli_words::{Destination, Question};
-use lrs_desk::{AskFault, Desk, Inventory, Keeper};
-use lrs_events::{ClassName, Side};
-use lrs_position::{Expr, RouteName, Target};
-use lrs_report::strip;
+use lrs_answers::{cause_of, write_told};
+use lrs_desk::{AskFault, Desk, Keeper, Question};
 use std::alloc::Global;
 use std::io;
 use std::io::{BufWriter, Write};
@@ -56,141 +46,19 @@ impl From<io::Error> for Unanswered {
     }
 }
 
-// Where a position stands, and who holds it.
-fn print_at<K: Keeper, W: Write>(
-    desk: &Desk<K>,
-    route: &RouteName,
-    position: Expr,
-    writer: &mut W,
-) -> Result<(), Unanswered>
-    requires open { desk.now.must_reopen ≡ false }
-    ensures { IsPrinted (IsAt (state_of desk.now.image) route.now position) (at_text route.now)
-        (W.contents writer.old) (W.contents writer.new) result }
-{
-    let found = desk.at(route, position)?;
-    write_at(writer, route, &found)?;
-    Ok(())
-}
-
-// A position by another method.
-fn print_translated<K: Keeper, W: Write>(
-    desk: &Desk<K>,
-    route: &RouteName,
-    position: Expr,
-    target: Target,
-    writer: &mut W,
-) -> Result<(), Unanswered>
-    requires open { desk.now.must_reopen ≡ false }
-    ensures { IsPrinted
-        (IsTranslated (state_of desk.now.image) route.now position target) expression_line
-        (W.contents writer.old) (W.contents writer.new) result }
-{
-    let translated = desk.translate(route, position, target)?;
-    write_expression(writer, translated)?;
-    Ok(())
-}
-
-// Where on a link a position is.
-fn print_on_link<K: Keeper, W: Write>(
-    desk: &Desk<K>,
-    route: &RouteName,
-    position: Expr,
-    writer: &mut W,
-) -> Result<(), Unanswered>
-    requires open { desk.now.must_reopen ≡ false }
-    ensures { IsPrinted (IsOnLink (state_of desk.now.image) route.now position) (λ on.
-        link_position_text on.0 on.1) (W.contents writer.old) (W.contents writer.new) result }
-{
-    let (link, distance) = desk.to_link(route, position)?;
-    write_link_position(writer, link, distance)?;
-    Ok(())
-}
-
-// How long a route is, in millimetres; 0 where no route has the name.
-fn length_of(inventory: &Inventory, route: &RouteName) -> u64
-    ensures { result ≡ length_on (state_of inventory.now) route.now }
-{
-    match inventory.kept().routes.find(route) {
-        Some(row) => row.route.length(),
-        None => 0,
-    }
-}
-
-// The segments of a route.
-fn print_strip<K: Keeper, W: Write>(
-    desk: &Desk<K>,
-    route: &RouteName,
-    side: Side,
-    classes: &[ClassName],
-    writer: &mut W,
-) -> Result<(), Unanswered>
-    requires open { desk.now.must_reopen ≡ false }
-    ensures { IsPrinted (IsSegmented (state_of desk.now.image) route.now classes.now side)
-        (strip_text route.now side (length_on (state_of desk.now.image) route.now) classes.now)
-        (W.contents writer.old) (W.contents writer.new) result }
-{
-    let segments = desk.segments(route, classes, side)?;
-    let length = length_of(desk.inventory(), route);
-    strip(writer, route, side, length, classes, segments.as_slice())?;
-    Ok(())
-}
-
-// What there is of each class.
-fn print_totals<K: Keeper, W: Write>(desk: &Desk<K>, writer: &mut W) -> Result<(), Unanswered>
-    requires open { desk.now.must_reopen ≡ false }
-    ensures { IsPrinted (AreTotals (state_of desk.now.image)) totals_text (W.contents writer.old)
-        (W.contents writer.new) result }
-{
-    let totals = desk.totals()?;
-    write_totals(writer, totals.as_slice())?;
-    Ok(())
-}
-
-// Where an asset lies.
-fn print_found<K: Keeper, W: Write>(
-    desk: &Desk<K>,
-    asset: u64,
-    writer: &mut W,
-) -> Result<(), Unanswered>
-    requires open { desk.now.must_reopen ≡ false }
-    ensures { IsPrinted (IsFound (state_of desk.now.image) asset) found_text (W.contents writer.old)
-        (W.contents writer.new) result }
-{
-    let found = desk.find(asset)?;
-    write_found(writer, found.as_slice())?;
-    Ok(())
-}
-
 // The answer to a question.
 fn print_answer<K: Keeper, W: Write>(
     desk: &Desk<K>,
-    question: &Question,
+    question: Question,
     writer: &mut W,
 ) -> Result<(), Unanswered>
     requires open { desk.now.must_reopen ≡ false }
-    ensures { IsPrinted (IsSaid (state_of desk.now.image) question.now) (λ text.
-        text) (W.contents writer.old) (W.contents writer.new) result }
+    ensures { IsPrinted (IsTold desk.now.image question) told_text (W.contents writer.old)
+        (W.contents writer.new) result }
 {
-    match question {
-        Question::At { route, position } => print_at(desk, route, *position, writer),
-        Question::Translate {
-            route,
-            position,
-            to,
-        } => match to {
-            Destination::Method(target) => {
-                print_translated(desk, route, *position, *target, writer)
-            }
-            Destination::Link => print_on_link(desk, route, *position, writer),
-        },
-        Question::Strip {
-            route,
-            side,
-            classes,
-        } => print_strip(desk, route, *side, classes.as_slice(), writer),
-        Question::Totals => print_totals(desk, writer),
-        Question::Find { asset } => print_found(desk, *asset, writer),
-    }
+    let told = desk.ask(question)?;
+    write_told(writer, &told)?;
+    Ok(())
 }
 
 // The fault that stops the program where a question was not refused.
@@ -225,11 +93,11 @@ fn refusal(fault: AskFault) -> Ending
 pub fn answer<K: Keeper, W: Write + Drop>(
     alloc: Global,
     desk: &Desk<K>,
-    question: &Question,
+    question: Question,
     to: W,
 ) -> Result<(W, Ending), ProgramFault>
     requires open { desk.now.must_reopen ≡ false }
-    ensures answered { IfOk result (λ done. HasAnswered (state_of desk.now.image) question.now
+    ensures answered { IfOk result (λ done. HasAnswered desk.now.image question
         (W.contents to) (W.contents done.0) done.1) }
     ensures faults { IfErr result (λ e. (e ≡ ProgramFault.Memory) ⊎ (e ≡ ProgramFault.Write)) }
 {
@@ -251,7 +119,7 @@ pub fn answer<K: Keeper, W: Write + Drop>(
 pub fn do_question<R: Runtime<A = Global>, K: Keeper>(
     rt: &R,
     desk: &Desk<K>,
-    question: &Question,
+    question: Question,
 ) -> Ending
     requires open { desk.now.must_reopen ≡ false }
 {

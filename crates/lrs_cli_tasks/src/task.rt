@@ -4,7 +4,8 @@ ghost use Rattle.std.specs.Prelude.{◌≡◌, IfOk, IfErr};
 ghost use Rattle.lrs_cli_words.specs.Questions.{IsFaultOf};
 ghost use Rattle.lrs_cli_tasks.specs.Tasks.{IsTaskOf, inventory_of};
 
-use lrs_cli_words::{Job, Question, QuestionFault, Service, question_of, service_of};
+use lrs_cli_words::{Job, QuestionFault, Service, question_of, service_of};
+use lrs_machine::Question;
 use lrs_sheet::Sheet;
 use std::alloc::Global;
 

@@ -13,10 +13,10 @@ use Rattle.lrs_cli_words.specs.declared.job.Job.{Job}
 use Rattle.lrs_cli_words.specs.declared.job.Job.TheVariants as job
 use Rattle.lrs_cli_words.specs.declared.question.BadWord.{BadWord}
 use Rattle.lrs_cli_words.specs.declared.question.BadWord.TheVariants as word
-use Rattle.lrs_cli_words.specs.declared.question.Destination.{Destination}
-use Rattle.lrs_cli_words.specs.declared.question.Destination.TheVariants as destination
-use Rattle.lrs_cli_words.specs.declared.question.Question.{Question}
-use Rattle.lrs_cli_words.specs.declared.question.Question.TheVariants as question
+use Rattle.lrs_machine.specs.declared.question.Destination.{Destination}
+use Rattle.lrs_machine.specs.declared.question.Destination.TheVariants as destination
+use Rattle.lrs_machine.specs.declared.question.Question.{Question}
+use Rattle.lrs_machine.specs.declared.question.Question.TheVariants as question
 use Rattle.lrs_cli_words.specs.declared.question.Service.{Service}
 use Rattle.lrs_cli_words.specs.declared.question.QuestionFault.{QuestionFault}
 use Rattle.lrs_cli_words.specs.declared.question.QuestionFault.TheVariants.{Unreadable, Memory}
@@ -78,7 +78,7 @@ AsksNothing _ = ⊥
 abbrev pub Asks : Job → Question → Type 0
 Asks (job.At db route method position) (question.At r e) = SaysRoute route.now r × SaysPosition method.now position.now e
 Asks (job.Translate db route method position to) (question.Translate r e d) = SaysRoute route.now r × SaysPosition method.now position.now e × SaysDestination to.now d
-Asks (job.Strip db route side classes) (question.Strip r s names) = SaysRoute route.now r × SaysSide side.now s × (names ≡ map (λ w. w.now) classes.items)
+Asks (job.Strip db route side classes) (question.Segments r s names) = SaysRoute route.now r × SaysSide side.now s × (names ≡ map (λ w. w.now) classes.items)
 Asks (job.Totals db) question.Totals = ⊤
 Asks (job.Find db asset) (question.Find n) = SaysAsset asset.now n
 Asks _ q = ⊥

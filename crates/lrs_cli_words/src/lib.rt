@@ -8,6 +8,6 @@ mod words;
 
 pub use job::Job;
 pub use question::{
-    BadWord, Destination, Question, QuestionFault, Service, question_of, service_of,
+    BadWord, QuestionFault, Service, question_of, service_of,
 };
 pub use words::{WordsFault, job_of};

@@ -7,6 +7,7 @@ ghost use Rattle.lrs_cli_words.specs.Questions.{Asks, AsksNothing, Cannot, Canno
 use crate::job::Job;
 use lrs_events::{ClassName, Side, read_side};
 use lrs_measure::limits::GREATEST_ASSET;
+use lrs_machine::{Destination, Question};
 use lrs_measure::{Rows, read_digits};
 use lrs_position::{Expr, Method, RouteName, Target, read_expr, read_method, read_target};
 use std::alloc::{AllocError, Global};
@@ -17,38 +18,6 @@ const GREATEST_PORT: u64 = 65_535;
 
 /// The most connections that are served before the program ends.
 const MOST_CONNECTIONS: u64 = 1_000_000;
-
-/// How a position is to be said.
-#[derive(Clone, Copy, PartialEq, Eq)]
-pub enum Destination {
-    /// By a method, on its route.
-    Method(Target),
-    /// On the link under it.
-    Link,
-}
-
-/// What is asked of an inventory.
-#[derive(Drop)]
-pub enum Question {
-    At {
-        route: RouteName,
-        position: Expr,
-    },
-    Translate {
-        route: RouteName,
-        position: Expr,
-        to: Destination,
-    },
-    Strip {
-        route: RouteName,
-        side: Side,
-        classes: Rows<ClassName>,
-    },
-    Totals,
-    Find {
-        asset: u64,
-    },
-}
 
 /// Where an inventory is served: a port of this machine, for so many connections.
 #[derive(Clone, Copy, Debug, PartialEq, Eq)]
@@ -293,7 +262,7 @@ pub fn question_of(alloc: Global, job: &Job<'_>) -> Result<Option<Question>, Que
             let route = route_of(route)?;
             let side = side_of(side)?;
             let classes = classes_of(alloc, classes.as_slice())?;
-            Ok(Some(Question::Strip {
+            Ok(Some(Question::Segments {
                 route,
                 side,
                 classes,

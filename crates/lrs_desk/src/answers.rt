@@ -2,13 +2,11 @@
 //! is: the image may then be ahead of all that is ever kept.
 
 ghost use Rattle.std.specs.Prelude.{◌≡◌, ◌↔◌, IsTrue, Err, false};
-ghost use Rattle.lrs_answers.specs.Answers.{AsksRoute, IsAt, UnlessMemory};
+ghost use Rattle.lrs_answers.specs.Answers.{IsAt};
 ghost use Rattle.lrs_answers.specs.Finding.{IsFound};
 ghost use Rattle.lrs_answers.specs.Segmented.{IsSegmented};
-ghost use Rattle.lrs_answers.specs.Totals.{totals_of};
+ghost use Rattle.lrs_answers.specs.Told.{AreTotals, IsNamedRoute, IsOnLink, IsTranslated};
 ghost use Rattle.lrs_machine.specs.Image.{state_of};
-ghost use Rattle.lrs_position.specs.LinkPositions.{IsLinkPosition};
-ghost use Rattle.lrs_position.specs.Translating.{RoundTrip, Translates};
 
 use crate::desk::Desk;
 use lrs_answers::{AskFault, AtAnswer, FoundRow};
@@ -16,7 +14,7 @@ use lrs_events::{ClassName, Side};
 use lrs_image::Keeper;
 use lrs_machine::{Segment, Total};
 use lrs_measure::{Frac, Rows};
-use lrs_position::{Expr, RouteName, Target};
+use lrs_position::{Expr, Route, RouteName, Target};
 
 impl<K: Keeper> Desk<K> {
     /// The millimetre of a route in which a position stands, and who holds it, by asset number (ISO 19148: located event).
@@ -33,6 +31,21 @@ impl<K: Keeper> Desk<K> {
             return Err(AskFault::MustReopen);
         }
         lrs_answers::at(self.alloc(), self.inventory().kept(), route, expression)
+    }
+
+    /// The route of a name: its course, marks and referents.
+    ///
+    /// # Errors
+    ///
+    /// `MustReopen` once a commit has failed; then `NoRoute`, and `Memory`.
+    pub fn route(&self, name: &RouteName) -> Result<Route, AskFault>
+        ensures reopen { (result ≡ Err AskFault.MustReopen) ↔ IsTrue self.now.must_reopen }
+        ensures answer { self.now.must_reopen ≡ false → IsNamedRoute self.now.image name.now result }
+    {
+        if self.must_reopen() {
+            return Err(AskFault::MustReopen);
+        }
+        lrs_answers::named_route(self.alloc(), self.inventory().kept(), name)
     }
 
     /// Where an asset lies: its rows by route name and start.
@@ -81,7 +94,7 @@ impl<K: Keeper> Desk<K> {
     pub fn totals(&self) -> Result<Rows<Total>, AskFault>
         ensures reopen { (result ≡ Err AskFault.MustReopen) ↔ IsTrue self.now.must_reopen }
         ensures answer { self.now.must_reopen ≡ false
-            → UnlessMemory (λ totals. totals ≡ totals_of (state_of self.now.image)) result }
+            → AreTotals (state_of self.now.image) result }
     {
         if self.must_reopen() {
             return Err(AskFault::MustReopen);
@@ -104,9 +117,7 @@ impl<K: Keeper> Desk<K> {
     ) -> Result<Expr, AskFault>
         ensures reopen { (result ≡ Err AskFault.MustReopen) ↔ IsTrue self.now.must_reopen }
         ensures answer { self.now.must_reopen ≡ false
-            → AsksRoute (state_of self.now.image) route.now (λ a chainage_on answer.
-            Translates a chainage_on expression target answer
-            × RoundTrip a chainage_on expression target answer) result }
+            → IsTranslated (state_of self.now.image) route.now expression target result }
     {
         if self.must_reopen() {
             return Err(AskFault::MustReopen);
@@ -122,8 +133,7 @@ impl<K: Keeper> Desk<K> {
     pub fn to_link(&self, route: &RouteName, expression: Expr) -> Result<(u32, Frac), AskFault>
         ensures reopen { (result ≡ Err AskFault.MustReopen) ↔ IsTrue self.now.must_reopen }
         ensures answer { self.now.must_reopen ≡ false
-            → AsksRoute (state_of self.now.image) route.now (λ a chainage_on answer.
-            IsLinkPosition a chainage_on expression answer) result }
+            → IsOnLink (state_of self.now.image) route.now expression result }
     {
         if self.must_reopen() {
             return Err(AskFault::MustReopen);

@@ -5,11 +5,12 @@ mod answers;
 mod decision;
 mod desk;
 mod group;
+mod questions;
 
 pub use desk::{Desk, Fault, OpenFault};
-pub use lrs_answers::{AskFault, AtAnswer, FoundRow};
+pub use lrs_answers::{AskFault, AtAnswer, FoundRow, Told};
 pub use lrs_answers_totals::Counts;
 pub use lrs_image::{Change, CommitFailed, Difference, Keeper, LoadFault};
 pub use lrs_image_plain::Plain;
 pub use lrs_inventory::Inventory;
-pub use lrs_machine::{Answer, Cause, Command, Image, Key, Limits, Table};
+pub use lrs_machine::{Answer, Cause, Command, Destination, Image, Key, Limits, Question, Table};

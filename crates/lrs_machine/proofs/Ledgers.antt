@@ -221,18 +221,18 @@ module _ (n asset : ℕ) (x : Asset) (places : List Place) (s : State) where
           by (inr ga) (inl j) = sym (meets_none b a y z p j.0 j.1 ga (sym same) (subst (λ c. get s.classes c ≡ Some Exclusive) same kind) hb ha)
           by (inr ga) (inr gb) = old ga gb (or_cases (s.holds a p) (comes a p) ha) (or_cases (s.holds b p) (comes b p) hb)
 
-      by_entry : (m a : ℕ) (y : Asset) (p : Place) → x.entered_by ≡ n → ((a ≡ asset) × (y ≡ x)) ⊎ (get s.assets a ≡ Some y) → (s.entered m a p ≡ true) ⊎ (writes m a p ≡ true) → m ≡ y.entry
+      by_entry : (m a : ℕ) (y : Asset) (p : Place) → x.entered_by ≡ n → ((a ≡ asset) × (y ≡ x)) ⊎ (get s.assets a ≡ Some y) → (s.entered m a p ≡ true) ⊎ (writes m a p ≡ true) → m ≡ y.entered_by
       by_entry m a y p own (inl new) (inl old) = absurd (never_entered m a p new.0 old)
       by_entry m a y p own (inl new) (inr e) = (asset_of m a p e).0 ∙ sym own ∙ ap (λ (z : Asset). z.entry) (sym new.1)
       by_entry m a y p own (inr got) (inl old) = h.by_entry m a y p got old
       by_entry m a y p own (inr got) (inr e) = absurd (never_known a y (asset_of m a p e).1 got)
 
       was_entered : (a : ℕ) (y : Asset) → x.entered_by ≡ n → (p : Place) × (is_among places p ≡ true) → ((a ≡ asset) × (y ≡ x)) ⊎ (get s.assets a ≡ Some y)
-          → (p : Place) × ((s.entered y.entry a p || writes y.entry a p) ≡ true)
+          → (p : Place) × ((s.entered y.entered_by a p || writes y.entered_by a p) ≡ true)
       was_entered a y own some (inl new) =
-          let is : y.entry ≡ n = ap (λ (z : Asset). z.entry) new.1 ∙ own in
-          (some.0, or_right (s.entered y.entry a some.0) (writes y.entry a some.0) (three_of _ _ _ (eq-eqb y.entry n is) (eq-eqb a asset new.0) some.1))
-      was_entered a y own some (inr got) = let e = h.was_entered a y got in (e.0, or_left (s.entered y.entry a e.0) (writes y.entry a e.0) e.1)
+          let is : y.entered_by ≡ n = ap (λ (z : Asset). z.entry) new.1 ∙ own in
+          (some.0, or_right (s.entered y.entered_by a some.0) (writes y.entered_by a some.0) (three_of _ _ _ (eq-eqb y.entered_by n is) (eq-eqb a asset new.0) some.1))
+      was_entered a y own some (inr got) = let e = h.was_entered a y got in (e.0, or_left (s.entered y.entered_by a e.0) (writes y.entered_by a e.0) e.1)
 
       pub fits_entering : 1 ≤ n → contains_key s.classes x.class ≡ true → x.entered_by ≡ n → (p : Place) × (is_among places p ≡ true) → Fits n entering
       fits_entering low class own some = record {

@@ -241,7 +241,7 @@ module _ (i : Image) (t : Tested i) where
       ap (λ k. holds_in (spans_of i) k p) e ∙ list_any-map (λ s. holds_by_spans s.course s.rows a p) (λ e. record { course = e.route.course; rows = e.spans }) i.routes ∙ h
 
   -- the row of a known asset, and of a known class
-  asset_row : (a : ℕ) (x : state.Asset) → find nat_cmp a (map asset_entry i.assets) ≡ Some x → (r : Asset) × In r i.assets × (r.number ≡ a) × (r.class ≡ x.class) × (r.entry ≡ x.entered_by)
+  asset_row : (a : ℕ) (x : state.Asset) → find nat_cmp a (map asset_entry i.assets) ≡ Some x → (r : Asset) × In r i.assets × (r.number ≡ a) × (r.class ≡ x.class) × (r.entered_by ≡ x.entered_by)
   asset_row a x h =
       let found = map_found asset_entry (a, x) i.assets (find_found exact_unsigned a x (map asset_entry i.assets) h) in
       (found.0, found.1, sym (ap (λ e. e.0) found.2), sym (ap (λ e. e.1.class) found.2), sym (ap (λ e. e.1.entry) found.2))
@@ -284,16 +284,16 @@ module _ (i : Image) (t : Tested i) where
   is_of r part = nat_eq part.asset r.number
 
   abbrev is_by : Asset → Part → Bool
-  is_by r part = not (nat_eq part.asset r.number) || nat_eq part.edit r.entry
+  is_by r part = not (nat_eq part.asset r.number) || nat_eq part.edit r.entered_by
 
   -- an asset was entered, and by one edit
   pub origin_of : (r : Asset) → In r i.assets → (list_any (is_of r) i.entered ≡ true) × (list_all (is_by r) i.entered ≡ true)
   origin_of r m = and_parts _ _ (all_at (is_origin i.entered) r i.assets t.origins m)
 
-  pub entered_by_entry : (r : Asset) (x : Part) → In r i.assets → In x i.entered → x.asset ≡ r.number → x.edit ≡ r.entry
+  pub entered_by_entry : (r : Asset) (x : Part) → In r i.assets → In x i.entered → x.asset ≡ r.number → x.edit ≡ r.entered_by
   entered_by_entry r x m n e = by (or_cases _ _ (all_at (is_by r) x i.entered (origin_of r m).1 n))
     where
-      by : (not (nat_eq x.asset r.number) ≡ true) ⊎ (nat_eq x.edit r.entry ≡ true) → x.edit ≡ r.entry
+      by : (not (nat_eq x.asset r.number) ≡ true) ⊎ (nat_eq x.edit r.entered_by ≡ true) → x.edit ≡ r.entered_by
       by (inl other) = absurd (both_ways (nat_eq x.asset r.number) (not-true _ other) (eq-eqb _ _ e))
       by (inr same) = eqb-true _ _ same
 

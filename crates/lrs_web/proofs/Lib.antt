@@ -1,2 +1,3 @@
 pub mod Responding
 pub mod Visiting
+pub mod Asking

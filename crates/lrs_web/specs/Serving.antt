@@ -29,7 +29,7 @@ abbrev pub Does : {K : Type 0} → (K → Result Image Table → Type 0) → Ask
 Does holds (refused status) old answer new = (new ≡ old) × (answer ≡ empty_answer status)
 Does holds (not_allowed verb) old answer new = (new ≡ old) × (answer ≡ allowed_answer verb)
 Does holds (query resource argument) old answer new =
-    (new ≡ old) × (AnswersAsked old.must_reopen old.image resource argument answer ⊎ (answer ≡ empty_answer 503)) × (old.must_reopen ≡ true → answer ≡ empty_answer 503)
+    (new ≡ old) × (AnswersAsked old.image resource argument answer ⊎ (answer ≡ empty_answer 503)) × (old.must_reopen ≡ true → answer ≡ empty_answer 503)
 Does holds (sheet resource bytes) old answer new = DoesSheet holds (sheet_at resource) bytes old answer new
 
 -- What is asked for is done; the answer, or for want of memory an empty 503, is given.

@@ -1,6 +1,6 @@
 //! One request is read, done and answered.
 
-ghost use Rattle.std.specs.Prelude.{◌≡◌, ◌⊎◌, IfOk, IfSome, Err, true};
+ghost use Rattle.std.specs.Prelude.{◌≡◌, ◌⊎◌, IfOk, IfSome, Err, true, false};
 ghost use Rattle.lrs_web_requests.specs.Request.{Asked, IsServed, asked_by};
 ghost use Rattle.lrs_web_requests.specs.Text.{Answer, answer_of, empty_answer};
 ghost use Rattle.lrs_web_replies.specs.Answered.{AnswersAsked};
@@ -12,11 +12,11 @@ use crate::sheet::do_sheet;
 use http::StatusCode;
 use lrs_desk::{Desk, Keeper};
 use lrs_sheet::Sheet;
-use lrs_web_replies::answer_asked;
+use lrs_web_replies::{question_of, reply_to, unasked};
 use lrs_web_requests::{
     BodyFault, Request, Resource, Response, Verb, receive, routes, write_reply, write_unavailable,
 };
-use std::alloc::Global;
+use std::alloc::{AllocError, Global};
 use std::io::{Read, Write};
 
 /// Why a request has no reply.
@@ -52,7 +52,25 @@ fn allowed_reply(verb: Verb) -> Response
     }
 }
 
-// Once a commit has failed, the image may be ahead of what is kept.
+#[tactic(auto, using(crate::proofs::Asking::answered, crate::proofs::Asking::refused))]
+fn asked_reply<K: Keeper>(
+    alloc: Global,
+    resource: Resource,
+    argument: &[u8],
+    desk: &Desk<K>,
+) -> Result<Response, AllocError>
+    requires verb { verb_of resource ≡ Get }
+    requires open { desk.now.must_reopen ≡ false }
+    ensures { IfOk result (λ reply. AnswersAsked desk.now.image resource argument.now
+        (answer_of reply)) }
+{
+    match question_of(alloc, resource, argument) {
+        Ok(question) => reply_to(alloc, desk.ask(question)),
+        Err(fault) => unasked(alloc, fault),
+    }
+}
+
+// Once a commit has failed, nothing is answered: not even that a question cannot be read.
 fn question_reply<K: Keeper>(
     alloc: Global,
     resource: Resource,
@@ -60,16 +78,14 @@ fn question_reply<K: Keeper>(
     desk: &Desk<K>,
 ) -> Response
     requires { verb_of resource ≡ Get }
-    ensures answered { AnswersAsked desk.now.must_reopen desk.now.image resource argument.now
-        (answer_of result) ⊎ (answer_of result ≡ empty_answer 503) }
+    ensures answered { AnswersAsked desk.now.image resource argument.now (answer_of result)
+        ⊎ (answer_of result ≡ empty_answer 503) }
     ensures broken { desk.now.must_reopen ≡ true → answer_of result ≡ empty_answer 503 }
 {
     if desk.must_reopen() {
         return Response::empty(StatusCode::SERVICE_UNAVAILABLE);
     }
-    let kept = desk.inventory().kept();
-    let counts = desk.counts();
-    match answer_asked(alloc, kept, counts, false, resource, argument) {
+    match asked_reply(alloc, resource, argument, desk) {
         Ok(reply) => reply,
         Err(_) => Response::empty(StatusCode::SERVICE_UNAVAILABLE),
     }

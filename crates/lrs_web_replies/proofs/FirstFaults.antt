@@ -7,68 +7,68 @@ use Rattle.lrs_events.specs.declared.side.Side.{Side as HandSide}
 use Rattle.lrs_web_requests.specs.declared.paths.Resource.TheVariants as path
 use Rattle.lrs_web_replies.specs.declared.question.Parameter.{Parameter}
 use Rattle.lrs_web_replies.specs.declared.question.Parameter.TheVariants.{Route, Method, Position, To, Side, Class}
-use Rattle.lrs_web_replies.specs.declared.question.QuestionFault.{QuestionFault}
-use Rattle.lrs_web_replies.specs.declared.question.QuestionFault.TheVariants.{Malformed, NoRoute, Memory}
+use Rattle.lrs_web_replies.specs.declared.question.QueryFault.{QueryFault}
+use Rattle.lrs_web_replies.specs.declared.question.QueryFault.TheVariants.{Malformed, NoRoute, Memory}
 use Rattle.lrs_web_replies.specs.Faults.{Lacks, LacksPosition}
 use Rattle.lrs_web_replies.specs.Questions.{Text, CannotAsk, GivesPosition, GivesRoute, GivesSide, IsFirstMalformed, IsGiven}
 
 -- the fault is the first of these, or memory ran out
-abbrev FaultAmong : Text → List Parameter → QuestionFault → Type 0
+abbrev FaultAmong : Text → List Parameter → QueryFault → Type 0
 FaultAmong query ps (Malformed p) = IsFirstMalformed query ps p
 FaultAmong query ps NoRoute = ⊥
 FaultAmong query ps Memory = ⊤
 
-first : (query : Text) (q : Parameter) (qs : List Parameter) (e : QuestionFault) → Lacks q query e → FaultAmong query (q ∷ qs) e
+first : (query : Text) (q : Parameter) (qs : List Parameter) (e : QueryFault) → Lacks q query e → FaultAmong query (q ∷ qs) e
 first query q qs e (inl memory) = subst (FaultAmong query (q ∷ qs)) (sym memory) tt
 first query q qs e (inr lacks) = subst (FaultAmong query (q ∷ qs)) (sym lacks.0) (inl (refl, lacks.1))
 
-later : (query : Text) (q : Parameter) (qs : List Parameter) (e : QuestionFault) → IsGiven query q → FaultAmong query qs e → FaultAmong query (q ∷ qs) e
+later : (query : Text) (q : Parameter) (qs : List Parameter) (e : QueryFault) → IsGiven query q → FaultAmong query qs e → FaultAmong query (q ∷ qs) e
 later query q qs (Malformed p) given among = inr (given, among)
 later query q qs NoRoute given among = absurd among
 later query q qs Memory given among = tt
 
-position : (query : Text) (qs : List Parameter) (e : QuestionFault) → LacksPosition query e → FaultAmong query (Method ∷ Position ∷ qs) e
+position : (query : Text) (qs : List Parameter) (e : QueryFault) → LacksPosition query e → FaultAmong query (Method ∷ Position ∷ qs) e
 position query qs e (inl lacks) = first query Method (Position ∷ qs) e lacks
 position query qs e (inr lacks) = later query Method (Position ∷ qs) e lacks.0 (first query Position qs e lacks.1)
 
-at : (query : Text) (e : QuestionFault) → FaultAmong query (Route ∷ Method ∷ Position ∷ []) e → CannotAsk path.At query e
+at : (query : Text) (e : QueryFault) → FaultAmong query (Route ∷ Method ∷ Position ∷ []) e → CannotAsk path.At query e
 at query (Malformed p) among = among
 at query NoRoute among = among
 at query Memory among = tt
 
-segments : (query : Text) (e : QuestionFault) → FaultAmong query (Route ∷ Side ∷ Class ∷ []) e → CannotAsk path.Segments query e
+segments : (query : Text) (e : QueryFault) → FaultAmong query (Route ∷ Side ∷ Class ∷ []) e → CannotAsk path.Segments query e
 segments query (Malformed p) among = among
 segments query NoRoute among = among
 segments query Memory among = tt
 
-translate : (query : Text) (e : QuestionFault) → FaultAmong query (Route ∷ Method ∷ Position ∷ To ∷ []) e → CannotAsk path.Translate query e
+translate : (query : Text) (e : QueryFault) → FaultAmong query (Route ∷ Method ∷ Position ∷ To ∷ []) e → CannotAsk path.Translate query e
 translate query (Malformed p) among = among
 translate query NoRoute among = among
 translate query Memory among = tt
 
-pub at_route : (query : Text) (e : QuestionFault) → Lacks Route query e → CannotAsk path.At query e
+pub at_route : (query : Text) (e : QueryFault) → Lacks Route query e → CannotAsk path.At query e
 at_route query e lacks = at query e (first query Route (Method ∷ Position ∷ []) e lacks)
 
-pub at_position : (query : Text) (e : QuestionFault) (route : Name) → GivesRoute query route → LacksPosition query e → CannotAsk path.At query e
+pub at_position : (query : Text) (e : QueryFault) (route : Name) → GivesRoute query route → LacksPosition query e → CannotAsk path.At query e
 at_position query e route given lacks = at query e (later query Route (Method ∷ Position ∷ []) e (route, given) (position query [] e lacks))
 
-pub segments_route : (query : Text) (e : QuestionFault) → Lacks Route query e → CannotAsk path.Segments query e
+pub segments_route : (query : Text) (e : QueryFault) → Lacks Route query e → CannotAsk path.Segments query e
 segments_route query e lacks = segments query e (first query Route (Side ∷ Class ∷ []) e lacks)
 
-pub segments_side : (query : Text) (e : QuestionFault) (route : Name) → GivesRoute query route → Lacks Side query e → CannotAsk path.Segments query e
+pub segments_side : (query : Text) (e : QueryFault) (route : Name) → GivesRoute query route → Lacks Side query e → CannotAsk path.Segments query e
 segments_side query e route given lacks = segments query e (later query Route (Side ∷ Class ∷ []) e (route, given) (first query Side (Class ∷ []) e lacks))
 
-pub segments_class : (query : Text) (e : QuestionFault) (route : Name) (side : HandSide) → GivesRoute query route → GivesSide query side → Lacks Class query e → CannotAsk path.Segments query e
+pub segments_class : (query : Text) (e : QueryFault) (route : Name) (side : HandSide) → GivesRoute query route → GivesSide query side → Lacks Class query e → CannotAsk path.Segments query e
 segments_class query e route side given seen lacks =
     segments query e (later query Route (Side ∷ Class ∷ []) e (route, given) (later query Side (Class ∷ []) e (side, seen) (first query Class [] e lacks)))
 
-pub translate_route : (query : Text) (e : QuestionFault) → Lacks Route query e → CannotAsk path.Translate query e
+pub translate_route : (query : Text) (e : QueryFault) → Lacks Route query e → CannotAsk path.Translate query e
 translate_route query e lacks = translate query e (first query Route (Method ∷ Position ∷ To ∷ []) e lacks)
 
-pub translate_position : (query : Text) (e : QuestionFault) (route : Name) → GivesRoute query route → LacksPosition query e → CannotAsk path.Translate query e
+pub translate_position : (query : Text) (e : QueryFault) (route : Name) → GivesRoute query route → LacksPosition query e → CannotAsk path.Translate query e
 translate_position query e route given lacks = translate query e (later query Route (Method ∷ Position ∷ To ∷ []) e (route, given) (position query (To ∷ []) e lacks))
 
-pub translate_to : (query : Text) (e : QuestionFault) (route : Name) (x : Expr) → GivesRoute query route → GivesPosition query x → Lacks To query e → CannotAsk path.Translate query e
+pub translate_to : (query : Text) (e : QueryFault) (route : Name) (x : Expr) → GivesRoute query route → GivesPosition query x → Lacks To query e → CannotAsk path.Translate query e
 translate_to query e route x given stated lacks =
     translate query e (
     later query Route (Method ∷ Position ∷ To ∷ []) e (route, given) (

@@ -10,8 +10,9 @@ use Rattle.lrs_events.specs.declared.side.Side.{Side}
 use Rattle.lrs_machine.specs.declared.segment.Segment.{Segment}
 use Rattle.lrs_machine.specs.declared.total.Total.{Total}
 use Rattle.lrs_machine.specs.declared.hit.Hit.{Hit}
+use Rattle.lrs_answers.specs.declared.rows.FoundRow.{FoundRow}
 use Rattle.lrs_web_replies.specs.Shown.{each}
-use Rattle.lrs_web_replies.specs.Answers.{at_data, hit_data, mark_data, piece_data, referent_data, route_data, ShowsRoute, value_data, segment_data, segments_data, total_data, totals_data}
+use Rattle.lrs_web_replies.specs.Answers.{at_data, hit_data, mark_data, piece_data, referent_data, route_data, ShowsRoute, value_data, segment_data, segments_data, total_data, totals_data, row_data, found_data}
 
 neither : (a b : Bool) → a ≡ false → b ≡ false → (a || b) ≡ false
 neither a b p q = ap (λ x. x || b) p ∙ q
@@ -48,3 +49,7 @@ segments_whole d route side segments is =
 pub totals_whole : (d : Data) (totals : List Total) → d ≡ totals_data totals → has_float d ≡ false
 totals_whole d totals is =
     ap has_float is ∙ neither (has_float (each total_data totals)) false (each_whole total_data (λ t. refl) totals) refl
+
+pub found_whole : (d : Data) (rows : List FoundRow) → d ≡ found_data rows → has_float d ≡ false
+found_whole d rows is =
+    ap has_float is ∙ neither (has_float (each row_data rows)) false (each_whole row_data (λ r. refl) rows) refl

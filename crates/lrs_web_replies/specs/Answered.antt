@@ -1,66 +1,41 @@
 -- What a question over HTTP is answered, for the image that is kept.
-use Rattle.std.specs.Prelude.{◌≡◌, ◌⊎◌, Bool, true, false, Result, Err, MatchOption, codes}
-use Rattle.std.specs.List.{find}
+use Rattle.std.specs.Prelude.{◌≡◌, ◌⊎◌, Result, Ok, Err}
 use Rattle.serde_json.specs.Data.{Data}
-use Rattle.lrs_measure.specs.Texts.{Name}
-use Rattle.lrs_position.specs.declared.expression.Expr.{Expr}
-use Rattle.lrs_position.specs.LinkPositions.{IsLinkPosition}
-use Rattle.lrs_position.specs.Translating.{RoundTrip, Translates}
 use Rattle.lrs_machine.specs.declared.image.Image.{Image}
-use Rattle.lrs_machine.specs.Image.{state_of}
+use Rattle.lrs_machine.specs.declared.question.Question.{Question}
 use Rattle.lrs_machine.specs.Lines.{Text}
-use Rattle.lrs_machine.specs.State.{State}
-use Rattle.lrs_image.specs.Change.{is_named}
 use Rattle.lrs_answers.specs.declared.fault.AskFault.{AskFault}
-use Rattle.lrs_answers.specs.declared.fault.AskFault.TheVariants.{MustReopen}
-use Rattle.lrs_answers.specs.declared.hits.AtAnswer.{AtAnswer}
-use Rattle.lrs_answers.specs.Answers.{AsksRoute, IsAt, UnlessMemory}
-use Rattle.lrs_answers.specs.Segmented.{IsSegmented}
-use Rattle.lrs_answers.specs.Totals.{totals_of}
+use Rattle.lrs_answers.specs.declared.told.Told.{Told}
+use Rattle.lrs_answers.specs.declared.told.Told.TheVariants as told
+use Rattle.lrs_answers.specs.Told.{IsTold}
 use Rattle.lrs_web_requests.specs.Text.{Answer}
 use Rattle.lrs_web_requests.specs.declared.paths.Resource.{Resource}
-use Rattle.lrs_web_replies.specs.Answers.{at_data, ShowsRoute, segments_data, translated_data, on_link_data, totals_data}
+use Rattle.lrs_web_replies.specs.Answers.{at_data, ShowsRoute, segments_data, translated_data, on_link_data, totals_data, found_data}
 use Rattle.lrs_web_replies.specs.Questions.{AsksOf, CannotAsk}
-use Rattle.lrs_web_replies.specs.declared.question.Destination.{Destination}
-use Rattle.lrs_web_replies.specs.declared.question.Destination.TheVariants.{Method, Link}
-use Rattle.lrs_web_replies.specs.declared.question.Question.{Question}
-use Rattle.lrs_web_replies.specs.declared.question.Question.TheVariants.{At, Route, Segments, Translate, Totals}
-use Rattle.lrs_web_replies.specs.declared.question.QuestionFault.{QuestionFault}
-use Rattle.lrs_web_replies.specs.Replies.{json_answer, error_answer, shown, unasked}
+use Rattle.lrs_web_replies.specs.declared.question.QueryFault.{QueryFault}
+use Rattle.lrs_web_replies.specs.Replies.{json_answer, refusal, unasked}
 
--- who holds the place of a position: nobody says so once a commit has failed, until what is kept is opened again
-abbrev pub IsFoundAt : Bool → State → Name → Expr → Result AtAnswer AskFault → Type 0
-IsFoundAt failed s route e found = (failed ≡ true → found ≡ Err MustReopen) × (failed ≡ false → IsAt s route e found)
+-- The table: how each answer is shown as JSON.
+abbrev pub ShowsTold : Told → Data → Type 0
+ShowsTold (told.At route found) d = d ≡ at_data route found.at found.ground found.hits
+ShowsTold (told.Route route) d = ShowsRoute route d
+ShowsTold (told.Segments route side len classes segments) d = d ≡ segments_data route side segments
+ShowsTold (told.Translated route e) d = d ≡ translated_data route e
+ShowsTold (told.OnLink route link distance) d = d ≡ on_link_data route (link, distance)
+ShowsTold (told.Totals totals) d = d ≡ totals_data totals
+ShowsTold (told.Found rows) d = d ≡ found_data rows
 
--- the millimetre of a route in which a position stands, and who holds it
-abbrev pub at_shown : Name → AtAnswer → Data
-at_shown route found = at_data route found.at found.ground found.hits
+-- What is told is shown, or why nothing is told.
+abbrev pub IsReplyTo : Result Told AskFault → Answer → Type 0
+IsReplyTo (Ok t) answer = (d : Data) × ShowsTold t d × (answer ≡ json_answer 200 d)
+IsReplyTo (Err fault) answer = answer ≡ refusal fault
 
--- what is found for a question passes, and is shown
-abbrev pub Shows : {A : Type 0} → (A → Data) → (Result A AskFault → Type 0) → Answer → Type 0
-Shows {A} data_of Passes answer = (found : Result A AskFault) × Passes found × (answer ≡ shown data_of found)
-
--- a route, or that there is none
-abbrev pub ShowsNamed : Image → Name → Answer → Type 0
-ShowsNamed i route answer =
-    MatchOption (find (is_named route) i.routes) (answer ≡ error_answer 404 (codes "NoRoute")) (λ e. (d : Data) × ShowsRoute e.route d × (answer ≡ json_answer 200 d))
-
--- a position by a method, or on its link
-abbrev pub ShowsPosition : Image → Name → Expr → Destination → Answer → Type 0
-ShowsPosition i route e (Method target) =
-    Shows (translated_data route) (AsksRoute (state_of i) route (λ a chainage_on answer. Translates a chainage_on e target answer × RoundTrip a chainage_on e target answer))
-ShowsPosition i route e Link = Shows (on_link_data route) (AsksRoute (state_of i) route (λ a chainage_on answer. IsLinkPosition a chainage_on e answer))
-
--- The table: what each question is answered, of an image to which a commit has failed or has not.
-abbrev pub AnswersQuestion : Bool → Image → Question → Answer → Type 0
-AnswersQuestion failed i (At route e) = Shows (at_shown route) (IsFoundAt failed (state_of i) route e)
-AnswersQuestion failed i (Route route) = ShowsNamed i route
-AnswersQuestion failed i (Segments route side classes) = Shows (segments_data route side) (IsSegmented (state_of i) route classes side)
-AnswersQuestion failed i (Translate route e to) = ShowsPosition i route e to
-AnswersQuestion failed i Totals = Shows totals_data (UnlessMemory (λ totals. totals ≡ totals_of (state_of i)))
+-- What the inventory of this image tells to a question is the reply.
+abbrev pub AnswersQuestion : Image → Question → Answer → Type 0
+AnswersQuestion i q answer = (said : Result Told AskFault) × IsTold i q said × IsReplyTo said answer
 
 -- What a resource answers to an argument: the question that it asks, or why it asks none.
-abbrev pub AnswersAsked : Bool → Image → Resource → Text → Answer → Type 0
-AnswersAsked failed i resource argument answer =
-    ((q : Question) × AsksOf resource argument q × AnswersQuestion failed i q answer)
-    ⊎ ((fault : QuestionFault) × CannotAsk resource argument fault × (answer ≡ unasked fault))
+abbrev pub AnswersAsked : Image → Resource → Text → Answer → Type 0
+AnswersAsked i resource argument answer =
+    ((q : Question) × AsksOf resource argument q × AnswersQuestion i q answer)
+    ⊎ ((fault : QueryFault) × CannotAsk resource argument fault × (answer ≡ unasked fault))

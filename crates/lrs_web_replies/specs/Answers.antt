@@ -19,6 +19,7 @@ use Rattle.lrs_machine.specs.declared.segment.Segment.{Segment}
 use Rattle.lrs_machine.specs.declared.total.Total.{Total}
 use Rattle.lrs_machine.specs.declared.hit.Hit.{Hit}
 use Rattle.lrs_machine.specs.Lines.{Text, method_text, piece_text}
+use Rattle.lrs_answers.specs.declared.rows.FoundRow.{FoundRow}
 use Rattle.lrs_web_replies.specs.Shown.{whole, list, each, with}
 
 -- ---- where a position stands
@@ -36,9 +37,9 @@ hit_data h = with (
 
 -- the millimetre at of a route, the millimetre of a link that it is, and who holds it
 abbrev pub at_data : Name → ℕ → Ground → List Hit → Data
-at_data route at entry hits = with (
-    (codes "at", whole at) ∷ (codes "dir", string (direction_text entry.forward)) ∷ (codes "hits", each hit_data hits)
-    ∷ (codes "link", whole entry.link) ∷ (codes "mm", whole entry.mm) ∷ (codes "route", string route) ∷ []
+at_data route at ground hits = with (
+    (codes "at", whole at) ∷ (codes "dir", string (direction_text ground.forward)) ∷ (codes "hits", each hit_data hits)
+    ∷ (codes "link", whole ground.link) ∷ (codes "mm", whole ground.mm) ∷ (codes "route", string route) ∷ []
     )
 
 -- ---- a route
@@ -107,6 +108,17 @@ total_data t = with (
 
 abbrev pub totals_data : List Total → Data
 totals_data totals = with ((codes "totals", each total_data totals) ∷ [])
+
+-- ---- where an asset is
+
+-- a stretch of a route that an asset holds, and its side
+abbrev pub row_data : FoundRow → Data
+row_data r = with (
+    (codes "from", whole r.from) ∷ (codes "route", string r.route) ∷ (codes "side", string (side_text r.side)) ∷ (codes "to", whole r.to) ∷ []
+    )
+
+abbrev pub found_data : List FoundRow → Data
+found_data rows = with ((codes "rows", each row_data rows) ∷ [])
 
 -- ---- why there is no answer
 

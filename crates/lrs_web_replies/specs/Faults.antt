@@ -2,14 +2,14 @@
 use Rattle.std.specs.Prelude.{◌≡◌, ◌⊎◌}
 use Rattle.lrs_web_replies.specs.declared.question.Parameter.{Parameter}
 use Rattle.lrs_web_replies.specs.declared.question.Parameter.TheVariants.{Method, Position}
-use Rattle.lrs_web_replies.specs.declared.question.QuestionFault.{QuestionFault}
-use Rattle.lrs_web_replies.specs.declared.question.QuestionFault.TheVariants.{Malformed, Memory}
+use Rattle.lrs_web_replies.specs.declared.question.QueryFault.{QueryFault}
+use Rattle.lrs_web_replies.specs.declared.question.QueryFault.TheVariants.{Malformed, Memory}
 use Rattle.lrs_web_replies.specs.Questions.{Text, IsGiven}
 
 -- the parameter is not given, or memory ran out
-abbrev pub Lacks : Parameter → Text → QuestionFault → Type 0
+abbrev pub Lacks : Parameter → Text → QueryFault → Type 0
 Lacks p query e = (e ≡ Memory) ⊎ ((e ≡ Malformed p) × (IsGiven query p → ⊥))
 
 -- the method, or the position by it
-abbrev pub LacksPosition : Text → QuestionFault → Type 0
+abbrev pub LacksPosition : Text → QueryFault → Type 0
 LacksPosition query e = Lacks Method query e ⊎ (IsGiven query Method × Lacks Position query e)

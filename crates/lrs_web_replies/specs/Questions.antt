@@ -11,14 +11,14 @@ use Rattle.lrs_events.specs.Names.{is_class_name, side_text}
 use Rattle.lrs_web_requests.specs.Query.{parameter, parameters}
 use Rattle.lrs_web_requests.specs.declared.paths.Resource.{Resource}
 use Rattle.lrs_web_requests.specs.declared.paths.Resource.TheVariants as path
-use Rattle.lrs_web_replies.specs.declared.question.Destination.{Destination}
-use Rattle.lrs_web_replies.specs.declared.question.Destination.TheVariants as destination
+use Rattle.lrs_machine.specs.declared.question.Destination.{Destination}
+use Rattle.lrs_machine.specs.declared.question.Destination.TheVariants as destination
 use Rattle.lrs_web_replies.specs.declared.question.Parameter.{Parameter}
 use Rattle.lrs_web_replies.specs.declared.question.Parameter.TheVariants.{Route, Method as Way, Position, To, Side as Hand, Class}
-use Rattle.lrs_web_replies.specs.declared.question.Question.{Question}
-use Rattle.lrs_web_replies.specs.declared.question.Question.TheVariants as question
-use Rattle.lrs_web_replies.specs.declared.question.QuestionFault.{QuestionFault}
-use Rattle.lrs_web_replies.specs.declared.question.QuestionFault.TheVariants.{Malformed, NoRoute, Memory}
+use Rattle.lrs_machine.specs.declared.question.Question.{Question}
+use Rattle.lrs_machine.specs.declared.question.Question.TheVariants as question
+use Rattle.lrs_web_replies.specs.declared.question.QueryFault.{QueryFault}
+use Rattle.lrs_web_replies.specs.declared.question.QueryFault.TheVariants.{Malformed, NoRoute, Memory}
 
 abbrev pub Text : Type 0
 Text = Name
@@ -118,7 +118,7 @@ IsFirstMalformed query [] p = ⊥
 IsFirstMalformed query (q ∷ qs) p = ((p ≡ q) × (IsGiven query q → ⊥)) ⊎ (IsGiven query q × IsFirstMalformed query qs p)
 
 -- why a resource is asked nothing by this argument
-abbrev pub CannotAsk : Resource → Text → QuestionFault → Type 0
+abbrev pub CannotAsk : Resource → Text → QueryFault → Type 0
 CannotAsk resource query (Malformed p) = IsFirstMalformed query (parameters_of resource) p
 CannotAsk path.Route name NoRoute = IsTrue (is_route_name name) → ⊥
 CannotAsk resource argument NoRoute = ⊥

@@ -11,8 +11,8 @@ use Rattle.lrs_web_requests.specs.declared.response.ContentType.TheVariants.{Jso
 use Rattle.lrs_web_requests.specs.Text.{Answer, empty_answer}
 use Rattle.lrs_web_replies.specs.Answers.{error_data}
 use Rattle.lrs_web_replies.specs.Questions.{parameter_text}
-use Rattle.lrs_web_replies.specs.declared.question.QuestionFault.{QuestionFault}
-use Rattle.lrs_web_replies.specs.declared.question.QuestionFault.TheVariants.{Malformed, NoRoute, Memory}
+use Rattle.lrs_web_replies.specs.declared.question.QueryFault.{QueryFault}
+use Rattle.lrs_web_replies.specs.declared.question.QueryFault.TheVariants.{Malformed, NoRoute, Memory}
 
 -- these bytes are JSON
 abbrev pub json_bytes : ℕ → Text → Answer
@@ -47,7 +47,7 @@ shown data_of (Ok found) = json_answer 200 (data_of found)
 shown data_of (Err fault) = refusal fault
 
 -- nothing is asked
-abbrev pub unasked : QuestionFault → Answer
+abbrev pub unasked : QueryFault → Answer
 unasked (Malformed p) = error_answer 400 (codes "Malformed:" ++ parameter_text p)
 unasked NoRoute = error_answer 404 (codes "NoRoute")
 unasked Memory = unavailable

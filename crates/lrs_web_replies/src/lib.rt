@@ -9,8 +9,6 @@ mod question;
 mod replies;
 mod reply;
 
-pub use answers::{
-    at_json, error_json, link_json, route_json, segments_json, totals_json, translated_json,
-};
-pub use question::{Destination, Parameter, Question, QuestionFault, question_of};
-pub use replies::answer_asked;
+pub use question::{Parameter, QueryFault, question_of};
+pub use replies::reply_to;
+pub use reply::unasked;

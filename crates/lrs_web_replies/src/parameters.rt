@@ -6,7 +6,7 @@ ghost use Rattle.lrs_position.specs.declared.expression.Expr.{Expr as Expression
 ghost use Rattle.lrs_web_replies.specs.Questions.{SaysDestination, GivesClasses, GivesDestination, GivesMethod, GivesPosition, GivesPositionBy, GivesRoute, GivesSide, are_class_names};
 ghost use Rattle.lrs_web_replies.specs.Faults.{Lacks, LacksPosition};
 
-use crate::question::{Destination, Parameter, QuestionFault};
+use crate::question::{Destination, Parameter, QueryFault};
 use lrs_events::{ClassName, Side, read_side};
 use lrs_measure::Rows;
 use lrs_position::{Expr, Method, RouteName, read_expr, read_method, read_target};
@@ -14,19 +14,19 @@ use lrs_web_requests::{value_of, values_of};
 use std::alloc::Global;
 use std::borrow::CowStr;
 
-const NO_ROUTE: QuestionFault = QuestionFault::Malformed(Parameter::Route);
+const NO_ROUTE: QueryFault = QueryFault::Malformed(Parameter::Route);
 
-const NO_METHOD: QuestionFault = QuestionFault::Malformed(Parameter::Method);
+const NO_METHOD: QueryFault = QueryFault::Malformed(Parameter::Method);
 
-const NO_POSITION: QuestionFault = QuestionFault::Malformed(Parameter::Position);
+const NO_POSITION: QueryFault = QueryFault::Malformed(Parameter::Position);
 
-const NO_DESTINATION: QuestionFault = QuestionFault::Malformed(Parameter::To);
+const NO_DESTINATION: QueryFault = QueryFault::Malformed(Parameter::To);
 
-const NO_SIDE: QuestionFault = QuestionFault::Malformed(Parameter::Side);
+const NO_SIDE: QueryFault = QueryFault::Malformed(Parameter::Side);
 
-const NO_CLASS: QuestionFault = QuestionFault::Malformed(Parameter::Class);
+const NO_CLASS: QueryFault = QueryFault::Malformed(Parameter::Class);
 
-pub(crate) fn route_in(alloc: Global, query: &[u8]) -> Result<RouteName, QuestionFault>
+pub(crate) fn route_in(alloc: Global, query: &[u8]) -> Result<RouteName, QueryFault>
     ensures read { IfOk result (GivesRoute query.now) }
     ensures unread { IfErr result (Lacks Parameter.Route query.now) }
 {
@@ -39,7 +39,7 @@ pub(crate) fn route_in(alloc: Global, query: &[u8]) -> Result<RouteName, Questio
     }
 }
 
-fn method_in(alloc: Global, query: &[u8]) -> Result<Method, QuestionFault>
+fn method_in(alloc: Global, query: &[u8]) -> Result<Method, QueryFault>
     ensures read { IfOk result (GivesMethod query.now) }
     ensures unread { IfErr result (Lacks Parameter.Method query.now) }
 {
@@ -52,10 +52,10 @@ fn method_in(alloc: Global, query: &[u8]) -> Result<Method, QuestionFault>
     }
 }
 
-fn position_by(alloc: Global, query: &[u8], method: Method) -> Result<Expr, QuestionFault>
+fn position_by(alloc: Global, query: &[u8], method: Method) -> Result<Expr, QueryFault>
     ensures read { IfOk result (GivesPositionBy query.now method) }
-    ensures unread { IfErr result (λ e. (e ≡ QuestionFault.Memory)
-        ⊎ ((e ≡ QuestionFault.Malformed Parameter.Position)
+    ensures unread { IfErr result (λ e. (e ≡ QueryFault.Memory)
+        ⊎ ((e ≡ QueryFault.Malformed Parameter.Position)
         × ((position : Expression) → GivesPositionBy query.now method position → ⊥))) }
 {
     match value_of(alloc, query, "pos")? {
@@ -67,7 +67,7 @@ fn position_by(alloc: Global, query: &[u8], method: Method) -> Result<Expr, Ques
     }
 }
 
-pub(crate) fn position_in(alloc: Global, query: &[u8]) -> Result<Expr, QuestionFault>
+pub(crate) fn position_in(alloc: Global, query: &[u8]) -> Result<Expr, QueryFault>
     ensures read { IfOk result (GivesPosition query.now) }
     ensures unread { IfErr result (LacksPosition query.now) }
 {
@@ -89,7 +89,7 @@ fn read_destination(text: &str) -> Option<Destination>
     }
 }
 
-pub(crate) fn destination_in(alloc: Global, query: &[u8]) -> Result<Destination, QuestionFault>
+pub(crate) fn destination_in(alloc: Global, query: &[u8]) -> Result<Destination, QueryFault>
     ensures read { IfOk result (GivesDestination query.now) }
     ensures unread { IfErr result (Lacks Parameter.To query.now) }
 {
@@ -102,7 +102,7 @@ pub(crate) fn destination_in(alloc: Global, query: &[u8]) -> Result<Destination,
     }
 }
 
-pub(crate) fn side_in(alloc: Global, query: &[u8]) -> Result<Side, QuestionFault>
+pub(crate) fn side_in(alloc: Global, query: &[u8]) -> Result<Side, QueryFault>
     ensures read { IfOk result (GivesSide query.now) }
     ensures unread { IfErr result (Lacks Parameter.Side query.now) }
 {
@@ -116,11 +116,11 @@ pub(crate) fn side_in(alloc: Global, query: &[u8]) -> Result<Side, QuestionFault
 }
 
 /// The classes that these texts name.
-fn class_names(alloc: Global, texts: &[CowStr<'_>]) -> Result<Rows<ClassName>, QuestionFault>
+fn class_names(alloc: Global, texts: &[CowStr<'_>]) -> Result<Rows<ClassName>, QueryFault>
     ensures read { IfOk result (λ names. (names ≡ map cow_str_bytes texts.now)
         × IsTrue (are_class_names (map cow_str_bytes texts.now))) }
-    ensures unread { IfErr result (λ e. (e ≡ QuestionFault.Memory)
-        ⊎ ((e ≡ QuestionFault.Malformed Parameter.Class)
+    ensures unread { IfErr result (λ e. (e ≡ QueryFault.Memory)
+        ⊎ ((e ≡ QueryFault.Malformed Parameter.Class)
         × (IsTrue (are_class_names (map cow_str_bytes texts.now)) → ⊥))) }
 {
     if texts.is_empty() {
@@ -136,7 +136,7 @@ fn class_names(alloc: Global, texts: &[CowStr<'_>]) -> Result<Rows<ClassName>, Q
     Ok(Rows::from_vec(names))
 }
 
-pub(crate) fn classes_in(alloc: Global, query: &[u8]) -> Result<Rows<ClassName>, QuestionFault>
+pub(crate) fn classes_in(alloc: Global, query: &[u8]) -> Result<Rows<ClassName>, QueryFault>
     ensures read { IfOk result (GivesClasses query.now) }
     ensures unread { IfErr result (Lacks Parameter.Class query.now) }
 {

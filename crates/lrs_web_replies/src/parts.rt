@@ -6,6 +6,7 @@ ghost use Rattle.serde_json.specs.View.{view};
 ghost use Rattle.lrs_machine.specs.Lines.{piece_text};
 
 use crate::list::{Shown, list_value};
+use lrs_answers::FoundRow;
 use lrs_element::{Mark, Piece};
 use lrs_events::Value as AssetValue;
 use lrs_machine::{Hit, Segment, Total};
@@ -106,5 +107,19 @@ impl Shown for Total {
         let class = self.class;
         let class = format!(in alloc; "{class}")?;
         json!(in alloc; {"abandoned": self.abandoned, "class": class, "entered": self.entered, "present": self.present, "retired": self.retired})
+    }
+}
+
+impl Shown for FoundRow {
+    ghost use Rattle.lrs_web_replies.specs.Answers.{row_data};
+
+    ghost shown = { row_data };
+
+    fn value(&self, alloc: Global) -> Result<Value, AllocError> {
+        let route = self.route;
+        let side = self.side;
+        let route = format!(in alloc; "{route}")?;
+        let side = format!(in alloc; "{side}")?;
+        json!(in alloc; {"from": self.from, "route": route, "side": side, "to": self.to})
     }
 }

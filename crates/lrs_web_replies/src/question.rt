@@ -1,4 +1,4 @@
-//! Questions, and how they are asked by parameters.
+//! How questions are asked by the parameters of a query.
 
 ghost use Rattle.std.specs.Prelude.{◌≡◌, IfOk, IfErr};
 ghost use Rattle.lrs_web_requests.specs.declared.response.Verb.TheVariants as verb;
@@ -6,48 +6,10 @@ ghost use Rattle.lrs_web_requests.specs.Request.{verb_of};
 ghost use Rattle.lrs_web_replies.specs.Questions.{AsksOf, CannotAsk, parameter_text};
 
 use crate::parameters::{classes_in, destination_in, position_in, route_in, side_in};
-use lrs_events::{ClassName, Side};
-use lrs_measure::Rows;
-use lrs_position::{Expr, RouteName, Target};
+use lrs_machine::Question;
+use lrs_position::RouteName;
 use lrs_web_requests::Resource;
 use std::alloc::{AllocError, AllocFailed, Global};
-
-/// How a position is to be said.
-#[derive(Clone, Copy, PartialEq, Eq)]
-pub enum Destination {
-    /// By a method, on its route.
-    Method(Target),
-    /// On the link under it.
-    Link,
-}
-
-/// What is asked of an inventory.
-#[derive(Drop)]
-pub enum Question {
-    /// Where a position stands, and who holds the place.
-    At {
-        route: RouteName,
-        position: Expr,
-    },
-    /// What a route is.
-    Route {
-        route: RouteName,
-    },
-    /// The segments of a side of a route by these classes.
-    Segments {
-        route: RouteName,
-        side: Side,
-        classes: Rows<ClassName>,
-    },
-    /// A position said otherwise.
-    Translate {
-        route: RouteName,
-        position: Expr,
-        to: Destination,
-    },
-    /// What there is of each class.
-    Totals,
-}
 
 /// A parameter of a query.
 #[derive(Clone, Copy, Debug, PartialEq, Eq)]
@@ -78,7 +40,7 @@ impl Parameter {
 
 /// Why nothing is asked.
 #[derive(Clone, Copy, Debug, PartialEq, Eq)]
-pub enum QuestionFault {
+pub enum QueryFault {
     /// The first parameter that is missing or cannot be read.
     Malformed(Parameter),
     /// The name in the path is none that a route can have.
@@ -87,28 +49,28 @@ pub enum QuestionFault {
     Memory,
 }
 
-impl From<AllocError> for QuestionFault {
-    ghost use Rattle.lrs_web_replies.specs.declared.question.QuestionFault.TheVariants.{Memory};
+impl From<AllocError> for QueryFault {
+    ghost use Rattle.lrs_web_replies.specs.declared.question.QueryFault.TheVariants.{Memory};
 
     ghost from_gives = { λ _ e. e ≡ Memory };
 
     fn from(_: AllocError) -> Self {
-        QuestionFault::Memory
+        QueryFault::Memory
     }
 }
 
-impl<T: Drop> From<AllocFailed<T>> for QuestionFault {
-    ghost use Rattle.lrs_web_replies.specs.declared.question.QuestionFault.TheVariants.{Memory};
+impl<T: Drop> From<AllocFailed<T>> for QueryFault {
+    ghost use Rattle.lrs_web_replies.specs.declared.question.QueryFault.TheVariants.{Memory};
 
     ghost from_gives = { λ _ e. e ≡ Memory };
 
     fn from(_: AllocFailed<T>) -> Self {
-        QuestionFault::Memory
+        QueryFault::Memory
     }
 }
 
 #[tactic(auto, using(crate::proofs::FirstFaults::at_route, crate::proofs::FirstFaults::at_position))]
-fn at_question(alloc: Global, query: &[u8]) -> Result<Question, QuestionFault>
+fn at_question(alloc: Global, query: &[u8]) -> Result<Question, QueryFault>
     ensures asked { IfOk result (AsksOf Resource.At query.now) }
     ensures unasked { IfErr result (CannotAsk Resource.At query.now) }
 {
@@ -117,18 +79,18 @@ fn at_question(alloc: Global, query: &[u8]) -> Result<Question, QuestionFault>
     Ok(Question::At { route, position })
 }
 
-fn route_question(name: &[u8]) -> Result<Question, QuestionFault>
+fn route_question(name: &[u8]) -> Result<Question, QueryFault>
     ensures asked { IfOk result (AsksOf Resource.Route name.now) }
     ensures unasked { IfErr result (CannotAsk Resource.Route name.now) }
 {
     match RouteName::new(name) {
         Some(route) => Ok(Question::Route { route }),
-        None => Err(QuestionFault::NoRoute),
+        None => Err(QueryFault::NoRoute),
     }
 }
 
 #[tactic(auto, using(crate::proofs::FirstFaults::segments_route, crate::proofs::FirstFaults::segments_side, crate::proofs::FirstFaults::segments_class))]
-fn segments_question(alloc: Global, query: &[u8]) -> Result<Question, QuestionFault>
+fn segments_question(alloc: Global, query: &[u8]) -> Result<Question, QueryFault>
     ensures asked { IfOk result (AsksOf Resource.Segments query.now) }
     ensures unasked { IfErr result (CannotAsk Resource.Segments query.now) }
 {
@@ -143,7 +105,7 @@ fn segments_question(alloc: Global, query: &[u8]) -> Result<Question, QuestionFa
 }
 
 #[tactic(auto, using(crate::proofs::FirstFaults::translate_route, crate::proofs::FirstFaults::translate_position, crate::proofs::FirstFaults::translate_to))]
-fn translate_question(alloc: Global, query: &[u8]) -> Result<Question, QuestionFault>
+fn translate_question(alloc: Global, query: &[u8]) -> Result<Question, QueryFault>
     ensures asked { IfOk result (AsksOf Resource.Translate query.now) }
     ensures unasked { IfErr result (CannotAsk Resource.Translate query.now) }
 {
@@ -167,7 +129,7 @@ pub fn question_of(
     alloc: Global,
     resource: Resource,
     argument: &[u8],
-) -> Result<Question, QuestionFault>
+) -> Result<Question, QueryFault>
     requires { verb_of resource ≡ verb.Get }
     ensures asked { IfOk result (AsksOf resource argument.now) }
     ensures unasked { IfErr result (CannotAsk resource argument.now) }

@@ -4,7 +4,8 @@ ghost use Rattle.std.specs.Prelude.{◌≡◌, IfOk};
 ghost use Rattle.lrs_web_requests.specs.Text.{answer_of};
 ghost use Rattle.lrs_web_replies.specs.Replies as spec;
 
-use crate::{Parameter, QuestionFault, error_json};
+use crate::answers::error_json;
+use crate::{Parameter, QueryFault};
 use http::StatusCode;
 use lrs_answers::{AskCause, AskFault, cause_of};
 use lrs_web_requests::{Content, ContentType, Response};
@@ -67,7 +68,7 @@ pub(crate) fn refusal(alloc: Global, fault: AskFault) -> Result<Response, AllocE
 
 fn malformed(alloc: Global, parameter: Parameter) -> Result<Response, AllocError>
     ensures { IfOk result (λ reply. answer_of reply
-        ≡ spec.unasked (QuestionFault.Malformed parameter)) }
+        ≡ spec.unasked (QueryFault.Malformed parameter)) }
 {
     let name = parameter.name();
     let cause = format!(in alloc; "Malformed:{name}")?;
@@ -75,12 +76,15 @@ fn malformed(alloc: Global, parameter: Parameter) -> Result<Response, AllocError
 }
 
 /// The reply where nothing is asked.
-pub(crate) fn unasked(alloc: Global, fault: QuestionFault) -> Result<Response, AllocError>
+///
+/// # Errors
+/// When memory runs out.
+pub fn unasked(alloc: Global, fault: QueryFault) -> Result<Response, AllocError>
     ensures { IfOk result (λ reply. answer_of reply ≡ spec.unasked fault) }
 {
     match fault {
-        QuestionFault::Malformed(parameter) => malformed(alloc, parameter),
-        QuestionFault::NoRoute => error_reply(alloc, StatusCode::NOT_FOUND, "NoRoute"),
-        QuestionFault::Memory => Ok(Response::empty(StatusCode::SERVICE_UNAVAILABLE)),
+        QueryFault::Malformed(parameter) => malformed(alloc, parameter),
+        QueryFault::NoRoute => error_reply(alloc, StatusCode::NOT_FOUND, "NoRoute"),
+        QueryFault::Memory => Ok(Response::empty(StatusCode::SERVICE_UNAVAILABLE)),
     }
 }

@@ -3,7 +3,7 @@ use Rattle.sqlite_trees.specs.Tree.{Trees}
 use Rattle.lrs_store_rows.specs.Tables.{AreSame}
 use Rattle.lrs_store_tables.specs.Stored.{stored}
 use Rattle.lrs_store_tables.specs.Starting.{new_rows}
-use Rattle.lrs_store_tables.proofs.tables.«Tables+MemStore».in_memory.Goals as goal
+use Rattle.lrs_store_tables.proofs.tables.«TableStore+MemStore».in_memory.Goals as goal
 
 pub returns-in-Ok-make_store-clause-ready : goal.returns-in-Ok-make_store-clause-ready
 returns-in-Ok-make_store-clause-ready c = (c.make_store.ensures.autocommit, λ clean opened. (c.in-Ok-make_store.ensures.made clean).rest)

@@ -3,7 +3,7 @@ use Rattle.std.specs.List.{find}
 use Rattle.std.specs.Cmp.Lexicographic.{texts_ties}
 use Rattle.lrs_image.specs.Kept.{image_of}
 use Rattle.lrs_image.proofs.Tables.{routes_in_order}
-use Rattle.lrs_web_replies.proofs.replies.row_of.Goals as goal
+use Rattle.lrs_answers.proofs.route.row_of.Goals as goal
 
 pub find-requires : goal.find-requires
 find-requires c = record { order = routes_in_order (image_of c.args.kept.now) c.requires.sound }

@@ -1,0 +1,42 @@
+//! What is told to a question: its answer, with the words of the question that its text repeats.
+
+use crate::{AtAnswer, FoundRow};
+use lrs_events::{ClassName, Side};
+use lrs_machine::{Segment, Total};
+use lrs_measure::{Frac, Rows};
+use lrs_position::{Expr, Route, RouteName};
+
+/// What is told to a question: one variant for each kind of answer.
+#[derive(Drop)]
+pub enum Told {
+    /// Where a position of a route stands, and the assets that hold the place.
+    At {
+        route: RouteName,
+        found: AtAnswer,
+    },
+    /// A route.
+    Route(Route),
+    /// The segments of a side of a route by these classes; the length of the route is in millimetres.
+    Segments {
+        route: RouteName,
+        side: Side,
+        length: u64,
+        classes: Rows<ClassName>,
+        segments: Rows<Segment>,
+    },
+    /// A position of a route, by another method.
+    Translated {
+        route: RouteName,
+        position: Expr,
+    },
+    /// A position of a route on a link: the distance from the link's start, in millimetres.
+    OnLink {
+        route: RouteName,
+        link: u32,
+        distance: Frac,
+    },
+    /// What there is of each class.
+    Totals(Rows<Total>),
+    /// The stretches that an asset holds.
+    Found(Rows<FoundRow>),
+}
