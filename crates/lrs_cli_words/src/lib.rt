@@ -7,7 +7,5 @@ mod question;
 mod words;
 
 pub use job::Job;
-pub use question::{
-    BadWord, QuestionFault, Service, question_of, service_of,
-};
+pub use question::{BadWord, QuestionFault, Service, question_of, service_of};
 pub use words::{WordsFault, job_of};

@@ -6,8 +6,8 @@ ghost use Rattle.lrs_cli_words.specs.Questions.{Asks, AsksNothing, Cannot, Canno
 
 use crate::job::Job;
 use lrs_events::{ClassName, Side, read_side};
-use lrs_measure::limits::GREATEST_ASSET;
 use lrs_machine::{Destination, Question};
+use lrs_measure::limits::GREATEST_ASSET;
 use lrs_measure::{Rows, read_digits};
 use lrs_position::{Expr, Method, RouteName, Target, read_expr, read_method, read_target};
 use std::alloc::{AllocError, Global};

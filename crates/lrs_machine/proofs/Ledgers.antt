@@ -223,14 +223,14 @@ module _ (n asset : ℕ) (x : Asset) (places : List Place) (s : State) where
 
       by_entry : (m a : ℕ) (y : Asset) (p : Place) → x.entered_by ≡ n → ((a ≡ asset) × (y ≡ x)) ⊎ (get s.assets a ≡ Some y) → (s.entered m a p ≡ true) ⊎ (writes m a p ≡ true) → m ≡ y.entered_by
       by_entry m a y p own (inl new) (inl old) = absurd (never_entered m a p new.0 old)
-      by_entry m a y p own (inl new) (inr e) = (asset_of m a p e).0 ∙ sym own ∙ ap (λ (z : Asset). z.entry) (sym new.1)
+      by_entry m a y p own (inl new) (inr e) = (asset_of m a p e).0 ∙ sym own ∙ ap (λ (z : Asset). z.entered_by) (sym new.1)
       by_entry m a y p own (inr got) (inl old) = h.by_entry m a y p got old
       by_entry m a y p own (inr got) (inr e) = absurd (never_known a y (asset_of m a p e).1 got)
 
       was_entered : (a : ℕ) (y : Asset) → x.entered_by ≡ n → (p : Place) × (is_among places p ≡ true) → ((a ≡ asset) × (y ≡ x)) ⊎ (get s.assets a ≡ Some y)
           → (p : Place) × ((s.entered y.entered_by a p || writes y.entered_by a p) ≡ true)
       was_entered a y own some (inl new) =
-          let is : y.entered_by ≡ n = ap (λ (z : Asset). z.entry) new.1 ∙ own in
+          let is : y.entered_by ≡ n = ap (λ (z : Asset). z.entered_by) new.1 ∙ own in
           (some.0, or_right (s.entered y.entered_by a some.0) (writes y.entered_by a some.0) (three_of _ _ _ (eq-eqb y.entered_by n is) (eq-eqb a asset new.0) some.1))
       was_entered a y own some (inr got) = let e = h.was_entered a y got in (e.0, or_left (s.entered y.entered_by a e.0) (writes y.entered_by a e.0) e.1)
 

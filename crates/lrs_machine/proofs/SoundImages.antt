@@ -244,7 +244,7 @@ module _ (i : Image) (t : Tested i) where
   asset_row : (a : ℕ) (x : state.Asset) → find nat_cmp a (map asset_entry i.assets) ≡ Some x → (r : Asset) × In r i.assets × (r.number ≡ a) × (r.class ≡ x.class) × (r.entered_by ≡ x.entered_by)
   asset_row a x h =
       let found = map_found asset_entry (a, x) i.assets (find_found exact_unsigned a x (map asset_entry i.assets) h) in
-      (found.0, found.1, sym (ap (λ e. e.0) found.2), sym (ap (λ e. e.1.class) found.2), sym (ap (λ e. e.1.entry) found.2))
+      (found.0, found.1, sym (ap (λ e. e.0) found.2), sym (ap (λ e. e.1.class) found.2), sym (ap (λ e. e.1.entered_by) found.2))
 
   class_row : (name : Name) (k : Kind) → find name_cmp name (map (λ c. (c.name, c.kind)) i.classes) ≡ Some k → (c : Class) × In c i.classes × (c.name ≡ name) × (c.kind ≡ k)
   class_row name k h =

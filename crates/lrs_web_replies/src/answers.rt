@@ -28,7 +28,7 @@ fn bytes_of(alloc: Global, value: &Value) -> Result<Vec<u8>, AllocError>
 }
 
 /// The name of a route as text.
-fn name_of(route: &RouteName) -> &str
+pub(crate) fn name_of(route: &RouteName) -> &str
     ensures { result.now ≡ route.now }
 {
     match str::from_utf8(route.bytes()) {

@@ -6,8 +6,9 @@ ghost use Rattle.lrs_position.specs.declared.expression.Expr.{Expr as Expression
 ghost use Rattle.lrs_web_replies.specs.Questions.{SaysDestination, GivesClasses, GivesDestination, GivesMethod, GivesPosition, GivesPositionBy, GivesRoute, GivesSide, are_class_names};
 ghost use Rattle.lrs_web_replies.specs.Faults.{Lacks, LacksPosition};
 
-use crate::question::{Destination, Parameter, QueryFault};
+use crate::question::{Parameter, QueryFault};
 use lrs_events::{ClassName, Side, read_side};
+use lrs_machine::Destination;
 use lrs_measure::Rows;
 use lrs_position::{Expr, Method, RouteName, read_expr, read_method, read_target};
 use lrs_web_requests::{value_of, values_of};

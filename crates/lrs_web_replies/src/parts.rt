@@ -5,6 +5,7 @@ ghost use Rattle.std.specs.Str.{IsAscii};
 ghost use Rattle.serde_json.specs.View.{view};
 ghost use Rattle.lrs_machine.specs.Lines.{piece_text};
 
+use crate::answers::name_of;
 use crate::list::{Shown, list_value};
 use lrs_answers::FoundRow;
 use lrs_element::{Mark, Piece};
@@ -116,10 +117,9 @@ impl Shown for FoundRow {
     ghost shown = { row_data };
 
     fn value(&self, alloc: Global) -> Result<Value, AllocError> {
-        let route = self.route;
         let side = self.side;
-        let route = format!(in alloc; "{route}")?;
         let side = format!(in alloc; "{side}")?;
+        let route = name_of(&self.route);
         json!(in alloc; {"from": self.from, "route": route, "side": side, "to": self.to})
     }
 }
