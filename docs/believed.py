@@ -104,12 +104,13 @@ HEAD = re.compile(r"(?:(?:abbrev |unfoldable )?pub (?:record |data )?|infixl \d+
 
 
 class Page:
-    """A page of definitions: what its first comment says, the words that it imports, and the text of each of its definitions."""
+    """A page of definitions: the first sentence about it, the words that it imports, and the text of each of its definitions."""
 
     def __init__(self, crate, name):
         self.crate, self.name = crate, name
         text = (CRATES / crate / "specs" / f"{name}.antt").read_text()
-        self.about = re.match(r"-- (.*?)\.?(?: [A-Z]|\n|$)", text)[1]
+        about = re.match(r"-- (.*?)(?:\. |\.?\n)", text)[1].removeprefix(f"{name}: ")
+        self.about = about[0].upper() + about[1:]
         self.names = imported(text)
         self.types = set(", ".join(re.findall(r"^(?:\w+ )*use [\w.]+\.declared\.[\w.]+\.\{([^}]*)\}", text, re.M)).split(", "))
         self.texts, self.owners = {}, {}
@@ -404,9 +405,8 @@ def believed():
         lines.append(f"| {letter} | [`{name}`](../crates/{crate}/src/{path}.rt) {does} | {count} |")
     for letter, members, about in GROUPS:
         group = [it for it in headlines() if it.letter == letter]
-        places = dict.fromkeys(f"[{it.crate}: {it.path}](../crates/{it.crate}/src/{it.path}.rt)" for it in group)
-        where = f" ({', '.join(places)})" if members else " (all other modules of laws)"
-        lines.append(f"| {letter} | {len(group)} laws of {about}{where} | {len(joined(group))} |")
+        places = ", ".join(f"`{crate}::{path}`" for crate, path in members or []) or "all other modules of laws"
+        lines.append(f"| {letter} | {len(group)} laws of {about}: {places} | {len(joined(group))} |")
     lines += ["", "| Page | What it defines | Headlines |", "|---|---|---|"]
     letters = {}
     for headline in headlines():
@@ -424,13 +424,12 @@ def rest():
     for heading, named in layers():
         lines.append(f"| **{heading}** | |")
         for crate in named:
-            names = ", ".join(f"`{path}`" for path in modules(crate))
-            lines.append(f"| [{crate}](../crates/{crate}) | {names} |")
-    lines += ["", "### Other definition pages", "", "No headline reaches these. They are what contracts inside the program use."]
-    others = [page for page in pages() if page not in joined(headlines())]
-    for crate, of_crate in itertools.groupby(others, lambda page: page[0]):
-        lines += ["", f"[{crate}](../crates/{crate}/specs):", ""]
-        lines += [f"- {page}: {page_of(crate, page).about}" for _, page in of_crate]
+            lines.append(f"| {crate} | {', '.join(modules(crate))} |")
+    lines += ["", "### Other definition pages", "", "No headline needs these. Contracts inside the program use them.", ""]
+    needed = joined(headlines())
+    for crate, of_crate in itertools.groupby((page for page in pages() if page not in needed), lambda page: page[0]):
+        lines.append(f"- {crate}")
+        lines += [f"  - {page}: {page_of(crate, page).about}" for _, page in of_crate]
     return "\n".join(lines)
 
 

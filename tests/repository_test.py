@@ -55,11 +55,20 @@ def test_each_crate_is_listed_after_those_it_stands_on():
                     assert listed.index(used) < listed.index(name.strip()), (name, used)
 
 
-def test_each_definition_is_on_the_map():
+def definitions_on_the_map():
+    """Each page of definitions that docs/MAP.md links, and each one that it names under its crate."""
     text = (TOP / "docs" / "MAP.md").read_text()
+    found = set(re.findall(r"\]\(\.\./crates/(\w+)/specs/(\w+)\.antt\)", text))
+    for crate, pages in re.findall(r"^- (lrs_\w+)\n((?:  - .*\n)+)", text, re.M):
+        found |= {(crate, page) for page in re.findall(r"^  - (\w+): ", pages, re.M)}
+    return found
+
+
+def test_each_definition_is_on_the_map():
+    found = definitions_on_the_map()
     for path in sorted(CRATES.glob("*/specs/*.antt")):
         if path.stem != "Lib":
-            assert f"../{path.relative_to(TOP)}" in text, f"docs/MAP.md has no link to {path.relative_to(TOP)}"
+            assert (path.parts[-3], path.stem) in found, f"docs/MAP.md does not name {path.relative_to(TOP)}"
 
 
 def test_links_of_the_documents_lead_somewhere():
