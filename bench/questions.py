@@ -3,20 +3,26 @@
     python3 bench/questions.py [--runs N]
 
 `segments` of three classes over a route of 100,000 rows, `at` in a thousand places of a route among 1,000,000 assets on
-1,000 routes, `find` of a thousand assets and `totals`: asked of a desk in memory by crates/lrs_desk_bench (`rt run` there builds it), and of Python's sqlite3 in memory,
-which has the same tables and an index over rows by route and place. Totals are summed over the table of what was entered: nothing
-is retired or abandoned here. SQL finds the values of each stretch between two ends,
-and does not join stretches of equal values. A line has the least of the runs.
+1,000 routes, `find` of a thousand assets and `totals`: asked of a desk in memory, and of Python's sqlite3 in memory, which has the
+same tables and an index over rows by route and place. The desk is asked by bench/desk_bench: its source is laid as a crate,
+lrs_desk_bench, into a copy of the repository's crates with the libraries that are built, where `rt run` proves and builds it (and
+the libraries that are not built). Totals are summed over the table of what was entered: nothing is retired or abandoned here. SQL
+finds the values of each stretch between two ends, and does not join stretches of equal values. A line has the least of the runs.
 """
 
 import argparse
 import pathlib
+import shutil
 import sqlite3
 import subprocess
+import sys
+import tempfile
 import time
 
 TOP = pathlib.Path(__file__).resolve().parent.parent
-BUILT = TOP / "crates" / "lrs_desk_bench" / "out" / "lrs_desk_bench"
+SOURCES = TOP / "bench" / "desk_bench"
+BENCH = "lrs_desk_bench"
+USED = "lrs_measure lrs_position lrs_events lrs_desk lrs_sheet"
 HEADER = "key,verb,a,b,c,d,e,f,g,h,i\n"
 CLASSES = ["C0", "C1", "C2"]
 PLACES = 1_000
@@ -67,9 +73,34 @@ class Sample:
         return db
 
 
-def asked_of_the_desk(sample):
+def laid(folder):
+    """The folder of the benchmark as a crate, in a copy of the repository's crates with their libraries."""
+    for crate in (TOP / "crates").iterdir():
+        ignored = lambda at, names: [name for name in names if pathlib.Path(at).name == "out" and name != "rlib"]
+        shutil.copytree(crate, folder / "crates" / crate.name, ignore=ignored)
+    bench = folder / "crates" / BENCH
+    (bench / "src").mkdir(parents=True)
+    shutil.copy(SOURCES / "main.txt", bench / "src" / "main.rt")
+    for name in ("stdin", "stdout"):
+        shutil.copy(SOURCES / name, bench)
+    (folder / "crates.txt").write_text((TOP / "crates.txt").read_text() + f"{BENCH}: {USED}\n")
+    return bench
+
+
+def built(folder):
+    """The benchmark's program, which rt proves, builds and runs once over its own small sheet."""
+    bench = laid(folder)
+    with open(bench / "stdin", "rb") as sheet:
+        subprocess.run(["rt", "run"], cwd=bench, stdin=sheet, stdout=sys.stderr, check=True)
+    program = bench / "out" / BENCH
+    said = subprocess.run([program], input=(bench / "stdin").read_bytes(), capture_output=True, check=True).stdout
+    assert said == (bench / "stdout").read_bytes(), said
+    return program
+
+
+def asked_of_the_desk(program, sample):
     """What a call of each question takes there, in seconds."""
-    told = subprocess.run([BUILT, "R1", *CLASSES], input=sample.sheet(), capture_output=True, check=True).stdout.decode()
+    told = subprocess.run([program, "R1", *CLASSES], input=sample.sheet(), capture_output=True, check=True).stdout.decode()
     return {line.partition(":")[0]: int(line.split()[1]) / 1e9 for line in told.splitlines()}
 
 
@@ -102,11 +133,13 @@ def main():
     parser = argparse.ArgumentParser()
     parser.add_argument("--runs", type=int, default=3)
     runs = parser.parse_args().runs
-    for what, sample in [("one route of 100,000 rows", Sample(1, 100_000)), ("1,000,000 assets on 1,000 routes", Sample(1_000, 1_000))]:
-        db = sample.tables()
-        ours, theirs = least(runs, lambda: asked_of_the_desk(sample)), least(runs, lambda: asked_in_sql(sample, db))
-        for name in ["segments", "at", "find", "totals"]:
-            print(f"{what}: {name}: desk {1e6 * ours[name]:,.2f} µs, sqlite3 {1e6 * theirs[name]:,.2f} µs")
+    with tempfile.TemporaryDirectory(prefix="desk-bench-") as folder:
+        program = built(pathlib.Path(folder))
+        for what, sample in [("one route of 100,000 rows", Sample(1, 100_000)), ("1,000,000 assets on 1,000 routes", Sample(1_000, 1_000))]:
+            db = sample.tables()
+            ours, theirs = least(runs, lambda: asked_of_the_desk(program, sample)), least(runs, lambda: asked_in_sql(sample, db))
+            for name in ["segments", "at", "find", "totals"]:
+                print(f"{what}: {name}: desk {1e6 * ours[name]:,.2f} µs, sqlite3 {1e6 * theirs[name]:,.2f} µs")
 
 
 main()

@@ -37,6 +37,12 @@ GROUPS = [
     ("L", None, "images, rows, plans, records, stores and paths"),
 ]
 
+# What docs/MAP.md says of the other pages.
+ABOUT_OTHERS = (
+    "No headline needs these: other contracts and proofs use them, and those of lrs_examples are worked examples. "
+    "Each is `crates/CRATE/specs/PAGE.antt`."
+)
+
 
 # Layers, crates and modules.
 
@@ -82,7 +88,8 @@ def imported(text):
 def words(text):
     """The words of a text but for the labels of records; a block under `do` stands for the operators that it is short for."""
     for match in re.finditer(r"[^\s(){}\[\];,]+", text):
-        if re.match(r" =\s", text[match.end() : match.end() + 3]) and re.search(r"[{;]\s*$", text[: match.start()][-200:]):
+        before, after = text[: match.start()].rstrip()[-1:], text[match.end() : match.end() + 3]
+        if before in ("{", ";") and re.match(r" =\s", after):
             continue
         yield from ["◌>>=◌", "◌>>◌"] if match[0] == "do" else [match[0], f"◌{match[0]}◌"]
 
@@ -115,7 +122,7 @@ class Page:
         self.types = set(", ".join(re.findall(r"^(?:\w+ )*use [\w.]+\.declared\.[\w.]+\.\{([^}]*)\}", text, re.M)).split(", "))
         self.texts, self.owners = {}, {}
         self.divide(re.sub(r'(?m)"[^"\n]*"|(?:^|(?<=\s))--.*$', "", text))
-        self.names.update({name: (crate, self.name, name) for name in [*self.owners, *self.texts]})
+        self.names.update({own: (crate, name, own) for own in [*self.owners, *self.texts]})
 
     def divide(self, text):
         """Divides a text into its definitions. Those of a `module` block are indented, and all of them have its parameters."""
@@ -338,7 +345,8 @@ class Headline:
     """A function whose contract is promised, with the pages that must be believed for it."""
 
     def __init__(self, letter, crate, path, name):
-        self.letter, self.crate, self.path, self.name = letter, crate, path, name
+        self.letter, self.crate, self.path = letter, crate, path
+        self.call = name if letter in {call[0] for call in CALLS} else None
         module = module_of(crate, path)
         of, _, function_name = name.rpartition("::")
         blocks = [block for block in module.blocks if (block.type, block.trait) == (of, None)] if of else [module.free]
@@ -381,12 +389,10 @@ def joined(given):
 def listing():
     """The pages of each headline, the laws module by module."""
     lines = []
-    for (letter, crate, path, name), group in itertools.groupby(
-        headlines(), lambda it: (it.letter, it.crate, it.path, it.name if it.letter in {call[0] for call in CALLS} else None)
-    ):
+    for (letter, crate, path, call), group in itertools.groupby(headlines(), lambda it: (it.letter, it.crate, it.path, it.call)):
         group = list(group)
         found = joined(group)
-        what = name or f"{len(group)} {'law' if len(group) == 1 else 'laws'}"
+        what = call or f"{len(group)} {'law' if len(group) == 1 else 'laws'}"
         lines.append(f"{letter}  {crate}/src/{path}.rt: {what}: {len(found)} pages")
         for owner, of_crate in itertools.groupby(found, lambda page: page[0]):
             lines.append(f"     {owner}: {', '.join(page for _, page in of_crate)}")
@@ -425,7 +431,7 @@ def rest():
         lines.append(f"| **{heading}** | |")
         for crate in named:
             lines.append(f"| {crate} | {', '.join(modules(crate))} |")
-    lines += ["", "### Other definition pages", "", "No headline needs these. Contracts inside the program use them.", ""]
+    lines += ["", "### Other definition pages", "", ABOUT_OTHERS, ""]
     needed = joined(headlines())
     for crate, of_crate in itertools.groupby((page for page in pages() if page not in needed), lambda page: page[0]):
         lines.append(f"- {crate}")
@@ -433,8 +439,8 @@ def rest():
     return "\n".join(lines)
 
 
-def written(text):
-    """The map with its tables as they are to be."""
+def with_tables(text):
+    """The map with its tables as they are computed."""
     for name, table in [("believed", believed()), ("rest", rest())]:
         begin, end = f"<!-- begin {name}: docs/believed.py --write -->\n", f"<!-- end {name} -->"
         before, found, after = text.partition(begin)
@@ -445,13 +451,13 @@ def written(text):
     return text
 
 
-def main(words_given):
-    if words_given == ["--list"]:
+def main(options):
+    if options == ["--list"]:
         print(listing())
-    elif words_given == ["--write"]:
-        MAP.write_text(written(MAP.read_text()))
-    elif words_given == ["--check"]:
-        if written(MAP.read_text()) != MAP.read_text():
+    elif options == ["--write"]:
+        MAP.write_text(with_tables(MAP.read_text()))
+    elif options == ["--check"]:
+        if with_tables(MAP.read_text()) != MAP.read_text():
             sys.exit("docs/MAP.md is not as docs/believed.py --write makes it")
     else:
         sys.exit(__doc__.splitlines()[0])

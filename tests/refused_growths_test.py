@@ -1,4 +1,4 @@
-"""Want of memory: the proved tests of refused growths (crates/*/src/refused.rt) run with one allocation refused, each in turn."""
+"""Want of memory: the proved tests of refused growths (`memory.rt` and `*_memory.rt` of the test crates) run with one allocation refused, each in turn."""
 
 import pathlib
 import re
@@ -9,19 +9,19 @@ from refusing import with_each_refused
 CRATES = pathlib.Path(__file__).resolve().parent.parent / "crates"
 
 
-def proved_tests(crate):
-    """The program of the crate's proved tests, which rt ci makes, and the names of those of refused growths."""
+def proved_tests(crate, module):
+    """The program of the crate's proved tests, which rt ci makes, and the names of those of a module."""
     program = CRATES / crate / "out" / f"{crate}_tests"
     if not program.exists():
         subprocess.run(["rt", "test"], cwd=CRATES / crate, stdin=subprocess.DEVNULL, check=True)
     listed = subprocess.run([program, "--list"], capture_output=True, text=True, check=True).stdout
-    return program, re.findall(r"\brefused::\w+", listed)
+    return program, re.findall(rf"\b{module}::\w+", listed)
 
 
-def refused_calls(crate):
+def refused_calls(crate, module="memory"):
     """The calls that were refused a growth while each allocation of each test was refused in turn. Each test passed all the same."""
-    program, names = proved_tests(crate)
-    assert names, crate
+    program, names = proved_tests(crate, module)
+    assert names, (crate, module)
     refused = set()
     for name in names:
 
@@ -46,14 +46,14 @@ def test_a_sheet_of_all_verbs_bears_a_refused_growth():
 
 
 def test_deciding_soundness_bears_a_refused_growth():
-    assert refused_calls("lrs_sound_tests") == {"image_of", "first_unsound"}
+    assert refused_calls("lrs_image_sound_tests") == {"image_of", "first_unsound"}
 
 
 def test_segments_bear_a_refused_growth():
-    assert refused_calls("lrs_segments_tests") == {"segments"}
+    assert refused_calls("lrs_report_tests", "segments_memory") == {"segments"}
 
 
 def test_spans_bear_a_refused_growth():
     changes = ("add", "remove_within", "remove_asset_within", "remove_class_places", "cut", "concat", "turned")
     calls = (*changes, "of_rows", "copy", "at", "met")
-    assert refused_calls("lrs_spans_tests") == {f"Spans::{call}" for call in calls}
+    assert refused_calls("lrs_report_tests", "spans_memory") == {f"Spans::{call}" for call in calls}

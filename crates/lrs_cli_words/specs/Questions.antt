@@ -2,6 +2,7 @@
 use Rattle.std.specs.Prelude.{◌≡◌, ◌⊎◌, ⊤, ℕ, ◌≤◌, IsTrue, IsSomeAnd, List, map, codes, slice_get}
 use Rattle.std.specs.Str.Parse.{IsNumeral, digits_value}
 use Rattle.clap.specs.Words.{Text}
+use Rattle.lrs_measure.specs.Limits.{greatest_asset}
 use Rattle.lrs_measure.specs.Texts.{Name}
 use Rattle.lrs_position.specs.declared.expression.Expr.{Expr}
 use Rattle.lrs_position.specs.declared.expression.Method.{Method}
@@ -52,7 +53,7 @@ pub record SaysNumber (least greatest : ℕ) (text : Text) (number : ℕ) : Type
   pub below : number ≤ greatest
 
 abbrev pub SaysAsset : Text → ℕ → Type 0
-SaysAsset = SaysNumber 1 1_000_000_000_000
+SaysAsset = SaysNumber 1 greatest_asset
 
 abbrev pub SaysPort : Text → ℕ → Type 0
 SaysPort = SaysNumber 1 65_535

@@ -1,12 +1,9 @@
 -- The line that the marks of a route draw: which measure a chainage has, and which chainage a measure is at (ISO 19148: absolute linear referencing method).
 use Rattle.std.specs.Prelude.{◌≡◌, ℕ, ◌+◌, ◌*◌, max, ◌<◌, ◌≤◌, pos, ◌≤ℤ◌, List, length, slice_get, Some, slice_index_or, ◌⊎◌}
 use Rattle.lrs_measure.specs.Fraction.{Fraction}
+use Rattle.lrs_measure.specs.Limits.{finest, greatest_measure, longest_route}
 use Rattle.lrs_element.specs.declared.marks.Mark.{Mark}
 use Rattle.lrs_element.specs.Marks.{IsOnLine, first_mark, last_mark}
-
--- the finest denominator at which a line is read
-abbrev pub finest : ℕ
-finest = 10_000_000_000_000_000
 
 -- the fraction is from first to last, and not too fine
 pub record IsReadable (first last : ℕ) (q : Fraction) : Type 0 where
@@ -52,8 +49,8 @@ pub record AreRound (place : Mark → ℕ) (marks : List Mark) (n d : ℕ) (p q 
   pub first : slice_get marks index ≡ Some p
   pub next : slice_get marks (index + 1) ≡ Some q
   pub rise : Rises p q
-  pub limit : q.measure ≤ 100_000_000_000
-  pub end : q.chainage ≤ 10_000_000_000
+  pub limit : q.measure ≤ greatest_measure
+  pub end : q.chainage ≤ longest_route
   pub from : place p * d ≤ n
   pub to : n ≤ place q * d
 

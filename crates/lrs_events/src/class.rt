@@ -196,8 +196,8 @@ impl Keyed<ClassName> for Class {
     ghost rises = { λ a b name before from. name_after a.name b.name name before from };
 }
 
-/// An asset of the inventory. Its lateral offset is in millimetres from the linear element; its entry is the
-/// number of the edit that entered it.
+/// An asset of the inventory. Its lateral offset is in millimetres from the linear element; `entered_by` is
+/// the number of the edit that entered it.
 #[derive(Clone, Copy, Debug, PartialEq, Eq)]
 pub struct Asset {
     pub number: u64,

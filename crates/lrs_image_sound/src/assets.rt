@@ -7,7 +7,7 @@ ghost use Rattle.lrs_machine.specs.Sound.{are_classes, is_asset, are_assets};
 use crate::lookups::knows_class;
 use crate::order::assets_rise;
 use lrs_events::{Asset, Class};
-use lrs_measure::limits::{GREATEST_ASSET, MOST_ASSETS};
+use lrs_measure::limits::{GREATEST_ASSET, GREATEST_LATERAL, MOST_ASSETS};
 
 /// Whether an asset is in its limits and of a known class.
 fn is_asset(classes: &[Class], asset: &Asset) -> bool
@@ -16,7 +16,7 @@ fn is_asset(classes: &[Class], asset: &Asset) -> bool
 {
     1 <= asset.number
         && asset.number <= GREATEST_ASSET
-        && asset.lateral <= 100_000
+        && asset.lateral <= GREATEST_LATERAL
         && knows_class(classes, asset.class)
 }
 

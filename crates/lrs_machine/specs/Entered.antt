@@ -4,10 +4,10 @@ use Rattle.std.specs.List.{list_all}
 use Rattle.lrs_measure.specs.Lists.{is_from_to}
 use Rattle.lrs_element.specs.declared.link.Piece.{Piece}
 use Rattle.lrs_element.specs.declared.marks.Mark.{Mark}
-use Rattle.lrs_measure.specs.Limits.{is_link_number, longest_link, longest_route, most_pieces, most_marks, greatest_measure}
+use Rattle.lrs_measure.specs.Limits.{is_link_number, longest_link, longest_route, most_pieces, most_marks, greatest_measure, greatest_asset, greatest_lateral}
 
 abbrev pub is_asset_number : ℕ → Bool
-is_asset_number n = is_from_to 1 1_000_000_000_000 n
+is_asset_number n = is_from_to 1 greatest_asset n
 
 -- millimetres from the start of a route
 abbrev pub is_chainage : ℕ → Bool
@@ -15,7 +15,7 @@ is_chainage n = nat_le n longest_route
 
 -- millimetres beside the linear element
 abbrev pub is_lateral_offset : ℕ → Bool
-is_lateral_offset n = nat_le n 100_000
+is_lateral_offset n = nat_le n greatest_lateral
 
 -- the number that a link can have, and ends that some link can have
 abbrev pub is_entered_piece : Piece → Bool

@@ -3,6 +3,7 @@
 ghost use Rattle.std.specs.Prelude.{◌≡◌, IsTrue};
 ghost use Rattle.lrs_measure.specs.Limits.{are_limits, most_routes, most_assets, most_edits};
 
+use lrs_measure::limits::{MOST_ASSETS, MOST_EDITS, MOST_ROUTES};
 use std::fmt;
 
 /// A field of a record.
@@ -181,9 +182,9 @@ impl Limits {
         ensures edits { result.edits ≡ most_edits }
     {
         Limits {
-            routes: 10_000,
-            assets: 1_000_000,
-            edits: 10_000_000,
+            routes: MOST_ROUTES as u64,
+            assets: MOST_ASSETS as u64,
+            edits: MOST_EDITS as u64,
         }
     }
 }

@@ -158,7 +158,7 @@ fn unref_line(alloc: Global, name: &RefName) -> Result<String, AllocError>
     format!(in alloc; "unref,{name}")
 }
 
-// An asked's asset, class, route and side.
+// The asset, class, route and side of a new asset.
 fn entered_text(alloc: Global, asked: &NewAsset) -> Result<String, AllocError>
     ensures { IfOk result (λ text. string_bytes text
         ≡ fields (decimal asked.now.asset ∷ asked.now.class ∷ asked.now.route
@@ -171,7 +171,7 @@ fn entered_text(alloc: Global, asked: &NewAsset) -> Result<String, AllocError>
     format!(in alloc; "{asset},{class},{route},{side}")
 }
 
-// What an asked tells of its places.
+// The value and the lateral offset of a new asset.
 fn told_text(alloc: Global, asked: &NewAsset) -> Result<String, AllocError>
     ensures { IfOk result (λ text. string_bytes text
         ≡ fields (asked.now.value ∷ decimal asked.now.offset ∷ [])) }
@@ -188,7 +188,7 @@ fn joined_text(alloc: Global, first: &str, second: &str, third: &str) -> Result<
     format!(in alloc; "{first},{second},{third}")
 }
 
-// The fields of an asked.
+// The fields of a new asset.
 fn new_asset_text(alloc: Global, asked: &NewAsset) -> Result<String, AllocError>
     ensures { IfOk result (λ text. string_bytes text ≡ fields (new_asset_fields asked.now)) }
 {

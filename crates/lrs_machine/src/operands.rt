@@ -8,8 +8,8 @@ ghost use Rattle.lrs_machine.specs.Entered;
 
 use lrs_element::{Mark, Piece};
 use lrs_measure::limits::{
-    GREATEST_ASSET, GREATEST_LINK, GREATEST_MEASURE, LONGEST_LINK, LONGEST_ROUTE, MOST_MARKS,
-    MOST_PIECES,
+    GREATEST_ASSET, GREATEST_LATERAL, GREATEST_LINK, GREATEST_MEASURE, LONGEST_LINK, LONGEST_ROUTE,
+    MOST_MARKS, MOST_PIECES,
 };
 use std::marker::Model;
 
@@ -165,7 +165,7 @@ impl LateralOffset {
     pub fn new(distance: u32) -> Option<LateralOffset>
         ensures { SomeIff result (IsTrue (is_lateral_offset distance)) distance }
     {
-        if distance > 100_000 {
+        if distance > GREATEST_LATERAL {
             return None;
         }
         Some(LateralOffset { distance })

@@ -19,9 +19,25 @@ most_marks = 1_000
 abbrev pub greatest_measure : ℕ
 greatest_measure = 100_000_000_000
 
+-- the greatest number of a link
+abbrev pub greatest_link : ℕ
+greatest_link = 999_999
+
+-- the greatest number of an asset
+abbrev pub greatest_asset : ℕ
+greatest_asset = 1_000_000_000_000
+
+-- the greatest lateral offset of an asset
+abbrev pub greatest_lateral : ℕ
+greatest_lateral = 100_000
+
+-- the greatest denominator at which a measure line is read
+abbrev pub finest : ℕ
+finest = 10_000_000_000_000_000
+
 -- the number of a link
 abbrev pub is_link_number : ℕ → Bool
-is_link_number n = is_from_to 1 999_999 n
+is_link_number n = is_from_to 1 greatest_link n
 
 -- a link of this number and length
 abbrev pub is_link : ℕ → ℕ → Bool

@@ -31,6 +31,9 @@ pub const FINEST: u128 = 10_000_000_000_000_000;
 /// The greatest denominator of a proportion that a position expression can have.
 pub const FINEST_PROPORTION: u128 = 1_000_000_000_000_000_000_000;
 
+/// The greatest lateral offset of an asset, in millimetres.
+pub const GREATEST_LATERAL: u32 = 100_000;
+
 /// The greatest number of an asset.
 pub const GREATEST_ASSET: u64 = 1_000_000_000_000;
 

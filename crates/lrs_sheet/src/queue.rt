@@ -21,6 +21,13 @@ use lrs_sheet_records::{ReadFault, SheetRecord, command_in, text_at};
 use std::alloc::Global;
 use std::io::Write;
 
+/// Commands that wait for others, in the order of their records, and how many records have been answered so far.
+#[derive(Drop)]
+pub(crate) struct Queue {
+    pub waiting: Vec<(Key, Command)>,
+    pub tally: Tally,
+}
+
 /// Writes the line of a reply.
 pub(crate) fn write_reply<W: Write>(writer: &mut W, reply: Reply) -> Result<(), SheetFault>
     ensures written { OnOk result (Appends (W.contents writer.old) (W.contents writer.new)
@@ -129,22 +136,21 @@ pub(crate) fn do_all<W: Write, K: Keeper>(
 
 /// Does the commands that wait, and lets none wait.
 pub(crate) fn settle<W: Write, K: Keeper>(
-    waiting: &mut Vec<(Key, Command)>,
+    queue: &mut Queue,
     writer: &mut W,
     desk: &mut Desk<K>,
-    tally: &mut Tally,
 ) -> Result<(), SheetFault>
-    requires room { answer_count tally.old + length waiting.old.items ≤ 2 ^ 32 }
-    ensures none { OnOk result (waiting.new.items ≡ []) }
-    ensures does { OnOk result (DoesAll desk.old.limits waiting.old.items (state_of desk.old.image)
+    requires room { answer_count queue.old.tally + length queue.old.waiting.items ≤ 2 ^ 32 }
+    ensures none { OnOk result (queue.new.waiting.items ≡ []) }
+    ensures does { OnOk result (DoesAll desk.old.limits queue.old.waiting.items (state_of desk.old.image)
         (state_of desk.new.image) (W.contents writer.old)
-        (W.contents writer.new) tally.old tally.new) }
-    ensures stops { IfErr result (StopsAmong K.may_hold waiting.old.items desk.old desk.new
+        (W.contents writer.new) queue.old.tally queue.new.tally) }
+    ensures stops { IfErr result (StopsAmong K.may_hold queue.old.waiting.items desk.old desk.new
         (W.contents writer.old) (W.contents writer.new)) }
     ensures desk { LeavesDesk K.may_hold desk.old desk.new result }
 {
-    do_all(waiting, writer, desk, tally)?;
-    waiting.clear();
+    do_all(&queue.waiting, writer, desk, &mut queue.tally)?;
+    queue.waiting.clear();
     Ok(())
 }
 
@@ -152,28 +158,27 @@ pub(crate) fn settle<W: Write, K: Keeper>(
 fn refuse<W: Write, K: Keeper>(
     row: &SheetRecord<'_>,
     field: Field,
-    waiting: &mut Vec<(Key, Command)>,
+    queue: &mut Queue,
     writer: &mut W,
     desk: &mut Desk<K>,
-    tally: &mut Tally,
 ) -> Result<(), SheetFault>
     requires malformed { FirstMalformed (edit_fields row.now) (place_of field) }
-    requires room { answer_count tally.old + length waiting.old.items < 2 ^ 32 }
+    requires room { answer_count queue.old.tally + length queue.old.waiting.items < 2 ^ 32 }
     ensures takes { OnOk result (Takes desk.old.limits
-        (edit_fields row.now) waiting.old.items waiting.new.items (state_of desk.old.image)
+        (edit_fields row.now) queue.old.waiting.items queue.new.waiting.items (state_of desk.old.image)
         (state_of desk.new.image) (W.contents writer.old)
-        (W.contents writer.new) tally.old tally.new) }
-    ensures none { OnOk result (waiting.new.items ≡ []) }
+        (W.contents writer.new) queue.old.tally queue.new.tally) }
+    ensures none { OnOk result (queue.new.waiting.items ≡ []) }
     ensures stops { IfErr result (StopsTaking K.may_hold
-        (edit_fields row.now) waiting.old.items desk.old desk.new (W.contents writer.old)
-        (W.contents writer.new) tally.old) }
+        (edit_fields row.now) queue.old.waiting.items desk.old desk.new (W.contents writer.old)
+        (W.contents writer.new) queue.old.tally) }
     ensures desk { LeavesDesk K.may_hold desk.old desk.new result }
 {
-    settle(waiting, writer, desk, tally)?;
+    settle(queue, writer, desk)?;
     let answer = Answer::Refused(Cause::Malformed(field));
     let key = Key::new(text_at(row, 0));
     write_reply(writer, Reply { key, answer })?;
-    tally.count(answer);
+    queue.tally.count(answer);
     Ok(())
 }
 
@@ -183,38 +188,37 @@ pub(crate) fn take_row<W: Write, K: Keeper>(
     alloc: Global,
     row: &SheetRecord<'_>,
     together: usize,
-    waiting: &mut Vec<(Key, Command)>,
+    queue: &mut Queue,
     writer: &mut W,
     desk: &mut Desk<K>,
-    tally: &mut Tally,
 ) -> Result<(), SheetFault>
     requires width { length (fields_of row.now.fields.now) ≤ width_of row.now.sheet }
-    requires room { answer_count tally.old + length waiting.old.items < 2 ^ 32 }
-    requires few { length waiting.old.items < together }
+    requires room { answer_count queue.old.tally + length queue.old.waiting.items < 2 ^ 32 }
+    requires few { length queue.old.waiting.items < together }
     ensures takes { OnOk result (Takes desk.old.limits
-        (edit_fields row.now) waiting.old.items waiting.new.items (state_of desk.old.image)
+        (edit_fields row.now) queue.old.waiting.items queue.new.waiting.items (state_of desk.old.image)
         (state_of desk.new.image) (W.contents writer.old)
-        (W.contents writer.new) tally.old tally.new) }
-    ensures few { OnOk result (length waiting.new.items < together) }
+        (W.contents writer.new) queue.old.tally queue.new.tally) }
+    ensures few { OnOk result (length queue.new.waiting.items < together) }
     ensures stops { IfErr result (StopsTaking K.may_hold
-        (edit_fields row.now) waiting.old.items desk.old desk.new (W.contents writer.old)
-        (W.contents writer.new) tally.old) }
+        (edit_fields row.now) queue.old.waiting.items desk.old desk.new (W.contents writer.old)
+        (W.contents writer.new) queue.old.tally) }
     ensures desk { LeavesDesk K.may_hold desk.old desk.new result }
 {
     let said = match command_in(alloc, row) {
         Ok(said) => said,
-        Err(ReadFault::Field(field)) => return refuse(row, field, waiting, writer, desk, tally),
+        Err(ReadFault::Field(field)) => return refuse(row, field, queue, writer, desk),
         Err(ReadFault::Memory) => {
-            settle(waiting, writer, desk, tally)?;
+            settle(queue, writer, desk)?;
             return Err(SheetFault::Memory);
         }
     };
-    if waiting.push(said).is_err() {
-        settle(waiting, writer, desk, tally)?;
+    if queue.waiting.push(said).is_err() {
+        settle(queue, writer, desk)?;
         return Err(SheetFault::Memory);
     }
-    if waiting.len() < together {
+    if queue.waiting.len() < together {
         return Ok(());
     }
-    settle(waiting, writer, desk, tally)
+    settle(queue, writer, desk)
 }

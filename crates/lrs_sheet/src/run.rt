@@ -12,12 +12,11 @@ ghost use Rattle.lrs_sheet.specs.Rows.{IsPlain, DoesRows, BreaksAfter};
 ghost use Rattle.lrs_sheet.specs.Waiting.{HasTaken};
 
 use crate::fault::SheetFault;
-use crate::queue::{settle, take_row};
+use crate::queue::{Queue, settle, take_row};
 use crate::reply::Tally;
 use crate::rows::{next_row, open};
 use csv::{ByteRecord, Reader};
 use lrs_desk::{Desk, Fault, Keeper};
-use lrs_machine::{Command, Key};
 use lrs_sheet_records::{Sheet, SheetRecord, is_header};
 use std::alloc::Global;
 use std::io::{Read, Write};
@@ -40,19 +39,18 @@ fn take_rows<R: Read, W: Write, K: Keeper>(
     together: usize,
     rows: &mut Reader<R>,
     row: &mut ByteRecord,
-    waiting: &mut Vec<(Key, Command)>,
+    queue: &mut Queue,
     writer: &mut W,
     desk: &mut Desk<K>,
-    tally: &mut Tally,
 ) -> Result<Option<SheetFault>, SheetFault>
     requires plain { IsPlain rows.old }
     requires width { expected_len rows.old ≡ Some (width_of sheet) }
     requires together { 1 ≤ together }
-    requires none { waiting.old.items ≡ [] }
-    requires fresh { tally.old ≡ tally_of [] }
+    requires none { queue.old.waiting.items ≡ [] }
+    requires fresh { queue.old.tally ≡ tally_of [] }
     ensures taken { IfOk result (HasTaken sheet K.may_hold R.remaining rows.old desk.old desk.new
-        (W.contents writer.old) (W.contents writer.new) tally.new waiting.new.items) }
-    ensures few { OnOk result (length waiting.new.items < together) }
+        (W.contents writer.old) (W.contents writer.new) queue.new.tally queue.new.waiting.items) }
+    ensures few { OnOk result (length queue.new.waiting.items < together) }
     ensures stops { IfErr result (λ e. DoesRows sheet together R.remaining rows.old desk.old.limits
         (state_of desk.old.image) (state_of desk.new.image) (W.contents writer.old)
         (W.contents writer.new) (Err e)) }
@@ -69,7 +67,7 @@ fn take_rows<R: Read, W: Write, K: Keeper>(
             Err(fault) => return Ok(Some(fault)),
         }
         let read = SheetRecord { fields: row, sheet };
-        take_row(alloc, &read, together, waiting, writer, desk, tally)?;
+        take_row(alloc, &read, together, queue, writer, desk)?;
     }
     match next_row(rows, row) {
         Ok(true) => Ok(Some(SheetFault::Read)),
@@ -100,23 +98,15 @@ fn do_rows<R: Read, W: Write, K: Keeper>(
         → BreaksAfter sheet together R.remaining rows.old desk.old.limits (state_of desk.old.image)
         (W.contents writer.old) (W.contents writer.new) c }
 {
-    let mut tally = Tally::default();
-    let mut waiting = Vec::new(alloc);
-    let unread = take_rows(
-        alloc,
-        sheet,
-        together,
-        rows,
-        row,
-        &mut waiting,
-        writer,
-        desk,
-        &mut tally,
-    )?;
-    settle(&mut waiting, writer, desk, &mut tally)?;
+    let mut queue = Queue {
+        waiting: Vec::new(alloc),
+        tally: Tally::default(),
+    };
+    let unread = take_rows(alloc, sheet, together, rows, row, &mut queue, writer, desk)?;
+    settle(&mut queue, writer, desk)?;
     match unread {
         Some(fault) => Err(fault),
-        None => Ok(tally),
+        None => Ok(queue.tally),
     }
 }
 

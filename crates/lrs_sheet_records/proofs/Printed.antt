@@ -14,7 +14,7 @@ use Rattle.lrs_position.specs.declared.expression.Expr.{Expr}
 use Rattle.lrs_position.specs.declared.expression.Expr.TheVariants.{Abs, Rel, Int}
 use Rattle.lrs_machine.specs.Entered.{is_asset_number, is_chainage, is_lateral_offset}
 use Rattle.lrs_machine.specs.Lines.{Text, expression_text}
-use Rattle.lrs_machine.specs.WellFormed.{ArePieces, IsEntry, IsEnd, IsWellFormed}
+use Rattle.lrs_machine.specs.WellFormed.{ArePieces, IsNewAsset, IsEnd, IsWellFormed}
 use Rattle.lrs_machine.specs.declared.answer.Field.{Field}
 use Rattle.lrs_machine.specs.declared.answer.Field.TheVariants as field
 use Rattle.lrs_machine.specs.declared.command.NewAsset.{NewAsset}
@@ -80,7 +80,7 @@ offset-says : (n : ℕ) → IsTrue (is_lateral_offset n) → SaysNumber 0 100_00
 offset-says n h = decimal-says 0 100_000 n (omega arith) (below 100_000 n h) (omega arith)
 
 -- the arguments of an entry, where field E has the text of its method
-entry-printed : (texts : Field → Text) (e : NewAsset) → texts field.E ≡ method_text (method_of e.location.from) → IsEntry e → AllByRecursion IsInLowestTerms (new_asset_arguments e) → ArePrinted texts new_asset_shapes (new_asset_arguments e)
+entry-printed : (texts : Field → Text) (e : NewAsset) → texts field.E ≡ method_text (method_of e.location.from) → IsNewAsset e → AllByRecursion IsInLowestTerms (new_asset_arguments e) → ArePrinted texts new_asset_shapes (new_asset_arguments e)
 entry-printed texts e by h kept =
     let start : StatesBy (texts field.E) (expression_text e.location.from) e.location.from = (method_of e.location.from, by, position-stated e.location.from h.location.first kept.1.1.1.1.1.0) in
     let end = end-printed texts field.E e.location.from e.location.to by h.location.alike h.location.end kept.1.1.1.1.1.1.0 in

@@ -22,15 +22,15 @@ unfolding field_at
 no-key key = cc key
 
 -- the nine fields of an entry, after a well formed key
-pub says-entry : (fields : List (List ℕ)) (key : List ℕ) (entry : NewAsset) → IsTrue (is_key (text_at (as_edit fields) 0)) → key ≡ text_at (as_edit fields) 0
+pub says-new_asset : (fields : List (List ℕ)) (key : List ℕ) (entry : NewAsset) → IsTrue (is_key (text_at (as_edit fields) 0)) → key ≡ text_at (as_edit fields) 0
     → SayAll (as_edit fields) 2 new_asset_shapes (new_asset_arguments entry) → SaysNewAsset fields key entry
 unfolding field_at
-says-entry [] key entry is same say = absurd (no-key is)
-says-entry (first ∷ others) key entry is same say = record { is_key = is; same_key = same; is_verb = enter-known; same_verb = refl; arguments = say }
+says-new_asset [] key entry is same say = absurd (no-key is)
+says-new_asset (first ∷ others) key entry is same say = record { is_key = is; same_key = same; is_verb = enter-known; same_verb = refl; arguments = say }
 
 -- the first of them that does not fit
-pub refuses-entry : (fields : List (List ℕ)) (e : ReadFault) → IsTrue (is_key (text_at (as_edit fields) 0)) → ReadsNewAsset (as_edit fields) (Err e) → RefusesNewAsset fields e
+pub refuses-new_asset : (fields : List (List ℕ)) (e : ReadFault) → IsTrue (is_key (text_at (as_edit fields) 0)) → ReadsNewAsset (as_edit fields) (Err e) → RefusesNewAsset fields e
 unfolding field_at
-refuses-entry fields fault.Memory key reads = absurd reads
-refuses-entry [] (fault.Field at) key misfit = absurd (no-key key)
-refuses-entry (first ∷ others) (fault.Field at) key misfit = misfit-malformed all_verbs (as_edit (first ∷ others)) (place_of at) key enter-known misfit
+refuses-new_asset fields fault.Memory key reads = absurd reads
+refuses-new_asset [] (fault.Field at) key misfit = absurd (no-key key)
+refuses-new_asset (first ∷ others) (fault.Field at) key misfit = misfit-malformed all_verbs (as_edit (first ∷ others)) (place_of at) key enter-known misfit

@@ -1,7 +1,7 @@
 -- The table of verbs: what the fields of each one say, and the arguments of a command of it.
 use Rattle.std.specs.Prelude.{List, [], ◌∷◌, ◌++◌, Option, Some, None, codes, map, Contains, if◌then◌else◌}
 use Rattle.std.specs.Str.{bytes_eq}
-use Rattle.lrs_measure.specs.Limits.{longest_link, longest_route}
+use Rattle.lrs_measure.specs.Limits.{longest_link, longest_route, greatest_link, greatest_asset, greatest_lateral}
 use Rattle.lrs_position.specs.Expressions.{Ends}
 use Rattle.lrs_position.specs.declared.expression.Expr.{Expr}
 use Rattle.lrs_position.specs.declared.expression.Expr.TheVariants as expression
@@ -26,7 +26,7 @@ pub record Column : Type 0 where
 
 -- an asset's number
 abbrev pub asset_number : Shape
-asset_number = Whole 1 1_000_000_000_000
+asset_number = Whole 1 greatest_asset
 
 -- millimetres from a route's start
 abbrev pub chainage : Shape
@@ -43,7 +43,7 @@ new_asset_columns =
     ∷ record { name = codes "from"; shape = PositionBy field.E }
     ∷ record { name = codes "to"; shape = OrNothing (PositionBy field.E) }
     ∷ record { name = codes "value"; shape = AssetValue }
-    ∷ record { name = codes "offset"; shape = Whole 0 100_000 }
+    ∷ record { name = codes "offset"; shape = Whole 0 greatest_lateral }
     ∷ []
 
 abbrev pub new_asset_shapes : List Shape
@@ -52,7 +52,7 @@ new_asset_shapes = map (λ column. column.shape) new_asset_columns
 -- The verbs that there are.
 abbrev pub verbs : List Verb
 verbs =
-    record { name = codes "link"; shapes = Whole 1 999_999 ∷ Whole 1 longest_link ∷ [] }
+    record { name = codes "link"; shapes = Whole 1 greatest_link ∷ Whole 1 longest_link ∷ [] }
     ∷ record { name = codes "class"; shapes = ClassName ∷ ClassKind ∷ [] }
     ∷ record { name = codes "route"; shapes = RouteName ∷ Pieces ∷ Marks ∷ [] }
     ∷ record { name = codes "ref"; shapes = ReferentName ∷ RouteName ∷ MethodName ∷ PositionBy field.C ∷ [] }

@@ -2,7 +2,7 @@
 use Rattle.std.specs.Prelude.{◌≡◌, ◌==◌, ℕ, ◌≤◌, Bool, if◌then◌else◌, List, [], ◌∷◌, length, codes, slice_index_or, ⊤}
 use Rattle.std.specs.List.{slice_split}
 use Rattle.std.specs.Str.Parse.{IsNumeral, digits_value}
-use Rattle.lrs_measure.specs.Limits.{longest_link, longest_route, greatest_measure}
+use Rattle.lrs_measure.specs.Limits.{longest_link, longest_route, greatest_measure, greatest_link}
 use Rattle.lrs_element.specs.declared.link.Piece.{Piece}
 use Rattle.lrs_element.specs.declared.marks.Mark.{Mark}
 use Rattle.lrs_machine.specs.Lines.{Text}
@@ -33,7 +33,7 @@ sign_text forward = if forward then codes "+" else codes "-"
 -- The word says this piece, as `7:0:5000:+`.
 pub record IsPieceText (word : Text) (p : Piece) : Type 0 where
   pub four : length (parts_of 58 word) ≡ 4
-  pub link : SaysNumber 1 999_999 (part word 0) p.link
+  pub link : SaysNumber 1 greatest_link (part word 0) p.link
   pub from : SaysNumber 0 longest_link (part word 1) p.from
   pub to : SaysNumber 0 longest_link (part word 2) p.to
   pub direction : part word 3 ≡ sign_text p.forward

@@ -109,7 +109,7 @@ pub(crate) fn unref_of(row: &SheetRecord<'_>) -> Result<Command, ReadFault>
     Ok(Command::Unref { name })
 }
 
-/// The fields of an asked.
+/// The fields of a new asset.
 pub(crate) fn new_asset_of(row: &SheetRecord<'_>) -> Result<NewAsset, ReadFault>
     requires { length (edit_fields row.now) ≤ 11 }
     ensures { ReadsNewAsset (edit_fields row.now) result }

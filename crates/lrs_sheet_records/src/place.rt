@@ -5,6 +5,7 @@ ghost use Rattle.lrs_position.specs.Expressions.{are_alike};
 ghost use Rattle.lrs_sheet_records.specs.Kinds.{edit_fields};
 ghost use Rattle.lrs_position.specs.Readings.{method_text};
 ghost use Rattle.lrs_sheet_records.specs.Records as spec;
+ghost use Rattle.lrs_measure.specs.Limits.{greatest_lateral};
 ghost use Rattle.lrs_sheet_records.specs.Shapes;
 ghost use Rattle.lrs_sheet_records.specs.Shapes.{Number, Word, SideOf, MethodOf, At, PiecesOf, PositionBy, OrNothing};
 ghost use Rattle.lrs_sheet_records.specs.Verbs.{asset_number, chainage, or_nothing};
@@ -15,7 +16,7 @@ use crate::shape::{pieces_at, place_of, whole_at};
 use crate::sheet::{SheetRecord, text_at};
 use lrs_events::{Side, Value, read_side};
 use lrs_machine::{AssetNumber, Chainage, Field, LateralOffset, PieceList};
-use lrs_measure::limits::{GREATEST_ASSET, LONGEST_ROUTE};
+use lrs_measure::limits::{GREATEST_ASSET, GREATEST_LATERAL, LONGEST_ROUTE};
 use lrs_position::{EnteredPosition, EventLocation, Method, RefName, read_expr, read_method};
 use std::alloc::Global;
 
@@ -71,9 +72,9 @@ pub(crate) fn chainage_at(row: &SheetRecord<'_>, field: Field) -> Result<Chainag
 
 /// A lateral offset.
 pub(crate) fn offset_at(row: &SheetRecord<'_>, field: Field) -> Result<LateralOffset, ReadFault>
-    ensures { ReadsField (Shapes.Whole 0 100_000) Number (edit_fields row.now) field result }
+    ensures { ReadsField (Shapes.Whole 0 greatest_lateral) Number (edit_fields row.now) field result }
 {
-    match LateralOffset::new(whole_at(row, field, 0, 100_000)? as u32) {
+    match LateralOffset::new(whole_at(row, field, 0, u64::from(GREATEST_LATERAL))? as u32) {
         Some(offset) => Ok(offset),
         None => unreachable!(),
     }

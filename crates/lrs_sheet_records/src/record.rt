@@ -37,7 +37,7 @@ pub fn command_of(alloc: Global, row: &ByteRecord) -> Result<(Key, Command), Rea
     }
 }
 
-/// The key and the asked that a record of a survey, of at most ten fields, says: those of the command `enter`.
+/// The key and the new asset that a record of a survey, of at most ten fields, says: those of the command `enter`.
 ///
 /// # Errors
 ///

@@ -14,11 +14,9 @@ ghost use Rattle.lrs_store.specs.Refused.{IsUnsoundLeft, IsSoundLeft, WasLookedA
 
 use crate::verdict::judge;
 use lrs_image::LoadFault;
-use lrs_store_files::files::{
-    CloseFault, Refusal, Untaken, close_tables, open_tables, open_tables_at,
-};
+use lrs_store_files::{CloseFault, Refusal, Untaken, close_tables, open_tables, open_tables_at};
 use lrs_store_keeper::{ReadImage, Tables};
-use lrs_store_tables::tables::{StoreFault, TableStore};
+use lrs_store_tables::{StoreFault, TableStore};
 use sqlite::{Connection, FileFrom, FileStore, Files, Leftover, Options, Start};
 use sqlite_disk::Disk;
 use std::alloc::Global;

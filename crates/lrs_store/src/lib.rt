@@ -10,6 +10,6 @@ mod trees;
 mod verdict;
 
 pub use files::{Left, NotOpened, close_files, open_file, open_files};
-pub use lrs_store_files::files::{CloseFault, Untaken};
+pub use lrs_store_files::{CloseFault, Untaken};
 pub use lrs_store_keeper::{ReadImage, Tables};
-pub use lrs_store_tables::tables::StoreFault;
+pub use lrs_store_tables::StoreFault;

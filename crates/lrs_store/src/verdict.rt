@@ -12,7 +12,7 @@ ghost use Rattle.lrs_store.specs.Judged.{ListsKnown, HasFound, IsUnsoundThere, I
 
 use crate::rows::read_trees;
 use lrs_image::LoadFault;
-use lrs_store_files::table_list::{Known, wanted, which};
+use lrs_store_files::{Known, wanted, which};
 use lrs_store_keeper::ReadImage;
 use lrs_store_keeper::rows::StoredRows;
 use sqlite_catalog::load::load;

@@ -18,7 +18,7 @@ use lrs_image::Change;
 use sqlite::types::ValueRef;
 use sqlite::{Alter, Error, Transaction};
 
-/// The asset of an route_row.
+/// The asset that a change enters.
 #[derive(Clone, Copy)]
 struct Assets;
 
@@ -309,7 +309,7 @@ fn put_edits<S: Alter>(tx: &mut Transaction<'_, S>, n: u64, entries: &[Change]) 
 }
 
 /// Puts the rows of eight entries. Assets come first, since their origins and spans refer to them. The edit of the first
-/// route_row has this number, each next one more.
+/// change has this number, each next one more.
 pub fn insert_new_assets<S: Alter>(
     tx: &mut Transaction<'_, S>,
     n: u64,

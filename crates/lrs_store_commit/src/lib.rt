@@ -1,15 +1,18 @@
 //! Commits: the changes of some commands, written to the tables of a store by one transaction.
 #![tactic(auto)]
 
-pub mod cells;
-pub mod commit;
-pub mod delete;
-pub mod eight_rows;
-pub mod insert_assets;
-pub mod insert_lists;
-pub mod insert_named;
-pub mod lists;
-pub mod migration;
-pub mod new_assets;
-pub mod routes;
-pub mod update;
+mod cells;
+mod commit;
+mod delete;
+mod eight_rows;
+mod insert_assets;
+mod insert_lists;
+mod insert_named;
+mod lists;
+mod migration;
+mod new_assets;
+mod routes;
+mod update;
+
+pub use commit::write_changes;
+pub use migration::bring_up;

@@ -41,7 +41,7 @@ fn brings_one_asset(difference: &Difference) -> bool
     }
 }
 
-/// Whether the change is an route_row.
+/// Whether the change only enters an asset.
 fn is_new_asset(change: &Change) -> bool
     ensures { IsTrue result → IsNewAsset change.now }
 {

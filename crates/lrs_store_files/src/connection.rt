@@ -12,8 +12,7 @@ ghost use Rattle.lrs_store_tables.specs.Resting.{IsReady};
 ghost use Rattle.lrs_store_files.specs.Opening.{IsTaken, IsFound, LeavesFound, HasOrigins, IsGrown};
 
 use crate::table_list::{Known, wanted, which};
-use lrs_store_tables::new_store::make_store;
-use lrs_store_tables::tables::{StoreFault, TableStore};
+use lrs_store_tables::{StoreFault, TableStore, make_store};
 use sqlite::{Alter, Connection, Error, ErrorCode, Transaction};
 use std::alloc::Global;
 

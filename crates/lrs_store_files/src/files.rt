@@ -11,7 +11,7 @@ ghost use Rattle.lrs_store_tables.specs.Resting.{IsReady};
 ghost use Rattle.lrs_store_files.specs.Found.{HasFound, IsLeftOf};
 
 use crate::connection::{fault_of, over};
-use lrs_store_tables::tables::{StoreFault, TableStore};
+use lrs_store_tables::{StoreFault, TableStore};
 use sqlite::{Connection, Error, ErrorCode, FileFrom, FileStore, Files, Leftover, Options, Start};
 use sqlite_disk::Disk;
 use std::alloc::Global;

@@ -5,7 +5,7 @@ ghost use Rattle.lrs_store_tables.specs.Schema.{inventory};
 ghost use Rattle.lrs_store_tables.specs.Making.{no_schema, up_to_edit};
 
 use crate::comparison::has_only;
-use lrs_store_tables::tables::TableStore;
+use lrs_store_tables::TableStore;
 use sqlite_schema::schema::Schema;
 use std::alloc::{AllocError, Global};
 

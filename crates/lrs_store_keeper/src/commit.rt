@@ -11,7 +11,7 @@ ghost use Rattle.lrs_store_keeper.specs.Holding.{MayHold, HasEdits};
 
 use crate::texts::prove_all_texts;
 use lrs_image::{Change, CommitFailed};
-use lrs_store_commit::commit::write_changes;
+use lrs_store_commit::write_changes;
 use sqlite::{Alter, Connection};
 
 /// Writes changes, of which the first is the edit of this number.

@@ -18,7 +18,7 @@ use crate::memory::new_store;
 use crate::migration::make_second;
 use lrs_image::{Change, CommitFailed, Keeper, LoadFault};
 use lrs_machine::{Image, Table};
-use lrs_store_tables::tables::StoreFault;
+use lrs_store_tables::StoreFault;
 use sqlite::{Alter, Connection, MemStore};
 use std::alloc::Global;
 use std::marker::Model;

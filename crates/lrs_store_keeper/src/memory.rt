@@ -6,8 +6,7 @@ ghost use Rattle.sqlite.specs.Held.{state};
 ghost use Rattle.sqlite.specs.Steps.{over_memory};
 ghost use Rattle.lrs_store_tables.specs.Starting.{IsNew};
 
-use lrs_store_tables::new_store::make_store;
-use lrs_store_tables::tables::StoreFault;
+use lrs_store_tables::{StoreFault, make_store};
 use sqlite::{Connection, Error, ErrorCode, MemStore};
 use std::alloc::Global;
 

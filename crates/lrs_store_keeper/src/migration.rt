@@ -14,7 +14,7 @@ ghost use Rattle.lrs_store_keeper.specs.Opening.{HoldsImage, IsSecond, HasVersio
 use crate::image::{ReadImage, is_second, read_alone, read_fault};
 use lrs_image::LoadFault;
 use lrs_machine::Image;
-use lrs_store_commit::migration::bring_up;
+use lrs_store_commit::bring_up;
 use lrs_store_tables::select::read_versions;
 use sqlite::{Alter, Connection, Error, Row};
 use std::alloc::Global;

@@ -1,10 +1,13 @@
 //! The tables of a store: created, read, and their rows decoded.
 #![tactic(auto)]
 
-pub mod create;
+mod create;
 pub mod decode;
 pub mod insert;
-pub mod new_store;
+mod new_store;
 pub mod number;
 pub mod select;
-pub mod tables;
+mod tables;
+
+pub use new_store::make_store;
+pub use tables::{StoreFault, TableStore};

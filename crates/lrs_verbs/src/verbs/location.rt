@@ -1,4 +1,4 @@
-//! What an asked asks for: the checks that `enter` and `supersede` share.
+//! Where a new asset is to be: the checks that `enter` and `supersede` share.
 
 ghost use Rattle.std.specs.Prelude.{IfErr, ◌≡◌, ◌||◌, IfOk};
 ghost use Rattle.lrs_machine.specs.Machine.{is_wrong_kind};
@@ -15,7 +15,7 @@ use lrs_position::EventLocation;
 /// takes the places of others, only exclusive classes are taken.
 ///
 /// # Errors
-/// The first check of the asked that fails.
+/// The first check of the new asset that fails.
 pub fn wanted_of<'a>(
     inventory: &'a Inventory,
     asked: &NewAsset,
