@@ -48,12 +48,12 @@ over_found m r (y ∷ ys) apart (inr k) on =
 
 -- The referent of the name is one of this route, which runs over its millimetre.
 pub record IsOfRoute (name : Name) (place : Millimetre) (i : Image) : Type 0 where
-  pub entry : RouteRow
-  pub known : In entry i.routes
+  pub route_row : RouteRow
+  pub known : In route_row i.routes
   pub ref : Referent
-  pub own : In ref entry.route.refs
+  pub own : In ref route_row.route.refs
   pub named : ref.name ≡ name
-  pub over : route_on i.routes place ≡ Some entry.route.name
+  pub over : route_on i.routes place ≡ Some route_row.route.name
 
 pub of_route : (name : Name) (place : Millimetre) (i : Image) → IsSound i → (state_of i).referents name ≡ Some place → IsOfRoute name place i
 unfolding state_of
@@ -61,7 +61,7 @@ of_route name place i s h =
     let there = flat_map_found referents_on (name, place) i.routes (find_found exact_bytes name place (flat_map referents_on i.routes) h) in
     let row = row_of there.0.route.course there.0.route.refs name place there.2 in
     record {
-      entry = there.0;
+      route_row = there.0;
       known = there.1;
       ref = row.ref;
       own = row.is;
@@ -138,7 +138,7 @@ module _ (name : Name) (place : Millimetre) (i : Image) (s : IsSound i) (h : (st
   on = of_route name place i s h
 
   abbrev r : RouteRow
-  r = on.entry
+  r = on.route_row
 
   within : Referent → Bool
   within q = nat_lt q.at (length r.route.course)
