@@ -3,11 +3,13 @@
 #![tactic(auto)]
 
 mod columns;
+mod known_rows;
 pub mod laws;
 mod lookups;
 mod segmentation;
 mod strip_text;
 mod sweep;
 
+pub use known_rows::KnownRows;
 pub use segmentation::segments;
-pub use strip_text::strip;
+pub use strip_text::{strip, strip_of};
