@@ -1,7 +1,8 @@
-//! Linear segments of a route by one sweep over the rows of its classes, and the strip that shows them (ISO 19148: linear
-//! segment).
+//! Linear segments of a route by one sweep over the rows of its classes, the strip that shows them (ISO 19148: linear segment),
+//! and totals of classes by one pass over the rows of an inventory.
 #![tactic(auto)]
 
+mod class_totals;
 mod columns;
 mod known_rows;
 pub mod laws;
@@ -9,7 +10,9 @@ mod lookups;
 mod segmentation;
 mod strip_text;
 mod sweep;
+mod tally;
 
+pub use class_totals::totals;
 pub use known_rows::KnownRows;
 pub use segmentation::segments;
 pub use strip_text::{strip, strip_of};
