@@ -9,7 +9,7 @@ use crate::{AtAnswer, FoundRow, Told};
 use lrs_machine::{Hit, Total};
 use lrs_measure::{Frac, Metres};
 use lrs_position::{Expr, Route, RouteName};
-use lrs_report::strip;
+use lrs_report::strip_of;
 use std::io;
 use std::io::Write;
 
@@ -152,7 +152,7 @@ pub fn write_told<W: Write>(writer: &mut W, told: &Told) -> io::Result<()>
             segments,
         } => {
             let classes = classes.as_slice();
-            strip(writer, route, *side, *length, classes, segments.as_slice())
+            strip_of(writer, route, *side, *length, classes, segments.as_slice())
         }
         Told::Translated { position, .. } => write_expression(writer, *position),
         Told::OnLink { link, distance, .. } => write_link_position(writer, *link, *distance),

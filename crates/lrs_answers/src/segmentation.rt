@@ -43,10 +43,10 @@ pub fn segments(
 {
     match route_of(kept, route) {
         Some(row) => {
-            let len = row.route.length();
+            let spans = &row.spans;
             let assets = &kept.assets;
             let classes = &kept.classes;
-            match lrs_report::segments(alloc, len, &row.spans, assets, classes, wanted, side) {
+            match lrs_report::segments(alloc, &row.route, spans, assets, classes, wanted, side) {
                 Ok(found) => Ok(Rows::from_vec(found)),
                 Err(fault) => Err(asked_fault(fault)),
             }

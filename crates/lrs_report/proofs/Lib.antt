@@ -6,3 +6,5 @@ pub mod Faults
 pub mod Lanes
 pub mod Writing
 pub mod States
+pub mod Keyed
+pub mod Tallied

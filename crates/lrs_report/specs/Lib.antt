@@ -3,3 +3,5 @@ pub mod Sweep
 pub mod Along
 pub mod InState
 pub mod Strips
+pub mod ListTotals
+pub mod Tally

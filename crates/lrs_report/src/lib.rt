@@ -1,13 +1,18 @@
-//! Linear segments of a route by one sweep over the rows of its classes, and the strip that shows them (ISO 19148: linear
-//! segment).
+//! Linear segments of a route by one sweep over the rows of its classes, the strip that shows them (ISO 19148: linear segment),
+//! and totals of classes by one pass over the rows of an inventory.
 #![tactic(auto)]
 
+mod class_totals;
 mod columns;
+mod known_rows;
 pub mod laws;
 mod lookups;
 mod segmentation;
 mod strip_text;
 mod sweep;
+mod tally;
 
+pub use class_totals::totals;
+pub use known_rows::KnownRows;
 pub use segmentation::segments;
-pub use strip_text::strip;
+pub use strip_text::{strip, strip_of};

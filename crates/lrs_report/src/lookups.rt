@@ -5,10 +5,11 @@ ghost use Rattle.lrs_measure.specs.Lists.{each_two};
 ghost use Rattle.lrs_machine.specs.Sound.{asset_before, class_before};
 ghost use Rattle.lrs_machine.specs.Segments.{is_class, is_exclusive, is_exclusive_class, segment_fault};
 ghost use Rattle.lrs_report.specs.Along.{asset_value};
+ghost use Rattle.lrs_report.specs.ListTotals.{asset_class};
 
+use crate::known_rows::KnownRows;
 use lrs_events::{Asset, Class, ClassName, Kind, Side, Value};
 use lrs_machine::SegFault;
-use lrs_ordered::Chunked;
 
 fn is_exclusive(kind: Kind) -> bool
     ensures { result ≡ is_exclusive kind }
@@ -20,40 +21,40 @@ fn is_exclusive(kind: Kind) -> bool
 }
 
 /// Whether there is a class of this name.
-fn is_class(classes: &Chunked<Class>, name: &ClassName) -> bool
-    requires { each_two class_before classes.now.rows ≡ true }
-    ensures { result ≡ is_class classes.now.rows name.now }
+fn is_class<C: KnownRows<Class, ClassName>>(classes: &C, name: &ClassName) -> bool
+    requires { each_two class_before (C.rows classes.now) ≡ true }
+    ensures { result ≡ is_class (C.rows classes.now) name.now }
 {
-    match classes.find(name) {
+    match classes.row(name) {
         Some(_) => true,
         None => false,
     }
 }
 
 /// Whether there is an exclusive class of this name.
-fn is_exclusive_class(classes: &Chunked<Class>, name: &ClassName) -> bool
-    requires { each_two class_before classes.now.rows ≡ true }
-    ensures { result ≡ is_exclusive_class classes.now.rows name.now }
+fn is_exclusive_class<C: KnownRows<Class, ClassName>>(classes: &C, name: &ClassName) -> bool
+    requires { each_two class_before (C.rows classes.now) ≡ true }
+    ensures { result ≡ is_exclusive_class (C.rows classes.now) name.now }
 {
-    match classes.find(name) {
+    match classes.row(name) {
         Some(class) => is_exclusive(class.kind),
         None => false,
     }
 }
 
 /// The first class asked for that is not there.
-fn first_unknown(classes: &Chunked<Class>, wanted: &[ClassName]) -> Option<usize>
-    requires { each_two class_before classes.now.rows ≡ true }
-    ensures { result ≡ position (λ name. not (is_class classes.now.rows name)) wanted.now }
+fn first_unknown<C: KnownRows<Class, ClassName>>(classes: &C, wanted: &[ClassName]) -> Option<usize>
+    requires { each_two class_before (C.rows classes.now) ≡ true }
+    ensures { result ≡ position (λ name. not (is_class (C.rows classes.now) name)) wanted.now }
 {
     wanted.iter().position(|name| !is_class(classes, name))
 }
 
 /// The first class asked for that is not exclusive.
-fn first_shared(classes: &Chunked<Class>, wanted: &[ClassName]) -> Option<usize>
-    requires { each_two class_before classes.now.rows ≡ true }
+fn first_shared<C: KnownRows<Class, ClassName>>(classes: &C, wanted: &[ClassName]) -> Option<usize>
+    requires { each_two class_before (C.rows classes.now) ≡ true }
     ensures { result ≡ position (λ name.
-        not (is_exclusive_class classes.now.rows name)) wanted.now }
+        not (is_exclusive_class (C.rows classes.now) name)) wanted.now }
 {
     wanted
         .iter()
@@ -61,13 +62,13 @@ fn first_shared(classes: &Chunked<Class>, wanted: &[ClassName]) -> Option<usize>
 }
 
 /// Why the segments of these classes on this side are refused.
-pub(crate) fn fault_of(
-    classes: &Chunked<Class>,
+pub(crate) fn fault_of<C: KnownRows<Class, ClassName>>(
+    classes: &C,
     wanted: &[ClassName],
     side: Side,
 ) -> Option<SegFault>
-    requires { each_two class_before classes.now.rows ≡ true }
-    ensures { result ≡ segment_fault classes.now.rows wanted.now side }
+    requires { each_two class_before (C.rows classes.now) ≡ true }
+    ensures { result ≡ segment_fault (C.rows classes.now) wanted.now side }
 {
     if let Some(i) = first_unknown(classes, wanted) {
         return Some(SegFault::NoClass(i as u64));
@@ -82,12 +83,23 @@ pub(crate) fn fault_of(
 }
 
 /// The value of the asset of a number.
-pub(crate) fn asset_value(assets: &Chunked<Asset>, number: u64) -> Option<Value>
-    requires { each_two asset_before assets.now.rows ≡ true }
-    ensures { result ≡ asset_value assets.now.rows number }
+pub(crate) fn asset_value<A: KnownRows<Asset, u64>>(assets: &A, number: u64) -> Option<Value>
+    requires { each_two asset_before (A.rows assets.now) ≡ true }
+    ensures { result ≡ asset_value (A.rows assets.now) number }
 {
-    match assets.find(&number) {
+    match assets.row(&number) {
         Some(asset) => Some(asset.value),
+        None => None,
+    }
+}
+
+/// The class of the asset of a number.
+pub(crate) fn asset_class<A: KnownRows<Asset, u64>>(assets: &A, number: u64) -> Option<ClassName>
+    requires { each_two asset_before (A.rows assets.now) ≡ true }
+    ensures { result ≡ asset_class (A.rows assets.now) number }
+{
+    match assets.row(&number) {
+        Some(asset) => Some(asset.class),
         None => None,
     }
 }

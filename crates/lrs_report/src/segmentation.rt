@@ -1,6 +1,6 @@
 //! The segments of a route, from the lanes of the classes asked for.
 
-ghost use Rattle.std.specs.Prelude.{◌≡◌, ℕ, ◌<◌, ◌++◌, true, map, IfOk, OnOk};
+ghost use Rattle.std.specs.Prelude.{◌≡◌, ℕ, ◌<◌, ◌++◌, true, length, map, IfOk, OnOk};
 ghost use Rattle.std.specs.List.{AllByRecursion, list_all};
 ghost use Rattle.lrs_measure.specs.Lists.{each_two};
 ghost use Rattle.lrs_events.specs.declared.side.LinkSide.{LinkSide as DeclaredSide};
@@ -12,12 +12,13 @@ ghost use Rattle.lrs_report.specs.Columns.{IsColumn, gap, value_at, values_at};
 ghost use Rattle.lrs_report.specs.Sweep.{run_of};
 
 use crate::columns::{Column, ValueStretch};
+use crate::known_rows::KnownRows;
 use crate::lookups::{asset_value, fault_of};
 use crate::sweep::sweep;
 use lrs_events::{Asset, Class, ClassName, LinkSide, Side, Span};
 use lrs_events_spans::Spans;
 use lrs_machine::{SegFault, Segment};
-use lrs_ordered::Chunked;
+use lrs_position::Route;
 use std::alloc::{AllocError, Global};
 
 /// Adds the stretch between two chainages, if there is something between them.
@@ -31,17 +32,17 @@ fn push_gap(stretches: &mut Vec<ValueStretch>, from: u64, to: u64) -> Result<(),
 }
 
 /// The stretches of rows that follow one another, and those between them.
-fn stretches_of(
+fn stretches_of<A: KnownRows<Asset, u64>>(
     alloc: Global,
     rows: &[Span],
-    assets: &Chunked<Asset>,
+    assets: &A,
     len: u64,
 ) -> Result<Vec<ValueStretch>, AllocError>
-    requires order { each_two asset_before assets.now.rows ≡ true }
+    requires order { each_two asset_before (A.rows assets.now) ≡ true }
     requires rows { FollowOn 0 len rows.now }
     ensures column { IfOk result (λ found. IsColumn 0 len found.items) }
     ensures values { IfOk result (λ found. (j : ℕ) → j < len
-        → value_at found.items j ≡ row_value assets.now.rows rows.now j) }
+        → value_at found.items j ≡ row_value (A.rows assets.now) rows.now j) }
 {
     let mut stretches = Vec::new(alloc);
     let mut from = 0;
@@ -58,20 +59,20 @@ fn stretches_of(
 }
 
 /// What a class has along a route on one side, where no two of its assets hold one millimetre.
-fn column_of(
+fn column_of<A: KnownRows<Asset, u64>>(
     alloc: Global,
     class: ClassName,
     side: LinkSide,
     spans: &Spans,
-    assets: &Chunked<Asset>,
+    assets: &A,
     len: u64,
 ) -> Result<Column, AllocError>
-    requires order { each_two asset_before assets.now.rows ≡ true }
-    requires rows { list_all (is_span assets.now.rows len) spans.now ≡ true }
+    requires order { each_two asset_before (A.rows assets.now) ≡ true }
+    requires rows { list_all (is_span (A.rows assets.now) len) spans.now ≡ true }
     requires one { HasOneHolder spans.now class }
     ensures column { IfOk result (λ column. IsColumn 0 len column) }
     ensures values { IfOk result (λ column. (j : ℕ) → j < len
-        → value_at column j ≡ value_of assets.now.rows (is_holder spans.now side j) class) }
+        → value_at column j ≡ value_of (A.rows assets.now) (is_holder spans.now side j) class) }
 {
     // For the prover alone: what its contract says is known from here on.
     let _canonical = spans.rows();
@@ -81,20 +82,20 @@ fn column_of(
 }
 
 /// What each of these classes has along a route on one side.
-fn columns_of(
+fn columns_of<A: KnownRows<Asset, u64>>(
     alloc: Global,
     wanted: &[ClassName],
     side: LinkSide,
     spans: &Spans,
-    assets: &Chunked<Asset>,
+    assets: &A,
     len: u64,
 ) -> Result<Vec<Column>, AllocError>
-    requires order { each_two asset_before assets.now.rows ≡ true }
-    requires rows { list_all (is_span assets.now.rows len) spans.now ≡ true }
+    requires order { each_two asset_before (A.rows assets.now) ≡ true }
+    requires rows { list_all (is_span (A.rows assets.now) len) spans.now ≡ true }
     requires one { AllByRecursion (HasOneHolder spans.now) wanted.now }
     ensures columns { IfOk result (λ columns. AllByRecursion (IsColumn 0 len) columns.items) }
     ensures values { IfOk result (λ columns. (j : ℕ) → j < len
-        → values_at columns.items j ≡ values_of assets.now.rows wanted.now
+        → values_at columns.items j ≡ values_of (A.rows assets.now) wanted.now
         (is_holder spans.now side j)) }
 {
     let mut columns = Vec::with_capacity(alloc, wanted.len())?;
@@ -105,49 +106,53 @@ fn columns_of(
 }
 
 /// The segments of these classes on one side of a route.
-fn segments_on(
+fn segments_on<A: KnownRows<Asset, u64>>(
     alloc: Global,
     wanted: &[ClassName],
     side: LinkSide,
     spans: &Spans,
-    assets: &Chunked<Asset>,
+    assets: &A,
     len: u64,
 ) -> Result<Vec<Segment>, AllocError>
-    requires order { each_two asset_before assets.now.rows ≡ true }
-    requires rows { list_all (is_span assets.now.rows len) spans.now ≡ true }
+    requires order { each_two asset_before (A.rows assets.now) ≡ true }
+    requires rows { list_all (is_span (A.rows assets.now) len) spans.now ≡ true }
     requires one { AllByRecursion (HasOneHolder spans.now) wanted.now }
     ensures { IfOk result (λ found. map run_of found.items
-        ≡ segments_of assets.now.rows wanted.now (holders_along spans.now side len)) }
+        ≡ segments_of (A.rows assets.now) wanted.now (holders_along spans.now side len)) }
 {
     let columns = columns_of(alloc, wanted, side, spans, assets, len)?;
     sweep(alloc, columns, len)
 }
 
-/// The segments of a route of this length on one side of it: the maximal runs of its millimetres over which each class asked
-/// for has one value or none. They follow one another from the route's start to its end, also where no class has a value.
+/// The segments of a route on one side of it, seen along the route (ISO 19148: linear segment): the maximal runs of its
+/// millimetres over which each class asked for has one value or none. They follow one another from the route's start to its
+/// end, in millimetres of chainage, also where no class has a value.
 ///
 /// The assets are those of the inventory, in the order of their numbers, and the classes in the order of their names; each row
 /// of the route lies on it and is of a known asset and of its class, and of an exclusive class no two assets hold one
 /// millimetre on one side, as in each sound inventory.
 ///
 /// # Errors
-/// Those that `segment_fault` names, before any memory is taken, and `Memory`.
-pub fn segments(
+/// `NoClass` of the first class asked for that is not there, else `NotExclusive` of the first that is not exclusive, each by
+/// its place in `wanted`, else `SideB` for both sides, all before any memory is taken; and `Memory`.
+pub fn segments<A: KnownRows<Asset, u64>, C: KnownRows<Class, ClassName>>(
     alloc: Global,
-    len: u64,
+    route: &Route,
     spans: &Spans,
-    assets: &Chunked<Asset>,
-    classes: &Chunked<Class>,
+    assets: &A,
+    classes: &C,
     wanted: &[ClassName],
     side: Side,
 ) -> Result<Vec<Segment>, SegFault>
-    requires assets_order { each_two asset_before assets.now.rows ≡ true }
-    requires classes_order { each_two class_before classes.now.rows ≡ true }
-    requires rows { list_all (is_span assets.now.rows len) spans.now ≡ true }
-    requires exclusive { AreExclusive classes.now.rows spans.now }
-    ensures { IsAnswer (segment_fault classes.now.rows wanted.now side) (λ found.
+    requires assets_order { each_two asset_before (A.rows assets.now) ≡ true }
+    requires classes_order { each_two class_before (C.rows classes.now) ≡ true }
+    requires rows { list_all (is_span (A.rows assets.now) (length route.now.course)) spans.now
+        ≡ true }
+    requires exclusive { AreExclusive (C.rows classes.now) spans.now }
+    ensures { IsAnswer (segment_fault (C.rows classes.now) wanted.now side) (λ found.
         (s : DeclaredSide) → side ≡ one_side s → map run_of found.items
-        ≡ segments_of assets.now.rows wanted.now (holders_along spans.now s len)) result }
+        ≡ segments_of (A.rows assets.now) wanted.now (holders_along spans.now s
+        (length route.now.course))) result }
 {
     if let Some(fault) = fault_of(classes, wanted, side) {
         return Err(fault);
@@ -157,7 +162,7 @@ pub fn segments(
         Side::R => LinkSide::Right,
         Side::B => return Err(SegFault::SideB),
     };
-    match segments_on(alloc, wanted, on, spans, assets, len) {
+    match segments_on(alloc, wanted, on, spans, assets, route.length()) {
         Ok(found) => Ok(found),
         Err(AllocError) => Err(SegFault::Memory),
     }

@@ -1,6 +1,6 @@
 //! The strip of segments, written without taking memory.
 
-ghost use Rattle.std.specs.Prelude.{◌≡◌, ◌∷◌, ◌++◌, [], map, OnOk};
+ghost use Rattle.std.specs.Prelude.{◌≡◌, ◌∷◌, ◌++◌, [], length, map, OnOk};
 ghost use Rattle.std.specs.List.{flat_map};
 ghost use Rattle.std.specs.Io.KnownBytes.{Appends};
 ghost use Rattle.lrs_measure.specs.Printing.{metres_text};
@@ -9,7 +9,7 @@ ghost use Rattle.lrs_report.specs.Strips.{aligned, columns_text, title_text, hea
 use lrs_events::{ClassName, Side, Value};
 use lrs_machine::Segment;
 use lrs_measure::Metres;
-use lrs_position::RouteName;
+use lrs_position::{Route, RouteName};
 use std::io;
 use std::io::Write;
 
@@ -121,23 +121,42 @@ fn write_segments<W: Write>(writer: &mut W, segments: &[Segment]) -> io::Result<
     Ok(())
 }
 
-/// Writes the strip of a route's segments: a title with the route, its side and its length, a heading with the classes asked
-/// for, and a line for each segment. It takes no memory beyond the writer's; the writer is not flushed.
+/// Writes the strip of segments of a route that has this name and this length in millimetres: a title with the name, the side
+/// and the length in metres, a heading with the classes asked for, and a line for each segment. It takes no memory beyond the
+/// writer's; the writer is not flushed.
 ///
 /// # Errors
 /// That of the writer. Part of the strip may be written then.
-pub fn strip<W: Write>(
+pub fn strip_of<W: Write>(
     writer: &mut W,
-    route: &RouteName,
+    name: &RouteName,
     side: Side,
     len: u64,
     wanted: &[ClassName],
     segments: &[Segment],
 ) -> io::Result<()>
     ensures { OnOk result (Appends (W.contents writer.old) (W.contents writer.new)
-        (strip_text route.now side len wanted.now segments.now)) }
+        (strip_text name.now side len wanted.now segments.now)) }
 {
-    write_title(writer, route, side, len)?;
+    write_title(writer, name, side, len)?;
     write_heading(writer, wanted)?;
     write_segments(writer, segments)
+}
+
+/// Writes the strip of a route's segments on one side (ISO 19148: linear segments), as `strip_of` does with the name and the
+/// length of the route. Chainages and the length are in metres.
+///
+/// # Errors
+/// That of the writer. Part of the strip may be written then.
+pub fn strip<W: Write>(
+    route: &Route,
+    side: Side,
+    wanted: &[ClassName],
+    segments: &[Segment],
+    writer: &mut W,
+) -> io::Result<()>
+    ensures { OnOk result (Appends (W.contents writer.old) (W.contents writer.new)
+        (strip_text route.now.name side (length route.now.course) wanted.now segments.now)) }
+{
+    strip_of(writer, &route.name, side, route.length(), wanted, segments)
 }

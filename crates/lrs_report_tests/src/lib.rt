@@ -5,6 +5,8 @@
 mod calls;
 pub mod draws;
 #[cfg(test)]
+mod route;
+#[cfg(test)]
 mod segments;
 #[cfg(test)]
 mod segments_memory;

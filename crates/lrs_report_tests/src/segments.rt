@@ -2,14 +2,18 @@
 
 ghost use Rattle.std.specs.Prelude.{◌≡◌, ◌∷◌, [], IfOk};
 
+use super::route::route;
 use lrs_events::{Asset, Class, ClassName, Kind, Side, Span, Value};
 use lrs_events_spans::Spans;
 use lrs_machine::{SegFault, Segment};
 use lrs_ordered::Chunked;
-use lrs_position::RouteName;
 use lrs_report::{segments, strip};
 use std::alloc::{AllocError, AllocGlobal, Global};
 use std::process::Abort;
+
+/// The strip of the right side.
+const RIGHT: &str =
+    "STRIP A1 R 8.000\n        FROM           TO        SPEED\n       0.000        2.500            -\n       2.500        4.000           80\n       4.000        6.000            -\n       6.000        8.000           80\n";
 
 /// A stretch of asset 10 on the right.
 fn stretch(class: ClassName, from: u64, to: u64) -> Span
@@ -104,7 +108,26 @@ pub(super) fn segments_of(
     let spans = spans_of(rt, class);
     let assets = assets_of(rt, class, value);
     let classes = classes_of(rt, class, kind);
-    segments(alloc, 8000, &spans, &assets, &classes, wanted, side)
+    let route = route(rt);
+    segments(alloc, &route, &spans, &assets, &classes, wanted, side)
+}
+
+/// Those segments on the right, with assets and classes in slices.
+fn segments_by_slices(
+    rt: &(impl Abort + AllocGlobal),
+    class: ClassName,
+    value: Value,
+    assets: &[Asset],
+    classes: &[Class],
+) -> Result<Vec<Segment>, SegFault>
+    requires assets { assets.now
+        ≡ record { number = 10; class = class; value = value; lateral = 0; entered_by = 1 } ∷ [] }
+    requires classes { classes.now ≡ record { name = class; kind = Kind.Exclusive } ∷ [] }
+{
+    let alloc = rt.alloc();
+    let route = route(rt);
+    let spans = spans_of(rt, class);
+    segments(alloc, &route, &spans, &assets, &classes, &[class], Side::R)
 }
 
 /// The strip of such segments.
@@ -114,20 +137,18 @@ fn strip_of(
     wanted: &[ClassName],
     side: Side,
 ) -> Vec<u8> {
-    let route = RouteName::new(b"A1").expect(rt, "a route name");
+    let route = route(rt);
     let mut written = Vec::new(rt.alloc());
-    strip(&mut written, &route, side, 8000, wanted, found).expect(rt, "memory");
+    strip(&route, side, wanted, found, &mut written).expect(rt, "memory");
     written
 }
 
 #[test]
 fn each_side_has_its_strip(rt: HostRuntime) {
     let wanted = [name(&rt, b"SPEED")];
-    let right =
-        "STRIP A1 R 8.000\n        FROM           TO        SPEED\n       0.000        2.500            -\n       2.500        4.000           80\n       4.000        6.000            -\n       6.000        8.000           80\n";
     let left =
         "STRIP A1 L 8.000\n        FROM           TO        SPEED\n       0.000        8.000            -\n";
-    for (side, text) in [(Side::R, right), (Side::L, left)] {
+    for (side, text) in [(Side::R, RIGHT), (Side::L, left)] {
         let found = segments_of(&rt, Kind::Exclusive, &wanted, side).expect(&rt, "segments");
         let written = strip_of(&rt, &found, &wanted, side);
         assert_eq!(rt; written.as_slice(), text.as_bytes());
@@ -157,7 +178,7 @@ fn a_route_without_assets_has_one_segment(rt: HostRuntime) {
     let assets = Chunked::new(rt.alloc());
     let found = segments(
         rt.alloc(),
-        8000,
+        &route(&rt),
         &spans,
         &assets,
         &classes,
@@ -169,6 +190,26 @@ fn a_route_without_assets_has_one_segment(rt: HostRuntime) {
     let text =
         "STRIP A1 L 8.000\n        FROM           TO        SPEED\n       0.000        8.000            -\n";
     assert_eq!(rt; written.as_slice(), text.as_bytes());
+}
+
+#[test]
+fn tables_can_be_slices(rt: HostRuntime) {
+    let speed = name(&rt, b"SPEED");
+    let value = Value::new(b"80").expect(&rt, "a value");
+    let classes = [Class {
+        name: speed,
+        kind: Kind::Exclusive,
+    }];
+    let assets = [Asset {
+        number: 10,
+        class: speed,
+        value,
+        lateral: 0,
+        entered_by: 1,
+    }];
+    let found = segments_by_slices(&rt, speed, value, &assets, &classes).expect(&rt, "segments");
+    let written = strip_of(&rt, &found, &[speed], Side::R);
+    assert_eq!(rt; written.as_slice(), RIGHT.as_bytes());
 }
 
 #[test]

@@ -1,6 +1,3 @@
-use Rattle.std.proofs.Common.{◌≡◌, true, sym, subst}
-use Rattle.std.specs.List.{list_all}
-use Rattle.lrs_machine.specs.Sound.{is_span}
 use Rattle.lrs_image.specs.Kept.{image_of}
 use Rattle.lrs_image.proofs.Tables.{assets_in_order, classes_in_order}
 use Rattle.lrs_answers.proofs.Asked.{route_in}
@@ -17,7 +14,7 @@ pub segments-requires-clause-rows : goal.segments-requires-clause-rows
 segments-requires-clause-rows c =
     let i = image_of c.args.kept.now in
     let r = c.in-Some.row.now in
-    subst (λ len. list_all (is_span i.assets len) r.spans ≡ true) (sym c.length-len.ensures.length) (rows_fit i r c.requires.sound (route_in i r c.in-Some.ensures.known))
+    rows_fit i r c.requires.sound (route_in i r c.in-Some.ensures.known)
 
 pub segments-requires-clause-exclusive : goal.segments-requires-clause-exclusive
 segments-requires-clause-exclusive c =
@@ -28,7 +25,7 @@ segments-requires-clause-exclusive c =
 pub returns-in-Ok : goal.returns-in-Ok
 returns-in-Ok c =
     segments_found (image_of c.args.kept.now) c.args.route.now c.in-Some.row.now c.args.wanted.now c.args.side c.requires.sound c.in-Some.ensures.known c.in-Some.ensures.route
-    c.in-Ok.found (λ found. found.items) c.length-len.result c.from_vec.result c.length-len.ensures.length c.from_vec.ensures c.in-Ok.ensures
+    c.in-Ok.found (λ found. found.items) c.from_vec.result c.from_vec.ensures c.in-Ok.ensures
 
 pub returns-in-Err : goal.returns-in-Err
 returns-in-Err c =

@@ -4,8 +4,8 @@ use Rattle.lrs_report.proofs.Lanes.{lane_follows, lane_values}
 use Rattle.lrs_report.proofs.segmentation.column_of.Goals as goal
 
 pub stretches_of-requires-clause-rows : goal.stretches_of-requires-clause-rows
-stretches_of-requires-clause-rows c =
-    lane_follows c.args.assets.now.rows c.args.spans.now c.lane-lane.result.now c.args.class c.args.side c.args.len (record {
+stretches_of-requires-clause-rows g c =
+    lane_follows (g.A.KnownRows.rows c.args.assets.now) c.args.spans.now c.lane-lane.result.now c.args.class c.args.side c.args.len (record {
       kept = c.rows-canonical.ensures.canonical;
       known = c.requires.rows;
       assets_order = c.requires.order;
@@ -15,8 +15,8 @@ stretches_of-requires-clause-rows c =
     })
 
 pub returns-clause-values : goal.returns-clause-values
-returns-clause-values c = λ j h.
-    let tells = lane_values c.args.assets.now.rows c.args.spans.now c.lane-lane.result.now c.args.class c.args.side c.args.len (record {
+returns-clause-values g c = λ j h.
+    let tells = lane_values (g.A.KnownRows.rows c.args.assets.now) c.args.spans.now c.lane-lane.result.now c.args.class c.args.side c.args.len (record {
       kept = c.rows-canonical.ensures.canonical;
       known = c.requires.rows;
       assets_order = c.requires.order;

@@ -1,22 +1,10 @@
--- All rows are of one asset.
-use Rattle.std.proofs.Common.{◌≡◌, ℕ, true, List, sym, ap, ◌∙◌}
+use Rattle.std.proofs.Common.{ap}
 use Rattle.std.specs.Prelude.{nat_eq}
 use Rattle.std.specs.List.{list_all}
-use Rattle.std.proofs.lemmas.Bool.{eqb-true}
-use Rattle.lrs_measure.specs.Texts.{Name}
-use Rattle.lrs_events.specs.declared.side.LinkSide.{LinkSide}
 use Rattle.lrs_events.specs.declared.span.Span.{Span}
-use Rattle.lrs_events.specs.Members.{has_member, is_member}
-use Rattle.lrs_events_rows.proofs.Members.{any_found, all_at}
-use Rattle.lrs_events_rows.proofs.Unique.{over}
+use Rattle.lrs_report_tests.proofs.OneAsset.{one_holder}
 use Rattle.lrs_report_tests.proofs.segments.segments_of.Goals as goal
 
-its_asset : (rows : List Span) (n : ℕ) → list_all (λ r. nat_eq r.asset n) rows ≡ true → (class : Name) (a j : ℕ) (side : LinkSide) → is_member rows class a j side ≡ true → a ≡ n
-its_asset rows n h class a j side m =
-    let found = any_found (λ r. has_member r class a j side) rows m in
-    sym (over found.0 class a j side found.2).of_asset ∙ eqb-true found.0.asset n (all_at (λ r. nat_eq r.asset n) found.0 rows h found.1)
-
 pub segments-requires-clause-exclusive : goal.segments-requires-clause-exclusive
-segments-requires-clause-exclusive g c = λ class e a b j side m n.
-    let all = ap (list_all (λ (r : Span). nat_eq r.asset 10)) c.spans_of-spans.ensures in
-    its_asset c.spans_of-spans.result 10 all class a j side m ∙ sym (its_asset c.spans_of-spans.result 10 all class b j side n)
+segments-requires-clause-exclusive g c = λ class e.
+    one_holder c.spans_of-spans.result 10 (ap (list_all (λ (r : Span). nat_eq r.asset 10)) c.spans_of-spans.ensures) class
