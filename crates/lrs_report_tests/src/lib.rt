@@ -18,3 +18,5 @@ mod spans;
 mod spans_memory;
 #[cfg(test)]
 mod table;
+#[cfg(test)]
+mod totals;

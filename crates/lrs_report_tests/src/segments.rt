@@ -91,7 +91,9 @@ fn classes_of(rt: &(impl Abort + AllocGlobal), name: ClassName, kind: Kind) -> C
     }
 }
 
-pub(super) fn name(rt: &impl Abort, text: &[u8]) -> ClassName {
+pub(super) fn name(rt: &impl Abort, text: &[u8]) -> ClassName
+    ensures { result ≡ text.now }
+{
     ClassName::new(text).expect(rt, "a class name")
 }
 
