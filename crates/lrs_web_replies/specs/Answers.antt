@@ -37,9 +37,9 @@ hit_data h = with (
 
 -- the millimetre at of a route, the millimetre of a link that it is, and who holds it
 abbrev pub at_data : Name → ℕ → Ground → List Hit → Data
-at_data route at ground hits = with (
-    (codes "at", whole at) ∷ (codes "dir", string (direction_text ground.forward)) ∷ (codes "hits", each hit_data hits)
-    ∷ (codes "link", whole ground.link) ∷ (codes "mm", whole ground.mm) ∷ (codes "route", string route) ∷ []
+at_data route at here hits = with (
+    (codes "at", whole at) ∷ (codes "dir", string (direction_text here.forward)) ∷ (codes "hits", each hit_data hits)
+    ∷ (codes "link", whole here.link) ∷ (codes "mm", whole here.mm) ∷ (codes "route", string route) ∷ []
     )
 
 -- ---- a route

@@ -41,15 +41,15 @@ fn at_value(
     alloc: Global,
     route: &RouteName,
     at: u64,
-    ground: Ground,
+    here: Ground,
     hits: &[Hit],
 ) -> Result<Value, AllocError>
-    ensures { IfOk result (λ value. view value ≡ at_data route.now at ground hits.now) }
+    ensures { IfOk result (λ value. view value ≡ at_data route.now at here hits.now) }
 {
     let hits = list_value(alloc, hits)?;
-    let direction = if ground.forward { "+" } else { "-" };
+    let direction = if here.forward { "+" } else { "-" };
     let route = name_of(route);
-    json!(in alloc; {"at": at, "dir": direction, "hits": hits, "link": ground.link, "mm": ground.mm, "route": route})
+    json!(in alloc; {"at": at, "dir": direction, "hits": hits, "link": here.link, "mm": here.mm, "route": route})
 }
 
 /// The millimetre of a route in which a position stands, the millimetre of a link that it is, and who holds it.
@@ -61,13 +61,13 @@ pub fn at_json(
     alloc: Global,
     route: &RouteName,
     at: u64,
-    ground: Ground,
+    here: Ground,
     hits: &[Hit],
 ) -> Result<Vec<u8>, AllocError>
     ensures { IfOk result (λ bytes. bytes.items ≡ compact_text
-        (at_data route.now at ground hits.now)) }
+        (at_data route.now at here hits.now)) }
 {
-    let value = at_value(alloc, route, at, ground, hits)?;
+    let value = at_value(alloc, route, at, here, hits)?;
     bytes_of(alloc, &value)
 }
 
