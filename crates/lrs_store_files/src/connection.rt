@@ -12,7 +12,7 @@ ghost use Rattle.lrs_store_tables.specs.Resting.{IsReady};
 ghost use Rattle.lrs_store_files.specs.Opening.{IsTaken, IsFound, LeavesFound, HasOrigins, IsGrown};
 
 use crate::table_list::{Known, wanted, which};
-use lrs_store_tables::{StoreFault, TableStore, make_store};
+use lrs_store_tables::{CREATE_ORIGIN, StoreFault, TableStore, make_store};
 use sqlite::{Alter, Connection, Error, ErrorCode, Transaction};
 use std::alloc::Global;
 
@@ -26,10 +26,7 @@ fn make_origins<S: Alter>(tx: &mut Transaction<'_, S>) -> Result<(), Error>
         → OnOk result (HasOrigins (state S.Store tx.old.conn.now) (state S.Store tx.new.conn.now)) }
     ensures survives { LeavesStore (state S.Store tx.old.conn.now) (state S.Store tx.new.conn.now) }
 {
-    tx.execute(
-        "CREATE TABLE origin (asset INTEGER NOT NULL REFERENCES asset, edit INTEGER NOT NULL, PRIMARY KEY (asset)) STRICT",
-        &[],
-    )?;
+    tx.execute(CREATE_ORIGIN, &[])?;
     Ok(())
 }
 

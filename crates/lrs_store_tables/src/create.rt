@@ -8,6 +8,10 @@ ghost use Rattle.lrs_store_tables.specs.Making.{IsMaking, no_schema, up_to_versi
 
 use sqlite::{Alter, Error, Transaction};
 
+/// The statement that makes the table of origins; a store of version 1 gets the table by the same one.
+pub const CREATE_ORIGIN: &str =
+    "CREATE TABLE origin (asset INTEGER NOT NULL REFERENCES asset, edit INTEGER NOT NULL, PRIMARY KEY (asset)) STRICT";
+
 fn make_version<S: Alter>(tx: &mut Transaction<'_, S>) -> Result<(), Error>
     ensures same_reference { tx.new.conn.ghost_name ≡ tx.old.conn.ghost_name }
     ensures made { HasCleanDisk (state S.Store tx.new.conn.now)
@@ -197,10 +201,7 @@ fn make_origin<S: Alter>(tx: &mut Transaction<'_, S>) -> Result<(), Error>
         → OnOk result (IsMaking up_to_origin (state S.Store tx.new.conn.now)) }
     ensures survives { LeavesStore (state S.Store tx.old.conn.now) (state S.Store tx.new.conn.now) }
 {
-    tx.execute(
-        "CREATE TABLE origin (asset INTEGER NOT NULL REFERENCES asset, edit INTEGER NOT NULL, PRIMARY KEY (asset)) STRICT",
-        &[],
-    )?;
+    tx.execute(CREATE_ORIGIN, &[])?;
     Ok(())
 }
 
