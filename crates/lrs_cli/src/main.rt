@@ -17,7 +17,7 @@ use std::io::{ErrorKind, IsTerminal};
 use std::process::ExitCode;
 
 // Does a task in the inventory of a file, which is closed afterwards. Where it cannot be closed, its log still has
-// what was committed. Each reply goes out once its record is committed, and before the next is read.
+// what was committed. Each reply goes out once its record is committed.
 fn do_in_file(rt: &HostRuntime, path: &str, task: Task<'_>, shown: Shown) -> Ending {
     let mut desk = match open_file(rt, path) {
         Ok(desk) => desk,
