@@ -4,7 +4,8 @@ ghost use Rattle.std.specs.Prelude.{◌≤◌};
 
 use lrs_desk::{Desk, Plain};
 use lrs_machine::Limits;
-use lrs_sheet::{Sheet, Tally, run_sheet};
+use lrs_sheet::{Sheet, SheetFault, Tally, run_edits, run_sheet, run_survey};
+use std::alloc::Global;
 use std::process::Abort;
 use std::test::Fail;
 
@@ -20,7 +21,29 @@ const SHEET: &str =
 const REPLIES: &str =
     "s1,done,1\ns2,done,2\ns3,done,3\nt1,refused,TooMany:routes\nt2,refused,TooMany:routes\nt3,refused,TooMany:routes\ns4,done,4\nt4,refused,TooMany:assets\nt5,refused,TooMany:assets\ns5,done,5\ns6,done,6\nt6,refused,TooMany:edits\nt7,refused,TooMany:edits\ns6,again,6\ns6,refused,KeyUsed:6\nt8,refused,Malformed:a\n";
 
-/// Does the sheet, so many records together.
+/// The survey that enters one more asset, and its reply: no more may be held.
+const SURVEY: &str =
+    "key,asset,class,route,side,method,from,to,value,offset\nt9,11,SIGN,A1,L,abs,7,,STOP,0\n";
+
+const SURVEY_REPLY: &str = "t9,refused,TooMany:edits\n";
+
+/// Does the sheet, so many records together; where that is one, as `run_edits` does it.
+fn done(
+    alloc: Global,
+    together: usize,
+    written: &mut Vec<u8>,
+    desk: &mut Desk<Plain>,
+) -> Result<Tally, SheetFault>
+    requires { 1 ≤ together }
+{
+    let sheet = SHEET.as_bytes();
+    if together == 1 {
+        return run_edits(alloc, sheet, written, desk);
+    }
+    run_sheet(alloc, Sheet::Edits, together, sheet, written, desk)
+}
+
+/// Does the sheet, so many records together, and then the survey.
 fn no_more_is_taken(rt: &(impl Abort + Print + AllocGlobal), together: usize) -> Result<(), Fail>
     requires { 1 ≤ together }
 {
@@ -29,14 +52,7 @@ fn no_more_is_taken(rt: &(impl Abort + Print + AllocGlobal), together: usize) ->
         return Err(Fail::from("no desk"));
     };
     let mut written = Vec::new(alloc);
-    let result = run_sheet(
-        alloc,
-        Sheet::Edits,
-        together,
-        SHEET.as_bytes(),
-        &mut written,
-        &mut desk,
-    );
+    let result = done(alloc, together, &mut written, &mut desk);
     assert_eq!(rt; written.as_slice(), REPLIES.as_bytes());
     let tally = Tally {
         done: 6,
@@ -44,6 +60,15 @@ fn no_more_is_taken(rt: &(impl Abort + Print + AllocGlobal), together: usize) ->
         refused: 9,
     };
     assert_eq!(rt; result, Ok(tally));
+    let mut replied = Vec::new(alloc);
+    let surveyed = run_survey(alloc, SURVEY.as_bytes(), &mut replied, &mut desk);
+    assert_eq!(rt; replied.as_slice(), SURVEY_REPLY.as_bytes());
+    let none_done = Tally {
+        done: 0,
+        again: 0,
+        refused: 1,
+    };
+    assert_eq!(rt; surveyed, Ok(none_done));
     Ok(())
 }
 
