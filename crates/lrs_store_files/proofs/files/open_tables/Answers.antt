@@ -1,7 +1,7 @@
 use Rattle.std.proofs.Common.{◌≡◌}
 use Rattle.sqlite.specs.Files.{file_state, image_of}
 use Rattle.lrs_store_files.proofs.FoundLemmas.{opened_found, has_found, left_over, left_connected}
-use Rattle.lrs_store_files.proofs.files.open_files.Goals as goal
+use Rattle.lrs_store_files.proofs.files.open_tables.Goals as goal
 
 pub over-requires-clause-found : goal.over-requires-clause-found
 over-requires-clause-found g c clean =

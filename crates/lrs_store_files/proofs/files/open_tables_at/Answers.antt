@@ -5,7 +5,7 @@ use Rattle.sqlite_wal.specs.Files.{image_at}
 use Rattle.sqlite_std_file.specs.File.{IsFresh}
 use Rattle.sqlite.specs.Files.{file_state, FailsToOpenFiles}
 use Rattle.lrs_store_files.proofs.FoundLemmas.{opened_found, has_found, left_found, left_connected}
-use Rattle.lrs_store_files.proofs.files.open_file.Goals as goal
+use Rattle.lrs_store_files.proofs.files.open_tables_at.Goals as goal
 
 abbrev image : List ℕ → List ℕ → Image
 image log db = record { log = log; db = db }
