@@ -12,7 +12,7 @@ use Rattle.lrs_machine.proofs.Members.{all_weaker}
 use Rattle.lrs_store_rows.specs.Decoding.{only_if, each_of, each_sorted, sorted, Numbered, number_before, counted}
 use Rattle.lrs_store_rows.specs.Decoding as option
 use Rattle.lrs_store_rows.specs.Content.{read}
-use Rattle.lrs_store_tables.proofs.SaidRows.{each_of-map}
+use Rattle.lrs_store_image.proofs.Mapped.{each_of-map}
 use Rattle.lrs_store_rows.proofs.Orders.{numbers_rank}
 use Rattle.lrs_store_rows.proofs.Sorts.{sort_in_order}
 use Rattle.lrs_store_rows.proofs.Unordered.{sorted_is}

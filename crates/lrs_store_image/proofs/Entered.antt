@@ -31,7 +31,7 @@ module _ (p : Part) where
   before_place a (b ∷ assets) (suc at) d within h = before_place a assets at d (omega (arith, within)) (and_parts (asset_before a b) (list_all (asset_before a) assets) h).1
 
   pub entered_at : (assets : List Asset) (at : ℕ) (d : Asset) → each_two asset_before assets ≡ true → at < length assets → (get_or assets at d).number ≡ p.asset
-      → set assets at (record (get_or assets at d) { entry = p.edit }) ≡ map (entered_by p) assets
+      → set assets at (record (get_or assets at d) { entered_by = p.edit }) ≡ map (entered_by p) assets
   entered_at [] at d up within is = absurd (omega (arith, within))
   entered_at (a ∷ assets) zero d up within is =
       let both = and_parts (list_all (asset_before a) assets) (each_two asset_before assets) up in

@@ -1,3 +1,4 @@
+pub mod Mapped
 pub mod Sorted
 pub mod Asks
 pub mod Said

@@ -6,7 +6,7 @@ use Rattle.lrs_image.specs.declared.keeper.LoadFault.TheVariants.{Memory, Store,
 use Rattle.lrs_store_rows.specs.Decoding.{each_of, each_sorted, sorted}
 use Rattle.lrs_store_rows.specs.Decoding as option
 use Rattle.lrs_store_rows.specs.Content.{read}
-use Rattle.lrs_store_tables.proofs.SaidRows.{each_of-map}
+use Rattle.lrs_store_image.proofs.Mapped.{each_of-map}
 use Rattle.lrs_store_image.specs.Loading.{Reads}
 
 module _ {A : Type 0} where
