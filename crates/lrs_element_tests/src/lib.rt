@@ -4,6 +4,8 @@
 #[cfg(test)]
 mod courses;
 #[cfg(test)]
+mod links;
+#[cfg(test)]
 mod memory;
 #[cfg(test)]
 mod rows;

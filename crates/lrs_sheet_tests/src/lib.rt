@@ -5,3 +5,5 @@
 mod limits;
 #[cfg(test)]
 mod memory;
+#[cfg(test)]
+mod request;
