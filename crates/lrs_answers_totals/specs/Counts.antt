@@ -24,7 +24,7 @@ no_count c = record { class = c.name; entered = 0; retired = 0; abandoned = 0 }
 abbrev pub count_before : Count → Count → Bool
 count_before a b = name_before a.class b.class
 
--- the counts with that of a class that comes, of which there are no rows
+-- the counts with that of a new class, of which there are no rows
 abbrev pub with_class : Option Class → List Count → List Count
 with_class class counts = insert_some count_before (option_map no_count class) counts
 

@@ -59,7 +59,7 @@ impl Counts {
         self.classes.reserve(1)
     }
 
-    /// Counts what the last change of the image brought: the class that came by it, and the rows behind those that are
+    /// Counts what the last change of the image brought: its new class, and the rows behind those that are
     /// counted. It takes no memory and cannot fail.
     pub fn catch_up(&mut self, kept: &KeptImage, class: Option<Class>)
         requires room { HasRoom self.old }

@@ -167,7 +167,7 @@ fn put_class(counts: &mut Vec<Count>, class: &Class)
     insert_at(counts, at, count);
 }
 
-/// Puts that of a class that comes, if one does.
+/// Puts that of a new class, if there is one.
 pub(crate) fn put_some_class(counts: &mut Vec<Count>, class: &Option<Class>)
     requires room { vec_len counts.old < vec_capacity counts.old }
     requires order { each_two count_before (with_class class.now counts.old.items) ≡ true }

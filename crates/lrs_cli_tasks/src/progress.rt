@@ -7,7 +7,7 @@ use std::io::Write;
 use std::rt::Clock;
 use std::time::{Duration, Instant};
 
-// Nothing is shown before so many lines, and then at most five times a second.
+// Nothing is shown before this many lines, and then at most five times a second.
 const FIRST_LINES: u64 = 10_000;
 
 const PAUSE_MILLIS: u64 = 200;

@@ -51,7 +51,7 @@ pub enum Pace {
     InPieces,
 }
 
-// Runs a sheet's bytes, so many records together, with a buffer of this size in front of the writer, and gives the
+// Runs a sheet's bytes, this many records together, with a buffer of this size in front of the writer, and gives the
 // writer back with all that was answered. So a fault of the sheet is handed out beside the writer; what fails here is the writing
 // itself, or there is no memory for it.
 fn write_replies<S: Read + Drop, W: Write + Drop, K: Keeper>(
@@ -79,7 +79,7 @@ fn write_replies<S: Read + Drop, W: Write + Drop, K: Keeper>(
     }
 }
 
-// Runs a sheet's bytes, so many records together, and writes their reply lines before more are done.
+// Runs a sheet's bytes, this many records together, and writes their reply lines before more are done.
 fn write_lines<S: Read + Drop, W: Write + Drop, K: Keeper>(
     alloc: Global,
     kind: Sheet,

@@ -19,7 +19,7 @@ const GREATEST_PORT: u64 = 65_535;
 /// The most connections that are served before the program ends.
 const MOST_CONNECTIONS: u64 = 1_000_000;
 
-/// Where an inventory is served: a port of this machine, for so many connections.
+/// Where an inventory is served: a port of this machine, for a number of connections.
 #[derive(Clone, Copy, Debug, PartialEq, Eq)]
 pub struct Service {
     pub port: u16,

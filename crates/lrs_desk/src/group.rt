@@ -146,7 +146,7 @@ fn make(
     Ok((Answer::Done(number), change))
 }
 
-// The class that comes by a plan, if one does.
+// The new class of a plan, if it has one.
 fn class_of(plan: &Plan) -> Option<Class>
     ensures { result ≡ plan.now.difference.class }
 {

@@ -15,7 +15,7 @@ use lrs_desk::{Answer, Command, Desk, Fault, Keeper, Key, Limits, OpenFault};
 use std::alloc::Global;
 
 /// Opens a desk, as `Desk::open` does. Where the device gives something back, the desk acts on what is stored:
-/// the fold over the commands that were answered, with some first ones of those that were in flight, at their point.
+/// the fold over the commands that were answered, with some first ones of the commands in flight, at their point.
 ///
 /// # Errors
 /// Those of `Desk::open`; what is stored is as it was.

@@ -21,6 +21,6 @@ pub record IsLine (len : ℕ) (marks : List Mark) : Type 0 where
   pub small : (k : ℕ) → k < length marks → (mark_at marks k).measure ≤ greatest_measure
   pub ends : (mark_at marks (length marks - 1)).chainage ≡ len
 
--- a mark of a second line that goes on where the first line ends
+-- a mark of a second line that continues where the first line ends
 abbrev pub moved_on : Mark → Mark → Mark → Mark
 moved_on end start m = record { chainage = m.chainage + end.chainage; measure = (m.measure + end.measure) - start.measure }

@@ -241,7 +241,7 @@ fn goes_out_of_range(first: &[Mark], second: &[Mark]) -> bool
     last_mark(first).measure + rise > GREATEST_MEASURE
 }
 
-/// A mark of a second line that goes on where the first line ends.
+/// A mark of a second line that continues where the first line ends.
 fn moved(mark: Mark, end: Mark, start: Mark) -> Mark
     requires chainage { mark.chainage + end.chainage < 2 ^ 64 }
     requires measure { mark.measure + end.measure < 2 ^ 64 }

@@ -1,9 +1,9 @@
-//! Rows in chunks, put in order and taken out.
+//! Rows in chunks, inserted in any order and removed.
 
 ghost use Rattle.std.specs.Prelude.{◌≡◌, true};
 ghost use Rattle.lrs_measure.specs.Lists.{each_two};
 
-use lrs_ordered::{Chunked, Keyed, Ordered, OrderedRows};
+use lrs_ordered::{Chunked, Keyed, Ordered};
 use std::alloc::Global;
 use std::cmp;
 use std::process::Abort;
@@ -87,13 +87,4 @@ fn a_row_that_was_taken_out_is_not_found(rt: HostRuntime) {
     assert!(rt; rows.find(&200).is_some());
     assert!(rt; rows.remove(&200).is_some_and(|row| row.number == 200));
     assert_eq!(rt; rows.len(), ROWS as usize - 1);
-}
-
-#[test]
-fn rows_in_order_give_their_chunks_back(rt: HostRuntime) {
-    let rows = OrderedRows::from_chunked(shuffled(&rt, rt.alloc()));
-    assert_eq!(rt; rows.len(), ROWS as usize);
-    assert!(rt; rows.find(&200).is_some_and(|row| row.number == 200));
-    let chunks = rows.into_chunked();
-    assert_eq!(rt; chunks.len(), ROWS as usize);
 }

@@ -1,4 +1,4 @@
--- What a change of rows makes of them: rows that go, and rows that come.
+-- What a change of rows makes of them: removed rows and inserted rows.
 use Rattle.std.specs.Prelude.{Bool, ◌&&◌, not, nat_eq, List, filter}
 use Rattle.std.specs.List.{list_any}
 use Rattle.lrs_measure.specs.Texts.{same_name}
@@ -14,11 +14,11 @@ same_row r s = same_name r.class s.class && nat_eq r.asset s.asset && nat_eq r.f
 abbrev pub has_row : List Span → Span → Bool
 has_row rows r = list_any (λ s. same_row s r) rows
 
--- the rows without those that go
+-- the rows without the removed ones
 abbrev pub without_rows : List Span → List Span → List Span
 without_rows gone rows = filter (λ r. not (has_row gone r)) rows
 
--- ... and with those that come in their places
+-- ... and with the inserted ones in their places
 abbrev pub changed : (Span → Span → Bool) → List Span → List Span → List Span → List Span
 changed before gone come rows = insert_all before come (without_rows gone rows)
 

@@ -2,7 +2,7 @@
 
 use crate::span::Span;
 
-/// Rows of a route that go, and rows that come. No row is both.
+/// The removed and the inserted rows of a route. No row is both.
 #[derive(Drop)]
 pub struct SpanChange {
     pub gone: Vec<Span>,

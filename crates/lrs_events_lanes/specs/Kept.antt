@@ -5,7 +5,7 @@ use Rattle.lrs_events.specs.declared.span.Span.{Span}
 use Rattle.lrs_events_lanes.specs.Order.{place_before}
 use Rattle.lrs_events_lanes.specs.Lane.{greatest_from}
 
--- rows and the greatest ends up to each, in vectors of these capacities with room for so many more
+-- rows and the greatest ends up to each, in vectors of these capacities with room for a number more
 pub record IsLane (rows : List Span) (greatest : List ℕ) (room rows_capacity greatest_capacity : ℕ) : Type 0 where
   pub order : each_two place_before rows ≡ true
   pub greatest_are : greatest ≡ greatest_from 0 rows

@@ -13,7 +13,7 @@ ghost use Rattle.lrs_events_lanes.specs.Order.{row_before};
 use crate::order::{RowOrder, comes_before, compare};
 use lrs_events::{Span, is_same};
 
-// Up to so many rows that go and come are searched for one by one.
+// Up to so many removed and inserted rows are searched for one by one.
 const FEW: usize = 16;
 
 /// How many rows come before the row, in their order.
@@ -139,7 +139,7 @@ fn starts(rows: &[Span]) -> (u64, u64)
     (least, greatest)
 }
 
-/// Whether the row is one of those that go, whose least and greatest start are given. One that begins before or
+/// Whether the row is one of the removed ones, whose least and greatest start are given. One that begins before or
 /// behind them all is not searched for.
 fn goes(gone: &[Span], least: u64, greatest: u64, row: &Span) -> bool
     requires order { each_two span_before gone.now ≡ true }
@@ -150,7 +150,7 @@ fn goes(gone: &[Span], least: u64, greatest: u64, row: &Span) -> bool
     least <= row.from && row.from <= greatest && has(RowOrder::ByAsset, gone, row)
 }
 
-/// Takes out the rows that go, in one pass.
+/// Takes out the removed rows, in one pass.
 fn retain_others(rows: &mut Vec<Span>, gone: &[Span])
     requires { each_two span_before gone.now ≡ true }
     ensures items { rows.new.items ≡ without_rows gone.now rows.old.items }
@@ -195,7 +195,7 @@ fn change_many(order: RowOrder, rows: &mut Vec<Span>, gone: &[Span], come: &[Spa
     sort(order, rows);
 }
 
-/// Takes out of rows in order those that go, which are sorted by class, asset and start, and puts those that
+/// Takes out of rows in order the removed ones, which are sorted by class, asset and start, and puts those that
 /// come in their places. The vector has room for them, so that it takes no memory and cannot fail.
 pub fn change_in_room(order: RowOrder, rows: &mut Vec<Span>, gone: &[Span], come: &[Span])
     requires room { vec_len rows.old + length come.now ≤ vec_capacity rows.old }

@@ -5,7 +5,7 @@ use Rattle.lrs_events.specs.declared.span.Span.{Span}
 use Rattle.lrs_events.specs.Changes.{has_row}
 use Rattle.lrs_events_rows.specs.Order.{In}
 
--- the rows without those that go, and with those that come, none of which was there
+-- the rows without the removed ones and with the inserted ones, none of which was there
 pub record IsChange (old gone come new : List Span) : Type 0 where
   pub rows : (r : Span) → In r new ↔ ((In r old × (In r gone → ⊥)) ⊎ In r come)
   pub were : (r : Span) → In r gone → In r old

@@ -1,4 +1,4 @@
--- The rows of a route that goes on as another does.
+-- The rows of a route that continues as another does.
 use Rattle.std.specs.Prelude.{◌≡◌, ℕ, ◌+◌, ◌<◌, ◌++◌, Bool, ◌||◌, not, nat_le, nat_eq, List, [], ◌∷◌}
 use Rattle.std.specs.List.{list_all}
 use Rattle.lrs_measure.specs.Texts.{Name, same_name}
@@ -8,7 +8,7 @@ use Rattle.lrs_events.specs.declared.span.Span.{Span}
 use Rattle.lrs_events.specs.Members.{is_member}
 use Rattle.lrs_events_rows.specs.Order.{In, Joins, grown}
 
--- the row, so many millimetres further on
+-- the row, a number of millimetres further on
 abbrev pub moved : ℕ → Span → Span
 moved shift r = grown r (r.from + shift) (r.to + shift)
 
@@ -38,7 +38,7 @@ pub data IsSeam (first : List Span) (row : Span) : List Span → Span → Type 0
   apart : ((r : Span) → In r first → Joins r row → ⊥) → IsSeam first row [] row
   goes_on : (r : Span) → In r first → Joins r row → IsSeam first row (r ∷ []) (grown row r.from row.to)
 
--- what goes and what comes with one row more
+-- what is removed and inserted with one row more
 pub record AddsSeam (first : List Span) (row : Span) (gone come new_gone new_come : List Span) : Type 0 where
   pub old : List Span
   pub whole : Span

@@ -14,7 +14,7 @@ use crate::order::place_of;
 use lrs_events::{Span, SpanChange};
 use std::alloc::{AllocError, Global};
 
-/// Adds what goes and what comes for one row behind the first ones.
+/// Adds what is removed and inserted for one row behind the first ones.
 ///
 /// # Errors
 /// When memory runs out.

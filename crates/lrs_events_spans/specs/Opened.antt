@@ -15,17 +15,17 @@ pub record Opened : Type 0 where
   pub room : ℕ
   pub lanes : List ClassLanes
 
--- the lanes of a class have room for those of the rows that come into them
+-- the lanes of a class have room for those of the inserted rows
 pub record HasLaneRoom (come : List Span) (l : ClassLanes) : Type 0 where
   pub left : length (filter (is_on l.class Left) come) ≤ l.left.room
   pub right : length (filter (is_on l.class Right) come) ≤ l.right.room
 
--- each lane has room, and the class of each row that comes has lanes
+-- each lane has room, and the class of each inserted row has lanes
 pub record HaveRoom (come : List Span) (lanes : List ClassLanes) : Type 0 where
   pub each : (k : ℕ) (d : ClassLanes) → k < length lanes → HasLaneRoom come (slice_index_or lanes k d)
   pub all : (r : Span) → has_row come r ≡ true → has_lanes lanes r.class ≡ true
 
--- there is room for the rows that come
+-- there is room for the inserted rows
 pub record HasRoom (come : List Span) (o : Opened) : Type 0 where
   pub rows : length o.rows + length come ≤ o.room
   pub lanes : HaveRoom come o.lanes
@@ -44,7 +44,7 @@ pub record SameLanes (xs ys : List ClassLanes) : Type 0 where
 abbrev pub StayTied : List ClassLanes → List ClassLanes → Type 0
 StayTied xs ys = (rows : List Span) → AreTied rows xs → AreTied rows ys
 
--- what rows that go and rows that come make of the lanes of a class
+-- what removed rows and inserted rows make of the lanes of a class
 pub record IsChangedClass (gone come : List Span) (l m : ClassLanes) : Type 0 where
   pub class : m.class ≡ l.class
   pub left : m.left.rows ≡ changed place_before gone (filter (is_on l.class Left) come) l.left.rows

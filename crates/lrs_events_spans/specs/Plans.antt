@@ -7,7 +7,7 @@ use Rattle.lrs_events.specs.Changes.{changed_rows}
 use Rattle.lrs_events.specs.Spans.{are_rows, span_before}
 use Rattle.lrs_events_rows.specs.Changes.{IsChange}
 
--- The change makes canonical rows of these; what goes is among them, and what comes is not.
+-- The change makes canonical rows of these; a removed row is among them, and an inserted one is not.
 pub record IsPlan (rows : List Span) (plan : SpanChange) : Type 0 where
   pub kept : are_rows (changed_rows plan rows) ≡ true
   pub change : IsChange rows plan.gone.items plan.come.items (changed_rows plan rows)

@@ -76,7 +76,7 @@ fn pick(picked: &mut Vec<Span>, class: ClassName, side: LinkSide, rows: &[Span])
     }
 }
 
-/// Takes the rows that go out of the lane of a class and side, and puts those that come into it.
+/// Takes the removed rows out of the lane of a class and side, and inserts the others.
 fn change_lane(
     lane: &mut Lane,
     class: ClassName,
@@ -98,7 +98,7 @@ fn change_lane(
     lane.change(gone, picked);
 }
 
-/// Takes the rows that go out of the lanes of a class, and puts those that come into them, for which they have
+/// Takes the removed rows out of the lanes of a class, and inserts the others, for which they have
 /// room.
 fn change_class(lanes: &mut ClassLanes, gone: &[Span], come: &[Span], picked: &mut Vec<Span>)
     requires gone { each_two span_before gone.now ≡ true }
@@ -112,7 +112,7 @@ fn change_class(lanes: &mut ClassLanes, gone: &[Span], come: &[Span], picked: &m
     change_lane(&mut lanes.right, class, LinkSide::Right, gone, come, picked);
 }
 
-/// Takes the rows that go out of their lanes, and puts those that come into theirs, which have room for them, by
+/// Takes the removed rows out of their lanes, and inserts the others into theirs, which have room for them, by
 /// the help of a vector that has room for them too. It takes no memory.
 pub(crate) fn change_lanes(
     lanes: &mut Vec<ClassLanes>,
@@ -174,7 +174,7 @@ pub(crate) fn add_classes(lanes: &mut Vec<ClassLanes>, come: &[Span]) -> Result<
     Ok(())
 }
 
-/// Makes room in the lanes of a class for those of the rows that come into them.
+/// Makes room in the lanes of a class for those of the inserted rows.
 ///
 /// # Errors
 /// When memory runs out.
@@ -188,7 +188,7 @@ fn make_class_room(lanes: &mut ClassLanes, come: &[Span]) -> Result<(), AllocErr
     lanes.right.make_room(right)
 }
 
-/// Makes room in lanes for those of the rows that come into them.
+/// Makes room in lanes for those of the inserted rows.
 ///
 /// # Errors
 /// When memory runs out.

@@ -105,7 +105,7 @@ impl OpenSpans {
         make_lanes_room(&mut self.lanes, come)
     }
 
-    /// Takes out the rows that go, which are sorted by class, asset and start, and puts those that come in their
+    /// Takes out the removed rows, which are sorted by class, asset and start, and puts those that come in their
     /// places. There is room for them, so that it takes no memory and cannot fail.
     pub fn change(&mut self, gone: &[Span], come: &[Span])
         requires room { HasRoom come.now self.old }

@@ -46,7 +46,7 @@ pub fn plan_realign(
     Ok(Realigned { left, change })
 }
 
-/// The rows of a route that goes on with others from a chainage on.
+/// The rows of a route that continues with others from a chainage on.
 fn gone_on(alloc: Global, front: Vec<Span>, rear: &[Span], at: u64) -> Result<Spans, AllocError>
     requires front { IsTrue (are_rows front.items) }
     requires rear { IsTrue (are_rows rear.now) }

@@ -1,4 +1,4 @@
--- Too long: more pieces or more marks than a route can have. The states are made by hand, for so many pieces are too dear to be entered by commands.
+-- Too long: more pieces or more marks than a route can have. The states are made by hand, for that many pieces are too dear to be entered by commands.
 use Rattle.std.specs.Prelude.{◌≡◌, ℕ, ◌+◌, true, false, List, [], ◌∷◌, ◌++◌, map, replicate, refl}
 use Rattle.std.specs.List.{range_with_len}
 use Rattle.std.specs.Fmt.{digits}
@@ -14,7 +14,7 @@ use Rattle.lrs_machine.specs.State.{State, nothing_known}
 use Rattle.lrs_machine.specs.Machine.{answers, attempt, step}
 use Rattle.lrs_examples.specs.Sheet.{a1, a2, b1, forth, back, mark, plain, realign, full, keyed, replies, alignment, sheet}
 
--- so many pieces of one millimetre, each run backwards, in rising order: none continues the one before it
+-- this many pieces of one millimetre, each run backwards, in rising order: none continues the one before it
 abbrev pub broken : ℕ → List Piece
 broken count = map (λ k. back 1 k (k + 1)) (range_with_len 0 count)
 
@@ -51,7 +51,7 @@ pub pieces_that_merge : answers full (keyed 0 (verb.Join a1 b1 ∷ [])) (
 unfolding digits step attempt
 pieces_that_merge = refl
 
--- so many marks, one for each millimetre, measured from here
+-- this many marks, one for each millimetre, measured from here
 abbrev pub dense : ℕ → ℕ → List Mark
 dense count from = map (λ k. mark k (from + k)) (range_with_len 0 count)
 

@@ -70,7 +70,7 @@ pub ends : are_alike (abs 3) (Some (abs 6)) ∷ are_alike (past km2 3) (Some (pa
     ≡ true ∷ true ∷ true ∷ false ∷ false ∷ []
 ends = refl
 
--- Room for at most so many routes, assets and edits.
+-- Room for at most this many routes, assets and edits.
 pub room : are_limits 10_000 1_000_000 10_000_000 ∷ are_limits 10_001 0 0 ∷ are_limits 0 1_000_001 0 ∷ are_limits 0 0 10_000_001 ∷ [] ≡ true ∷ false ∷ false ∷ false ∷ []
 room = refl
 

@@ -216,7 +216,7 @@ order_of_realign_pieces = refl
 
 -- how much there may be
 
--- room for one route and one asset, and for so many edits
+-- room for one route and one asset, and for this many edits
 abbrev pub tight : (edits : ℕ) → IsTrue (are_limits 1 1 edits) → Limits
 tight edits fits = record { routes = 1; assets = 1; edits = edits; bounds = fits }
 

@@ -68,11 +68,11 @@ sign = codes "SIGN"
 abbrev pub abs : ℕ → Expr
 abs measure = Abs (record { num = pos measure; den = 1 })
 
--- so many millimetres after a referent
+-- this many millimetres after a referent
 abbrev pub past : Name → ℕ → Expr
 past referent distance = Rel referent (record { num = pos distance; den = 1 })
 
--- so many before it
+-- this many before it
 abbrev pub short_of : Name → ℕ → Expr
 short_of referent distance = Rel referent (record { num = neg_ℤ (pos distance); den = 1 })
 
@@ -145,7 +145,7 @@ retire asset location = verb.Retire asset a1 location
 abbrev pub full : Limits
 full = record { routes = 10_000; assets = 1_000_000; edits = 10_000_000; bounds = refl }
 
--- commands that follow so many others, each under a key of its own: xA, xB and so on
+-- commands that follow a number of others, each under a key of its own: xA, xB and so on
 abbrev pub keyed : ℕ → List Command → List Record
 keyed n [] = []
 keyed n (c ∷ cs) = record { key = 120 ∷ (n + 65) ∷ []; command = c } ∷ keyed (n + 1) cs
@@ -208,7 +208,7 @@ holders records position = option_map (map (λ h. (h.asset.number, h.asset.enter
 abbrev pub place : ℕ → ℕ → LinkSide → Place
 place link mm side = record { link = link; mm = mm; side = side }
 
--- so many places of a link from a millimetre on, on one side and on both
+-- this many places of a link from a millimetre on, on one side and on both
 abbrev pub places_along : ℕ → ℕ → ℕ → LinkSide → List Place
 places_along link lo count side = map (λ k. place link k side) (range_with_len lo count)
 

@@ -1,4 +1,4 @@
--- What a change makes of an image: rows that go and rows that come, table by table.
+-- What a change makes of an image: removed rows and inserted rows, table by table.
 use Rattle.std.specs.Prelude.{◌≡◌, Bool, true, false, not, List, [], ◌∷◌, ◌++◌, filter, Option, Some, None, unwrap_or, ⊤}
 use Rattle.std.specs.List.{list_any, list_all, find}
 use Rattle.std.specs.Option.{option_map}
@@ -24,7 +24,7 @@ use Rattle.lrs_image.specs.declared.change.Change.{Change}
 
 -- one route that stays
 
--- the referents without those that go, with those that come in their places
+-- the referents without the removed ones, with the inserted ones in their places
 abbrev pub changed_refs : ReferentChange → List Referent → List Referent
 changed_refs c refs = insert_all referent_before c.come (filter (λ r. not (list_any (same_name r.name) c.gone)) refs)
 
@@ -76,7 +76,7 @@ routes_after (Some c) routes = insert_some route_before (option_map (entry_after
 abbrev pub no_difference : Difference
 no_difference = record { link = None; class = None; asset = None; changed = None; dropped = None; made = None; entered = []; gone = [] }
 
--- The image with this difference: what comes is put in its order, and the ledgers grow at their end.
+-- The image with this difference: what is inserted is put in its order, and the ledgers grow at their end.
 abbrev pub with_difference : Difference → Image → Image
 with_difference d i = record i {
   links = insert_some link_before d.link i.links;
@@ -100,15 +100,15 @@ apply c i = with_edit c.edit (with_difference c.difference i)
 abbrev pub refers_to : Name → Referent → Bool
 refers_to name r = same_name r.name name
 
--- the rows that go are rows of the route
+-- the removed rows are rows of the route
 abbrev pub are_rows_of : RouteRow → List Span → Bool
 are_rows_of e gone = list_all (has_row e.spans) gone
 
--- the names that go are those of referents of the route
+-- the removed names are those of referents of the route
 abbrev pub are_names_of : RouteRow → List Name → Bool
 are_names_of e gone = list_all (λ name. list_any (refers_to name) e.route.refs) gone
 
--- The rows that go are of the route and told apart, the referents that go are of the route, and course, marks, referents and rows after the change are those of a route.
+-- The removed rows are of the route and told apart, the removed referents are of the route, and course, marks, referents and rows after the change are those of a route.
 pub record CanBecome (c : RouteChange) (e : RouteRow) : Type 0 where
   pub fits : fits_after c e.route ≡ true
   pub rows : are_rows (spans_after c e.spans) ≡ true
@@ -126,7 +126,7 @@ abbrev pub CanChangeRoute : Option RouteChange → List RouteRow → Type 0
 CanChangeRoute None routes = ⊤
 CanChangeRoute (Some c) routes = CanChange c routes
 
--- The route that goes is another than the one that changes, under its old name and under its new one.
+-- The removed route is another than the one that changes, under its old name and under its new one.
 abbrev pub GoesApart : Option RouteChange → Option Name → Type 0
 GoesApart None dropped = ⊤
 GoesApart (Some c) None = ⊤

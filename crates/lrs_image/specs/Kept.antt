@@ -37,7 +37,7 @@ routes_with opened routes = insert_some route_before (option_map row_of_open ope
 abbrev pub image_with : Option OpenRoute → KeptImage → Image
 image_with opened k = record (image_of k) { routes = routes_with opened k.routes.rows }
 
--- It has the referents from after the change, and room for the rows that come.
+-- It has the referents from after the change, and room for the inserted rows.
 pub record IsReadyFor (c : RouteChange) (o : OpenRoute) : Type 0 where
   pub refs : unwrap_or o.refs_after o.route.refs ≡ changed_refs c.refs o.route.refs
   pub spans : HasRoom c.spans_come o.spans
@@ -57,7 +57,7 @@ abbrev pub HasOpened : Option RouteChange → Option OpenRoute → List RouteRow
 HasOpened None opened others = opened ≡ None
 HasOpened (Some c) opened others = IsTakenFor c opened others (routes_with opened others)
 
--- There is room for what comes, and for one edit.
+-- There is room for what is inserted, and for one edit.
 pub record HasRoomFor (d : Difference) (k : KeptImage) : Type 0 where
   pub links : 1 ≤ k.links.room
   pub classes : 1 ≤ k.classes.room

@@ -1,4 +1,4 @@
-//! What an accepted command changes: rows that go and rows that come, table by table.
+//! What an accepted command changes: removed rows and inserted rows, table by table.
 
 ghost use Rattle.std.specs.Prelude.{◌≡◌, IfOk};
 ghost use Rattle.lrs_image.specs.Change as change;
@@ -10,7 +10,7 @@ use lrs_measure::{Rows, TryCopy};
 use lrs_position::{RefName, Referent, RouteName};
 use std::alloc::{AllocError, Global};
 
-/// Referents of a route that go, by their names in order, and referents that come.
+/// The removed referents of a route, by their names in order, and the inserted ones.
 #[derive(Drop)]
 pub struct ReferentChange {
     pub gone: Rows<RefName>,

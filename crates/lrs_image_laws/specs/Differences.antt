@@ -15,7 +15,7 @@ use Rattle.lrs_image_laws.specs.Rewriting.{rewritten}
 abbrev pub no_change : Name → RouteChange
 no_change name = record { route = name; name = name; course = None; marks = None; refs = record { gone = []; come = [] }; spans_gone = []; spans_come = [] }
 
--- the difference that changes routes alone: one that stays, one that goes, and one that comes
+-- the difference that changes routes alone: one that stays, one that is removed, and one that is inserted
 abbrev pub rerouting : Option RouteChange → Option Name → Option RouteRow → Difference
 rerouting changed dropped made = record no_difference { changed = changed; dropped = dropped; made = made }
 
@@ -23,15 +23,15 @@ rerouting changed dropped made = record no_difference { changed = changed; dropp
 abbrev pub changed_route : List RouteRow → RouteChange → Option RouteRow
 changed_route routes c = option_map (entry_after c) (find (is_named c.route) routes)
 
--- the names of the routes that are dropped: of the one that changes, and of the one that goes
+-- the names of the routes that are dropped: of the one that changes, and of the removed one
 abbrev pub dropped_by : Difference → List Name
 dropped_by d = cons_option (option_map (λ c. c.route) d.changed) (cons_option d.dropped [])
 
--- the routes that are written: what the one that changes becomes, and the one that comes
+-- the routes that are written: what the one that changes becomes, and the inserted one
 abbrev pub written_by : Difference → List RouteRow → List RouteRow
 written_by d routes = cons_option (option_and_then (changed_route routes) d.changed) (cons_option d.made [])
 
--- the route that changes does not get the name of the one that goes
+-- the route that changes does not get the name of the removed one
 abbrev pub KeepsFromDropped : Difference → List RouteRow → Type 0
 KeepsFromDropped d routes = (w : RouteRow) (n : Name) → option_and_then (changed_route routes) d.changed ≡ Some w → d.dropped ≡ Some n → same_name w.route.name n ≡ false
 

@@ -22,11 +22,11 @@ use Rattle.lrs_machine.proofs.Members.{In}
 use Rattle.lrs_image_laws.specs.Made.{Makes}
 use Rattle.lrs_image_laws.specs.Rewriting.{rewritten, with_routes}
 
--- a referent of a course behind so many millimetres
+-- a referent of a course behind a number of millimetres
 abbrev pub on_by : ℕ → Referent → Referent
 on_by n q = record q { at = n + q.at }
 
--- the referents of a course of this length that goes on as another
+-- the referents of a course of this length that continues as another
 abbrev pub joined_refs : ℕ → List Referent → List Referent → List Referent
 joined_refs n first second = insert_all referent_before (map (on_by n) second) first
 

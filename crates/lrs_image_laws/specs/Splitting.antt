@@ -21,7 +21,7 @@ use Rattle.lrs_image_laws.specs.Made.{Makes}
 use Rattle.lrs_image.specs.Change.{is_named}
 use Rattle.lrs_image_laws.specs.Rewriting.{rewritten, with_routes}
 
--- a referent of a course that begins so many millimetres later
+-- a referent of a course that begins a number of millimetres later
 abbrev pub back_by : ℕ → Referent → Referent
 back_by n q = record q { at = q.at - n }
 

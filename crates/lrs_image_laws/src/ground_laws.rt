@@ -3,7 +3,7 @@
 ghost use Rattle.lrs_image_laws.specs.Leaving.{CloseMakes, LeavingIsOrderly, LeavingMakesState};
 ghost use Rattle.lrs_image_laws.specs.Realigning.{RealignMakes, RealignedHasRows};
 
-/// Routes dropped and written that fit, and the ledger rows of what goes, leave an image in order.
+/// Routes dropped and written that fit, and the ledger rows of what is removed, leave an image in order.
 pub fn leaving_is_orderly()
     ensures { LeavingIsOrderly }
 {}
@@ -13,7 +13,7 @@ pub fn leaving_makes_state()
     ensures { LeavingMakesState }
 {}
 
-/// The other routes, and what the rows of the one that goes held, are what its close makes.
+/// The other routes, and what the rows of the removed one held, are what its close makes.
 pub fn close_makes()
     ensures { CloseMakes }
 {}

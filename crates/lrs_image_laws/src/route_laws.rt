@@ -44,7 +44,7 @@ pub fn split_makes()
     ensures { SplitMakes }
 {}
 
-/// The one route that goes on from another is what their join makes.
+/// The one route that continues another is what their join makes.
 pub fn join_makes()
     ensures { JoinMakes }
 {}

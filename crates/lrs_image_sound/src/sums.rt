@@ -22,7 +22,7 @@ fn carried(part: &Part, last: u64, sum: u64) -> u64
     if part.asset == last { sum } else { 0 }
 }
 
-/// Whether parts in the order of their lines have at most so many places of each asset.
+/// Whether parts in the order of their lines have at most this many places of each asset.
 fn sums_are_within(sorted: &[Part], most: u64) -> bool
     requires order { (k : ℕ) (d : Part) → k + 1 < length sorted.now
         → IsInOrder (slice_index_or sorted.now k d) (slice_index_or sorted.now (k + 1) d) }
@@ -43,7 +43,7 @@ fn sums_are_within(sorted: &[Part], most: u64) -> bool
     true
 }
 
-/// Whether parts in the order of their lines have at most so many places of each asset.
+/// Whether parts in the order of their lines have at most this many places of each asset.
 pub(crate) fn have_few_places(sorted: &[Part], most: u64) -> bool
     requires order { (k : ℕ) (d : Part) → k + 1 < length sorted.now
         → IsInOrder (slice_index_or sorted.now k d) (slice_index_or sorted.now (k + 1) d) }

@@ -18,7 +18,7 @@ ground_after (Some g) on m =
     if runs_over (course_of g.come) m || runs_over (course_of g.passed) m then Some g.route
     else if runs_over (course_of g.gone) m then None else on m
 
--- Each piece has ground; a route runs over all of what goes and of what passes, which is other ground, and none over what comes, which is run over once.
+-- Each piece has ground; a route runs over all of what is removed and of what passes, which is other ground, and none over what is inserted, which is run over once.
 pub record CanChange (g : GroundChange) (on : Millimetre → Option Name) : Type 0 where
   pub gone_filled : AllByRecursion IsFilled g.gone
   pub passed_filled : AllByRecursion IsFilled g.passed
@@ -33,7 +33,7 @@ abbrev pub CanChangeGround : Option GroundChange → (Millimetre → Option Name
 CanChangeGround None on = Unit {0}
 CanChangeGround (Some g) on = CanChange g on
 
--- the referent that comes stands in its millimetre
+-- the inserted referent stands in its millimetre
 abbrev pub with_referent : Option ReferentPlace → (Name → Option Millimetre) → Name → Option Millimetre
 with_referent None stands name = stands name
 with_referent (Some r) stands name = if same_name name r.name then Some (r.link, r.mm) else stands name
@@ -43,7 +43,7 @@ abbrev pub without_referent : Option ReferentPlace → (Name → Option Millimet
 without_referent None stands name = stands name
 without_referent (Some r) stands name = if same_name name r.name then None else stands name
 
--- the one that comes stands in its millimetre, and those that go stand nowhere
+-- the inserted one stands in its millimetre, and the removed ones stand nowhere
 abbrev pub referents_after : ReferentPlaces → (Name → Option Millimetre) → Name → Option Millimetre
 referents_after c stands name = if list_any (same_name name) c.gone then None else with_referent c.come stands name
 

@@ -17,7 +17,7 @@ pub record IsIndexed (image : Image) (x : Indexes) : Type 0 where
   pub ground : IsGroundOf (λ e. e.route.name) (λ e. e.route.course) x.ground image.routes
   pub referents : IsPlaced x.referents (state_of image).referents
 
--- What comes has come, onto the same ground, and what goes or passes is whole.
+-- What is new is inserted, onto the same ground, and what is removed or passes is whole.
 pub record IsReady (g : GroundChange) (old new : Stretches) : Type 0 where
   pub before : Stretches
   pub same : (m : Millimetre) → route_over before m ≡ route_over old m
@@ -33,7 +33,7 @@ abbrev pub AreWholeFor : Option GroundChange → Stretches → Type 0
 AreWholeFor None ground = Unit {0}
 AreWholeFor (Some g) ground = AreWhole ground g.gone × AreWhole ground g.passed
 
--- which route runs over a millimetre where what goes was freed
+-- which route runs over a millimetre where what is removed was freed
 abbrev pub freed_by : GroundChange → (Millimetre → Option Name) → Millimetre → Option Name
 freed_by g on m = if runs_over (course_of g.gone) m then None else on m
 

@@ -28,7 +28,7 @@ pub fn ground_of_routes(alloc: Global, routes: &[RouteRow]) -> Result<GroundInde
     Ok(ground)
 }
 
-/// Adds the ground that comes, and cuts stretches where ground goes or passes to another route.
+/// Adds the new ground, and cuts stretches where ground is freed or passes to another route.
 ///
 /// # Errors
 /// When memory runs out; the same route runs over each millimetre then.
@@ -69,7 +69,7 @@ pub fn take_out_added(ground: &mut GroundIndex, change: &Option<GroundChange>)
     }
 }
 
-/// Frees the ground that goes, and hands over what passes to another route. It takes no memory.
+/// Frees the removed ground, and hands over what passes to another route. It takes no memory.
 pub fn free_and_hand_over(ground: &mut GroundIndex, change: &Option<GroundChange>)
     requires whole { AreWholeFor change.now ground.old }
     ensures { (m : Millimetre) → route_over ground.new m

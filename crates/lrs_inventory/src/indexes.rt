@@ -44,7 +44,7 @@ impl Indexes {
         })
     }
 
-    /// Puts in what comes by an edit: its key, ground and a referent. What goes by it or passes to another
+    /// Inserts what is new by an edit: its key, ground and a referent. What it removes or passes to another
     /// route is made ready for that.
     ///
     /// # Errors
@@ -91,7 +91,7 @@ impl Indexes {
         self.referents.take_out(come);
     }
 
-    /// Lets go what goes by an edit, and hands over what passes to another route. It takes no memory.
+    /// Removes what an edit removes, and hands over what passes to another route. It takes no memory.
     pub fn let_go(&mut self, ground: &Option<GroundChange>, gone: &[RefName])
         requires whole { AreWholeFor ground.now self.old.ground }
         ensures keys { self.new.keys ≡ self.old.keys }

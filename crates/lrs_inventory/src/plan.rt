@@ -64,7 +64,7 @@ pub fn refuse_if(fails: bool, cause: Cause) -> Result<(), Stop>
 }
 
 /// What changes of the ground that routes run over: what no route runs over any more, what passes from its
-/// route to this one, and what comes to this one.
+/// route to this one, and what this one gets.
 #[derive(Drop)]
 pub struct GroundChange {
     pub route: RouteName,

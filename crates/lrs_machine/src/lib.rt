@@ -18,7 +18,6 @@ mod segment;
 mod table;
 mod texts;
 mod total;
-mod well_formed;
 
 pub use answer::{Answer, Cause, Field, Limits, What};
 pub use command::{Command, NewAsset};
@@ -30,5 +29,5 @@ pub use operands::{AssetNumber, Chainage, LateralOffset, MarkList, PieceList};
 pub use question::{Destination, Question};
 pub use segment::{SegFault, Segment};
 pub use table::Table;
+pub use texts::piece_text;
 pub use total::Total;
-pub use well_formed::every_command_is_well_formed;

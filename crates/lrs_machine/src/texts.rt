@@ -69,7 +69,11 @@ pub fn value_text(value: &Value) -> &str
     as_text(value.bytes())
 }
 
-fn piece_text(alloc: Global, piece: &Piece) -> Result<String, AllocError>
+/// A piece as sheets and answers write it, as `1:0:5000:+`.
+///
+/// # Errors
+/// When memory runs out.
+pub fn piece_text(alloc: Global, piece: &Piece) -> Result<String, AllocError>
     ensures { IfOk result (λ text. string_bytes text ≡ Lines.piece_text piece.now) }
 {
     let Piece { link, from, to, .. } = *piece;

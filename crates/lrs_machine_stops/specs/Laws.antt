@@ -20,7 +20,7 @@ pub record IsMadeBy (limits : Limits) (start : State) (xs : List Step) (found : 
   pub kept : Keeps xs commands
   pub stored : found ≡ state_after limits commands start
 
--- What is stored, and so what an opening finds, is the fold over the commands that were answered, with some first ones of those that were in flight, at their point.
+-- What is stored, and so what an opening finds, is the fold over the commands that were answered, with some first ones of the commands in flight, at their point.
 abbrev pub StoredIsFold : Type 0
 StoredIsFold = (limits : Limits) (start : State) (xs : List Step) (m : Moment) → IsRun limits (at_rest start) xs m → IsMadeBy limits start xs m.stored
 

@@ -8,7 +8,7 @@ pub fn the_desk_acts_on_what_is_stored()
 {}
 
 /// What is stored, and so what an opening finds, is the fold over the commands that were answered, in
-/// order, with some first ones of those that were in flight, at their point.
+/// order, with some first ones of the commands in flight, at their point.
 pub fn what_is_stored_is_a_fold()
     ensures { StoredIsFold }
 {}

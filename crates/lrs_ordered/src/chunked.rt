@@ -93,7 +93,7 @@ impl<T> Chunked<T> {
     }
 }
 
-// Makes spare chunks, until there are so many.
+// Makes spare chunks, until there are this many.
 fn make_spares<T: Drop>(
     alloc: Global,
     spares: &mut Vec<Chunk<T>>,

@@ -21,7 +21,7 @@ impl Firsts {
         }
     }
 
-    /// Makes room for so many more.
+    /// Makes room for a number of rows more.
     ///
     /// # Errors
     /// When memory runs out.
@@ -48,7 +48,7 @@ impl Firsts {
         }
     }
 
-    /// A row was put into the chunk at a place, where there were so many chunks: a new one stands behind it.
+    /// A row was put into the chunk at a place, of a number of chunks: a new one stands behind it.
     pub fn note_put<T: Ordered>(&mut self, chunks: &[Chunk<T>], at: usize, count: usize) {
         if let Some(rank) = rank_at(chunks, at) {
             self.set(at, rank);
@@ -61,7 +61,7 @@ impl Firsts {
         }
     }
 
-    /// A row was taken out of the chunk at a place, where there were so many chunks.
+    /// A row was taken out of the chunk at a place, of a number of chunks.
     pub fn note_taken<T: Ordered>(&mut self, chunks: &[Chunk<T>], at: usize, count: usize) {
         if chunks.len() < count {
             if at < self.ranks.len() {

@@ -39,20 +39,6 @@ impl<T> OrderedRows<T> {
         }
     }
 
-    /// These rows.
-    pub fn from_chunked(all: Chunked<T>) -> OrderedRows<T>
-        ensures { result ≡ all.rows }
-    {
-        OrderedRows { all }
-    }
-
-    /// Gives the chunks back.
-    pub fn into_chunked(self) -> Chunked<T>
-        ensures { result.rows ≡ self }
-    {
-        self.all
-    }
-
     /// How many rows there are.
     pub fn len(&self) -> usize
         ensures { result ≡ length self.now }

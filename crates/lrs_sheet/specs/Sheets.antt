@@ -102,7 +102,7 @@ HasDoneUpTo sheet limits input before after =
     (header : List Text) × (records : List (List Text)) × (further : List (List Text)) × (replies : List Reply) × IsHeader sheet header
     × BeginsWith input ((header ∷ records) ++ further) × (1 ≤ length records) × HaveWidth sheet records × Replied sheet limits before records replies after
 
--- What a run of a sheet gives, which does no more than so many records together.
+-- What a run of a sheet gives, which does at most this many records together.
 abbrev pub Runs : Sheet → ℕ → Limits → Text → State → State → Option Text → Option Text → Result Tally SheetFault → Type 0
 Runs sheet together limits input before after old new (Ok tally) = AnswersAll sheet limits input before after old new tally
 Runs sheet together limits input before after old new (Err fault.BadHeader) = HasBadHeader sheet input before after old new

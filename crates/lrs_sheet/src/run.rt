@@ -110,13 +110,13 @@ fn do_rows<R: Read, W: Write, K: Keeper>(
     }
 }
 
-/// Does the records of a sheet in order, no more than so many together: they are kept together, and then each has its
+/// Does the records of a sheet in order, at most this many together: they are kept together, and then each has its
 /// line. With one, the line of each reply is written before the next record is read. The writer is not flushed.
 ///
 /// # Errors
 ///
 /// Those of `run_edits` for an edit sheet, and of `run_survey` for a survey. After `Desk(Keep)` some first ones of the
-/// records that have no line, one at least and no more than so many, are done in the desk's image, and may be kept.
+/// records that have no line, one at least and at most this many, are done in the desk's image, and may be kept.
 pub fn run_sheet<R: Read + Drop, W: Write, K: Keeper>(
     alloc: Global,
     sheet: Sheet,

@@ -27,7 +27,7 @@ const SURVEY: &str =
 
 const SURVEY_REPLY: &str = "t9,refused,TooMany:edits\n";
 
-/// Does the sheet, so many records together; where that is one, as `run_edits` does it.
+/// Does the sheet, this many records together; where that is one, as `run_edits` does it.
 fn done(
     alloc: Global,
     together: usize,
@@ -43,7 +43,7 @@ fn done(
     run_sheet(alloc, Sheet::Edits, together, sheet, written, desk)
 }
 
-/// Does the sheet, so many records together, and then the survey.
+/// Does the sheet, this many records together, and then the survey.
 fn no_more_is_taken(rt: &(impl Abort + Print + AllocGlobal), together: usize) -> Result<(), Fail>
     requires { 1 ≤ together }
 {

@@ -77,7 +77,7 @@ fn sheet(alloc: Global) -> Result<String, AllocError> {
     Ok(sheet)
 }
 
-/// Runs a sheet at a desk, so many records together.
+/// Runs a sheet at a desk, this many records together.
 fn run(
     alloc: Global,
     sheet: &str,
@@ -97,7 +97,7 @@ fn run(
     )
 }
 
-/// Does the sheet of all verbs, so many records together.
+/// Does the sheet of all verbs, this many records together.
 fn all_verbs_are_done(rt: &(impl Abort + Print + AllocGlobal), together: usize)
     requires { 1 ≤ together }
 {

@@ -91,7 +91,7 @@ fn put_gone<S: Alter>(tx: &mut Transaction<'_, S>, gone: &Rows<Gone>) -> Result<
     Ok(())
 }
 
-/// Puts the rows that come into the ledgers.
+/// Inserts rows into the ledgers.
 fn put_ledgers<S: Alter>(tx: &mut Transaction<'_, S>, difference: &Difference) -> Result<(), Error>
     ensures same_reference { tx.new.conn.ghost_name ≡ tx.old.conn.ghost_name }
     ensures does { OkDoes result (state S.Store tx.old.conn.now) (state S.Store tx.new.conn.now)
@@ -103,7 +103,7 @@ fn put_ledgers<S: Alter>(tx: &mut Transaction<'_, S>, difference: &Difference) -
     Ok(())
 }
 
-/// Writes the rows of a change, whose edit has this number. The route that goes does so first: the route that
+/// Writes the rows of a change, whose edit has this number. The removed route is deleted first: the route that
 /// changes may get its referents, and a name is in the table once.
 fn write_rows<S: Alter>(tx: &mut Transaction<'_, S>, n: u64, change: &Change) -> Result<(), Error>
     ensures same_reference { tx.new.conn.ghost_name ≡ tx.old.conn.ghost_name }

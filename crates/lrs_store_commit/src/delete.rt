@@ -1,4 +1,4 @@
-//! Rows that go: all of a route in a table, or some by their keys.
+//! Removed rows: all of a route in a table, or some by their keys.
 
 ghost use Rattle.std.specs.Prelude.{◌≡◌};
 ghost use Rattle.sqlite.specs.Held.{state};

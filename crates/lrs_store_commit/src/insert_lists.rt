@@ -1,4 +1,4 @@
-//! Rows of a list that come: of a route, or of a ledger.
+//! Inserted rows of a list: of a route, or of a ledger.
 
 ghost use Rattle.std.specs.Prelude.{◌≡◌};
 ghost use Rattle.lrs_store_tables.specs.Changing.{with_pieces, with_marks, with_refs, with_spans, with_entered, with_gone};
@@ -20,7 +20,7 @@ pub struct Coming {
     pub route: RouteName,
 }
 
-/// Rows that come at the end of a ledger.
+/// Rows inserted at the end of a ledger.
 #[derive(Clone, Copy)]
 pub struct Ledger;
 

@@ -1,4 +1,4 @@
-//! Links, classes and assets that come.
+//! Inserted links, classes and assets.
 
 ghost use Rattle.std.specs.Prelude.{◌≡◌};
 ghost use Rattle.sqlite.specs.Held.{state};
@@ -12,7 +12,7 @@ use lrs_image::Difference;
 use lrs_store_tables::insert::{put_asset, put_class, put_link, put_origin};
 use sqlite::{Alter, Error, Transaction};
 
-/// Puts the row of a link that comes.
+/// Puts the row of a new link.
 fn put_some_link<S: Alter>(tx: &mut Transaction<'_, S>, link: &Option<Link>) -> Result<(), Error>
     ensures same_reference { tx.new.conn.ghost_name ≡ tx.old.conn.ghost_name }
     ensures does { OkDoes result (state S.Store tx.old.conn.now) (state S.Store tx.new.conn.now)
@@ -25,7 +25,7 @@ fn put_some_link<S: Alter>(tx: &mut Transaction<'_, S>, link: &Option<Link>) -> 
     }
 }
 
-/// Puts the row of a class that comes.
+/// Puts the row of a new class.
 fn put_some_class<S: Alter>(tx: &mut Transaction<'_, S>, class: &Option<Class>) -> Result<(), Error>
     ensures same_reference { tx.new.conn.ghost_name ≡ tx.old.conn.ghost_name }
     ensures does { OkDoes result (state S.Store tx.old.conn.now) (state S.Store tx.new.conn.now)
@@ -50,7 +50,7 @@ fn put_entered_asset<S: Alter>(tx: &mut Transaction<'_, S>, asset: &Asset) -> Re
     Ok(())
 }
 
-/// Puts the rows of an asset that comes.
+/// Puts the rows of a new asset.
 fn put_some_asset<S: Alter>(tx: &mut Transaction<'_, S>, asset: &Option<Asset>) -> Result<(), Error>
     ensures same_reference { tx.new.conn.ghost_name ≡ tx.old.conn.ghost_name }
     ensures does { OkDoes result (state S.Store tx.old.conn.now) (state S.Store tx.new.conn.now)
@@ -63,7 +63,7 @@ fn put_some_asset<S: Alter>(tx: &mut Transaction<'_, S>, asset: &Option<Asset>) 
     }
 }
 
-/// Puts the rows of the link, the class and the asset that come.
+/// Puts the rows of the new link, class and asset.
 pub fn put_named<S: Alter>(
     tx: &mut Transaction<'_, S>,
     difference: &Difference,

@@ -6,7 +6,7 @@ ghost use Rattle.lrs_store_commit.specs.NewAssets.{IsNewAsset, BringsOneSpan, Br
 
 use lrs_image::{Change, Difference, RouteChange};
 
-/// Whether the route stays as it is, but for one span that comes.
+/// Whether the route stays as it is, but for one new span.
 fn brings_one_span(change: &RouteChange) -> bool
     ensures { IsTrue result → BringsOneSpan change.now }
 {

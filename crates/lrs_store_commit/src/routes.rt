@@ -180,7 +180,7 @@ fn replace_marks<S: Alter>(
     }
 }
 
-/// Deletes the referents that go, and puts those that come.
+/// Deletes the removed referents and puts the inserted ones.
 fn change_refs<S: Alter>(
     tx: &mut Transaction<'_, S>,
     route: &RouteName,
@@ -196,7 +196,7 @@ fn change_refs<S: Alter>(
     Ok(())
 }
 
-/// Deletes the spans that go, and puts those that come.
+/// Deletes the removed spans and puts the inserted ones.
 fn change_spans<S: Alter>(tx: &mut Transaction<'_, S>, change: &RouteChange) -> Result<(), Error>
     ensures same_reference { tx.new.conn.ghost_name ≡ tx.old.conn.ghost_name }
     ensures does { OkDoes result (state S.Store tx.old.conn.now) (state S.Store tx.new.conn.now)

@@ -30,13 +30,13 @@ pub record AreRowsOf (i : Image) (t : Tables) : Type 0 where
   pub version : t.version ≡ pos 2 ∷ []
   pub holds : content_of t ≡ Ok i
 
--- rows of version 2 that hold an image with so many edits
+-- rows of version 2 that hold an image with this many edits
 pub record HoldEdits (n : ℕ) (t : Tables) : Type 0 where
   pub image : Image
   pub rows : AreRowsOf image t
   pub edits : length image.edits ≡ n
 
--- whatever may be found has so many edits
+-- whatever may be found has this many edits
 abbrev pub HasEdits : ℕ → State → Type 0
 HasEdits n s = HasCleanDisk s → (db : Trees) → s.may_leave db → HoldEdits n (stored db)
 

@@ -1,4 +1,4 @@
--- The texts that come with a change.
+-- The texts of a change.
 use Rattle.std.specs.Prelude.{List, IsTrue, IfSome}
 use Rattle.std.specs.List.{list_all, AllByRecursion}
 use Rattle.std.specs.Str.{IsUtf8}
@@ -14,15 +14,15 @@ use Rattle.lrs_image.specs.declared.change.Change.{Change}
 abbrev pub AreNames : List Referent → Type 0
 AreNames refs = IsTrue (list_all (λ r. is_referent_name r.name) refs)
 
--- so does each on a route that comes, and the route has a name that a route can have
+-- so does each on a new route, and the route has a name that a route can have
 abbrev pub MakesTexts : RouteRow → Type 0
 MakesTexts e = IsTrue (is_route_name e.route.name) × AreNames e.route.refs
 
--- the same of a route that stays: its new name, and the referents that come
+-- the same of a route that stays: its new name, and the inserted referents
 abbrev pub ChangesTexts : RouteChange → Type 0
 ChangesTexts c = IsTrue (is_route_name c.name) × AreNames c.refs.come
 
--- Each text that comes with the change is of its kind.
+-- Each text of the change is of its kind.
 pub record HasTexts (c : Change) : Type 0 where
   pub class : IfSome c.difference.class (λ x. IsTrue (is_class_name x.name))
   pub value : IfSome c.difference.asset (λ a. IsTrue (is_value a.value))
@@ -31,6 +31,6 @@ pub record HasTexts (c : Change) : Type 0 where
   pub key : IsTrue (is_key c.edit.key)
   pub line : IsUtf8 c.edit.line
 
--- so is each that comes with one of the changes
+-- so is each of one of the changes
 abbrev pub HaveTexts : List Change → Type 0
 HaveTexts changes = AllByRecursion HasTexts changes

@@ -45,7 +45,7 @@ fn write_as<S: Alter>(
     }
 }
 
-/// Writes changes as the next edits after so many, all of them or none, and answers the number of the last edit.
+/// Writes changes as the edits after this number, all of them or none, and answers the number of the last edit.
 /// With no change it does nothing.
 pub(crate) fn write_next<S: Alter>(
     conn: &mut Connection<S>,

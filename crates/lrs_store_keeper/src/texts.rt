@@ -22,7 +22,7 @@ fn prove_referents(refs: &[Referent])
     }
 }
 
-/// The name of a class that comes is one.
+/// The name of a new class is one.
 fn prove_class(class: &Option<Class>)
     ensures { IfSome class.now (λ c. IsTrue (is_class_name c.name)) }
 {
@@ -31,7 +31,7 @@ fn prove_class(class: &Option<Class>)
     }
 }
 
-/// The value of an asset that comes is one.
+/// The value of a new asset is one.
 fn prove_asset(asset: &Option<Asset>)
     ensures { IfSome asset.now (λ a. IsTrue (is_value a.value)) }
 {
@@ -40,7 +40,7 @@ fn prove_asset(asset: &Option<Asset>)
     }
 }
 
-/// The names on a route that comes are names.
+/// The names on a new route are names.
 fn prove_made(route_row: &Option<RouteRow>)
     ensures { IfSome route_row.now MakesTexts }
 {
@@ -69,7 +69,7 @@ fn prove_edit(edit: &Edit)
     let _line = edit.line.as_str().as_bytes();
 }
 
-/// Each text that comes with a change is of its kind, as its type says.
+/// Each text of a change is of its kind, as its type says.
 fn prove_texts(change: &Change)
     ensures { HasTexts change.now }
 {
@@ -81,7 +81,7 @@ fn prove_texts(change: &Change)
     prove_edit(&change.edit);
 }
 
-/// So is each text that comes with one of the changes. It does nothing: a contract names it.
+/// So is each text of one of the changes. It does nothing: a contract names it.
 pub(crate) fn prove_all_texts(changes: &[Change])
     ensures { HaveTexts changes.now }
 {

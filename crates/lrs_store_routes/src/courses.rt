@@ -53,7 +53,7 @@ fn course_over(
     }
 }
 
-/// Whether a course needs so many pieces.
+/// Whether a course needs this many pieces.
 fn needs(course: &Course, count: usize) -> bool
     ensures { result ≡ nat_eq count (piece_count course.now) }
 {

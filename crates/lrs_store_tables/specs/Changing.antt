@@ -1,4 +1,4 @@
--- What is written of a change: rows that come, rows that go, and rows of a route that gets another name.
+-- What is written of a change: inserted rows, removed rows, and rows of a route that gets another name.
 use Rattle.std.specs.Prelude.{ℕ, ℤ, pos, negsuc, Bool, false, not, ◌&&◌, nat_eq, List, [], ◌∷◌, ◌++◌, map, filter, if◌then◌else◌}
 use Rattle.std.specs.List.{list_any}
 use Rattle.lrs_measure.specs.Texts.{Name, same_name}
@@ -16,7 +16,7 @@ use Rattle.lrs_store_rows.specs.Tables.{Tables, PieceRow, MarkRow, RefRow, SpanR
 use Rattle.lrs_store_rows.specs.Laws.{origin_row}
 use Rattle.lrs_store_rows.specs.Encoding.{link_row, class_row, asset_row, piece_row, mark_row, ref_row, span_row, entered_row, gone_row, edit_row, numbered}
 
--- rows that come
+-- inserted rows
 
 abbrev pub with_version : ℕ → Tables → Tables
 with_version v t = record t { version = pos v ∷ t.version }
@@ -64,7 +64,7 @@ with_gone gs t = record t { gone = map gone_row gs ++ t.gone }
 abbrev pub with_edit : ℕ → Edit → Tables → Tables
 with_edit n e t = record t { edit = edit_row n e ∷ t.edit }
 
--- rows that go
+-- removed rows
 
 -- the row of the version
 abbrev pub without_version : Tables → Tables

@@ -68,7 +68,7 @@ pub origins_more : (xs : List Asset) (x : Asset) (t u : Tables) → AreSame (wit
 origins_more xs x t u h =
     record { version = h.version; link = h.link; class = h.class; asset = h.asset; piece = h.piece; mark = h.mark; ref = h.ref; span = h.span; entered = h.entered; gone = h.gone; edit = h.edit; origin = behind (map origin_row xs) (origin_row x) t.origin u.origin (map_push origin_row xs x) h.origin }
 
--- ---- rows that go
+-- ---- removed rows
 
 -- to filter twice
 both_step : {X : Type 0} (p q : X → Bool) (r : X) (rs : List X) (a : Bool) → filter (λ x. not (q x)) (filter (λ x. not (p x)) rs) ≡ filter (λ x. not (p x || q x)) rs

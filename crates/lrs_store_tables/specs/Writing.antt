@@ -50,7 +50,7 @@ changed_line c pieces t = with_some (new_marks c.route) c.marks (with_some (new_
 abbrev pub changed_route : RouteChange → Option (List Piece) → Tables → Tables
 changed_route c pieces t = renamed_route c.route c.name (changed_spans c (changed_refs c.route c.refs (changed_line c pieces t)))
 
--- a route that comes
+-- a new route
 abbrev pub new_route : RouteRow → Option (List Piece) → Tables → Tables
 new_route e pieces t = with_spans e.route.name e.spans (with_refs e.route.name e.route.refs (with_marks e.route.name 0 e.route.marks (with_some (with_pieces e.route.name 0) pieces t)))
 
@@ -64,18 +64,18 @@ abbrev pub new_course : Option RouteRow → Option (List Ground)
 new_course None = None
 new_course (Some e) = Some e.route.course
 
--- At most one route goes, another one stays and changes, and one comes, in this order: a route may get referents of the one that goes.
+-- At most one route is removed, another one changes, and one is inserted, in this order: a route may get referents of the removed one.
 abbrev pub with_routes : Difference → Option (List Piece) → Option (List Piece) → Tables → Tables
 with_routes d changed made t = with_some (λ e. new_route e made) d.made (with_some (λ c. changed_route c changed) d.changed (with_some without_route d.dropped t))
 
--- a link, a class or an asset that comes
+-- a new link, class or asset
 abbrev pub with_named : Difference → Tables → Tables
 with_named d t = with_some with_asset d.asset (with_some with_class d.class (with_some with_link d.link t))
 
 abbrev pub with_ledgers : Difference → Tables → Tables
 with_ledgers d t = with_gone d.gone (with_entered d.entered t)
 
--- The rows after a change, whose edit has this number: those that go are gone, those that come are there, and no other differs.
+-- The rows after a change, whose edit has this number: the removed ones are gone, the inserted ones are there, and no other differs.
 abbrev pub written : ℕ → Change → Option (List Piece) → Option (List Piece) → Tables → Tables
 written n c changed made t = with_edit n c.edit (with_ledgers c.difference (with_routes c.difference changed made (with_named c.difference t)))
 

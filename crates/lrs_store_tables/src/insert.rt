@@ -1,4 +1,4 @@
-//! Rows that come, one at a time.
+//! Inserted rows, one at a time.
 
 ghost use Rattle.std.specs.Prelude.{◌≡◌, OnOk, IsTrue};
 ghost use Rattle.sqlite.specs.State.{HasCleanDisk};

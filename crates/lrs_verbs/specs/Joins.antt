@@ -1,4 +1,4 @@
--- A route that goes on as another.
+-- A route that continues as another.
 use Rattle.std.specs.Prelude.{◌++◌, ◌≡◌, true, nat_lt, List, [], map, length, Some, Result, Ok}
 use Rattle.std.specs.List.{list_all}
 use Rattle.lrs_inventory.specs.Prelude.{each_two, Ground, Mark, is_too_long, has_row, are_rows, span_before, end_by, Cause, RouteRow, ◌>>◌, RouteChange, spans_after}

@@ -54,7 +54,7 @@ refs_on from to refs = filter (λ q. is_within from to q.at) refs
 abbrev pub on_from : ℕ → ℕ → Referent → Referent
 on_from to at q = record q { at = at + (q.at - to) }
 
--- the referents from a stretch on go, and those behind it come again, behind what comes for it
+-- the referents from a stretch on go, and those behind it come again, behind what replaces it
 abbrev pub referents_moved : ℕ → ℕ → ℕ → List Referent → ReferentChange
 referents_moved from to len refs = record { gone = map (λ q. q.name) (refs_behind from refs); come = map (on_from to (from + len)) (refs_behind to refs) }
 

@@ -1,4 +1,4 @@
--- What an edit takes away on a route: rows that go and come there, and the rows of a ledger for what is handed back.
+-- What an edit takes away on a route: rows removed and inserted there, and the rows of a ledger for what is handed back.
 use Rattle.std.specs.Prelude.{◌≡◌, ℕ, ◌&&◌, nat_eq, List, Some}
 use Rattle.lrs_inventory.specs.Prelude.{Name, same_name, Asset, Kind, Gone, holds_by_spans, Removal, is_within, Image, RouteRow, state_of, asset_entry, Extent, RouteChange, Difference, no_difference, AreGone}
 use Rattle.lrs_events.specs.declared.change.SpanChange.{SpanChange}

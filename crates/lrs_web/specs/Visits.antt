@@ -22,7 +22,7 @@ module _ {K : Type 0} (holds : K → Result Image Table → Type 0) where
   abbrev pub IsCut : Option Text → DeskView K → DeskView K → Type 0
   IsCut bytes old new = (new ≡ old) ⊎ ((asked : Asked) × (due : Answer) × IsDone bytes asked due old new)
 
-  -- Of requests with these bytes, where they are told, so many are served in full, in their order, and so many are cut off.
+  -- Of requests with these bytes, where they are told, this many are served in full, in their order, and this many are cut off.
   pub data Visits : List (Option Text) → ℕ → ℕ → DeskView K → DeskView K → Type 0 where
     nobody : (desk : DeskView K) → Visits [] 0 0 desk desk
     full_visit : (inputs : List (Option Text)) (input : Option Text) (full cut : ℕ) (old mid new : DeskView K) → Visits inputs full cut old mid

@@ -88,7 +88,7 @@ fn serve_connection<C: Read + Write, K: Keeper>(
     }
 }
 
-/// Serves so many connections of a door, one after another: the request of each is read, done and answered as
+/// Serves a number of connections of a door, one after another: the request of each is read, done and answered as
 /// `serve_one` does it. A connection that fails ends alone.
 ///
 /// # Errors

@@ -3,14 +3,13 @@
 ghost use Rattle.std.specs.Prelude.{◌≡◌, IfOk, string_bytes};
 ghost use Rattle.std.specs.Str.{IsAscii};
 ghost use Rattle.serde_json.specs.View.{view};
-ghost use Rattle.lrs_machine.specs.Lines.{piece_text};
 
 use crate::answers::name_of;
 use crate::list::{Shown, list_value};
 use lrs_answers::FoundRow;
 use lrs_element::{Mark, Piece};
 use lrs_events::Value as AssetValue;
-use lrs_machine::{Hit, Segment, Total};
+use lrs_machine::{Hit, Segment, Total, piece_text};
 use lrs_position::Referent;
 use serde_json::{Value, json};
 use std::alloc::{AllocError, Global};
@@ -47,17 +46,9 @@ impl Shown for Piece {
     ghost shown = { piece_data };
 
     fn value(&self, alloc: Global) -> Result<Value, AllocError> {
-        let text = text_of_piece(alloc, self)?;
+        let text = piece_text(alloc, self)?;
         Ok(Value::from(text))
     }
-}
-
-fn text_of_piece(alloc: Global, piece: &Piece) -> Result<String, AllocError>
-    ensures { IfOk result (λ text. string_bytes text ≡ piece_text piece.now) }
-{
-    let Piece { link, from, to, .. } = *piece;
-    let direction = if piece.forward { "+" } else { "-" };
-    format!(in alloc; "{link}:{from}:{to}:{direction}")
 }
 
 impl Shown for Referent {

@@ -1,8 +1,8 @@
--- The body of a request: so many bytes at the front of what follows the head.
+-- The body of a request: a number of bytes at the front of what follows the head.
 use Rattle.std.specs.Prelude.{◌≡◌, ℕ, ◌<◌, ◌≤◌, List, length, take, drop, nat_lt, Option, None, Some, if◌then◌else◌}
 use Rattle.std.specs.Io.KnownBytes.{Consumes, IsAtEnd}
 
--- the first n bytes, where there are so many
+-- the first n bytes, where there are that many
 abbrev pub body_at : ℕ → List ℕ → Option (List ℕ)
 body_at n input = if nat_lt (length input) n then None else Some (take n input)
 

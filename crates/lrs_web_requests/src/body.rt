@@ -44,7 +44,7 @@ fn fill<R: Read>(reader: &mut R, buffer: &mut [u8], from: usize) -> io::Result<u
     Ok(filled)
 }
 
-/// The first so many bytes of an input whose front has been read, or nothing where it is shorter.
+/// A number of first bytes of an input whose front has been read, or nothing where it is shorter.
 pub fn read_body<R: Read>(
     alloc: Global,
     reader: &mut R,

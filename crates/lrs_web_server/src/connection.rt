@@ -16,7 +16,7 @@ const ENDING_MILLIS: u64 = 1_000;
 // So often a signal may interrupt a read before the connection is given up.
 const MOST_INTERRUPTIONS: u32 = 1_000;
 
-// What a client sent beyond its request is read in so many pieces at most, and let go.
+// What a client sent beyond its request is read in at most this many pieces, and let go.
 const MOST_PIECES: u32 = 1_024;
 
 const PIECE: usize = 4_096;

@@ -27,7 +27,7 @@ fn say<R: Runtime<A = Global>>(rt: &R, port: u16) -> io::Result<()> {
     output.flush()
 }
 
-/// Listens on a port of 127.0.0.1, says so on standard output, and serves so many connections at a desk, one after
+/// Listens on a port of 127.0.0.1, says so on standard output, and serves a number of connections at a desk, one after
 /// another.
 ///
 /// # Errors

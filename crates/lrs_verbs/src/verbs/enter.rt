@@ -1,4 +1,4 @@
-//! An asset that comes to hold places.
+//! An asset that enters.
 
 ghost use Rattle.std.specs.Prelude.{◌≡◌, ◌<◌, false, if◌then◌else◌, IfOk, IsTrue, None, true, length};
 ghost use Rattle.lrs_inventory.specs.Prelude.{each_two, differs, places_on, state_of, part_of, refuse_at};

@@ -70,7 +70,7 @@ fn joined_marks(first: &Route, second: &Route) -> Result<Marks, Stop>
     Ok(marks)
 }
 
-/// What becomes of a route that goes on as another, over this course and with these marks.
+/// What becomes of a route that continues as another, over this course and with these marks.
 #[tactic(auto, using(crate::proofs::Going::plan_there))]
 fn lengthened(
     alloc: Global,

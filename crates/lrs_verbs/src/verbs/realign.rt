@@ -70,7 +70,7 @@ fn check_stretch(len: u64, from: u64, to: u64, pieces: &[Piece]) -> Result<(), S
     refuse_if(to < from || (from == to && pieces.is_empty()), Cause::Empty)
 }
 
-/// The ground that comes, the course with it, and its marks.
+/// The new ground, the course with it, and its marks.
 #[derive(Drop)]
 struct NewLine {
     come: Course,
@@ -221,7 +221,7 @@ fn names_on(
     Ok(Rows::from_vec(out))
 }
 
-/// The referents from a stretch on go, and those behind it come again, behind the ground that comes for it.
+/// The referents from a stretch on go, and those behind it come again, behind the ground that replaces it.
 fn moved_referents(
     alloc: Global,
     refs: &[Referent],

@@ -54,7 +54,7 @@ fn turn_route(alloc: Global, route_row: &RouteRow) -> Result<RouteChange, AllocE
     Ok(change)
 }
 
-/// The rows that go and those that come where a route of this length is seen from its other end.
+/// The removed and the inserted rows where a route of this length is seen from its other end.
 fn turn_spans(alloc: Global, spans: &Spans, len: u64) -> Result<SpanChange, AllocError>
     requires ends { IsTrue (end_by len spans.now) }
     requires len { len ≤ longest_route }
