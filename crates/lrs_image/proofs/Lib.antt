@@ -3,3 +3,4 @@ pub mod Named
 pub mod Becoming
 pub mod Tables
 pub mod Together
+pub mod OneChange

@@ -1,12 +1,11 @@
 -- Several changes, one after the other: the image after some first ones of them, and that it is sound.
-use Rattle.std.proofs.Common.{◌≡◌, ℕ, ◌+◌, ◌<◌, List, [], ◌∷◌, ◌++◌, length, take, drop, get_or, refl, sym, ap, subst, ◌∙◌, arith, Result}
-use Rattle.std.proofs.lemmas.List.{take_more, take_all, take-append-drop, length_push}
+use Rattle.std.proofs.Common.{◌≡◌, ℕ, ◌+◌, ◌<◌, List, [], ◌∷◌, ◌++◌, length, take, drop, get_or, refl, sym, ap, subst, ◌∙◌, arith}
+use Rattle.std.proofs.lemmas.List.{take_more, take-append-drop, length_push}
 use Rattle.lrs_machine.specs.declared.image.Image.{Image}
-use Rattle.lrs_machine.specs.declared.table.Table.{Table}
 use Rattle.lrs_machine.specs.Sound.{IsSound}
 use Rattle.lrs_image.specs.declared.change.Change.{Change}
 use Rattle.lrs_image.specs.Change.{apply, CanMake}
-use Rattle.lrs_image.specs.Together.{apply_all, CanMakeAll, IsChangedBy, IsChangedBySome}
+use Rattle.lrs_image.specs.Together.{apply_all, CanMakeAll}
 
 -- the image after more changes
 pub apply_append : (xs ys : List Change) (i : Image) → apply_all (xs ++ ys) i ≡ apply_all ys (apply_all xs i)
@@ -64,8 +63,3 @@ edits_after (x ∷ xs) i = edits_after xs (apply x i) ∙ one_more x xs i
   where
     one_more : (y : Change) (ys : List Change) (j : Image) → length (apply y j).edits + length ys ≡ length j.edits + length (y ∷ ys)
     one_more y ys j = omega (arith, length_push j.edits y.edit)
-
--- What all changes make, the first ones make: all of them.
-pub some_are_all : (may : Result Image Table → Type 0) (xs : List Change) (x : Result Image Table) → IsChangedBy may xs x → IsChangedBySome may xs x
-some_are_all may xs x changed =
-    (length xs, subst (λ cs. IsChangedBy may cs x) (sym (take_all (length xs) xs (omega (arith)))) changed)

@@ -1,5 +1,5 @@
 -- Several changes, one after the other, that are kept together.
-use Rattle.std.specs.Prelude.{◌≡◌, ℕ, List, [], ◌∷◌, take, Result, Ok, ⊤}
+use Rattle.std.specs.Prelude.{◌≡◌, List, [], ◌∷◌, Result, Ok, ⊤}
 use Rattle.lrs_machine.specs.declared.image.Image.{Image}
 use Rattle.lrs_machine.specs.declared.table.Table.{Table}
 use Rattle.lrs_image.specs.declared.change.Change.{Change}
@@ -18,7 +18,3 @@ CanMakeAll (c ∷ cs) i = CanMake c i × CanMakeAll cs (apply c i)
 -- what the changes make of an image that could be found before them
 abbrev pub IsChangedBy : (Result Image Table → Type 0) → List Change → Result Image Table → Type 0
 IsChangedBy before changes c = (image : Image) × before (Ok image) × (c ≡ Ok (apply_all changes image))
-
--- what some first ones of the changes make of an image that could be found before them
-abbrev pub IsChangedBySome : (Result Image Table → Type 0) → List Change → Result Image Table → Type 0
-IsChangedBySome before changes c = (k : ℕ) × IsChangedBy before (take k changes) c

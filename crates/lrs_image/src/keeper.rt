@@ -26,18 +26,20 @@ impl From<AllocError> for LoadFault {
     }
 }
 
-/// Changes are not made, as the device failed. What is kept is as it was, or with some first ones of them.
+/// The device failed: all that was staged is kept, or nothing of it.
 #[derive(Clone, Copy, Debug, PartialEq, Eq)]
 pub struct CommitFailed;
 
-/// Keeps an image, on a device that may fail.
+/// Keeps an image, on a device that may fail. A change is staged first, which may take memory; a commit then keeps
+/// all that is staged, and takes none that it cannot do without.
 pub trait Keeper {
-    ghost use Rattle.std.specs.Prelude.{◌≡◌, ◌≤◌, ℕ, Bool, true, Ok, Err, Result, IfOk, OnOk, OnErr, ◌⊎◌};
+    ghost use Rattle.std.specs.Prelude.{◌≡◌, ◌≤◌, ℕ, Bool, true, Ok, Err, Result, IfOk, OnOk, OnErr, ◌⊎◌, List, [], ◌∷◌, ◌++◌};
     ghost use Rattle.lrs_machine.specs.declared.image.Image.{Image};
     ghost use Rattle.lrs_machine.specs.declared.table.Table.{Table};
     ghost use Rattle.lrs_machine.specs.Sound.{IsSound};
-    ghost use Rattle.lrs_image.specs.Keeping.{HasRisen, HoldsSound};
-    ghost use Rattle.lrs_image.specs.Together.{CanMakeAll, IsChangedBy, IsChangedBySome};
+    ghost use Rattle.lrs_image.specs.declared.change.Change.{Change as StagedChange};
+    ghost use Rattle.lrs_image.specs.Keeping.{HasRisen, HoldsSound, HoldsSame};
+    ghost use Rattle.lrs_image.specs.Together.{CanMakeAll, IsChangedBy};
 
     // What an opening at this moment may find: a sound image, or the first unsound table.
     ghost may_hold: { Self → Result Image Table → Type 0 };
@@ -51,7 +53,10 @@ pub trait Keeper {
     /// How often the device has failed.
     ghost failures: { Self → ℕ };
 
-    /// Reads the image. It leaves the content as it is, whatever it answers.
+    /// What the next commit is to keep. An opening finds nothing of it.
+    ghost staged: { Self → List StagedChange };
+
+    /// Reads the image. It leaves the content as it is, whatever it answers, and nothing staged.
     fn load(&mut self, alloc: Global) -> Result<Image, LoadFault>
         ensures image { IfOk result (λ image. (c : Result Image Table) → may_hold self.new c
             → c ≡ Ok image) }
@@ -64,22 +69,39 @@ pub trait Keeper {
         ensures quiet { (result ≡ Err LoadFault.Store → ⊥) → failures self.new ≡ failures self.old }
         ensures counts { failures self.old ≤ failures self.new }
         ensures found { HoldsSound (may_hold self.new) }
-        ensures content { (c : Result Image Table) → may_hold self.new c → may_hold self.old c };
+        ensures content { (c : Result Image Table) → may_hold self.new c → may_hold self.old c }
+        ensures staged { staged self.new ≡ [] };
 
-    /// Makes changes, each of what those before it made. Want of memory counts as a failure of the device.
-    fn commit(&mut self, changes: &[Change]) -> Result<(), CommitFailed>
+    /// Takes a change over, behind those that are staged. It makes no call of the device.
+    ///
+    /// # Errors
+    /// When memory runs out; all is then as it was, and the change is dropped.
+    fn stage(&mut self, change: Change) -> Result<(), AllocError>
+        ensures ok { OnOk result (staged self.new ≡ staged self.old ++ change ∷ []) }
+        ensures err { OnErr result (staged self.new ≡ staged self.old) }
+        ensures content { HoldsSame (may_hold self.old) (may_hold self.new) }
+        ensures clean { is_clean self.old → is_clean self.new }
+        ensures loaded { is_loaded self.new ≡ is_loaded self.old }
+        ensures quiet { failures self.new ≡ failures self.old };
+
+    /// Keeps what is staged, each change of what those before it made. Nothing is staged then, whatever it answers.
+    ///
+    /// # Errors
+    /// Where the device fails: all that was staged is kept then, or nothing of it.
+    fn commit(&mut self) -> Result<(), CommitFailed>
         requires loaded { is_loaded self.old ≡ true }
         requires sound { HoldsSound (may_hold self.old) }
         requires can { (c : Result Image Table) → may_hold self.old c
-            → IfOk c (CanMakeAll changes.now) }
+            → IfOk c (CanMakeAll (staged self.old)) }
         ensures ok { OnOk result ((c : Result Image Table) → may_hold self.new c
-            → IsChangedBy (may_hold self.old) changes.now c) }
+            → IsChangedBy (may_hold self.old) (staged self.old) c) }
         ensures failed { OnErr result ((c : Result Image Table) → may_hold self.new c
-            → may_hold self.old c ⊎ IsChangedBySome (may_hold self.old) changes.now c) }
+            → may_hold self.old c ⊎ IsChangedBy (may_hold self.old) (staged self.old) c) }
         ensures cause { OnErr result (HasRisen (failures self.old) (failures self.new)) }
         ensures counts { failures self.old ≤ failures self.new }
         ensures found { HoldsSound (may_hold self.new) }
-        ensures loaded { is_loaded self.new ≡ true };
+        ensures loaded { is_loaded self.new ≡ true }
+        ensures staged { staged self.new ≡ [] };
 
     // Where the device is clean something may be found, so a keeper cannot promise everything of nothing.
     ghost finds: { (keeper : Self) → is_clean keeper → (c : Result Image Table) × may_hold keeper c };

@@ -1,8 +1,9 @@
 //! The lists of an image, in which room is made before anything changes.
 
-ghost use Rattle.std.specs.Prelude.{◌≡◌, ◌≤◌, ◌+◌, ℕ, IfOk, OnOk, OnErr, take};
+ghost use Rattle.std.specs.Prelude.{◌≡◌, ◌≤◌, ◌+◌, IfOk, OnOk, OnErr, true};
+ghost use Rattle.lrs_measure.specs.Lists.{each_two};
 ghost use Rattle.lrs_machine.specs.Image.{nothing};
-ghost use Rattle.lrs_machine.specs.Sound.{IsSound};
+ghost use Rattle.lrs_machine.specs.Sound.{IsSound, route_before};
 ghost use Rattle.lrs_image.specs.Change.{apply, CanMake, CanDiffer};
 ghost use Rattle.lrs_image.specs.Together.{apply_all, CanMakeAll};
 ghost use Rattle.lrs_image.specs.Kept.{image_of, image_with, HasRoomFor, IsPrepared};
@@ -133,6 +134,17 @@ impl KeptImage {
         make_room(&mut self.edits, 1)
     }
 
+    /// Puts a route that was to change back into its place. It takes no memory.
+    pub fn put_back(&mut self, opened: Option<OpenRoute>)
+        requires room { 1 ≤ self.old.routes.room }
+        requires order { each_two route_before (image_with opened self.old).routes ≡ true }
+        ensures { image_of self.new ≡ image_with opened self.old }
+    {
+        if let Some(opened) = opened {
+            self.routes.insert_ordered(opened.close());
+        }
+    }
+
     /// Makes a change for which the lists are prepared. It takes no memory and cannot fail.
     pub fn finish(&mut self, opened: Option<OpenRoute>, change: Change)
         requires prepared { IsPrepared change.difference opened self.old }
@@ -170,13 +182,11 @@ impl KeptImage {
     /// Makes changes, each of what those before it made.
     ///
     /// # Errors
-    /// When memory runs out; some first ones are made then.
+    /// When memory runs out; some first ones may be made then.
     pub fn change_all(&mut self, alloc: Global, changes: &[Change]) -> Result<(), AllocError>
         requires sound { IsSound (image_of self.old) }
         requires can { CanMakeAll changes.now (image_of self.old) }
         ensures ok { OnOk result (image_of self.new ≡ apply_all changes.now (image_of self.old)) }
-        ensures err { OnErr result ((k : ℕ) × (image_of self.new
-            ≡ apply_all (take k changes.now) (image_of self.old))) }
         ensures sound { IsSound (image_of self.new) }
     {
         for change in changes {

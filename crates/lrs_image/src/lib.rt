@@ -2,6 +2,7 @@
 #![tactic(auto)]
 
 mod change;
+mod commit;
 mod keeper;
 mod kept_image;
 mod lists;
@@ -9,6 +10,7 @@ mod open_route;
 mod routes;
 
 pub use change::{Change, Difference, ReferentChange, RouteChange};
+pub use commit::{CommitFault, make_change, stage_change};
 pub use keeper::{CommitFailed, Keeper, LoadFault};
 pub use kept_image::KeptImage;
 pub use open_route::OpenRoute;

@@ -1,7 +1,11 @@
 //! An image that is kept in memory.
 
-ghost use Rattle.std.specs.Prelude.{◌≡◌, IfOk, Ok};
+ghost use Rattle.std.specs.Prelude.{◌≡◌, IfOk, Ok, []};
 ghost use Rattle.lrs_machine.specs.Image.{nothing};
+ghost use Rattle.lrs_machine.specs.Sound.{IsSound};
+ghost use Rattle.lrs_image.specs.Kept.{image_of};
+ghost use Rattle.lrs_image_plain.specs.Plain.{IsBase};
+ghost use Rattle.lrs_image.specs.Together.{apply_all};
 ghost use Rattle.lrs_image.specs.Keeping.{content_of};
 
 use lrs_image::{Change, CommitFailed, Keeper, KeptImage, LoadFault};
@@ -16,24 +20,26 @@ enum Content {
     Unsound(Table),
 }
 
-/// Keeps an image in memory, or the name of its first unsound table. It is for tests and small inventories:
-/// `load` copies all of the image, and `commit` no more than the changes. Where memory runs out at a commit, some first
-/// changes are kept, and that counts as a failure.
+/// Keeps an image in memory, or the name of its first unsound table. It has the image that it was loaded as last, and
+/// each change since. So `stage` takes a change as it is, and `commit` takes no memory and never fails. `load` makes the
+/// changes of a copy of that image.
 #[derive(Drop)]
 pub struct Plain {
-    content: Content,
-    failures: u64,
-    alloc: Global,
+    base: Content,
+    changes: Vec<Change>,
+    /// How many of the changes are kept; the others are staged.
+    kept: usize,
 }
 
 impl Model for Plain {
-    ghost use Rattle.lrs_image_plain.specs.Plain.{content_in, IsContent, PlainView};
+    ghost use Rattle.lrs_image_plain.specs.Plain.{content_after, PlainView, IsPlain};
+    ghost use Rattle.std.specs.Prelude.{take, drop};
 
     ghost Value = { PlainView };
 
-    ghost view = { λ plain. record { content = content_in plain.content; failures = plain.failures } };
+    ghost view = { λ plain. record { content = content_after (take plain.kept plain.changes.items) plain.base; staged = drop plain.kept plain.changes.items } };
 
-    ghost invariant = { λ plain. IsContent plain.content };
+    ghost invariant = { λ plain. IsPlain plain.base plain.kept plain.changes.items };
 }
 
 impl Plain {
@@ -42,29 +48,46 @@ impl Plain {
     /// # Errors
     /// When memory runs out.
     pub fn new(image: Image, alloc: Global) -> Result<Plain, AllocError>
-        ensures { IfOk result (λ plain.
-            plain ≡ record { content = content_of image; failures = 0 }) }
+        ensures { IfOk result (λ plain. plain ≡ record { content = content_of image; staged = [] }) }
     {
-        let content = match first_unsound(alloc, &image)? {
+        let base = match first_unsound(alloc, &image)? {
             Some(table) => Content::Unsound(table),
             None => Content::Sound(KeptImage::of_image(alloc, image)?),
         };
         Ok(Plain {
-            content,
-            failures: 0,
-            alloc,
+            base,
+            changes: Vec::new(alloc),
+            kept: 0,
         })
     }
 
     /// Keeps the image without entries.
     pub fn empty(alloc: Global) -> Plain
-        ensures { result ≡ record { content = Ok nothing; failures = 0 } }
+        ensures { result ≡ record { content = Ok nothing; staged = [] } }
     {
         Plain {
-            content: Content::Sound(KeptImage::empty(alloc)),
-            failures: 0,
-            alloc,
+            base: Content::Sound(KeptImage::empty(alloc)),
+            changes: Vec::new(alloc),
+            kept: 0,
         }
+    }
+
+    /// Drops what is staged.
+    pub fn drop_staged(&mut self)
+        ensures { self.new ≡ record self.old { staged = [] } }
+    {
+        self.changes.truncate(self.kept);
+    }
+
+    // Has the image that its changes made, in place of the one before them.
+    fn fold(&mut self, made: KeptImage)
+        requires sound { IsSound (image_of made) }
+        requires same { self.old.content ≡ Ok (image_of made) }
+        ensures { self.new ≡ record self.old { staged = [] } }
+    {
+        self.changes.clear();
+        self.kept = 0;
+        self.base = Content::Sound(made);
     }
 }
 
@@ -81,27 +104,42 @@ impl Keeper for Plain {
 
     ghost is_loaded = { λ plain. is_image plain.content };
 
-    ghost failures = { λ plain. plain.failures };
+    // It has no device, so that no commit fails.
+    ghost failures = { λ plain. 0 };
+
+    ghost staged = { λ plain. plain.staged };
 
     fn load(&mut self, alloc: Global) -> Result<Image, LoadFault> {
-        match &self.content {
-            Content::Sound(kept) => {
-                let image = kept.image(alloc)?;
-                Ok(image)
-            }
-            Content::Unsound(table) => Err(LoadFault::Unsound(*table)),
-        }
+        self.changes.truncate(self.kept);
+        let base = match &self.base {
+            Content::Sound(base) => base,
+            Content::Unsound(table) => return Err(LoadFault::Unsound(*table)),
+        };
+        let made = made_of(alloc, base, &self.changes)?;
+        let image = made.image(alloc)?;
+        self.fold(made);
+        Ok(image)
     }
 
-    fn commit(&mut self, changes: &[Change]) -> Result<(), CommitFailed> {
-        let made = match &mut self.content {
-            Content::Sound(kept) => kept.change_all(self.alloc, changes),
-            Content::Unsound(_) => unreachable!(),
-        };
-        if made.is_err() {
-            self.failures = self.failures.saturating_add(1);
-            return Err(CommitFailed);
-        }
+    fn stage(&mut self, change: Change) -> Result<(), AllocError> {
+        self.changes.push(change)?;
         Ok(())
     }
+
+    fn commit(&mut self) -> Result<(), CommitFailed> {
+        self.kept = self.changes.as_slice().len();
+        Ok(())
+    }
+}
+
+/// What changes make of an image.
+fn made_of(alloc: Global, base: &KeptImage, changes: &[Change]) -> Result<KeptImage, AllocError>
+    requires base { IsBase changes.now (image_of base.now) }
+    ensures made { IfOk result (λ made. image_of made ≡ apply_all changes.now (image_of base.now)) }
+    ensures sound { IfOk result (λ made. IsSound (image_of made)) }
+{
+    let image = base.image(alloc)?;
+    let mut made = KeptImage::of_image(alloc, image)?;
+    made.change_all(alloc, changes)?;
+    Ok(made)
 }

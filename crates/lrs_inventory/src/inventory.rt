@@ -1,6 +1,9 @@
 //! An inventory: its image, and what is looked up in it.
 
-ghost use Rattle.std.specs.Prelude.{◌≡◌, IfOk, OnOk, OnErr, length};
+ghost use Rattle.std.specs.Prelude.{◌≡◌, ◌∷◌, ◌++◌, [], IfOk, OnOk, OnErr, Err, Result, true, length};
+ghost use Rattle.lrs_machine.specs.declared.image.Image.{Image as ImageRows};
+ghost use Rattle.lrs_machine.specs.declared.table.Table.{Table};
+ghost use Rattle.lrs_image.specs.Keeping.{HasRisen, HoldsOnly, HoldsOldOrNew, HoldsSame};
 ghost use Rattle.lrs_inventory.specs.Prelude.{IsSound, image_of};
 ghost use Rattle.lrs_image.specs.Change.{apply, CanMake};
 ghost use Rattle.lrs_inventory.specs.Plans.{change_of, TellsGround};
@@ -11,9 +14,8 @@ mod lookups;
 use crate::indexes::Indexes;
 use crate::plan::Plan;
 pub use extents::RouteStretch;
-use lrs_image::{Change, KeptImage};
+use lrs_image::{Change, CommitFault, Keeper, KeptImage, make_change, stage_change};
 use lrs_machine::{Edit, Image};
-use lrs_measure::TryCopy;
 use std::alloc::{AllocError, Global};
 use std::marker::Model;
 
@@ -114,17 +116,28 @@ impl Inventory {
 }
 
 impl Inventory {
-    /// Makes a change by its plan, and answers the change, for those who keep it. What comes is indexed first, which
-    /// takes memory, and taken out again if the change is not made, which takes none.
+    /// Makes a change by its plan here, and stages it. What is new is indexed first, which takes memory, and removed
+    /// again where the change is not staged, which takes none.
     ///
     /// # Errors
     /// When memory runs out; nothing has changed then.
-    pub fn make(&mut self, alloc: Global, edit: Edit, plan: Plan) -> Result<Change, AllocError>
+    pub fn stage<K: Keeper>(
+        &mut self,
+        alloc: Global,
+        keeper: &mut K,
+        edit: Edit,
+        plan: Plan,
+    ) -> Result<(), AllocError>
         requires can { CanMake (change_of edit plan) self.old }
         requires tells { TellsGround plan self.old }
-        ensures change { IfOk result (λ change. change ≡ change_of edit plan) }
         ensures ok { OnOk result (self.new ≡ apply (change_of edit plan) self.old) }
+        ensures staged { OnOk result (K.staged keeper.new
+            ≡ K.staged keeper.old ++ change_of edit plan ∷ []) }
         ensures err { OnErr result (self.new ≡ self.old) }
+        ensures not_staged { OnErr result (K.staged keeper.new ≡ K.staged keeper.old) }
+        ensures content { HoldsSame (K.may_hold keeper.old) (K.may_hold keeper.new) }
+        ensures loaded { K.is_loaded keeper.new ≡ K.is_loaded keeper.old }
+        ensures quiet { K.failures keeper.new ≡ K.failures keeper.old }
     {
         let Plan {
             difference,
@@ -132,14 +145,62 @@ impl Inventory {
             referents,
         } = plan;
         let key = edit.key;
-        let change = Change { edit, difference };
-        let copy = change.copy(alloc)?;
         let place = self.kept.edits.as_slice().len() as u64;
         self.indexes.put_in(&key, place, &ground, &referents.come)?;
-        match self.kept.change(alloc, change) {
+        match stage_change(alloc, &mut self.kept, keeper, Change { edit, difference }) {
             Ok(()) => {
                 self.indexes.let_go(&ground, referents.gone.as_slice());
-                Ok(copy)
+                Ok(())
+            }
+            Err(fault) => {
+                self.indexes.take_out(&key, place, &ground, &referents.come);
+                Err(fault)
+            }
+        }
+    }
+
+    /// Makes a change by its plan, in what is kept and then here. What is new is indexed before the commit, which takes
+    /// memory, and removed again where the commit fails, which takes none.
+    ///
+    /// # Errors
+    /// `Memory` when memory runs out, and `Store` where the device fails; here nothing has changed then.
+    pub fn make<K: Keeper>(
+        &mut self,
+        alloc: Global,
+        keeper: &mut K,
+        edit: Edit,
+        plan: Plan,
+    ) -> Result<(), CommitFault>
+        requires loaded { K.is_loaded keeper.old ≡ true }
+        requires staged { K.staged keeper.old ≡ [] }
+        requires content { HoldsOnly (K.may_hold keeper.old) self.old }
+        requires can { CanMake (change_of edit plan) self.old }
+        requires tells { TellsGround plan self.old }
+        ensures ok { OnOk result (self.new ≡ apply (change_of edit plan) self.old) }
+        ensures ok_kept { OnOk result (HoldsOnly (K.may_hold keeper.new)
+            (apply (change_of edit plan) self.old)) }
+        ensures err { OnErr result (self.new ≡ self.old) }
+        ensures memory { result ≡ Err CommitFault.Memory → (c : Result ImageRows Table)
+            → K.may_hold keeper.new c → K.may_hold keeper.old c }
+        ensures store { result ≡ Err CommitFault.Store
+            → HoldsOldOrNew (change_of edit plan) (K.may_hold keeper.new) self.old }
+        ensures cause { result ≡ Err CommitFault.Store
+            → HasRisen (K.failures keeper.old) (K.failures keeper.new) }
+        ensures loaded { K.is_loaded keeper.new ≡ true }
+        ensures staged { K.staged keeper.new ≡ [] }
+    {
+        let Plan {
+            difference,
+            ground,
+            referents,
+        } = plan;
+        let key = edit.key;
+        let place = self.kept.edits.as_slice().len() as u64;
+        self.indexes.put_in(&key, place, &ground, &referents.come)?;
+        match make_change(alloc, &mut self.kept, keeper, Change { edit, difference }) {
+            Ok(()) => {
+                self.indexes.let_go(&ground, referents.gone.as_slice());
+                Ok(())
             }
             Err(fault) => {
                 self.indexes.take_out(&key, place, &ground, &referents.come);

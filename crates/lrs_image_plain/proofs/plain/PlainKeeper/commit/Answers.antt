@@ -1,7 +1,20 @@
-use Rattle.std.proofs.Common.{Ok, ap, sym, ◌∙◌}
-use Rattle.lrs_image.specs.Kept.{image_of}
-use Rattle.lrs_image_plain.specs.Plain.{content_in, PlainView}
+use Rattle.std.proofs.Common.{List, length, ap}
+use Rattle.lrs_image.specs.declared.change.Change.{Change}
+use Rattle.lrs_image_plain.proofs.Staged.{all_kept, all_made, holds_sound}
 use Rattle.lrs_image_plain.proofs.plain.PlainKeeper.commit.Goals as goal
 
-pub change_all-made-requires-clause-can : goal.change_all-made-requires-clause-can
-change_all-made-requires-clause-can c = c.requires.can (Ok (image_of c.in-Sound.kept)) (sym (ap content_in c.in-Sound.is) ∙ ap (λ (v : PlainView). v.content) c.self.view_is)
+pub invariant_of-self : goal.invariant_of-self
+invariant_of-self c =
+    let d = c.self.inside in
+    all_kept d.kept _ d.changes.items (ap (λ (cs : List Change). length cs) c.as_slice.ensures.value) d.base c.args.self.now c.self.invariant c.self.view_is c.requires.can
+
+pub returns-clause-ok : goal.returns-clause-ok
+returns-clause-ok c =
+    let d = c.self.inside in
+    all_made d.kept _ d.changes.items (ap (λ (cs : List Change). length cs) c.as_slice.ensures.value) d.base c.args.self.now c.self.invariant c.self.view_is c.requires.loaded
+
+pub returns-clause-found : goal.returns-clause-found
+returns-clause-found c =
+    let d = c.self.inside in
+    let is = all_kept d.kept _ d.changes.items (ap (λ (cs : List Change). length cs) c.as_slice.ensures.value) d.base c.args.self.now c.self.invariant c.self.view_is c.requires.can in
+    holds_sound _ d.base is.content

@@ -1,49 +1,21 @@
-use Rattle.std.proofs.Common.{◌≡◌, ℕ, List, length, Result, Ok, Err, OnOk, OnErr, ap, sym, subst, ◌∙◌}
-use Rattle.std.proofs.lemmas.Bool.{false≢true}
-use Rattle.std.specs.Result.{IsErr}
+use Rattle.std.proofs.Common.{◌≡◌, ℕ, List, length, ap, sym, subst, ◌∙◌}
 use Rattle.std.specs.FinMap.{get}
 use Rattle.lrs_inventory.specs.Prelude.{Name, Edit, Image, IsSound, image_of}
 use Rattle.lrs_image.specs.Change.{apply}
-use Rattle.lrs_inventory.specs.Changes.{CanChangeGround, IsNewReferent}
 use Rattle.lrs_inventory.specs.Indexes.{IsIndexed, IsPutIn}
 use Rattle.lrs_inventory.specs.Plans.{change_of, TellsGround}
 use Rattle.lrs_inventory.proofs.Standing.{out_of}
 use Rattle.lrs_inventory.proofs.Indexing.{still_indexed, next_indexed}
 use Rattle.lrs_inventory.proofs.inventory.Inventory.make.Goals as goal
 
--- an error is no answer, of which anything may be said
-no_ok : {X E : Type 0} (P : Type 0) (r : Result X E) → IsErr r → OnOk r P
-no_ok P (Ok x) h = absurd (false≢true h)
-no_ok P (Err e) h = tt
-
-in_err : {X E P : Type 0} (r : Result X E) → P → OnErr r P
-in_err (Ok x) p = tt
-in_err (Err e) p = p
-
-pub put_in-requires-clause-can : goal.put_in-requires-clause-can
-put_in-requires-clause-can c =
-    let tells = subst (TellsGround c.args.plan) (sym c.self.view_is) c.requires.tells in
-    subst (CanChangeGround c.args.plan.ground) (λ j m. sym (c.self.invariant.indexed.ground.at m) j) tells.can_ground
-
-pub put_in-requires-clause-new_referent : goal.put_in-requires-clause-new_referent
-put_in-requires-clause-new_referent c =
-    let tells = subst (TellsGround c.args.plan) (sym c.self.view_is) c.requires.tells in
-    subst (IsNewReferent c.args.plan.referents.come) (λ j name. sym (c.self.invariant.indexed.referents.at name) j) tells.new_referent
-
-pub returns-in_err-put_in-clause-ok : goal.returns-in_err-put_in-clause-ok
-returns-in_err-put_in-clause-ok c = no_ok _ c.from_residual-in_err-put_in.result c.from_residual-in_err-put_in.ensures.0
-
-pub returns-in_err-put_in-clause-err : goal.returns-in_err-put_in-clause-err
-returns-in_err-put_in-clause-err c = in_err c.from_residual-in_err-put_in.result c.self.view_is
-
 pub invariant_of-self : goal.invariant_of-self
-invariant_of-self c = record {
+invariant_of-self g c = record {
   sound = c.self.invariant.sound;
   indexed = still_indexed (image_of c.self.inside.kept) c.self.inside.indexes c.put_in.new.self c.self.invariant.indexed c.in_err-put_in.ensures.err;
 }
 
 pub invariant_of-self-in-Ok : goal.invariant_of-self-in-Ok
-invariant_of-self-in-Ok c =
+invariant_of-self-in-Ok g c =
     let i = image_of c.self.inside.kept in
     let p = c.args.plan in
     let e = c.args.edit in

@@ -1,0 +1,129 @@
+//! A change of an image, here and in what is kept.
+
+ghost use Rattle.std.specs.Prelude.{◌≡◌, ◌⊎◌, ◌∷◌, ◌++◌, [], IfOk, OnOk, OnErr, Ok, Err, true, Result};
+ghost use Rattle.lrs_machine.specs.declared.image.Image.{Image};
+ghost use Rattle.lrs_machine.specs.declared.table.Table.{Table};
+ghost use Rattle.lrs_machine.specs.Sound.{IsSound};
+ghost use Rattle.lrs_image.specs.Change.{apply, CanMake};
+ghost use Rattle.lrs_image.specs.Keeping.{HasRisen, HoldsOnly, HoldsSound, HoldsOldOrNew, HoldsSame};
+ghost use Rattle.lrs_image.specs.Kept.{image_of};
+ghost use Rattle.lrs_image.specs.Together.{IsChangedBy};
+
+use crate::change::Change;
+use crate::keeper::{CommitFailed, Keeper};
+use crate::kept_image::KeptImage;
+use lrs_measure::TryCopy;
+use std::alloc::{AllocError, Global};
+
+/// Why a change is not made.
+#[derive(Clone, Copy, Debug, PartialEq, Eq)]
+pub enum CommitFault {
+    /// There is too little memory. What is kept is as it was.
+    Memory,
+    /// The device failed. What is kept is as it was, or with the change as a whole.
+    Store,
+}
+
+impl From<AllocError> for CommitFault {
+    ghost use Rattle.std.specs.Prelude.{◌≡◌};
+    ghost use Rattle.lrs_image.specs.declared.commit.CommitFault.TheVariants.{Memory};
+
+    ghost from_gives = { λ _ e. e ≡ Memory };
+
+    fn from(_: AllocError) -> Self {
+        CommitFault::Memory
+    }
+}
+
+/// Makes a change of an image here, and stages it. Nothing fails once it is staged.
+///
+/// # Errors
+/// When memory runs out; nothing has changed then.
+pub fn stage_change<K: Keeper>(
+    alloc: Global,
+    kept: &mut KeptImage,
+    keeper: &mut K,
+    change: Change,
+) -> Result<(), AllocError>
+    requires sound { IsSound (image_of kept.old) }
+    requires can { CanMake change (image_of kept.old) }
+    ensures ok { OnOk result (image_of kept.new ≡ apply change (image_of kept.old)) }
+    ensures staged { OnOk result (K.staged keeper.new ≡ K.staged keeper.old ++ change ∷ []) }
+    ensures err { OnErr result (image_of kept.new ≡ image_of kept.old) }
+    ensures not_staged { OnErr result (K.staged keeper.new ≡ K.staged keeper.old) }
+    ensures content { HoldsSame (K.may_hold keeper.old) (K.may_hold keeper.new) }
+    ensures loaded { K.is_loaded keeper.new ≡ K.is_loaded keeper.old }
+    ensures quiet { K.failures keeper.new ≡ K.failures keeper.old }
+{
+    let copy = change.copy(alloc)?;
+    let opened = kept.prepare(alloc, &change.difference)?;
+    match keeper.stage(copy) {
+        Ok(()) => {
+            kept.finish(opened, change);
+            Ok(())
+        }
+        Err(fault) => {
+            kept.put_back(opened);
+            Err(fault)
+        }
+    }
+}
+
+/// Makes a change of an image, in what is kept and here. Room for it is made first, so that nothing
+/// fails after the commit.
+///
+/// # Errors
+/// `Memory` when memory runs out, and `Store` where the device fails; here nothing has changed then.
+pub fn make_change<K: Keeper>(
+    alloc: Global,
+    kept: &mut KeptImage,
+    keeper: &mut K,
+    change: Change,
+) -> Result<(), CommitFault>
+    requires loaded { K.is_loaded keeper.old ≡ true }
+    requires staged { K.staged keeper.old ≡ [] }
+    requires content { HoldsOnly (K.may_hold keeper.old) (image_of kept.old) }
+    requires sound { IsSound (image_of kept.old) }
+    requires can { CanMake change (image_of kept.old) }
+    ensures ok { OnOk result (image_of kept.new ≡ apply change (image_of kept.old)) }
+    ensures ok_kept { OnOk result (HoldsOnly (K.may_hold keeper.new) (apply change (image_of kept.old))) }
+    ensures err { OnErr result (image_of kept.new ≡ image_of kept.old) }
+    ensures memory { result ≡ Err CommitFault.Memory → (c : Result Image Table) → K.may_hold keeper.new c → K.may_hold keeper.old c }
+    ensures store { result ≡ Err CommitFault.Store → HoldsOldOrNew change (K.may_hold keeper.new) (image_of kept.old) }
+    ensures cause { result ≡ Err CommitFault.Store → HasRisen (K.failures keeper.old) (K.failures keeper.new) }
+    ensures loaded { K.is_loaded keeper.new ≡ true }
+    ensures staged { K.staged keeper.new ≡ [] }
+{
+    let copy = change.copy(alloc)?;
+    let opened = kept.prepare(alloc, &change.difference)?;
+    match keep_one(keeper, copy) {
+        Ok(()) => {
+            kept.finish(opened, change);
+            Ok(())
+        }
+        Err(fault) => {
+            kept.put_back(opened);
+            Err(fault)
+        }
+    }
+}
+
+/// Stages a change where nothing is staged, and commits it.
+fn keep_one<K: Keeper>(keeper: &mut K, change: Change) -> Result<(), CommitFault>
+    requires loaded { K.is_loaded keeper.old ≡ true }
+    requires staged { K.staged keeper.old ≡ [] }
+    requires sound { HoldsSound (K.may_hold keeper.old) }
+    requires can { (c : Result Image Table) → K.may_hold keeper.old c → IfOk c (CanMake change) }
+    ensures ok { OnOk result ((c : Result Image Table) → K.may_hold keeper.new c → IsChangedBy (K.may_hold keeper.old) (change ∷ []) c) }
+    ensures memory { result ≡ Err CommitFault.Memory → (c : Result Image Table) → K.may_hold keeper.new c → K.may_hold keeper.old c }
+    ensures store { result ≡ Err CommitFault.Store → (c : Result Image Table) → K.may_hold keeper.new c → K.may_hold keeper.old c ⊎ IsChangedBy (K.may_hold keeper.old) (change ∷ []) c }
+    ensures cause { result ≡ Err CommitFault.Store → HasRisen (K.failures keeper.old) (K.failures keeper.new) }
+    ensures loaded { K.is_loaded keeper.new ≡ true }
+    ensures staged { K.staged keeper.new ≡ [] }
+{
+    keeper.stage(change)?;
+    match keeper.commit() {
+        Ok(()) => Ok(()),
+        Err(CommitFailed) => Err(CommitFault::Store),
+    }
+}

@@ -1,0 +1,8 @@
+use Rattle.std.proofs.Common.{ap, sym, ◌∙◌}
+use Rattle.lrs_image_plain.specs.Failing.{FailingView}
+use Rattle.lrs_image_plain.proofs.failing.FailingKeeper.stage.Goals as goal
+
+pub returns-clause-content : goal.returns-clause-content
+returns-clause-content c =
+    let same = ap (λ (v : FailingView). v.plain.content) c.self.view_is in
+    λ x. (λ h. (c.stage.ensures.content x).0 h ∙ same, λ h. (c.stage.ensures.content x).1 (h ∙ sym same))

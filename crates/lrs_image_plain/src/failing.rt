@@ -1,0 +1,88 @@
+//! A keeper in memory whose device fails at one commit, for tests.
+
+ghost use Rattle.std.specs.Prelude.{◌≡◌};
+
+use crate::plain::Plain;
+use lrs_image::{Change, CommitFailed, Keeper, LoadFault};
+use lrs_machine::Image;
+use std::alloc::{AllocError, Global};
+use std::marker::Model;
+
+/// What is kept where the commit fails.
+#[derive(Clone, Copy, Debug, PartialEq, Eq)]
+pub enum Leaves {
+    /// What was kept before.
+    Old,
+    /// That with all that was staged.
+    New,
+}
+
+/// Keeps an image in memory. Its device does a number of commits, and fails at the one after them.
+#[derive(Drop)]
+pub struct Failing {
+    plain: Plain,
+    serves: u64,
+    leaves: Leaves,
+    failures: u64,
+}
+
+impl Model for Failing {
+    ghost use Rattle.lrs_image_plain.specs.Failing.{FailingView};
+
+    ghost Value = { FailingView };
+
+    ghost view = { λ f. record { plain = f.plain; serves = f.serves; leaves = f.leaves; failures = f.failures } };
+}
+
+impl Failing {
+    /// Keeps what this keeper has.
+    pub fn over(plain: Plain, serves: u64, leaves: Leaves) -> Failing
+        ensures { result ≡ record { plain = plain; serves = serves; leaves = leaves; failures = 0 } }
+    {
+        Failing {
+            plain,
+            serves,
+            leaves,
+            failures: 0,
+        }
+    }
+}
+
+impl Keeper for Failing {
+    ghost use Rattle.std.specs.Prelude.{◌≡◌, ⊤};
+    ghost use Rattle.lrs_image.specs.Keeping.{is_image};
+    ghost use Rattle.lrs_image_plain.specs.Plain.{finds_kept};
+
+    ghost may_hold = { λ f c. c ≡ f.plain.content };
+
+    ghost is_clean = { λ f. ⊤ };
+
+    ghost finds = { λ f clean. finds_kept f.plain };
+
+    ghost is_loaded = { λ f. is_image f.plain.content };
+
+    ghost failures = { λ f. f.failures };
+
+    ghost staged = { λ f. f.plain.staged };
+
+    fn load(&mut self, alloc: Global) -> Result<Image, LoadFault> {
+        self.plain.load(alloc)
+    }
+
+    fn stage(&mut self, change: Change) -> Result<(), AllocError> {
+        self.plain.stage(change)
+    }
+
+    fn commit(&mut self) -> Result<(), CommitFailed> {
+        if self.serves > 0 {
+            self.serves -= 1;
+            return self.plain.commit();
+        }
+        self.failures = self.failures.saturating_add(1);
+        match self.leaves {
+            Leaves::Old => self.plain.drop_staged(),
+            Leaves::New => self.plain.commit()?,
+        }
+        Err(CommitFailed)
+    }
+}
