@@ -44,8 +44,11 @@ pub trait Keeper {
     // What an opening at this moment may find: a sound image, or the first unsound table.
     ghost may_hold: { Self → Result Image Table → Type 0 };
 
-    // Whether the device gives back what it was given: an opening then finds something.
+    // Whether the device has so far given back what it was given.
     ghost is_clean: { Self → Type 0 };
+
+    // Whether the keeper still reaches its device, as it does after a call that answers Ok.
+    ghost is_open: { Self → Type 0 };
 
     /// Whether the last `load` answered Ok.
     ghost is_loaded: { Self → Bool };
@@ -70,6 +73,7 @@ pub trait Keeper {
         ensures counts { failures self.old ≤ failures self.new }
         ensures found { HoldsSound (may_hold self.new) }
         ensures content { (c : Result Image Table) → may_hold self.new c → may_hold self.old c }
+        ensures open { OnOk result (is_clean self.new → is_open self.new) }
         ensures staged { staged self.new ≡ [] };
 
     /// Takes a change over, behind those that are staged. It makes no call of the device.
@@ -80,7 +84,8 @@ pub trait Keeper {
         ensures ok { OnOk result (staged self.new ≡ staged self.old ++ change ∷ []) }
         ensures err { OnErr result (staged self.new ≡ staged self.old) }
         ensures content { HoldsSame (may_hold self.old) (may_hold self.new) }
-        ensures clean { is_clean self.old → is_clean self.new }
+        ensures clean { is_clean self.new → is_clean self.old }
+        ensures open { is_open self.old → is_open self.new }
         ensures loaded { is_loaded self.new ≡ is_loaded self.old }
         ensures quiet { failures self.new ≡ failures self.old };
 
@@ -101,8 +106,10 @@ pub trait Keeper {
         ensures counts { failures self.old ≤ failures self.new }
         ensures found { HoldsSound (may_hold self.new) }
         ensures loaded { is_loaded self.new ≡ true }
+        ensures open { OnOk result (is_clean self.new → is_open self.new) }
         ensures staged { staged self.new ≡ [] };
 
-    // Where the device is clean something may be found, so a keeper cannot promise everything of nothing.
-    ghost finds: { (keeper : Self) → is_clean keeper → (c : Result Image Table) × may_hold keeper c };
+    // Where the device is clean an open keeper finds something, so it cannot promise everything of nothing.
+    ghost finds: { (keeper : Self) → is_clean keeper → is_open keeper
+        → (c : Result Image Table) × may_hold keeper c };
 }

@@ -57,7 +57,9 @@ impl Keeper for Failing {
 
     ghost is_clean = { λ f. ⊤ };
 
-    ghost finds = { λ f clean. finds_kept f.plain };
+    ghost is_open = { λ f. ⊤ };
+
+    ghost finds = { λ f clean open. finds_kept f.plain };
 
     ghost is_loaded = { λ f. is_image f.plain.content };
 

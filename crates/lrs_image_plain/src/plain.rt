@@ -100,7 +100,9 @@ impl Keeper for Plain {
 
     ghost is_clean = { λ plain. ⊤ };
 
-    ghost finds = { λ plain clean. finds_kept plain };
+    ghost is_open = { λ plain. ⊤ };
+
+    ghost finds = { λ plain clean open. finds_kept plain };
 
     ghost is_loaded = { λ plain. is_image plain.content };
 
