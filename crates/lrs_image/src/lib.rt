@@ -1,6 +1,7 @@
 //! The image as it is kept: its lists in chunks, the changes that commands make of it, and keepers.
 #![tactic(auto)]
 
+mod batches;
 mod change;
 mod commit;
 mod keeper;
@@ -8,9 +9,12 @@ mod kept_image;
 mod lists;
 mod open_route;
 mod routes;
+mod staged;
 
+pub use batches::Batches;
 pub use change::{Change, Difference, ReferentChange, RouteChange};
 pub use commit::{CommitFault, make_change, stage_change};
 pub use keeper::{CommitFailed, Keeper, LoadFault};
 pub use kept_image::KeptImage;
 pub use open_route::OpenRoute;
+pub use staged::Staged;

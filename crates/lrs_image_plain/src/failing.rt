@@ -59,7 +59,7 @@ impl Keeper for Failing {
 
     ghost is_open = { λ f. ⊤ };
 
-    ghost finds = { λ f clean open. finds_kept f.plain };
+    ghost finds = { λ f clean opened. finds_kept f.plain };
 
     ghost is_loaded = { λ f. is_image f.plain.content };
 

@@ -102,7 +102,7 @@ impl Keeper for Plain {
 
     ghost is_open = { λ plain. ⊤ };
 
-    ghost finds = { λ plain clean open. finds_kept plain };
+    ghost finds = { λ plain clean opened. finds_kept plain };
 
     ghost is_loaded = { λ plain. is_image plain.content };
 
