@@ -1,5 +1,5 @@
 -- How the ground machine answers a command, by what is found in an image.
-use Rattle.std.proofs.Common.{◌≡◌, ℕ, ◌+◌, ◌≤◌, Bool, true, false, cond, List, [], ◌∷◌, length, map, Option, Some, None, Result, Ok, Err, refl, sym, ap, ◌∙◌, arith}
+use Rattle.std.proofs.Common.{◌≡◌, ℕ, ◌+◌, ◌≤◌, Bool, true, false, cond, List, [], ◌∷◌, length, map, Option, Some, None, Result, Ok, Err, refl, sym, ap, ◌∙◌, arith, ◌⊎◌, inl, inr}
 use Rattle.std.specs.Prelude.{not, ◌&&◌, nat_le, nat_lt, option_map}
 use Rattle.std.specs.List.{position, position_or_len, prefix_len, list_all}
 use Rattle.std.proofs.lemmas.Bool.{and_parts, leb-true}
@@ -20,13 +20,15 @@ use Rattle.lrs_measure.specs.Limits.{most_routes, most_assets, most_edits}
 use Rattle.lrs_machine.specs.State.{State}
 use Rattle.lrs_machine.specs.State as state
 use Rattle.lrs_machine.specs.Image.{state_of, asset_entry, route_entry}
-use Rattle.lrs_image.specs.Change.{with_difference}
+use Rattle.lrs_image.specs.Change.{with_difference, apply}
 use Rattle.lrs_inventory.specs.Keys.{place_among}
 use Rattle.lrs_machine.specs.Lines.{line_of}
 use Rattle.lrs_machine.specs.Sound.{IsSound}
-use Rattle.lrs_machine.specs.Machine.{step, attempt, step_by_key, outcome_of, next, answer_known, line_at, place_of_key, check_room, refuse_if, ◌>>◌, needs_asset, needs_route}
-use Rattle.lrs_inventory.specs.Plans.{IsPlanOf}
+use Rattle.lrs_machine.specs.Machine.{Outcome, step, attempt, step_by_key, outcome_of, next, answer_known, line_at, place_of_key, check_room, refuse_if, ◌>>◌, needs_asset, needs_route}
+use Rattle.lrs_inventory.specs.Plans.{IsPlanOf, change_of}
 use Rattle.lrs_image_laws.proofs.Making.{made_is_sound}
+use Rattle.lrs_machine.specs.declared.table.Table.{Table}
+use Rattle.lrs_desk.specs.Desk.{IsOldOrNext}
 use Rattle.lrs_desk.specs.Decide.{IsDoneBy, HasRoom, LacksRoom, edit_of, done_image}
 
 -- an edit as the ground machine keeps it
@@ -157,3 +159,9 @@ module _ (limits : Limits) (key : Name) (command : Command) (i : Image) (none : 
       few_rows : (b : Bool) (n limit most : ℕ) → (b && nat_le limit n) ≡ false → limit ≤ most → b ≡ true → n + 1 ≤ most
       few_rows true n limit most h k e = grind (arith, nat_tests)
       few_rows false n limit most h k e = absurd (cc e)
+
+-- What may be found after a failed commit of what is done: the old image, or one of the next state.
+pub old_or_next : (limits : Limits) (key : Name) (command : Command) (i : Image) (p : Plan) (e : Edit) → IsDoneBy limits key command i p → e ≡ edit_of key command → (c : Result Image Table)
+    → (c ≡ Ok i) ⊎ (c ≡ Ok (apply (change_of e p) i)) → IsOldOrNext limits (record { key = key; command = command } ∷ []) i c
+old_or_next limits key command i p e d same c (inl a) = inl a
+old_or_next limits key command i p e d same c (inr a) = inr (done_image key command p i, a ∙ ap (λ (e : Edit). Ok (apply (change_of e p) i)) same, sym (ap (λ (o : Outcome). o.state) d.outcome), d.sound)

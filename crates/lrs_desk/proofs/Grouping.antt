@@ -15,33 +15,14 @@ use Rattle.lrs_machine.specs.State.{State}
 use Rattle.lrs_image.specs.declared.change.Change.{Change}
 use Rattle.lrs_image.specs.Change.{apply, CanMake}
 use Rattle.lrs_image.specs.Keeping.{HasRisen, HoldsOnly, HoldsSound}
-use Rattle.lrs_image.specs.Together.{apply_all, CanMakeAll, IsChangedBy, IsChangedBySome}
-use Rattle.lrs_image.proofs.Together.{apply_more, can_more}
+use Rattle.lrs_image.specs.Together.{apply_all, CanMakeAll, IsChangedBy}
+use Rattle.lrs_image.proofs.Together.{apply_more, can_more, edits_after}
 use Rattle.lrs_machine_stops.specs.Stopped.{IsAccepted}
-use Rattle.lrs_desk.specs.Desk.{IsAmid, BreaksAmid, records_of}
+use Rattle.lrs_desk.specs.Desk.{BreaksAmid, records_of}
 use Rattle.lrs_desk.specs.DeskView.{DeskView}
-use Rattle.lrs_desk.specs.Group.{IsStage, MayBeChanged, DoesNext, IsMade, HasDone, GoesOn, IsGroup}
+use Rattle.lrs_desk.specs.Group.{MayBeChanged, DoesNext, IsMade, HasDone, GoesOn, IsGroup}
 
 module _ {X : Type 0} where
-  none_taken : (k : ℕ) → ◌≡◌ {A = List X} (take k []) []
-  none_taken zero = refl
-  none_taken (suc k) = refl
-
-  -- the first of some first elements are the first of all
-  earlier : (k : ℕ) (xs ys : List X) → (m : ℕ) × (take m (xs ++ ys) ≡ take k xs)
-  earlier zero xs ys = (0, refl)
-  earlier (suc k) [] ys = (0, refl)
-  earlier (suc k) (x ∷ xs) ys = let e = earlier k xs ys in (suc e.0, ap (λ zs. x ∷ zs) e.1)
-
-  -- some first elements of a list with one more at its end are the first of the others, or all
-  first_or_all : (k : ℕ) (xs : List X) (y : X) → (take k (xs ++ y ∷ []) ≡ take k xs) ⊎ (take k (xs ++ y ∷ []) ≡ xs ++ y ∷ [])
-  first_or_all zero xs y = inl refl
-  first_or_all (suc k) [] y = inr (ap (λ zs. y ∷ zs) (none_taken k))
-  first_or_all (suc k) (x ∷ xs) y = elim (first_or_all k xs y) [
-    | inl e ↦ inl (ap (λ zs. x ∷ zs) e)
-    | inr e ↦ inr (ap (λ zs. x ∷ zs) e)
-  ]
-
   all_more : (P : X → Type 0) (xs : List X) (y : X) → AllByRecursion P xs → P y → AllByRecursion P (xs ++ y ∷ [])
   all_more P [] y h p = (p, tt)
   all_more P (x ∷ xs) y h p = (h.0, all_more P xs y h.1 p)
@@ -75,50 +56,27 @@ module _ (limits : Limits) where
         done = record {
           answered = refl;
           state = refl;
-          made = record {
-            can = tt;
-            made = refl;
-            amid = λ k. subst (λ (cs : List Change). IsStage limits [] i (apply_all cs i)) (sym (none_taken k)) (record { done = 0; state = refl; sound = sound });
-          };
+          made = record { can = tt; made = refl; sound = sound };
         };
         accepted = tt;
         none = λ e. refl;
+        no_changes = λ e. refl;
       }))
 
   -- one more command
 
   module _ (rs : List Record) (r : Record) (i before after : Image) where
-    still : (image : Image) → IsStage limits rs i image → IsStage limits (rs ++ r ∷ []) i image
-    still image s =
-        let e = earlier s.done rs (r ∷ []) in
-        record { done = e.0; state = s.state ∙ ap (λ (qs : List Record). state_after limits qs (state_of i)) (sym e.1); sound = s.sound }
-
-    all_done : state_of after ≡ state_after limits (rs ++ r ∷ []) (state_of i) → IsSound after → IsStage limits (rs ++ r ∷ []) i after
-    all_done state sound = record {
-      done = length (rs ++ r ∷ []);
-      state = state ∙ ap (λ (qs : List Record). state_after limits qs (state_of i)) (sym (take_all (length (rs ++ r ∷ [])) (rs ++ r ∷ []) (omega arith)));
-      sound = sound;
-    }
-
-    made_more : (changes changes_after : List Change) → IsMade limits rs i before changes → state_of after ≡ state_after limits (rs ++ r ∷ []) (state_of i)
-        → MayBeChanged changes changes_after before after → IsMade limits (rs ++ r ∷ []) i after changes_after
-    made_more changes changes_after m state (inl same) = record {
+    made_more : (changes changes_after : List Change) → IsMade i before changes → MayBeChanged changes changes_after before after → IsMade i after changes_after
+    made_more changes changes_after m (inl same) = record {
       can = subst (λ (cs : List Change). CanMakeAll cs i) (sym same.0) m.can;
       made = same.1 ∙ m.made ∙ ap (λ (cs : List Change). apply_all cs i) (sym same.0);
-      amid = λ k. still (apply_all (take k changes_after) i) (subst (λ (cs : List Change). IsStage limits rs i (apply_all (take k cs) i)) (sym same.0) (m.amid k));
+      sound = subst IsSound (sym same.1) m.sound;
     }
-    made_more changes changes_after m state (inr c) =
-        let whole : apply_all (changes ++ c.change ∷ []) i ≡ after = apply_more changes c.change i ∙ ap (apply c.change) (sym m.made) ∙ sym c.made in
-        let last : IsStage limits (rs ++ r ∷ []) i (apply_all (changes ++ c.change ∷ []) i) = subst (IsStage limits (rs ++ r ∷ []) i) (sym whole) (all_done state (subst IsSound (sym c.made) c.can.sound)) in
-        let stage : (k : ℕ) → IsStage limits (rs ++ r ∷ []) i (apply_all (take k (changes ++ c.change ∷ [])) i) = λ k. elim (first_or_all k changes c.change) [
-          | inl e ↦ subst (λ (cs : List Change). IsStage limits (rs ++ r ∷ []) i (apply_all cs i)) (sym e) (still (apply_all (take k changes) i) (m.amid k))
-          | inr e ↦ subst (λ (cs : List Change). IsStage limits (rs ++ r ∷ []) i (apply_all cs i)) (sym e) last
-        ] in
-        record {
-          can = subst (λ (cs : List Change). CanMakeAll cs i) (sym c.kept) (can_more changes c.change i m.can (subst (CanMake c.change) m.made c.can));
-          made = sym whole ∙ ap (λ (cs : List Change). apply_all cs i) (sym c.kept);
-          amid = λ k. subst (λ (cs : List Change). IsStage limits (rs ++ r ∷ []) i (apply_all (take k cs) i)) (sym c.kept) (stage k);
-        }
+    made_more changes changes_after m (inr c) = record {
+      can = subst (λ (cs : List Change). CanMakeAll cs i) (sym c.kept) (can_more changes c.change i m.can (subst (CanMake c.change) m.made c.can));
+      made = c.made ∙ ap (apply c.change) m.made ∙ sym (apply_more changes c.change i) ∙ ap (λ (cs : List Change). apply_all cs i) (sym c.kept);
+      sound = subst IsSound (sym c.made) c.can.sound;
+    }
 
     module _ (given given_after : List Answer) (changes changes_after : List Change) where
       pub one_more : (goes_on : Bool) → HasDone limits rs i before given changes → DoesNext limits r.key r.command before after given given_after changes changes_after goes_on
@@ -128,7 +86,7 @@ module _ (limits : Limits) where
           record {
             answered = next.answered ∙ (λ j. done.answered j ++ (step_record limits r (done.state j)).answer ∷ []) ∙ sym (answers_more rs r (state_of i));
             state = state;
-            made = made_more changes changes_after done.made state next.changed;
+            made = made_more changes changes_after done.made next.changed;
           }
 
       pub one_more_accepted : (goes_on : Bool) → goes_on ≡ true → GoesOn limits rs i before given changes → DoesNext limits r.key r.command before after given given_after changes changes_after goes_on
@@ -139,6 +97,7 @@ module _ (limits : Limits) where
             (all_more IsAccepted (answers limits rs (state_of i)) (step_record limits r (state_after limits rs (state_of i))).answer so_far.accepted
             (subst (λ (s : State). IsAccepted (step_record limits r s).answer) so_far.done.state (next.accepted goes)));
         none = λ e. absurd (omega (arith, length-append rs (r ∷ []), ap (λ (qs : List Record). length qs) e));
+        no_changes = λ e. absurd (omega (arith, length-append rs (r ∷ []), ap (λ (qs : List Record). length qs) e));
       }
 
 -- the first commands of a list
@@ -169,7 +128,7 @@ module _ (commands : List (Name × Command)) where
             state = done.state ∙ ap (λ (rs : List Record). state_after limits rs (state_of i)) firsts;
             accepted = subst (λ (m : ℕ). AllByRecursion IsAccepted (answers limits (take (m - 1) (records_of commands)) (state_of i))) (sym many) accepted;
           };
-          made = subst (λ (rs : List Record). IsMade limits rs i j changes) firsts done.made;
+          made = done.made;
         }
 
     -- ... so all of those behind which others could follow
@@ -186,6 +145,11 @@ module _ (commands : List (Name × Command)) where
         ∙ as_many limits (records_of (take n commands)) (state_of i)
         ∙ length-map (take n commands) record_of
         ∙ length-take-le n commands few
+
+  -- without an answer nothing is staged
+  pub none_staged : (limits : Limits) (n : ℕ) (i j : Image) (given : List Answer) (changes : List Change) → GoesOn limits (records_of (take n commands)) i j given changes → n ≤ length commands → length given ≡ 0 → changes ≡ []
+  none_staged limits n i j given changes so_far few none =
+      so_far.no_changes (ap (λ (m : ℕ). records_of (take m commands)) (sym (as_many_given limits n i j given changes so_far few) ∙ none))
 
   -- at the end of the list
   pub whole_group : (limits : Limits) (n : ℕ) (i j : Image) (given : List Answer) (changes : List Change)
@@ -247,31 +211,41 @@ module _ (may found : Result Image Table → Type 0) (i j : Image) (changes : Li
 
 module _ {K : Type 0} (holds : K → Result Image Table → Type 0) (failures : K → ℕ) (records : List Record) (old new : DeskView K) (given : List Answer) (changes : List Change) where
   pub breaks_amid : IsGroup old.limits records old.image new.image given changes → HoldsOnly (holds old.keeper) old.image
-      → ((c : Result Image Table) → holds new.keeper c → holds old.keeper c ⊎ IsChangedBySome (holds old.keeper) changes c)
-      → new.must_reopen ≡ true → HasRisen (failures old.keeper) (failures new.keeper) → BreaksAmid holds failures records old new
-  breaks_amid group only found reopen cause =
+      → ((c : Result Image Table) → holds new.keeper c → holds old.keeper c ⊎ IsChangedBy (holds old.keeper) changes c)
+      → new.must_reopen ≡ true → new.is_ahead ≡ true → HasRisen (failures old.keeper) (failures new.keeper) → BreaksAmid holds failures records old new
+  breaks_amid group only found reopen ahead cause =
       let many : length given ≡ (length given - 1) + 1 = omega (arith, group.first.some) in
-      let s = state_of old.image in
-      let amid : (k : ℕ) (c : Result Image Table) → c ≡ Ok (apply_all (take k changes) old.image) → IsAmid old.limits (take ((length given - 1) + 1) records) s c =
-      λ k c e.
-      let stage = group.made.amid k in
-      record {
-        stored = stage.done;
-        image = apply_all (take k changes) old.image;
-        found = e;
-        state = stage.state ∙ ap (λ (n : ℕ). state_after old.limits (take stage.done (take n records)) s) many;
-        sound = stage.sound;
-      }
-      in
+      let state : state_of new.image ≡ state_after old.limits (take ((length given - 1) + 1) records) (state_of old.image) = group.first.state ∙ ap (λ (n : ℕ). state_after old.limits (take n records) (state_of old.image)) many in
       record {
         accepted = length given - 1;
         few = omega (arith, group.first.some, group.first.few);
         are_accepted = group.first.accepted;
-        image = group.first.state ∙ ap (λ (n : ℕ). state_after old.limits (take n records) s) many;
+        image = state;
         content = λ c h. elim (found c h) [
-          | inl earlier ↦ amid 0 c (only c earlier)
-          | inr some ↦ amid some.0 c (some.1.2 ∙ ap (λ (image : Image). let r : Result Image Table = Ok (apply_all (take some.0 changes) image) in r) (image_is (holds old.keeper) (holds old.keeper) old.image old.image changes only some.1.0 some.1.1))
+          | inl earlier ↦ inl (only c earlier)
+          | inr made ↦ inr (new.image, all_kept (holds old.keeper) (λ x. x ≡ c) old.image new.image changes only group.made.made (λ x e. subst (IsChangedBy (holds old.keeper) changes) (sym e) made) c refl, state, group.made.sound)
         ];
         must_reopen = reopen;
+        is_ahead = ahead;
         cause = cause;
       }
+
+-- Nothing more is found once the changes are staged.
+pub as_before : (old mid : Result Image Table → Type 0) → ((c : Result Image Table) → mid c → old c) → (changes : List Change) (c : Result Image Table) → mid c ⊎ IsChangedBy mid changes c → old c ⊎ IsChangedBy old changes c
+as_before old mid le changes c h = elim h [
+  | inl before ↦ inl (le c before)
+  | inr after ↦ inr (after.0, le (Ok after.0) after.1, after.2)
+]
+
+-- What may be found once the changes are staged is the image alone, as before.
+pub still_only : (old mid : Result Image Table → Type 0) → ((c : Result Image Table) → mid c → old c) → (i : Image) → HoldsOnly old i → HoldsOnly mid i
+still_only old mid le i only c h = only c (le c h)
+
+-- Where no edit was made, nothing is staged.
+pub none_made : (i j : Image) (changes : List Change) → IsMade i j changes → length j.edits ≡ length i.edits → changes ≡ []
+none_made i j [] m same = refl
+none_made i j (c ∷ cs) m same = absurd (omega (arith, edits_after (c ∷ cs) i, same, ap (λ (image : Image). length image.edits) m.made))
+
+-- An open keeper finds what it holds alone.
+pub held : (may : Result Image Table → Type 0) (i : Image) → HoldsOnly may i → (c : Result Image Table) × may c → may (Ok i)
+held may i only found = subst may (only found.0 found.1) found.1

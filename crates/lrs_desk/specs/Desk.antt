@@ -1,5 +1,5 @@
 -- What a desk's calls leave.
-use Rattle.std.specs.Prelude.{◌≡◌, ◌≤◌, ◌<◌, ◌+◌, ◌-◌, true, ℕ, Ok, Result, List, length, map, take}
+use Rattle.std.specs.Prelude.{◌≡◌, ◌⊎◌, ◌≤◌, ◌<◌, ◌+◌, ◌-◌, true, ℕ, Ok, Result, List, [], ◌∷◌, length, map, take}
 use Rattle.std.specs.List.{AllByRecursion}
 use Rattle.lrs_machine.specs.declared.answer.Answer.{Answer}
 use Rattle.lrs_machine.specs.declared.answer.Limits.{Limits}
@@ -20,6 +20,19 @@ pub record IsUnchanged {K : Type 0} (holds : K → Result Image Table → Type 0
   pub image : new.image ≡ old.image
   pub content : (c : Result Image Table) → holds new.keeper c → holds old.keeper c
   pub must_reopen : new.must_reopen ≡ old.must_reopen
+  pub is_ahead : new.is_ahead ≡ old.is_ahead
+
+-- what is found is the old image, or a sound one of the state after all of these commands
+abbrev pub IsOldOrNext : Limits → List Record → Image → Result Image Table → Type 0
+IsOldOrNext limits records before c = (c ≡ Ok before) ⊎ ((image : Image) × (c ≡ Ok image) × (state_of image ≡ state_after limits records (state_of before)) × IsSound image)
+
+-- The commit of a command failed: what is found is the old image, or a sound one of the next state. The desk knows what it knew.
+pub record HasBroken {K : Type 0} (holds : K → Result Image Table → Type 0) (failures : K → ℕ) (key : Name) (command : Command) (old new : DeskView K) : Type 0 where
+  pub image : new.image ≡ old.image
+  pub content : (c : Result Image Table) → holds new.keeper c → IsOldOrNext old.limits (record { key = key; command = command } ∷ []) old.image c
+  pub must_reopen : new.must_reopen ≡ true
+  pub is_ahead : new.is_ahead ≡ false
+  pub cause : HasRisen (failures old.keeper) (failures new.keeper)
 
 -- commands under keys, as the ground machine is given them
 abbrev pub records_of : List (Name × Command) → List Record
@@ -33,21 +46,14 @@ pub record DoesFirst (limits : Limits) (records : List Record) (before after : S
   pub state : after ≡ state_after limits (take (length given) records) before
   pub accepted : AllByRecursion IsAccepted (answers limits (take (length given - 1) records) before)
 
--- what is found is a sound image of the state after some first ones of these commands
-pub record IsAmid (limits : Limits) (records : List Record) (before : State) (c : Result Image Table) : Type 0 where
-  pub stored : ℕ
-  pub image : Image
-  pub found : c ≡ Ok image
-  pub state : state_of image ≡ state_after limits (take stored records) before
-  pub sound : IsSound image
-
--- The first of these commands are in flight: their commit failed. Each before the last was accepted, what is found is the state after some first ones, and the desk's image is that after all of them.
+-- The first of these commands are in flight: their commit failed. Each before the last was accepted, what is found is the old image or the state after all of them, and the desk's image is ahead: it is that after all of them.
 pub record BreaksAmid {K : Type 0} (holds : K → Result Image Table → Type 0) (failures : K → ℕ) (records : List Record) (old new : DeskView K) : Type 0 where
   -- how many are in flight beside the last one
   pub accepted : ℕ
   pub few : accepted < length records
   pub are_accepted : AllByRecursion IsAccepted (answers old.limits (take accepted records) (state_of old.image))
   pub image : state_of new.image ≡ state_after old.limits (take (accepted + 1) records) (state_of old.image)
-  pub content : (c : Result Image Table) → holds new.keeper c → IsAmid old.limits (take (accepted + 1) records) (state_of old.image) c
+  pub content : (c : Result Image Table) → holds new.keeper c → IsOldOrNext old.limits (take (accepted + 1) records) old.image c
   pub must_reopen : new.must_reopen ≡ true
+  pub is_ahead : new.is_ahead ≡ true
   pub cause : HasRisen (failures old.keeper) (failures new.keeper)

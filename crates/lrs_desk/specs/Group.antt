@@ -1,5 +1,5 @@
 -- Commands that are done together: done here first, and what they change is kept then.
-use Rattle.std.specs.Prelude.{◌≡◌, ◌⊎◌, ℕ, Bool, true, List, [], ◌∷◌, ◌++◌, length, take}
+use Rattle.std.specs.Prelude.{◌≡◌, ◌⊎◌, Bool, true, List, [], ◌∷◌, ◌++◌, length, take}
 use Rattle.std.specs.List.{AllByRecursion}
 use Rattle.lrs_measure.specs.Texts.{Name}
 use Rattle.lrs_machine.specs.declared.answer.Answer.{Answer}
@@ -14,12 +14,6 @@ use Rattle.lrs_image.specs.Change.{apply, CanMake}
 use Rattle.lrs_image.specs.Together.{apply_all, CanMakeAll}
 use Rattle.lrs_machine_stops.specs.Stopped.{IsAccepted}
 use Rattle.lrs_desk.specs.Desk.{DoesFirst}
-
--- The image is sound, and stands for the state after some first ones of these commands.
-pub record IsStage (limits : Limits) (records : List Record) (before image : Image) : Type 0 where
-  pub done : ℕ
-  pub state : state_of image ≡ state_after limits (take done records) (state_of before)
-  pub sound : IsSound image
 
 -- One more change is made of an image, and stands behind those made before it.
 pub record IsChanged (changes changes_after : List Change) (before after : Image) : Type 0 where
@@ -39,25 +33,26 @@ pub record DoesNext (limits : Limits) (key : Name) (command : Command) (before a
   pub changed : MayBeChanged changes changes_after before after
   pub accepted : goes_on ≡ true → IsAccepted (step limits key command (state_of before)).answer
 
--- The changes are those that these commands make of an image: after any first ones of them it is that of some first commands.
-pub record IsMade (limits : Limits) (records : List Record) (before after : Image) (changes : List Change) : Type 0 where
+-- The changes make this image, which is sound, of the one before.
+pub record IsMade (before after : Image) (changes : List Change) : Type 0 where
   pub can : CanMakeAll changes before
   pub made : after ≡ apply_all changes before
-  pub amid : (k : ℕ) → IsStage limits records before (apply_all (take k changes) before)
+  pub sound : IsSound after
 
 -- These commands are done and so answered, by these changes.
 pub record HasDone (limits : Limits) (records : List Record) (before after : Image) (given : List Answer) (changes : List Change) : Type 0 where
   pub answered : given ≡ answers limits records (state_of before)
   pub state : state_of after ≡ state_after limits records (state_of before)
-  pub made : IsMade limits records before after changes
+  pub made : IsMade before after changes
 
 -- All of them were accepted, so that others may follow; without any, nothing has changed.
 pub record GoesOn (limits : Limits) (records : List Record) (before after : Image) (given : List Answer) (changes : List Change) : Type 0 where
   pub done : HasDone limits records before after given changes
   pub accepted : AllByRecursion IsAccepted (answers limits records (state_of before))
   pub none : records ≡ [] → after ≡ before
+  pub no_changes : records ≡ [] → changes ≡ []
 
 -- The first of these commands are done, by these changes.
 pub record IsGroup (limits : Limits) (records : List Record) (before after : Image) (given : List Answer) (changes : List Change) : Type 0 where
   pub first : DoesFirst limits records (state_of before) (state_of after) given
-  pub made : IsMade limits (take (length given) records) before after changes
+  pub made : IsMade before after changes

@@ -1,5 +1,5 @@
-//! What is asked of a desk. Each question is answered from the image, and changes nothing. Once a commit has failed none
-//! is: the image may then be ahead of all that is ever kept.
+//! What is asked of a desk. Each question is answered from the image, and changes nothing. Once a commit of
+//! several commands has failed none is: the image may then be ahead of all that is ever kept.
 
 ghost use Rattle.std.specs.Prelude.{◌≡◌, ◌↔◌, IsTrue, Err, false};
 ghost use Rattle.lrs_answers.specs.Answers.{IsAt};
@@ -21,13 +21,13 @@ impl<K: Keeper> Desk<K> {
     ///
     /// # Errors
     ///
-    /// `MustReopen` once a commit has failed; then `NoRoute`, and then what the position expression is refused for.
+    /// `MustReopen` once a commit of several commands has failed; then `NoRoute`, and then what the position expression is refused for.
     pub fn at(&self, route: &RouteName, expression: Expr) -> Result<AtAnswer, AskFault>
-        ensures reopen { (result ≡ Err AskFault.MustReopen) ↔ IsTrue self.now.must_reopen }
-        ensures answer { self.now.must_reopen ≡ false
+        ensures reopen { (result ≡ Err AskFault.MustReopen) ↔ IsTrue self.now.is_ahead }
+        ensures answer { self.now.is_ahead ≡ false
             → IsAt (state_of self.now.image) route.now expression result }
     {
-        if self.must_reopen() {
+        if self.is_ahead() {
             return Err(AskFault::MustReopen);
         }
         lrs_answers::at(self.alloc(), self.inventory().kept(), route, expression)
@@ -37,12 +37,12 @@ impl<K: Keeper> Desk<K> {
     ///
     /// # Errors
     ///
-    /// `MustReopen` once a commit has failed; then `NoRoute`, and `Memory`.
+    /// `MustReopen` once a commit of several commands has failed; then `NoRoute`, and `Memory`.
     pub fn route(&self, name: &RouteName) -> Result<Route, AskFault>
-        ensures reopen { (result ≡ Err AskFault.MustReopen) ↔ IsTrue self.now.must_reopen }
-        ensures answer { self.now.must_reopen ≡ false → IsNamedRoute self.now.image name.now result }
+        ensures reopen { (result ≡ Err AskFault.MustReopen) ↔ IsTrue self.now.is_ahead }
+        ensures answer { self.now.is_ahead ≡ false → IsNamedRoute self.now.image name.now result }
     {
-        if self.must_reopen() {
+        if self.is_ahead() {
             return Err(AskFault::MustReopen);
         }
         lrs_answers::named_route(self.alloc(), self.inventory().kept(), name)
@@ -52,13 +52,13 @@ impl<K: Keeper> Desk<K> {
     ///
     /// # Errors
     ///
-    /// `MustReopen` once a commit has failed; then `NoAsset` where no asset has this number.
+    /// `MustReopen` once a commit of several commands has failed; then `NoAsset` where no asset has this number.
     pub fn find(&self, asset: u64) -> Result<Rows<FoundRow>, AskFault>
-        ensures reopen { (result ≡ Err AskFault.MustReopen) ↔ IsTrue self.now.must_reopen }
-        ensures answer { self.now.must_reopen ≡ false
+        ensures reopen { (result ≡ Err AskFault.MustReopen) ↔ IsTrue self.now.is_ahead }
+        ensures answer { self.now.is_ahead ≡ false
             → IsFound (state_of self.now.image) asset result }
     {
-        if self.must_reopen() {
+        if self.is_ahead() {
             return Err(AskFault::MustReopen);
         }
         lrs_answers::find(self.alloc(), self.inventory(), asset)
@@ -68,18 +68,18 @@ impl<K: Keeper> Desk<K> {
     ///
     /// # Errors
     ///
-    /// `MustReopen` once a commit has failed; then `NoRoute`, and then those of the classes and of the side.
+    /// `MustReopen` once a commit of several commands has failed; then `NoRoute`, and then those of the classes and of the side.
     pub fn segments(
         &self,
         route: &RouteName,
         wanted: &[ClassName],
         side: Side,
     ) -> Result<Rows<Segment>, AskFault>
-        ensures reopen { (result ≡ Err AskFault.MustReopen) ↔ IsTrue self.now.must_reopen }
-        ensures answer { self.now.must_reopen ≡ false
+        ensures reopen { (result ≡ Err AskFault.MustReopen) ↔ IsTrue self.now.is_ahead }
+        ensures answer { self.now.is_ahead ≡ false
             → IsSegmented (state_of self.now.image) route.now wanted.now side result }
     {
-        if self.must_reopen() {
+        if self.is_ahead() {
             return Err(AskFault::MustReopen);
         }
         lrs_answers::segments(self.alloc(), self.inventory().kept(), route, wanted, side)
@@ -90,13 +90,13 @@ impl<K: Keeper> Desk<K> {
     ///
     /// # Errors
     ///
-    /// `MustReopen` once a commit has failed; else when memory runs out.
+    /// `MustReopen` once a commit of several commands has failed; else when memory runs out.
     pub fn totals(&self) -> Result<Rows<Total>, AskFault>
-        ensures reopen { (result ≡ Err AskFault.MustReopen) ↔ IsTrue self.now.must_reopen }
-        ensures answer { self.now.must_reopen ≡ false
+        ensures reopen { (result ≡ Err AskFault.MustReopen) ↔ IsTrue self.now.is_ahead }
+        ensures answer { self.now.is_ahead ≡ false
             → AreTotals (state_of self.now.image) result }
     {
-        if self.must_reopen() {
+        if self.is_ahead() {
             return Err(AskFault::MustReopen);
         }
         self.inventory().prove_sound();
@@ -107,7 +107,7 @@ impl<K: Keeper> Desk<K> {
     ///
     /// # Errors
     ///
-    /// `MustReopen` once a commit has failed; then `NoRoute`, and then what the position expression or its translation is
+    /// `MustReopen` once a commit of several commands has failed; then `NoRoute`, and then what the position expression or its translation is
     /// refused for.
     pub fn translate(
         &self,
@@ -115,11 +115,11 @@ impl<K: Keeper> Desk<K> {
         expression: Expr,
         target: Target,
     ) -> Result<Expr, AskFault>
-        ensures reopen { (result ≡ Err AskFault.MustReopen) ↔ IsTrue self.now.must_reopen }
-        ensures answer { self.now.must_reopen ≡ false
+        ensures reopen { (result ≡ Err AskFault.MustReopen) ↔ IsTrue self.now.is_ahead }
+        ensures answer { self.now.is_ahead ≡ false
             → IsTranslated (state_of self.now.image) route.now expression target result }
     {
-        if self.must_reopen() {
+        if self.is_ahead() {
             return Err(AskFault::MustReopen);
         }
         lrs_answers::translate(self.inventory().kept(), route, expression, target)
@@ -129,13 +129,13 @@ impl<K: Keeper> Desk<K> {
     ///
     /// # Errors
     ///
-    /// `MustReopen` once a commit has failed; then `NoRoute`, and then what the position expression is refused for.
+    /// `MustReopen` once a commit of several commands has failed; then `NoRoute`, and then what the position expression is refused for.
     pub fn to_link(&self, route: &RouteName, expression: Expr) -> Result<(u32, Frac), AskFault>
-        ensures reopen { (result ≡ Err AskFault.MustReopen) ↔ IsTrue self.now.must_reopen }
-        ensures answer { self.now.must_reopen ≡ false
+        ensures reopen { (result ≡ Err AskFault.MustReopen) ↔ IsTrue self.now.is_ahead }
+        ensures answer { self.now.is_ahead ≡ false
             → IsOnLink (state_of self.now.image) route.now expression result }
     {
-        if self.must_reopen() {
+        if self.is_ahead() {
             return Err(AskFault::MustReopen);
         }
         lrs_answers::to_link(self.inventory().kept(), route, expression)

@@ -1,18 +1,22 @@
 //! The desk: it does commands, and keeps what they change.
 
-ghost use Rattle.std.specs.Prelude.{◌≡◌, ◌↔◌, IsTrue, ◌≤◌, IfOk, IfErr, OnOk, Ok, Err, Result, length, true, false};
+ghost use Rattle.std.specs.Prelude.{◌≡◌, ◌↔◌, IsTrue, ◌+◌, ◌≤◌, [], IfOk, IfErr, OnOk, OnErr, Ok, Err, Result, length, true, false};
 ghost use Rattle.lrs_machine.specs.declared.table.Table.{Table};
 ghost use Rattle.lrs_machine.specs.declared.image.Image.{Image as ImageRows};
 ghost use Rattle.lrs_machine.specs.Image.{state_of};
-ghost use Rattle.lrs_image.specs.Keeping.{HasRisen, HoldsOnly};
+ghost use Rattle.lrs_machine.specs.Machine.{step};
+ghost use Rattle.lrs_image.specs.Change.{apply, CanMake};
+ghost use Rattle.lrs_image.specs.Keeping.{HasRisen, HoldsOnly, HoldsOldOrNew};
 ghost use Rattle.lrs_answers_totals.specs.Running.{IsCounted};
-ghost use Rattle.lrs_desk.specs.Desk.{IsUnchanged, DoesFirst, BreaksAmid, records_of};
+ghost use Rattle.lrs_inventory.specs.Plans.{change_of, TellsGround};
+ghost use Rattle.lrs_desk.specs.Desk.{IsUnchanged, HasBroken, DoesFirst, BreaksAmid, records_of};
 
-use crate::group::{Group, do_first};
+use crate::decision::{Decision, decide};
+use crate::group::{class_of, do_first};
 use lrs_answers_totals::Counts;
-use lrs_image::{CommitFailed, Keeper, LoadFault};
-use lrs_inventory::Inventory;
-use lrs_machine::{Answer, Command, Key, Limits, Table};
+use lrs_image::{CommitFailed, CommitFault, Keeper, LoadFault};
+use lrs_inventory::{Inventory, Plan};
+use lrs_machine::{Answer, Command, Edit, Key, Limits, Table};
 use std::alloc::{AllocError, AllocFailed, Global};
 use std::marker::Model;
 
@@ -74,6 +78,7 @@ pub struct Desk<K: Keeper> {
     counts: Counts,
     limits: Limits,
     must_reopen: bool,
+    is_ahead: bool,
     alloc: Global,
 }
 
@@ -86,10 +91,17 @@ impl<K: Keeper> Model for Desk<K> {
       image = d.inventory;
       limits = d.limits;
       must_reopen = d.must_reopen;
+      is_ahead = d.is_ahead;
       keeper = d.keeper;
     } };
 
-    ghost invariant = { λ d. IsWorking d.inventory d.counts d.must_reopen (K.may_hold d.keeper) (K.is_loaded d.keeper) };
+    ghost invariant = { λ d. IsWorking d.inventory d.counts d.must_reopen d.is_ahead (record {
+      may = K.may_hold d.keeper;
+      IsClean = K.is_clean d.keeper;
+      IsOpen = K.is_open d.keeper;
+      is_loaded = K.is_loaded d.keeper;
+      staged = K.staged d.keeper;
+    }) };
 }
 
 impl<K: Keeper> Desk<K> {
@@ -105,6 +117,9 @@ impl<K: Keeper> Desk<K> {
             → K.may_hold desk.keeper c → K.may_hold keeper c) }
         ensures limits { IfOk result (λ desk. desk.limits ≡ limits) }
         ensures open { IfOk result (λ desk. desk.must_reopen ≡ false) }
+        ensures behind { IfOk result (λ desk. desk.is_ahead ≡ false) }
+        ensures found { IfOk result (λ desk. K.is_clean desk.keeper
+            → K.may_hold desk.keeper (Ok desk.image)) }
         ensures unsound { IfErr result (λ e. (t : Table) → e.0 ≡ OpenFault.Unsound t
             → (c : Result ImageRows Table) → K.may_hold e.1 c → c ≡ Err t) }
         ensures cause { IfErr result (λ e. e.0 ≡ OpenFault.Keep
@@ -130,6 +145,7 @@ impl<K: Keeper> Desk<K> {
             counts,
             limits,
             must_reopen: false,
+            is_ahead: false,
             alloc,
         })
     }
@@ -148,11 +164,19 @@ impl<K: Keeper> Desk<K> {
         &self.counts
     }
 
-    /// Whether a commit has failed, so that the keeper has to be opened again.
+    /// Whether a commit has failed, so that the keeper has to be opened again before a command is done.
     pub fn must_reopen(&self) -> bool
         ensures { result ≡ self.now.must_reopen }
     {
         self.must_reopen
+    }
+
+    /// Whether that commit was of several commands: the image has them, and an opening may not find them. So no question
+    /// is answered then.
+    pub fn is_ahead(&self) -> bool
+        ensures { result ≡ self.now.is_ahead }
+    {
+        self.is_ahead
     }
 
     pub(crate) fn alloc(&self) -> Global {
@@ -169,24 +193,88 @@ impl<K: Keeper> Desk<K> {
 }
 
 impl<K: Keeper> Desk<K> {
-    /// Does the first of these commands, in order: one at least, and no more after one that is refused. What they
-    /// change is kept before they are answered.
+    /// Does a command, unless its key was accepted before or a check fails. What it changes is kept before it is
+    /// answered; nothing is kept for a command that changes nothing.
     ///
     /// # Errors
     ///
-    /// `Memory`, and nothing has changed. `Keep` if the keeper's device failed: the commands are in flight, and some
-    /// first ones of them may be kept. `MustReopen` from then on.
+    /// `Memory`, and nothing has changed. `Keep` if the keeper's device failed: what is kept is as it was, or has the
+    /// command, and questions are answered as before it. `MustReopen` from then on.
+    pub fn act(&mut self, key: Key, command: &Command) -> Result<Answer, Fault>
+        // The answer and the next state are the ground machine's.
+        ensures answer { IfOk result (λ answer. answer ≡ (step self.old.limits key command.now
+            (state_of self.old.image)).answer) }
+        ensures image { OnOk result (state_of self.new.image ≡ (step self.old.limits key command.now
+            (state_of self.old.image)).state) }
+        ensures content { OnOk result (HoldsOnly (K.may_hold self.new.keeper) self.new.image) }
+        ensures found { OnOk result (K.is_clean self.new.keeper
+            → K.may_hold self.new.keeper (Ok self.new.image)) }
+
+        // Want of memory changes nothing.
+        ensures memory { result ≡ Err Fault.Memory → IsUnchanged K.may_hold self.old self.new }
+
+        // A commit fails only where the device does; the image is then as before.
+        ensures keep { result ≡ Err Fault.Keep → HasBroken K.may_hold K.failures key command.now
+            self.old self.new }
+
+        // From then on the desk asks to be opened again, and at no other time.
+        ensures reopen { (result ≡ Err Fault.MustReopen) ↔ IsTrue self.old.must_reopen }
+        ensures stays { result ≡ Err Fault.MustReopen → IsUnchanged K.may_hold self.old self.new }
+        ensures limits { self.new.limits ≡ self.old.limits }
+        ensures open { OnOk result (self.new.must_reopen ≡ false) }
+    {
+        if self.must_reopen {
+            return Err(Fault::MustReopen);
+        }
+        let line = command.line(self.alloc)?;
+        let decision = decide(
+            self.alloc,
+            &self.inventory,
+            &self.limits,
+            &key,
+            command,
+            &line,
+        )?;
+        match decision {
+            Decision::Stay(answer) => Ok(answer),
+            Decision::Make(plan) => {
+                let edit = Edit { key, line };
+                let made = make(
+                    self.alloc,
+                    &mut self.inventory,
+                    &mut self.counts,
+                    &mut self.keeper,
+                    edit,
+                    plan,
+                );
+                self.must_reopen = matches!(made, Err(Fault::Keep));
+                made
+            }
+        }
+    }
+}
+
+impl<K: Keeper> Desk<K> {
+    /// Does the first of these commands, in order: one at least, and no more after one that is refused. What they
+    /// change is kept before they are answered, all of it by one commit.
+    ///
+    /// # Errors
+    ///
+    /// `Memory`, and nothing has changed. `Keep` if the keeper's device failed: all of them are kept then, or none, and
+    /// the image is ahead of an opening that finds none, so no question is answered either. `MustReopen` from then on.
     pub fn act_on_first(&mut self, commands: &[(Key, Command)]) -> Result<Vec<Answer>, Fault>
         requires some { 1 ≤ length commands.now }
         // The answers and the next state are the ground machine's.
         ensures does { IfOk result (λ given. DoesFirst self.old.limits (records_of commands.now)
             (state_of self.old.image) (state_of self.new.image) given.items) }
         ensures content { OnOk result (HoldsOnly (K.may_hold self.new.keeper) self.new.image) }
+        ensures found { OnOk result (K.is_clean self.new.keeper
+            → K.may_hold self.new.keeper (Ok self.new.image)) }
 
         // Want of memory changes nothing.
         ensures memory { result ≡ Err Fault.Memory → IsUnchanged K.may_hold self.old self.new }
 
-        // A commit fails only where the device does, and then some first commands are kept.
+        // A commit fails only where the device does, and then all of them are kept or none.
         ensures keep { result ≡ Err Fault.Keep → BreaksAmid K.may_hold K.failures
             (records_of commands.now) self.old self.new }
 
@@ -200,19 +288,83 @@ impl<K: Keeper> Desk<K> {
             return Err(Fault::MustReopen);
         }
         self.inventory.prove_sound();
-        let Group { given, changes } = do_first(
+        let edits = self.inventory.edits();
+        let given = do_first(
             self.alloc,
             &self.limits,
             &mut self.inventory,
             &mut self.counts,
+            &mut self.keeper,
             commands,
         )?;
-        match self.keeper.commit(&changes) {
+        if self.inventory.edits() == edits {
+            return Ok(given); // nothing is staged
+        }
+        match self.keeper.commit() {
             Ok(()) => Ok(given),
             Err(CommitFailed) => {
                 self.must_reopen = true;
+                self.is_ahead = true;
                 Err(Fault::Keep)
             }
         }
+    }
+}
+
+// Makes the change of a plan, counts what it brings, and answers the number of its edit.
+fn make<K: Keeper>(
+    alloc: Global,
+    inventory: &mut Inventory,
+    counts: &mut Counts,
+    keeper: &mut K,
+    edit: Edit,
+    plan: Plan,
+) -> Result<Answer, Fault>
+    requires loaded { K.is_loaded keeper.old ≡ true }
+    requires staged { K.staged keeper.old ≡ [] }
+    requires reached { K.is_clean keeper.old → K.is_open keeper.old }
+    requires kept { HoldsOnly (K.may_hold keeper.old) inventory.old }
+    requires can { CanMake (change_of edit plan) inventory.old }
+    requires tells { TellsGround plan inventory.old }
+    requires counted { IsCounted inventory.old counts.old }
+    ensures answer { IfOk result (λ answer. answer ≡ Answer.Done (length inventory.old.edits + 1)) }
+    ensures ok { OnOk result (inventory.new ≡ apply (change_of edit plan) inventory.old) }
+    ensures ok_kept { OnOk result (HoldsOnly (K.may_hold keeper.new)
+        (apply (change_of edit plan) inventory.old)) }
+    ensures err { OnErr result (inventory.new ≡ inventory.old) }
+    ensures memory { result ≡ Err Fault.Memory → (c : Result ImageRows Table)
+        → K.may_hold keeper.new c → K.may_hold keeper.old c }
+    ensures store { result ≡ Err Fault.Keep → HoldsOldOrNew (change_of edit plan)
+        (K.may_hold keeper.new) inventory.old }
+    ensures cause { result ≡ Err Fault.Keep → HasRisen (K.failures keeper.old)
+        (K.failures keeper.new) }
+    ensures only { result ≡ Err Fault.MustReopen → ⊥ }
+    ensures reached { (result ≡ Err Fault.Keep → ⊥) → K.is_clean keeper.new
+        → K.is_open keeper.new }
+    ensures loaded { K.is_loaded keeper.new ≡ true }
+    ensures staged { K.staged keeper.new ≡ [] }
+    ensures counted { IsCounted inventory.new counts.new }
+{
+    inventory.prove_sound();
+    counts.reserve()?;
+    let number = inventory.edits() + 1;
+    let class = class_of(&plan);
+    match inventory.make(alloc, keeper, edit, plan) {
+        Ok(()) => {
+            counts.catch_up(inventory.kept(), class);
+            Ok(Answer::Done(number))
+        }
+        Err(fault) => Err(commit_fault(fault)),
+    }
+}
+
+fn commit_fault(fault: CommitFault) -> Fault
+    ensures memory { result ≡ Fault.Memory → fault ≡ CommitFault.Memory }
+    ensures keep { (result ≡ Fault.Keep) ↔ (fault ≡ CommitFault.Store) }
+    ensures only { result ≡ Fault.MustReopen → ⊥ }
+{
+    match fault {
+        CommitFault::Memory => Fault::Memory,
+        CommitFault::Store => Fault::Keep,
     }
 }

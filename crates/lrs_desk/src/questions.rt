@@ -18,8 +18,8 @@ use lrs_position::{Expr, RouteName, Target};
 
 impl<K: Keeper> Desk<K> {
     fn tell_at(&self, route: RouteName, position: Expr) -> Result<Told, AskFault>
-        ensures reopen { (result ≡ Err AskFault.MustReopen) ↔ IsTrue self.now.must_reopen }
-        ensures answer { self.now.must_reopen ≡ false
+        ensures reopen { (result ≡ Err AskFault.MustReopen) ↔ IsTrue self.now.is_ahead }
+        ensures answer { self.now.is_ahead ≡ false
             → Tells (IsAt (state_of self.now.image) route position) (told.At route) result }
     {
         let found = self.at(&route, position)?;
@@ -27,8 +27,8 @@ impl<K: Keeper> Desk<K> {
     }
 
     fn tell_route(&self, name: RouteName) -> Result<Told, AskFault>
-        ensures reopen { (result ≡ Err AskFault.MustReopen) ↔ IsTrue self.now.must_reopen }
-        ensures answer { self.now.must_reopen ≡ false
+        ensures reopen { (result ≡ Err AskFault.MustReopen) ↔ IsTrue self.now.is_ahead }
+        ensures answer { self.now.is_ahead ≡ false
             → Tells (IsNamedRoute self.now.image name) told.Route result }
     {
         let route = self.route(&name)?;
@@ -48,8 +48,8 @@ impl<K: Keeper> Desk<K> {
         side: Side,
         classes: Rows<ClassName>,
     ) -> Result<Told, AskFault>
-        ensures reopen { (result ≡ Err AskFault.MustReopen) ↔ IsTrue self.now.must_reopen }
-        ensures answer { self.now.must_reopen ≡ false
+        ensures reopen { (result ≡ Err AskFault.MustReopen) ↔ IsTrue self.now.is_ahead }
+        ensures answer { self.now.is_ahead ≡ false
             → Tells (IsSegmented (state_of self.now.image) route classes side)
             (told.Segments route side (length_on (state_of self.now.image) route) classes) result }
     {
@@ -70,8 +70,8 @@ impl<K: Keeper> Desk<K> {
         position: Expr,
         target: Target,
     ) -> Result<Told, AskFault>
-        ensures reopen { (result ≡ Err AskFault.MustReopen) ↔ IsTrue self.now.must_reopen }
-        ensures answer { self.now.must_reopen ≡ false
+        ensures reopen { (result ≡ Err AskFault.MustReopen) ↔ IsTrue self.now.is_ahead }
+        ensures answer { self.now.is_ahead ≡ false
             → Tells (IsTranslated (state_of self.now.image) route position target)
             (told.Translated route) result }
     {
@@ -80,8 +80,8 @@ impl<K: Keeper> Desk<K> {
     }
 
     fn tell_on_link(&self, route: RouteName, position: Expr) -> Result<Told, AskFault>
-        ensures reopen { (result ≡ Err AskFault.MustReopen) ↔ IsTrue self.now.must_reopen }
-        ensures answer { self.now.must_reopen ≡ false
+        ensures reopen { (result ≡ Err AskFault.MustReopen) ↔ IsTrue self.now.is_ahead }
+        ensures answer { self.now.is_ahead ≡ false
             → Tells (IsOnLink (state_of self.now.image) route position)
             (λ on. told.OnLink route on.0 on.1) result }
     {
@@ -94,8 +94,8 @@ impl<K: Keeper> Desk<K> {
     }
 
     fn tell_totals(&self) -> Result<Told, AskFault>
-        ensures reopen { (result ≡ Err AskFault.MustReopen) ↔ IsTrue self.now.must_reopen }
-        ensures answer { self.now.must_reopen ≡ false
+        ensures reopen { (result ≡ Err AskFault.MustReopen) ↔ IsTrue self.now.is_ahead }
+        ensures answer { self.now.is_ahead ≡ false
             → Tells (AreTotals (state_of self.now.image)) told.Totals result }
     {
         let totals = self.totals()?;
@@ -103,8 +103,8 @@ impl<K: Keeper> Desk<K> {
     }
 
     fn tell_found(&self, asset: u64) -> Result<Told, AskFault>
-        ensures reopen { (result ≡ Err AskFault.MustReopen) ↔ IsTrue self.now.must_reopen }
-        ensures answer { self.now.must_reopen ≡ false
+        ensures reopen { (result ≡ Err AskFault.MustReopen) ↔ IsTrue self.now.is_ahead }
+        ensures answer { self.now.is_ahead ≡ false
             → Tells (IsFound (state_of self.now.image) asset) told.Found result }
     {
         let found = self.find(asset)?;
@@ -115,11 +115,11 @@ impl<K: Keeper> Desk<K> {
     ///
     /// # Errors
     ///
-    /// `MustReopen` once a commit has failed; else those of the call for its kind: `at`, `route`, `segments`,
+    /// `MustReopen` once a commit of several commands has failed; else those of the call for its kind: `at`, `route`, `segments`,
     /// `translate`, `to_link`, `totals` or `find`.
     pub fn ask(&self, question: Question) -> Result<Told, AskFault>
-        ensures reopen { (result ≡ Err AskFault.MustReopen) ↔ IsTrue self.now.must_reopen }
-        ensures answer { self.now.must_reopen ≡ false → IsTold self.now.image question result }
+        ensures reopen { (result ≡ Err AskFault.MustReopen) ↔ IsTrue self.now.is_ahead }
+        ensures answer { self.now.is_ahead ≡ false → IsTold self.now.image question result }
     {
         match question {
             Question::At { route, position } => self.tell_at(route, position),

@@ -53,6 +53,8 @@ pub fn stage_change<K: Keeper>(
     ensures not_staged { OnErr result (K.staged keeper.new ≡ K.staged keeper.old) }
     ensures content { HoldsSame (K.may_hold keeper.old) (K.may_hold keeper.new) }
     ensures loaded { K.is_loaded keeper.new ≡ K.is_loaded keeper.old }
+    ensures clean { K.is_clean keeper.new → K.is_clean keeper.old }
+    ensures open { K.is_open keeper.old → K.is_open keeper.new }
     ensures quiet { K.failures keeper.new ≡ K.failures keeper.old }
 {
     let copy = change.copy(alloc)?;
@@ -82,6 +84,7 @@ pub fn make_change<K: Keeper>(
 ) -> Result<(), CommitFault>
     requires loaded { K.is_loaded keeper.old ≡ true }
     requires staged { K.staged keeper.old ≡ [] }
+    requires reached { K.is_clean keeper.old → K.is_open keeper.old }
     requires content { HoldsOnly (K.may_hold keeper.old) (image_of kept.old) }
     requires sound { IsSound (image_of kept.old) }
     requires can { CanMake change (image_of kept.old) }
@@ -92,6 +95,8 @@ pub fn make_change<K: Keeper>(
     ensures store { result ≡ Err CommitFault.Store → HoldsOldOrNew change (K.may_hold keeper.new) (image_of kept.old) }
     ensures cause { result ≡ Err CommitFault.Store → HasRisen (K.failures keeper.old) (K.failures keeper.new) }
     ensures loaded { K.is_loaded keeper.new ≡ true }
+    ensures reached { (result ≡ Err CommitFault.Store → ⊥)
+        → K.is_clean keeper.new → K.is_open keeper.new }
     ensures staged { K.staged keeper.new ≡ [] }
 {
     let copy = change.copy(alloc)?;
@@ -112,6 +117,7 @@ pub fn make_change<K: Keeper>(
 fn keep_one<K: Keeper>(keeper: &mut K, change: Change) -> Result<(), CommitFault>
     requires loaded { K.is_loaded keeper.old ≡ true }
     requires staged { K.staged keeper.old ≡ [] }
+    requires reached { K.is_clean keeper.old → K.is_open keeper.old }
     requires sound { HoldsSound (K.may_hold keeper.old) }
     requires can { (c : Result Image Table) → K.may_hold keeper.old c → IfOk c (CanMake change) }
     ensures ok { OnOk result ((c : Result Image Table) → K.may_hold keeper.new c → IsChangedBy (K.may_hold keeper.old) (change ∷ []) c) }
@@ -119,6 +125,8 @@ fn keep_one<K: Keeper>(keeper: &mut K, change: Change) -> Result<(), CommitFault
     ensures store { result ≡ Err CommitFault.Store → (c : Result Image Table) → K.may_hold keeper.new c → K.may_hold keeper.old c ⊎ IsChangedBy (K.may_hold keeper.old) (change ∷ []) c }
     ensures cause { result ≡ Err CommitFault.Store → HasRisen (K.failures keeper.old) (K.failures keeper.new) }
     ensures loaded { K.is_loaded keeper.new ≡ true }
+    ensures reached { (result ≡ Err CommitFault.Store → ⊥)
+        → K.is_clean keeper.new → K.is_open keeper.new }
     ensures staged { K.staged keeper.new ≡ [] }
 {
     keeper.stage(change)?;

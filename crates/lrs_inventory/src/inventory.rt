@@ -137,6 +137,8 @@ impl Inventory {
         ensures not_staged { OnErr result (K.staged keeper.new ≡ K.staged keeper.old) }
         ensures content { HoldsSame (K.may_hold keeper.old) (K.may_hold keeper.new) }
         ensures loaded { K.is_loaded keeper.new ≡ K.is_loaded keeper.old }
+        ensures clean { K.is_clean keeper.new → K.is_clean keeper.old }
+        ensures open { K.is_open keeper.old → K.is_open keeper.new }
         ensures quiet { K.failures keeper.new ≡ K.failures keeper.old }
     {
         let Plan {
@@ -173,6 +175,7 @@ impl Inventory {
     ) -> Result<(), CommitFault>
         requires loaded { K.is_loaded keeper.old ≡ true }
         requires staged { K.staged keeper.old ≡ [] }
+        requires reached { K.is_clean keeper.old → K.is_open keeper.old }
         requires content { HoldsOnly (K.may_hold keeper.old) self.old }
         requires can { CanMake (change_of edit plan) self.old }
         requires tells { TellsGround plan self.old }
@@ -187,6 +190,8 @@ impl Inventory {
         ensures cause { result ≡ Err CommitFault.Store
             → HasRisen (K.failures keeper.old) (K.failures keeper.new) }
         ensures loaded { K.is_loaded keeper.new ≡ true }
+        ensures reached { (result ≡ Err CommitFault.Store → ⊥)
+            → K.is_clean keeper.new → K.is_open keeper.new }
         ensures staged { K.staged keeper.new ≡ [] }
     {
         let Plan {

@@ -1,36 +1,54 @@
-use Rattle.std.proofs.Common.{◌≤◌, length, arith, rules}
-use Rattle.lrs_desk.proofs.Grouping.{goes_on_from, group_ends, group_grows, group_stays, whole_group}
+use Rattle.std.proofs.Common.{◌≤◌, length, arith, rules, ◌≡◌, ap, sym, refl, List, ◌∙◌}
+use Rattle.lrs_machine.specs.declared.answer.Answer.{Answer}
+use Rattle.lrs_desk.proofs.Grouping.{goes_on_from, none_staged, group_ends, group_grows, group_stays, whole_group}
 use Rattle.lrs_desk.proofs.group.do_first.Goals as goal
 
 pub loop-key-init : goal.loop-key-init
-loop-key-init c = record {
-  so_far = goes_on_from c.args.limits.now c.args.inventory.now c.prove_sound.ensures c.new.result.items c.new-2.result.items c.new.ensures.items c.new-2.ensures.items;
+loop-key-init g c = record {
+  so_far = goes_on_from c.args.limits.now c.args.inventory.now c.prove_sound.ensures c.new-given.result.items (g.K.Keeper.staged c.args.keeper.now) c.new-given.ensures.items c.requires.staged;
   counted = c.requires.counted;
+  content = λ x h. h;
+  loaded = refl;
+  clean = λ h. h;
+  reached = λ h. h;
+  quiet = refl;
 }
 
 pub loop-key-preserved : goal.loop-key-preserved
-loop-key-preserved c = record {
+loop-key-preserved g c = record {
   so_far = group_grows c.args.commands.now c.args.limits.now c.loop-key.key-index c.loop-key-item.result c.args.inventory.now c.loop-key.inventory c.do_next.new.inventory
-      c.loop-key.group.given.items c.do_next.new.self.given.items c.loop-key.group.changes.items c.do_next.new.self.changes.items c.in-Ok-true.field-0
+      c.loop-key.given.items c.do_next.new.given.items (g.K.Keeper.staged c.loop-key.keeper) (g.K.Keeper.staged c.do_next.new.keeper) c.in-Ok-true.field-0
       c.loop-key-test.true c.loop-key-item.is c.loop-key.invariant.so_far c.in-Ok-true.ensures.does c.in-Ok-true.field-0-test;
   counted = c.do_next.ensures.counted;
+  content = λ x h. c.loop-key.invariant.content x (c.do_next.ensures.content x h);
+  loaded = c.do_next.ensures.loaded ∙ c.loop-key.invariant.loaded;
+  clean = λ h. c.loop-key.invariant.clean (c.do_next.ensures.clean h);
+  reached = λ h. c.do_next.ensures.open (c.loop-key.invariant.reached h);
+  quiet = c.do_next.ensures.quiet ∙ c.loop-key.invariant.quiet;
 }
 
 pub returns-in-Ok-false-clause-does : goal.returns-in-Ok-false-clause-does
-returns-in-Ok-false-clause-does c =
+returns-in-Ok-false-clause-does g c =
     group_ends c.args.commands.now c.args.limits.now c.loop-key.key-index c.loop-key-item.result c.args.inventory.now c.loop-key.inventory c.do_next.new.inventory
-    c.loop-key.group.given.items c.do_next.new.self.given.items c.loop-key.group.changes.items c.do_next.new.self.changes.items c.in-Ok-false.field-0
+    c.loop-key.given.items c.do_next.new.given.items (g.K.Keeper.staged c.loop-key.keeper) (g.K.Keeper.staged c.do_next.new.keeper) c.in-Ok-false.field-0
     c.loop-key-test.true c.loop-key-item.is c.loop-key.invariant.so_far c.in-Ok-false.ensures.does
 
 pub returns-in-Err-clause-does : goal.returns-in-Err-clause-does
-returns-in-Err-clause-does c =
+returns-in-Err-clause-does g c =
     let within = c.loop-key-test.true in
-    let some : 1 ≤ length c.do_next.new.self.given.items = search rules in
+    let some : 1 ≤ length c.do_next.new.given.items = search rules in
     group_stays c.args.commands.now c.args.limits.now c.loop-key.key-index c.args.inventory.now c.loop-key.inventory c.do_next.new.inventory
-    c.loop-key.group.given.items c.do_next.new.self.given.items c.loop-key.group.changes.items c.do_next.new.self.changes.items
-    c.loop-key.invariant.so_far (omega (arith, within)) some c.in-Err.ensures.memory c.in-Err.ensures.given c.in-Err.ensures.changes
+    c.loop-key.given.items c.do_next.new.given.items (g.K.Keeper.staged c.loop-key.keeper) (g.K.Keeper.staged c.do_next.new.keeper)
+    c.loop-key.invariant.so_far (omega (arith, within)) some c.in-Err.ensures.memory c.in-Err.ensures.given c.in-Err.ensures.not_staged
 
 pub returns-clause-does : goal.returns-clause-does
-returns-clause-does c =
-    whole_group c.args.commands.now c.args.limits.now c.loop-key.key-index c.args.inventory.now c.loop-key.inventory c.loop-key.group.given.items c.loop-key.group.changes.items
+returns-clause-does g c =
+    whole_group c.args.commands.now c.args.limits.now c.loop-key.key-index c.args.inventory.now c.loop-key.inventory c.loop-key.given.items (g.K.Keeper.staged c.loop-key.keeper)
     c.loop-key.invariant.so_far c.loop-key-test.false c.requires.some
+
+pub returns-then-is_empty-clause-not_staged : goal.returns-then-is_empty-clause-not_staged
+returns-then-is_empty-clause-not_staged g c =
+    let within = c.loop-key-test.true in
+    let none : length c.do_next.new.given.items ≡ 0 = search rules in
+    c.in-Err.ensures.not_staged ∙ none_staged c.args.commands.now c.args.limits.now c.loop-key.key-index c.args.inventory.now c.loop-key.inventory c.loop-key.given.items (g.K.Keeper.staged c.loop-key.keeper)
+    c.loop-key.invariant.so_far (omega (arith, within)) (ap (λ (xs : List Answer). length xs) (sym c.in-Err.ensures.given) ∙ none)

@@ -6,14 +6,14 @@ use Rattle.lrs_inventory.specs.Plans.{change_of}
 use Rattle.lrs_desk.proofs.group.make.Goals as goal
 
 pub overflow_add-number : goal.overflow_add-number
-overflow_add-number c =
+overflow_add-number g c =
     omega (arith, few_edits (apply (change_of c.args.edit c.args.plan) c.args.inventory.now) c.requires.can.sound, length-append c.args.inventory.now.edits (c.args.edit ∷ []), c.edits-number.ensures)
 
 pub catch_up-requires-clause-behind : goal.catch_up-requires-clause-behind
-catch_up-requires-clause-behind c = record {
+catch_up-requires-clause-behind g c = record {
   before = c.args.inventory.now;
   change = change_of c.args.edit c.args.plan;
-  made = c.kept.ensures.image ∙ c.in_ok-change.ensures.ok;
+  made = c.kept.ensures.image ∙ c.in_ok-stage.ensures.ok;
   class_is = c.class_of-class.ensures;
   counted = c.reserve.ensures.same c.args.inventory.now c.requires.counted;
   was_sound = c.prove_sound.ensures;

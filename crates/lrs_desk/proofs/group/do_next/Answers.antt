@@ -8,10 +8,10 @@ use Rattle.lrs_image.specs.Change.{apply, CanMake}
 use Rattle.lrs_inventory.specs.Plans.{change_of}
 use Rattle.lrs_machine_stops.specs.Stopped.{IsAccepted}
 use Rattle.lrs_desk.specs.Decide.{IsDecision}
-use Rattle.lrs_desk.proofs.group.Group.do_next.Goals as goal
+use Rattle.lrs_desk.proofs.group.do_next.Goals as goal
 
 pub returns-in_ok-answer-in-Make-clause-does : goal.returns-in_ok-answer-in-Make-clause-does
-returns-in_ok-answer-in-Make-clause-does c =
+returns-in_ok-answer-in-Make-clause-does g c =
     let i = c.args.inventory.now in
     let plan = c.in-Make.plan in
     let d = subst (IsDecision c.args.limits.now c.args.key.now c.args.command.now i) c.in-Make.is c.in_ok-answer.ensures.decided in
@@ -24,10 +24,10 @@ returns-in_ok-answer-in-Make-clause-does c =
       answered = c.push_in_room-in-Make.ensures.items ∙ (λ j. c.reserve.ensures.items j ++ (made.ensures.answer ∙ sym answer) j ∷ []);
       state = ap state_of made.ensures.ok ∙ ap (λ (e : Edit). state_of (apply (change_of e plan) i)) same ∙ sym (ap (λ (o : Outcome). o.state) d.outcome);
       changed = inr (record {
-        change = made.change;
-        can = subst (λ (x : Change). CanMake x i) (sym made.ensures.change) can;
-        made = made.ensures.ok ∙ ap (λ (x : Change). apply x i) (sym made.ensures.change);
-        kept = c.push_in_room-in-Make-2.ensures.items ∙ (λ j. c.reserve-2.ensures.items j ++ made.change ∷ []);
+        change = change_of edit plan;
+        can = can;
+        made = made.ensures.ok;
+        kept = made.ensures.staged;
       });
       accepted = λ yes. subst IsAccepted (sym answer) tt;
     }

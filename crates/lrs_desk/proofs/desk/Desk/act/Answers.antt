@@ -1,0 +1,24 @@
+use Rattle.std.proofs.Common.{◌≡◌, [], ◌∷◌, OnErr, ap, subst, rules, ◌∙◌}
+use Rattle.lrs_machine.specs.declared.image.Edit.{Edit}
+use Rattle.lrs_image.specs.Keeping.{HasRisen}
+use Rattle.lrs_desk.specs.Decide.{IsDecision}
+use Rattle.lrs_desk.specs.Desk.{IsOldOrNext}
+use Rattle.lrs_desk.specs.DeskView.{DeskView}
+use Rattle.lrs_desk.proofs.Deciding.{old_or_next}
+use Rattle.lrs_desk.proofs.desk.Desk.act.Goals as goal
+
+pub returns-after-matches-clause-keep : goal.returns-after-matches-clause-keep
+returns-after-matches-clause-keep g c = λ e.
+    let i = c.self.inside.inventory in
+    let d = subst (IsDecision c.self.inside.limits c.args.key c.args.command.now i) c.in-Make.is c.in_ok-decision.ensures.decided in
+    let edit : Edit = record { key = c.args.key; line = c.in_ok-line.line } in
+    let same = ap (λ line. let e : Edit = record { key = c.args.key; line = line } in e) c.in_ok-line.ensures in
+    record {
+      image = subst (λ r. OnErr r (c.make-made.new.inventory ≡ i)) e c.make-made.ensures.err ∙ ap (λ (v : DeskView g.row.K.Denot). v.image) c.self.view_is;
+      content = λ found h.
+          subst (λ (v : DeskView g.row.K.Denot). IsOldOrNext v.limits (record { key = c.args.key; command = c.args.command.now } ∷ []) v.image found) c.self.view_is
+          (old_or_next c.self.inside.limits c.args.key c.args.command.now i c.in-Make.plan edit d same found (c.make-made.ensures.store e found h));
+      must_reopen = search rules;
+      is_ahead = c.self.invariant.behind c.if-self.false;
+      cause = subst (λ (v : DeskView g.row.K.Denot). HasRisen (g.K.Keeper.failures v.keeper) (g.K.Keeper.failures c.make-made.new.keeper)) c.self.view_is (c.make-made.ensures.cause e);
+    }
