@@ -1,5 +1,5 @@
 -- What holds of every run that stops.
-use Rattle.std.specs.Prelude.{◌≡◌, ◌⊎◌, ◌≤◌, ◌+◌, ◌-◌, ℕ, max, nat_lt, Bool, true, List, [], ◌∷◌, ◌++◌, length, take, Some}
+use Rattle.std.specs.Prelude.{◌≡◌, ◌⊎◌, ◌≤◌, ◌+◌, ◌-◌, ℕ, max, nat_lt, Bool, true, List, [], ◌∷◌, ◌++◌, length, Some}
 use Rattle.std.specs.List.{count_by, AllByRecursion}
 use Rattle.lrs_measure.specs.Texts.{Name, same_name}
 use Rattle.lrs_machine.specs.declared.answer.Answer.{Answer}
@@ -20,7 +20,7 @@ pub record IsMadeBy (limits : Limits) (start : State) (xs : List Step) (found : 
   pub kept : Keeps xs commands
   pub stored : found ≡ state_after limits commands start
 
--- What is stored, and so what an opening finds, is the fold over the commands that were answered, with some first ones of the commands in flight, at their point.
+-- What is stored, and so what an opening finds, is the fold over the commands that were answered, with all of the commands in flight, or none of them, at their point.
 abbrev pub StoredIsFold : Type 0
 StoredIsFold = (limits : Limits) (start : State) (xs : List Step) (m : Moment) → IsRun limits (at_rest start) xs m → IsMadeBy limits start xs m.stored
 
@@ -83,19 +83,14 @@ NoneIsDoubled = (limits : Limits) (start : State) (xs : List Step) (m : Moment) 
 abbrev pub StoredIsLawful : Type 0
 StoredIsLawful = (limits : Limits) (start : State) (xs : List Step) (m : Moment) → IsLawful start → IsRun limits (at_rest start) xs m → IsLawful m.stored
 
--- Where a desk is open and a command is sent alone, a run may stop with what was stored, and with the next state.
-pub record BothCanBe (limits : Limits) (start : State) (xs : List Step) (r : Record) (s : State) : Type 0 where
-  pub old : IsRun limits (at_rest start) (xs ++ StopWithin [] r ∷ []) (at_rest s)
-  pub next : IsRun limits (at_rest start) (xs ++ StopWithin [] r ∷ []) (at_rest (step_record limits r s).state)
+-- Where a desk is open and commands are sent together, all but the last of them accepted, a run may stop with none of them stored, and with all of them. (One that is sent alone is the last.)
+pub record BothCanBe (limits : Limits) (start : State) (xs : List Step) (rs : List Record) (r : Record) (s : State) : Type 0 where
+  pub none : IsRun limits (at_rest start) (xs ++ StopWithin rs r ∷ []) (at_rest s)
+  pub all : IsRun limits (at_rest start) (xs ++ StopWithin rs r ∷ []) (at_rest (state_after limits (rs ++ r ∷ []) s))
 
 abbrev pub StopsHaveBothOutcomes : Type 0
-StopsHaveBothOutcomes = (limits : Limits) (start s : State) (xs : List Step) (r : Record) (m : Moment) → IsRun limits (at_rest start) xs m → m.desk ≡ Some s → BothCanBe limits start xs r s
-
--- Where commands are sent together, all but the last of them accepted, a run may stop with any first ones of them stored.
-abbrev pub StopsHaveEachOutcome : Type 0
-StopsHaveEachOutcome = (limits : Limits) (start s : State) (xs : List Step) (rs : List Record) (r : Record) (k : ℕ) (m : Moment)
-    → IsRun limits (at_rest start) xs m → m.desk ≡ Some s → AllByRecursion IsAccepted (answers limits rs s)
-    → IsRun limits (at_rest start) (xs ++ StopWithin rs r ∷ []) (at_rest (state_after limits (take k (rs ++ r ∷ [])) s))
+StopsHaveBothOutcomes = (limits : Limits) (start s : State) (xs : List Step) (rs : List Record) (r : Record) (m : Moment)
+    → IsRun limits (at_rest start) xs m → m.desk ≡ Some s → AllByRecursion IsAccepted (answers limits rs s) → BothCanBe limits start xs rs r s
 
 -- There is a run of any commands that stops nowhere.
 pub record IsServed (limits : Limits) (start : State) (rs : List Record) : Type 0 where

@@ -59,7 +59,7 @@ pub record Excluded : Type 0 where
   pub forgotten : (s : State) → IsStep full (at_work (after (first_link ∷ []))) Stop (at_rest s) → s ≡ after (first_link ∷ [])
   pub unopened : (m : Moment) → IsStep full (at_rest nothing_known) (Act first_link (Done 1)) m → ⊥
 
--- Both links are sent together, and the program stops while they are in flight. Both are stored, or the first one, or none; the second one is never stored alone.
+-- Both links are sent together, and the program stops while they are in flight. Both are stored, or none; neither is ever stored alone.
 abbrev pub until_both_stop : List Step
 until_both_stop = Open ∷ StopWithin (first_link ∷ []) second_link ∷ []
 
@@ -69,7 +69,7 @@ sent_where_both_kept = Open ∷ StopWithin (first_link ∷ []) second_link ∷ S
 
 -- The run ends with what the three commands make without a stop, and its answers stand in for theirs.
 pub record TwoInFlight : Type 0 where
-  pub nothing_else : (s : State) → IsRun full (at_rest nothing_known) until_both_stop (at_rest s) → (s ≡ nothing_known) ⊎ ((s ≡ after (first_link ∷ [])) ⊎ (s ≡ after (first_link ∷ second_link ∷ [])))
+  pub nothing_else : (s : State) → IsRun full (at_rest nothing_known) until_both_stop (at_rest s) → (s ≡ nothing_known) ⊎ (s ≡ after (first_link ∷ second_link ∷ []))
   pub kept : IsRun full (at_rest nothing_known) sent_where_both_kept (at_work (after (first_link ∷ second_link ∷ signs ∷ [])))
   pub sent_first : SendsFirst sent_where_both_kept
   pub given : StandInFor 0 sent_where_both_kept (Done 1 ∷ Done 2 ∷ Done 3 ∷ [])

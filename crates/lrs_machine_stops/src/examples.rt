@@ -12,8 +12,8 @@ pub fn both_end_alike()
     ensures { BothEndAlike }
 {}
 
-/// Two links that are in flight together are stored in their order; where both were, and both are sent first,
-/// each is answered again, and the run ends with the same state too.
+/// Two links that are in flight together are both stored, or none of them is; where both were, and both are
+/// sent first, each is answered again, and the run ends with the same state too.
 pub fn two_in_flight()
     ensures { TwoInFlight }
 {}

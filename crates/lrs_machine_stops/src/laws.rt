@@ -1,6 +1,6 @@
 //! Laws of runs that stop.
 
-ghost use Rattle.lrs_machine_stops.specs.Laws.{DeskIsStored, StoredIsFold, AnswersAreOfFold, SentFirstIsUnstopped, NoneIsLost, NoneIsDoubled, StoredIsLawful, StopsHaveBothOutcomes, StopsHaveEachOutcome, RunsAreThere};
+ghost use Rattle.lrs_machine_stops.specs.Laws.{DeskIsStored, StoredIsFold, AnswersAreOfFold, SentFirstIsUnstopped, NoneIsLost, NoneIsDoubled, StoredIsLawful, StopsHaveBothOutcomes, RunsAreThere};
 
 /// The open desk acts on what is stored.
 pub fn the_desk_acts_on_what_is_stored()
@@ -8,7 +8,7 @@ pub fn the_desk_acts_on_what_is_stored()
 {}
 
 /// What is stored, and so what an opening finds, is the fold over the commands that were answered, in
-/// order, with some first ones of the commands in flight, at their point.
+/// order, with all of the commands in flight, or none of them, at their point.
 pub fn what_is_stored_is_a_fold()
     ensures { StoredIsFold }
 {}
@@ -42,14 +42,10 @@ pub fn what_is_stored_is_lawful()
     ensures { StoredIsLawful }
 {}
 
-/// A run can stop within any command, with what was stored before it and with its next state.
+/// A run can stop within any command, and within any commands that are sent together, with none of them
+/// stored and with all of them.
 pub fn stops_have_both_outcomes()
     ensures { StopsHaveBothOutcomes }
-{}
-
-/// A run can stop within any commands that are sent together, with any first ones of them stored.
-pub fn stops_have_each_outcome()
-    ensures { StopsHaveEachOutcome }
 {}
 
 /// For any commands there is a run that stops nowhere.
