@@ -1,4 +1,5 @@
 pub mod Edits
 pub mod Sending
 pub mod Stopping
+pub mod Again
 pub mod Working

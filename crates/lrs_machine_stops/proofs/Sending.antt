@@ -21,7 +21,7 @@ module _ (limits : Limits) where
   said r s = (step_record limits r s).answer
 
   -- Sent again at t, the command that was sent at s changes nothing, and is answered as it was or as known.
-  record IsSettled (r : Record) (s t : State) : Type 0 where
+  pub record IsSettled (r : Record) (s t : State) : Type 0 where
     pub state : next r t ≡ t
     pub answer : StandsIn true (said r t) (said r s)
 
@@ -51,7 +51,7 @@ module _ (limits : Limits) where
       by _ (edits.known place at) e = as_before _ refl e
       by _ (edits.refused c) e = as_before _ refl e
 
-  at_once : (r : Record) (s t : State) → t ≡ next r s → IsSettled r s t
+  pub at_once : (r : Record) (s t : State) → t ≡ next r s → IsSettled r s t
   at_once r s t e =
       let twice = repeated r s in
       record {

@@ -25,7 +25,7 @@ module _ (limits : Limits) where
 
   -- ---- the desk acts on what is stored
 
-  abbrev ActsOnStored : Moment → Type 0
+  abbrev pub ActsOnStored : Moment → Type 0
   ActsOnStored m = (s : State) → m.desk ≡ Some s → s ≡ m.stored
 
   pub some_same : {X : Type 0} (x y : X) → Some x ≡ Some y → x ≡ y
@@ -34,20 +34,20 @@ module _ (limits : Limits) where
   no_desk : (m : Moment) → m.desk ≡ None → ActsOnStored m
   no_desk m none s e = absurd (let both : Some s ≡ None = sym e ∙ none in cc both)
 
-  acts_on_stored : (before after : Moment) (x : Step) → IsStep limits before x after → ActsOnStored before → ActsOnStored after
+  pub acts_on_stored : (before after : Moment) (x : Step) → IsStep limits before x after → ActsOnStored before → ActsOnStored after
   acts_on_stored before after Open h is = λ s e. some_same s before.stored (sym e ∙ h.desk) ∙ sym h.stored
   acts_on_stored before after (Act r a) h is = λ s e. some_same s (next r h.known) (sym e ∙ h.desk) ∙ sym h.stored
   acts_on_stored before after (Unserved r) h is = subst ActsOnStored (sym h) is
   acts_on_stored before after (StopWithin rs r) h is = no_desk after h.desk
   acts_on_stored before after Stop h is = no_desk after (ap (λ (m : Moment). m.desk) h)
 
-  acts_on_stored_after : (xs : List Step) (before after : Moment) → IsRun limits before xs after → ActsOnStored before → ActsOnStored after
+  pub acts_on_stored_after : (xs : List Step) (before after : Moment) → IsRun limits before xs after → ActsOnStored before → ActsOnStored after
   acts_on_stored_after [] before after run is = subst ActsOnStored (sym run) is
   acts_on_stored_after (x ∷ xs) before after run is = acts_on_stored_after xs run.0 after run.2 (acts_on_stored before run.0 x run.1 is)
 
   -- ---- runs one after another
 
-  parted : (xs ys : List Step) (before after : Moment) → IsRun limits before (xs ++ ys) after → (m : Moment) × IsRun limits before xs m × IsRun limits m ys after
+  pub parted : (xs ys : List Step) (before after : Moment) → IsRun limits before (xs ++ ys) after → (m : Moment) × IsRun limits before xs m × IsRun limits m ys after
   parted [] ys before after run = (before, refl, run)
   parted (x ∷ xs) ys before after run = let rest = parted xs ys run.0 after run.2 in (rest.0, (run.0, run.1, rest.1), rest.2)
 
@@ -115,7 +115,7 @@ module _ (limits : Limits) where
       by (StopWithin rs r) h rest = stops rs r h.known (is h.known h.acts_on) h.stored rest
       by Stop h rest = record { commands = rest.commands; kept = stopped xs rest.commands rest.kept; stored = without (ap (λ (m : Moment). m.stored) h) rest }
 
-rests : (start : State) (limits : Limits) → ActsOnStored limits (at_rest start)
+pub rests : (start : State) (limits : Limits) → ActsOnStored limits (at_rest start)
 rests start limits = no_desk limits (at_rest start) refl
 
 pub desk_is_stored : DeskIsStored

@@ -1,5 +1,5 @@
 -- What holds of every run that stops.
-use Rattle.std.specs.Prelude.{◌≡◌, ◌⊎◌, ◌≤◌, ◌+◌, ◌-◌, ℕ, max, nat_lt, Bool, true, List, [], ◌∷◌, ◌++◌, length, Some}
+use Rattle.std.specs.Prelude.{◌≡◌, ◌⊎◌, ◌↔◌, ◌≤◌, ◌+◌, ◌-◌, ℕ, max, nat_lt, Bool, true, List, [], ◌∷◌, ◌++◌, length, Some, None}
 use Rattle.std.specs.List.{count_by, AllByRecursion}
 use Rattle.lrs_measure.specs.Texts.{Name, same_name}
 use Rattle.lrs_machine.specs.declared.answer.Answer.{Answer}
@@ -8,6 +8,7 @@ use Rattle.lrs_machine.specs.declared.answer.Limits.{Limits}
 use Rattle.lrs_machine.specs.State.{State}
 use Rattle.lrs_machine.specs.Machine.{Record, step_record, answers, state_after}
 use Rattle.lrs_machine.specs.Laws.{IsLawful}
+use Rattle.lrs_machine_stops.specs.Known.{edit_of}
 use Rattle.lrs_machine_stops.specs.Stopped.{Step, Open, Act, Unserved, StopWithin, Stop, Moment, at_rest, IsRun, IsAccepted, Keeps, acknowledged, SendsFirst}
 
 -- The open desk acts on what is stored.
@@ -56,6 +57,64 @@ pub record IsUnstopped (limits : Limits) (start : State) (xs : List Step) (found
 -- Where those in flight are sent first afterwards, in their order, and the rest follows, state and answers are those of the same commands without a stop.
 abbrev pub SentFirstIsUnstopped : Type 0
 SentFirstIsUnstopped = (limits : Limits) (start : State) (xs : List Step) (m : Moment) → IsRun limits (at_rest start) xs m → SendsFirst xs → IsUnstopped limits start xs m.stored
+
+-- ---- one command in flight
+
+-- A command is in flight: it is sent alone, once or again and again, and has no answer yet.
+abbrev pub IsInFlight : Record → List Step → Type 0
+IsInFlight r [] = Unit {0}
+IsInFlight r (StopWithin rs q ∷ xs) = (rs ≡ []) × (q ≡ r) × IsInFlight r xs
+IsInFlight r (Act q a ∷ xs) = ⊥
+IsInFlight r (Open ∷ xs) = IsInFlight r xs
+IsInFlight r (Unserved q ∷ xs) = IsInFlight r xs
+IsInFlight r (Stop ∷ xs) = IsInFlight r xs
+
+-- none is in flight
+abbrev pub HasNoneInFlight : List Step → Type 0
+HasNoneInFlight [] = Unit {0}
+HasNoneInFlight (StopWithin rs r ∷ xs) = ⊥
+HasNoneInFlight (Act r a ∷ xs) = HasNoneInFlight xs
+HasNoneInFlight (Open ∷ xs) = HasNoneInFlight xs
+HasNoneInFlight (Unserved r ∷ xs) = HasNoneInFlight xs
+HasNoneInFlight (Stop ∷ xs) = HasNoneInFlight xs
+
+-- the answers that were given, in order
+abbrev pub answers_in : List Step → List Answer
+answers_in [] = []
+answers_in (Act r a ∷ xs) = a ∷ answers_in xs
+answers_in (Open ∷ xs) = answers_in xs
+answers_in (Unserved r ∷ xs) = answers_in xs
+answers_in (StopWithin rs r ∷ xs) = answers_in xs
+answers_in (Stop ∷ xs) = answers_in xs
+
+-- The stop kept the command as edit n: it is found as this edit, and before it was none.
+abbrev pub IsKept : Record → ℕ → State → State → Type 0
+IsKept r n before found = (edit_of before r ≡ None) × (edit_of found r ≡ Some n)
+
+-- The command that was in flight is sent first, and then others, as those answers say.
+pub record IsAsBefore (limits : Limits) (r : Record) (before found : State) (rest : List Record) (said : List Answer) (end : State) : Type 0 where
+  pub answer : Answer
+  -- `Again` is answered exactly where the command is found, with the number of that edit
+  pub again : (n : ℕ) → (answer ≡ Again n) ↔ (edit_of found r ≡ Some n)
+  -- if the stop kept it, in place of `Done` with the same number
+  pub kept : (n : ℕ) → IsKept r n before found → (step_record limits r before).answer ≡ Done n
+  -- and if the stop did not, the answer is as without a stop
+  pub otherwise : ((n : ℕ) → IsKept r n before found → ⊥) → answer ≡ (step_record limits r before).answer
+  -- so are all other answers, and the state
+  pub said_are : said ≡ answer ∷ answers limits rest (step_record limits r before).state
+  pub state : end ≡ state_after limits (r ∷ rest) before
+
+-- One command is in flight: an opening finds all that was acknowledged before, with it or without it; it may be sent first, and then others.
+pub record IsOneInFlight (limits : Limits) (r : Record) (before : State) (m : Moment) : Type 0 where
+  pub found : (m.stored ≡ before) ⊎ (m.stored ≡ (step_record limits r before).state)
+  pub sent_first : (xs : List Step) (rest : List Record) (n : Moment) → IsRun limits m xs n → HasNoneInFlight xs → acknowledged xs ≡ r ∷ rest → IsAsBefore limits r before m.stored rest (answers_in xs) n.stored
+
+-- Where one command is in flight, and each that was in flight before was sent first, it is answered `Again` exactly where it was kept, and all else is as without a stop.
+abbrev pub AgainWhereKept : Type 0
+AgainWhereKept = (limits : Limits) (start : State) (xs ys : List Step) (r : Record) (m : Moment)
+    → IsRun limits (at_rest start) (xs ++ ys) m → SendsFirst xs → IsInFlight r ys → IsOneInFlight limits r (state_after limits (acknowledged xs) start) m
+
+-- ---- none is lost, and none is doubled
 
 -- the answer says that the command is this edit
 abbrev pub Accepts : Answer → ℕ → Type 0

@@ -1,6 +1,6 @@
 //! Laws of runs that stop.
 
-ghost use Rattle.lrs_machine_stops.specs.Laws.{DeskIsStored, StoredIsFold, AnswersAreOfFold, SentFirstIsUnstopped, NoneIsLost, NoneIsDoubled, StoredIsLawful, StopsHaveBothOutcomes, RunsAreThere};
+ghost use Rattle.lrs_machine_stops.specs.Laws.{DeskIsStored, StoredIsFold, AnswersAreOfFold, SentFirstIsUnstopped, AgainWhereKept, NoneIsLost, NoneIsDoubled, StoredIsLawful, StopsHaveBothOutcomes, RunsAreThere};
 
 /// The open desk acts on what is stored.
 pub fn the_desk_acts_on_what_is_stored()
@@ -23,6 +23,13 @@ pub fn answers_are_of_the_fold()
 /// with the edit's number in place of `Done` where the command had been in flight.
 pub fn sent_first_is_as_without_stops()
     ensures { SentFirstIsUnstopped }
+{}
+
+/// An opening finds all acknowledged commands, with the one in flight or without it. Sent first under its
+/// key, the one in flight is answered `Again` with a number exactly where it was kept as that edit. All
+/// else, the answers to the other commands and the state, is as without a stop.
+pub fn again_is_answered_where_it_was_kept()
+    ensures { AgainWhereKept }
 {}
 
 /// A command that was answered as an edit is that edit from then on: sent again, whatever happened
