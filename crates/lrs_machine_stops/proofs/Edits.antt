@@ -129,6 +129,17 @@ module _ {X : Type 0} (p : X → Bool) where
       let longer = length-append xs (y ∷ []) in
       ap (λ n. pick n (length (xs ++ y ∷ []))) same ∙ ap (λ b. cond b (Some (length xs)) None) (let t : nat_lt (length xs) (length (xs ++ y ∷ [])) ≡ true = grind (arith, nat_tests) in t)
 
+  -- ... and where that does not pass, nothing is found still
+  pub none_still : (xs : List X) (y : X) → position p xs ≡ None → p y ≡ false → position p (xs ++ y ∷ []) ≡ None
+  none_still xs y none fails =
+      let before = none_before xs none in
+      let all : nat_eq (position_or_len p xs) (length xs) ≡ true = grind (arith, nat_tests) in
+      let longer = length-append xs (y ∷ []) in
+      let same : position_or_len p (xs ++ y ∷ []) ≡ length (xs ++ y ∷ []) =
+      position_or_len_push p xs y ∙ ap (λ b. cond b (length xs + cond (p y) 0 1) (position_or_len p xs)) all ∙ ap (λ b. length xs + cond b 0 1) fails ∙ sym longer in
+      ap (λ n. pick n (length (xs ++ y ∷ []))) same
+      ∙ ap (λ b. cond b (Some (length (xs ++ y ∷ []))) None) (let f : nat_lt (length (xs ++ y ∷ [])) (length (xs ++ y ∷ [])) ≡ false = grind (arith, nat_tests) in f)
+
   -- and none passes
   count_none : (xs : List X) → position_or_len p xs ≡ length xs → count_by p xs ≡ 0
   count_none [] e = refl

@@ -2,4 +2,5 @@ pub mod Edits
 pub mod Sending
 pub mod Stopping
 pub mod Again
+pub mod Resuming
 pub mod Working

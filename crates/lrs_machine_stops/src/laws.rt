@@ -1,6 +1,7 @@
 //! Laws of runs that stop.
 
 ghost use Rattle.lrs_machine_stops.specs.Laws.{DeskIsStored, StoredIsFold, AnswersAreOfFold, SentFirstIsUnstopped, AgainWhereKept, NoneIsLost, NoneIsDoubled, StoredIsLawful, StopsHaveBothOutcomes, RunsAreThere};
+ghost use Rattle.lrs_machine_stops.specs.Resumed.{GoingOnIsUnstopped};
 
 /// The open desk acts on what is stored.
 pub fn the_desk_acts_on_what_is_stored()
@@ -47,6 +48,12 @@ pub fn no_command_is_doubled()
 /// class, its ledgers named.
 pub fn what_is_stored_is_lawful()
     ensures { StoredIsLawful }
+{}
+
+/// Going on with a list of records behind the last one that is an edit, where some first ones were looked at
+/// and nobody knows how many, is as if all had been sent once.
+pub fn going_on_is_as_without_stops()
+    ensures { GoingOnIsUnstopped }
 {}
 
 /// A run can stop within any command, and within any commands that are sent together, with none of them
