@@ -5,7 +5,7 @@ use Rattle.lrs_machine.specs.declared.answer.Answer.TheVariants.{Done, Again}
 use Rattle.lrs_machine.specs.State.{State, nothing_known}
 use Rattle.lrs_machine.specs.Machine.{Record, step, attempt, step_record, state_after}
 use Rattle.lrs_machine_stops.specs.Stopped.{Moment, at_rest, Opens, Acts, StopsWithin, IsRun}
-use Rattle.lrs_machine_stops.specs.Worked.{full, first_link, second_link, signs, after, until_the_stop, OneLinkOrTwo, at_work, until_both_stop, BothEndAlike, TwoInFlight, Excluded}
+use Rattle.lrs_machine_stops.specs.Worked.{full, first_link, second_link, signs, after, until_the_stop, OneLinkOrTwo, at_work, until_both_stop, BothEndAlike, TwoInFlight, Excluded, sheet, half_done, GoesOnBehindTheLink}
 use Rattle.lrs_machine_stops.proofs.Stopping.{some_same}
 use Rattle.lrs_machine_stops.specs.Laws.{same, again}
 
@@ -168,4 +168,28 @@ pub excluded : Excluded
 excluded = record {
   forgotten = λ s h. ap (λ (m : Moment). m.stored) h;
   unopened = λ m h. absurd (let e : None ≡ Some h.known = h.acts_on in cc e);
+}
+
+-- ---- going on with a sheet
+
+half : State
+half = half_done
+
+edits_of_sheet : length (after sheet).done ≡ 2
+unfolding digits step attempt
+edits_of_sheet = refl
+
+edits_sent_again : length (state_after full sheet half).done ≡ 3
+unfolding digits step attempt half
+edits_sent_again = refl
+
+pub goes_on_behind_the_link : GoesOnBehindTheLink
+unfolding digits step attempt half
+goes_on_behind_the_link = record {
+  said = refl;
+  behind = refl;
+  goes_on = refl;
+  said_then = refl;
+  said_again = refl;
+  sent_again = λ e. let n : 3 ≡ 2 = sym edits_sent_again ∙ ap (λ (t : State). length t.done) e ∙ edits_of_sheet in omega (arith, n);
 }

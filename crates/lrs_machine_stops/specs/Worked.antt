@@ -1,13 +1,15 @@
 -- Runs that stop, worked out: two links and a class, and a stop while the second link is in flight, or both.
-use Rattle.std.specs.Prelude.{◌≡◌, ◌⊎◌, List, [], ◌∷◌, map, codes, Some, refl}
+use Rattle.std.specs.Prelude.{◌≡◌, ◌⊎◌, true, List, [], ◌∷◌, map, codes, Some, refl}
 use Rattle.lrs_events.specs.declared.class.Kind.TheVariants.{Point}
-use Rattle.lrs_machine.specs.declared.answer.Answer.TheVariants.{Done, Again}
+use Rattle.lrs_machine.specs.declared.answer.Answer.TheVariants.{Done, Again, Refused}
+use Rattle.lrs_machine.specs.declared.answer.Cause.TheVariants as cause
 use Rattle.lrs_machine.specs.declared.answer.Limits.{Limits}
 use Rattle.lrs_machine.specs.declared.command.Command.TheVariants as verb
 use Rattle.lrs_machine.specs.State.{State, nothing_known}
-use Rattle.lrs_machine.specs.Machine.{Record, state_after}
+use Rattle.lrs_machine.specs.Machine.{Record, answers, state_after}
 use Rattle.lrs_machine_stops.specs.Stopped.{Step, Open, Act, StopWithin, Stop, Moment, at_rest, IsStep, IsRun, SendsFirst}
 use Rattle.lrs_machine_stops.specs.Laws.{StandInFor}
+use Rattle.lrs_machine_stops.specs.Resumed.{undecided}
 
 abbrev pub full : Limits
 full = record { routes = 10_000; assets = 1_000_000; edits = 10_000_000; bounds = refl }
@@ -73,3 +75,25 @@ pub record TwoInFlight : Type 0 where
   pub kept : IsRun full (at_rest nothing_known) sent_where_both_kept (at_work (after (first_link ∷ second_link ∷ signs ∷ [])))
   pub sent_first : SendsFirst sent_where_both_kept
   pub given : StandInFor 0 sent_where_both_kept (Done 1 ∷ Done 2 ∷ Done 3 ∷ [])
+
+-- ---- going on with a sheet
+
+-- A route comes before the link that it runs over, and is refused; then come this link and another one.
+abbrev pub early_route : Record
+early_route = record { key = codes "s0"; command = verb.Route (codes "A") (record { link = 1; from = 0; to = 10; forward = true } ∷ []) (record { chainage = 0; measure = 0 } ∷ record { chainage = 10; measure = 10 } ∷ []) }
+
+abbrev pub sheet : List Record
+sheet = early_route ∷ first_link ∷ second_link ∷ []
+
+-- the replies are lost behind the first link
+abbrev pub half_done : State
+half_done = after (early_route ∷ first_link ∷ [])
+
+-- Going on behind the first link ends as the sheet would have without a stop. Sending the whole sheet again would not: the route would be accepted.
+pub record GoesOnBehindTheLink : Type 0 where
+  pub said : answers full sheet nothing_known ≡ Refused cause.NoLink ∷ Done 1 ∷ Done 2 ∷ []
+  pub behind : undecided sheet half_done ≡ second_link ∷ []
+  pub goes_on : state_after full (undecided sheet half_done) half_done ≡ after sheet
+  pub said_then : answers full (undecided sheet half_done) half_done ≡ Done 2 ∷ []
+  pub said_again : answers full sheet half_done ≡ Done 2 ∷ Again 1 ∷ Done 3 ∷ []
+  pub sent_again : state_after full sheet half_done ≡ after sheet → ⊥
