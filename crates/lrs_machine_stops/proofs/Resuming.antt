@@ -1,10 +1,12 @@
 -- Going on behind the last record that is an edit.
-use Rattle.std.proofs.Common.{◌≡◌, ℕ, ◌+◌, ◌≤◌, ◌<◌, suc, zero, ◌⊎◌, inl, inr, Bool, true, false, cond, ◌||◌, List, [], ◌∷◌, ◌++◌, length, take, drop, Option, Some, None, refl, sym, ap, subst, ◌∙◌, arith}
-use Rattle.std.specs.Prelude.{nat_lt, nat_eq, is_some, not}
-use Rattle.std.specs.List.{count_by, position, position_or_len, last_or}
+use Rattle.std.proofs.Common.{◌≡◌, ℕ, ◌+◌, ◌≤◌, ◌<◌, suc, zero, ◌⊎◌, inl, inr, Bool, true, false, cond, ◌||◌, ◌&&◌, List, [], ◌∷◌, ◌++◌, length, take, drop, Option, Some, None, refl, sym, ap, subst, ◌∙◌, arith}
+use Rattle.std.specs.Prelude.{nat_lt, not, is_some, is_none}
+use Rattle.std.specs.List.{count_by, list_all, last_or}
+use Rattle.std.specs.Option.{option_map_or}
 use Rattle.std.proofs.lemmas.Bool.Decides.{nat_tests}
 use Rattle.std.proofs.lemmas.List.Sums.{sum_by-cons}
 use Rattle.std.specs.Cmp.Lexicographic.{bytes_decides}
+use Rattle.lrs_measure.specs.Lists.{each_two}
 use Rattle.lrs_measure.specs.Texts.{Name, same_name}
 use Rattle.lrs_machine.specs.declared.answer.Answer.{Answer}
 use Rattle.lrs_machine.specs.declared.answer.Limits.{Limits}
@@ -12,15 +14,11 @@ use Rattle.lrs_machine.specs.Lines.{line_of}
 use Rattle.lrs_machine.specs.State.{State, Edit}
 use Rattle.lrs_machine.specs.Machine.{Outcome, Record, step_record, answers, state_after, place_of_key, accept}
 use Rattle.lrs_machine_stops.specs.Known.{edit_of, is_edit}
-use Rattle.lrs_machine_stops.specs.Resumed.{decided, undecided, HasKeyAlone, IsResumed, GoingOnIsUnstopped}
+use Rattle.lrs_machine_stops.specs.Resumed.{decided, undecided, HasKeyAlone, IsResumed, GoingOnIsUnstopped, HaveNewKeys, NewKeysGoOn}
 use Rattle.lrs_machine_stops.proofs.Edits as edits
 use Rattle.lrs_machine_stops.proofs.Edits.{Outcomes, outcomes}
 
 -- ---- tests
-
-either_true : (a b : Bool) → (a || b) ≡ true → (a ≡ true) ⊎ (b ≡ true)
-either_true true b e = inl refl
-either_true false b e = inr e
 
 both_false : (a b : Bool) → (a || b) ≡ false → (a ≡ false) × (b ≡ false)
 both_false true b e = absurd (cc e)
@@ -28,6 +26,22 @@ both_false false b e = (refl, e)
 
 true_and_false : (b : Bool) → b ≡ true → b ≡ false → ⊥
 true_and_false b t f = absurd (let e : true ≡ false = sym t ∙ f in cc e)
+
+not_true : (b : Bool) → not b ≡ true → b ≡ false
+not_true true e = absurd (cc e)
+not_true false e = refl
+
+nothing_there : (o : Option ℕ) → is_none o ≡ true → o ≡ None
+nothing_there None e = refl
+nothing_there (Some n) e = absurd (cc e)
+
+-- two names that differ do so from either side
+same_other : (a b : Name) → same_name b a ≡ false → same_name a b ≡ false
+same_other a b other = by (same_name a b) refl
+  where
+    by : (t : Bool) → same_name a b ≡ t → same_name a b ≡ false
+    by true e = absurd (true_and_false (same_name b a) ((bytes_decides b a).1 (sym ((bytes_decides a b).0 e))) other)
+    by false e = e
 
 -- ---- those that are decided
 
@@ -55,6 +69,14 @@ are_none r rs s e = by (counts r rs s) refl
         let both = both_false (nat_lt 0 (decided rs s)) (is_edit s r) f in
         let l = both.0 in
         record { behind = grind (arith, nat_tests); first = both.1 }
+
+-- ---- keys that are counted
+
+abbrev has_key : Name → Record → Bool
+has_key key r = same_name r.key key
+
+count_first : (key : Name) (r : Record) (rs : List Record) → count_by (has_key key) (r ∷ rs) ≡ cond (same_name r.key key) 1 0 + count_by (has_key key) rs
+count_first key r rs = sum_by-cons (λ (q : Record). cond (same_name q.key key) 1 0) r rs
 
 module _ (limits : Limits) where
   abbrev next : Record → State → State
@@ -124,9 +146,6 @@ module _ (limits : Limits) where
 
   -- ---- keys
 
-  abbrev has_key : Name → Record → Bool
-  has_key key r = same_name r.key key
-
   -- a key that no record has is of no new edit
   still_new : (key : Name) (r : Record) (s : State) → same_name r.key key ≡ false → place_of_key key s.done ≡ None → place_of_key key (next r s).done ≡ None
   still_new key r s other none = by (step_record limits r s) (outcomes limits r.key r.command s)
@@ -137,9 +156,6 @@ module _ (limits : Limits) where
           ∙ edits.none_still (λ (e : Edit). same_name e.key key) s.done (record { key = r.key; line = line_of r.command }) none other
       by _ (edits.known place at) = none
       by _ (edits.refused c) = none
-
-  count_first : (key : Name) (r : Record) (rs : List Record) → count_by (has_key key) (r ∷ rs) ≡ cond (same_name r.key key) 1 0 + count_by (has_key key) rs
-  count_first key r rs = sum_by-cons (λ (q : Record). cond (same_name q.key key) 1 0) r rs
 
   -- where none has the key, the first one has another, and none behind it has it
   record AreOthers (key : Name) (r : Record) (rs : List Record) : Type 0 where
@@ -233,5 +249,56 @@ module _ (limits : Limits) where
           let none = subst (λ (u : State). place_of_key key u.done ≡ None) (sym e) (new_after key (take k records) t (omega (arith, once, some, split)) is.new) in
           absurd (true_and_false (is_edit s last.last) last.edit (ap (λ (o : Option ℕ). is_some o) (edits.not_found last.last s none)))
 
+-- ---- keys that are all new
+
+both_true : (a b : Bool) → (a && b) ≡ true → (a ≡ true) × (b ≡ true)
+both_true true b e = (refl, e)
+both_true false b e = absurd (cc e)
+
+last_passes : (test : Record → Bool) (o : Option Record) (n : ℕ) (records : List Record) → option_map_or test o true ≡ true → list_all test records ≡ true
+    → option_map_or test (last_or o (take n records)) true ≡ true
+last_passes test o zero [] passes all = passes
+last_passes test o zero (r ∷ rs) passes all = passes
+last_passes test o (suc n) [] passes all = passes
+last_passes test o (suc n) (r ∷ rs) passes all = let both = both_true (test r) (list_all test rs) all in last_passes test (Some r) n rs both.0 both.1
+
+-- where no record has the key of another one, its key is not counted
+none_has : (key : Name) (rs : List Record) → list_all (λ q. not (same_name key q.key)) rs ≡ true → count_by (has_key key) rs ≡ 0
+none_has key [] all = refl
+none_has key (r ∷ rs) all = by both.0 (none_has key rs both.1)
+  where
+    both : (not (same_name key r.key) ≡ true) × (list_all (λ q. not (same_name key q.key)) rs ≡ true)
+    both = both_true (not (same_name key r.key)) (list_all (λ q. not (same_name key q.key)) rs) all
+
+    by : not (same_name key r.key) ≡ true → count_by (has_key key) rs ≡ 0 → count_by (has_key key) (r ∷ rs) ≡ 0
+    by other none =
+        let count = count_first key r rs ∙ ap (λ b. cond b 1 0 + count_by (has_key key) rs) (same_other r.key key (not_true (same_name key r.key) other)) in
+        omega (arith, count, none)
+
+once_each : (key : Name) (records : List Record) → each_two (λ a b. not (same_name a.key b.key)) records ≡ true → count_by (has_key key) records ≤ 1
+once_each key [] different = omega arith
+once_each key (r ∷ rs) different = by (same_name r.key key) refl (count_first key r rs) (once_each key rs both.1)
+  where
+    both : (list_all (λ q. not (same_name r.key q.key)) rs ≡ true) × (each_two (λ a b. not (same_name a.key b.key)) rs ≡ true)
+    both = both_true (list_all (λ q. not (same_name r.key q.key)) rs) (each_two (λ a b. not (same_name a.key b.key)) rs) different
+
+    by : (b : Bool) → same_name r.key key ≡ b → count_by (has_key key) (r ∷ rs) ≡ cond (same_name r.key key) 1 0 + count_by (has_key key) rs → count_by (has_key key) rs ≤ 1 → count_by (has_key key) (r ∷ rs) ≤ 1
+    by true t count rest =
+        let all = count ∙ ap (λ b. cond b 1 0 + count_by (has_key key) rs) t in
+        let none = subst (λ (k : Name). count_by (has_key k) rs ≡ 0) ((bytes_decides r.key key).0 t) (none_has r.key rs both.0) in
+        omega (arith, all, none)
+    by false f count rest =
+        let all = count ∙ ap (λ b. cond b 1 0 + count_by (has_key key) rs) f in
+        omega (arith, all, rest)
+
+keys_alone : (start s : State) (records : List Record) → HaveNewKeys start records → (r : Record) → last_or None (take (decided records s) records) ≡ Some r → HasKeyAlone start records r
+keys_alone start s records keys r last =
+    let fresh : Record → Bool = λ q. is_none (place_of_key q.key start.done) in
+    let passes : is_none (place_of_key r.key start.done) ≡ true = sym (ap (λ (o : Option Record). option_map_or fresh o true) last) ∙ last_passes fresh None (decided records s) records refl keys.new in
+    record { new = nothing_there (place_of_key r.key start.done) passes; once = once_each r.key records keys.different }
+
 pub going_on_is_unstopped : GoingOnIsUnstopped
 going_on_is_unstopped limits start s records k e alone = resumed limits records k start s e (within limits records k start s e alone)
+
+pub new_keys_go_on : NewKeysGoOn
+new_keys_go_on limits start s records k e keys = going_on_is_unstopped limits start s records k e (keys_alone start s records keys)

@@ -1,7 +1,7 @@
 //! Laws of runs that stop.
 
 ghost use Rattle.lrs_machine_stops.specs.Laws.{DeskIsStored, StoredIsFold, AnswersAreOfFold, SentFirstIsUnstopped, AgainWhereKept, NoneIsLost, NoneIsDoubled, StoredIsLawful, StopsHaveBothOutcomes, RunsAreThere};
-ghost use Rattle.lrs_machine_stops.specs.Resumed.{GoingOnIsUnstopped};
+ghost use Rattle.lrs_machine_stops.specs.Resumed.{GoingOnIsUnstopped, NewKeysGoOn};
 
 /// The open desk acts on what is stored.
 pub fn the_desk_acts_on_what_is_stored()
@@ -50,10 +50,16 @@ pub fn what_is_stored_is_lawful()
     ensures { StoredIsLawful }
 {}
 
-/// Going on with a list of records behind the last one that is an edit, where some first ones were looked at
-/// and nobody knows how many, is as if all had been sent once.
+/// Where some first ones of a list of records were looked at, and nobody knows how many, going on behind the
+/// last one that is an edit is as without a stop: state and answers are those of the whole list. The key of
+/// that edit has to be of no edit before, and of no other record.
 pub fn going_on_is_as_without_stops()
     ensures { GoingOnIsUnstopped }
+{}
+
+/// So it is where all keys are new and different from each other.
+pub fn new_keys_go_on_as_without_stops()
+    ensures { NewKeysGoOn }
 {}
 
 /// A run can stop within any command, and within any commands that are sent together, with none of them
