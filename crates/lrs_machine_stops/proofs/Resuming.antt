@@ -1,5 +1,5 @@
 -- Going on behind the last record that is an edit.
-use Rattle.std.proofs.Common.{◌≡◌, ℕ, ◌+◌, ◌≤◌, ◌<◌, suc, zero, ◌⊎◌, inl, inr, Bool, true, false, cond, ◌||◌, ◌&&◌, List, [], ◌∷◌, ◌++◌, length, take, drop, Option, Some, None, refl, sym, ap, subst, ◌∙◌, arith}
+use Rattle.std.proofs.Common.{◌≡◌, ℕ, ◌+◌, ◌≤◌, ◌<◌, suc, zero, Bool, true, false, cond, ◌||◌, ◌&&◌, List, [], ◌∷◌, ◌++◌, length, take, drop, Option, Some, None, refl, sym, ap, subst, ◌∙◌, arith}
 use Rattle.std.specs.Prelude.{nat_lt, not, is_some, is_none}
 use Rattle.std.specs.List.{count_by, list_all, last_or}
 use Rattle.std.specs.Option.{option_map_or}
@@ -8,13 +8,12 @@ use Rattle.std.proofs.lemmas.List.Sums.{sum_by-cons}
 use Rattle.std.specs.Cmp.Lexicographic.{bytes_decides}
 use Rattle.lrs_measure.specs.Lists.{each_two}
 use Rattle.lrs_measure.specs.Texts.{Name, same_name}
-use Rattle.lrs_machine.specs.declared.answer.Answer.{Answer}
 use Rattle.lrs_machine.specs.declared.answer.Limits.{Limits}
 use Rattle.lrs_machine.specs.Lines.{line_of}
 use Rattle.lrs_machine.specs.State.{State, Edit}
 use Rattle.lrs_machine.specs.Machine.{Outcome, Record, step_record, answers, state_after, place_of_key, accept}
-use Rattle.lrs_machine_stops.specs.Known.{edit_of, is_edit}
-use Rattle.lrs_machine_stops.specs.Resumed.{decided, undecided, HasKeyAlone, IsResumed, GoingOnIsUnstopped, HaveNewKeys, NewKeysGoOn}
+use Rattle.lrs_machine_stops.specs.Known.{is_edit}
+use Rattle.lrs_machine_stops.specs.Resumed.{decided, HasKeyAlone, IsResumed, GoingOnIsUnstopped, HaveNewKeys, NewKeysGoOn}
 use Rattle.lrs_machine_stops.proofs.Edits as edits
 use Rattle.lrs_machine_stops.proofs.Edits.{Outcomes, outcomes}
 

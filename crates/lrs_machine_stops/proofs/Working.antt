@@ -118,14 +118,15 @@ both_end_alike = record {
     ),
   );
   sent_first = ((signs ∷ [], refl, tt), (signs ∷ [], refl, tt));
+  kept_as = (refl, refl);
   keys = refl;
 }
 
 -- ---- two in flight
 
-both_stopped : StopsWithin full (first_link ∷ []) second_link (at_work nothing_known) (at_rest two)
+both_stopped : (t : State) → (t ≡ nothing_known) ⊎ (t ≡ two) → StopsWithin full (first_link ∷ []) second_link (at_work nothing_known) (at_rest t)
 unfolding digits step attempt two
-both_stopped = record { known = nothing_known; acts_on = refl; accepted = (tt, tt); stored = inr refl; desk = refl }
+both_stopped t left = record { known = nothing_known; acts_on = refl; accepted = (tt, tt); stored = left; desk = refl }
 
 first_again : Acts full first_link (Again 1) (at_work two) (at_work two)
 unfolding digits step attempt one two
@@ -147,16 +148,23 @@ module _ (s : State) (run : IsRun full (at_rest nothing_known) until_both_stop (
       by (inl e) = inl (sym left_of_both ∙ e ∙ acts_on_nothing)
       by (inr e) = inr (sym left_of_both ∙ e ∙ ap (state_after full (first_link ∷ second_link ∷ [])) acts_on_nothing)
 
+one_alone : (one ≡ nothing_known) ⊎ (one ≡ two) → ⊥
+one_alone (inl e) = let n : 1 ≡ 0 = sym edits_one ∙ ap (λ (t : State). length t.done) e in omega (arith, n)
+one_alone (inr e) = let n : 1 ≡ 2 = sym edits_one ∙ ap (λ (t : State). length t.done) e ∙ edits_two in omega (arith, n)
+
 pub two_in_flight : TwoInFlight
 unfolding digits step attempt one two three
 two_in_flight = record {
+  without = (at_work nothing_known, opened_at nothing_known, (at_rest nothing_known, both_stopped nothing_known (inl refl), refl));
+  with = (at_work nothing_known, opened_at nothing_known, (at_rest two, both_stopped two (inr refl), refl));
+  never_one = λ run. one_alone (none_or_two one run);
   nothing_else = none_or_two;
   kept = (
     at_work nothing_known,
     opened_at nothing_known,
     (
       at_rest two,
-      both_stopped,
+      both_stopped two (inr refl),
       (at_rest two, refl, (at_work two, opened_at two, (at_work two, first_again, (at_work two, second_again, (at_work three, signs_done, refl))))),
     ),
   );

@@ -8,7 +8,7 @@ use Rattle.lrs_machine.specs.declared.command.Command.TheVariants as verb
 use Rattle.lrs_machine.specs.State.{State, nothing_known}
 use Rattle.lrs_machine.specs.Machine.{Record, answers, state_after}
 use Rattle.lrs_machine_stops.specs.Stopped.{Step, Open, Act, StopWithin, Stop, Moment, at_rest, IsStep, IsRun, SendsFirst}
-use Rattle.lrs_machine_stops.specs.Laws.{StandInFor}
+use Rattle.lrs_machine_stops.specs.Laws.{StandInFor, IsKept}
 use Rattle.lrs_machine_stops.specs.Resumed.{undecided}
 
 abbrev pub full : Limits
@@ -49,11 +49,12 @@ sent_where_kept = Open ∷ Act first_link (Done 1) ∷ StopWithin [] second_link
 abbrev pub at_work : State → Moment
 at_work s = record { stored = s; desk = Some s }
 
--- Both runs end with what the three commands make without a stop.
+-- Both runs end with what the three commands make without a stop. `Again` is answered where the stop kept the second link, as edit 2.
 pub record BothEndAlike : Type 0 where
   pub left_out : IsRun full (at_rest nothing_known) sent_where_left_out (at_work (after (first_link ∷ second_link ∷ signs ∷ [])))
   pub kept : IsRun full (at_rest nothing_known) sent_where_kept (at_work (after (first_link ∷ second_link ∷ signs ∷ [])))
   pub sent_first : SendsFirst sent_where_left_out × SendsFirst sent_where_kept
+  pub kept_as : IsKept second_link 2 (after (first_link ∷ [])) (after (first_link ∷ second_link ∷ []))
   pub keys : map (λ e. e.key) (after (first_link ∷ second_link ∷ signs ∷ [])).done ≡ codes "s1" ∷ codes "s2" ∷ codes "s3" ∷ []
 
 -- An acknowledged command is not dropped at an opening, and no command acts on a desk that is not open.
@@ -71,6 +72,9 @@ sent_where_both_kept = Open ∷ StopWithin (first_link ∷ []) second_link ∷ S
 
 -- The run ends with what the three commands make without a stop, and its answers stand in for theirs.
 pub record TwoInFlight : Type 0 where
+  pub without : IsRun full (at_rest nothing_known) until_both_stop (at_rest nothing_known)
+  pub with : IsRun full (at_rest nothing_known) until_both_stop (at_rest (after (first_link ∷ second_link ∷ [])))
+  pub never_one : IsRun full (at_rest nothing_known) until_both_stop (at_rest (after (first_link ∷ []))) → ⊥
   pub nothing_else : (s : State) → IsRun full (at_rest nothing_known) until_both_stop (at_rest s) → (s ≡ nothing_known) ⊎ (s ≡ after (first_link ∷ second_link ∷ []))
   pub kept : IsRun full (at_rest nothing_known) sent_where_both_kept (at_work (after (first_link ∷ second_link ∷ signs ∷ [])))
   pub sent_first : SendsFirst sent_where_both_kept
