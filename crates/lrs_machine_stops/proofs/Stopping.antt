@@ -79,7 +79,7 @@ module _ (limits : Limits) where
 
   -- ---- what is stored is a fold
 
-  one_after_another : (rs qs : List Record) (s : State) → state_after limits (rs ++ qs) s ≡ state_after limits qs (state_after limits rs s)
+  pub one_after_another : (rs qs : List Record) (s : State) → state_after limits (rs ++ qs) s ≡ state_after limits qs (state_after limits rs s)
   one_after_another [] qs s = refl
   one_after_another (r ∷ rs) qs s = one_after_another rs qs (next r s)
 

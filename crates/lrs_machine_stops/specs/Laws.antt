@@ -1,9 +1,9 @@
 -- What holds of every run that stops.
-use Rattle.std.specs.Prelude.{◌≡◌, ◌⊎◌, ◌↔◌, ◌≤◌, ◌+◌, ◌-◌, ℕ, max, nat_lt, Bool, true, List, [], ◌∷◌, ◌++◌, length, Some, None}
+use Rattle.std.specs.Prelude.{◌≡◌, ◌⊎◌, ◌↔◌, ◌≤◌, ◌+◌, ◌-◌, ℕ, max, nat_lt, Bool, true, List, [], ◌∷◌, ◌++◌, map, length, Some, None}
 use Rattle.std.specs.List.{count_by, AllByRecursion}
 use Rattle.lrs_measure.specs.Texts.{Name, same_name}
 use Rattle.lrs_machine.specs.declared.answer.Answer.{Answer}
-use Rattle.lrs_machine.specs.declared.answer.Answer.TheVariants.{Done, Again}
+use Rattle.lrs_machine.specs.declared.answer.Answer.TheVariants.{Done, Again, Refused}
 use Rattle.lrs_machine.specs.declared.answer.Limits.{Limits}
 use Rattle.lrs_machine.specs.State.{State}
 use Rattle.lrs_machine.specs.Machine.{Record, step_record, answers, state_after}
@@ -58,16 +58,16 @@ pub record IsUnstopped (limits : Limits) (start : State) (xs : List Step) (found
 abbrev pub SentFirstIsUnstopped : Type 0
 SentFirstIsUnstopped = (limits : Limits) (start : State) (xs : List Step) (m : Moment) → IsRun limits (at_rest start) xs m → SendsFirst xs → IsUnstopped limits start xs m.stored
 
--- ---- one command in flight
+-- ---- where `Again` is answered
 
--- A command is in flight: it is sent alone, once or again and again, and has no answer yet.
-abbrev pub IsInFlight : Record → List Step → Type 0
-IsInFlight r [] = Unit {0}
-IsInFlight r (StopWithin rs q ∷ xs) = (rs ≡ []) × (q ≡ r) × IsInFlight r xs
-IsInFlight r (Act q a ∷ xs) = ⊥
-IsInFlight r (Open ∷ xs) = IsInFlight r xs
-IsInFlight r (Unserved q ∷ xs) = IsInFlight r xs
-IsInFlight r (Stop ∷ xs) = IsInFlight r xs
+-- Nothing is answered: there are openings and stops, and the same commands may be in flight again.
+abbrev pub HasNoAnswer : List Record → Record → List Step → Type 0
+HasNoAnswer rs r [] = Unit {0}
+HasNoAnswer rs r (StopWithin qs q ∷ xs) = (qs ≡ rs) × (q ≡ r) × HasNoAnswer rs r xs
+HasNoAnswer rs r (Act q a ∷ xs) = ⊥
+HasNoAnswer rs r (Open ∷ xs) = HasNoAnswer rs r xs
+HasNoAnswer rs r (Unserved q ∷ xs) = HasNoAnswer rs r xs
+HasNoAnswer rs r (Stop ∷ xs) = HasNoAnswer rs r xs
 
 -- none is in flight
 abbrev pub HasNoneInFlight : List Step → Type 0
@@ -91,7 +91,7 @@ answers_in (Stop ∷ xs) = answers_in xs
 abbrev pub IsKept : Record → ℕ → State → State → Type 0
 IsKept r n before found = (edit_of before r ≡ None) × (edit_of found r ≡ Some n)
 
--- The command that was in flight is sent first, and then others, as those answers say.
+-- The command that was in flight is sent first, and then others; these are the answers, and the state at the end.
 pub record IsAsBefore (limits : Limits) (r : Record) (before found : State) (rest : List Record) (said : List Answer) (end : State) : Type 0 where
   pub answer : Answer
   -- `Again` is answered exactly where the command is found, with the number of that edit
@@ -104,15 +104,37 @@ pub record IsAsBefore (limits : Limits) (r : Record) (before found : State) (res
   pub said_are : said ≡ answer ∷ answers limits rest (step_record limits r before).state
   pub state : end ≡ state_after limits (r ∷ rest) before
 
--- One command is in flight: an opening finds all that was acknowledged before, with it or without it; it may be sent first, and then others.
+-- One command is in flight: an opening finds what there was before, with it or without it. It may be sent first, and then others.
 pub record IsOneInFlight (limits : Limits) (r : Record) (before : State) (m : Moment) : Type 0 where
   pub found : (m.stored ≡ before) ⊎ (m.stored ≡ (step_record limits r before).state)
   pub sent_first : (xs : List Step) (rest : List Record) (n : Moment) → IsRun limits m xs n → HasNoneInFlight xs → acknowledged xs ≡ r ∷ rest → IsAsBefore limits r before m.stored rest (answers_in xs) n.stored
 
--- Where one command is in flight, and each that was in flight before was sent first, it is answered `Again` exactly where it was kept, and all else is as without a stop.
+-- Where one command is in flight, and each that was in flight before was sent first: an opening finds all acknowledged commands, with it or without it; it is answered `Again` exactly where it was kept, and all else is as without a stop.
 abbrev pub AgainWhereKept : Type 0
 AgainWhereKept = (limits : Limits) (start : State) (xs ys : List Step) (r : Record) (m : Moment)
-    → IsRun limits (at_rest start) (xs ++ ys) m → SendsFirst xs → IsInFlight r ys → IsOneInFlight limits r (state_after limits (acknowledged xs) start) m
+    → IsRun limits (at_rest start) (xs ++ StopWithin [] r ∷ ys) m → SendsFirst xs → HasNoAnswer [] r ys → IsOneInFlight limits r (state_after limits (acknowledged xs) start) m
+
+-- the answer to a command that is known by then, as it was answered first
+abbrev pub as_known : Answer → Answer
+as_known (Done n) = Again n
+as_known (Again n) = Again n
+as_known (Refused c) = Refused c
+
+-- Those that were in flight are sent first, and then others: where they were left out, all is as without a stop, and where they were kept, each of them is known.
+pub record AreAsBefore (limits : Limits) (sent : List Record) (before found : State) (rest : List Record) (said : List Answer) (end : State) : Type 0 where
+  pub left_out : found ≡ before → said ≡ answers limits (sent ++ rest) before
+  pub kept : found ≡ state_after limits sent before → said ≡ map as_known (answers limits sent before) ++ answers limits rest (state_after limits sent before)
+  pub state : end ≡ state_after limits (sent ++ rest) before
+
+-- Several are in flight: an opening finds what there was before, with all of them or with none.
+pub record AreInFlight (limits : Limits) (sent : List Record) (before : State) (m : Moment) : Type 0 where
+  pub found : (m.stored ≡ before) ⊎ (m.stored ≡ state_after limits sent before)
+  pub sent_first : (xs : List Step) (rest : List Record) (n : Moment) → IsRun limits m xs n → HasNoneInFlight xs → acknowledged xs ≡ sent ++ rest → AreAsBefore limits sent before m.stored rest (answers_in xs) n.stored
+
+-- So it is where several are in flight together.
+abbrev pub AllAgainWhereKept : Type 0
+AllAgainWhereKept = (limits : Limits) (start : State) (xs ys : List Step) (rs : List Record) (r : Record) (m : Moment)
+    → IsRun limits (at_rest start) (xs ++ StopWithin rs r ∷ ys) m → SendsFirst xs → HasNoAnswer rs r ys → AreInFlight limits (rs ++ r ∷ []) (state_after limits (acknowledged xs) start) m
 
 -- ---- none is lost, and none is doubled
 

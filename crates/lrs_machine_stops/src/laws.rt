@@ -1,6 +1,6 @@
 //! Laws of runs that stop.
 
-ghost use Rattle.lrs_machine_stops.specs.Laws.{DeskIsStored, StoredIsFold, AnswersAreOfFold, SentFirstIsUnstopped, AgainWhereKept, NoneIsLost, NoneIsDoubled, StoredIsLawful, StopsHaveBothOutcomes, RunsAreThere};
+ghost use Rattle.lrs_machine_stops.specs.Laws.{DeskIsStored, StoredIsFold, AnswersAreOfFold, SentFirstIsUnstopped, AgainWhereKept, AllAgainWhereKept, NoneIsLost, NoneIsDoubled, StoredIsLawful, StopsHaveBothOutcomes, RunsAreThere};
 ghost use Rattle.lrs_machine_stops.specs.Resumed.{GoingOnIsUnstopped, NewKeysGoOn};
 
 /// The open desk acts on what is stored.
@@ -31,6 +31,12 @@ pub fn sent_first_is_as_without_stops()
 /// else, the answers to the other commands and the state, is as without a stop.
 pub fn again_is_answered_where_it_was_kept()
     ensures { AgainWhereKept }
+{}
+
+/// So it is with several in flight together: where they were left out, all is as without a stop, and where
+/// they were kept, each is answered as before, with `Again` in place of `Done`.
+pub fn all_in_flight_are_answered_again_where_they_were_kept()
+    ensures { AllAgainWhereKept }
 {}
 
 /// A command that was answered as an edit is that edit from then on: sent again, whatever happened
