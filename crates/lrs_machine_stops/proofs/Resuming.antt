@@ -121,11 +121,21 @@ module _ (limits : Limits) where
 
   -- ---- first ones, and those behind them
 
+  none_of_none : (n : ℕ) (t : State) → state_after limits (take n []) t ≡ t
+  none_of_none zero t = refl
+  none_of_none (suc n) t = refl
+
   state_of_both : (n : ℕ) (records : List Record) (t : State) → state_after limits (drop n records) (state_after limits (take n records) t) ≡ state_after limits records t
   state_of_both zero [] t = refl
   state_of_both zero (r ∷ rs) t = refl
   state_of_both (suc n) [] t = refl
   state_of_both (suc n) (r ∷ rs) t = state_of_both n rs (next r t)
+
+  state_of_more : (n m : ℕ) (records : List Record) (t : State) → state_after limits (take m (drop n records)) (state_after limits (take n records) t) ≡ state_after limits (take (n + m) records) t
+  state_of_more zero m [] t = ap (λ k. state_after limits (take k []) t) (omega arith)
+  state_of_more zero m (r ∷ rs) t = ap (λ k. state_after limits (take k (r ∷ rs)) t) (omega arith)
+  state_of_more (suc n) m [] t = none_of_none m t ∙ sym (none_of_none (suc n + m) t)
+  state_of_more (suc n) m (r ∷ rs) t = state_of_more n m rs (next r t) ∙ ap (λ k. state_after limits (take k (r ∷ rs)) t) (let one : suc (n + m) ≡ suc n + m = omega arith in one)
 
   said_behind : (n : ℕ) (records : List Record) (t : State) → answers limits (drop n records) (state_after limits (take n records) t) ≡ drop n (answers limits records t)
   said_behind zero [] t = refl
@@ -141,6 +151,7 @@ module _ (limits : Limits) where
         found = found;
         state = ap (state_after limits (drop n records)) found ∙ state_of_both n records t;
         said = ap (answers limits (drop n records)) found ∙ said_behind n records t;
+        again = λ m. ap (state_after limits (take m (drop n records))) found ∙ state_of_more n m records t;
       }
 
   -- ---- keys

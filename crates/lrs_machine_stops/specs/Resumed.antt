@@ -1,5 +1,5 @@
 -- Going on with a list of records whose replies were lost.
-use Rattle.std.specs.Prelude.{◌≡◌, ℕ, ◌≤◌, suc, true, not, nat_lt, ◌||◌, if◌then◌else◌, List, [], ◌∷◌, take, drop, Some, None, is_none}
+use Rattle.std.specs.Prelude.{◌≡◌, ℕ, ◌+◌, ◌≤◌, suc, true, not, nat_lt, ◌||◌, if◌then◌else◌, List, [], ◌∷◌, take, drop, Some, None, is_none}
 use Rattle.std.specs.List.{count_by, list_all, last_or}
 use Rattle.lrs_measure.specs.Lists.{each_two}
 use Rattle.lrs_measure.specs.Texts.{same_name}
@@ -28,6 +28,8 @@ pub record IsResumed (limits : Limits) (start s : State) (records : List Record)
   pub found : s ≡ state_after limits (take (decided records s) records) start
   pub state : state_after limits (undecided records s) s ≡ state_after limits records start
   pub said : answers limits (undecided records s) s ≡ drop (decided records s) (answers limits records start)
+  -- where replies are lost again, the state is once more that after some first ones of the records
+  pub again : (n : ℕ) → state_after limits (take n (undecided records s)) s ≡ state_after limits (take (decided records s + n) records) start
 
 -- The state is that after some first ones of the records, and nobody knows how many; the last one that is an edit of it has its key alone.
 abbrev pub GoingOnIsUnstopped : Type 0
