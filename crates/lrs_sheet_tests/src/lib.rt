@@ -1,6 +1,8 @@
-//! Tests of whole sheets.
+//! Tests of desks and of whole sheets.
 #![tactic(auto)]
 
+#[cfg(test)]
+mod failing;
 #[cfg(test)]
 mod limits;
 #[cfg(test)]

@@ -1,6 +1,5 @@
-//! A sheet of all verbs, where a growth is refused: the run ends in want of memory, in a fault of its writer or in a
-//! failed commit, and the same sheet with memory, at a desk that is opened again, is done: what was kept before is
-//! answered again, and the rest is done.
+//! A sheet of all verbs, where a growth is refused: the run ends in want of memory or in a fault of its writer, and the
+//! same sheet with memory, at the same desk, is done: what was done before is answered again, and the rest is done.
 //!
 //! With ample memory nothing here is refused. `tests/refused_growths_test.py` runs this with one allocation refused.
 
@@ -59,14 +58,6 @@ fn open(rt: &(impl Abort + Print + AllocGlobal)) -> Desk<Plain> {
     }
 }
 
-/// A desk over what a keeper has.
-fn reopened(rt: &(impl Abort + Print + AllocGlobal), desk: Desk<Plain>) -> Desk<Plain> {
-    match Desk::open(desk.into_keeper(), Limits::full(), rt.alloc()) {
-        Ok(desk) => desk,
-        Err((fault, _)) => panic!(rt; "{fault:?}"),
-    }
-}
-
 /// The sheet.
 fn sheet(alloc: Global) -> Result<String, AllocError> {
     let mut sheet = String::new(alloc);
@@ -113,7 +104,6 @@ fn all_verbs_are_done(rt: &(impl Abort + Print + AllocGlobal), together: usize)
     let mut ended = run(alloc, text.as_str(), together, &mut desk);
     if ended.is_err() {
         refused(rt, "run_sheet");
-        desk = reopened(rt, desk);
         ended = run(alloc, text.as_str(), together, &mut desk);
     }
     match ended {
