@@ -1,5 +1,5 @@
 -- What a desk's calls leave.
-use Rattle.std.specs.Prelude.{◌≡◌, ◌⊎◌, ◌≤◌, ◌<◌, ◌+◌, ◌-◌, true, ℕ, Ok, Result, List, [], ◌∷◌, length, map, take}
+use Rattle.std.specs.Prelude.{◌≡◌, ◌⊎◌, ◌≤◌, ◌<◌, ◌+◌, ◌-◌, true, false, ℕ, Ok, Result, List, [], ◌∷◌, length, map, take}
 use Rattle.std.specs.List.{AllByRecursion}
 use Rattle.lrs_machine.specs.declared.answer.Answer.{Answer}
 use Rattle.lrs_machine.specs.declared.answer.Limits.{Limits}

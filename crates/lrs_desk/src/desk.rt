@@ -223,6 +223,7 @@ impl<K: Keeper> Desk<K> {
         ensures stays { result ≡ Err Fault.MustReopen → IsUnchanged K.may_hold self.old self.new }
         ensures limits { self.new.limits ≡ self.old.limits }
         ensures open { OnOk result (self.new.must_reopen ≡ false) }
+        ensures ahead { OnOk result (self.new.is_ahead ≡ self.old.is_ahead) }
     {
         if self.must_reopen {
             return Err(Fault::MustReopen);
@@ -284,6 +285,7 @@ impl<K: Keeper> Desk<K> {
         ensures stays { result ≡ Err Fault.MustReopen → IsUnchanged K.may_hold self.old self.new }
         ensures limits { self.new.limits ≡ self.old.limits }
         ensures open { OnOk result (self.new.must_reopen ≡ false) }
+        ensures ahead { OnOk result (self.new.is_ahead ≡ self.old.is_ahead) }
     {
         if self.must_reopen {
             return Err(Fault::MustReopen);

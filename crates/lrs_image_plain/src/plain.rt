@@ -74,7 +74,8 @@ impl Plain {
 
     /// Drops what is staged.
     pub fn drop_staged(&mut self)
-        ensures { self.new ≡ record self.old { staged = [] } }
+        ensures same { self.new ≡ record self.old { staged = [] } }
+        ensures sound { IfOk self.new.content (λ image. IsSound image) }
     {
         self.changes.truncate(self.kept);
     }
