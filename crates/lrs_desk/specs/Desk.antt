@@ -13,7 +13,17 @@ use Rattle.lrs_machine.specs.Machine.{Record, answers, state_after}
 use Rattle.lrs_machine.specs.Sound.{IsSound}
 use Rattle.lrs_image.specs.Keeping.{HasRisen}
 use Rattle.lrs_machine_stops.specs.Stopped.{IsAccepted}
+use Rattle.lrs_image.specs.declared.keeper.LoadFault.{LoadFault}
+use Rattle.lrs_image.specs.declared.keeper.LoadFault.TheVariants as load
+use Rattle.lrs_desk.specs.declared.desk.OpenFault.{OpenFault}
+use Rattle.lrs_desk.specs.declared.desk.OpenFault.TheVariants as opened
 use Rattle.lrs_desk.specs.DeskView.{DeskView}
+
+-- why a desk is not opened, by why its keeper has no image
+abbrev pub opened_by : LoadFault → OpenFault
+opened_by load.Memory = opened.Memory
+opened_by load.Store = opened.Keep
+opened_by (load.Unsound t) = opened.Unsound t
 
 -- the same image, and nothing else to be found
 pub record IsUnchanged {K : Type 0} (holds : K → Result Image Table → Type 0) (old new : DeskView K) : Type 0 where

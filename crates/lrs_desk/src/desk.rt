@@ -56,17 +56,18 @@ pub enum OpenFault {
     Memory,
 }
 
-fn open_fault(fault: LoadFault) -> OpenFault
-    ensures memory { fault ≡ LoadFault.Memory → result ≡ OpenFault.Memory }
-    ensures keep { result ≡ OpenFault.Keep → fault ≡ LoadFault.Store }
-    ensures store { fault ≡ LoadFault.Store → result ≡ OpenFault.Keep }
-    ensures unsound { (t : Table) → result ≡ OpenFault.Unsound t → fault ≡ LoadFault.Unsound t }
-    ensures named { (t : Table) → fault ≡ LoadFault.Unsound t → result ≡ OpenFault.Unsound t }
-{
-    match fault {
-        LoadFault::Memory => OpenFault::Memory,
-        LoadFault::Store => OpenFault::Keep,
-        LoadFault::Unsound(table) => OpenFault::Unsound(table),
+impl From<LoadFault> for OpenFault {
+    ghost use Rattle.std.specs.Prelude.{◌≡◌};
+    ghost use Rattle.lrs_desk.specs.Desk.{opened_by};
+
+    ghost from_gives = { λ fault e. e ≡ opened_by fault };
+
+    fn from(fault: LoadFault) -> Self {
+        match fault {
+            LoadFault::Memory => OpenFault::Memory,
+            LoadFault::Store => OpenFault::Keep,
+            LoadFault::Unsound(table) => OpenFault::Unsound(table),
+        }
     }
 }
 
@@ -131,7 +132,7 @@ impl<K: Keeper> Desk<K> {
     {
         let image = match keeper.load(alloc) {
             Ok(image) => image,
-            Err(fault) => return Err((open_fault(fault), keeper)),
+            Err(fault) => return Err((OpenFault::from(fault), keeper)),
         };
         let Ok(inventory) = Inventory::new(alloc, image) else {
             return Err((OpenFault::Memory, keeper));
