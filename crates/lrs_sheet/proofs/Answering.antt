@@ -5,7 +5,7 @@ use Rattle.csv.proofs.WriteFacts.{appends-more}
 use Rattle.std.specs.Io.KnownBytes.{Appends}
 use Rattle.lrs_machine.specs.Image.{state_of}
 use Rattle.lrs_machine.specs.Lines.{Text}
-use Rattle.lrs_machine.specs.Machine.{Record, answers, state_after, step}
+use Rattle.lrs_machine.specs.Machine.{Record, answers, state_after}
 use Rattle.lrs_machine.specs.State.{State}
 use Rattle.lrs_machine.specs.declared.answer.Limits.{Limits}
 use Rattle.lrs_machine.specs.declared.image.Image.{Image}

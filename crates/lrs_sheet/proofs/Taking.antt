@@ -1,4 +1,4 @@
--- What one turn over the records does: the command of a record waits, or those that wait are done.
+-- What one turn over the records does: the command of a record waits, or all waiting ones are done.
 use Rattle.std.proofs.Common.{◌≡◌, inl, inr, false, ℕ, ◌<◌, ◌≤◌, ◌+◌, List, [], ◌∷◌, ◌++◌, Option, Some, None, Result, Ok, Err, length, arith, length-append}
 use Rattle.std.proofs.lemmas.List.{append-nil}
 use Rattle.csv.specs.Reading.{expected_len}
@@ -120,7 +120,7 @@ the_same : (f e : SheetFault) → Some f ≡ Some e → f ≡ e
 the_same f e is = cc is
 
 module _ {K : Type 0} {holds : K → Result Image Table → Type 0} {R : Type 0} (sheet : Sheet) (together : ℕ) (rem : R → Option Text) (rows : Reader R) (before after end : DeskView K) (old new last : Option Text) (tally counts : Tally) (commands : List (Text × Command)) where
-  -- the records are read to their end, and those that wait are done
+  -- the records are read to their end, and the waiting commands are done
   pub ended : (unread : Option SheetFault) → HasTaken sheet holds rem rows before after old new tally commands unread → DoesAll after.limits commands (state_of after.image) (state_of end.image) new last tally counts → GoesAlong holds after end
       → (unread ≡ None → DoesRows sheet together rem rows before.limits (state_of before.image) (state_of end.image) old last (Ok counts))
       × ((e : SheetFault) → unread ≡ Some e → DoesRows sheet together rem rows before.limits (state_of before.image) (state_of end.image) old last (Err e))

@@ -67,7 +67,7 @@ pub counts_done : (limits : Limits) (xs : List (Text × Command)) (s e : State) 
 counts_done limits xs s e a b t u does =
     rw does.counted (let all = count_all t (replies_to limits xs s) in let many = as_many limits xs s in omega (arith, all, many))
 
--- those that are not yet done
+-- the others are not yet done
 pub the_rest : (done : ℕ) (commands : List (Text × Command)) → take (length commands - done) (drop done commands) ≡ drop done commands
 the_rest done commands = take_all (length commands - done) (drop done commands) (let less = length-drop done commands in omega (arith, less))
 

@@ -71,7 +71,7 @@ IsReadFault remaining reader fault.Write = ⊥
 IsReadFault remaining reader fault.BadHeader = ⊥
 IsReadFault remaining reader (fault.Desk e) = ⊥
 
--- some of the records that come next are done and answered
+-- some of the next records are done and answered
 abbrev pub AnswersSome : {R : Type 0} → Sheet → (R → Option Text) → Reader R → Limits → State → State → Option Text → Option Text → Type 0
 AnswersSome sheet remaining reader limits before after old new =
     (records : List (List Text)) × (replies : List Reply) × AreAnswered sheet limits before records replies after old new × Begins remaining reader records
@@ -82,7 +82,7 @@ Stops sheet together remaining reader limits before after old new =
     (records : List (List Text)) × (further : List (List Text)) × (replies : List Reply) × ComeNext sheet together further × AreAnswered sheet limits before records replies after old new
     × Begins remaining reader (records ++ further)
 
--- a commit failed: some of the records that come next are done and answered, and of the further ones the first are in flight
+-- a commit failed: some of the next records are done and answered, and of the further ones the first are in flight
 pub record FailsToKeep {R : Type 0} (sheet : Sheet) (together : ℕ) (remaining : R → Option Text) (reader : Reader R) (limits : Limits) (before after : State) (old new : Option Text) : Type 0 where
   pub records : List (List Text)
   pub further : List (List Text)
@@ -93,7 +93,7 @@ pub record FailsToKeep {R : Type 0} (sheet : Sheet) (together : ℕ) (remaining 
   pub begins : Begins remaining reader (records ++ further)
   pub flight : RecordsInFlight sheet together limits settled further after
 
--- some of the records that come next are done, one at least
+-- some of the next records are done, one at least
 abbrev pub DoesUpTo : {R : Type 0} → Sheet → (R → Option Text) → Reader R → Limits → State → State → Type 0
 DoesUpTo sheet remaining reader limits before after =
     (records : List (List Text)) × (further : List (List Text)) × (replies : List Reply) × (1 ≤ length records) × HaveWidth sheet records × Replied sheet limits before records replies after

@@ -79,7 +79,7 @@ HasAnsweredSome sheet limits input before after old new =
 abbrev pub ComeNext : Sheet → ℕ → List (List Text) → Type 0
 ComeNext sheet together further = (1 ≤ length further) × (length further ≤ together) × HaveWidth sheet further
 
--- Some records at the front of the sheet are done, and each has its line; those that come next are not done.
+-- Some records at the front of the sheet are done, and each has its line; the next ones are not done.
 abbrev pub HasStopped : Sheet → ℕ → Limits → Text → State → State → Option Text → Option Text → Type 0
 HasStopped sheet together limits input before after old new =
     (header : List Text) × (records : List (List Text)) × (further : List (List Text)) × (replies : List Reply) × IsHeader sheet header
@@ -163,7 +163,7 @@ LeavesDesk holds old new (Err fault.Memory) = GoesAlong holds old new
 abbrev pub StandsFor : Result Image Table → State → Type 0
 StandsFor content state = (image : Image) × (content ≡ Ok image) × (state_of image ≡ state)
 
--- ... or for the other one
+-- ... for the one state or the other
 abbrev pub StandsForEither : Result Image Table → State → State → Type 0
 StandsForEither content one other = StandsFor content one ⊎ StandsFor content other
 

@@ -131,18 +131,18 @@ abbrev pub DoesWithIt : Limits → List Text → List (Text × Command) → List
 DoesWithIt limits fields waiting left before after old new tally counts =
     (c : Text × Command) × SaysCommand fields c.0 c.1 × (left ≡ []) × DoesAll limits (waiting ++ c ∷ []) before after old new tally counts
 
--- those that wait are done, and then the record is answered
+-- the waiting commands are done, and then the record is answered
 abbrev pub DoesBefore : Limits → List Text → List (Text × Command) → List (Text × Command) → State → State → Option Text → Option Text → Tally → Tally → Type 0
 DoesBefore limits fields waiting left before after old new tally counts =
     (mid : Option Text) × (t : Tally) × (left ≡ []) × DoesAll limits waiting before after old mid tally t × DoesRow limits after fields after mid new t counts
 
--- What becomes of a record, and of those that wait.
+-- What becomes of a record, and of the waiting commands.
 abbrev pub Takes : Limits → List Text → List (Text × Command) → List (Text × Command) → State → State → Option Text → Option Text → Tally → Tally → Type 0
 Takes limits fields waiting left before after old new tally counts =
     Waits limits fields waiting left before after old new tally counts
     ⊎ (DoesWithIt limits fields waiting left before after old new tally counts ⊎ DoesBefore limits fields waiting left before after old new tally counts)
 
--- those that wait are done, and the record is not, for want of memory, or its line is not written whole
+-- the waiting commands are done, and the record is not, for want of memory, or its line is not written whole
 abbrev pub StopsBehind : Limits → List Text → State → Option Text → Option Text → SheetFault → Type 0
 StopsBehind limits fields s old new fault.Write = (reply : Reply) × IsReplied limits s fields reply s
 StopsBehind limits fields s old new fault.Memory = new ≡ old
@@ -151,7 +151,7 @@ StopsBehind limits fields s old new fault.Read = ⊥
 StopsBehind limits fields s old new fault.BadHeader = ⊥
 StopsBehind limits fields s old new fault.BadCsv = ⊥
 
--- How a record stops a run: among those that wait, among these and it, or behind them.
+-- How a record stops a run: among the waiting commands, among these and its own, or behind them.
 abbrev pub StopsTaking : {K : Type 0} → (K → Result Image Table → Type 0) → List Text → List (Text × Command) → DeskView K → DeskView K → Option Text → Option Text → Tally → SheetFault → Type 0
 StopsTaking holds fields waiting before after old new tally e =
     StopsAmong holds waiting before after old new e

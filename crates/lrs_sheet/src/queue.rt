@@ -141,6 +141,7 @@ fn do_first<W: Write, K: Keeper>(
         (W.contents writer.old) (W.contents writer.new)) }
     ensures desk { LeavesDesk K.may_hold desk.old desk.new result }
 {
+    // If the commit of one fails, the desk still answers questions.
     if let [command] = commands {
         act_alone(command, writer, desk, tally)?;
         return Ok(1);
@@ -194,7 +195,7 @@ pub(crate) fn settle<W: Write, K: Keeper>(
     Ok(())
 }
 
-/// Refuses a record whose first malformed field is this, behind those that wait, and lets none wait.
+/// Refuses a record whose first malformed field is this, behind the waiting commands, and lets none wait.
 fn refuse<W: Write, K: Keeper>(
     row: &SheetRecord<'_>,
     field: Field,
@@ -222,8 +223,8 @@ fn refuse<W: Write, K: Keeper>(
     Ok(())
 }
 
-/// Lets the command of a record wait. Those that wait are done once so many do, and before a malformed record is
-/// refused.
+/// Lets the command of a record wait. The waiting commands are done once they are so many, and before a malformed
+/// record is refused.
 pub(crate) fn take_row<W: Write, K: Keeper>(
     alloc: Global,
     row: &SheetRecord<'_>,
