@@ -5,3 +5,4 @@ pub mod MarksBack
 pub mod Undone
 pub mod RowsBack
 pub mod Stepping
+pub mod Never

@@ -1,5 +1,5 @@
 -- What the calls of a desk promise makes them steps of a run.
-use Rattle.std.proofs.Common.{◌≡◌, ◌≤◌, ◌<◌, ◌+◌, ℕ, zero, suc, ◌↔◌, Bool, true, false, List, [], ◌∷◌, ◌++◌, length, map, take, Some, None, Result, Ok, Err, refl, sym, ap, subst, ◌∙◌, arith}
+use Rattle.std.proofs.Common.{◌≡◌, ◌⊎◌, inl, inr, ◌≤◌, ◌<◌, ◌+◌, ℕ, zero, suc, ◌↔◌, Bool, true, false, List, [], ◌∷◌, ◌++◌, length, map, take, Some, None, Result, Ok, Err, refl, sym, ap, subst, ◌∙◌, arith}
 use Rattle.std.specs.Global.{Vec}
 use Rattle.std.specs.List.{AllByRecursion}
 use Rattle.std.specs.Prelude.{IfOk, IfErr, OnOk, IsTrue, Option}
@@ -17,9 +17,9 @@ use Rattle.lrs_machine_stops.specs.Laws.{IsMadeBy}
 use Rattle.lrs_machine_stops.proofs.Stopping.{joined, stored_is_fold}
 use Rattle.lrs_desk.specs.declared.desk.Fault.{Fault}
 use Rattle.lrs_desk.specs.declared.desk.Fault.TheVariants.{Memory, Keep, MustReopen}
-use Rattle.lrs_desk.specs.Desk.{IsUnchanged, DoesFirst, BreaksAmid}
+use Rattle.lrs_desk.specs.Desk.{IsUnchanged, IsOldOrNext, HasBroken, DoesFirst, BreaksAmid}
 use Rattle.lrs_desk.specs.DeskView.{DeskView}
-use Rattle.lrs_desk_laws.specs.Steps.{MayFind, AreActs, AreInFlight, AreStepsOf, IsAtRest, acting, IsInRun}
+use Rattle.lrs_desk_laws.specs.Steps.{MayFind, AreActs, AreInFlight, AreStepsOf, step_of, IsAtRest, acting, IsInRun}
 
 -- stored, and a desk acts on it
 abbrev at_work : State → Moment
@@ -30,6 +30,12 @@ answers_are_no_fault given e = cc e
 
 faults_differ : ◌≡◌ {A = Result (Vec Answer) Fault} (Err Keep) (Err MustReopen) → ⊥
 faults_differ e = cc e
+
+an_answer_is_no_fault : (a : Answer) → ◌≡◌ {A = Result Answer Fault} (Ok a) (Err MustReopen) → ⊥
+an_answer_is_no_fault a e = cc e
+
+no_failure_is_a_reopening : ◌≡◌ {A = Result Answer Fault} (Err Keep) (Err MustReopen) → ⊥
+no_failure_is_a_reopening e = cc e
 
 -- a test that does not pass fails
 still_open : (b : Bool) → (IsTrue b → ⊥) → b ≡ false
@@ -131,17 +137,49 @@ module _ {K : Type 0} (holds : K → Result Image Table → Type 0) (limits : Li
       longer : (m : Moment) → IsRun limits (at_rest start) xs m → IsRun limits (at_rest start) (xs ++ map Unserved records) m
       longer m run = joined limits xs (map Unserved records) (at_rest start) m m run (unserved limits records m)
 
-  -- those in flight: what is found is the state after some first ones of them
+  -- commands in flight: a run that stops within them may have stored what is found
+  in_flight : (old new : DeskView K) (front : List Record) (last : Record) → old.must_reopen ≡ false → new.limits ≡ old.limits
+      → AllByRecursion IsAccepted (answers old.limits front (state_of old.image)) → new.must_reopen ≡ true → InRun xs old
+      → ((c : Result Image Table) → holds new.keeper c → IsOldOrNext old.limits (front ++ last ∷ []) old.image c) → InRun (xs ++ StopWithin front last ∷ []) new
+  in_flight old new front last open_then same accepted failed h content = record {
+    limits_are = same ∙ h.limits_are;
+    runs = λ open_now. absurd (false≢true (sym open_now ∙ failed));
+    found = λ c may. elim (content c may) [
+      | inl before ↦ (s, stops s (inl refl), record { image = old.image; found = before; state = refl })
+      | inr after ↦ (
+        state_of after.0,
+        stops (state_of after.0) (inr (after.2 ∙ ap (λ (l : Limits). state_after l (front ++ last ∷ []) s) h.limits_are)),
+        record { image = after.0; found = after.1; state = refl },
+      )
+    ];
+  }
+    where
+      s : State
+      s = state_of old.image
+
+      stops : (t : State) → (t ≡ s) ⊎ (t ≡ state_after limits (front ++ last ∷ []) s)
+          → IsRun limits (at_rest start) (xs ++ StopWithin front last ∷ []) (record { stored = t; desk = acting new.must_reopen new.image })
+      stops t is =
+          let m : Moment = record { stored = t; desk = acting new.must_reopen new.image } in
+          joined limits xs (StopWithin front last ∷ []) (at_rest start) (at_work s) m (h.runs open_then) (
+            m,
+            record {
+              known = s;
+              acts_on = refl;
+              accepted = subst (λ (l : Limits). AllByRecursion IsAccepted (answers l front s)) h.limits_are accepted;
+              stored = is;
+              desk = ap (λ must. acting must new.image) failed;
+            },
+            refl,
+          )
+
+  -- those in flight: what is found is the state before them, or after all of them
   broken : (failures : K → ℕ) (old new : DeskView K) (records : List Record) → old.must_reopen ≡ false → new.limits ≡ old.limits
       → BreaksAmid holds failures records old new → InRun xs old → (steps : List Step) × AreInFlight records steps × InRun (xs ++ steps) new
   broken failures old new records open_then same b h = (
     steps,
     record { front = front; last = p.last; behind = p.behind; sent = p.all; step = refl },
-    record {
-      limits_are = same ∙ h.limits_are;
-      runs = λ open_now. absurd (false≢true (sym open_now ∙ b.must_reopen));
-      found = λ c may. let f = b.content c may in (state_of f.image, stops f.stored (state_of f.image) f.state, record { image = f.image; found = f.found; state = refl });
-    },
+    in_flight old new front p.last open_then same accepted b.must_reopen h content,
   )
     where
       front : List Record
@@ -153,20 +191,49 @@ module _ {K : Type 0} (holds : K → Result Image Table → Type 0) (limits : Li
       steps : List Step
       steps = StopWithin front p.last ∷ []
 
-      s : State
-      s = state_of old.image
+      accepted : AllByRecursion IsAccepted (answers old.limits front (state_of old.image))
+      accepted = b.are_accepted
 
-      stops : (k : ℕ) (t : State) → t ≡ state_after old.limits (take k (take (b.accepted + 1) records)) s
-          → IsRun limits (at_rest start) (xs ++ steps) (record { stored = t; desk = acting new.must_reopen new.image })
-      stops k t is =
-          let m : Moment = record { stored = t; desk = acting new.must_reopen new.image } in
-          let one_more : b.accepted + 1 ≡ suc b.accepted = omega (arith) in
-          let among = is
-          ∙ ap (λ (l : Limits). state_after l (take k (take (b.accepted + 1) records)) s) h.limits_are
-          ∙ ap (λ (rs : List Record). state_after limits (take k rs) s) (ap (λ n. take n records) one_more ∙ p.first) in
-          let accepted = subst (λ (l : Limits). AllByRecursion IsAccepted (answers l front s)) h.limits_are b.are_accepted in
-          joined limits xs steps (at_rest start) (at_work s) m (h.runs open_then)
-          (m, record { known = s; acts_on = refl; accepted = accepted; stored = (k, among); desk = ap (λ must. acting must new.image) b.must_reopen }, refl)
+      one_more : b.accepted + 1 ≡ suc b.accepted
+      one_more = omega (arith)
+
+      content : (c : Result Image Table) → holds new.keeper c → IsOldOrNext old.limits (front ++ p.last ∷ []) old.image c
+      content c may = subst (λ (rs : List Record). IsOldOrNext old.limits rs old.image c) (ap (λ n. take n records) one_more ∙ p.first) (b.content c may)
+
+  -- a command in flight alone
+  broken_alone : (failures : K → ℕ) (old new : DeskView K) (r : Record) → old.must_reopen ≡ false → new.limits ≡ old.limits
+      → HasBroken holds failures r.key r.command old new → InRun xs old → InRun (xs ++ StopWithin [] r ∷ []) new
+  broken_alone failures old new r open_then same b h = in_flight old new [] r open_then same tt b.must_reopen h b.content
+
+  done_alone : (old new : DeskView K) (r : Record) (a : Answer) → old.must_reopen ≡ false → new.must_reopen ≡ false → new.limits ≡ old.limits
+      → a ≡ (step_record old.limits r (state_of old.image)).answer → state_of new.image ≡ (step_record old.limits r (state_of old.image)).state → HoldsOnly (holds new.keeper) new.image
+      → InRun xs old → InRun (xs ++ Act r a ∷ []) new
+  done_alone old new r a open_then open_now same said goes only h =
+      let s = state_of old.image in
+      let next = goes ∙ ap (λ (l : Limits). (step_record l r s).state) h.limits_are in
+      let last = at_work (state_of new.image) in
+      only_image (xs ++ Act r a ∷ []) new (same ∙ h.limits_are) open_now only
+      (joined limits xs (Act r a ∷ []) (at_rest start) (at_work s) last (h.runs open_then)
+      (last, record { known = s; acts_on = refl; answered = said ∙ ap (λ (l : Limits). (step_record l r s).answer) h.limits_are; stored = next; desk = ap Some next }, refl))
+
+  -- Whatever a desk answers to a command, it is a step.
+  pub act_is_step : (failures : K → ℕ) (old new : DeskView K) (r : Record) (result : Result Answer Fault)
+      → IfOk result (λ a. a ≡ (step_record old.limits r (state_of old.image)).answer)
+      → OnOk result (state_of new.image ≡ (step_record old.limits r (state_of old.image)).state)
+      → OnOk result (HoldsOnly (holds new.keeper) new.image)
+      → (result ≡ Err Memory → IsUnchanged holds old new)
+      → (result ≡ Err Keep → HasBroken holds failures r.key r.command old new)
+      → ((result ≡ Err MustReopen) ↔ IsTrue old.must_reopen)
+      → (result ≡ Err MustReopen → IsUnchanged holds old new)
+      → new.limits ≡ old.limits
+      → OnOk result (new.must_reopen ≡ false)
+      → InRun xs old → InRun (xs ++ step_of r result ∷ []) new
+  act_is_step failures old new r (Ok a) said goes only memory keep reopen stays same open_now h =
+      done_alone old new r a (still_open old.must_reopen (λ t. an_answer_is_no_fault a (reopen.1 t))) open_now same said goes only h
+  act_is_step failures old new r (Err Memory) said goes only memory keep reopen stays same open_now h = unchanged old new (r ∷ []) same (memory refl) h
+  act_is_step failures old new r (Err Keep) said goes only memory keep reopen stays same open_now h =
+      broken_alone failures old new r (still_open old.must_reopen (λ t. no_failure_is_a_reopening (reopen.1 t))) same (keep refl) h
+  act_is_step failures old new r (Err MustReopen) said goes only memory keep reopen stays same open_now h = unchanged old new (r ∷ []) same (stays refl) h
 
   -- Whatever a desk answers to commands, they are steps.
   pub acts_are_steps : (failures : K → ℕ) (old new : DeskView K) (records : List Record) (result : Result (Vec Answer) Fault)
@@ -200,7 +267,7 @@ module _ {K : Type 0} (holds : K → Result Image Table → Type 0) (limits : Li
       same_image : (i j : Image) → ◌≡◌ {A = Result Image Table} (Ok i) (Ok j) → i ≡ j
       same_image i j e = cc
 
-  -- ... and is the fold over the commands that were answered, with some first ones of those in flight at their point
+  -- ... and is the fold over the commands that were answered, with all of those in flight or none, at their point
   pub found_is_fold : (d : DeskView K) → d.must_reopen ≡ false → InRun xs d → IsMadeBy limits start xs (state_of d.image)
   found_is_fold d open_now h = stored_is_fold limits start xs (at_work (state_of d.image)) (h.runs open_now)
 

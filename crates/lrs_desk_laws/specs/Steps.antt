@@ -34,6 +34,13 @@ AreStepsOf records (Err Memory) steps = steps ≡ map Unserved records
 AreStepsOf records (Err Keep) steps = AreInFlight records steps
 AreStepsOf records (Err MustReopen) steps = steps ≡ map Unserved records
 
+-- The step that a command which is sent alone is, by what the desk answers.
+abbrev pub step_of : Record → Result Answer Fault → Step
+step_of r (Ok a) = Act r a
+step_of r (Err Memory) = Unserved r
+step_of r (Err Keep) = StopWithin [] r
+step_of r (Err MustReopen) = Unserved r
+
 -- what is found is an image of the state
 pub record StandsFor (c : Result Image Table) (s : State) : Type 0 where
   pub image : Image

@@ -5,4 +5,4 @@
 pub mod row_laws;
 mod steps;
 
-pub use steps::{act_on_first, close, open};
+pub use steps::{act, act_in_memory, act_on_first, close, open};

@@ -1,6 +1,6 @@
 //! The calls of a desk as steps of a run that may stop.
 
-ghost use Rattle.std.specs.Prelude.{◌≡◌, ◌≤◌, ◌++◌, ◌∷◌, [], List, length, IfOk, IfErr, Result};
+ghost use Rattle.std.specs.Prelude.{◌≡◌, ◌≤◌, ◌++◌, ◌∷◌, [], Err, List, length, IfOk, IfErr, Result};
 ghost use Rattle.lrs_machine.specs.declared.answer.Limits.{Limits as DeskLimits};
 ghost use Rattle.lrs_machine.specs.declared.image.Image.{Image as ImageRows};
 ghost use Rattle.lrs_machine.specs.declared.table.Table.{Table as ImageTable};
@@ -9,13 +9,13 @@ ghost use Rattle.lrs_machine.specs.State.{State};
 ghost use Rattle.lrs_machine_stops.specs.Stopped.{Step, Open, Stop};
 ghost use Rattle.lrs_machine_stops.specs.Laws.{IsMadeBy};
 ghost use Rattle.lrs_desk.specs.Desk.{records_of};
-ghost use Rattle.lrs_desk_laws.specs.Steps.{AreStepsOf, IsAtRest, IsInRun};
+ghost use Rattle.lrs_desk_laws.specs.Steps.{AreStepsOf, IsAtRest, IsInRun, step_of};
 
-use lrs_desk::{Answer, Command, Desk, Fault, Keeper, Key, Limits, OpenFault};
+use lrs_desk::{Answer, Command, Desk, Fault, Keeper, Key, Limits, OpenFault, Plain};
 use std::alloc::Global;
 
 /// Opens a desk, as `Desk::open` does. Where the device gives something back, the desk acts on what is stored:
-/// the fold over the commands that were answered, with some first ones of the commands in flight, at their point.
+/// the fold over the commands that were answered, with all of the commands in flight or none, at their point.
 ///
 /// # Errors
 /// Those of `Desk::open`; what is stored is as it was.
@@ -34,7 +34,29 @@ pub fn open<K: Keeper>(keeper: K, limits: Limits, alloc: Global) -> Result<Desk<
     Desk::open(keeper, limits, alloc)
 }
 
-/// Does the first of these commands, as `Desk::act_on_first` does, whatever comes of it.
+/// Does a command, as `Desk::act` does: it is one step of a run, whatever is answered.
+///
+/// # Errors
+/// Those of `Desk::act`: after `Keep` the command is in flight alone.
+pub fn act<K: Keeper>(desk: &mut Desk<K>, key: Key, command: &Command) -> Result<Answer, Fault>
+    ensures step { (limits : DeskLimits) (start : State) (xs : List Step)
+        → IsInRun K.may_hold limits start xs desk.old → IsInRun K.may_hold limits start
+        (xs ++ step_of (record { key = key; command = command.now }) result ∷ []) desk.new }
+{
+    desk.act(key, command)
+}
+
+/// Does a command over an inventory in memory, as `Desk::act` does. No commit fails there.
+///
+/// # Errors
+/// When memory runs out.
+pub fn act_in_memory(desk: &mut Desk<Plain>, key: Key, command: &Command) -> Result<Answer, Fault>
+    ensures never { result ≡ Err Fault.Keep → ⊥ }
+{
+    desk.act(key, command)
+}
+
+/// Does the first of these commands, as `Desk::act_on_first` does, whatever is answered.
 ///
 /// # Errors
 /// Those of `Desk::act_on_first`: after `Keep` the first ones of the commands are in flight.

@@ -2,7 +2,7 @@
 use Rattle.std.proofs.Common.{◌≡◌, ℕ, ◌+◌, ◌<◌, ◌≤◌, suc, zero, ◌⊎◌, inl, inr, Bool, true, false, cond, List, [], ◌∷◌, ◌++◌, length, Option, Some, None, Ok, Err, refl, sym, ap, subst, ◌∙◌, arith, length-append}
 use Rattle.std.specs.Prelude.{Result, IfOk, nat_eq, nat_lt, not, slice_get, is_some, is_none, take, drop, unwrap_or, ◌||◌, ◌&&◌}
 use Rattle.std.specs.List.{position, position_or_len, count_by, list_any}
-use Rattle.std.specs.Option.{option_map_or, ok_or}
+use Rattle.std.specs.Option.{option_map_or, option_and_then, ok_or}
 use Rattle.std.specs.Cmp.Lexicographic.{bytes_decides}
 use Rattle.std.proofs.lemmas.Bool.Decides.{nat_tests}
 use Rattle.std.proofs.lemmas.List.Folds.{position_or_len_push}
@@ -28,6 +28,7 @@ use Rattle.lrs_machine.specs.State.{State, Edit}
 use Rattle.lrs_machine.specs.Machine.{attempt, route_named, is_wrong_kind, check_pieces, check_free, check_marks, located_chainage, kind_of_asset, part_of, extent_of, is_empty_extent, wanted_of, first_holder, do_join_of}
 use Rattle.lrs_machine.specs.Machine.{next, check_room, accept, Outcome, outcome_of, step_by_key, answer_known, line_at, place_of_key, step, step_record, Record}
 use Rattle.lrs_machine.proofs.Checks.{behind, bind, unless, unless_at}
+use Rattle.lrs_machine_stops.specs.Known.{edit_of}
 
 -- ---- a verb leaves the edits
 
@@ -128,6 +129,17 @@ module _ {X : Type 0} (p : X → Bool) where
       let longer = length-append xs (y ∷ []) in
       ap (λ n. pick n (length (xs ++ y ∷ []))) same ∙ ap (λ b. cond b (Some (length xs)) None) (let t : nat_lt (length xs) (length (xs ++ y ∷ [])) ≡ true = grind (arith, nat_tests) in t)
 
+  -- ... and where that does not pass, nothing is found still
+  pub none_still : (xs : List X) (y : X) → position p xs ≡ None → p y ≡ false → position p (xs ++ y ∷ []) ≡ None
+  none_still xs y none fails =
+      let before = none_before xs none in
+      let all : nat_eq (position_or_len p xs) (length xs) ≡ true = grind (arith, nat_tests) in
+      let longer = length-append xs (y ∷ []) in
+      let same : position_or_len p (xs ++ y ∷ []) ≡ length (xs ++ y ∷ []) =
+      position_or_len_push p xs y ∙ ap (λ b. cond b (length xs + cond (p y) 0 1) (position_or_len p xs)) all ∙ ap (λ b. length xs + cond b 0 1) fails ∙ sym longer in
+      ap (λ n. pick n (length (xs ++ y ∷ []))) same
+      ∙ ap (λ b. cond b (Some (length (xs ++ y ∷ []))) None) (let f : nat_lt (length (xs ++ y ∷ [])) (length (xs ++ y ∷ [])) ≡ false = grind (arith, nat_tests) in f)
+
   -- and none passes
   count_none : (xs : List X) → position_or_len p xs ≡ length xs → count_by p xs ≡ 0
   count_none [] e = refl
@@ -164,8 +176,30 @@ pub record IsEdit (r : Record) (n : ℕ) (s : State) : Type 0 where
   pub number : n ≡ place + 1
   pub line : same_name (line_at place s.done) (line_of r.command) ≡ true
 
-abbrev edit_of : Record → Edit
-edit_of r = record { key = r.key; line = line_of r.command }
+abbrev entry_of : Record → Edit
+entry_of r = record { key = r.key; line = line_of r.command }
+
+-- ... which is what the definition finds
+pub found_as : (r : Record) (n : ℕ) (s : State) → IsEdit r n s → edit_of s r ≡ Some n
+found_as r n s h =
+    ap (option_and_then (λ place. cond (same_name (line_at place s.done) (line_of r.command)) (Some (place + 1)) None)) h.at
+    ∙ ap (λ b. cond b (Some (h.place + 1)) None) h.line
+    ∙ ap Some (sym h.number)
+
+pub is_found : (r : Record) (n : ℕ) (s : State) → edit_of s r ≡ Some n → IsEdit r n s
+is_found r n s e = by_place (place_of_key r.key s.done) refl e
+  where
+    by_line : (place : ℕ) → place_of_key r.key s.done ≡ Some place → (b : Bool) → same_name (line_at place s.done) (line_of r.command) ≡ b → cond b (Some (place + 1)) None ≡ Some n → IsEdit r n s
+    by_line place at true line f = record { place = place; at = at; number = cc; line = line }
+    by_line place at false line f = absurd (cc f)
+
+    by_place : (o : Option ℕ) → place_of_key r.key s.done ≡ o → option_and_then (λ place. cond (same_name (line_at place s.done) (line_of r.command)) (Some (place + 1)) None) o ≡ Some n → IsEdit r n s
+    by_place None at f = absurd (cc f)
+    by_place (Some place) at f = by_line place at (same_name (line_at place s.done) (line_of r.command)) refl f
+
+-- where the key is of no edit, nothing is found
+pub not_found : (r : Record) (s : State) → place_of_key r.key s.done ≡ None → edit_of s r ≡ None
+not_found r s none = ap (option_and_then (λ place. cond (same_name (line_at place s.done) (line_of r.command)) (Some (place + 1)) None)) none
 
 -- sent again, it is answered again
 pub again : (limits : Limits) (r : Record) (n : ℕ) (s : State) → IsEdit r n s → step_record limits r s ≡ record { answer = Again n; state = s }
@@ -194,11 +228,11 @@ same_text a = (bytes_decides a a).1 refl
 pub edit_now : (r : Record) (s t : State) → place_of_key r.key s.done ≡ None → t.done ≡ s.done → IsEdit r (length s.done + 1) (accept r.key r.command t)
 edit_now r s t none same = record {
   place = length s.done;
-  at = ap (λ (done : List Edit). place_of_key r.key (done ++ edit_of r ∷ [])) same ∙ found_at_end (λ (d : Edit). same_name d.key r.key) s.done (edit_of r) none (same_text r.key);
+  at = ap (λ (done : List Edit). place_of_key r.key (done ++ entry_of r ∷ [])) same ∙ found_at_end (λ (d : Edit). same_name d.key r.key) s.done (entry_of r) none (same_text r.key);
   number = refl;
   line =
-      ap (λ (done : List Edit). same_name (line_at (length s.done) (done ++ edit_of r ∷ [])) (line_of r.command)) same
-      ∙ ap (λ (o : Option Edit). same_name (option_map_or (λ d. d.line) o []) (line_of r.command)) (got_at_end s.done (edit_of r))
+      ap (λ (done : List Edit). same_name (line_at (length s.done) (done ++ entry_of r ∷ [])) (line_of r.command)) same
+      ∙ ap (λ (o : Option Edit). same_name (option_map_or (λ d. d.line) o []) (line_of r.command)) (got_at_end s.done (entry_of r))
       ∙ same_text (line_of r.command);
 }
 
@@ -207,9 +241,23 @@ pub edit_stays : (limits : Limits) (r q : Record) (n : ℕ) (s : State) → IsEd
 edit_stays limits r q n s h = by (step_record limits q s) (outcomes limits q.key q.command s)
   where
     by : (o : Outcome) → Outcomes q.key q.command s o → IsEdit r n o.state
-    by _ (done t none same) = edit_still r n s (accept q.key q.command t) (edit_of q) (ap (λ (d : List Edit). d ++ edit_of q ∷ []) same) h
+    by _ (done t none same) = edit_still r n s (accept q.key q.command t) (entry_of q) (ap (λ (d : List Edit). d ++ entry_of q ∷ []) same) h
     by _ (known place at) = h
     by _ (refused c) = h
+
+-- a command that is answered again was that edit
+pub was_edit : (limits : Limits) (r : Record) (n : ℕ) (s : State) → (step_record limits r s).answer ≡ Again n → IsEdit r n s
+was_edit limits r n s h = by (step_record limits r s) (outcomes limits r.key r.command s) h
+  where
+    answered : (place : ℕ) → place_of_key r.key s.done ≡ Some place → (b : Bool) → same_name (line_at place s.done) (line_of r.command) ≡ b
+        → cond b (Again (place + 1)) (Refused (cause.KeyUsed (place + 1))) ≡ Again n → IsEdit r n s
+    answered place at true line e = record { place = place; at = at; number = cc; line = line }
+    answered place at false line e = absurd (cc e)
+
+    by : (o : Outcome) → Outcomes r.key r.command s o → o.answer ≡ Again n → IsEdit r n s
+    by _ (done t none same) e = absurd (cc e)
+    by _ (known place at) e = answered place at (same_name (line_at place s.done) (line_of r.command)) refl e
+    by _ (refused c) e = absurd (cc e)
 
 -- a command that is answered as an edit is that edit
 pub edit_answered : (limits : Limits) (r : Record) (n : ℕ) (s : State) → ((step_record limits r s).answer ≡ Done n) ⊎ ((step_record limits r s).answer ≡ Again n) → IsEdit r n (step_record limits r s).state

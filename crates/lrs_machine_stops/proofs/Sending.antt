@@ -1,5 +1,5 @@
 -- What is stored while commands that were in flight are sent again.
-use Rattle.std.proofs.Common.{◌≡◌, ℕ, ◌+◌, ◌-◌, ◌≤◌, suc, zero, ◌⊎◌, inl, inr, Bool, true, false, List, [], ◌∷◌, ◌++◌, length, take, refl, sym, ap, subst, ◌∙◌, arith}
+use Rattle.std.proofs.Common.{◌≡◌, ℕ, ◌+◌, ◌-◌, ◌≤◌, suc, zero, ◌⊎◌, inl, inr, Bool, true, false, List, [], ◌∷◌, ◌++◌, length, refl, sym, ap, subst, ◌∙◌, arith}
 use Rattle.std.specs.Prelude.{nat_lt}
 use Rattle.std.specs.List.{AllByRecursion}
 use Rattle.std.proofs.lemmas.Bool.Decides.{nat_tests}
@@ -21,7 +21,7 @@ module _ (limits : Limits) where
   said r s = (step_record limits r s).answer
 
   -- Sent again at t, the command that was sent at s changes nothing, and is answered as it was or as known.
-  record IsSettled (r : Record) (s t : State) : Type 0 where
+  pub record IsSettled (r : Record) (s t : State) : Type 0 where
     pub state : next r t ≡ t
     pub answer : StandsIn true (said r t) (said r s)
 
@@ -51,7 +51,7 @@ module _ (limits : Limits) where
       by _ (edits.known place at) e = as_before _ refl e
       by _ (edits.refused c) e = as_before _ refl e
 
-  at_once : (r : Record) (s t : State) → t ≡ next r s → IsSettled r s t
+  pub at_once : (r : Record) (s t : State) → t ≡ next r s → IsSettled r s t
   at_once r s t e =
       let twice = repeated r s in
       record {
@@ -154,11 +154,14 @@ module _ (limits : Limits) where
       let one = sent_ahead n f fs s t before in
       inr (inr (was_accepted true (said f t) (said f s) one.answer h.0, both n fs (next f s) (next f t) u one.ahead h.1))
 
-  -- some first ones of a group are ahead
-  pub flown : (rs : List Record) (r : Record) (rest : List Record) (k : ℕ) (t u : State) → AllByRecursion IsAccepted (answers limits rs t)
-      → u ≡ state_after limits (take k (rs ++ r ∷ [])) t → Ahead (suc (length rs)) ((rs ++ r ∷ []) ++ rest) t u
-  flown [] r rest zero t u accepted e = inl e
-  flown [] r rest (suc zero) t u accepted e = inr (inl e)
-  flown [] r rest (suc (suc k)) t u accepted e = inr (inl e)
-  flown (q ∷ rs) r rest zero t u accepted e = inl e
-  flown (q ∷ rs) r rest (suc k) t u accepted e = inr (inr (accepted.0, flown rs r rest k (next q t) u accepted.1 e))
+  -- a whole group is ahead
+  all_flown : (rs : List Record) (r : Record) (rest : List Record) (t u : State) → AllByRecursion IsAccepted (answers limits rs t)
+      → u ≡ state_after limits (rs ++ r ∷ []) t → Ahead (suc (length rs)) ((rs ++ r ∷ []) ++ rest) t u
+  all_flown [] r rest t u accepted e = inr (inl e)
+  all_flown (q ∷ rs) r rest t u accepted e = inr (inr (accepted.0, all_flown rs r rest (next q t) u accepted.1 e))
+
+  -- ... or none of it
+  pub flown : (rs : List Record) (r : Record) (rest : List Record) (t u : State) → AllByRecursion IsAccepted (answers limits rs t)
+      → (u ≡ t) ⊎ (u ≡ state_after limits (rs ++ r ∷ []) t) → Ahead (suc (length rs)) ((rs ++ r ∷ []) ++ rest) t u
+  flown rs r rest t u accepted (inl e) = level (suc (length rs)) ((rs ++ r ∷ []) ++ rest) t u e
+  flown rs r rest t u accepted (inr e) = all_flown rs r rest t u accepted e

@@ -1,5 +1,5 @@
 -- What a run that stops leaves stored.
-use Rattle.std.proofs.Common.{◌≡◌, ℕ, ◌+◌, ◌-◌, ◌≤◌, suc, ◌⊎◌, inl, inr, Bool, true, false, cond, List, [], ◌∷◌, ◌++◌, length, take, Some, None, refl, sym, ap, subst, ◌∙◌, arith}
+use Rattle.std.proofs.Common.{◌≡◌, ℕ, ◌+◌, ◌-◌, ◌≤◌, suc, ◌⊎◌, inl, inr, Bool, true, false, cond, List, [], ◌∷◌, ◌++◌, length, Some, None, refl, sym, ap, subst, ◌∙◌, arith}
 use Rattle.std.specs.Prelude.{max, nat_lt}
 use Rattle.std.specs.List.{count_by, AllByRecursion}
 use Rattle.std.proofs.Math.Nat.{le-max_left, le-max_right}
@@ -13,8 +13,8 @@ use Rattle.lrs_machine.specs.State.{State, Edit}
 use Rattle.lrs_machine.specs.Machine.{Outcome, step_record, answers, state_after, Record, place_of_key}
 use Rattle.lrs_machine.specs.Laws.{IsLawful}
 use Rattle.lrs_machine.proofs.Lawful.{every_step_keeps_the_laws}
-use Rattle.lrs_machine_stops.specs.Stopped.{Step, Open, Act, Unserved, StopWithin, Stop, Moment, at_rest, IsStep, IsRun, IsAccepted, nothing, answered, in_flight, opened, unserved, stopped, acknowledged, SendsFirst}
-use Rattle.lrs_machine_stops.specs.Laws.{DeskIsStored, IsMadeBy, StoredIsFold, AnswersAreOfFold, StandsIn, StandInFor, SentFirstIsUnstopped, Accepts, NoneIsLost, HasKeysOnce, NoneIsDoubled, StoredIsLawful, StopsHaveBothOutcomes, StopsHaveEachOutcome, RunsAreThere}
+use Rattle.lrs_machine_stops.specs.Stopped.{Step, Open, Act, Unserved, StopWithin, Stop, Moment, at_rest, IsStep, IsRun, IsAccepted, nothing, answered, none_in_flight, all_in_flight, opened, unserved, stopped, acknowledged, SendsFirst}
+use Rattle.lrs_machine_stops.specs.Laws.{DeskIsStored, IsMadeBy, StoredIsFold, AnswersAreOfFold, StandsIn, StandInFor, SentFirstIsUnstopped, Accepts, NoneIsLost, HasKeysOnce, NoneIsDoubled, StoredIsLawful, StopsHaveBothOutcomes, RunsAreThere}
 use Rattle.lrs_machine_stops.proofs.Edits as edits
 use Rattle.lrs_machine_stops.proofs.Edits.{Outcomes, outcomes, IsEdit}
 use Rattle.lrs_machine_stops.proofs.Sending.{Ahead, at_end, wider, sent, both, flown}
@@ -25,7 +25,7 @@ module _ (limits : Limits) where
 
   -- ---- the desk acts on what is stored
 
-  abbrev ActsOnStored : Moment → Type 0
+  abbrev pub ActsOnStored : Moment → Type 0
   ActsOnStored m = (s : State) → m.desk ≡ Some s → s ≡ m.stored
 
   pub some_same : {X : Type 0} (x y : X) → Some x ≡ Some y → x ≡ y
@@ -34,20 +34,20 @@ module _ (limits : Limits) where
   no_desk : (m : Moment) → m.desk ≡ None → ActsOnStored m
   no_desk m none s e = absurd (let both : Some s ≡ None = sym e ∙ none in cc both)
 
-  acts_on_stored : (before after : Moment) (x : Step) → IsStep limits before x after → ActsOnStored before → ActsOnStored after
+  pub acts_on_stored : (before after : Moment) (x : Step) → IsStep limits before x after → ActsOnStored before → ActsOnStored after
   acts_on_stored before after Open h is = λ s e. some_same s before.stored (sym e ∙ h.desk) ∙ sym h.stored
   acts_on_stored before after (Act r a) h is = λ s e. some_same s (next r h.known) (sym e ∙ h.desk) ∙ sym h.stored
   acts_on_stored before after (Unserved r) h is = subst ActsOnStored (sym h) is
   acts_on_stored before after (StopWithin rs r) h is = no_desk after h.desk
   acts_on_stored before after Stop h is = no_desk after (ap (λ (m : Moment). m.desk) h)
 
-  acts_on_stored_after : (xs : List Step) (before after : Moment) → IsRun limits before xs after → ActsOnStored before → ActsOnStored after
+  pub acts_on_stored_after : (xs : List Step) (before after : Moment) → IsRun limits before xs after → ActsOnStored before → ActsOnStored after
   acts_on_stored_after [] before after run is = subst ActsOnStored (sym run) is
   acts_on_stored_after (x ∷ xs) before after run is = acts_on_stored_after xs run.0 after run.2 (acts_on_stored before run.0 x run.1 is)
 
   -- ---- runs one after another
 
-  parted : (xs ys : List Step) (before after : Moment) → IsRun limits before (xs ++ ys) after → (m : Moment) × IsRun limits before xs m × IsRun limits m ys after
+  pub parted : (xs ys : List Step) (before after : Moment) → IsRun limits before (xs ++ ys) after → (m : Moment) × IsRun limits before xs m × IsRun limits m ys after
   parted [] ys before after run = (before, refl, run)
   parted (x ∷ xs) ys before after run = let rest = parted xs ys run.0 after run.2 in (rest.0, (run.0, run.1, rest.1), rest.2)
 
@@ -61,11 +61,16 @@ module _ (limits : Limits) where
     goes_on [] s p = p
     goes_on (r ∷ rs) s p = goes_on rs (next r s) (goes r s p)
 
+    -- all of a group, or none of it
+    through : (rs : List Record) (s t : State) → (t ≡ s) ⊎ (t ≡ state_after limits rs s) → P s → P t
+    through rs s t (inl e) p = subst P (sym e) p
+    through rs s t (inr e) p = subst P (sym e) (goes_on rs s p)
+
     by_step : (before after : Moment) (x : Step) → IsStep limits before x after → ActsOnStored before → P before.stored → P after.stored
     by_step before after Open h is p = subst P (sym h.stored) p
     by_step before after (Act r a) h is p = subst P (sym h.stored) (goes r h.known (subst P (sym (is h.known h.acts_on)) p))
     by_step before after (Unserved r) h is p = subst (λ (m : Moment). P m.stored) (sym h) p
-    by_step before after (StopWithin rs r) h is p = subst P (sym h.stored.1) (goes_on (take h.stored.0 (rs ++ r ∷ [])) h.known (subst P (sym (is h.known h.acts_on)) p))
+    by_step before after (StopWithin rs r) h is p = through (rs ++ r ∷ []) h.known after.stored h.stored (subst P (sym (is h.known h.acts_on)) p)
     by_step before after Stop h is p = subst (λ (m : Moment). P m.stored) (sym h) p
 
     kept_through : (xs : List Step) (before after : Moment) → IsRun limits before xs after → ActsOnStored before → P before.stored → P after.stored
@@ -74,7 +79,7 @@ module _ (limits : Limits) where
 
   -- ---- what is stored is a fold
 
-  one_after_another : (rs qs : List Record) (s : State) → state_after limits (rs ++ qs) s ≡ state_after limits qs (state_after limits rs s)
+  pub one_after_another : (rs qs : List Record) (s : State) → state_after limits (rs ++ qs) s ≡ state_after limits qs (state_after limits rs s)
   one_after_another [] qs s = refl
   one_after_another (r ∷ rs) qs s = one_after_another rs qs (next r s)
 
@@ -89,23 +94,28 @@ module _ (limits : Limits) where
       without : run.0.stored ≡ before.stored → (rest : IsMadeBy limits run.0.stored xs after.stored) → after.stored ≡ state_after limits rest.commands before.stored
       without e rest = rest.stored ∙ ap (state_after limits rest.commands) e
 
+      stops : (rs : List Record) (r : Record) (known : State) → known ≡ before.stored → (run.0.stored ≡ known) ⊎ (run.0.stored ≡ state_after limits (rs ++ r ∷ []) known)
+          → IsMadeBy limits run.0.stored xs after.stored → IsMadeBy limits before.stored (StopWithin rs r ∷ xs) after.stored
+      stops rs r known e (inl f) rest = record { commands = rest.commands; kept = none_in_flight rs r xs rest.commands rest.kept; stored = without (f ∙ e) rest }
+      stops rs r known e (inr f) rest =
+          let sent = rs ++ r ∷ [] in
+          record {
+            commands = sent ++ rest.commands;
+            kept = all_in_flight rs r xs rest.commands rest.kept;
+            stored =
+                rest.stored
+                ∙ ap (state_after limits rest.commands) (f ∙ ap (state_after limits sent) e)
+                ∙ sym (one_after_another sent rest.commands before.stored);
+          }
+
       by : (y : Step) → IsStep limits before y run.0 → IsMadeBy limits run.0.stored xs after.stored → IsMadeBy limits before.stored (y ∷ xs) after.stored
       by Open h rest = record { commands = rest.commands; kept = opened xs rest.commands rest.kept; stored = without h.stored rest }
       by (Act r a) h rest = record { commands = r ∷ rest.commands; kept = answered r a xs rest.commands rest.kept; stored = with r h.known (is h.known h.acts_on) h.stored rest }
       by (Unserved r) h rest = record { commands = rest.commands; kept = unserved r xs rest.commands rest.kept; stored = without (ap (λ (m : Moment). m.stored) h) rest }
-      by (StopWithin rs r) h rest =
-          let sent = take h.stored.0 (rs ++ r ∷ []) in
-          record {
-            commands = sent ++ rest.commands;
-            kept = in_flight h.stored.0 rs r xs rest.commands rest.kept;
-            stored =
-                rest.stored
-                ∙ ap (state_after limits rest.commands) (h.stored.1 ∙ ap (state_after limits sent) (is h.known h.acts_on))
-                ∙ sym (one_after_another sent rest.commands before.stored);
-          }
+      by (StopWithin rs r) h rest = stops rs r h.known (is h.known h.acts_on) h.stored rest
       by Stop h rest = record { commands = rest.commands; kept = stopped xs rest.commands rest.kept; stored = without (ap (λ (m : Moment). m.stored) h) rest }
 
-rests : (start : State) (limits : Limits) → ActsOnStored limits (at_rest start)
+pub rests : (start : State) (limits : Limits) → ActsOnStored limits (at_rest start)
 rests start limits = no_desk limits (at_rest start) refl
 
 pub desk_is_stored : DeskIsStored
@@ -207,7 +217,8 @@ module _ (limits : Limits) where
       let known = is stop.known stop.acts_on in
       let more = max count (length rs + 1) in
       let accepted = subst (λ (t : State). AllByRecursion IsAccepted (answers limits rs t)) known stop.accepted in
-      let group = flown limits rs r first.0 stop.stored.0 m.stored k.stored accepted (stop.stored.1 ∙ ap (state_after limits (take stop.stored.0 (rs ++ r ∷ []))) known) in
+      let left = subst (λ (t : State). (k.stored ≡ t) ⊎ (k.stored ≡ state_after limits (rs ++ r ∷ []) t)) known stop.stored in
+      let group = flown limits rs r first.0 m.stored k.stored accepted left in
       let now = subst (λ (fs : List Record). Ahead limits (suc (length rs)) fs m.stored k.stored) (sym first.1) group in
       let ahead = both limits more (acknowledged xs) s m.stored k.stored
       (wider limits count more (acknowledged xs) s m.stored (le-max_left count (length rs + 1)) h)
@@ -226,17 +237,16 @@ sent_first_is_unstopped limits start xs m run first =
 
 -- ---- the runs that there are
 
-pub stops_have_each_outcome : StopsHaveEachOutcome
-stops_have_each_outcome limits start s xs rs r k m run acting accepted =
-    let left = state_after limits (take k (rs ++ r ∷ [])) s in
-    joined limits xs (StopWithin rs r ∷ []) (at_rest start) m (at_rest left) run
-    (at_rest left, record { known = s; acts_on = acting; accepted = accepted; stored = (k, refl); desk = refl }, refl)
-
 pub stops_have_both_outcomes : StopsHaveBothOutcomes
-stops_have_both_outcomes limits start s xs r m run acting = record {
-  old = stops_have_each_outcome limits start s xs [] r 0 m run acting tt;
-  next = stops_have_each_outcome limits start s xs [] r 1 m run acting tt;
+stops_have_both_outcomes limits start s xs rs r m run acting accepted = record {
+  none = stops s (inl refl);
+  all = stops (state_after limits (rs ++ r ∷ []) s) (inr refl);
 }
+  where
+    stops : (left : State) → (left ≡ s) ⊎ (left ≡ state_after limits (rs ++ r ∷ []) s) → IsRun limits (at_rest start) (xs ++ StopWithin rs r ∷ []) (at_rest left)
+    stops left stored =
+        joined limits xs (StopWithin rs r ∷ []) (at_rest start) m (at_rest left) run
+        (at_rest left, record { known = s; acts_on = acting; accepted = accepted; stored = stored; desk = refl }, refl)
 
 -- each command acted on in turn
 abbrev in_turn : Limits → List Record → State → List Step

@@ -1,19 +1,19 @@
 -- The worked runs.
-use Rattle.std.proofs.Common.{◌≡◌, ℕ, suc, zero, ◌⊎◌, inl, inr, false, [], ◌∷◌, length, take, Some, None, refl, sym, ap, ◌∙◌, arith}
+use Rattle.std.proofs.Common.{◌≡◌, ◌⊎◌, inl, inr, false, [], ◌∷◌, length, Some, None, refl, sym, ap, ◌∙◌, arith}
 use Rattle.std.specs.Fmt.{digits}
 use Rattle.lrs_machine.specs.declared.answer.Answer.TheVariants.{Done, Again}
 use Rattle.lrs_machine.specs.State.{State, nothing_known}
 use Rattle.lrs_machine.specs.Machine.{Record, step, attempt, step_record, state_after}
 use Rattle.lrs_machine_stops.specs.Stopped.{Moment, at_rest, Opens, Acts, StopsWithin, IsRun}
-use Rattle.lrs_machine_stops.specs.Worked.{full, first_link, second_link, signs, after, until_the_stop, OneLinkOrTwo, at_work, until_both_stop, BothEndAlike, TwoInFlight, Excluded}
+use Rattle.lrs_machine_stops.specs.Worked.{full, first_link, second_link, signs, after, until_the_stop, OneLinkOrTwo, at_work, until_both_stop, BothEndAlike, TwoInFlight, Excluded, sheet, half_done, GoesOnBehindTheLink}
 use Rattle.lrs_machine_stops.proofs.Stopping.{some_same}
 use Rattle.lrs_machine_stops.specs.Laws.{same, again}
 
 opened_at : (s : State) → Opens (at_rest s) (at_work s)
 opened_at s = record { closed = refl; stored = refl; desk = refl }
 
-stopped_at : (r : Record) (s t : State) (k : ℕ) → t ≡ state_after full (take k (r ∷ [])) s → StopsWithin full [] r (at_work s) (at_rest t)
-stopped_at r s t k is = record { known = s; acts_on = refl; accepted = tt; stored = (k, is); desk = refl }
+stopped_at : (r : Record) (s t : State) → (t ≡ s) ⊎ (t ≡ state_after full (r ∷ []) s) → StopsWithin full [] r (at_work s) (at_rest t)
+stopped_at r s t left = record { known = s; acts_on = refl; accepted = tt; stored = left; desk = refl }
 
 one : State
 one = after (first_link ∷ [])
@@ -61,12 +61,11 @@ module _ (s : State) (run : IsRun full (at_rest nothing_known) until_the_stop (a
 
   one_or_two : (s ≡ one) ⊎ (s ≡ two)
   unfolding one two
-  one_or_two = by run.2.2.1.stored.0 (run.2.2.1.stored.1 ∙ ap (state_after full (take run.2.2.1.stored.0 (second_link ∷ []))) acts_on_is)
+  one_or_two = by run.2.2.1.stored
     where
-      by : (k : ℕ) → run.2.2.0.stored ≡ state_after full (take k (second_link ∷ [])) one → (s ≡ one) ⊎ (s ≡ two)
-      by zero e = inl (sym left_is ∙ e)
-      by (suc zero) e = inr (sym left_is ∙ e)
-      by (suc (suc k)) e = inr (sym left_is ∙ e)
+      by : (run.2.2.0.stored ≡ run.2.2.1.known) ⊎ (run.2.2.0.stored ≡ state_after full (second_link ∷ []) run.2.2.1.known) → (s ≡ one) ⊎ (s ≡ two)
+      by (inl e) = inl (sym left_is ∙ e ∙ acts_on_is)
+      by (inr e) = inr (sym left_is ∙ e ∙ ap (state_after full (second_link ∷ [])) acts_on_is)
 
 edits_one : length one.done ≡ 1
 unfolding digits step attempt one
@@ -83,8 +82,8 @@ never_none (inr e) = let n : 0 ≡ 2 = ap (λ (t : State). length t.done) e ∙ 
 pub one_link_or_two : OneLinkOrTwo
 unfolding one two
 one_link_or_two = record {
-  without = (at_work nothing_known, opened_at nothing_known, (at_work one, first_done, (at_rest one, stopped_at second_link one one 0 refl, refl)));
-  with = (at_work nothing_known, opened_at nothing_known, (at_work one, first_done, (at_rest two, stopped_at second_link one two 1 refl, refl)));
+  without = (at_work nothing_known, opened_at nothing_known, (at_work one, first_done, (at_rest one, stopped_at second_link one one (inl refl), refl)));
+  with = (at_work nothing_known, opened_at nothing_known, (at_work one, first_done, (at_rest two, stopped_at second_link one two (inr refl), refl)));
   nothing_else = one_or_two;
   not_lost = λ run. never_none (one_or_two nothing_known run);
 }
@@ -100,7 +99,7 @@ both_end_alike = record {
       first_done,
       (
         at_rest one,
-        stopped_at second_link one one 0 refl,
+        stopped_at second_link one one (inl refl),
         (at_rest one, refl, (at_work one, opened_at one, (at_work two, second_done, (at_work three, signs_done, refl)))),
       ),
     ),
@@ -113,20 +112,21 @@ both_end_alike = record {
       first_done,
       (
         at_rest two,
-        stopped_at second_link one two 1 refl,
+        stopped_at second_link one two (inr refl),
         (at_rest two, refl, (at_work two, opened_at two, (at_work two, second_again, (at_work three, signs_done, refl)))),
       ),
     ),
   );
   sent_first = ((signs ∷ [], refl, tt), (signs ∷ [], refl, tt));
+  kept_as = (refl, refl);
   keys = refl;
 }
 
 -- ---- two in flight
 
-both_stopped : StopsWithin full (first_link ∷ []) second_link (at_work nothing_known) (at_rest two)
+both_stopped : (t : State) → (t ≡ nothing_known) ⊎ (t ≡ two) → StopsWithin full (first_link ∷ []) second_link (at_work nothing_known) (at_rest t)
 unfolding digits step attempt two
-both_stopped = record { known = nothing_known; acts_on = refl; accepted = (tt, tt); stored = (2, refl); desk = refl }
+both_stopped t left = record { known = nothing_known; acts_on = refl; accepted = (tt, tt); stored = left; desk = refl }
 
 first_again : Acts full first_link (Again 1) (at_work two) (at_work two)
 unfolding digits step attempt one two
@@ -140,26 +140,31 @@ module _ (s : State) (run : IsRun full (at_rest nothing_known) until_both_stop (
   left_of_both : run.2.0.stored ≡ s
   left_of_both = sym (ap (λ (m : Moment). m.stored) run.2.2)
 
-  none_one_or_two : (s ≡ nothing_known) ⊎ ((s ≡ one) ⊎ (s ≡ two))
-  unfolding one two
-  none_one_or_two = by run.2.1.stored.0 (run.2.1.stored.1 ∙ ap (state_after full (take run.2.1.stored.0 (first_link ∷ second_link ∷ []))) acts_on_nothing)
+  none_or_two : (s ≡ nothing_known) ⊎ (s ≡ two)
+  unfolding two
+  none_or_two = by run.2.1.stored
     where
-      by : (k : ℕ) → run.2.0.stored ≡ state_after full (take k (first_link ∷ second_link ∷ [])) nothing_known → (s ≡ nothing_known) ⊎ ((s ≡ one) ⊎ (s ≡ two))
-      by zero e = inl (sym left_of_both ∙ e)
-      by (suc zero) e = inr (inl (sym left_of_both ∙ e))
-      by (suc (suc zero)) e = inr (inr (sym left_of_both ∙ e))
-      by (suc (suc (suc k))) e = inr (inr (sym left_of_both ∙ e))
+      by : (run.2.0.stored ≡ run.2.1.known) ⊎ (run.2.0.stored ≡ state_after full (first_link ∷ second_link ∷ []) run.2.1.known) → (s ≡ nothing_known) ⊎ (s ≡ two)
+      by (inl e) = inl (sym left_of_both ∙ e ∙ acts_on_nothing)
+      by (inr e) = inr (sym left_of_both ∙ e ∙ ap (state_after full (first_link ∷ second_link ∷ [])) acts_on_nothing)
+
+one_alone : (one ≡ nothing_known) ⊎ (one ≡ two) → ⊥
+one_alone (inl e) = let n : 1 ≡ 0 = sym edits_one ∙ ap (λ (t : State). length t.done) e in omega (arith, n)
+one_alone (inr e) = let n : 1 ≡ 2 = sym edits_one ∙ ap (λ (t : State). length t.done) e ∙ edits_two in omega (arith, n)
 
 pub two_in_flight : TwoInFlight
 unfolding digits step attempt one two three
 two_in_flight = record {
-  nothing_else = none_one_or_two;
+  without = (at_work nothing_known, opened_at nothing_known, (at_rest nothing_known, both_stopped nothing_known (inl refl), refl));
+  with = (at_work nothing_known, opened_at nothing_known, (at_rest two, both_stopped two (inr refl), refl));
+  never_one = λ run. one_alone (none_or_two one run);
+  nothing_else = none_or_two;
   kept = (
     at_work nothing_known,
     opened_at nothing_known,
     (
       at_rest two,
-      both_stopped,
+      both_stopped two (inr refl),
       (at_rest two, refl, (at_work two, opened_at two, (at_work two, first_again, (at_work two, second_again, (at_work three, signs_done, refl))))),
     ),
   );
@@ -171,4 +176,28 @@ pub excluded : Excluded
 excluded = record {
   forgotten = λ s h. ap (λ (m : Moment). m.stored) h;
   unopened = λ m h. absurd (let e : None ≡ Some h.known = h.acts_on in cc e);
+}
+
+-- ---- going on with a sheet
+
+half : State
+half = half_done
+
+edits_of_sheet : length (after sheet).done ≡ 2
+unfolding digits step attempt
+edits_of_sheet = refl
+
+edits_sent_again : length (state_after full sheet half).done ≡ 3
+unfolding digits step attempt half
+edits_sent_again = refl
+
+pub goes_on_behind_the_link : GoesOnBehindTheLink
+unfolding digits step attempt half
+goes_on_behind_the_link = record {
+  said = refl;
+  behind = refl;
+  goes_on = refl;
+  said_then = refl;
+  said_again = refl;
+  sent_again = λ e. let n : 3 ≡ 2 = sym edits_sent_again ∙ ap (λ (t : State). length t.done) e ∙ edits_of_sheet in omega (arith, n);
 }

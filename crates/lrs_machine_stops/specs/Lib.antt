@@ -1,3 +1,5 @@
+pub mod Known
 pub mod Stopped
 pub mod Laws
+pub mod Resumed
 pub mod Worked

@@ -1,5 +1,5 @@
 -- Runs that stop: what each step does to what is stored, and to the state on which the open desk acts.
-use Rattle.std.specs.Prelude.{◌≡◌, ℕ, List, [], ◌∷◌, ◌++◌, take, Option, Some, None}
+use Rattle.std.specs.Prelude.{◌≡◌, ◌⊎◌, List, [], ◌∷◌, ◌++◌, Option, Some, None}
 use Rattle.std.specs.List.{AllByRecursion}
 use Rattle.lrs_machine.specs.declared.answer.Answer.{Answer}
 use Rattle.lrs_machine.specs.declared.answer.Answer.TheVariants.{Done, Again, Refused}
@@ -51,13 +51,13 @@ IsAccepted (Done n) = Unit {0}
 IsAccepted (Again n) = Unit {0}
 IsAccepted (Refused c) = ⊥
 
--- Commands in flight, rs and then r: what is stored is what some first ones of them make, perhaps none, perhaps all.
+-- Commands in flight, rs and then r: what is stored is as it was, or what they all make.
 pub record StopsWithin (limits : Limits) (rs : List Record) (r : Record) (before after : Moment) : Type 0 where
   pub known : State
   pub acts_on : before.desk ≡ Some known
   -- those before the last were accepted: the desk ends a group at the first refusal
   pub accepted : AllByRecursion IsAccepted (answers limits rs known)
-  pub stored : (k : ℕ) × (after.stored ≡ state_after limits (take k (rs ++ r ∷ [])) known)
+  pub stored : (after.stored ≡ known) ⊎ (after.stored ≡ state_after limits (rs ++ r ∷ []) known)
   pub desk : after.desk ≡ None
 
 -- what a step may make of a moment
@@ -73,12 +73,14 @@ abbrev pub IsRun : Limits → Moment → List Step → Moment → Type 0
 IsRun limits before [] after = after ≡ before
 IsRun limits before (x ∷ xs) after = (m : Moment) × IsStep limits before x m × IsRun limits m xs after
 
--- The commands of a run of which the state is made: each that got its answer, in order, and of those in flight some first ones at their point, the others left out.
+-- The commands of a run of which the state is made: each that got its answer, in order, and all of those in flight together at their point, or none of them.
 pub data Keeps : List Step → List Record → Type 0 where
   nothing : Keeps [] []
   answered : (r : Record) (a : Answer) (xs : List Step) (rs : List Record) → Keeps xs rs → Keeps (Act r a ∷ xs) (r ∷ rs)
-  -- some first ones of those that were in flight, at their point
-  in_flight : (k : ℕ) (rs : List Record) (r : Record) (xs : List Step) (kept : List Record) → Keeps xs kept → Keeps (StopWithin rs r ∷ xs) (take k (rs ++ r ∷ []) ++ kept)
+  -- none of those that were in flight
+  none_in_flight : (sent : List Record) (r : Record) (xs : List Step) (rs : List Record) → Keeps xs rs → Keeps (StopWithin sent r ∷ xs) rs
+  -- all of them, at their point
+  all_in_flight : (sent : List Record) (r : Record) (xs : List Step) (rs : List Record) → Keeps xs rs → Keeps (StopWithin sent r ∷ xs) ((sent ++ r ∷ []) ++ rs)
   opened : (xs : List Step) (rs : List Record) → Keeps xs rs → Keeps (Open ∷ xs) rs
   unserved : (r : Record) (xs : List Step) (rs : List Record) → Keeps xs rs → Keeps (Unserved r ∷ xs) rs
   stopped : (xs : List Step) (rs : List Record) → Keeps xs rs → Keeps (Stop ∷ xs) rs

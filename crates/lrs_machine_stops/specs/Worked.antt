@@ -1,13 +1,15 @@
 -- Runs that stop, worked out: two links and a class, and a stop while the second link is in flight, or both.
-use Rattle.std.specs.Prelude.{◌≡◌, ◌⊎◌, List, [], ◌∷◌, map, codes, Some, refl}
+use Rattle.std.specs.Prelude.{◌≡◌, ◌⊎◌, true, List, [], ◌∷◌, map, codes, Some, refl}
 use Rattle.lrs_events.specs.declared.class.Kind.TheVariants.{Point}
-use Rattle.lrs_machine.specs.declared.answer.Answer.TheVariants.{Done, Again}
+use Rattle.lrs_machine.specs.declared.answer.Answer.TheVariants.{Done, Again, Refused}
+use Rattle.lrs_machine.specs.declared.answer.Cause.TheVariants as cause
 use Rattle.lrs_machine.specs.declared.answer.Limits.{Limits}
 use Rattle.lrs_machine.specs.declared.command.Command.TheVariants as verb
 use Rattle.lrs_machine.specs.State.{State, nothing_known}
-use Rattle.lrs_machine.specs.Machine.{Record, state_after}
+use Rattle.lrs_machine.specs.Machine.{Record, answers, state_after}
 use Rattle.lrs_machine_stops.specs.Stopped.{Step, Open, Act, StopWithin, Stop, Moment, at_rest, IsStep, IsRun, SendsFirst}
-use Rattle.lrs_machine_stops.specs.Laws.{StandInFor}
+use Rattle.lrs_machine_stops.specs.Laws.{StandInFor, IsKept}
+use Rattle.lrs_machine_stops.specs.Resumed.{undecided}
 
 abbrev pub full : Limits
 full = record { routes = 10_000; assets = 1_000_000; edits = 10_000_000; bounds = refl }
@@ -47,11 +49,12 @@ sent_where_kept = Open ∷ Act first_link (Done 1) ∷ StopWithin [] second_link
 abbrev pub at_work : State → Moment
 at_work s = record { stored = s; desk = Some s }
 
--- Both runs end with what the three commands make without a stop.
+-- Both runs end with what the three commands make without a stop. `Again` is answered where the stop kept the second link, as edit 2.
 pub record BothEndAlike : Type 0 where
   pub left_out : IsRun full (at_rest nothing_known) sent_where_left_out (at_work (after (first_link ∷ second_link ∷ signs ∷ [])))
   pub kept : IsRun full (at_rest nothing_known) sent_where_kept (at_work (after (first_link ∷ second_link ∷ signs ∷ [])))
   pub sent_first : SendsFirst sent_where_left_out × SendsFirst sent_where_kept
+  pub kept_as : IsKept second_link 2 (after (first_link ∷ [])) (after (first_link ∷ second_link ∷ []))
   pub keys : map (λ e. e.key) (after (first_link ∷ second_link ∷ signs ∷ [])).done ≡ codes "s1" ∷ codes "s2" ∷ codes "s3" ∷ []
 
 -- An acknowledged command is not dropped at an opening, and no command acts on a desk that is not open.
@@ -59,7 +62,7 @@ pub record Excluded : Type 0 where
   pub forgotten : (s : State) → IsStep full (at_work (after (first_link ∷ []))) Stop (at_rest s) → s ≡ after (first_link ∷ [])
   pub unopened : (m : Moment) → IsStep full (at_rest nothing_known) (Act first_link (Done 1)) m → ⊥
 
--- Both links are sent together, and the program stops while they are in flight. Both are stored, or the first one, or none; the second one is never stored alone.
+-- Both links are sent together, and the program stops while they are in flight. Both are stored, or none; neither is ever stored alone.
 abbrev pub until_both_stop : List Step
 until_both_stop = Open ∷ StopWithin (first_link ∷ []) second_link ∷ []
 
@@ -69,7 +72,32 @@ sent_where_both_kept = Open ∷ StopWithin (first_link ∷ []) second_link ∷ S
 
 -- The run ends with what the three commands make without a stop, and its answers stand in for theirs.
 pub record TwoInFlight : Type 0 where
-  pub nothing_else : (s : State) → IsRun full (at_rest nothing_known) until_both_stop (at_rest s) → (s ≡ nothing_known) ⊎ ((s ≡ after (first_link ∷ [])) ⊎ (s ≡ after (first_link ∷ second_link ∷ [])))
+  pub without : IsRun full (at_rest nothing_known) until_both_stop (at_rest nothing_known)
+  pub with : IsRun full (at_rest nothing_known) until_both_stop (at_rest (after (first_link ∷ second_link ∷ [])))
+  pub never_one : IsRun full (at_rest nothing_known) until_both_stop (at_rest (after (first_link ∷ []))) → ⊥
+  pub nothing_else : (s : State) → IsRun full (at_rest nothing_known) until_both_stop (at_rest s) → (s ≡ nothing_known) ⊎ (s ≡ after (first_link ∷ second_link ∷ []))
   pub kept : IsRun full (at_rest nothing_known) sent_where_both_kept (at_work (after (first_link ∷ second_link ∷ signs ∷ [])))
   pub sent_first : SendsFirst sent_where_both_kept
   pub given : StandInFor 0 sent_where_both_kept (Done 1 ∷ Done 2 ∷ Done 3 ∷ [])
+
+-- ---- going on with a sheet
+
+-- A route comes before the link that it runs over, and is refused; then come this link and another one.
+abbrev pub early_route : Record
+early_route = record { key = codes "s0"; command = verb.Route (codes "A") (record { link = 1; from = 0; to = 10; forward = true } ∷ []) (record { chainage = 0; measure = 0 } ∷ record { chainage = 10; measure = 10 } ∷ []) }
+
+abbrev pub sheet : List Record
+sheet = early_route ∷ first_link ∷ second_link ∷ []
+
+-- the replies are lost behind the first link
+abbrev pub half_done : State
+half_done = after (early_route ∷ first_link ∷ [])
+
+-- Going on behind the first link ends as the sheet would have without a stop. Sending the whole sheet again would not: the route would be accepted.
+pub record GoesOnBehindTheLink : Type 0 where
+  pub said : answers full sheet nothing_known ≡ Refused cause.NoLink ∷ Done 1 ∷ Done 2 ∷ []
+  pub behind : undecided sheet half_done ≡ second_link ∷ []
+  pub goes_on : state_after full (undecided sheet half_done) half_done ≡ after sheet
+  pub said_then : answers full (undecided sheet half_done) half_done ≡ Done 2 ∷ []
+  pub said_again : answers full sheet half_done ≡ Done 2 ∷ Again 1 ∷ Done 3 ∷ []
+  pub sent_again : state_after full sheet half_done ≡ after sheet → ⊥

@@ -1,7 +1,7 @@
 //! Runs that stop: no acknowledged command is lost, and none is doubled.
 //!
 //! A run is a list of steps over what is stored: openings, commands with their answers, and stops
-//! (`specs/Stopped`). What holds of all such runs is in `laws`; `worked` has small runs worked out.
+//! (`specs/Stopped`). What holds of all such runs is in `laws`; `examples` has small runs worked out.
 #![tactic(auto)]
 
 pub mod examples;

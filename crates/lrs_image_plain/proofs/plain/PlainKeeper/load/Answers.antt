@@ -1,17 +1,12 @@
 use Rattle.lrs_image_plain.proofs.Staged.{truncated}
 use Rattle.lrs_image_plain.proofs.plain.PlainKeeper.load.Goals as goal
 
-pub returns-in-Unsound-clause-found : goal.returns-in-Unsound-clause-found
-returns-in-Unsound-clause-found c =
+pub returns-in_err-made-clause-found : goal.returns-in_err-made-clause-found
+returns-in_err-made-clause-found c =
     let d = c.self.inside in
     truncated d.kept d.changes.items c.truncate.new.self.items d.base c.self.invariant.within c.truncate.ensures.items c.self.invariant.content
 
 pub returns-in_err-image-clause-found : goal.returns-in_err-image-clause-found
 returns-in_err-image-clause-found c =
-    let d = c.self.inside in
-    truncated d.kept d.changes.items c.truncate.new.self.items d.base c.self.invariant.within c.truncate.ensures.items c.self.invariant.content
-
-pub returns-clause-found : goal.returns-clause-found
-returns-clause-found c =
     let d = c.self.inside in
     truncated d.kept d.changes.items c.truncate.new.self.items d.base c.self.invariant.within c.truncate.ensures.items c.self.invariant.content
