@@ -6,27 +6,28 @@ ghost use Rattle.lrs_measure.specs.Limits.{most_assets, most_edits, most_routes}
 ghost use Rattle.lrs_image.specs.Keeping.{HoldsOnly};
 ghost use Rattle.lrs_store_keeper.specs.Holding.{MayHold};
 
-use lrs_cli_tasks::{ProgramFault, load_fault, open_desk};
-use lrs_desk::Desk;
+use lrs_cli_tasks::{ProgramFault, open_desk};
+use lrs_desk::{Desk, OpenFault, Staged};
 use lrs_store::{Tables, open_file as open_tables};
 use lrs_store_image::Reader;
 use sqlite::{FileFrom, FileStore, Unknown};
 use std::rt::HostRuntime;
 
 /// Keeps an inventory in a file and its log.
-pub type FileKeeper = Tables<FileStore<FileFrom<Unknown>>, Reader>;
+pub type FileKeeper = Staged<Tables<FileStore<FileFrom<Unknown>>, Reader>>;
 
 /// Opens the inventory in a file, or makes one where there is none. The desk acts on what the file holds, and on
 /// nothing else.
 pub fn open_file(rt: &HostRuntime, path: &str) -> Result<Desk<FileKeeper>, ProgramFault>
     ensures kept { IfOk result (λ desk. HoldsOnly
-        (MayHold (file_state desk.keeper.conn)) desk.image) }
+        (MayHold (file_state desk.keeper.batches.conn)) desk.image) }
     ensures open { IfOk result (λ desk. desk.must_reopen ≡ false) }
+    ensures behind { IfOk result (λ desk. desk.is_ahead ≡ false) }
     ensures limits { IfOk result (λ desk. (desk.limits.routes ≡ most_routes)
         × (desk.limits.assets ≡ most_assets) × (desk.limits.edits ≡ most_edits)) }
 {
     match open_tables(rt, path, Unknown, Reader) {
-        Ok(keeper) => open_desk(keeper, rt.alloc()),
-        Err(refusal) => Err(load_fault(refusal.fault)),
+        Ok(tables) => open_desk(Staged::over(tables, rt.alloc()), rt.alloc()),
+        Err(refusal) => Err(ProgramFault::from(OpenFault::from(refusal.fault))),
     }
 }

@@ -18,7 +18,7 @@ pub fn do_task<R: Runtime<A = Global> + Net, K: Keeper>(
     of_file: Pace,
     shown: Shown,
 ) -> Ending
-    requires open { desk.old.must_reopen ≡ false }
+    requires behind { desk.old.is_ahead ≡ false }
 {
     match task {
         Task::Sheet { kind, from } => match do_sheet(rt, desk, kind, from, of_file, shown) {

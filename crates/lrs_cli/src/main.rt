@@ -24,7 +24,7 @@ fn do_in_file(rt: &HostRuntime, path: &str, task: Task<'_>, shown: Shown) -> End
         Err(fault) => return Ending::Stopped(fault),
     };
     let ending = do_task(rt, &mut desk, task, Pace::InGroups, shown);
-    drop(close_files(desk.into_keeper()));
+    drop(close_files(desk.into_keeper().into_inner()));
     ending
 }
 

@@ -4,8 +4,6 @@ use Rattle.lrs_machine.specs.declared.image.Image.{Image}
 use Rattle.lrs_machine.specs.declared.table.Table.{Table}
 use Rattle.lrs_machine.specs.declared.table.Table.TheVariants as table
 use Rattle.lrs_image.specs.Keeping.{HasRisen}
-use Rattle.lrs_image.specs.declared.keeper.LoadFault.{LoadFault}
-use Rattle.lrs_image.specs.declared.keeper.LoadFault.TheVariants as load
 use Rattle.lrs_desk.specs.declared.desk.OpenFault.{OpenFault}
 use Rattle.lrs_desk.specs.declared.desk.OpenFault.TheVariants as opened
 use Rattle.lrs_desk.specs.declared.desk.Fault.{Fault}
@@ -42,12 +40,6 @@ fault_text Write = codes "Write"
 fault_text BadHeader = codes "BadHeader"
 fault_text BadCsv = codes "BadCsv"
 fault_text Door = codes "Door"
-
--- what it is for the program that a keeper has no image
-abbrev pub fault_of_load : LoadFault → ProgramFault
-fault_of_load load.Memory = Memory
-fault_of_load load.Store = Open
-fault_of_load (load.Unsound t) = Unsound t
 
 -- what it is for the program that a desk is not opened
 abbrev pub fault_of_open : OpenFault → ProgramFault

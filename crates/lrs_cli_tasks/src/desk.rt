@@ -4,10 +4,10 @@ ghost use Rattle.std.specs.Prelude.{◌≡◌, ◌↔◌, IfOk, IfErr, IsTrue, c
 ghost use Rattle.lrs_measure.specs.Limits.{most_assets, most_edits, most_routes};
 ghost use Rattle.lrs_machine.specs.Image.{nothing};
 ghost use Rattle.lrs_image.specs.Keeping.{HoldsOnly};
-ghost use Rattle.lrs_cli_tasks.specs.Faults.{HasNoDesk, fault_of_load, fault_of_open};
+ghost use Rattle.lrs_cli_tasks.specs.Faults.{HasNoDesk};
 
 use crate::fault::ProgramFault;
-use lrs_desk::{Desk, Keeper, LoadFault, OpenFault, Plain};
+use lrs_desk::{Desk, Keeper, Plain};
 use lrs_machine::Limits;
 use std::alloc::Global;
 
@@ -20,7 +20,8 @@ pub fn is_in_memory(db: &str) -> bool
 
 /// Opens a fresh inventory in memory, which ends with the program.
 pub fn open_in_memory(alloc: Global) -> Result<Desk<Plain>, ProgramFault>
-    ensures fresh { IfOk result (λ desk. (desk.image ≡ nothing) × (desk.must_reopen ≡ false)) }
+    ensures fresh { IfOk result (λ desk. (desk.image ≡ nothing) × (desk.must_reopen ≡ false)
+        × (desk.is_ahead ≡ false)) }
     ensures limits { IfOk result (λ desk. (desk.limits.routes ≡ most_routes)
         × (desk.limits.assets ≡ most_assets) × (desk.limits.edits ≡ most_edits)) }
     ensures memory { IfErr result (λ e. e ≡ ProgramFault.Memory) }
@@ -31,28 +32,6 @@ pub fn open_in_memory(alloc: Global) -> Result<Desk<Plain>, ProgramFault>
     }
 }
 
-/// Why the program stops where no keeper is there.
-pub fn load_fault(fault: LoadFault) -> ProgramFault
-    ensures { result ≡ fault_of_load fault }
-{
-    match fault {
-        LoadFault::Memory => ProgramFault::Memory,
-        LoadFault::Store => ProgramFault::Open,
-        LoadFault::Unsound(table) => ProgramFault::Unsound(table),
-    }
-}
-
-// Why the program stops where no desk is opened.
-fn open_fault(fault: OpenFault) -> ProgramFault
-    ensures { result ≡ fault_of_open fault }
-{
-    match fault {
-        OpenFault::Memory => ProgramFault::Memory,
-        OpenFault::Keep => ProgramFault::Open,
-        OpenFault::Unsound(table) => ProgramFault::Unsound(table),
-    }
-}
-
 /// Opens a desk with full limits over a keeper. It acts on what an opening of the keeper may find, and on nothing else.
 ///
 /// # Errors
@@ -60,12 +39,13 @@ fn open_fault(fault: OpenFault) -> ProgramFault
 pub fn open_desk<K: Keeper + Drop>(keeper: K, alloc: Global) -> Result<Desk<K>, ProgramFault>
     ensures kept { IfOk result (λ desk. HoldsOnly (K.may_hold desk.keeper) desk.image) }
     ensures open { IfOk result (λ desk. desk.must_reopen ≡ false) }
+    ensures behind { IfOk result (λ desk. desk.is_ahead ≡ false) }
     ensures limits { IfOk result (λ desk. (desk.limits.routes ≡ most_routes)
         × (desk.limits.assets ≡ most_assets) × (desk.limits.edits ≡ most_edits)) }
     ensures fault { IfErr result (HasNoDesk K.failures K.may_hold keeper) }
 {
     match Desk::open(keeper, Limits::full(), alloc) {
         Ok(desk) => Ok(desk),
-        Err((fault, _)) => Err(open_fault(fault)),
+        Err((fault, _)) => Err(ProgramFault::from(fault)),
     }
 }

@@ -3,7 +3,9 @@
 ghost use Rattle.std.specs.Prelude.{◌≡◌};
 ghost use Rattle.lrs_cli_tasks.specs.Faults.{table_text};
 
+use lrs_desk::{Fault, OpenFault};
 use lrs_machine::Table;
+use lrs_sheet::SheetFault;
 use std::fmt;
 
 /// Why the program stopped before its job was done.
@@ -25,6 +27,51 @@ pub enum ProgramFault {
     BadCsv,
     /// The port cannot be listened on.
     Door,
+}
+
+impl From<OpenFault> for ProgramFault {
+    ghost use Rattle.lrs_cli_tasks.specs.Faults.{fault_of_open};
+
+    ghost from_gives = { λ fault e. e ≡ fault_of_open fault };
+
+    fn from(fault: OpenFault) -> Self {
+        match fault {
+            OpenFault::Memory => ProgramFault::Memory,
+            OpenFault::Keep => ProgramFault::Open,
+            OpenFault::Unsound(table) => ProgramFault::Unsound(table),
+        }
+    }
+}
+
+impl From<Fault> for ProgramFault {
+    ghost use Rattle.lrs_cli_tasks.specs.Faults.{fault_of_desk};
+
+    ghost from_gives = { λ fault e. e ≡ fault_of_desk fault };
+
+    fn from(fault: Fault) -> Self {
+        match fault {
+            Fault::Memory => ProgramFault::Memory,
+            Fault::Keep => ProgramFault::Keep,
+            Fault::MustReopen => ProgramFault::MustReopen,
+        }
+    }
+}
+
+impl From<SheetFault> for ProgramFault {
+    ghost use Rattle.lrs_cli_tasks.specs.Faults.{fault_of_sheet};
+
+    ghost from_gives = { λ fault e. e ≡ fault_of_sheet fault };
+
+    fn from(fault: SheetFault) -> Self {
+        match fault {
+            SheetFault::Read => ProgramFault::Read,
+            SheetFault::Write => ProgramFault::Write,
+            SheetFault::BadHeader => ProgramFault::BadHeader,
+            SheetFault::BadCsv => ProgramFault::BadCsv,
+            SheetFault::Desk(fault) => ProgramFault::from(fault),
+            SheetFault::Memory => ProgramFault::Memory,
+        }
+    }
 }
 
 fn table_name(table: Table) -> &'static str

@@ -9,7 +9,7 @@ mod questions;
 mod sheets;
 mod task;
 
-pub use desk::{is_in_memory, load_fault, open_desk, open_in_memory};
+pub use desk::{is_in_memory, open_desk, open_in_memory};
 pub use endings::{Ending, status};
 pub use fault::ProgramFault;
 pub use progress::Shown;

@@ -52,7 +52,7 @@ fn print_answer<K: Keeper, W: Write>(
     question: Question,
     writer: &mut W,
 ) -> Result<(), Unanswered>
-    requires open { desk.now.must_reopen ≡ false }
+    requires behind { desk.now.is_ahead ≡ false }
     ensures { IsPrinted (IsTold desk.now.image question) told_text (W.contents writer.old)
         (W.contents writer.new) result }
 {
@@ -96,7 +96,7 @@ pub fn answer<K: Keeper, W: Write + Drop>(
     question: Question,
     to: W,
 ) -> Result<(W, Ending), ProgramFault>
-    requires open { desk.now.must_reopen ≡ false }
+    requires behind { desk.now.is_ahead ≡ false }
     ensures answered { IfOk result (λ done. HasAnswered desk.now.image question
         (W.contents to) (W.contents done.0) done.1) }
     ensures faults { IfErr result (λ e. (e ≡ ProgramFault.Memory) ⊎ (e ≡ ProgramFault.Write)) }
@@ -121,7 +121,7 @@ pub fn do_question<R: Runtime<A = Global>, K: Keeper>(
     desk: &Desk<K>,
     question: Question,
 ) -> Ending
-    requires open { desk.now.must_reopen ≡ false }
+    requires behind { desk.now.is_ahead ≡ false }
 {
     match answer(rt.alloc(), desk, question, io::writer(rt)) {
         Ok((_, ending)) => ending,

@@ -2,12 +2,11 @@
 
 ghost use Rattle.std.specs.Prelude.{◌≡◌, ◌≤◌, ◌⊎◌, IfOk, IfErr, IfSome};
 ghost use Rattle.lrs_machine.specs.Image.{state_of};
-ghost use Rattle.lrs_cli_tasks.specs.Faults.{fault_of_desk, fault_of_sheet};
 ghost use Rattle.lrs_sheet.specs.Sheets.{Runs};
 
 use crate::fault::ProgramFault;
 use crate::progress::{Progress, Shown};
-use lrs_desk::{Desk, Fault, Keeper};
+use lrs_desk::{Desk, Keeper};
 use lrs_sheet::{RECORDS_TOGETHER, Sheet, SheetFault, Tally, run_sheet};
 use std::alloc::Global;
 use std::io::{BufWriter, ErrorKind, LineWriter, Read, Write};
@@ -16,29 +15,6 @@ use std::{fs, io};
 
 // The replies to a file go out in pieces of this many bytes.
 const REPLY_BUFFER: usize = 65_536;
-
-fn desk_fault(fault: Fault) -> ProgramFault
-    ensures { result ≡ fault_of_desk fault }
-{
-    match fault {
-        Fault::Memory => ProgramFault::Memory,
-        Fault::Keep => ProgramFault::Keep,
-        Fault::MustReopen => ProgramFault::MustReopen,
-    }
-}
-
-fn sheet_fault(fault: SheetFault) -> ProgramFault
-    ensures { result ≡ fault_of_sheet fault }
-{
-    match fault {
-        SheetFault::Read => ProgramFault::Read,
-        SheetFault::Write => ProgramFault::Write,
-        SheetFault::BadHeader => ProgramFault::BadHeader,
-        SheetFault::BadCsv => ProgramFault::BadCsv,
-        SheetFault::Desk(fault) => desk_fault(fault),
-        SheetFault::Memory => ProgramFault::Memory,
-    }
-}
 
 // When reply lines are handed to the operating system.
 #[derive(Clone, Copy, Debug, PartialEq, Eq)]
@@ -93,13 +69,11 @@ fn write_lines<S: Read + Drop, W: Write + Drop, K: Keeper>(
     let Ok(lines) = LineWriter::new(alloc, to) else {
         return Err(ProgramFault::Memory);
     };
-    match write_replies(alloc, kind, sheet, together, 0, lines, desk) {
-        Ok((_, outcome)) => outcome.map_err(sheet_fault),
-        Err(fault) => Err(fault),
-    }
+    let (_, outcome) = write_replies(alloc, kind, sheet, together, 0, lines, desk)?;
+    Ok(outcome?)
 }
 
-// Runs a sheet's bytes, and writes the reply lines in pieces of many.
+// Runs a sheet's bytes, one record after another, and writes the reply lines in pieces of many.
 fn write_pieces<S: Read + Drop, W: Write + Drop, K: Keeper>(
     alloc: Global,
     kind: Sheet,
@@ -107,10 +81,8 @@ fn write_pieces<S: Read + Drop, W: Write + Drop, K: Keeper>(
     to: W,
     desk: &mut Desk<K>,
 ) -> Result<Tally, ProgramFault> {
-    match write_replies(alloc, kind, sheet, RECORDS_TOGETHER, REPLY_BUFFER, to, desk) {
-        Ok((_, outcome)) => outcome.map_err(sheet_fault),
-        Err(fault) => Err(fault),
-    }
+    let (_, outcome) = write_replies(alloc, kind, sheet, 1, REPLY_BUFFER, to, desk)?;
+    Ok(outcome?)
 }
 
 // Only a file has all its records already; on a pipe or a terminal they may come one by one.

@@ -1,11 +1,12 @@
--- What is seen of a keeper in memory whose device fails at one commit.
+-- What is seen of a keeper in memory whose device fails.
 use Rattle.std.specs.Prelude.{ℕ}
 use Rattle.lrs_image_plain.specs.Plain.{PlainView}
 use Rattle.lrs_image_plain.specs.declared.failing.Leaves.{Leaves}
 
 pub record FailingView : Type 0 where
   pub plain : PlainView
-  -- how many commits it still serves
-  pub serves : ℕ
+  -- how many loads and commits it still does
+  pub loads : ℕ
+  pub commits : ℕ
   pub leaves : Leaves
   pub failures : ℕ

@@ -1,4 +1,4 @@
-//! A keeper in memory whose device fails at one commit, for tests.
+//! A keeper in memory whose device fails, for tests.
 
 ghost use Rattle.std.specs.Prelude.{◌≡◌};
 
@@ -17,11 +17,12 @@ pub enum Leaves {
     New,
 }
 
-/// Keeps an image in memory. Its device does a number of commits, and fails at the one after them.
+/// Keeps an image in memory. Its device does a number of loads and of commits, and fails at each one after them.
 #[derive(Drop)]
 pub struct Failing {
     plain: Plain,
-    serves: u64,
+    loads: u64,
+    commits: u64,
     leaves: Leaves,
     failures: u64,
 }
@@ -31,17 +32,19 @@ impl Model for Failing {
 
     ghost Value = { FailingView };
 
-    ghost view = { λ f. record { plain = f.plain; serves = f.serves; leaves = f.leaves; failures = f.failures } };
+    ghost view = { λ f. record { plain = f.plain; loads = f.loads; commits = f.commits; leaves = f.leaves; failures = f.failures } };
 }
 
 impl Failing {
-    /// Keeps what this keeper has.
-    pub fn over(plain: Plain, serves: u64, leaves: Leaves) -> Failing
-        ensures { result ≡ record { plain = plain; serves = serves; leaves = leaves; failures = 0 } }
+    /// Keeps what this keeper has, for this many loads and commits.
+    pub fn over(plain: Plain, loads: u64, commits: u64, leaves: Leaves) -> Failing
+        ensures { result ≡ record
+            { plain = plain; loads = loads; commits = commits; leaves = leaves; failures = 0 } }
     {
         Failing {
             plain,
-            serves,
+            loads,
+            commits,
             leaves,
             failures: 0,
         }
@@ -68,7 +71,13 @@ impl Keeper for Failing {
     ghost staged = { λ f. f.plain.staged };
 
     fn load(&mut self, alloc: Global) -> Result<Image, LoadFault> {
-        self.plain.load(alloc)
+        if self.loads > 0 {
+            self.loads -= 1;
+            return self.plain.load(alloc);
+        }
+        self.failures = self.failures.saturating_add(1);
+        self.plain.drop_staged();
+        Err(LoadFault::Store)
     }
 
     fn stage(&mut self, change: Change) -> Result<(), AllocError> {
@@ -76,8 +85,8 @@ impl Keeper for Failing {
     }
 
     fn commit(&mut self) -> Result<(), CommitFailed> {
-        if self.serves > 0 {
-            self.serves -= 1;
+        if self.commits > 0 {
+            self.commits -= 1;
             return self.plain.commit();
         }
         self.failures = self.failures.saturating_add(1);

@@ -60,7 +60,7 @@ fn asked_reply<K: Keeper>(
     desk: &Desk<K>,
 ) -> Result<Response, AllocError>
     requires verb { verb_of resource ≡ Get }
-    requires open { desk.now.must_reopen ≡ false }
+    requires behind { desk.now.is_ahead ≡ false }
     ensures { IfOk result (λ reply. AnswersAsked desk.now.image resource argument.now
         (answer_of reply)) }
 {
@@ -70,7 +70,7 @@ fn asked_reply<K: Keeper>(
     }
 }
 
-// Once a commit has failed, nothing is answered: not even that a question cannot be read.
+// Once a commit of several commands has failed, nothing is answered: not even that a question cannot be read.
 fn question_reply<K: Keeper>(
     alloc: Global,
     resource: Resource,
@@ -80,9 +80,9 @@ fn question_reply<K: Keeper>(
     requires { verb_of resource ≡ Get }
     ensures answered { AnswersAsked desk.now.image resource argument.now (answer_of result)
         ⊎ (answer_of result ≡ empty_answer 503) }
-    ensures broken { desk.now.must_reopen ≡ true → answer_of result ≡ empty_answer 503 }
+    ensures broken { desk.now.is_ahead ≡ true → answer_of result ≡ empty_answer 503 }
 {
-    if desk.must_reopen() {
+    if desk.is_ahead() {
         return Response::empty(StatusCode::SERVICE_UNAVAILABLE);
     }
     match asked_reply(alloc, resource, argument, desk) {
