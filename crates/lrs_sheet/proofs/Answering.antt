@@ -1,8 +1,6 @@
 -- Answers under the keys of their commands, one after the other.
-use Rattle.std.proofs.Common.{◌≡◌, ℕ, zero, suc, nat_le, true, false, ◌<◌, ◌≤◌, ◌+◌, List, [], ◌∷◌, ◌++◌, Option, Result, length, take, get_or, refl, sym, ap, ◌∙◌, arith}
-use Rattle.std.proofs.lemmas.Bool.{leb-true}
-use Rattle.std.proofs.lemmas.Bool.Decides.{nat_tests}
-use Rattle.std.proofs.lemmas.List.{take_more, length-take-le, take_all, take-take, take-map, length-map}
+use Rattle.std.proofs.Common.{◌≡◌, inl, inr, ℕ, ◌<◌, ◌≤◌, ◌+◌, List, [], ◌∷◌, ◌++◌, Option, Result, length, take, get_or, refl, sym, ap, ◌∙◌, arith}
+use Rattle.std.proofs.lemmas.List.{take_more, length-take-le, take_all, take-map, length-map}
 use Rattle.csv.proofs.WriteFacts.{appends-more}
 use Rattle.std.specs.Io.KnownBytes.{Appends}
 use Rattle.lrs_machine.specs.Image.{state_of}
@@ -12,7 +10,7 @@ use Rattle.lrs_machine.specs.State.{State}
 use Rattle.lrs_machine.specs.declared.answer.Limits.{Limits}
 use Rattle.lrs_machine.specs.declared.image.Image.{Image}
 use Rattle.lrs_machine.specs.declared.table.Table.{Table}
-use Rattle.lrs_desk.specs.Desk.{records_of, DoesFirst, IsAmid, BreaksAmid, IsUnchanged}
+use Rattle.lrs_desk.specs.Desk.{records_of, DoesFirst, BreaksAmid, HasBroken, IsOldOrNext, IsUnchanged}
 use Rattle.lrs_desk.specs.DeskView.{DeskView}
 use Rattle.lrs_desk.specs.declared.desk.Fault.{Fault}
 use Rattle.lrs_desk.specs.declared.desk.Fault.TheVariants as stop
@@ -22,7 +20,8 @@ use Rattle.lrs_machine.specs.declared.command.Command.{Command}
 use Rattle.lrs_sheet.specs.declared.reply.Reply.{Reply}
 use Rattle.lrs_sheet.specs.declared.reply.Tally.{Tally}
 use Rattle.lrs_sheet.specs.Replies.{counted, lines_of, reply_text}
-use Rattle.lrs_sheet.specs.Waiting.{reply_of, replies_of, replies_to, counted_all, DoesAll, IsAfterSome, IsAheadBySome, StopsAtFirst}
+use Rattle.lrs_sheet.specs.Sheets.{StandsForEither}
+use Rattle.lrs_sheet.specs.Waiting.{reply_of, replies_of, replies_to, counted_all, done_all, CommandsInFlight, DoesAll, IsAheadBySome, StopsAtFirst}
 use Rattle.lrs_sheet.proofs.Done.{lines-more}
 
 -- one more answer
@@ -96,29 +95,11 @@ does_first limits commands given before after old new tally counts does wrote co
       counted = counted ∙ ap (counted_all tally) same;
     }
 
--- some first ones of some first ones
-front_in : {X : Type 0} (k n : ℕ) (xs : List X) → (j : ℕ) × (take k (take n xs) ≡ take j xs)
-front_in {X} k n xs = elim (nat_le k n) as (λ b. nat_le k n ≡ b → (j : ℕ) × (take k (take n xs) ≡ take j xs)) [
-  | true ↦ λ e. (k, take-take k n xs (leb-true k n e))
-  | false ↦ λ e. (n, take_all k (take n xs) (short k n xs e))
-] refl
-  where
-    fits : (n : ℕ) (xs : List X) → length (take n xs) ≤ n
-    fits zero xs = omega arith
-    fits (suc n) [] = omega arith
-    fits (suc n) (x ∷ xs) = let rest = fits n xs in omega (arith, rest)
-
-    short : (k n : ℕ) (xs : List X) → nat_le k n ≡ false → length (take n xs) ≤ k
-    short k n xs e =
-        let less : n < k = grind (arith, nat_tests) in
-        let rest = fits n xs in
-        omega (arith, less, rest)
-
--- what is found after some of some first commands
-after_some : (limits : Limits) (n : ℕ) (commands : List (Text × Command)) (s : State) (c : Result Image Table) → IsAmid limits (take n (records_of commands)) s c → IsAfterSome limits commands s c
-after_some limits n commands s c amid =
-    let (j, same) = front_in amid.stored n (records_of commands) in
-    (j, (amid.image, amid.found, amid.state ∙ ap (λ (rs : List Record). state_after limits rs s) (same ∙ front_of j commands)))
+-- what is found where the first commands are in flight
+found_either : (limits : Limits) (n : ℕ) (commands : List (Text × Command)) (before : Image) (c : Result Image Table) → IsOldOrNext limits (take n (records_of commands)) before c
+    → StandsForEither c (state_of before) (done_all limits (take n commands) (state_of before))
+found_either limits n commands before c (inl is) = inl (before, is, refl)
+found_either limits n commands before c (inr (image, is, state, sound)) = inr (image, is, state ∙ ap (λ (rs : List Record). state_after limits rs (state_of before)) (front_of n commands))
 
 -- as many commands as records
 as_many_records : (commands : List (Text × Command)) → length (records_of commands) ≡ length commands
@@ -134,18 +115,44 @@ ahead_by limits n commands before after some few state = (
   state ∙ ap (λ (rs : List Record). state_after limits rs before) (front_of n commands),
 )
 
--- a desk that did nothing, or whose commit failed
-pub stops_first : {K : Type 0} (holds : K → Result Image Table → Type 0) (failures : K → ℕ) (commands : List (Text × Command)) (before after : DeskView K) (text : Option Text) (e : Fault)
-    → (e ≡ stop.Memory → IsUnchanged holds before after) → (e ≡ stop.Keep → BreaksAmid holds failures (records_of commands) before after) → (e ≡ stop.MustReopen → IsUnchanged holds before after)
-    → StopsAtFirst holds commands before after text text (fault.Desk e)
-stops_first holds failures commands before after text stop.Memory memory keep stays = ((memory refl).image, refl)
-stops_first holds failures commands before after text stop.Keep memory keep stays =
-    let broken = keep refl in (
-      refl,
-      λ c h. after_some before.limits (broken.accepted + 1) commands (state_of before.image) c (broken.content c h),
-      ahead_by before.limits (broken.accepted + 1) commands (state_of before.image) (state_of after.image) (omega arith) (let few = broken.few in omega (arith, few)) broken.image,
-    )
-stops_first holds failures commands before after text stop.MustReopen memory keep stays = ((stays refl).image, refl)
+module _ {K : Type 0} (holds : K → Result Image Table → Type 0) (failures : K → ℕ) (before after : DeskView K) where
+  flies_alone : (c : Text × Command) → HasBroken holds failures c.0 c.1 before after → CommandsInFlight holds before.limits (c ∷ []) (state_of before.image) after
+  flies_alone c broken = record {
+    flying = 1;
+    some = omega arith;
+    few = omega arith;
+    image = inl (record { one = refl; state = ap state_of broken.image; behind = broken.is_ahead });
+    alone = λ one. broken.is_ahead;
+    content = λ x h. found_either before.limits 1 (c ∷ []) before.image x (broken.content x h);
+  }
+
+  flies_together : (commands : List (Text × Command)) → 2 ≤ length commands → BreaksAmid holds failures (records_of commands) before after → CommandsInFlight holds before.limits commands (state_of before.image) after
+  flies_together commands several broken = record {
+    flying = broken.accepted + 1;
+    some = omega arith;
+    few = (let few = broken.few in let same = as_many_records commands in omega (arith, few, same));
+    image = inr (record {
+      state = broken.image ∙ ap (λ (rs : List Record). state_after before.limits rs (state_of before.image)) (front_of (broken.accepted + 1) commands);
+      ahead = broken.is_ahead;
+    });
+    alone = λ one. absurd (omega (arith, one, several));
+    content = λ x h. found_either before.limits (broken.accepted + 1) commands before.image x (broken.content x h);
+  }
+
+  -- a desk that did not answer
+  did_not : (commands : List (Text × Command)) (text : Option Text) (e : Fault) → (e ≡ stop.Memory → IsUnchanged holds before after) → (e ≡ stop.Keep → CommandsInFlight holds before.limits commands (state_of before.image) after)
+      → (e ≡ stop.MustReopen → IsUnchanged holds before after) → StopsAtFirst holds commands before after text text (fault.Desk e)
+  did_not commands text stop.Memory memory keep stays = ((memory refl).image, refl)
+  did_not commands text stop.Keep memory keep stays = (refl, keep refl)
+  did_not commands text stop.MustReopen memory keep stays = ((stays refl).image, refl)
+
+  pub stops_alone : (c : Text × Command) (text : Option Text) (e : Fault) → (e ≡ stop.Memory → IsUnchanged holds before after) → (e ≡ stop.Keep → HasBroken holds failures c.0 c.1 before after)
+      → (e ≡ stop.MustReopen → IsUnchanged holds before after) → StopsAtFirst holds (c ∷ []) before after text text (fault.Desk e)
+  stops_alone c text e memory keep stays = did_not (c ∷ []) text e memory (λ is. flies_alone c (keep is)) stays
+
+  pub stops_together : (commands : List (Text × Command)) (text : Option Text) (e : Fault) → 2 ≤ length commands → (e ≡ stop.Memory → IsUnchanged holds before after) → (e ≡ stop.Keep → BreaksAmid holds failures (records_of commands) before after)
+      → (e ≡ stop.MustReopen → IsUnchanged holds before after) → StopsAtFirst holds commands before after text text (fault.Desk e)
+  stops_together commands text e several memory keep stays = did_not commands text e memory (λ is. flies_together commands several (keep is)) stays
 
 -- a desk that did some, of which not all lines are written
 pub wrote_some : {K : Type 0} (holds : K → Result Image Table → Type 0) (commands : List (Text × Command)) (given : List Answer) (before after : DeskView K) (old new : Option Text)

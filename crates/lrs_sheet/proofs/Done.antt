@@ -80,11 +80,11 @@ count-more-answer tally (Refused cause) = omega arith
 
 -- a desk that stays goes along
 pub stays : {K : Type 0} {holds : K → Result Image Table → Type 0} (desk : DeskView K) → GoesAlong holds desk desk
-stays desk = record { limits = refl; kept = λ kept. kept; reopen = refl }
+stays desk = record { limits = refl; kept = λ kept. kept; reopen = refl; ahead = refl }
 
 -- one that goes along, and goes along
 pub along : {K : Type 0} {holds : K → Result Image Table → Type 0} (a b c : DeskView K) → GoesAlong holds a b → GoesAlong holds b c → GoesAlong holds a c
-along a b c first next = record { limits = next.limits ∙ first.limits; kept = λ kept. next.kept (first.kept kept); reopen = next.reopen ∙ first.reopen }
+along a b c first next = record { limits = next.limits ∙ first.limits; kept = λ kept. next.kept (first.kept kept); reopen = next.reopen ∙ first.reopen; ahead = next.ahead ∙ first.ahead }
 
 -- before the first turn
 pub start-done : {K : Type 0} {holds : K → Result Image Table → Type 0} {R : Type 0} (sheet : Sheet) (rem : R → Option (List ℕ)) (rows : Reader R) (desk : DeskView K) (contents : Option (List ℕ)) (tally : Tally)
@@ -168,15 +168,15 @@ all-done sheet together rem rows now before after old new tally turns done ends 
 
 -- a record left the desk after others
 module _ {K : Type 0} {holds : K → Result Image Table → Type 0} (X Y : Type 0) (a b c : DeskView K) where
-  by-fault : (e : SheetFault) → GoesAlong holds a b → LeavesDesk {X = Y} holds b c (Err e) → LeavesDesk {X = X} holds a c (Err e)
-  by-fault (fault.Desk stop.Keep) first next = record { limits = next.limits ∙ first.limits; reopen = next.reopen }
-  by-fault (fault.Desk stop.Memory) first next = along a b c first next
-  by-fault (fault.Desk stop.MustReopen) first next = (along a b c first next.0, sym first.reopen ∙ next.1)
-  by-fault fault.BadHeader first next = along a b c first next
-  by-fault fault.BadCsv first next = along a b c first next
-  by-fault fault.Read first next = along a b c first next
-  by-fault fault.Write first next = along a b c first next
-  by-fault fault.Memory first next = along a b c first next
+  by-fault : (e : SheetFault) → (e ≡ fault.BadHeader → ⊥) → GoesAlong holds a b → LeavesDesk {X = Y} holds b c (Err e) → LeavesDesk {X = X} holds a c (Err e)
+  by-fault (fault.Desk stop.Keep) read first next = record { limits = next.limits ∙ first.limits; reopen = next.reopen }
+  by-fault (fault.Desk stop.Memory) read first next = along a b c first next
+  by-fault (fault.Desk stop.MustReopen) read first next = (along a b c first next.0, sym first.reopen ∙ next.1)
+  by-fault fault.BadHeader read first next = absurd (read refl)
+  by-fault fault.BadCsv read first next = along a b c first next
+  by-fault fault.Read read first next = along a b c first next
+  by-fault fault.Write read first next = along a b c first next
+  by-fault fault.Memory read first next = along a b c first next
 
-  pub leaves-after : (e : SheetFault) (r : Result X SheetFault) → r ≡ Err e → GoesAlong holds a b → LeavesDesk {X = Y} holds b c (Err e) → LeavesDesk holds a c r
-  leaves-after e r is first next = subst (λ q. LeavesDesk holds a c q) (sym is) (by-fault e first next)
+  pub leaves-after : (e : SheetFault) (r : Result X SheetFault) → r ≡ Err e → (e ≡ fault.BadHeader → ⊥) → GoesAlong holds a b → LeavesDesk {X = Y} holds b c (Err e) → LeavesDesk holds a c r
+  leaves-after e r is read first next = subst (λ q. LeavesDesk holds a c q) (sym is) (by-fault e read first next)

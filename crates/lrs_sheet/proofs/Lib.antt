@@ -7,3 +7,4 @@ pub mod Together
 pub mod Waits
 pub mod Stopping
 pub mod Taking
+pub mod Left

@@ -1,5 +1,5 @@
 -- What is left where not all of the records whose commands wait are done.
-use Rattle.std.proofs.Common.{◌≡◌, ℕ, zero, suc, ◌<◌, ◌≤◌, ◌+◌, List, [], ◌∷◌, ◌++◌, Option, Result, Err, length, take, drop, refl, ap, arith, append_assoc, length-append}
+use Rattle.std.proofs.Common.{◌≡◌, ◌⊎◌, inl, inr, false, ℕ, zero, suc, ◌<◌, ◌≤◌, List, [], ◌∷◌, ◌++◌, Option, Result, Err, length, take, drop, refl, ap, arith, append_assoc, length-append}
 use Rattle.std.specs.Io.KnownBytes.{Appends}
 use Rattle.std.proofs.lemmas.List.{length-drop, length-take-le, take-append-drop}
 use Rattle.csv.specs.declared.reader.Reader.{Reader}
@@ -16,9 +16,9 @@ use Rattle.lrs_sheet.specs.declared.fault.SheetFault.{SheetFault}
 use Rattle.lrs_sheet.specs.declared.fault.SheetFault.TheVariants as fault
 use Rattle.lrs_sheet.specs.declared.reply.Tally.{Tally}
 use Rattle.lrs_sheet.specs.Replies.{lines_of}
-use Rattle.lrs_sheet.specs.Rows.{Begins, BreaksAfter, DoesRows, DoesUpTo, RunsAhead, Stops}
-use Rattle.lrs_sheet.specs.Sheets.{AreAnswered, ComeNext, HaveWidth, IsAheadByRecords}
-use Rattle.lrs_sheet.specs.Waiting.{BreaksOffAmong, DoesFront, IsAheadBySome, IsWaiting, Say, StopsAmong, done_all, replies_to}
+use Rattle.lrs_sheet.specs.Rows.{Begins, BreaksAfter, DoesRows, DoesUpTo, FailsToKeep, Stops}
+use Rattle.lrs_sheet.specs.Sheets.{AreAnswered, ComeNext, HaveWidth, RecordsInFlight}
+use Rattle.lrs_sheet.specs.Waiting.{BreaksOffAmong, CommandsInFlight, DoesFront, IsAhead, IsStill, IsWaiting, Say, StopsAmong, done_all, replies_to}
 use Rattle.lrs_sheet.proofs.Done.{begins}
 use Rattle.lrs_sheet.proofs.Waits.{answered-more, replied-append, replied_said, width-append}
 
@@ -55,6 +55,17 @@ width_rest : (sheet : Sheet) (n : ℕ) (records : List (List Text)) → HaveWidt
 width_rest sheet zero records wide = wide
 width_rest sheet (suc n) [] wide = tt
 width_rest sheet (suc n) (r ∷ records) wide = width_rest sheet n records wide.1
+
+module _ {K : Type 0} (flying : ℕ) (settled next : State) (end : DeskView K) where
+  -- for what a desk's image stands while commands are in flight
+  image_of : IsStill flying settled end ⊎ IsAhead next end → ((flying ≡ 1) × (state_of end.image ≡ settled)) ⊎ (state_of end.image ≡ next)
+  image_of (inl still) = inl (still.one, still.state)
+  image_of (inr ahead) = inr ahead.state
+
+  -- ... and where the desk is not ahead
+  is_still : IsStill flying settled end ⊎ IsAhead next end → end.is_ahead ≡ false → state_of end.image ≡ settled
+  is_still (inl still) behind = still.state
+  is_still (inr ahead) behind = let is = ahead.ahead in cc (is, behind)
 
 module _ {K : Type 0} {holds : K → Result Image Table → Type 0} {R : Type 0} (sheet : Sheet) (together : ℕ) (rem : R → Option Text) (rows now : Reader R) (before after : DeskView K) (old new : Option Text) (tally : Tally) (commands : List (Text × Command)) (turns : ℕ)
     (w : IsWaiting sheet holds rem rows now before after old new tally commands turns) (most : length commands ≤ together) where
@@ -96,33 +107,39 @@ module _ {K : Type 0} {holds : K → Result Image Table → Type 0} {R : Type 0}
     all_read n,
   )
 
-  -- some of those behind the first are done
-  ahead_of : (n : ℕ) (settled s : State) → IsAheadBySome before.limits (drop n commands) settled s → IsAheadByRecords sheet before.limits settled (drop n w.asked) s
-  ahead_of n settled s (k, some, few, state) = (
-    k,
-    some,
-    (let same = as_many_said sheet (drop n w.asked) (drop n commands) (say_rest sheet n w.asked commands w.say) in omega (arith, few, same)),
-    replies_to before.limits (take k (drop n commands)) settled,
-    rw state (replied_said sheet before.limits (take k (drop n w.asked)) (take k (drop n commands)) settled (say_first sheet k (drop n w.asked) (drop n commands) (say_rest sheet n w.asked commands w.say))),
-  )
+  -- of the records behind the first, these are in flight
+  in_flight : (n : ℕ) (settled : State) (end : DeskView K) → n < length commands → CommandsInFlight holds after.limits (drop n commands) settled end
+      → RecordsInFlight sheet together before.limits settled (drop n w.asked) (state_of end.image)
+  in_flight n settled end few flight =
+      let say = say_rest sheet n w.asked commands w.say in
+      let flying = flight.flying in record {
+        flying = flying;
+        some = flight.some;
+        few = (let same = as_many_said sheet (drop n w.asked) (drop n commands) say in let fits = flight.few in omega (arith, fits, same));
+        replies = replies_to before.limits (take flying (drop n commands)) settled;
+        next = done_all before.limits (take flying (drop n commands)) settled;
+        replied = replied_said sheet before.limits (take flying (drop n w.asked)) (take flying (drop n commands)) settled (say_first sheet flying (drop n w.asked) (drop n commands) say);
+        image = image_of flying settled (done_all before.limits (take flying (drop n commands)) settled) end (rw w.desk.limits at flight.image);
+        alone = λ one. is_still flying settled (done_all before.limits (take flying (drop n commands)) settled) end (rw w.desk.limits at flight.image) (flight.alone (let rest = length-drop n commands in omega (arith, few, most, one, rest)));
+      }
 
-  ran_ahead : (end : DeskView K) (last : Option Text) → BreaksOffAmong holds commands after end new last → RunsAhead sheet together rem rows before.limits (state_of before.image) (state_of end.image) old last
-  ran_ahead end last stops =
-      let n = stops.front.done in (
-        w.records ++ take n w.asked,
-        drop n w.asked,
-        w.replies ++ replies_to before.limits (take n commands) (state_of after.image),
-        stops.settled,
-        come_next n stops.front.few,
-        front_answered n stops.settled last (rw w.desk.limits at stops.front.state) (rw w.desk.limits at stops.front.written),
-        all_read n,
-        ahead_of n stops.settled (state_of end.image) (rw w.desk.limits at stops.ahead),
-      )
+  failed : (end : DeskView K) (last : Option Text) → BreaksOffAmong holds commands after end new last → FailsToKeep sheet together rem rows before.limits (state_of before.image) (state_of end.image) old last
+  failed end last stops =
+      let n = stops.front.done in record {
+        records = w.records ++ take n w.asked;
+        further = drop n w.asked;
+        replies = w.replies ++ replies_to before.limits (take n commands) (state_of after.image);
+        settled = stops.settled;
+        come_next = come_next n stops.front.few;
+        answered = front_answered n stops.settled last (rw w.desk.limits at stops.front.state) (rw w.desk.limits at stops.front.written);
+        begins = all_read n;
+        flight = in_flight n stops.settled end stops.front.few stops.flight;
+      }
 
   -- not all of them are done and have their lines
   pub among : (end : DeskView K) (last : Option Text) (e : SheetFault) → StopsAmong holds commands after end new last e → DoesRows sheet together rem rows before.limits (state_of before.image) (state_of end.image) old last (Err e)
   among end last fault.Write (n, some, few, state) = up_to n (state_of end.image) some few (rw w.desk.limits at state)
-  among end last (fault.Desk stop.Keep) stops = ran_ahead end last stops
+  among end last (fault.Desk stop.Keep) stops = failed end last stops
   among end last (fault.Desk stop.Memory) stops = stopped_at (state_of end.image) last stops
   among end last (fault.Desk stop.MustReopen) stops = stopped_at (state_of end.image) last stops
   among end last fault.Memory stops = absurd stops
@@ -131,22 +148,14 @@ module _ {K : Type 0} {holds : K → Result Image Table → Type 0} {R : Type 0}
   among end last fault.BadCsv stops = absurd stops
 
   -- their commit failed
-  pub broke : (end : DeskView K) (last : Option Text) → BreaksOffAmong holds commands after end new last → (c : Result Image Table) → holds end.keeper c → BreaksAfter sheet together rem rows before.limits (state_of before.image) old last c
-  broke end last stops c found =
-      let n = stops.front.done in
-      let (k, stands) = stops.content c found in (
-        w.records ++ take n w.asked,
-        drop n w.asked,
-        w.replies ++ replies_to before.limits (take n commands) (state_of after.image),
-        stops.settled,
-        come_next n stops.front.few,
-        front_answered n stops.settled last (rw w.desk.limits at stops.front.state) (rw w.desk.limits at stops.front.written),
-        all_read n,
-        (
-          k,
-          replies_to before.limits (take k (drop n commands)) stops.settled,
-          done_all before.limits (take k (drop n commands)) stops.settled,
-          replied_said sheet before.limits (take k (drop n w.asked)) (take k (drop n commands)) stops.settled (say_first sheet k (drop n w.asked) (drop n commands) (say_rest sheet n w.asked commands w.say)),
-          rw w.desk.limits at stands,
-        ),
-      )
+  pub broke : (end : DeskView K) (last : Option Text) → BreaksOffAmong holds commands after end new last → (c : Result Image Table) → holds end.keeper c
+      → BreaksAfter sheet together rem rows before.limits (state_of before.image) (state_of end.image) old last c
+  unfolding failed in_flight
+  broke end last stops c found = (failed end last stops, rw w.desk.limits at (stops.flight.content c found))
+
+-- one command alone is in flight, and the desk is not ahead
+pub still_among : {K : Type 0} (holds : K → Result Image Table → Type 0) (commands : List (Text × Command)) (before after : DeskView K) (old new : Option Text) → BreaksOffAmong holds commands before after old new → length commands ≤ 1 → after.is_ahead ≡ false
+still_among holds commands before after old new stops most =
+    let few = stops.front.few in
+    let rest = length-drop stops.front.done commands in
+    stops.flight.alone (omega (arith, few, rest, most))

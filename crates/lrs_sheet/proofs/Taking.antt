@@ -1,5 +1,5 @@
--- What one turn over the records does: the command of a record waits, or those that wait are done.
-use Rattle.std.proofs.Common.{◌≡◌, inl, inr, ℕ, ◌<◌, ◌≤◌, ◌+◌, List, [], ◌∷◌, ◌++◌, Option, Some, None, Result, Ok, Err, length, ap, arith, length-append}
+-- What one turn over the records does: the command of a record waits, or all waiting ones are done.
+use Rattle.std.proofs.Common.{◌≡◌, inl, inr, false, ℕ, ◌<◌, ◌≤◌, ◌+◌, List, [], ◌∷◌, ◌++◌, Option, Some, None, Result, Ok, Err, length, arith, length-append}
 use Rattle.std.proofs.lemmas.List.{append-nil}
 use Rattle.csv.specs.Reading.{expected_len}
 use Rattle.csv.specs.declared.reader.Reader.{Reader}
@@ -16,11 +16,11 @@ use Rattle.lrs_sheet.specs.declared.fault.SheetFault.{SheetFault}
 use Rattle.lrs_sheet.specs.declared.fault.SheetFault.TheVariants as fault
 use Rattle.lrs_sheet.specs.declared.reply.Tally.{Tally}
 use Rattle.lrs_sheet.specs.Replies.{tally_of}
-use Rattle.lrs_sheet.specs.Rows.{BreaksAfter, DoesRows, EndsAfter, Gave, HasDone, IsPlain, IsReadFault}
-use Rattle.lrs_sheet.specs.Sheets.{GoesAlong, LeavesDesk, max_records}
+use Rattle.lrs_sheet.specs.Rows.{BreaksAfter, DoesRows, Gave, HasDone, IsPlain, IsReadFault}
+use Rattle.lrs_sheet.specs.Sheets.{GoesAlong, LeavesDesk}
 use Rattle.lrs_sheet.specs.Waiting.{DoesAll, HasTaken, IsWaiting, StopsAmong, StopsBehind, StopsTaking, Takes}
 use Rattle.lrs_sheet.proofs.Done.{Replied-more, all-done, along, begins, gave-more, more-done, some-answered, start-done, stays, stop-read, width-more}
-use Rattle.lrs_sheet.proofs.Stopping.{among, broke}
+use Rattle.lrs_sheet.proofs.Stopping.{among, broke, still_among}
 use Rattle.lrs_sheet.proofs.Waits.{none_waits, settled, waits}
 
 -- nothing is read yet
@@ -91,18 +91,36 @@ module _ {K : Type 0} {holds : K → Result Image Table → Type 0} {R : Type 0}
 
   -- ... as a commit failed
   pub broke_taking : (together : ℕ) → length commands < together → StopsTaking holds (edit_record sheet fields) commands after end new last tally (fault.Desk stop.Keep)
-      → (c : Result Image Table) → holds end.keeper c → BreaksAfter sheet together rem rows before.limits (state_of before.image) old last c
+      → (c : Result Image Table) → holds end.keeper c → BreaksAfter sheet together rem rows before.limits (state_of before.image) (state_of end.image) old last c
   broke_taking together few (inl stops) = broke sheet together rem rows now before after old new tally commands turns w (omega (arith, few)) end last stops
   broke_taking together few (inr (inl (c, says, stops))) =
       broke sheet together rem rows next before after old new tally (commands ++ c ∷ []) (turns + 1) (waits sheet rem rows now before after old new tally commands turns w next fields c plain width wide gave says)
       (let one = length-append commands (c ∷ []) in omega (arith, one, few)) end last stops
   broke_taking together few (inr (inr (mid, t, does, goes, stops))) = absurd stops
 
+-- the header is read before any record is taken
+pub never_header : {K : Type 0} (holds : K → Result Image Table → Type 0) (fields : List Text) (commands : List (Text × Command)) (after end : DeskView K) (new last : Option Text) (tally : Tally) (e : SheetFault)
+    → StopsTaking holds fields commands after end new last tally e → e ≡ fault.BadHeader → ⊥
+never_header holds fields commands after end new last tally e stops is = by (rw is at stops)
+  where
+    by : StopsTaking holds fields commands after end new last tally fault.BadHeader → ⊥
+    by (inl never) = never
+    by (inr (inl (c, says, never))) = never
+    by (inr (inr (mid, t, does, goes, never))) = never
+
+-- a desk is not ahead where records are done one at a time
+pub still_taking : {K : Type 0} (holds : K → Result Image Table → Type 0) (fields : List Text) (commands : List (Text × Command)) (after end : DeskView K) (new last : Option Text) (tally : Tally)
+    → length commands < 1 → StopsTaking holds fields commands after end new last tally (fault.Desk stop.Keep) → end.is_ahead ≡ false
+still_taking holds fields commands after end new last tally few (inl stops) = still_among holds commands after end new last stops (omega (arith, few))
+still_taking holds fields commands after end new last tally few (inr (inl (c, says, stops))) =
+    still_among holds (commands ++ c ∷ []) after end new last stops (let one = length-append commands (c ∷ []) in omega (arith, one, few))
+still_taking holds fields commands after end new last tally few (inr (inr (mid, t, does, goes, stops))) = absurd stops
+
 the_same : (f e : SheetFault) → Some f ≡ Some e → f ≡ e
 the_same f e is = cc is
 
 module _ {K : Type 0} {holds : K → Result Image Table → Type 0} {R : Type 0} (sheet : Sheet) (together : ℕ) (rem : R → Option Text) (rows : Reader R) (before after end : DeskView K) (old new last : Option Text) (tally counts : Tally) (commands : List (Text × Command)) where
-  -- the records are read to their end, and those that wait are done
+  -- the records are read to their end, and the waiting commands are done
   pub ended : (unread : Option SheetFault) → HasTaken sheet holds rem rows before after old new tally commands unread → DoesAll after.limits commands (state_of after.image) (state_of end.image) new last tally counts → GoesAlong holds after end
       → (unread ≡ None → DoesRows sheet together rem rows before.limits (state_of before.image) (state_of end.image) old last (Ok counts))
       × ((e : SheetFault) → unread ≡ Some e → DoesRows sheet together rem rows before.limits (state_of before.image) (state_of end.image) old last (Err e))
@@ -121,7 +139,7 @@ module _ {K : Type 0} {holds : K → Result Image Table → Type 0} {R : Type 0}
   ended_amid unread e most (now, turns, few, w, ends) stops = among sheet together rem rows now before after old new tally commands turns w most end last e stops
 
   pub broke_amid : (unread : Option SheetFault) → length commands ≤ together → HasTaken sheet holds rem rows before after old new tally commands unread → StopsAmong holds commands after end new last (fault.Desk stop.Keep)
-      → (c : Result Image Table) → holds end.keeper c → BreaksAfter sheet together rem rows before.limits (state_of before.image) old last c
+      → (c : Result Image Table) → holds end.keeper c → BreaksAfter sheet together rem rows before.limits (state_of before.image) (state_of end.image) old last c
   broke_amid unread most (now, turns, few, w, ends) stops = broke sheet together rem rows now before after old new tally commands turns w most end last stops
 
   pub taken_along : (unread : Option SheetFault) → HasTaken sheet holds rem rows before after old new tally commands unread → GoesAlong holds before after

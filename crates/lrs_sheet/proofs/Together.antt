@@ -67,7 +67,7 @@ pub counts_done : (limits : Limits) (xs : List (Text × Command)) (s e : State) 
 counts_done limits xs s e a b t u does =
     rw does.counted (let all = count_all t (replies_to limits xs s) in let many = as_many limits xs s in omega (arith, all, many))
 
--- those that are not yet done
+-- the others are not yet done
 pub the_rest : (done : ℕ) (commands : List (Text × Command)) → take (length commands - done) (drop done commands) ≡ drop done commands
 the_rest done commands = take_all (length commands - done) (drop done commands) (let less = length-drop done commands in omega (arith, less))
 
@@ -99,11 +99,10 @@ module _ {K : Type 0} (holds : K → Result Image Table → Type 0) (commands : 
         ∙ sym (done-append before.limits (take done commands) (take n (drop done commands)) (state_of before.image))
         ∙ ap (λ (xs : List (Text × Command)). done_all before.limits xs (state_of before.image)) (sym (take-add done n commands)),
   )
-  stops_among after c (fault.Desk stop.Keep) (wrote, content, ahead) = record {
+  stops_among after c (fault.Desk stop.Keep) (wrote, flight) = record {
     settled = state_of mid.image;
     front = front (state_of mid.image) c wrote refl;
-    ahead = rw along.limits at ahead;
-    content = λ x h. rw along.limits at (content x h);
+    flight = rw along.limits at flight;
   }
   stops_among after c (fault.Desk stop.Memory) (image, wrote) = front (state_of after.image) c wrote (ap state_of image)
   stops_among after c (fault.Desk stop.MustReopen) (image, wrote) = front (state_of after.image) c wrote (ap state_of image)

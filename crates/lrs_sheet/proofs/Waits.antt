@@ -29,7 +29,7 @@ use Rattle.lrs_sheet.specs.Replies.{IsReplied, Replied, lines_of, tally_of}
 use Rattle.lrs_sheet.specs.Sheets.{AreAnswered, GoesAlong, HaveWidth}
 use Rattle.lrs_sheet.specs.Rows.{Gave, HasDone, IsPlain}
 use Rattle.lrs_sheet.specs.Waiting.{DoesAll, IsWaiting, Say, counted_all, done_all, replies_to}
-use Rattle.lrs_sheet.proofs.Done.{gave-more, tally-more, width-more}
+use Rattle.lrs_sheet.proofs.Done.{along, gave-more, tally-more, width-more}
 use Rattle.lrs_sheet.proofs.Together.{counts_done, lines-append}
 
 -- a record and its command behind others
@@ -91,7 +91,7 @@ module _ {K : Type 0} {holds : K → Result Image Table → Type 0} {R : Type 0}
         width = w.width;
         gave = w.gave;
         answered = answered-more sheet before.limits (state_of before.image) (state_of after.image) (state_of end.image) w.records w.asked w.replies commands old new last w.answered w.wide w.say d.state d.written;
-        desk = record { limits = along'.limits ∙ w.desk.limits; kept = λ kept. along'.kept (w.desk.kept kept); reopen = along'.reopen ∙ w.desk.reopen };
+        desk = along before after end w.desk along';
         counts = d.counted ∙ ap (λ (t : Tally). counted_all t (replies_to before.limits commands (state_of after.image))) w.counts ∙ sym (tallied-append w.replies (replies_to before.limits commands (state_of after.image)));
         few = counts_done before.limits commands (state_of after.image) (state_of end.image) new last tally counts d ∙ w.few;
         in_turn = length-append w.records w.asked ∙ w.in_turn;

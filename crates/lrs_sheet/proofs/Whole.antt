@@ -14,8 +14,8 @@ use Rattle.lrs_desk.specs.declared.desk.Fault.TheVariants as stop
 use Rattle.lrs_sheet.specs.Replies.{tally_of}
 use Rattle.lrs_sheet_records.specs.declared.sheet.Sheet.{Sheet}
 use Rattle.lrs_sheet_records.specs.Kinds.{IsHeader}
-use Rattle.lrs_sheet.specs.Sheets.{BreaksOff, HasAnsweredSome, HasDoneUpTo, HasRunAhead, HasStopped, Runs}
-use Rattle.lrs_sheet.specs.Rows.{AnswersSome, BreaksAfter, DoesRows, DoesUpTo, EndsAfter, Gave, HasRead, RunsAhead, Stops}
+use Rattle.lrs_sheet.specs.Sheets.{BreaksOff, HasAnsweredSome, HasDoneUpTo, HasFailedToKeep, HasStopped, Runs}
+use Rattle.lrs_sheet.specs.Rows.{AnswersSome, BreaksAfter, DoesRows, DoesUpTo, EndsAfter, Gave, FailsToKeep, HasRead, Stops}
 
 keeps-same : (contents : Option (List ℕ)) → Keeps contents contents
 keeps-same None = tt
@@ -47,10 +47,20 @@ stopped-under : {R : Type 0} (sheet : Sheet) (together : ℕ) (rem : R → Optio
 stopped-under sheet together rem next input limits before after old new fields read header (records, further, replies, come, answered, begins) =
     (fields, records, further, replies, header, begins input (fields ∷ []) read, come, answered)
 
-ahead-under : {R : Type 0} (sheet : Sheet) (together : ℕ) (rem : R → Option (List ℕ)) (next : Reader R) (input : List ℕ) (limits : Limits) (before after : State) (old new : Option (List ℕ)) (fields : List (List ℕ))
-    → HasRead rem next input (fields ∷ []) → IsHeader sheet fields → RunsAhead sheet together rem next limits before after old new → HasRunAhead sheet together limits input before after old new
-ahead-under sheet together rem next input limits before after old new fields read header (records, further, replies, settled, come, answered, begins, ahead) =
-    (fields, records, further, replies, settled, header, begins input (fields ∷ []) read, come, answered, ahead)
+failed-under : {R : Type 0} (sheet : Sheet) (together : ℕ) (rem : R → Option (List ℕ)) (next : Reader R) (input : List ℕ) (limits : Limits) (before after : State) (old new : Option (List ℕ)) (fields : List (List ℕ))
+    → HasRead rem next input (fields ∷ []) → IsHeader sheet fields → FailsToKeep sheet together rem next limits before after old new → HasFailedToKeep sheet together limits input before after old new
+failed-under sheet together rem next input limits before after old new fields read header failed = record {
+  header = fields;
+  records = failed.records;
+  further = failed.further;
+  replies = failed.replies;
+  settled = failed.settled;
+  is_header = header;
+  begins = failed.begins input (fields ∷ []) read;
+  come_next = failed.come_next;
+  answered = failed.answered;
+  flight = failed.flight;
+}
 
 answered-under : {R : Type 0} (sheet : Sheet) (rem : R → Option (List ℕ)) (next : Reader R) (input : List ℕ) (limits : Limits) (before after : State) (old new : Option (List ℕ)) (fields : List (List ℕ))
     → HasRead rem next input (fields ∷ []) → IsHeader sheet fields → AnswersSome sheet rem next limits before after old new → HasAnsweredSome sheet limits input before after old new
@@ -69,7 +79,7 @@ under sheet together rem next input limits before after old new fields (Err faul
 under sheet together rem next input limits before after old new fields (Err fault.Write) read header does = up-to-under sheet rem next input limits before after fields read header does
 under sheet together rem next input limits before after old new fields (Err (fault.Desk stop.Memory)) read header does = stopped-under sheet together rem next input limits before after old new fields read header does
 under sheet together rem next input limits before after old new fields (Err (fault.Desk stop.MustReopen)) read header does = stopped-under sheet together rem next input limits before after old new fields read header does
-under sheet together rem next input limits before after old new fields (Err (fault.Desk stop.Keep)) read header does = ahead-under sheet together rem next input limits before after old new fields read header does
+under sheet together rem next input limits before after old new fields (Err (fault.Desk stop.Keep)) read header does = failed-under sheet together rem next input limits before after old new fields read header does
 under sheet together rem next input limits before after old new fields (Err fault.Memory) read header does = answered-under sheet rem next input limits before after old new fields read header does
 
 -- the records under the header
@@ -81,9 +91,10 @@ under-header sheet together rem rows next (Some input) limits before after old n
     under sheet together rem next input limits before after old new fields result (gave input [] start) header does
 
 -- a commit under the header failed
-pub broke-under : {R : Type 0} (sheet : Sheet) (together : ℕ) (rem : R → Option (List ℕ)) (rows next : Reader R) (known : Option (List ℕ)) (limits : Limits) (before : State) (old new : Option (List ℕ)) (content : Result Image Table) (fields : List (List ℕ))
-    → IfSome known (λ input. HasRead rem rows input []) → Gave rem rows next (fields ∷ []) → IsHeader sheet fields → BreaksAfter sheet together rem next limits before old new content
-    → IfSome known (λ input. BreaksOff sheet together limits input before old new content)
-broke-under sheet together rem rows next None limits before old new content fields start gave header breaks = tt
-broke-under sheet together rem rows next (Some input) limits before old new content fields start gave header (records, further, replies, settled, come, answered, begins, kept) =
-    (fields, records, further, replies, settled, header, begins input (fields ∷ []) (gave input [] start), come, answered, kept)
+pub broke-under : {R : Type 0} (sheet : Sheet) (together : ℕ) (rem : R → Option (List ℕ)) (rows next : Reader R) (known : Option (List ℕ)) (limits : Limits) (before after : State) (old new : Option (List ℕ)) (content : Result Image Table) (fields : List (List ℕ))
+    → IfSome known (λ input. HasRead rem rows input []) → Gave rem rows next (fields ∷ []) → IsHeader sheet fields → BreaksAfter sheet together rem next limits before after old new content
+    → IfSome known (λ input. BreaksOff sheet together limits input before after old new content)
+unfolding failed-under
+broke-under sheet together rem rows next None limits before after old new content fields start gave header breaks = tt
+broke-under sheet together rem rows next (Some input) limits before after old new content fields start gave header (failed, stands) =
+    (failed-under sheet together rem next input limits before after old new fields (gave input [] start) header failed, stands)

@@ -22,7 +22,7 @@ use Rattle.lrs_sheet.specs.declared.fault.SheetFault.TheVariants as fault
 use Rattle.lrs_sheet_records.specs.declared.sheet.Sheet.{Sheet}
 use Rattle.lrs_sheet_records.specs.Kinds.{width_of}
 use Rattle.lrs_sheet.specs.Replies.{IsReplied, Replied, answer_count, counted, reply_text, tally_of}
-use Rattle.lrs_sheet.specs.Sheets.{AreAll, AreAnswered, BeginsWith, ComeNext, GoesAlong, HaveWidth, IsAfterRecords, IsAheadByRecords, max_records}
+use Rattle.lrs_sheet.specs.Sheets.{AreAll, AreAnswered, BeginsWith, ComeNext, GoesAlong, HaveWidth, RecordsInFlight, StandsForEither, max_records}
 
 -- the reader gives the records of a text as `csv` does by default, with no header handling and no trimming
 pub record IsPlain {R : Type 0} (reader : Reader R) : Type 0 where
@@ -71,7 +71,7 @@ IsReadFault remaining reader fault.Write = ⊥
 IsReadFault remaining reader fault.BadHeader = ⊥
 IsReadFault remaining reader (fault.Desk e) = ⊥
 
--- some of the records that come next are done and answered
+-- some of the next records are done and answered
 abbrev pub AnswersSome : {R : Type 0} → Sheet → (R → Option Text) → Reader R → Limits → State → State → Option Text → Option Text → Type 0
 AnswersSome sheet remaining reader limits before after old new =
     (records : List (List Text)) × (replies : List Reply) × AreAnswered sheet limits before records replies after old new × Begins remaining reader records
@@ -82,13 +82,18 @@ Stops sheet together remaining reader limits before after old new =
     (records : List (List Text)) × (further : List (List Text)) × (replies : List Reply) × ComeNext sheet together further × AreAnswered sheet limits before records replies after old new
     × Begins remaining reader (records ++ further)
 
--- a commit failed: some of the records that come next are done and answered, and the desk's image is ahead by some first ones of those after them
-abbrev pub RunsAhead : {R : Type 0} → Sheet → ℕ → (R → Option Text) → Reader R → Limits → State → State → Option Text → Option Text → Type 0
-RunsAhead sheet together remaining reader limits before after old new =
-    (records : List (List Text)) × (further : List (List Text)) × (replies : List Reply) × (settled : State) × ComeNext sheet together further
-    × AreAnswered sheet limits before records replies settled old new × Begins remaining reader (records ++ further) × IsAheadByRecords sheet limits settled further after
+-- a commit failed: some of the next records are done and answered, and of the further ones the first are in flight
+pub record FailsToKeep {R : Type 0} (sheet : Sheet) (together : ℕ) (remaining : R → Option Text) (reader : Reader R) (limits : Limits) (before after : State) (old new : Option Text) : Type 0 where
+  pub records : List (List Text)
+  pub further : List (List Text)
+  pub replies : List Reply
+  pub settled : State
+  pub come_next : ComeNext sheet together further
+  pub answered : AreAnswered sheet limits before records replies settled old new
+  pub begins : Begins remaining reader (records ++ further)
+  pub flight : RecordsInFlight sheet together limits settled further after
 
--- some of the records that come next are done, one at least
+-- some of the next records are done, one at least
 abbrev pub DoesUpTo : {R : Type 0} → Sheet → (R → Option Text) → Reader R → Limits → State → State → Type 0
 DoesUpTo sheet remaining reader limits before after =
     (records : List (List Text)) × (further : List (List Text)) × (replies : List Reply) × (1 ≤ length records) × HaveWidth sheet records × Replied sheet limits before records replies after
@@ -107,14 +112,13 @@ DoesRows sheet together remaining reader limits before after old new (Err fault.
 DoesRows sheet together remaining reader limits before after old new (Err fault.Write) = DoesUpTo sheet remaining reader limits before after
 DoesRows sheet together remaining reader limits before after old new (Err (fault.Desk stop.Memory)) = Stops sheet together remaining reader limits before after old new
 DoesRows sheet together remaining reader limits before after old new (Err (fault.Desk stop.MustReopen)) = Stops sheet together remaining reader limits before after old new
-DoesRows sheet together remaining reader limits before after old new (Err (fault.Desk stop.Keep)) = RunsAhead sheet together remaining reader limits before after old new
+DoesRows sheet together remaining reader limits before after old new (Err (fault.Desk stop.Keep)) = FailsToKeep sheet together remaining reader limits before after old new
 DoesRows sheet together remaining reader limits before after old new (Err fault.Memory) = AnswersSome sheet remaining reader limits before after old new
 
--- a commit failed: some of the records that come next are done, and of those after them some first ones may be kept
-abbrev pub BreaksAfter : {R : Type 0} → Sheet → ℕ → (R → Option Text) → Reader R → Limits → State → Option Text → Option Text → Result Image Table → Type 0
-BreaksAfter sheet together remaining reader limits before old new content =
-    (records : List (List Text)) × (further : List (List Text)) × (replies : List Reply) × (settled : State) × ComeNext sheet together further
-    × AreAnswered sheet limits before records replies settled old new × Begins remaining reader (records ++ further) × IsAfterRecords sheet limits settled further content
+-- ... and what the keeper has stands for the state of the records that have lines, or for that after all in flight
+abbrev pub BreaksAfter : {R : Type 0} → Sheet → ℕ → (R → Option Text) → Reader R → Limits → State → State → Option Text → Option Text → Result Image Table → Type 0
+BreaksAfter sheet together remaining reader limits before after old new content =
+    (failed : FailsToKeep sheet together remaining reader limits before after old new) × StandsForEither content failed.settled failed.flight.next
 
 -- a record is answered, its line is written and it is counted
 abbrev pub DoesRow : Limits → State → List Text → State → Option Text → Option Text → Tally → Tally → Type 0

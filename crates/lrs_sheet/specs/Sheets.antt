@@ -7,6 +7,7 @@ use Rattle.csv.specs.declared.parser.State.{State as Place}
 use Rattle.csv.specs.declared.parser.State.TheVariants as st
 use Rattle.lrs_machine.specs.Image.{state_of}
 use Rattle.lrs_machine.specs.Lines.{Text}
+use Rattle.lrs_machine.specs.Machine.{Record, state_after}
 use Rattle.lrs_machine.specs.State.{State}
 use Rattle.lrs_machine.specs.declared.answer.Limits.{Limits}
 use Rattle.lrs_machine.specs.declared.image.Image.{Image}
@@ -20,7 +21,7 @@ use Rattle.lrs_sheet.specs.declared.fault.SheetFault.{SheetFault}
 use Rattle.lrs_sheet.specs.declared.fault.SheetFault.TheVariants as fault
 use Rattle.lrs_sheet_records.specs.declared.sheet.Sheet.{Sheet}
 use Rattle.lrs_sheet_records.specs.declared.sheet.Sheet.TheVariants.{Edits, Survey}
-use Rattle.lrs_sheet_records.specs.Kinds.{IsHeader, edit_record, width_of}
+use Rattle.lrs_sheet_records.specs.Kinds.{IsHeader, width_of}
 use Rattle.lrs_sheet.specs.Replies.{Replied, lines_of, tally_of}
 
 -- The records of the input begin with these, by the rules of `csv`.
@@ -78,23 +79,35 @@ HasAnsweredSome sheet limits input before after old new =
 abbrev pub ComeNext : Sheet → ℕ → List (List Text) → Type 0
 ComeNext sheet together further = (1 ≤ length further) × (length further ≤ together) × HaveWidth sheet further
 
--- Some records at the front of the sheet are done, and each has its line; those that come next are not done.
+-- Some records at the front of the sheet are done, and each has its line; the next ones are not done.
 abbrev pub HasStopped : Sheet → ℕ → Limits → Text → State → State → Option Text → Option Text → Type 0
 HasStopped sheet together limits input before after old new =
     (header : List Text) × (records : List (List Text)) × (further : List (List Text)) × (replies : List Reply) × IsHeader sheet header
     × BeginsWith input ((header ∷ records) ++ further) × ComeNext sheet together further × AreAnswered sheet limits before records replies after old new
 
--- the state after some first ones of these records, one at least
-abbrev pub IsAheadByRecords : Sheet → Limits → State → List (List Text) → State → Type 0
-IsAheadByRecords sheet limits before records after =
-    (ahead : ℕ) × (1 ≤ ahead) × (ahead ≤ length records) × (replies : List Reply) × Replied sheet limits before (take ahead records) replies after
+-- Of these records the first are in flight: their commit failed, so that all of them are kept or none. The desk's image stands for the state after them; where there is one, it may stand for the state before it, and does so if records are done one at a time.
+pub record RecordsInFlight (sheet : Sheet) (together : ℕ) (limits : Limits) (before : State) (records : List (List Text)) (after : State) : Type 0 where
+  pub flying : ℕ
+  pub some : 1 ≤ flying
+  pub few : flying ≤ length records
+  pub replies : List Reply
+  pub next : State
+  pub replied : Replied sheet limits before (take flying records) replies next
+  pub image : ((flying ≡ 1) × (after ≡ before)) ⊎ (after ≡ next)
+  pub alone : together ≡ 1 → after ≡ before
 
--- A commit failed: some records at the front of the sheet are done, and each has its line; the desk's image stands for the state after these and after some first ones, one at least, of those that come next.
-abbrev pub HasRunAhead : Sheet → ℕ → Limits → Text → State → State → Option Text → Option Text → Type 0
-HasRunAhead sheet together limits input before after old new =
-    (header : List Text) × (records : List (List Text)) × (further : List (List Text)) × (replies : List Reply) × (settled : State) × IsHeader sheet header
-    × BeginsWith input ((header ∷ records) ++ further) × ComeNext sheet together further × AreAnswered sheet limits before records replies settled old new
-    × IsAheadByRecords sheet limits settled further after
+-- A commit failed: some records at the front of the sheet are done, and each has its line; of the further ones the first are in flight.
+pub record HasFailedToKeep (sheet : Sheet) (together : ℕ) (limits : Limits) (input : Text) (before after : State) (old new : Option Text) : Type 0 where
+  pub header : List Text
+  pub records : List (List Text)
+  pub further : List (List Text)
+  pub replies : List Reply
+  pub settled : State
+  pub is_header : IsHeader sheet header
+  pub begins : BeginsWith input ((header ∷ records) ++ further)
+  pub come_next : ComeNext sheet together further
+  pub answered : AreAnswered sheet limits before records replies settled old new
+  pub flight : RecordsInFlight sheet together limits settled further after
 
 -- Some records at the front of the sheet are done, one at least; not all of their lines are written whole.
 abbrev pub HasDoneUpTo : Sheet → Limits → Text → State → State → Type 0
@@ -111,7 +124,7 @@ Runs sheet together limits input before after old new (Err fault.Read) = HasAnsw
 Runs sheet together limits input before after old new (Err fault.Write) = HasDoneUpTo sheet limits input before after
 Runs sheet together limits input before after old new (Err (fault.Desk stop.Memory)) = HasStopped sheet together limits input before after old new
 Runs sheet together limits input before after old new (Err (fault.Desk stop.MustReopen)) = HasStopped sheet together limits input before after old new
-Runs sheet together limits input before after old new (Err (fault.Desk stop.Keep)) = HasRunAhead sheet together limits input before after old new
+Runs sheet together limits input before after old new (Err (fault.Desk stop.Keep)) = HasFailedToKeep sheet together limits input before after old new
 Runs sheet together limits input before after old new (Err fault.Memory) = HasAnsweredSome sheet limits input before after old new
 
 -- What a run of an edit sheet gives, one record after the other.
@@ -127,6 +140,7 @@ pub record GoesAlong {K : Type 0} (holds : K → Result Image Table → Type 0) 
   pub limits : new.limits ≡ old.limits
   pub kept : HoldsOnly (holds old.keeper) old.image → HoldsOnly (holds new.keeper) new.image
   pub reopen : new.must_reopen ≡ old.must_reopen
+  pub ahead : new.is_ahead ≡ old.is_ahead
 
 -- a commit of the desk has failed
 pub record MustReopen {K : Type 0} (old new : DeskView K) : Type 0 where
@@ -139,7 +153,7 @@ LeavesDesk holds old new (Ok x) = GoesAlong holds old new
 LeavesDesk holds old new (Err (fault.Desk stop.Keep)) = MustReopen old new
 LeavesDesk holds old new (Err (fault.Desk stop.Memory)) = GoesAlong holds old new
 LeavesDesk holds old new (Err (fault.Desk stop.MustReopen)) = GoesAlong holds old new × (old.must_reopen ≡ true)
-LeavesDesk holds old new (Err fault.BadHeader) = GoesAlong holds old new
+LeavesDesk holds old new (Err fault.BadHeader) = GoesAlong holds old new × (new.image ≡ old.image)
 LeavesDesk holds old new (Err fault.BadCsv) = GoesAlong holds old new
 LeavesDesk holds old new (Err fault.Read) = GoesAlong holds old new
 LeavesDesk holds old new (Err fault.Write) = GoesAlong holds old new
@@ -149,22 +163,23 @@ LeavesDesk holds old new (Err fault.Memory) = GoesAlong holds old new
 abbrev pub StandsFor : Result Image Table → State → Type 0
 StandsFor content state = (image : Image) × (content ≡ Ok image) × (state_of image ≡ state)
 
--- what a keeper has stands for the state after some first ones of these records
-abbrev pub IsAfterRecords : Sheet → Limits → State → List (List Text) → Result Image Table → Type 0
-IsAfterRecords sheet limits state records content =
-    (k : ℕ) × (replies : List Reply) × (next : State) × Replied sheet limits state (take k records) replies next × StandsFor content next
+-- ... for the one state or the other
+abbrev pub StandsForEither : Result Image Table → State → State → Type 0
+StandsForEither content one other = StandsFor content one ⊎ StandsFor content other
 
--- A commit failed: some records at the front of the sheet are done, each has its line, and of those that come next some first ones may be kept.
-abbrev pub BreaksOff : Sheet → ℕ → Limits → Text → State → Option Text → Option Text → Result Image Table → Type 0
-BreaksOff sheet together limits input before old new content =
-    (header : List Text) × (records : List (List Text)) × (further : List (List Text)) × (replies : List Reply) × (settled : State) × IsHeader sheet header
-    × BeginsWith input ((header ∷ records) ++ further) × ComeNext sheet together further × AreAnswered sheet limits before records replies settled old new
-    × IsAfterRecords sheet limits settled further content
+-- A commit failed: what the keeper has stands for the state of the records that have lines, or for that after all in flight.
+abbrev pub BreaksOff : Sheet → ℕ → Limits → Text → State → State → Option Text → Option Text → Result Image Table → Type 0
+BreaksOff sheet together limits input before after old new content =
+    (failed : HasFailedToKeep sheet together limits input before after old new) × StandsForEither content failed.settled failed.flight.next
 
 -- the same of an edit sheet, one record after the other
-abbrev pub HasBrokenOff : Limits → Text → State → Option Text → Option Text → Result Image Table → Type 0
+abbrev pub HasBrokenOff : Limits → Text → State → State → Option Text → Option Text → Result Image Table → Type 0
 HasBrokenOff = BreaksOff Edits 1
 
 -- the same of a survey
-abbrev pub SurveyHasBrokenOff : Limits → Text → State → Option Text → Option Text → Result Image Table → Type 0
+abbrev pub SurveyHasBrokenOff : Limits → Text → State → State → Option Text → Option Text → Result Image Table → Type 0
 SurveyHasBrokenOff = BreaksOff Survey 1
+
+-- the state after some commands, done one after the other
+abbrev pub IsAfterCommands : Limits → State → State → Type 0
+IsAfterCommands limits before after = (commands : List Record) × (after ≡ state_after limits commands before)

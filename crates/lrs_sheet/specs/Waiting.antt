@@ -1,5 +1,5 @@
 -- Commands that wait, and are done together.
-use Rattle.std.specs.Prelude.{◌≡◌, ◌≤◌, ◌<◌, ◌+◌, ◌++◌, ◌⊎◌, ⊤, ℕ, List, [], ◌∷◌, Option, Some, None, Result, length, take, drop}
+use Rattle.std.specs.Prelude.{◌≡◌, ◌≤◌, ◌<◌, ◌+◌, ◌++◌, ◌⊎◌, ⊤, ℕ, true, false, List, [], ◌∷◌, Option, Some, None, Result, length, take, drop}
 use Rattle.std.specs.Io.KnownBytes.{Appends}
 use Rattle.lrs_machine.specs.Lines.{Text}
 use Rattle.lrs_machine.specs.declared.answer.Answer.{Answer}
@@ -23,7 +23,7 @@ use Rattle.lrs_sheet_records.specs.declared.sheet.Sheet.{Sheet}
 use Rattle.lrs_sheet_records.specs.Kinds.{edit_record, width_of}
 use Rattle.lrs_sheet_records.specs.Records.{SaysCommand}
 use Rattle.lrs_sheet.specs.Replies.{IsReplied, answer_count, counted, lines_of, tally_of}
-use Rattle.lrs_sheet.specs.Sheets.{AreAnswered, GoesAlong, HaveWidth, StandsFor, max_records}
+use Rattle.lrs_sheet.specs.Sheets.{AreAnswered, GoesAlong, HaveWidth, StandsForEither, max_records}
 use Rattle.lrs_sheet.specs.Rows.{DoesRow, EndsAfter, Gave, IsPlain, IsReadFault}
 
 -- the reply of an answer, under the key of its command
@@ -55,20 +55,34 @@ pub record DoesAll (limits : Limits) (commands : List (Text × Command)) (before
   pub written : Appends old new (lines_of (replies_to limits commands before))
   pub counted : counts ≡ counted_all tally (replies_to limits commands before)
 
--- what is found stands for the state after some first ones of these commands
-abbrev pub IsAfterSome : Limits → List (Text × Command) → State → Result Image Table → Type 0
-IsAfterSome limits commands before c = (k : ℕ) × StandsFor c (done_all limits (take k commands) before)
-
 -- the state after some first ones of these commands, one at least
 abbrev pub IsAheadBySome : Limits → List (Text × Command) → State → State → Type 0
 IsAheadBySome limits commands before after = (ahead : ℕ) × (1 ≤ ahead) × (ahead ≤ length commands) × (after ≡ done_all limits (take ahead commands) before)
 
--- The first of these commands are not done; or they are done, and their commit failed, or not all of their lines are written.
+-- One command is in flight, and the desk's image is as before it.
+pub record IsStill {K : Type 0} (flying : ℕ) (before : State) (after : DeskView K) : Type 0 where
+  pub one : flying ≡ 1
+  pub state : state_of after.image ≡ before
+  pub behind : after.is_ahead ≡ false
+
+-- The desk's image stands for the state after the commands in flight.
+pub record IsAhead {K : Type 0} (next : State) (after : DeskView K) : Type 0 where
+  pub state : state_of after.image ≡ next
+  pub ahead : after.is_ahead ≡ true
+
+-- The first of these commands are in flight: their commit failed, so that all of them are kept or none.
+pub record CommandsInFlight {K : Type 0} (holds : K → Result Image Table → Type 0) (limits : Limits) (commands : List (Text × Command)) (before : State) (after : DeskView K) : Type 0 where
+  pub flying : ℕ
+  pub some : 1 ≤ flying
+  pub few : flying ≤ length commands
+  pub image : IsStill flying before after ⊎ IsAhead (done_all limits (take flying commands) before) after
+  pub alone : length commands ≡ 1 → after.is_ahead ≡ false
+  pub content : (c : Result Image Table) → holds after.keeper c → StandsForEither c before (done_all limits (take flying commands) before)
+
+-- The first of these commands are not done, or are in flight; or they are done, and not all of their lines are written.
 abbrev pub StopsAtFirst : {K : Type 0} → (K → Result Image Table → Type 0) → List (Text × Command) → DeskView K → DeskView K → Option Text → Option Text → SheetFault → Type 0
 StopsAtFirst holds commands before after old new fault.Write = IsAheadBySome before.limits commands (state_of before.image) (state_of after.image)
-StopsAtFirst holds commands before after old new (fault.Desk stop.Keep) =
-    (new ≡ old) × ((c : Result Image Table) → holds after.keeper c → IsAfterSome before.limits commands (state_of before.image) c)
-    × IsAheadBySome before.limits commands (state_of before.image) (state_of after.image)
+StopsAtFirst holds commands before after old new (fault.Desk stop.Keep) = (new ≡ old) × CommandsInFlight holds before.limits commands (state_of before.image) after
 StopsAtFirst holds commands before after old new (fault.Desk stop.Memory) = (after.image ≡ before.image) × (new ≡ old)
 StopsAtFirst holds commands before after old new (fault.Desk stop.MustReopen) = (after.image ≡ before.image) × (new ≡ old)
 StopsAtFirst holds commands before after old new fault.Memory = ⊥
@@ -83,12 +97,11 @@ pub record DoesFront (limits : Limits) (commands : List (Text × Command)) (befo
   pub state : after ≡ done_all limits (take done commands) before
   pub written : Appends old new (lines_of (replies_to limits (take done commands) before))
 
--- ... and of the others some first ones, one at least, are done, and may be kept: their commit failed
+-- ... and the first of the others are in flight
 pub record BreaksOffAmong {K : Type 0} (holds : K → Result Image Table → Type 0) (commands : List (Text × Command)) (before after : DeskView K) (old new : Option Text) : Type 0 where
   pub settled : State
   pub front : DoesFront before.limits commands (state_of before.image) settled old new
-  pub ahead : IsAheadBySome before.limits (drop front.done commands) settled (state_of after.image)
-  pub content : (c : Result Image Table) → holds after.keeper c → IsAfterSome before.limits (drop front.done commands) settled c
+  pub flight : CommandsInFlight holds before.limits (drop front.done commands) settled after
 
 -- Not all of these commands are done and have their lines.
 abbrev pub StopsAmong : {K : Type 0} → (K → Result Image Table → Type 0) → List (Text × Command) → DeskView K → DeskView K → Option Text → Option Text → SheetFault → Type 0
@@ -118,18 +131,18 @@ abbrev pub DoesWithIt : Limits → List Text → List (Text × Command) → List
 DoesWithIt limits fields waiting left before after old new tally counts =
     (c : Text × Command) × SaysCommand fields c.0 c.1 × (left ≡ []) × DoesAll limits (waiting ++ c ∷ []) before after old new tally counts
 
--- those that wait are done, and then the record is answered
+-- the waiting commands are done, and then the record is answered
 abbrev pub DoesBefore : Limits → List Text → List (Text × Command) → List (Text × Command) → State → State → Option Text → Option Text → Tally → Tally → Type 0
 DoesBefore limits fields waiting left before after old new tally counts =
     (mid : Option Text) × (t : Tally) × (left ≡ []) × DoesAll limits waiting before after old mid tally t × DoesRow limits after fields after mid new t counts
 
--- What becomes of a record, and of those that wait.
+-- What becomes of a record, and of the waiting commands.
 abbrev pub Takes : Limits → List Text → List (Text × Command) → List (Text × Command) → State → State → Option Text → Option Text → Tally → Tally → Type 0
 Takes limits fields waiting left before after old new tally counts =
     Waits limits fields waiting left before after old new tally counts
     ⊎ (DoesWithIt limits fields waiting left before after old new tally counts ⊎ DoesBefore limits fields waiting left before after old new tally counts)
 
--- those that wait are done, and the record is not, for want of memory, or its line is not written whole
+-- the waiting commands are done, and the record is not, for want of memory, or its line is not written whole
 abbrev pub StopsBehind : Limits → List Text → State → Option Text → Option Text → SheetFault → Type 0
 StopsBehind limits fields s old new fault.Write = (reply : Reply) × IsReplied limits s fields reply s
 StopsBehind limits fields s old new fault.Memory = new ≡ old
@@ -138,7 +151,7 @@ StopsBehind limits fields s old new fault.Read = ⊥
 StopsBehind limits fields s old new fault.BadHeader = ⊥
 StopsBehind limits fields s old new fault.BadCsv = ⊥
 
--- How a record stops a run: among those that wait, among these and it, or behind them.
+-- How a record stops a run: among the waiting commands, among these and its own, or behind them.
 abbrev pub StopsTaking : {K : Type 0} → (K → Result Image Table → Type 0) → List Text → List (Text × Command) → DeskView K → DeskView K → Option Text → Option Text → Tally → SheetFault → Type 0
 StopsTaking holds fields waiting before after old new tally e =
     StopsAmong holds waiting before after old new e

@@ -17,3 +17,14 @@ pub enum SheetFault {
     Desk(Fault),
     Memory,
 }
+
+impl From<Fault> for SheetFault {
+    ghost use Rattle.std.specs.Prelude.{◌≡◌};
+    ghost use Rattle.lrs_sheet.specs.declared.fault.SheetFault.TheVariants.{Desk};
+
+    ghost from_gives = { λ fault e. e ≡ Desk fault };
+
+    fn from(fault: Fault) -> Self {
+        SheetFault::Desk(fault)
+    }
+}

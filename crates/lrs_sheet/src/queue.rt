@@ -83,6 +83,47 @@ fn write_answers<W: Write>(
     Ok(())
 }
 
+/// Does a command, writes its line and counts it.
+fn act_alone<W: Write, K: Keeper>(
+    command: &(Key, Command),
+    writer: &mut W,
+    desk: &mut Desk<K>,
+    tally: &mut Tally,
+) -> Result<(), SheetFault>
+    requires room { answer_count tally.old < 2 ^ 32 }
+    ensures does { OnOk result (DoesAll desk.old.limits (command.now ∷ []) (state_of desk.old.image)
+        (state_of desk.new.image) (W.contents writer.old)
+        (W.contents writer.new) tally.old tally.new) }
+    ensures stops { IfErr result (StopsAtFirst K.may_hold (command.now ∷ []) desk.old desk.new
+        (W.contents writer.old) (W.contents writer.new)) }
+    ensures desk { LeavesDesk K.may_hold desk.old desk.new result }
+{
+    let answer = desk.act(command.0, &command.1)?;
+    write_answer(command, &answer, writer, tally)
+}
+
+/// Does the first of these commands by one commit, writes their lines and counts them. Says how many they are.
+fn act_together<W: Write, K: Keeper>(
+    commands: &[(Key, Command)],
+    writer: &mut W,
+    desk: &mut Desk<K>,
+    tally: &mut Tally,
+) -> Result<usize, SheetFault>
+    requires several { 2 ≤ length commands.now }
+    requires room { answer_count tally.old + length commands.now ≤ 2 ^ 32 }
+    ensures few { IfOk result (λ n. (1 ≤ n) × (n ≤ length commands.now)) }
+    ensures does { IfOk result (λ n. DoesAll desk.old.limits (take n commands.now)
+        (state_of desk.old.image) (state_of desk.new.image) (W.contents writer.old)
+        (W.contents writer.new) tally.old tally.new) }
+    ensures stops { IfErr result (StopsAtFirst K.may_hold commands.now desk.old desk.new
+        (W.contents writer.old) (W.contents writer.new)) }
+    ensures desk { LeavesDesk K.may_hold desk.old desk.new result }
+{
+    let answers = desk.act_on_first(commands)?;
+    write_answers(commands, &answers, writer, tally)?;
+    Ok(answers.len())
+}
+
 /// Does the first of these commands, one at least, writes their lines and counts them. Says how many they are.
 fn do_first<W: Write, K: Keeper>(
     commands: &[(Key, Command)],
@@ -100,12 +141,12 @@ fn do_first<W: Write, K: Keeper>(
         (W.contents writer.old) (W.contents writer.new)) }
     ensures desk { LeavesDesk K.may_hold desk.old desk.new result }
 {
-    let answers = match desk.act_on_first(commands) {
-        Ok(answers) => answers,
-        Err(fault) => return Err(SheetFault::Desk(fault)),
-    };
-    write_answers(commands, &answers, writer, tally)?;
-    Ok(answers.len())
+    // If the commit of one fails, the desk still answers questions.
+    if let [command] = commands {
+        act_alone(command, writer, desk, tally)?;
+        return Ok(1);
+    }
+    act_together(commands, writer, desk, tally)
 }
 
 /// Does these commands, some at a time, writes the line of each and counts it.
@@ -154,7 +195,7 @@ pub(crate) fn settle<W: Write, K: Keeper>(
     Ok(())
 }
 
-/// Refuses a record whose first malformed field is this, behind those that wait, and lets none wait.
+/// Refuses a record whose first malformed field is this, behind the waiting commands, and lets none wait.
 fn refuse<W: Write, K: Keeper>(
     row: &SheetRecord<'_>,
     field: Field,
@@ -182,8 +223,8 @@ fn refuse<W: Write, K: Keeper>(
     Ok(())
 }
 
-/// Lets the command of a record wait. Those that wait are done once so many do, and before a malformed record is
-/// refused.
+/// Lets the command of a record wait. The waiting commands are done once they are so many, and before a malformed
+/// record is refused.
 pub(crate) fn take_row<W: Write, K: Keeper>(
     alloc: Global,
     row: &SheetRecord<'_>,

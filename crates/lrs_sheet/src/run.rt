@@ -1,13 +1,13 @@
 //! Sheets, from their bytes to the bytes of their replies.
 
-ghost use Rattle.std.specs.Prelude.{◌≡◌, ◌≤◌, ◌<◌, [], Some, Err, length, IfOk, OnOk, IfErr, IfSome, Result};
+ghost use Rattle.std.specs.Prelude.{◌≡◌, ◌≤◌, ◌<◌, [], Some, Err, length, false, IfOk, OnOk, IfErr, IfSome, Result};
 ghost use Rattle.csv.specs.Reading.{expected_len};
 ghost use Rattle.lrs_machine.specs.Image.{state_of};
 ghost use Rattle.lrs_machine.specs.declared.image.Image.{Image as ImageRows};
 ghost use Rattle.lrs_machine.specs.declared.table.Table.{Table};
 ghost use Rattle.lrs_sheet_records.specs.Kinds.{width_of};
 ghost use Rattle.lrs_sheet.specs.Replies.{tally_of};
-ghost use Rattle.lrs_sheet.specs.Sheets.{Runs, RunsEdits, RunsSurvey, LeavesDesk, BreaksOff, HasBrokenOff, SurveyHasBrokenOff};
+ghost use Rattle.lrs_sheet.specs.Sheets.{Runs, RunsEdits, RunsSurvey, LeavesDesk, BreaksOff, HasBrokenOff, SurveyHasBrokenOff, IsAfterCommands};
 ghost use Rattle.lrs_sheet.specs.Rows.{IsPlain, DoesRows, BreaksAfter};
 ghost use Rattle.lrs_sheet.specs.Waiting.{HasTaken};
 
@@ -58,7 +58,9 @@ fn take_rows<R: Read, W: Write, K: Keeper>(
     ensures broken { result ≡ Err (SheetFault.Desk Fault.Keep) → (c : Result ImageRows Table)
         → K.may_hold desk.new.keeper c
         → BreaksAfter sheet together R.remaining rows.old desk.old.limits (state_of desk.old.image)
-        (W.contents writer.old) (W.contents writer.new) c }
+        (state_of desk.new.image) (W.contents writer.old) (W.contents writer.new) c }
+    ensures still { result ≡ Err (SheetFault.Desk Fault.Keep) → together ≡ 1
+        → desk.new.is_ahead ≡ false }
 {
     for _turn in 0..MAX_RECORDS {
         match next_row(rows, row) {
@@ -96,7 +98,9 @@ fn do_rows<R: Read, W: Write, K: Keeper>(
     ensures broken { result ≡ Err (SheetFault.Desk Fault.Keep) → (c : Result ImageRows Table)
         → K.may_hold desk.new.keeper c
         → BreaksAfter sheet together R.remaining rows.old desk.old.limits (state_of desk.old.image)
-        (W.contents writer.old) (W.contents writer.new) c }
+        (state_of desk.new.image) (W.contents writer.old) (W.contents writer.new) c }
+    ensures still { result ≡ Err (SheetFault.Desk Fault.Keep) → together ≡ 1
+        → desk.new.is_ahead ≡ false }
 {
     let mut queue = Queue {
         waiting: Vec::new(alloc),
@@ -115,8 +119,8 @@ fn do_rows<R: Read, W: Write, K: Keeper>(
 ///
 /// # Errors
 ///
-/// Those of `run_edits` for an edit sheet, and of `run_survey` for a survey. After `Desk(Keep)` some first ones of the
-/// records that have no line, one at least and at most this many, are done in the desk's image, and may be kept.
+/// Those of `run_edits` for an edit sheet, and of `run_survey` for a survey. After `Desk(Keep)` the first of the records
+/// that have no line, one at least and at most this many, are in flight: all of them are kept or none.
 pub fn run_sheet<R: Read + Drop, W: Write, K: Keeper>(
     alloc: Global,
     sheet: Sheet,
@@ -133,7 +137,11 @@ pub fn run_sheet<R: Read + Drop, W: Write, K: Keeper>(
     ensures broken { result ≡ Err (SheetFault.Desk Fault.Keep) → (c : Result ImageRows Table)
         → K.may_hold desk.new.keeper c → IfSome (R.remaining reader) (λ input.
         BreaksOff sheet together desk.old.limits input (state_of desk.old.image)
-        (W.contents writer.old) (W.contents writer.new) c) }
+        (state_of desk.new.image) (W.contents writer.old) (W.contents writer.new) c) }
+    ensures still { result ≡ Err (SheetFault.Desk Fault.Keep) → together ≡ 1
+        → desk.new.is_ahead ≡ false }
+    ensures left { IsAfterCommands desk.old.limits (state_of desk.old.image)
+        (state_of desk.new.image) }
 {
     let mut rows = open(alloc, reader);
     let mut row = ByteRecord::new(alloc);
@@ -154,15 +162,14 @@ pub fn run_sheet<R: Read + Drop, W: Write, K: Keeper>(
 /// `BadHeader` if the first record is not the header of an edit sheet, and nothing is done. `BadCsv` at the
 /// first record that has not eleven fields. `Read` if the reader fails or there are more than 100,000,000
 /// records, `Write` if the writer fails, `Desk` if the desk does not answer. What was done before the fault
-/// stays done.
+/// stays done. After `Desk(Keep)` the next record is kept or not, and questions are answered as before it.
 pub fn run_edits<R: Read + Drop, W: Write, K: Keeper>(
     alloc: Global,
     reader: R,
     writer: &mut W,
     desk: &mut Desk<K>,
 ) -> Result<Tally, SheetFault>
-    // What is done and written is the reply to the sheet, from the state that the desk's image stands for. After a
-    // failed commit this is ahead of the lines by one record.
+    // What is done and written is the reply to the sheet, from the state that the desk's image stands for.
     ensures runs { IfSome (R.remaining reader) (λ input.
         RunsEdits desk.old.limits input (state_of desk.old.image) (state_of desk.new.image)
         (W.contents writer.old) (W.contents writer.new) result) }
@@ -170,11 +177,19 @@ pub fn run_edits<R: Read + Drop, W: Write, K: Keeper>(
     // The keeper goes along, unless a commit failed.
     ensures desk { LeavesDesk K.may_hold desk.old desk.new result }
 
-    // After a failed commit the keeper has the state of the records that have lines, or that of one more.
+    // After a failed commit the image stands for the state of the records that have lines; the keeper has this
+    // state, or that of one more record.
     ensures broken { result ≡ Err (SheetFault.Desk Fault.Keep) → (c : Result ImageRows Table)
         → K.may_hold desk.new.keeper c → IfSome (R.remaining reader) (λ input.
-        HasBrokenOff desk.old.limits input (state_of desk.old.image) (W.contents writer.old)
-        (W.contents writer.new) c) }
+        HasBrokenOff desk.old.limits input (state_of desk.old.image)
+        (state_of desk.new.image) (W.contents writer.old) (W.contents writer.new) c) }
+
+    // The desk is not ahead of the keeper then, so that questions are answered.
+    ensures still { result ≡ Err (SheetFault.Desk Fault.Keep) → desk.new.is_ahead ≡ false }
+
+    // Whatever bytes the reader gives, commands are done in order.
+    ensures left { IsAfterCommands desk.old.limits (state_of desk.old.image)
+        (state_of desk.new.image) }
 {
     run_sheet(alloc, Sheet::Edits, 1, reader, writer, desk)
 }
@@ -187,15 +202,14 @@ pub fn run_edits<R: Read + Drop, W: Write, K: Keeper>(
 /// `BadHeader` if the first record is not the header of a survey, and nothing is done. `BadCsv` at the
 /// first record that has not ten fields. `Read` if the reader fails or there are more than 100,000,000
 /// records, `Write` if the writer fails, `Desk` if the desk does not answer. What was done before the fault
-/// stays done.
+/// stays done. After `Desk(Keep)` the next record is kept or not, and questions are answered as before it.
 pub fn run_survey<R: Read + Drop, W: Write, K: Keeper>(
     alloc: Global,
     reader: R,
     writer: &mut W,
     desk: &mut Desk<K>,
 ) -> Result<Tally, SheetFault>
-    // What is done and written is the reply to the survey, from the state that the desk's image stands for. After a
-    // failed commit this is ahead of the lines by one record.
+    // What is done and written is the reply to the survey, from the state that the desk's image stands for.
     ensures runs { IfSome (R.remaining reader) (λ input.
         RunsSurvey desk.old.limits input (state_of desk.old.image) (state_of desk.new.image)
         (W.contents writer.old) (W.contents writer.new) result) }
@@ -203,11 +217,19 @@ pub fn run_survey<R: Read + Drop, W: Write, K: Keeper>(
     // The keeper goes along, unless a commit failed.
     ensures desk { LeavesDesk K.may_hold desk.old desk.new result }
 
-    // After a failed commit the keeper has the state of the records that have lines, or that of one more.
+    // After a failed commit the image stands for the state of the records that have lines; the keeper has this
+    // state, or that of one more record.
     ensures broken { result ≡ Err (SheetFault.Desk Fault.Keep) → (c : Result ImageRows Table)
         → K.may_hold desk.new.keeper c → IfSome (R.remaining reader) (λ input.
-        SurveyHasBrokenOff desk.old.limits input (state_of desk.old.image) (W.contents writer.old)
-        (W.contents writer.new) c) }
+        SurveyHasBrokenOff desk.old.limits input (state_of desk.old.image)
+        (state_of desk.new.image) (W.contents writer.old) (W.contents writer.new) c) }
+
+    // The desk is not ahead of the keeper then, so that questions are answered.
+    ensures still { result ≡ Err (SheetFault.Desk Fault.Keep) → desk.new.is_ahead ≡ false }
+
+    // Whatever bytes the reader gives, commands are done in order.
+    ensures left { IsAfterCommands desk.old.limits (state_of desk.old.image)
+        (state_of desk.new.image) }
 {
     run_sheet(alloc, Sheet::Survey, 1, reader, writer, desk)
 }

@@ -16,7 +16,7 @@ returns-in_err-done-clause-stops g c =
 
 pub returns-in_err-done-clause-desk : goal.returns-in_err-done-clause-desk
 returns-in_err-done-clause-desk g c =
-    leaves-after (Unit {0}) ℕ c.args.desk.now c.loop-done.desk c.do_first.new.desk c.in_err-done.field-0.0 c.from_residual.result (search rules) c.loop-done.invariant.desk c.in_err-done.ensures.desk
+    leaves-after (Unit {0}) ℕ c.args.desk.now c.loop-done.desk c.do_first.new.desk c.in_err-done.field-0.0 c.from_residual.result (search rules) (λ is. rw is at c.in_err-done.ensures.stops) c.loop-done.invariant.desk c.in_err-done.ensures.desk
 
 pub loop-done-preserved : goal.loop-done-preserved
 loop-done-preserved g c =

@@ -1,8 +1,9 @@
 use Rattle.std.proofs.Common.{rules, arith}
 use Rattle.std.proofs.lemmas.Result.{err_from_is_err_and}
 use Rattle.csv.specs.Records.{fields_of}
+use Rattle.lrs_sheet_records.specs.Kinds.{edit_record}
 use Rattle.lrs_sheet.proofs.Done.{leaves-after}
-use Rattle.lrs_sheet.proofs.Taking.{broke_taking, start, stop_taking, taken}
+use Rattle.lrs_sheet.proofs.Taking.{broke_taking, never_header, start, still_taking, stop_taking, taken}
 use Rattle.lrs_sheet.proofs.run.take_rows.Goals as goal
 
 pub loop-turn-init : goal.loop-turn-init
@@ -34,9 +35,16 @@ returns-in_err-take_row-clause-broken g c is =
     c.loop-turn.invariant.waiting (fields_of c.next_row.new.row) (c.in-Ok-true.ensures.plain found) (c.in-Ok-true.ensures.width found) wide (c.in-Ok-true.ensures.found found) c.take_row.new.desk (g.W.Write.contents c.take_row.new.writer)
     c.args.together c.loop-turn.invariant.few (search rules)
 
+pub returns-in_err-take_row-clause-still : goal.returns-in_err-take_row-clause-still
+returns-in_err-take_row-clause-still g c is one =
+    still_taking g.K.Keeper.may_hold (edit_record c.args.sheet (fields_of c.next_row.new.row)) c.loop-turn.queue.waiting.items c.loop-turn.desk c.take_row.new.desk (g.W.Write.contents c.loop-turn.writer) (g.W.Write.contents c.take_row.new.writer) c.loop-turn.queue.tally
+    (rw one at c.loop-turn.invariant.few) (search rules)
+
 pub returns-in_err-take_row-clause-desk : goal.returns-in_err-take_row-clause-desk
 returns-in_err-take_row-clause-desk g c =
-    leaves-after _ (Unit {0}) c.args.desk.now c.loop-turn.desk c.take_row.new.desk c.in_err-take_row.field-0.0 c.from_residual.result (search rules) c.loop-turn.invariant.waiting.desk c.in_err-take_row.ensures.desk
+    leaves-after _ (Unit {0}) c.args.desk.now c.loop-turn.desk c.take_row.new.desk c.in_err-take_row.field-0.0 c.from_residual.result (search rules)
+    (never_header g.K.Keeper.may_hold (edit_record c.args.sheet (fields_of c.next_row.new.row)) c.loop-turn.queue.waiting.items c.loop-turn.desk c.take_row.new.desk (g.W.Write.contents c.loop-turn.writer) (g.W.Write.contents c.take_row.new.writer) c.loop-turn.queue.tally c.in_err-take_row.field-0.0 c.in_err-take_row.ensures.stops)
+    c.loop-turn.invariant.waiting.desk c.in_err-take_row.ensures.desk
 
 pub loop-turn-preserved : goal.loop-turn-preserved
 loop-turn-preserved g c =
