@@ -7,6 +7,7 @@ ghost use Rattle.sqlite_wal.specs.Reads.{AreClean};
 ghost use Rattle.sqlite.specs.State.{HasCleanDisk};
 ghost use Rattle.sqlite.specs.Files.{file_state, image_of};
 ghost use Rattle.sqlite.specs.Closing.{IsCopied};
+ghost use Rattle.lrs_store_keeper.specs.Holding.{IsOpenIfClean};
 ghost use Rattle.lrs_store_keeper.specs.Opening.{IsSecond};
 ghost use Rattle.lrs_machine.specs.declared.table.Table.{Table};
 ghost use Rattle.lrs_store.specs.Opened.{HasOpened};
@@ -117,6 +118,7 @@ pub fn open_files<D: Disk + Drop, R: ReadImage + Drop>(
     requires db { IsTrue (D.Disk.is_usable files.db) }
     ensures unloaded { IfOk result (λ k. k.is_loaded ≡ false) }
     ensures usable { IfOk result (λ k. k.is_broken ≡ false) }
+    ensures open { IfOk result (λ k. IsOpenIfClean (file_state k.conn)) }
     ensures second { IfOk result (λ k. IsSecond (file_state k.conn)) }
     ensures found { IfOk result (λ k. HasCleanDisk (file_state k.conn)
         → HasOpened (image_of D.Disk files) (file_state k.conn)) }
@@ -155,6 +157,7 @@ pub fn open_file<S: Start, R: ReadImage + Drop>(
 ) -> Result<Tables<FileStore<FileFrom<S>>, R>, NotOpened<FileFrom<S>>>
     ensures unloaded { IfOk result (λ k. k.is_loaded ≡ false) }
     ensures usable { IfOk result (λ k. k.is_broken ≡ false) }
+    ensures open { IfOk result (λ k. IsOpenIfClean (file_state k.conn)) }
     ensures second { IfOk result (λ k. IsSecond (file_state k.conn)) }
     ensures found { IfOk result (λ k. HasCleanDisk (file_state k.conn)
         → HasOpened (image_at S.Start) (file_state k.conn)) }

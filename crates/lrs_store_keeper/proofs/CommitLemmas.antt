@@ -8,8 +8,7 @@ use Rattle.sqlite.specs.State.{State, HasCleanDisk}
 use Rattle.lrs_machine.specs.declared.image.Image.{Image}
 use Rattle.lrs_machine.specs.declared.table.Table.{Table}
 use Rattle.lrs_image.specs.declared.change.Change.{Change}
-use Rattle.lrs_image.specs.Together.{apply_all, CanMakeAll, IsChangedBy, IsChangedBySome}
-use Rattle.lrs_image.proofs.Together.{some_are_all}
+use Rattle.lrs_image.specs.Together.{apply_all, CanMakeAll, IsChangedBy}
 use Rattle.lrs_store_rows.specs.Tables.{Tables}
 use Rattle.lrs_store_rows.specs.Content.{content_of}
 use Rattle.lrs_store_tables.specs.Stored.{stored}
@@ -78,7 +77,3 @@ unchanged s edits cs none kept x h =
     let held = kept h.0 h.1.0 h.1.1 in
     let is : x ≡ Ok held.image = sym h.1.2 ∙ held.rows.holds in
     subst (λ (l : List Change). IsChangedBy (MayHold s) l x) (sym none) (held.image, subst (MayHold s) is h, is)
-
--- A commit of all of them or none is one of some first ones.
-pub old_or_some : (may : Result Image Table → Type 0) (cs : List Change) (x : Result Image Table) → may x ⊎ IsChangedBy may cs x → may x ⊎ IsChangedBySome may cs x
-old_or_some may cs x h = elim h [ inl old ↦ inl old | inr new ↦ inr (some_are_all may cs x new) ]

@@ -4,10 +4,10 @@ use Rattle.sqlite_trees.specs.declared.store.Store.{Ghosts}
 use Rattle.sqlite_trees.specs.Tree.{Trees}
 use Rattle.sqlite.specs.Effect.{Database}
 use Rattle.sqlite.specs.Held.{Held, state}
-use Rattle.sqlite.specs.State.{State, HasCleanDisk, Survives, IsRolledBack}
+use Rattle.sqlite.specs.State.{State, HasCleanDisk, Survives, IsRolledBack, IsUnchanged}
 use Rattle.sqlite.specs.declared.error.Error.{Error}
 use Rattle.lrs_store_rows.specs.Tables.{Tables}
-use Rattle.lrs_store_tables.specs.Stored.{stored, IsWriting, HasTables}
+use Rattle.lrs_store_tables.specs.Stored.{stored, IsWriting, HasTables, LeavesStore}
 use Rattle.lrs_store_tables.specs.Resting.{IsReady, IsAtRest}
 use Rattle.lrs_store_keeper.specs.Rows.{HasRead}
 
@@ -92,3 +92,22 @@ pub rests_if : {S A : Type 0} (g : Ghosts S) (old tx mid : Held S) (last : State
     → (HasCleanDisk last → IsRolledBack (state g mid) last) → OnOk r (IsReady last)
 rests_if g old tx mid last Q (Ok x) is ready one reads two undone = rests g old tx mid last (Q x) is ready one reads two undone
 rests_if g old tx mid last Q (Err e) is ready one reads two undone = tt
+
+-- what a call leaves that changes nothing
+module _ (a b : State) (survives : LeavesStore a b) where
+  early : HasCleanDisk b → HasCleanDisk a
+  early clean = omega (arith, clean, survives.clean)
+
+  pub rests_still : IsReady a → (HasCleanDisk b → IsUnchanged a b) → IsReady b
+  rests_still ready same clean opened =
+      let shown = (same clean).0 in
+      let rest = ready (early clean) shown.was_open in
+      record {
+        schema = ap (λ (d : Database). d.schema) shown.now_is ∙ rest.schema;
+        settled = shown.now_is ∙ rest.settled ∙ sym shown.committed_is;
+        tables = subst (λ (d : Database). HasTables d.trees) (sym shown.now_is) rest.tables;
+      }
+
+  -- whatever may be left was so before
+  pub left_before : (P : Trees → Type 0) → (HasCleanDisk a → (db : Trees) → a.may_leave db → P db) → HasCleanDisk b → (db : Trees) → b.may_leave db → P db
+  left_before P all clean db left = all (early clean) db (before (survives.crash clean db left))

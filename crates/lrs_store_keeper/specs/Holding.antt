@@ -21,9 +21,13 @@ pub record IsSafe (s : State) : Type 0 where
   pub clean : HasCleanDisk s
   pub is_open : IsTrue s.is_open
 
--- what was committed last is found there
-pub finds_left : {s : State} → IsSafe s → s.may_leave s.committed.trees → (c : Result Image Table) × MayHold s c
-finds_left {s} safe left = (content_of (stored s.committed.trees), (safe.clean, (s.committed.trees, left, refl)))
+-- rows that may be left are found, if the disk is clean
+pub finds_left : (may_leave : Trees → Type 0) (db : Trees) {Clean : Type 0} → Clean → may_leave db → (c : Result Image Table) × (Clean × ((d : Trees) × may_leave d × (content_of (stored d) ≡ c)))
+finds_left may_leave db clean left = (content_of (stored db), (clean, (db, left, refl)))
+
+-- the store is open, if its disk is clean
+abbrev pub IsOpenIfClean : State → Type 0
+IsOpenIfClean s = HasCleanDisk s → IsTrue s.is_open
 
 -- rows of version 2 that hold this image
 pub record AreRowsOf (i : Image) (t : Tables) : Type 0 where
@@ -40,10 +44,11 @@ pub record HoldEdits (n : ℕ) (t : Tables) : Type 0 where
 abbrev pub HasEdits : ℕ → State → Type 0
 HasEdits n s = HasCleanDisk s → (db : Trees) → s.may_leave db → HoldEdits n (stored db)
 
--- A keeper can use its connection: it is at rest, outside a transaction, and once the image is loaded the edits are counted.
+-- A keeper can use its connection: it is at rest, outside a transaction, and once the image is loaded it is open and the edits are counted.
 pub record IsUsable (s : State) (in_transaction is_loaded : Bool) (edits : ℕ) : Type 0 where
   pub autocommit : in_transaction ≡ false
   pub ready : IsReady s
+  pub is_open : is_loaded ≡ true → IsOpenIfClean s
   pub loaded : is_loaded ≡ true → HasEdits edits s
 
 -- What an image is read as: what the rows hold, unless memory runs out.

@@ -12,7 +12,7 @@ ghost use Rattle.lrs_store_rows.specs.Content.{content_of};
 ghost use Rattle.lrs_store_tables.specs.Stored.{stored, version_in, LeavesStore};
 ghost use Rattle.lrs_store_tables.specs.Resting.{IsReady};
 ghost use Rattle.lrs_store_keeper.specs.Rows.{tables_of};
-ghost use Rattle.lrs_store_keeper.specs.Holding.{AreRowsOf, MayHold, HasEdits, Tells};
+ghost use Rattle.lrs_store_keeper.specs.Holding.{AreRowsOf, MayHold, HasEdits, IsOpenIfClean, Tells};
 
 use crate::rows::{StoredRows, read_rows};
 use lrs_image::LoadFault;
@@ -46,6 +46,37 @@ pub(crate) fn read_alone<S: Alter>(conn: &mut Connection<S>) -> Result<StoredRow
     let rows = read_rows(&mut tx);
     tx.rollback();
     rows
+}
+
+/// Fails where the connection is shut, as a rollback that fails leaves it. A statement is prepared and not run: no
+/// connection that is shut prepares one.
+pub(crate) fn check_open<S: Alter>(conn: &mut Connection<S>) -> Result<(), Error>
+    requires autocommit { conn.old.in_transaction ≡ false }
+    requires ready { IsReady (state S.Store conn.old) }
+    ensures autocommit { conn.new.in_transaction ≡ false }
+    ensures ready { OnOk result (IsReady (state S.Store conn.new)) }
+    ensures open { OnOk result (IsOpenIfClean (state S.Store conn.new)) }
+    ensures survives { LeavesStore (state S.Store conn.old) (state S.Store conn.new) }
+{
+    conn.prepare("SELECT v FROM version")?;
+    Ok(())
+}
+
+/// The rows of all tables, of a connection that is open after it.
+fn read_open<S: Alter>(conn: &mut Connection<S>) -> Result<StoredRows, Error>
+    requires autocommit { conn.old.in_transaction ≡ false }
+    requires ready { IsReady (state S.Store conn.old) }
+    ensures autocommit { conn.new.in_transaction ≡ false }
+    ensures ready { OnOk result (IsReady (state S.Store conn.new)) }
+    ensures open { OnOk result (IsOpenIfClean (state S.Store conn.new)) }
+    ensures rows { HasCleanDisk (state S.Store conn.new) → (db : Trees)
+        → (state S.Store conn.new).may_leave db → IfOk result (λ r.
+        AreSame (stored db) (tables_of r)) }
+    ensures survives { LeavesStore (state S.Store conn.old) (state S.Store conn.new) }
+{
+    let rows = read_alone(conn)?;
+    check_open(conn)?;
+    Ok(rows)
 }
 
 /// Whether a row of the version says 2.
@@ -114,6 +145,7 @@ pub(crate) fn load_from<S: Alter, R: ReadImage>(
     requires ready { IsReady (state S.Store conn.old) }
     ensures autocommit { conn.new.in_transaction ≡ false }
     ensures ready { OnOk result (IsReady (state S.Store conn.new)) }
+    ensures open { OnOk result (IsOpenIfClean (state S.Store conn.new)) }
     ensures unbroken { IfErr result (λ e. e.must_reopen ≡ false
         → IsReady (state S.Store conn.new)) }
     ensures image { IfOk result (λ image. (c : Result ImageRows DeclaredTable)
@@ -124,7 +156,7 @@ pub(crate) fn load_from<S: Alter, R: ReadImage>(
         → (c : Result ImageRows DeclaredTable) → MayHold (state S.Store conn.new) c → c ≡ Err t) }
     ensures survives { LeavesStore (state S.Store conn.old) (state S.Store conn.new) }
 {
-    let rows = match read_alone(conn) {
+    let rows = match read_open(conn) {
         Ok(rows) => rows,
         Err(error) => {
             return Err(Unloaded {

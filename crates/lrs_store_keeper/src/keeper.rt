@@ -1,4 +1,4 @@
-//! The tables of a store as a keeper.
+//! The tables of a store as a keeper of batches.
 
 ghost use Rattle.std.specs.Prelude.{◌≡◌, ◌≤◌, IfOk, IfErr, true, false, Ok, Err, Result};
 ghost use Rattle.sqlite.specs.State.{HasCleanDisk};
@@ -9,23 +9,23 @@ ghost use Rattle.lrs_machine.specs.declared.table.Table.{Table as DeclaredTable}
 ghost use Rattle.lrs_machine.specs.Image.{nothing};
 ghost use Rattle.lrs_image.specs.Keeping.{HasRisen, HoldsOnly};
 ghost use Rattle.lrs_store_tables.specs.Resting.{IsReady};
-ghost use Rattle.lrs_store_keeper.specs.Holding.{MayHold, IsSafe};
+ghost use Rattle.lrs_store_keeper.specs.Holding.{MayHold, IsOpenIfClean, IsSafe};
 ghost use Rattle.lrs_store_keeper.specs.Opening.{IsSecond};
 
 use crate::commit::write_next;
 use crate::image::{ReadImage, Unloaded, load_from};
 use crate::memory::new_store;
 use crate::migration::make_second;
-use lrs_image::{Change, CommitFailed, Keeper, LoadFault};
+use lrs_image::{Batches, Change, CommitFailed, LoadFault};
 use lrs_machine::{Image, Table};
 use lrs_store_tables::StoreFault;
 use sqlite::{Alter, Connection, MemStore};
 use std::alloc::Global;
 use std::marker::Model;
 
-/// Keeps an image in the tables of a store. A commit is one transaction; loading reads all tables.
+/// Keeps an image in the tables of a store. A write is one transaction; loading reads all tables.
 ///
-/// After a commit or a load that failed the connection is not used again: each call fails from then on, until
+/// After a write or a load that failed the connection is not used again: each call fails from then on, until
 /// the store is opened anew.
 #[derive(Drop)]
 pub struct Tables<S: Alter, R: ReadImage> {
@@ -97,6 +97,7 @@ impl<S: Alter, R: ReadImage + Drop> Tables<S, R> {
         ensures usable { IfOk result (λ k. k.is_broken ≡ false) }
         ensures clean { IfOk result (λ k. HasCleanDisk (state S.Store k.conn)
             → HasCleanDisk (state S.Store conn)) }
+        ensures found { IfOk result (λ k. IsOpenIfClean (state S.Store k.conn)) }
         ensures second { IfOk result (λ k. IsSecond (state S.Store k.conn)) }
         ensures content { IfOk result (λ k. (c : Result ImageRows DeclaredTable)
             → MayHold (state S.Store k.conn) c → MayHold (state S.Store conn) c) }
@@ -121,7 +122,7 @@ impl<S: Alter, R: ReadImage + Drop> Tables<S, R> {
 }
 
 impl<R: ReadImage + Drop> Tables<MemStore, R> {
-    /// Keeps the image without entries in a new store in memory. Nothing has to be loaded before the first commit.
+    /// Keeps the image without entries in a new store in memory. Nothing has to be loaded before the first write.
     ///
     /// # Errors
     /// When memory runs out.
@@ -143,13 +144,17 @@ impl<R: ReadImage + Drop> Tables<MemStore, R> {
     }
 }
 
-impl<S: Alter, R: ReadImage> Keeper for Tables<S, R> {
+impl<S: Alter, R: ReadImage> Batches for Tables<S, R> {
     ghost use Rattle.sqlite.specs.Held.{state};
-    ghost use Rattle.lrs_store_keeper.specs.Holding.{MayHold, IsSafe, finds_left};
+    ghost use Rattle.std.specs.Prelude.{IsTrue};
+    ghost use Rattle.sqlite.specs.State.{HasCleanDisk};
+    ghost use Rattle.lrs_store_keeper.specs.Holding.{MayHold, finds_left};
 
     ghost may_hold = { λ k c. MayHold (state S.Store k.conn) c };
 
-    ghost is_clean = { λ k. IsSafe (state S.Store k.conn) };
+    ghost is_clean = { λ k. HasCleanDisk (state S.Store k.conn) };
+
+    ghost is_open = { λ k. IsTrue (state S.Store k.conn).is_open };
 
     ghost is_loaded = { λ k. k.is_loaded };
 
@@ -175,7 +180,7 @@ impl<S: Alter, R: ReadImage> Keeper for Tables<S, R> {
         }
     }
 
-    fn commit(&mut self, changes: &[Change]) -> Result<(), CommitFailed> {
+    fn write(&mut self, changes: &[Change]) -> Result<(), CommitFailed> {
         if self.is_broken {
             self.failures = self.failures.saturating_add(1);
             return Err(CommitFailed);
@@ -193,7 +198,7 @@ impl<S: Alter, R: ReadImage> Keeper for Tables<S, R> {
         }
     }
 
-    ghost finds = { λ k safe. finds_left safe (S.Store.stays k.conn.store safe.is_open) };
+    ghost finds = { λ k clean opened. finds_left _ _ clean (S.Store.stays k.conn.store opened) };
 }
 
 /// The count of failures after a fault of loading.

@@ -8,10 +8,10 @@ ghost use Rattle.lrs_machine.specs.declared.image.Image.{Image as ImageRows};
 ghost use Rattle.lrs_machine.specs.declared.table.Table.{Table as DeclaredTable};
 ghost use Rattle.lrs_store_tables.specs.Stored.{stored, version_in, LeavesStore};
 ghost use Rattle.lrs_store_tables.specs.Resting.{IsReady};
-ghost use Rattle.lrs_store_keeper.specs.Holding.{MayHold};
+ghost use Rattle.lrs_store_keeper.specs.Holding.{MayHold, IsOpenIfClean};
 ghost use Rattle.lrs_store_keeper.specs.Opening.{HoldsImage, IsSecond, HasVersions};
 
-use crate::image::{ReadImage, is_second, read_alone, read_fault};
+use crate::image::{ReadImage, check_open, is_second, read_alone, read_fault};
 use lrs_image::LoadFault;
 use lrs_machine::Image;
 use lrs_store_commit::bring_up;
@@ -42,10 +42,12 @@ fn has_second<S: Alter>(conn: &mut Connection<S>) -> Result<bool, Error>
     requires ready { IsReady (state S.Store conn.old) }
     ensures autocommit { conn.new.in_transaction ≡ false }
     ensures ready { OnOk result (IsReady (state S.Store conn.new)) }
+    ensures open { OnOk result (IsOpenIfClean (state S.Store conn.new)) }
     ensures second { IfOk result (λ is. IsTrue is → IsSecond (state S.Store conn.new)) }
     ensures survives { LeavesStore (state S.Store conn.old) (state S.Store conn.new) }
 {
     let rows = read_versions_alone(conn)?;
+    check_open(conn)?;
     Ok(is_second(rows.as_slice()))
 }
 
@@ -79,6 +81,7 @@ fn write_second<S: Alter>(conn: &mut Connection<S>, image: &Image) -> Result<(),
     ensures autocommit { conn.new.in_transaction ≡ false }
     ensures clean { HasCleanDisk (state S.Store conn.new) → HasCleanDisk (state S.Store conn.old) }
     ensures ready { OnOk result (IsReady (state S.Store conn.new)) }
+    ensures open { OnOk result (IsOpenIfClean (state S.Store conn.new)) }
     ensures second { OnOk result (IsSecond (state S.Store conn.new)) }
     ensures content { (c : Result ImageRows DeclaredTable) → MayHold (state S.Store conn.new) c
         → MayHold (state S.Store conn.old) c }
@@ -101,6 +104,7 @@ fn rewrite<S: Alter, R: ReadImage>(
     ensures autocommit { conn.new.in_transaction ≡ false }
     ensures clean { HasCleanDisk (state S.Store conn.new) → HasCleanDisk (state S.Store conn.old) }
     ensures ready { OnOk result (IsReady (state S.Store conn.new)) }
+    ensures open { OnOk result (IsOpenIfClean (state S.Store conn.new)) }
     ensures second { OnOk result (IsSecond (state S.Store conn.new)) }
     ensures content { (c : Result ImageRows DeclaredTable) → MayHold (state S.Store conn.new) c
         → MayHold (state S.Store conn.old) c }
@@ -124,6 +128,7 @@ pub(crate) fn make_second<S: Alter, R: ReadImage>(
     ensures autocommit { conn.new.in_transaction ≡ false }
     ensures clean { HasCleanDisk (state S.Store conn.new) → HasCleanDisk (state S.Store conn.old) }
     ensures ready { OnOk result (IsReady (state S.Store conn.new)) }
+    ensures open { OnOk result (IsOpenIfClean (state S.Store conn.new)) }
     ensures second { OnOk result (IsSecond (state S.Store conn.new)) }
     ensures content { (c : Result ImageRows DeclaredTable) → MayHold (state S.Store conn.new) c
         → MayHold (state S.Store conn.old) c }

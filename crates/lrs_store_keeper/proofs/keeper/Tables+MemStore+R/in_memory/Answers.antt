@@ -10,6 +10,7 @@ invariant_of-result g c e =
     record {
       autocommit = c.in_ok-conn.ensures.autocommit;
       ready = λ clean opened. made.rest;
+      is_open = λ loaded clean. made.is_open;
       loaded = λ loaded. no_edits over_memory (λ s db opened same. same) c.in_ok-conn.conn made;
     }
 

@@ -4,7 +4,7 @@ use Rattle.lrs_machine.specs.declared.image.Image.{Image}
 use Rattle.lrs_image.specs.declared.keeper.LoadFault.{LoadFault}
 use Rattle.lrs_image.specs.declared.keeper.LoadFault.TheVariants.{Memory}
 use Rattle.lrs_store_keeper.proofs.Sound.{found_sound}
-use Rattle.lrs_store_keeper.proofs.keeper.TablesKeeper.load.Goals as goal
+use Rattle.lrs_store_keeper.proofs.keeper.TablesBatches.load.Goals as goal
 
 pub returns-then-self-clause-found : goal.returns-then-self-clause-found
 returns-then-self-clause-found g c = found_sound (state g.S.Store c.self.inside.conn)
