@@ -106,7 +106,6 @@ has_found image old new reads holds sound settled taken =
       sound = sound;
       known = taken.known;
       made = taken.made;
-      grown = taken.grown;
       kept = taken.kept;
     }
 

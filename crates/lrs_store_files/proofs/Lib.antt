@@ -1,3 +1,4 @@
 pub mod PlainTables
+pub mod FirstTables
 pub mod OpenLemmas
 pub mod FoundLemmas

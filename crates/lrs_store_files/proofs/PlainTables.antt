@@ -1,12 +1,10 @@
--- The tables of an inventory are plain, and those of version 1 are the first of them.
+-- The tables of an inventory are plain.
 use Rattle.std.proofs.Common.{◌≡◌, ℕ, zero, suc, List, [], ◌∷◌, take, refl}
 use Rattle.std.specs.Prelude.{⊤}
 use Rattle.std.specs.List.{AllByRecursion}
 use Rattle.sqlite_schema.specs.declared.schema.Table.{Table}
-use Rattle.sqlite_tied.specs.Compute.{everything}
 use Rattle.lrs_store_tables.specs.Schema as it
 use Rattle.lrs_store_tables.specs.Schema.{inventory}
-use Rattle.lrs_store_tables.specs.Making.{up_to_edit}
 use Rattle.lrs_store_files.specs.Plain.{IsPlainColumn, IsPlainTable}
 
 -- of every list
@@ -53,14 +51,10 @@ all_plain = (
   ),
 )
 
-pub first_tables : up_to_edit ≡ record { tables = take 11 inventory.tables; indexes = inventory.indexes; views = [] }
-unfolding everything
-first_tables = refl
-
 take_all : {X : Type 0} (P : X → Type 0) (n : ℕ) (xs : List X) → AllByRecursion P xs → AllByRecursion P (take n xs)
 take_all P zero xs all = tt
 take_all P (suc n) [] all = tt
 take_all P (suc n) (x ∷ xs) all = (all.0, take_all P n xs all.1)
 
-pub first_plain : AllByRecursion IsPlainTable (take 11 inventory.tables)
-first_plain = take_all IsPlainTable 11 inventory.tables all_plain
+pub first_plain : (n : ℕ) → AllByRecursion IsPlainTable (take n inventory.tables)
+first_plain n = take_all IsPlainTable n inventory.tables all_plain

@@ -1,5 +1,5 @@
 -- What an opening of files leaves of the rows that they held.
-use Rattle.std.specs.Prelude.{◌≡◌, ◌⊎◌}
+use Rattle.std.specs.Prelude.{◌≡◌, ◌⊎◌, ℕ, ◌<◌, ◌≤◌}
 use Rattle.sqlite_schema.specs.declared.schema.Schema.{Schema}
 use Rattle.sqlite_catalog.specs.Listing.{IsSound}
 use Rattle.sqlite_trees.specs.Tree.{Trees}
@@ -8,17 +8,15 @@ use Rattle.sqlite_wal.specs.Recovery.{Image}
 use Rattle.sqlite_disk.specs.declared.Files.{Files}
 use Rattle.sqlite.specs.State.{State, HasCleanDisk}
 use Rattle.sqlite.specs.Files.{HoldsDatabase, AreFoundIn, IsCleanLeft, LeavesFiles, file_state, image_of}
-use Rattle.lrs_store_tables.specs.Schema.{inventory}
 use Rattle.lrs_store_tables.specs.Stored.{stored}
-use Rattle.lrs_store_tables.specs.Making.{no_schema, up_to_edit}
+use Rattle.lrs_store_tables.specs.Making.{no_schema, first_tables, first_rows}
 use Rattle.lrs_store_tables.specs.Starting.{new_rows}
 use Rattle.lrs_store_tables.specs.Holding.{HoldsOnly}
-use Rattle.lrs_store_tables.specs.Changing.{without_origins}
 use Rattle.lrs_store_files.specs.Opening.{IsKnown, HasBegun}
 use Rattle.lrs_store_files.specs.declared.files.Untaken.{Untaken}
 use Rattle.lrs_store_files.specs.declared.files.Untaken.TheVariants as untaken
 
--- The files held these trees, of tables that are known. A store without tables was made new, and all rows of one with tables stay.
+-- The files held these trees, of tables that are known. A store without tables was made new, and all rows of one with tables stay; a table that it lacked has none.
 pub record HasFound (image : Image) (s : State) : Type 0 where
   pub trees : Trees
   pub schema : Schema
@@ -27,8 +25,7 @@ pub record HasFound (image : Image) (s : State) : Type 0 where
   pub sound : IsSound schema trees
   pub known : IsKnown schema
   pub made : schema ≡ no_schema → HoldsOnly s new_rows
-  pub grown : schema ≡ up_to_edit → HoldsOnly s (without_origins (stored trees))
-  pub kept : schema ≡ inventory → HoldsOnly s (stored trees)
+  pub kept : (n : ℕ) → 0 < n → n ≤ 12 → schema ≡ first_tables n → HoldsOnly s (first_rows n (stored trees))
 
 -- The files held these trees, and tables were to be made in them: such rows hold the same inventory.
 pub record IsBegun (image : Image) (db : Trees) : Type 0 where

@@ -1,51 +1,37 @@
-//! A connection becomes a store of tables: they are made where there is none, and no row changes.
+//! A connection becomes a store of tables: those that are missing are made, and no row changes.
 
-ghost use Rattle.std.specs.Prelude.{◌≡◌, OnOk, IfOk, IfErr, IsTrue, false};
+ghost use Rattle.std.specs.Prelude.{◌≡◌, ◌<◌, OnOk, IfOk, IfErr, IsErrAnd, IsTrue, false};
 ghost use Rattle.sqlite.specs.State.{HasCleanDisk, Survives};
 ghost use Rattle.sqlite.specs.Held.{state};
 ghost use Rattle.lrs_store_rows.specs.Tables.{AreSame};
 ghost use Rattle.lrs_store_tables.specs.Schema.{inventory};
-ghost use Rattle.lrs_store_tables.specs.Stored.{stored, LeavesStore};
-ghost use Rattle.lrs_store_tables.specs.Changing.{without_origins};
-ghost use Rattle.lrs_store_tables.specs.Making.{no_schema, up_to_edit};
+ghost use Rattle.lrs_store_tables.specs.Stored.{stored};
+ghost use Rattle.lrs_store_tables.specs.Making.{no_schema, first_tables, first_rows};
 ghost use Rattle.lrs_store_tables.specs.Resting.{IsReady};
-ghost use Rattle.lrs_store_files.specs.Opening.{IsTaken, IsFound, LeavesFound, HasOrigins, IsGrown};
+ghost use Rattle.lrs_store_files.specs.Opening.{IsKnown, IsTaken, IsFound, LeavesFound, IsGrown};
 
 use crate::table_list::{Known, wanted, which};
-use lrs_store_tables::{CREATE_ORIGIN, StoreFault, TableStore, make_store};
-use sqlite::{Alter, Connection, Error, ErrorCode, Transaction};
+use lrs_store_tables::{StoreFault, TABLES, TableStore, make_store, make_tables};
+use sqlite::{Alter, Connection, Error, ErrorCode};
 use std::alloc::Global;
 
-/// Makes the table of origins, without a row.
-fn make_origins<S: Alter>(tx: &mut Transaction<'_, S>) -> Result<(), Error>
-    ensures same_reference { tx.new.conn.ghost_name ≡ tx.old.conn.ghost_name }
-    ensures made { HasCleanDisk (state S.Store tx.new.conn.now)
-        → IsTrue (state S.Store tx.old.conn.now).in_transaction
-        → (IsTrue (state S.Store tx.old.conn.now).is_open
-        → (state S.Store tx.old.conn.now).now.schema ≡ up_to_edit)
-        → OnOk result (HasOrigins (state S.Store tx.old.conn.now) (state S.Store tx.new.conn.now)) }
-    ensures survives { LeavesStore (state S.Store tx.old.conn.now) (state S.Store tx.new.conn.now) }
-{
-    tx.execute(CREATE_ORIGIN, &[])?;
-    Ok(())
-}
-
-/// Makes the table of origins in a store of version 1, in one transaction.
+/// Makes the tables that a store lacks behind its first ones, in one transaction.
 ///
 /// # Errors
 /// When the store fails, or memory runs out. The rows are as they were.
-pub fn grow<S: Alter>(conn: &mut Connection<S>) -> Result<(), Error>
+pub fn grow<S: Alter>(conn: &mut Connection<S>, first: usize) -> Result<(), Error>
     requires autocommit { conn.old.in_transaction ≡ false }
+    requires few { first < 12 }
     requires first { HasCleanDisk (state S.Store conn.old) → IsTrue (state S.Store conn.old).is_open
-        → (state S.Store conn.old).now.schema ≡ up_to_edit }
+        → (state S.Store conn.old).now.schema ≡ first_tables first }
     ensures autocommit { conn.new.in_transaction ≡ false }
     ensures grown { HasCleanDisk (state S.Store conn.new)
-        → OnOk result (IsGrown (state S.Store conn.old) (state S.Store conn.new)) }
+        → OnOk result (IsGrown first (state S.Store conn.old) (state S.Store conn.new)) }
     ensures survives { Survives (state S.Store conn.old) (state S.Store conn.new) (λ db.
-        AreSame (without_origins (stored (state S.Store conn.old).now.trees)) (stored db)) }
+        AreSame (first_rows first (stored (state S.Store conn.old).now.trees)) (stored db)) }
 {
     let mut tx = conn.transaction();
-    make_origins(&mut tx)?;
+    make_tables(&mut tx, first)?;
     tx.commit()
 }
 
@@ -63,7 +49,7 @@ pub fn fault_of(error: Error) -> StoreFault
 fn kept<S: Alter>(conn: Connection<S>) -> TableStore<S>
     requires autocommit { conn.in_transaction ≡ false }
     requires found { IsFound (state S.Store conn) }
-    requires second { (state S.Store conn).now.schema ≡ inventory }
+    requires all { (state S.Store conn).now.schema ≡ inventory }
     ensures same { result.conn ≡ conn }
     ensures ready { IsReady (state S.Store result.conn) }
     ensures rows { IsTaken (state S.Store conn) (state S.Store result.conn) }
@@ -93,10 +79,12 @@ fn made<S: Alter>(mut conn: Connection<S>) -> Result<TableStore<S>, NotTaken<S>>
     }
 }
 
-fn grown<S: Alter>(mut conn: Connection<S>) -> Result<TableStore<S>, NotTaken<S>>
+fn grown<S: Alter>(mut conn: Connection<S>, first: usize) -> Result<TableStore<S>, NotTaken<S>>
     requires autocommit { conn.in_transaction ≡ false }
     requires found { IsFound (state S.Store conn) }
-    requires first { (state S.Store conn).now.schema ≡ up_to_edit }
+    requires some { 0 < first }
+    requires few { first < 12 }
+    requires first { (state S.Store conn).now.schema ≡ first_tables first }
     ensures autocommit { IfOk result (λ t. t.conn.in_transaction ≡ false) }
     ensures clean { IfOk result (λ t. HasCleanDisk (state S.Store t.conn)
         → HasCleanDisk (state S.Store conn)) }
@@ -104,7 +92,7 @@ fn grown<S: Alter>(mut conn: Connection<S>) -> Result<TableStore<S>, NotTaken<S>
     ensures rows { IfOk result (λ t. IsTaken (state S.Store conn) (state S.Store t.conn)) }
     ensures left { IfErr result (λ e. LeavesFound (state S.Store conn) (state S.Store e.1)) }
 {
-    match grow(&mut conn) {
+    match grow(&mut conn, first) {
         Ok(()) => {
             // For the prover alone: what its contract says is known from here on.
             let _live = conn.schema();
@@ -124,7 +112,7 @@ fn unchanged<S: Alter>(fault: StoreFault, conn: Connection<S>) -> NotTaken<S>
 }
 
 /// The tables of a connection that was just opened. Where there is none, they are made in one transaction, with the
-/// row of the version; where those of version 1 are, the table of origins is made.
+/// row of the version; where the first of them are, the others are made, without a row.
 ///
 /// # Errors
 /// When memory runs out, the store fails, or it has other tables: it is then as it was.
@@ -137,17 +125,16 @@ pub fn over<S: Alter>(alloc: Global, conn: Connection<S>) -> Result<TableStore<S
     ensures ready { IfOk result (λ t. IsReady (state S.Store t.conn)) }
     ensures rows { IfOk result (λ t. IsTaken (state S.Store conn) (state S.Store t.conn)) }
     ensures same { (state S.Store conn).now.schema ≡ inventory → IfOk result (λ t. t.conn ≡ conn) }
-    ensures other { ((state S.Store conn).now.schema ≡ no_schema → ⊥)
-        → ((state S.Store conn).now.schema ≡ up_to_edit → ⊥) → IfErr result (λ e. e.1 ≡ conn) }
+    ensures other { (IsKnown (state S.Store conn).now.schema → ⊥) → IsErrAnd result (λ e. e.1 ≡ conn) }
     ensures left { IfErr result (λ e. LeavesFound (state S.Store conn) (state S.Store e.1)) }
 {
     let Ok(wanted) = wanted(alloc) else {
         return Err(unchanged(StoreFault::Memory, conn));
     };
     match which(conn.schema(), &wanted) {
-        Known::Second => Ok(kept(conn)),
-        Known::Nothing => made(conn),
-        Known::First => grown(conn),
+        Known::First(0) => made(conn),
+        Known::First(TABLES) => Ok(kept(conn)),
+        Known::First(first) => grown(conn, first),
         Known::Other => Err(unchanged(StoreFault::Store, conn)),
     }
 }

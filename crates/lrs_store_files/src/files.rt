@@ -5,12 +5,16 @@ ghost use Rattle.sqlite_wal.specs.Reads.{AreClean};
 ghost use Rattle.sqlite_wal.specs.Files.{image_at};
 ghost use Rattle.sqlite_std_file.specs.File.{IsFresh};
 ghost use Rattle.sqlite.specs.State.{HasCleanDisk};
-ghost use Rattle.sqlite.specs.Files.{file_state, image_of};
+ghost use Rattle.sqlite_store.specs.FileStore.{view};
+ghost use Rattle.sqlite.specs.Held.{IsNew};
+ghost use Rattle.sqlite.specs.Start.{FindsIn};
+ghost use Rattle.sqlite.specs.Files.{file_state, image_of, IsOpened, IsBlankAs};
 ghost use Rattle.sqlite.specs.Closing.{IsCopied};
 ghost use Rattle.lrs_store_tables.specs.Resting.{IsReady};
 ghost use Rattle.lrs_store_files.specs.Found.{HasFound, IsLeftOf};
 
 use crate::connection::{fault_of, over};
+use crate::lost::refuse_lost;
 use lrs_store_tables::{StoreFault, TableStore};
 use sqlite::{Connection, Error, ErrorCode, FileFrom, FileStore, Files, Leftover, Options, Start};
 use sqlite_disk::Disk;
@@ -76,14 +80,44 @@ fn refused<D: Disk + Drop>(left: Option<Leftover<D>>) -> Option<Untaken<D>>
     }
 }
 
+/// Opens the files at a path. `new_has_sums` says whether each page of a file that is made ends in a sum of its bytes,
+/// which an opening tests; a file that is there goes on as it was made.
+fn connect_at<S: Start>(
+    rt: &HostRuntime,
+    path: &str,
+    new_has_sums: bool,
+    start: S,
+) -> Result<Connection<FileStore<FileFrom<S>>>, Refusal<FileFrom<S>>>
+    ensures fresh { IfOk result IsNew }
+    ensures opened { IfOk result (λ c. HasCleanDisk (file_state c) → IsOpened c) }
+    ensures found { IfOk result (λ c. HasCleanDisk (file_state c)
+        → FindsIn (image_at S.Start) (file_state c)) }
+    ensures sums { IfOk result (λ c. HasCleanDisk (file_state c)
+        → IsBlankAs new_has_sums (image_at S.Start)
+        → (view c.store).has_sums ≡ new_has_sums) }
+    ensures left { IfErr result (λ e. IfSome e.left
+        (IsLeftOf (image_at S.Start) (λ files. IsFresh true files.log × IsFresh false files.db))) }
+{
+    match Connection::open_from(rt, path, new_has_sums, start) {
+        Ok(conn) => Ok(conn),
+        Err((error, left)) => Err(Refusal {
+            fault: fault_of(error),
+            left: refused(left),
+        }),
+    }
+}
+
 /// Opens the store at a path, or makes one where there is none. `start` stands for what the files hold.
+/// `new_has_sums` says whether each page of a file that is made ends in a sum of its bytes, which an opening tests; a
+/// file that is there goes on as it was made.
 ///
 /// # Errors
-/// When memory runs out, a file fails, another program has it, or it holds no store of an inventory: the files are then
-/// as they were.
+/// When memory runs out, a file fails, another program has it, it holds no store of an inventory, or it is missing or
+/// empty beside a log with commits: the files are then as they were.
 pub fn open_tables_at<S: Start>(
     rt: &HostRuntime,
     path: &str,
+    new_has_sums: bool,
     start: S,
 ) -> Result<TableStore<FileStore<FileFrom<S>>>, Refusal<FileFrom<S>>>
     ensures autocommit { IfOk result (λ t. t.conn.in_transaction ≡ false) }
@@ -93,17 +127,15 @@ pub fn open_tables_at<S: Start>(
     ensures left { IfErr result (λ e. IfSome e.left
         (IsLeftOf (image_at S.Start) (λ files. IsFresh true files.log × IsFresh false files.db))) }
 {
-    match Connection::open_from(rt, path, false, start) {
-        Ok(conn) => match over(rt.alloc(), conn) {
-            Ok(tables) => Ok(tables),
-            Err((fault, conn)) => Err(Refusal {
-                fault,
-                left: Some(Untaken::Connected(conn)),
-            }),
-        },
-        Err((error, left)) => Err(Refusal {
-            fault: fault_of(error),
-            left: refused(left),
+    if let Err(fault) = refuse_lost(rt, path) {
+        return Err(Refusal { fault, left: None });
+    }
+    let conn = connect_at(rt, path, new_has_sums, start)?;
+    match over(rt.alloc(), conn) {
+        Ok(tables) => Ok(tables),
+        Err((fault, conn)) => Err(Refusal {
+            fault,
+            left: Some(Untaken::Connected(conn)),
         }),
     }
 }

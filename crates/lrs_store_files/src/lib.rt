@@ -4,6 +4,7 @@
 mod comparison;
 mod connection;
 mod files;
+mod lost;
 mod table_list;
 
 pub use files::{CloseFault, Refusal, Untaken, close_tables, open_tables, open_tables_at};

@@ -1,27 +1,24 @@
 //! Which of the tables that this program makes a store has.
 
-ghost use Rattle.std.specs.Prelude.{◌≡◌, ◌↔◌, IfOk};
+ghost use Rattle.std.specs.Prelude.{◌≡◌, ◌↔◌, ℕ, ◌≤◌, IfOk};
 ghost use Rattle.lrs_store_tables.specs.Schema.{inventory};
-ghost use Rattle.lrs_store_tables.specs.Making.{no_schema, up_to_edit};
+ghost use Rattle.lrs_store_tables.specs.Making.{first_tables};
 
 use crate::comparison::has_only;
-use lrs_store_tables::TableStore;
+use lrs_store_tables::{TABLES, TableStore};
 use sqlite_schema::schema::Schema;
 use std::alloc::{AllocError, Global};
 
-/// How many of the tables version 1 has: all but the last.
-const OF_FIRST: usize = 11;
+/// How many indexes the first tables have, by how many tables they are.
+const INDEXES: [usize; TABLES + 1] = [0, 0, 0, 1, 1, 2, 3, 4, 5, 6, 7, 8, 8];
 
 /// What a store has.
 #[derive(Clone, Copy, Debug, PartialEq, Eq)]
 pub enum Known {
-    /// No table.
-    Nothing,
-    /// The tables of version 1, which tell no origins.
-    First,
-    /// The tables of version 2.
-    Second,
-    /// Other tables, or some of these.
+    /// The first of the tables, in the order in which they are made: none, some or all. Those of version 1 are all but
+    /// the last, which tells origins.
+    First(usize),
+    /// Other tables.
     Other,
 }
 
@@ -41,20 +38,17 @@ pub fn wanted(alloc: Global) -> Result<Schema, AllocError>
 /// Which tables the schema of a store has, beside those of version 2.
 pub fn which(found: &Schema, wanted: &Schema) -> Known
     requires wanted { wanted.now ≡ inventory }
-    ensures nothing { (result ≡ Known.Nothing) ↔ (found.now ≡ no_schema) }
-    ensures first { (result ≡ Known.First) ↔ (found.now ≡ up_to_edit) }
-    ensures second { (result ≡ Known.Second) ↔ (found.now ≡ inventory) }
+    ensures { (n : ℕ) → (result ≡ Known.First n) ↔ ((n ≤ 12) × (found.now ≡ first_tables n)) }
 {
-    let tables = wanted.tables.as_slice();
-    let indexes = wanted.indexes.as_slice();
+    let count = found.tables.len();
+    if count > TABLES {
+        return Known::Other;
+    }
+    let tables = &wanted.tables.as_slice()[..count];
+    let indexes = &wanted.indexes.as_slice()[..INDEXES[count]];
     if has_only(found, tables, indexes) {
-        return Known::Second;
+        Known::First(count)
+    } else {
+        Known::Other
     }
-    if has_only(found, &[], &[]) {
-        return Known::Nothing;
-    }
-    if has_only(found, &tables[..OF_FIRST], indexes) {
-        return Known::First;
-    }
-    Known::Other
 }

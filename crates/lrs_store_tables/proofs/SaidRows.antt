@@ -1,5 +1,5 @@
 -- What the rows of a table say, row by row.
-use Rattle.std.proofs.Common.{◌≡◌, ℕ, ◌+◌, ◌<◌, ◌++◌, take, drop, get_or, suc, List, [], ◌∷◌, map, length, Option, Some, None, Bool, true, false, ◌&&◌, refl, sym, ap, ap₂, subst, ◌∙◌, arith, IsPermutation}
+use Rattle.std.proofs.Common.{◌≡◌, ℕ, ◌+◌, ◌<◌, ◌++◌, take, drop, get_or, suc, List, [], ◌∷◌, length, Option, Some, None, Bool, true, false, ◌&&◌, refl, sym, ap, ap₂, subst, ◌∙◌, arith}
 use Rattle.std.proofs.Math.Seq.{take-suc, split_at}
 use Rattle.std.specs.Prelude.{IsTrue}
 use Rattle.std.proofs.Math.Bool.{Bool-set}

@@ -9,6 +9,6 @@ pub mod number;
 pub mod select;
 mod tables;
 
-pub use create::CREATE_ORIGIN;
+pub use create::{TABLES, make_tables};
 pub use new_store::make_store;
 pub use tables::{StoreFault, TableStore};

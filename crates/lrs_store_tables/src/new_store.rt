@@ -5,7 +5,7 @@ ghost use Rattle.sqlite.specs.State.{HasCleanDisk, Survives};
 ghost use Rattle.sqlite.specs.Held.{state};
 ghost use Rattle.lrs_store_rows.specs.Tables.{AreSame};
 ghost use Rattle.lrs_store_tables.specs.Stored.{stored, LeavesStore};
-ghost use Rattle.lrs_store_tables.specs.Making.{IsMaking, no_schema};
+ghost use Rattle.lrs_store_tables.specs.Making.{IsBegun, no_schema};
 ghost use Rattle.lrs_store_tables.specs.Starting.{new_rows, IsStarted, IsNew, NewRowsHoldNothing};
 
 use crate::create::make_tables;
@@ -16,11 +16,11 @@ use sqlite::{Alter, Connection, Error, Transaction};
 fn start<S: Alter>(tx: &mut Transaction<'_, S>) -> Result<(), Error>
     ensures same_reference { tx.new.conn.ghost_name ≡ tx.old.conn.ghost_name }
     ensures started { HasCleanDisk (state S.Store tx.new.conn.now)
-        → IsMaking no_schema (state S.Store tx.old.conn.now)
+        → IsBegun 0 (state S.Store tx.old.conn.now)
         → OnOk result (IsStarted (state S.Store tx.new.conn.now)) }
     ensures survives { LeavesStore (state S.Store tx.old.conn.now) (state S.Store tx.new.conn.now) }
 {
-    make_tables(tx)?;
+    make_tables(tx, 0)?;
     put_version(tx, 2)?;
     Ok(())
 }

@@ -6,8 +6,9 @@ use Rattle.lrs_store_tables.proofs.new_store.start.Goals as goal
 
 pub returns-clause-started : goal.returns-clause-started
 returns-clause-started g c clean making =
+    let s0 = state g.S.Store c.args.tx.now.conn.now in
     let s1 = state g.S.Store c.make_tables.new.tx.conn.now in
     let s2 = state g.S.Store c.put_version.new.tx.conn.now in
     let m1 : HasCleanDisk s1 = omega (arith, c.put_version.ensures.survives.clean) in
     let made = c.in_ok-make_tables.ensures.made m1 making in
-    started s1 s2 (c.in_ok-put_version.ensures.is_open clean (made_writing s1 made)) made (c.in_ok-put_version.ensures.does clean (made_writing s1 made))
+    started s0 s1 s2 (c.in_ok-put_version.ensures.is_open clean (made_writing s0 s1 made)) made (c.in_ok-put_version.ensures.does clean (made_writing s0 s1 made))

@@ -1,0 +1,26 @@
+use Rattle.std.proofs.Common.{◌≡◌, [], Ok, subst, ◌∙◌, arith}
+use Rattle.sqlite.specs.Held.{state}
+use Rattle.sqlite.specs.State.{ExecutesInside}
+use Rattle.sqlite.proofs.StateLemmas.{survives_then}
+use Rattle.lrs_store_tables.specs.Making.{IsMaking}
+use Rattle.lrs_store_tables.proofs.MakeLemmas.{makes_one}
+use Rattle.lrs_store_tables.proofs.create.make_tables.Goals as goal
+
+pub loop-place-preserved : goal.loop-place-preserved
+loop-place-preserved g c =
+    let start = state g.S.Store c.args.tx.now.conn.now in
+    let mid = state g.S.Store c.loop-place.tx.conn.now in
+    let last = state g.S.Store c.execute.new.self.conn.now in
+    let count = c.in_ok-execute.field-0 in
+    record {
+      same = c.execute.ensures.same_reference ∙ c.loop-place.invariant.same;
+      making = λ clean begun.
+          let before = c.loop-place.invariant.making (omega (arith, c.execute.ensures.survives.clean)) begun in
+          makes_one c.args.first c.loop-place.place (omega arith) (omega arith) start mid last count before (subst (λ sql. ExecutesInside 0 sql [] mid last (Ok count)) c.create_at.ensures (c.in_ok-execute.ensures.runs clean before.begun));
+      survives = survives_then start mid last _ _ (λ _. ⊥) (λ _ db none. none) (λ _ db none. none) c.loop-place.invariant.survives c.execute.ensures.survives;
+    }
+
+pub returns-clause-made : goal.returns-clause-made
+returns-clause-made g c clean begun =
+    let all : c.loop-place.place ≡ 12 = omega (arith, c.loop-place-test.false, c.loop-place.auto.place-end c.requires) in
+    subst (λ m. IsMaking c.args.first m (state g.S.Store c.args.tx.now.conn.now) (state g.S.Store c.loop-place.tx.conn.now)) all (c.loop-place.invariant.making clean begun)
