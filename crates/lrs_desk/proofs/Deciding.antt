@@ -28,7 +28,10 @@ use Rattle.lrs_machine.specs.Machine.{Outcome, step, attempt, step_by_key, outco
 use Rattle.lrs_inventory.specs.Plans.{IsPlanOf, change_of}
 use Rattle.lrs_image_laws.proofs.Making.{made_is_sound}
 use Rattle.lrs_machine.specs.declared.table.Table.{Table}
-use Rattle.lrs_desk.specs.Desk.{IsOldOrNext}
+use Rattle.lrs_image.specs.declared.keeper.LoadFault.{LoadFault}
+use Rattle.lrs_image.specs.declared.keeper.LoadFault.TheVariants as load
+use Rattle.lrs_desk.specs.declared.desk.OpenFault.TheVariants as opened
+use Rattle.lrs_desk.specs.Desk.{IsOldOrNext, opened_by}
 use Rattle.lrs_desk.specs.Decide.{IsDoneBy, HasRoom, LacksRoom, edit_of, done_image}
 
 -- an edit as the ground machine keeps it
@@ -165,3 +168,9 @@ pub old_or_next : (limits : Limits) (key : Name) (command : Command) (i : Image)
     → (c ≡ Ok i) ⊎ (c ≡ Ok (apply (change_of e p) i)) → IsOldOrNext limits (record { key = key; command = command } ∷ []) i c
 old_or_next limits key command i p e d same c (inl a) = inl a
 old_or_next limits key command i p e d same c (inr a) = inr (done_image key command p i, a ∙ ap (λ (e : Edit). Ok (apply (change_of e p) i)) same, sym (ap (λ (o : Outcome). o.state) d.outcome), d.sound)
+
+-- A desk asks for no other table than its keeper named.
+pub opened_unsound : (f : LoadFault) (t : Table) → opened_by f ≡ opened.Unsound t → f ≡ load.Unsound t
+opened_unsound load.Memory t e = absurd (cc e)
+opened_unsound load.Store t e = absurd (cc e)
+opened_unsound (load.Unsound u) t e = ap load.Unsound (cc e)

@@ -1,5 +1,5 @@
 -- Commands that are done together, and what is kept of them.
-use Rattle.std.proofs.Common.{◌≡◌, ◌⊎◌, inl, inr, ℕ, zero, suc, ◌+◌, ◌-◌, ◌≤◌, ◌<◌, Bool, true, List, [], ◌∷◌, ◌++◌, length, take, get_or, Result, Ok, IfOk, refl, sym, ap, subst, ◌∙◌, arith, length-append}
+use Rattle.std.proofs.Common.{◌≡◌, ◌⊎◌, inl, inr, ℕ, zero, suc, ◌+◌, ◌-◌, ◌≤◌, ◌<◌, Bool, true, List, [], ◌∷◌, ◌++◌, length, take, get_or, Result, Ok, Err, IfOk, OnOk, OnErr, refl, sym, ap, subst, ◌∙◌, arith, length-append}
 use Rattle.std.specs.List.{AllByRecursion}
 use Rattle.std.proofs.lemmas.List.{take_more, take_all, take-map, map-append, length-map, length-take-le}
 use Rattle.lrs_measure.specs.Texts.{Name}
@@ -19,6 +19,8 @@ use Rattle.lrs_image.specs.Together.{apply_all, CanMakeAll, IsChangedBy}
 use Rattle.lrs_image.proofs.Together.{apply_more, can_more, edits_after}
 use Rattle.lrs_machine_stops.specs.Stopped.{IsAccepted}
 use Rattle.lrs_desk.specs.Desk.{BreaksAmid, records_of}
+use Rattle.lrs_desk.specs.declared.desk.Fault.{Fault}
+use Rattle.lrs_desk.specs.declared.desk.Fault.TheVariants.{Memory, Keep, MustReopen}
 use Rattle.lrs_desk.specs.DeskView.{DeskView}
 use Rattle.lrs_desk.specs.Group.{MayBeChanged, DoesNext, IsMade, HasDone, GoesOn, IsGroup}
 
@@ -249,3 +251,16 @@ none_made i j (c ∷ cs) m same = absurd (omega (arith, edits_after (c ∷ cs) i
 -- An open keeper finds what it holds alone.
 pub held : (may : Result Image Table → Type 0) (i : Image) → HoldsOnly may i → (c : Result Image Table) × may c → may (Ok i)
 held may i only found = subst may (only found.0 found.1) found.1
+
+-- What may be found after a command, where its commit has not failed: its image alone.
+pub kept_after : (old_may may : Result Image Table → Type 0) (old new next : Image) (made : Result Answer Fault) → HoldsOnly old_may old → OnOk made (new ≡ next) → OnOk made (HoldsOnly may next)
+    → OnErr made (new ≡ old) → (made ≡ Err Memory → (c : Result Image Table) → may c → old_may c) → (made ≡ Err MustReopen → ⊥) → (made ≡ Err Keep → ⊥) → HoldsOnly may new
+kept_after old_may may old new next (Ok a) only ok kept err memory never no_failure = λ c h. kept c h ∙ ap (λ (i : Image). let r : Result Image Table = Ok i in r) (sym ok)
+kept_after old_may may old new next (Err Memory) only ok kept err memory never no_failure = λ c h. only c (memory refl c h) ∙ ap (λ (i : Image). let r : Result Image Table = Ok i in r) (sym err)
+kept_after old_may may old new next (Err Keep) only ok kept err memory never no_failure = absurd (no_failure refl)
+kept_after old_may may old new next (Err MustReopen) only ok kept err memory never no_failure = absurd (never refl)
+
+-- Without a change what may be found is the image alone, as before.
+pub same_only : (may : Result Image Table → Type 0) (i j : Image) (changes : List Change) → IsMade i j changes → changes ≡ [] → HoldsOnly may i → HoldsOnly may j
+same_only may i j changes m none only = λ c h.
+    only c h ∙ ap (λ (image : Image). let r : Result Image Table = Ok image in r) (sym (m.made ∙ ap (λ (cs : List Change). apply_all cs i) none))

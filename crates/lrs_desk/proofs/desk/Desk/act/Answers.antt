@@ -1,10 +1,13 @@
-use Rattle.std.proofs.Common.{◌≡◌, [], ◌∷◌, OnErr, ap, subst, rules, ◌∙◌}
+use Rattle.std.proofs.Common.{◌≡◌, true, false, [], ◌∷◌, Err, OnErr, ap, sym, subst, rules, ◌∙◌}
 use Rattle.lrs_machine.specs.declared.image.Edit.{Edit}
 use Rattle.lrs_image.specs.Keeping.{HasRisen}
 use Rattle.lrs_desk.specs.Decide.{IsDecision}
 use Rattle.lrs_desk.specs.Desk.{IsOldOrNext}
 use Rattle.lrs_desk.specs.DeskView.{DeskView}
+use Rattle.std.proofs.lemmas.Bool.{false≢true}
+use Rattle.lrs_desk.specs.declared.desk.Fault.TheVariants.{Keep}
 use Rattle.lrs_desk.proofs.Deciding.{old_or_next}
+use Rattle.lrs_desk.proofs.Grouping.{kept_after}
 use Rattle.lrs_desk.proofs.desk.Desk.act.Goals as goal
 
 pub returns-after-matches-clause-keep : goal.returns-after-matches-clause-keep
@@ -21,4 +24,19 @@ returns-after-matches-clause-keep g c = λ e.
       must_reopen = search rules;
       is_ahead = c.self.invariant.behind c.if-self.false;
       cause = subst (λ (v : DeskView g.row.K.Denot). HasRisen (g.K.Keeper.failures v.keeper) (g.K.Keeper.failures c.make-made.new.keeper)) c.self.view_is (c.make-made.ensures.cause e);
+    }
+
+pub invariant_of-self : goal.invariant_of-self
+invariant_of-self g c =
+    let no_failure : c.match-matches.self ≡ false → c.make-made.result ≡ Err Keep → ⊥ = λ shut e.
+    (let failed : c.match-matches.self ≡ true = search rules in false≢true (sym shut ∙ failed)) in
+    let d = c.make-made.ensures in
+    record {
+      kept = λ shut. kept_after (g.K.Keeper.may_hold c.self.inside.keeper) (g.K.Keeper.may_hold c.make-made.new.keeper) c.self.inside.inventory c.make-made.new.inventory _ c.make-made.result
+          (c.self.invariant.kept c.if-self.false) d.ok d.ok_kept d.err d.memory d.only (no_failure shut);
+      reached = λ shut. d.reached (no_failure shut);
+      behind = λ shut. c.self.invariant.behind c.if-self.false;
+      loaded = d.loaded;
+      none_staged = d.staged;
+      counted = d.counted;
     }

@@ -1,8 +1,8 @@
-use Rattle.std.proofs.Common.{ℕ, refl, subst, true}
+use Rattle.std.proofs.Common.{ℕ, refl, sym, subst, true, ◌∙◌}
 use Rattle.lrs_image.specs.Keeping.{HasRisen}
 use Rattle.lrs_desk.specs.Desk.{BreaksAmid, records_of}
 use Rattle.lrs_desk.specs.DeskView.{DeskView}
-use Rattle.lrs_desk.proofs.Grouping.{breaks_amid, as_before}
+use Rattle.lrs_desk.proofs.Grouping.{breaks_amid, as_before, none_made, held, same_only, still_only}
 use Rattle.lrs_desk.proofs.desk.Desk.act_on_first.Goals as goal
 
 pub returns-in-Err-clause-keep : goal.returns-in-Err-clause-keep
@@ -18,3 +18,40 @@ returns-in-Err-clause-keep g c = λ e.
     (breaks_amid holds g.K.Keeper.failures records old new c.in_ok-given.given.items staged c.in_ok-given.ensures.does (c.self.invariant.kept c.if-self.false)
     (λ x h. as_before (holds d.keeper) (holds mid) c.do_first.ensures.content staged x (c.in-Err.ensures.failed x h))
     refl refl (subst (λ (n : ℕ). HasRisen n (g.K.Keeper.failures c.commit.new.self)) c.do_first.ensures.quiet c.in-Err.ensures.cause))
+
+-- Where no edit was made, nothing is staged, and the image is as it was.
+pub invariant_of-self-then-edits : goal.invariant_of-self-then-edits
+invariant_of-self-then-edits g c =
+    let i = c.self.inside.inventory in
+    let j = c.do_first.new.inventory in
+    let mid = c.do_first.new.keeper in
+    let m = c.in_ok-given.ensures.does.made in
+    let none = none_made i j (g.K.Keeper.staged mid) m (sym c.edits.ensures ∙ c.if-edits.true ∙ c.edits-edits.ensures) in
+    record {
+      kept = λ shut. same_only (g.K.Keeper.may_hold mid) i j (g.K.Keeper.staged mid) m none (still_only (g.K.Keeper.may_hold c.self.inside.keeper) (g.K.Keeper.may_hold mid) c.do_first.ensures.content i (c.self.invariant.kept shut));
+      reached = λ shut clean. c.do_first.ensures.«open» (c.self.invariant.reached shut (c.do_first.ensures.clean clean));
+      behind = c.self.invariant.behind;
+      loaded = c.do_first.ensures.loaded ∙ c.self.invariant.loaded;
+      none_staged = none;
+      counted = c.do_first.ensures.counted;
+    }
+
+pub returns-then-edits-clause-content : goal.returns-then-edits-clause-content
+returns-then-edits-clause-content g c =
+    let i = c.self.inside.inventory in
+    let j = c.do_first.new.inventory in
+    let mid = c.do_first.new.keeper in
+    let m = c.in_ok-given.ensures.does.made in
+    let none = none_made i j (g.K.Keeper.staged mid) m (sym c.edits.ensures ∙ c.if-edits.true ∙ c.edits-edits.ensures) in
+    same_only (g.K.Keeper.may_hold mid) i j (g.K.Keeper.staged mid) m none (still_only (g.K.Keeper.may_hold c.self.inside.keeper) (g.K.Keeper.may_hold mid) c.do_first.ensures.content i (c.self.invariant.kept c.if-self.false))
+
+pub returns-then-edits-clause-found : goal.returns-then-edits-clause-found
+returns-then-edits-clause-found g c = λ clean.
+    let i = c.self.inside.inventory in
+    let j = c.do_first.new.inventory in
+    let mid = c.do_first.new.keeper in
+    let m = c.in_ok-given.ensures.does.made in
+    let none = none_made i j (g.K.Keeper.staged mid) m (sym c.edits.ensures ∙ c.if-edits.true ∙ c.edits-edits.ensures) in
+    held (g.K.Keeper.may_hold mid) j
+    (same_only (g.K.Keeper.may_hold mid) i j (g.K.Keeper.staged mid) m none (still_only (g.K.Keeper.may_hold c.self.inside.keeper) (g.K.Keeper.may_hold mid) c.do_first.ensures.content i (c.self.invariant.kept c.if-self.false)))
+    (g.met.K.Keeper.finds mid clean (c.do_first.ensures.«open» (c.self.invariant.reached c.if-self.false (c.do_first.ensures.clean clean))))
