@@ -1,5 +1,5 @@
 -- A run of a sheet over a writer that is put before another and taken away again.
-use Rattle.std.proofs.Common.{◌≡◌, ◌⊎◌, ◌∙◌, ℕ, List, ◌++◌, Option, Some, None, Result, Ok, Err, ap, inl, inr}
+use Rattle.std.proofs.Common.{◌≡◌, ◌⊎◌, ◌∙◌, ℕ, List, ◌++◌, Option, Some, None, [], Result, Ok, Err, refl, ap, inl, inr}
 use Rattle.std.specs.Prelude.{IfSome}
 use Rattle.std.specs.Io.KnownBytes.{Appends, Keeps}
 use Rattle.lrs_machine.specs.State.{State}
@@ -10,7 +10,11 @@ use Rattle.lrs_sheet.specs.declared.fault.SheetFault.TheVariants as fault
 use Rattle.lrs_sheet.specs.declared.reply.Reply.{Reply}
 use Rattle.lrs_sheet.specs.declared.reply.Tally.{Tally}
 use Rattle.lrs_sheet_records.specs.declared.sheet.Sheet.{Sheet}
-use Rattle.lrs_sheet.specs.Sheets.{AreAnswered, HasRunAhead, HasStopped, Runs}
+use Rattle.lrs_machine.specs.declared.image.Image.{Image}
+use Rattle.lrs_machine.specs.declared.table.Table.{Table}
+use Rattle.lrs_desk.specs.DeskView.{DeskView}
+use Rattle.lrs_sheet.specs.Sheets.{AreAnswered, HasFailedToKeep, HasStopped, IsAfterCommands, LeavesDesk, Runs}
+use Rattle.lrs_cli_tasks.specs.Tasks.{GoesOnOrBreaks}
 
 -- bytes that are appended between two that are kept
 appends-between : (first old new last : Option (List ℕ)) (bytes : List ℕ) → Keeps first old → Keeps new last → Appends old new bytes → Appends first last bytes
@@ -38,8 +42,19 @@ module _ (sheet : Sheet) (together : ℕ) (limits : Limits) (input : List ℕ) (
   stopped-between : (to : State) → HasStopped sheet together limits input before to old new → HasStopped sheet together limits input before to first last
   stopped-between to (header, records, further, replies, is, begins, come, answered) = (header, records, further, replies, is, begins, come, answered-between to records replies answered)
 
-  ahead-between : HasRunAhead sheet together limits input before after old new → HasRunAhead sheet together limits input before after first last
-  ahead-between (header, records, further, replies, settled, is, begins, come, answered, ahead) = (header, records, further, replies, settled, is, begins, come, answered-between settled records replies answered, ahead)
+  failed-between : HasFailedToKeep sheet together limits input before after old new → HasFailedToKeep sheet together limits input before after first last
+  failed-between failed = record {
+    header = failed.header;
+    records = failed.records;
+    further = failed.further;
+    replies = failed.replies;
+    settled = failed.settled;
+    is_header = failed.is_header;
+    begins = failed.begins;
+    come_next = failed.come_next;
+    answered = answered-between failed.settled failed.records failed.replies failed.answered;
+    flight = failed.flight;
+  }
 
   pub runs-between : (result : Result Tally SheetFault) → Runs sheet together limits input before after old new result → Runs sheet together limits input before after first last result
   runs-between (Ok tally) (inl (all, state, same, counts)) = inl (all, state, keeps-between first old new last kept keeps same, counts)
@@ -51,7 +66,7 @@ module _ (sheet : Sheet) (together : ℕ) (limits : Limits) (input : List ℕ) (
   runs-between (Err fault.Write) done = done
   runs-between (Err (fault.Desk stop.Memory)) done = stopped-between after done
   runs-between (Err (fault.Desk stop.MustReopen)) done = stopped-between after done
-  runs-between (Err (fault.Desk stop.Keep)) done = ahead-between done
+  runs-between (Err (fault.Desk stop.Keep)) done = failed-between done
   runs-between (Err fault.Memory) (inl (state, same)) = inl (state, keeps-between first old new last kept keeps same)
   runs-between (Err fault.Memory) (inr (header, records, replies, is, begins, answered)) = inr (header, records, replies, is, begins, answered-between after records replies answered)
 
@@ -60,3 +75,22 @@ pub known-between : (known : Option (List ℕ)) (sheet : Sheet) (together : ℕ)
     → IfSome known (λ input. Runs sheet together limits input before after old new result) → IfSome known (λ input. Runs sheet together limits input before after first last result)
 known-between None sheet together limits before after first old new last result kept keeps runs = tt
 known-between (Some input) sheet together limits before after first old new last result kept keeps runs = runs-between sheet together limits input before after first old new last kept keeps result runs
+
+-- what a run leaves of a desk: it goes along with its keeper, or a commit failed
+pub either_left : {K : Type 0} (holds : K → Result Image Table → Type 0) (old new : DeskView K) (result : Result Tally SheetFault) → LeavesDesk holds old new result → GoesOnOrBreaks holds old new
+either_left holds old new (Ok tally) left = inl left
+either_left holds old new (Err fault.BadHeader) left = inl left.0
+either_left holds old new (Err fault.BadCsv) left = inl left
+either_left holds old new (Err fault.Read) left = inl left
+either_left holds old new (Err fault.Write) left = inl left
+either_left holds old new (Err fault.Memory) left = inl left
+either_left holds old new (Err (fault.Desk stop.Keep)) left = inr left
+either_left holds old new (Err (fault.Desk stop.Memory)) left = inl left
+either_left holds old new (Err (fault.Desk stop.MustReopen)) left = inl left.0
+
+-- Where nothing is done, the desk is as it was.
+pub as_it_was : {K : Type 0} (holds : K → Result Image Table → Type 0) (d : DeskView K) → GoesOnOrBreaks holds d d
+as_it_was holds d = inl (record { limits = refl; kept = λ h. h; reopen = refl; ahead = refl })
+
+pub none_done : (limits : Limits) (s : State) → IsAfterCommands limits s s
+none_done limits s = ([], refl)

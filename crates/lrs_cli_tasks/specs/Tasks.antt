@@ -1,6 +1,10 @@
 -- What a job has the program do.
-use Rattle.std.specs.Prelude.{◌≡◌}
+use Rattle.std.specs.Prelude.{◌≡◌, ◌⊎◌, Result}
 use Rattle.clap.specs.Words.{Text}
+use Rattle.lrs_machine.specs.declared.image.Image.{Image}
+use Rattle.lrs_machine.specs.declared.table.Table.{Table}
+use Rattle.lrs_desk.specs.DeskView.{DeskView}
+use Rattle.lrs_sheet.specs.Sheets.{GoesAlong, MustReopen}
 use Rattle.lrs_sheet_records.specs.declared.sheet.Sheet.TheVariants.{Edits, Survey}
 use Rattle.lrs_cli_words.specs.declared.job.Job.{Job}
 use Rattle.lrs_cli_words.specs.declared.job.Job.TheVariants as job
@@ -26,3 +30,7 @@ IsTaskOf (job.Survey db sheet) (task.Sheet kind from) = (kind ≡ Survey) × (fr
 IsTaskOf (job.Serve db port max) (task.Service service) = SaysService port.now max.now service
 IsTaskOf j (task.Question question) = Asks j question
 IsTaskOf j t = ⊥
+
+-- The desk goes along with its keeper, or a commit of it has failed.
+abbrev pub GoesOnOrBreaks : {K : Type 0} → (K → Result Image Table → Type 0) → DeskView K → DeskView K → Type 0
+GoesOnOrBreaks holds old new = GoesAlong holds old new ⊎ MustReopen old new

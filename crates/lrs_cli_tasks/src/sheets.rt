@@ -2,7 +2,8 @@
 
 ghost use Rattle.std.specs.Prelude.{◌≡◌, ◌≤◌, ◌⊎◌, IfOk, IfErr, IfSome};
 ghost use Rattle.lrs_machine.specs.Image.{state_of};
-ghost use Rattle.lrs_sheet.specs.Sheets.{Runs};
+ghost use Rattle.lrs_sheet.specs.Sheets.{IsAfterCommands, LeavesDesk, Runs};
+ghost use Rattle.lrs_cli_tasks.specs.Tasks.{GoesOnOrBreaks};
 
 use crate::fault::ProgramFault;
 use crate::progress::{Progress, Shown};
@@ -29,7 +30,8 @@ pub enum Pace {
 
 // Runs a sheet's bytes, this many records together, with a buffer of this size in front of the writer, and gives the
 // writer back with all that was answered. So a fault of the sheet is handed out beside the writer; what fails here is the writing
-// itself, or there is no memory for it.
+// itself, or there is no memory for it. Whatever fails, the desk's image stands for the state after some commands in order.
+#[tactic(auto, using(crate::proofs::Between::either_left, crate::proofs::Between::as_it_was, crate::proofs::Between::none_done))]
 fn write_replies<S: Read + Drop, W: Write + Drop, K: Keeper>(
     alloc: Global,
     kind: Sheet,
@@ -43,6 +45,10 @@ fn write_replies<S: Read + Drop, W: Write + Drop, K: Keeper>(
     ensures runs { IfOk result (λ done. IfSome (S.remaining sheet) (λ input.
         Runs kind together desk.old.limits input (state_of desk.old.image) (state_of desk.new.image)
         (W.contents to) (W.contents done.0) done.1)) }
+    ensures ended { IfOk result (λ done. LeavesDesk K.may_hold desk.old desk.new done.1) }
+    ensures left { IsAfterCommands desk.old.limits (state_of desk.old.image)
+        (state_of desk.new.image) }
+    ensures desk { GoesOnOrBreaks K.may_hold desk.old desk.new }
     ensures faults { IfErr result (λ e. (e ≡ ProgramFault.Memory) ⊎ (e ≡ ProgramFault.Write)) }
 {
     let Ok(mut writer) = BufWriter::with_capacity(alloc, buffer, to) else {
@@ -56,6 +62,7 @@ fn write_replies<S: Read + Drop, W: Write + Drop, K: Keeper>(
 }
 
 // Runs a sheet's bytes, this many records together, and writes their reply lines before more are done.
+#[tactic(auto, using(crate::proofs::Between::either_left, crate::proofs::Between::as_it_was, crate::proofs::Between::none_done))]
 fn write_lines<S: Read + Drop, W: Write + Drop, K: Keeper>(
     alloc: Global,
     kind: Sheet,
@@ -65,6 +72,9 @@ fn write_lines<S: Read + Drop, W: Write + Drop, K: Keeper>(
     desk: &mut Desk<K>,
 ) -> Result<Tally, ProgramFault>
     requires { 1 ≤ together }
+    ensures left { IsAfterCommands desk.old.limits (state_of desk.old.image)
+        (state_of desk.new.image) }
+    ensures desk { GoesOnOrBreaks K.may_hold desk.old desk.new }
 {
     let Ok(lines) = LineWriter::new(alloc, to) else {
         return Err(ProgramFault::Memory);
@@ -74,13 +84,18 @@ fn write_lines<S: Read + Drop, W: Write + Drop, K: Keeper>(
 }
 
 // Runs a sheet's bytes, one record after another, and writes the reply lines in pieces of many.
+#[tactic(auto, using(crate::proofs::Between::either_left, crate::proofs::Between::as_it_was, crate::proofs::Between::none_done))]
 fn write_pieces<S: Read + Drop, W: Write + Drop, K: Keeper>(
     alloc: Global,
     kind: Sheet,
     sheet: S,
     to: W,
     desk: &mut Desk<K>,
-) -> Result<Tally, ProgramFault> {
+) -> Result<Tally, ProgramFault>
+    ensures left { IsAfterCommands desk.old.limits (state_of desk.old.image)
+        (state_of desk.new.image) }
+    ensures desk { GoesOnOrBreaks K.may_hold desk.old desk.new }
+{
     let (_, outcome) = write_replies(alloc, kind, sheet, 1, REPLY_BUFFER, to, desk)?;
     Ok(outcome?)
 }
@@ -93,6 +108,7 @@ fn pace_of<R: Runtime<A = Global>>(rt: &R, sheet: &str, of_file: Pace) -> Pace {
     }
 }
 
+#[tactic(auto, using(crate::proofs::Between::either_left, crate::proofs::Between::as_it_was, crate::proofs::Between::none_done))]
 fn reply_to<R: Runtime<A = Global>, S: Read + Drop, K: Keeper>(
     rt: &R,
     kind: Sheet,
@@ -100,7 +116,11 @@ fn reply_to<R: Runtime<A = Global>, S: Read + Drop, K: Keeper>(
     pace: Pace,
     desk: &mut Desk<K>,
     shown: Shown,
-) -> Result<Tally, ProgramFault> {
+) -> Result<Tally, ProgramFault>
+    ensures left { IsAfterCommands desk.old.limits (state_of desk.old.image)
+        (state_of desk.new.image) }
+    ensures desk { GoesOnOrBreaks K.may_hold desk.old desk.new }
+{
     let mut progress = Progress::new(io::writer(rt), rt, shown);
     let outcome = match pace {
         Pace::LineByLine => write_lines(rt.alloc(), kind, sheet, 1, &mut progress, desk),
@@ -120,7 +140,10 @@ fn reply_to<R: Runtime<A = Global>, S: Read + Drop, K: Keeper>(
     outcome
 }
 
-/// Does a sheet of this kind at a desk, and prints its replies: those to a sheet in a file at the pace `of_file`.
+/// Does a sheet of this kind at a desk, and prints its replies: those to a sheet in a file at the pace `of_file`. Whatever
+/// fails, the desk's image stands for the state after some commands in order, and its keeper goes along, unless a commit
+/// failed.
+#[tactic(auto, using(crate::proofs::Between::either_left, crate::proofs::Between::as_it_was, crate::proofs::Between::none_done))]
 pub fn do_sheet<R: Runtime<A = Global>, K: Keeper>(
     rt: &R,
     desk: &mut Desk<K>,
@@ -128,7 +151,11 @@ pub fn do_sheet<R: Runtime<A = Global>, K: Keeper>(
     sheet: &str,
     of_file: Pace,
     shown: Shown,
-) -> Result<Tally, ProgramFault> {
+) -> Result<Tally, ProgramFault>
+    ensures left { IsAfterCommands desk.old.limits (state_of desk.old.image)
+        (state_of desk.new.image) }
+    ensures desk { GoesOnOrBreaks K.may_hold desk.old desk.new }
+{
     if sheet == "stdin" {
         return reply_to(rt, kind, rt.reader(), Pace::LineByLine, desk, shown);
     }

@@ -42,9 +42,9 @@ answer_after (Err fault.Memory) lines = empty_answer 503
 pub record IsRun {K : Type 0} (holds : K → Result Image Table → Type 0) (sheet : Sheet) (input : Text) (old new : DeskView K) (ended : Result Tally SheetFault) (lines : Text) : Type 0 where
   pub runs : Runs sheet records_together old.limits input (state_of old.image) (state_of new.image) (Some []) (Some lines) ended
   pub desk : LeavesDesk holds old new ended
-  -- after a failed commit: the keeper has the state of the records that have lines, or that of some more
+  -- after a failed commit: the keeper has the state of the records that have lines, or that after all in flight
   pub broken : ended ≡ Err (fault.Desk stop.Keep) → (c : Result Image Table) → holds new.keeper c
-      → BreaksOff sheet records_together old.limits input (state_of old.image) (Some []) (Some lines) c
+      → BreaksOff sheet records_together old.limits input (state_of old.image) (state_of new.image) (Some []) (Some lines) c
 
 -- the reply to such a run; where memory runs out for it, there is an empty 503 in its place
 abbrev pub IsAnswerAfter : Result Tally SheetFault → Text → Answer → Type 0
