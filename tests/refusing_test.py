@@ -65,8 +65,7 @@ def test_a_worked_row_bears_a_refused_growth(name):
 
     def test(refusal):
         ended = refusal.run(BUILT, "edit", ":memory:", "stdin", given=sheet)
-        # the keeper in memory that lacks it has failed
-        is_answered_in_part(ended, replies, status, {"Memory", "Keep"})
+        is_answered_in_part(ended, replies, status, {"Memory"})
 
     assert with_each_refused("ALLOCATION", test) > 100
 

@@ -17,8 +17,12 @@ use std::rt::HostRuntime;
 pub type FileKeeper = Staged<Tables<FileStore<FileFrom<Unknown>>, Reader>>;
 
 /// Opens the inventory in a file, or makes one where there is none. The desk acts on what the file holds, and on
-/// nothing else.
-pub fn open_file(rt: &HostRuntime, path: &str) -> Result<Desk<FileKeeper>, ProgramFault>
+/// nothing else. A new file gets sums of its pages where that is asked for.
+pub fn open_file(
+    rt: &HostRuntime,
+    path: &str,
+    new_has_sums: bool,
+) -> Result<Desk<FileKeeper>, ProgramFault>
     ensures kept { IfOk result (λ desk. HoldsOnly
         (MayHold (file_state desk.keeper.batches.conn)) desk.image) }
     ensures open { IfOk result (λ desk. desk.must_reopen ≡ false) }
@@ -26,7 +30,7 @@ pub fn open_file(rt: &HostRuntime, path: &str) -> Result<Desk<FileKeeper>, Progr
     ensures limits { IfOk result (λ desk. (desk.limits.routes ≡ most_routes)
         × (desk.limits.assets ≡ most_assets) × (desk.limits.edits ≡ most_edits)) }
 {
-    match open_tables(rt, path, Unknown, Reader) {
+    match open_tables(rt, path, new_has_sums, Unknown, Reader) {
         Ok(tables) => open_desk(Staged::over(tables, rt.alloc()), rt.alloc()),
         Err(refusal) => Err(ProgramFault::from(OpenFault::from(refusal.fault))),
     }

@@ -10,7 +10,7 @@ use jobs::{do_in_memory, do_task};
 use lrs_cli_tasks::{
     Ending, Pace, ProgramFault, Shown, Task, inventory_of, is_in_memory, status, task_of,
 };
-use lrs_cli_words::{Job, QuestionFault, WordsFault, job_of};
+use lrs_cli_words::{Job, QuestionFault, WordsFault, job_of, new_has_sums};
 use lrs_store::close_files;
 use std::env;
 use std::io::{ErrorKind, IsTerminal};
@@ -18,8 +18,14 @@ use std::process::ExitCode;
 
 // Does a task in the inventory of a file, which is closed afterwards. Where it cannot be closed, its log still has
 // what was committed. Each reply goes out once its record is committed.
-fn do_in_file(rt: &HostRuntime, path: &str, task: Task<'_>, shown: Shown) -> Ending {
-    let mut desk = match open_file(rt, path) {
+fn do_in_file(
+    rt: &HostRuntime,
+    path: &str,
+    new_has_sums: bool,
+    task: Task<'_>,
+    shown: Shown,
+) -> Ending {
+    let mut desk = match open_file(rt, path, new_has_sums) {
         Ok(desk) => desk,
         Err(fault) => return Ending::Stopped(fault),
     };
@@ -39,7 +45,7 @@ fn do_job(rt: &HostRuntime, job: &Job<'_>, shown: Shown) -> Ending {
     if is_in_memory(db) {
         do_in_memory(rt, task, shown)
     } else {
-        do_in_file(rt, db, task, shown)
+        do_in_file(rt, db, new_has_sums(job), task, shown)
     }
 }
 

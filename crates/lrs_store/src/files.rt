@@ -142,16 +142,19 @@ pub fn open_files<D: Disk + Drop, R: ReadImage + Drop>(
     }
 }
 
-/// Opens the keeper of the inventory in the file at a path, or of a new one where there is none. `start` stands for
-/// what the files hold. Nothing is loaded yet.
+/// Opens the keeper of the inventory in the file at a path, or of a new one where there is none. `new_has_sums` says
+/// whether a new file gets sums of its pages, by which an opening tells damage; a file that is there goes on as it was
+/// made. `start` stands for what the files hold. Nothing is loaded yet.
 ///
 /// # Errors
-/// `Store` if a file fails, another program has it, or it holds no store of an inventory, `Unsound` with the first
+/// `Store` if a file fails, another program has it, it holds no store of an inventory, or it is lost beside a log with
+/// commits, `Unsound` with the first
 /// unsound table of rows that break a rule of their tables or are not of version 2, and `Memory` if memory runs out.
 /// What is left of the files holds what they held.
 pub fn open_file<S: Start, R: ReadImage + Drop>(
     rt: &HostRuntime,
     path: &str,
+    new_has_sums: bool,
     start: S,
     reader: R,
 ) -> Result<Tables<FileStore<FileFrom<S>>, R>, NotOpened<FileFrom<S>>>
@@ -167,7 +170,7 @@ pub fn open_file<S: Start, R: ReadImage + Drop>(
     ensures still { IfErr result (λ e. HoldsStill (image_at S.Start) (λ files.
         IsFresh true files.log × IsFresh false files.db) e.left) }
 {
-    let tables = match open_tables_at(rt, path, start) {
+    let tables = match open_tables_at(rt, path, new_has_sums, start) {
         Ok(tables) => tables,
         Err(refusal) => return Err(not_opened(rt.alloc(), refusal, &reader)),
     };
