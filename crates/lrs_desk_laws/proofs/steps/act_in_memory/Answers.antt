@@ -1,5 +1,5 @@
 use Rattle.lrs_desk_laws.proofs.Never.{never}
 use Rattle.lrs_desk_laws.proofs.steps.act_in_memory.Goals as goal
 
-pub returns-clause-never : goal.returns-clause-never
-returns-clause-never c = λ e. never (c.act.ensures.keep e).cause
+pub returns : goal.returns
+returns c = record { never = λ e. never (c.act.ensures.keep e).cause }
