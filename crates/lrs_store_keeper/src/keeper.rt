@@ -1,13 +1,14 @@
 //! The tables of a store as a keeper of batches.
 
-ghost use Rattle.std.specs.Prelude.{◌≡◌, ◌≤◌, IfOk, IfErr, MatchResult, true, false, Ok, Err, Result};
+ghost use Rattle.std.specs.Prelude.{◌≡◌, ◌≤◌, IfOk, IfErr, OnOk, MatchResult, true, false, Ok, Err, Result};
 ghost use Rattle.sqlite.specs.State.{HasCleanDisk};
 ghost use Rattle.sqlite.specs.Held.{state};
 ghost use Rattle.sqlite.specs.Steps.{over_memory};
 ghost use Rattle.lrs_machine.specs.declared.image.Image.{Image as ImageRows};
 ghost use Rattle.lrs_machine.specs.declared.table.Table.{Table as DeclaredTable};
 ghost use Rattle.lrs_machine.specs.Image.{nothing};
-ghost use Rattle.lrs_image.specs.Keeping.{HasRisen, HoldsOnly};
+ghost use Rattle.lrs_machine.specs.Sound.{IsSound};
+ghost use Rattle.lrs_image.specs.Keeping.{HasRisen, HoldsOnly, HoldsSound};
 ghost use Rattle.lrs_store_tables.specs.Stored.{LeavesStore};
 ghost use Rattle.lrs_store_tables.specs.Resting.{IsReady};
 ghost use Rattle.lrs_store_keeper.specs.Holding.{MayHold, IsOpenIfClean, IsSafe};
@@ -154,7 +155,26 @@ impl<S: Alter, R: ReadImage> Batches for Tables<S, R> {
 
     ghost failures = { λ k. k.failures };
 
-    fn load(&mut self, alloc: Global) -> Result<Image, LoadFault> {
+    // The last clause is not of `Batches`: all rows stay, whatever it answers.
+    fn load(&mut self, alloc: Global) -> Result<Image, LoadFault>
+        ensures image { IfOk result (λ image. (c : Result ImageRows DeclaredTable)
+            → MayHold (state S.Store self.new.conn) c → c ≡ Ok image) }
+        ensures sound { IfOk result (λ image. IsSound image) }
+        ensures loaded { OnOk result (self.new.is_loaded ≡ true) }
+        ensures unsound { (t : DeclaredTable) → result ≡ Err (LoadFault.Unsound t)
+            → (c : Result ImageRows DeclaredTable) → MayHold (state S.Store self.new.conn) c
+            → c ≡ Err t }
+        ensures store { result ≡ Err LoadFault.Store
+            → HasRisen self.old.failures self.new.failures }
+        ensures quiet { (result ≡ Err LoadFault.Store → ⊥)
+            → self.new.failures ≡ self.old.failures }
+        ensures counts { self.old.failures ≤ self.new.failures }
+        ensures found { HoldsSound (MayHold (state S.Store self.new.conn)) }
+        ensures content { (c : Result ImageRows DeclaredTable)
+            → MayHold (state S.Store self.new.conn) c → MayHold (state S.Store self.old.conn) c }
+        ensures open { OnOk result (IsOpenIfClean (state S.Store self.new.conn)) }
+        ensures rows { LeavesStore (state S.Store self.old.conn) (state S.Store self.new.conn) }
+    {
         if self.is_broken {
             self.failures = self.failures.saturating_add(1);
             return Err(LoadFault::Store);
