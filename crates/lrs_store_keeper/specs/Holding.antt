@@ -23,8 +23,8 @@ pub record IsSafe (s : State) : Type 0 where
   pub is_open : IsTrue s.is_open
 
 -- what was committed last is found there
-pub finds_left : {s : State} → HasCleanDisk s → s.may_leave s.committed.trees → (c : Result Image Table) × MayHold s c
-finds_left {s} clean left = (content_of (stored s.committed.trees), (clean, (s.committed.trees, left, refl)))
+pub finds_left : (s : State) → HasCleanDisk s → s.may_leave s.committed.trees → (c : Result Image Table) × MayHold s c
+finds_left s clean left = (content_of (stored s.committed.trees), (clean, (s.committed.trees, left, refl)))
 
 -- the store is open, if its disk is clean
 abbrev pub IsOpenIfClean : State → Type 0
