@@ -22,9 +22,9 @@ pub record IsSafe (s : State) : Type 0 where
   pub clean : HasCleanDisk s
   pub is_open : IsTrue s.is_open
 
--- what was committed last is found there
-pub finds_left : (s : State) → HasCleanDisk s → s.may_leave s.committed.trees → (c : Result Image Table) × MayHold s c
-finds_left s clean left = (content_of (stored s.committed.trees), (clean, (s.committed.trees, left, refl)))
+-- rows that may be left are found, if the disk is clean
+pub finds_left : (may_leave : Trees → Type 0) (db : Trees) {Clean : Type 0} → Clean → may_leave db → (c : Result Image Table) × (Clean × ((d : Trees) × may_leave d × (content_of (stored d) ≡ c)))
+finds_left may_leave db clean left = (content_of (stored db), (clean, (db, left, refl)))
 
 -- the store is open, if its disk is clean
 abbrev pub IsOpenIfClean : State → Type 0

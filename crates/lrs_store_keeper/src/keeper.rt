@@ -212,7 +212,7 @@ impl<S: Alter, R: ReadImage> Batches for Tables<S, R> {
         }
     }
 
-    ghost finds = { λ k clean opened. finds_left (state S.Store k.conn) clean (S.Store.stays k.conn.store opened) };
+    ghost finds = { λ k clean opened. finds_left _ _ clean (S.Store.stays k.conn.store opened) };
 }
 
 /// The count of failures after a fault of loading.
