@@ -1,5 +1,5 @@
 -- The content of the rows that files held is kept.
-use Rattle.std.proofs.Common.{◌≢◌, inl, inr, Option, None, Some, IfSome, IsSomeAnd, Result, refl, sym, subst, ◌∙◌, arith}
+use Rattle.std.proofs.Common.{◌≡◌, ◌≢◌, pos, [], ◌∷◌, inl, inr, Option, None, Some, IfSome, IsSomeAnd, IsPermutation, Result, refl, sym, subst, ◌∙◌, arith}
 use Rattle.sqlite_disk.specs.declared.Disk.{Ghosts}
 use Rattle.sqlite_disk.specs.declared.Files.{Files}
 use Rattle.sqlite_trees.proofs.Doubt.{clean_of, no_doubt}
@@ -8,14 +8,21 @@ use Rattle.sqlite_wal.specs.Recovery as wal
 use Rattle.sqlite.specs.State.{State, HasCleanDisk}
 use Rattle.lrs_machine.specs.declared.image.Image.{Image}
 use Rattle.lrs_machine.specs.declared.table.Table.{Table}
-use Rattle.lrs_store_rows.specs.Tables.{Tables}
+use Rattle.lrs_store_rows.specs.Tables.{Tables, AreSame}
 use Rattle.lrs_store_rows.specs.Content.{content_of}
 use Rattle.lrs_store_rows.proofs.Stored.{content_is_of_rows}
-use Rattle.lrs_store_tables.specs.Stored.{stored}
+use Rattle.sqlite_trees.specs.Tree.{Trees}
+use Rattle.sqlite_trees.specs.Objects.{catalog_tree}
+use Rattle.sqlite_catalog.proofs.ReadLemmas.{lists_once}
+use Rattle.lrs_store_tables.specs.Schema.{inventory}
+use Rattle.lrs_store_tables.specs.Stored.{stored, LeavesStore}
 use Rattle.lrs_store_tables.specs.Starting.{new_rows, NewRowsHoldNothing}
 use Rattle.lrs_store_tables.specs.Changing.{without_origins}
 use Rattle.lrs_store_tables.specs.Holding.{HoldsOnly}
 use Rattle.lrs_store_keeper.specs.Holding.{MayHold}
+use Rattle.lrs_store_keeper.specs.Opening.{IsSecond}
+use Rattle.lrs_store_keeper.proofs.Next.{alone_again}
+use Rattle.lrs_store_keeper.proofs.ReadLemmas.{left_before}
 use Rattle.sqlite.specs.declared.file.Leftover.TheVariants as leftover
 use Rattle.lrs_store_files.specs.declared.files.Untaken.{Untaken}
 use Rattle.lrs_store_files.specs.declared.files.Untaken.TheVariants as untaken
@@ -23,7 +30,7 @@ use Rattle.lrs_store_files.specs.Found.{HasFound, IsLeftOf}
 use Rattle.lrs_store.specs.Opened.{HoldsContent, HasOpened}
 use Rattle.lrs_store.specs.declared.files.Left.{Left}
 use Rattle.lrs_store.specs.declared.files.Left.TheVariants as left
-use Rattle.lrs_store.specs.Refused.{WasLookedAt, IsHandedOn, HoldsStill}
+use Rattle.lrs_store.specs.Refused.{WasLookedAt, IsHandedOn, HoldsStill, HoldsEachRow, HoldSecond}
 
 hold_nothing : NewRowsHoldNothing
 unfolding content_of
@@ -51,6 +58,35 @@ has_opened image old new found content = record {
 pub holds_still : (image : wal.Image) (old new : State) → (HasCleanDisk old → HasFound image old) → ((c : Result Image Table) → MayHold new c → MayHold old c) → (c : Result Image Table) → MayHold new c → HasOpened image new
 holds_still image old new found content c may = has_opened image old new (found (content c may).0) content
 
+-- where no row changes all rows stay that were found
+module _ (image : wal.Image) (old new : State) (survives : LeavesStore old new) where
+  only_still : (t : Tables) → HoldsOnly old t → HoldsOnly new t
+  only_still t = left_before old new survives (λ db. AreSame t (stored db))
+
+  still_found : HasFound image old → HasFound image new
+  still_found found = record {
+    trees = found.trees;
+    schema = found.schema;
+    reads = found.reads;
+    holds = found.holds;
+    sound = found.sound;
+    known = found.known;
+    made = λ is. only_still new_rows (found.made is);
+    grown = λ is. only_still (without_origins (stored found.trees)) (found.grown is);
+    kept = λ is. only_still (stored found.trees) (found.kept is);
+  }
+
+  pub each_row : (HasCleanDisk old → HasFound image old) → HasCleanDisk new → HasFound image new
+  each_row found clean = still_found (found (omega (arith, clean, survives.clean)))
+
+-- files of version 2 are opened as such
+pub opened_second : (image : wal.Image) (s : State) → HoldSecond image → (HasCleanDisk s → HasFound image s) → IsSecond s
+opened_second image s second found clean db left =
+    let it = found clean in
+    let held = second it.trees it.reads in
+    let is = lists_once (it.trees catalog_tree) it.schema inventory it.sound.lists held.0 in
+    alone_again (pos 2) (stored db).version (subst (λ v. IsPermutation v (stored db).version) held.1 (it.kept is clean db left).version)
+
 module _ {D : Type 0} {g : Ghosts D} (image : wal.Image) (Began : Files D → Type 0) where
   -- a store that was looked at holds what it held
   still_left : (old new : Untaken D g) → WasLookedAt old new → IsLeftOf image Began old → IsLeftOf image Began new
@@ -66,6 +102,11 @@ module _ {D : Type 0} {g : Ghosts D} (image : wal.Image) (Began : Files D → Ty
   still_refused None l is was = subst (HoldsStill image Began) (sym is) tt
   still_refused (Some old) l (new, is, inl same) was = subst (HoldsStill image Began) (sym is) (subst (IsLeftOf image Began) (sym same) was)
   still_refused (Some old) l (new, is, inr looked) was = subst (HoldsStill image Began) (sym is) (still_left old new looked was)
+
+  -- what is left of files whose tables were not taken has each row
+  pub rows_left : (o : Option (Untaken D g)) (l : Left D g) → IsHandedOn o l → HoldsStill image Began l → HoldsEachRow image Began l
+  rows_left None l is still = subst (HoldsEachRow image Began) (sym is) tt
+  rows_left (Some old) l (new, is, _) still = subst (HoldsEachRow image Began) (sym is) (subst (HoldsStill image Began) is still)
 
   pub still_given : (o : Option (Untaken D g)) (l : Left D g) → IsHandedOn o l → IsSomeAnd o (IsLeftOf image Began) → HoldsStill image Began l
   still_given None l is was = absurd was

@@ -1,19 +1,24 @@
 -- Files that no keeper takes.
-use Rattle.std.specs.Prelude.{◌≡◌, ◌≤◌, ◌⊎◌, Option, None, Some, Result, Err, ⊤}
+use Rattle.std.specs.Prelude.{◌≡◌, ◌≤◌, ◌⊎◌, pos, [], ◌∷◌, Option, None, Some, Result, Err, ⊤}
 use Rattle.sqlite_disk.specs.declared.Disk.{Ghosts}
 use Rattle.sqlite_disk.specs.declared.Files.{Files}
 use Rattle.sqlite_trees.specs.Tree.{Trees}
+use Rattle.sqlite_trees.specs.Objects.{catalog_tree}
 use Rattle.sqlite_trees.specs.View.{doubt}
+use Rattle.sqlite_catalog.specs.Listing.{Lists}
 use Rattle.sqlite_wal.specs.Recovery as wal
 use Rattle.sqlite_store.specs.declared.store.FileStore.{FileStore}
 use Rattle.sqlite_store.specs.FileStore.{view, faults, recovers}
 use Rattle.sqlite.specs.declared.file.Leftover.TheVariants as leftover
-use Rattle.sqlite.specs.Files.{file_state}
+use Rattle.sqlite.specs.State.{HasCleanDisk}
+use Rattle.sqlite.specs.Files.{AreFoundIn, file_state}
 use Rattle.lrs_machine.specs.declared.image.Image.{Image}
 use Rattle.lrs_machine.specs.declared.table.Table.{Table}
 use Rattle.lrs_store_files.specs.declared.files.Untaken.{Untaken}
 use Rattle.lrs_store_files.specs.declared.files.Untaken.TheVariants as untaken
-use Rattle.lrs_store_files.specs.Found.{IsLeftOf}
+use Rattle.lrs_store_tables.specs.Schema.{inventory}
+use Rattle.lrs_store_tables.specs.Stored.{stored}
+use Rattle.lrs_store_files.specs.Found.{HasFound, IsLeftOf}
 use Rattle.lrs_store.specs.Judged.{IsUnsoundThere, IsSoundThere}
 use Rattle.lrs_store_keeper.specs.Holding.{MayHold}
 use Rattle.lrs_store.specs.declared.files.Left.{Left}
@@ -51,6 +56,16 @@ abbrev pub HoldsStill : {D : Type 0} {g : Ghosts D} → wal.Image → (Files D �
 HoldsStill image Began (left.Untaken untaken) = IsLeftOf image Began untaken
 HoldsStill image Began (left.Opened conn) = (c : Result Image Table) → MayHold (file_state conn) c → HasOpened image (file_state conn)
 HoldsStill image Began left.Nothing = ⊤
+
+-- The same of each row: their tables were not taken, or they were, and all rows of the files are there.
+abbrev pub HoldsEachRow : {D : Type 0} {g : Ghosts D} → wal.Image → (Files D → Type 0) → Left D g → Type 0
+HoldsEachRow image Began (left.Untaken untaken) = IsLeftOf image Began untaken
+HoldsEachRow image Began (left.Opened conn) = HasCleanDisk (file_state conn) → HasFound image (file_state conn)
+HoldsEachRow image Began left.Nothing = ⊤
+
+-- Files that hold a store of version 2: it has the tables, and the row of that version.
+abbrev pub HoldSecond : wal.Image → Type 0
+HoldSecond image = (db : Trees) → AreFoundIn image db → Lists (db catalog_tree) inventory × ((stored db).version ≡ pos 2 ∷ [])
 
 -- A store that is left was looked at: no doubt of its disk is forgotten, and a later opening finds there what it might have found before.
 pub record WasLookedAt {D : Type 0} {g : Ghosts D} (old new : Untaken D g) : Type 0 where

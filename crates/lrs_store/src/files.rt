@@ -1,6 +1,6 @@
 //! A keeper over a store in files: opened, and closed.
 
-ghost use Rattle.std.specs.Prelude.{◌≡◌, ◌≢◌, ◌⊎◌, false, true, IfOk, IfErr, IsTrue};
+ghost use Rattle.std.specs.Prelude.{◌≡◌, ◌≢◌, ◌⊎◌, false, true, IfOk, IfErr, IsTrue, MatchResult};
 ghost use Rattle.sqlite_std_file.specs.File.{IsFresh};
 ghost use Rattle.sqlite_wal.specs.Files.{image_at};
 ghost use Rattle.sqlite_wal.specs.Reads.{AreClean};
@@ -10,8 +10,9 @@ ghost use Rattle.sqlite.specs.Closing.{IsCopied};
 ghost use Rattle.lrs_store_keeper.specs.Holding.{IsOpenIfClean};
 ghost use Rattle.lrs_store_keeper.specs.Opening.{IsSecond};
 ghost use Rattle.lrs_machine.specs.declared.table.Table.{Table};
+ghost use Rattle.lrs_store_files.specs.Found.{HasFound};
 ghost use Rattle.lrs_store.specs.Opened.{HasOpened};
-ghost use Rattle.lrs_store.specs.Refused.{IsUnsoundLeft, IsSoundLeft, WasLookedAt, IsHandedOn, HoldsUnsound, HoldsNoUnsound, HoldsStill};
+ghost use Rattle.lrs_store.specs.Refused.{IsUnsoundLeft, IsSoundLeft, WasLookedAt, IsHandedOn, HoldsUnsound, HoldsNoUnsound, HoldsStill, HoldsEachRow, HoldSecond};
 
 use crate::verdict::judge;
 use lrs_image::LoadFault;
@@ -127,6 +128,11 @@ pub fn open_files<D: Disk + Drop, R: ReadImage + Drop>(
     ensures store { IfErr result (λ e. e.fault ≡ LoadFault.Store → HoldsNoUnsound e.left) }
     ensures still { IfErr result (λ e. HoldsStill (image_of D.Disk files) (λ given.
         given ≡ files) e.left) }
+    ensures rows { IfErr result (λ e. (t : Table) → e.fault ≡ LoadFault.Unsound t
+        → HoldsEachRow (image_of D.Disk files) (λ given. given ≡ files) e.left) }
+    ensures untouched { HoldSecond (image_of D.Disk files) → MatchResult result (λ k.
+        HasCleanDisk (file_state k.conn) → HasFound (image_of D.Disk files) (file_state k.conn)) (λ e.
+        HoldsEachRow (image_of D.Disk files) (λ given. given ≡ files) e.left) }
     ensures left { IfErr result (λ e. e.left ≢ Left.Nothing) }
 {
     let tables = match open_tables(alloc, files, options) {
@@ -169,6 +175,11 @@ pub fn open_file<S: Start, R: ReadImage + Drop>(
     ensures store { IfErr result (λ e. e.fault ≡ LoadFault.Store → HoldsNoUnsound e.left) }
     ensures still { IfErr result (λ e. HoldsStill (image_at S.Start) (λ files.
         IsFresh true files.log × IsFresh false files.db) e.left) }
+    ensures rows { IfErr result (λ e. (t : Table) → e.fault ≡ LoadFault.Unsound t
+        → HoldsEachRow (image_at S.Start) (λ files. IsFresh true files.log × IsFresh false files.db) e.left) }
+    ensures untouched { HoldSecond (image_at S.Start) → MatchResult result (λ k.
+        HasCleanDisk (file_state k.conn) → HasFound (image_at S.Start) (file_state k.conn)) (λ e.
+        HoldsEachRow (image_at S.Start) (λ files. IsFresh true files.log × IsFresh false files.db) e.left) }
 {
     let tables = match open_tables_at(rt, path, new_has_sums, start) {
         Ok(tables) => tables,

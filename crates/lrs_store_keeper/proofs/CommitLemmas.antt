@@ -16,6 +16,7 @@ use Rattle.lrs_store_tables.specs.Writing.{AreWritten}
 use Rattle.lrs_store_tables.specs.Resting.{IsReady}
 use Rattle.lrs_store_keeper.specs.Texts.{HaveTexts}
 use Rattle.lrs_store_keeper.specs.Holding.{MayHold, HoldEdits, HasEdits}
+use Rattle.lrs_store_keeper.specs.Opening.{IsSecond}
 use Rattle.lrs_store_keeper.proofs.Next.{rows_after_all, all_more}
 use Rattle.lrs_store_keeper.proofs.ReadLemmas.{IsSettled}
 
@@ -70,6 +71,10 @@ module _ {S : Type 0} (g : Ghosts S) (stays : Stays g) (settled : IsSettled g) (
           | inl earlier ↦ inl (early h.0, (h.1.0, earlier, h.1.2))
           | inr made ↦ inr (subst (IsChangedBy (MayHold s) cs) h.1.2 (written_next (early h.0) made.0 (stored h.1.0) made.1).changed)
         ]
+
+-- rows of which the edits are counted are of version 2
+pub counted_second : (s : State) (edits : ℕ) → HasEdits edits s → IsSecond s
+counted_second s edits kept clean db left = (kept clean db left).rows.version
 
 -- without a change
 pub unchanged : (s : State) (edits : ℕ) (cs : List Change) → cs ≡ [] → HasEdits edits s → (x : Result Image Table) → MayHold s x → IsChangedBy (MayHold s) cs x

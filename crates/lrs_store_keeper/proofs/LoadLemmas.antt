@@ -1,5 +1,5 @@
 -- What was read of the rows of a store is what an opening may find.
-use Rattle.std.proofs.Common.{◌≡◌, pos, length, Ok, Err, Result, refl, sym, subst, ◌∙◌, IsPermutation}
+use Rattle.std.proofs.Common.{◌≡◌, inl, inr, pos, [], ◌∷◌, length, Ok, Err, Result, refl, sym, subst, ◌∙◌, IsPermutation}
 use Rattle.std.proofs.lemmas.List.Sorted.{IsPermutation-sym}
 use Rattle.sqlite_trees.specs.Tree.{Trees}
 use Rattle.sqlite.specs.State.{State, HasCleanDisk}
@@ -9,7 +9,8 @@ use Rattle.lrs_store_rows.specs.Tables.{Tables, AreSame}
 use Rattle.lrs_store_rows.specs.Content.{content_of}
 use Rattle.lrs_store_rows.proofs.Stored.{content_is_of_rows}
 use Rattle.lrs_store_tables.specs.Stored.{stored}
-use Rattle.lrs_store_keeper.specs.Holding.{AreRowsOf, HasEdits, MayHold}
+use Rattle.lrs_store_keeper.specs.Holding.{AreRowsOf, HasEdits, HoldNone, MayHold}
+use Rattle.lrs_store_keeper.specs.Opening.{IsSecond}
 use Rattle.lrs_store_keeper.proofs.Next.{alone_again}
 
 same_rows : (i : Image) (s t : Tables) → AreSame s t → AreRowsOf i t → AreRowsOf i s
@@ -27,3 +28,9 @@ module _ (s : State) (t : Tables) (same : HasCleanDisk s → (db : Trees) → s.
 
   pub loaded_unsound : (u : Table) → content_of t ≡ Err u → (c : Result Image Table) → MayHold s c → c ≡ Err u
   loaded_unsound u e c h = sym h.1.2 ∙ content_is_of_rows (stored h.1.0) t (same h.0 h.1.0 h.1.1) ∙ e
+
+  pub loaded_none : IsSecond s → (u : Table) → HoldNone u t → (c : Result Image Table) → MayHold s c → c ≡ Err u
+  loaded_none second u (inl other) c h =
+      let db = h.1.0 in
+      absurd (other (alone_again (pos 2) t.version (subst (λ v. IsPermutation v t.version) (second h.0 db h.1.1) (same h.0 db h.1.1).version)))
+  loaded_none second u (inr e) c h = loaded_unsound u e c h

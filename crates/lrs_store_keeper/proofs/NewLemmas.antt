@@ -11,6 +11,7 @@ use Rattle.lrs_store_rows.proofs.Stored.{content_is_of_rows}
 use Rattle.lrs_store_tables.specs.Stored.{stored}
 use Rattle.lrs_store_tables.specs.Starting.{new_rows, NewRowsHoldNothing, IsNew}
 use Rattle.lrs_store_keeper.specs.Holding.{AreRowsOf, HasEdits, MayHold}
+use Rattle.lrs_store_keeper.specs.Opening.{IsSecond}
 use Rattle.lrs_store_keeper.proofs.Next.{alone_again}
 use Rattle.lrs_store_keeper.proofs.ReadLemmas.{IsSettled}
 
@@ -30,6 +31,9 @@ module _ {S : Type 0} (g : Ghosts S) (settled : IsSettled g) (h : Held S) (new :
 
   pub no_edits : HasEdits 0 (state g h)
   no_edits clean db left = record { image = nothing; rows = rows_left db left; edits = refl }
+
+  pub new_second : IsSecond (state g h)
+  new_second clean db left = (rows_left db left).version
 
   pub holds_nothing : HoldsOnly (MayHold (state g h)) nothing
   holds_nothing c found = sym found.1.2 ∙ (rows_left found.1.0 found.1.1).holds

@@ -1,13 +1,14 @@
 -- What bringing rows up to version 2 makes of what an opening may find.
-use Rattle.std.proofs.Common.{◌≡◌, ◌⊎◌, inl, inr, List, [], ◌∷◌, map, pos, IsTrue, IfOk, Ok, Err, Result, sym, subst, ◌∙◌, IsPermutation, arith}
+use Rattle.std.proofs.Common.{◌≡◌, ◌≢◌, ◌⊎◌, inl, inr, List, [], ◌∷◌, map, pos, IsTrue, IfOk, Ok, Err, Result, sym, subst, ◌∙◌, IsPermutation, arith}
 use Rattle.std.proofs.lemmas.List.Sorted.{IsPermutation-sym}
 use Rattle.sqlite_value.specs.Order.{Row}
 use Rattle.sqlite_trees.specs.declared.store.Store.{Ghosts}
 use Rattle.sqlite_trees.specs.Tree.{Trees}
 use Rattle.sqlite.specs.Effect.{Database}
 use Rattle.sqlite.specs.Held.{Held, state}
-use Rattle.sqlite.specs.State.{State, HasCleanDisk, IsUnchanged}
+use Rattle.sqlite.specs.State.{State, HasCleanDisk, IsUnchanged, Survives}
 use Rattle.sqlite.specs.declared.error.Error.{Error}
+use Rattle.sqlite.proofs.StateLemmas.{survives_then, survives_weaker}
 use Rattle.lrs_events.specs.declared.class.Asset.{Asset}
 use Rattle.lrs_machine.specs.declared.image.Image.{Image}
 use Rattle.lrs_machine.specs.declared.table.Table.{Table}
@@ -21,9 +22,9 @@ use Rattle.lrs_store_tables.specs.Stored.{stored, version_in, IsWriting, OkDoes,
 use Rattle.lrs_store_tables.specs.Resting.{IsReady}
 use Rattle.lrs_store_keeper.specs.Rows.{HasRead}
 use Rattle.lrs_store_keeper.specs.Holding.{MayHold, Tells}
-use Rattle.lrs_store_keeper.specs.Opening.{HoldsImage, IsSecond, HasVersions}
+use Rattle.lrs_store_keeper.specs.Opening.{HoldsImage, IsSecond, IsNotSecond, HasVersions}
 use Rattle.lrs_store_keeper.proofs.Next.{alone_again}
-use Rattle.lrs_store_keeper.proofs.ReadLemmas.{IsSettled, before}
+use Rattle.lrs_store_keeper.proofs.ReadLemmas.{IsSettled, before, left_before}
 use Rattle.lrs_store_keeper.proofs.CommitLemmas.{Stays}
 use Rattle.lrs_store_keeper.proofs.LoadLemmas.{loaded_unsound}
 use Rattle.lrs_store_keeper.proofs.BroughtUp.{brought_up_holds}
@@ -46,6 +47,34 @@ pub second_read : (s : State) (rows : List Row) → map version_in rows ≡ pos 
 second_read s rows are read clean db left =
     let v = (stored db).version in
     alone_again (pos 2) v (subst (λ l. IsPermutation l v) are (IsPermutation-sym v (map version_in rows) (read clean db left)))
+
+pub other_read : (s : State) (rows : List Row) → map version_in rows ≢ pos 2 ∷ [] → (HasCleanDisk s → (db : Trees) → s.may_leave db → HasVersions rows (stored db)) → IsNotSecond s
+other_read s rows are read clean db left = λ second.
+    are (alone_again (pos 2) (map version_in rows) (subst (λ l. IsPermutation l (map version_in rows)) second (read clean db left)))
+
+-- ---- rows of version 2 stay
+
+module _ (a b : State) (survives : LeavesStore a b) where
+  pub second_still : IsSecond a → IsSecond b
+  second_still = left_before a b survives (λ db. (stored db).version ≡ pos 2 ∷ [])
+
+  pub other_still : IsNotSecond a → IsNotSecond b
+  other_still = left_before a b survives (λ db. (stored db).version ≢ pos 2 ∷ [])
+
+pub leaves_then : (a b c : State) → LeavesStore a b → LeavesStore b c → LeavesStore a c
+leaves_then a b c = survives_then a b c (λ _. ⊥) (λ _. ⊥) (λ _. ⊥) (λ clean db none. none) (λ clean db none. none)
+
+-- what is written only over a store that is open, is not written over one whose rows would be of version 2 and of another
+pub nothing_written : {S : Type 0} (g : Ghosts S) (stays : Stays g) (old : Held S) (b : State) (Commits : Trees → Type 0) → ((db : Trees) → Commits db → IsTrue (state g old).is_open)
+    → Survives (state g old) b Commits → IsSecond (state g old) → IsNotSecond (state g old) → LeavesStore (state g old) b
+nothing_written g stays old b Commits opens survives second other = survives_weaker (state g old) b Commits (λ _. ⊥) never survives
+  where
+    never : HasCleanDisk b → (db : Trees) → Commits db → ⊥
+    never clean db made =
+        let s = state g old in
+        let early : HasCleanDisk s = omega (arith, clean, survives.clean) in
+        let left = stays old.store (opens db made) in
+        other early s.committed.trees left (second early s.committed.trees left)
 
 -- what was read as an image, of rows that are those that may be left
 module _ (s : State) (t : Tables) (same : HasCleanDisk s → (db : Trees) → s.may_leave db → AreSame (stored db) t) where

@@ -1,5 +1,5 @@
 -- What an opening of the tables of a store may find, and what a keeper over them knows.
-use Rattle.std.specs.Prelude.{◌≡◌, ℕ, pos, Bool, true, false, [], ◌∷◌, length, Result, Ok, Err, IsTrue, ⊤}
+use Rattle.std.specs.Prelude.{◌≡◌, ◌≢◌, ◌⊎◌, ℕ, pos, Bool, true, false, [], ◌∷◌, length, Result, Ok, Err, IsTrue, ⊤}
 use Rattle.std.proofs.Common.{refl}
 use Rattle.sqlite_trees.specs.Tree.{Trees}
 use Rattle.sqlite.specs.State.{State, HasCleanDisk}
@@ -11,6 +11,7 @@ use Rattle.lrs_store_rows.specs.Tables.{Tables}
 use Rattle.lrs_store_rows.specs.Content.{content_of}
 use Rattle.lrs_store_tables.specs.Stored.{stored}
 use Rattle.lrs_store_tables.specs.Resting.{IsReady}
+use Rattle.lrs_store_keeper.specs.Opening.{IsSecond}
 
 -- An opening at this moment, after a crash too, may find this: the disk gives back what it was given, and these are the contents of rows that may be left.
 abbrev pub MayHold : State → Result Image Table → Type 0
@@ -34,6 +35,10 @@ pub record AreRowsOf (i : Image) (t : Tables) : Type 0 where
   pub version : t.version ≡ pos 2 ∷ []
   pub holds : content_of t ≡ Ok i
 
+-- rows that hold no image as rows of version 2: they are of another version, or this is their first unsound table
+abbrev pub HoldNone : Table → Tables → Type 0
+HoldNone u t = (t.version ≢ pos 2 ∷ []) ⊎ (content_of t ≡ Err u)
+
 -- rows of version 2 that hold an image with this many edits
 pub record HoldEdits (n : ℕ) (t : Tables) : Type 0 where
   pub image : Image
@@ -44,10 +49,11 @@ pub record HoldEdits (n : ℕ) (t : Tables) : Type 0 where
 abbrev pub HasEdits : ℕ → State → Type 0
 HasEdits n s = HasCleanDisk s → (db : Trees) → s.may_leave db → HoldEdits n (stored db)
 
--- A keeper can use its connection: it is at rest, outside a transaction, and once the image is loaded it is open and the edits are counted.
+-- A keeper can use its connection: it is at rest, outside a transaction, and its rows are of version 2. Once the image is loaded it is open and the edits are counted.
 pub record IsUsable (s : State) (in_transaction is_loaded : Bool) (edits : ℕ) : Type 0 where
   pub autocommit : in_transaction ≡ false
   pub ready : IsReady s
+  pub second : IsSecond s
   pub is_open : is_loaded ≡ true → IsOpenIfClean s
   pub loaded : is_loaded ≡ true → HasEdits edits s
 

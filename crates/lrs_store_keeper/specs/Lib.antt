@@ -1,5 +1,5 @@
 pub mod Texts
 pub mod Rows
-pub mod Holding
 pub mod Opening
+pub mod Holding
 pub mod KeeperView

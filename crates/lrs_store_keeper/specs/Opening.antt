@@ -1,5 +1,5 @@
 -- What is known of a store when a keeper takes it.
-use Rattle.std.specs.Prelude.{◌≡◌, pos, List, [], ◌∷◌, map, Ok, IsPermutation}
+use Rattle.std.specs.Prelude.{◌≡◌, ◌≢◌, pos, List, [], ◌∷◌, map, Ok, IsPermutation}
 use Rattle.sqlite_value.specs.Order.{Row}
 use Rattle.sqlite_trees.specs.Tree.{Trees}
 use Rattle.sqlite.specs.State.{State, HasCleanDisk}
@@ -15,6 +15,10 @@ HasVersions rows t = IsPermutation t.version (map version_in rows)
 -- whatever rows may be left are of version 2
 abbrev pub IsSecond : State → Type 0
 IsSecond s = HasCleanDisk s → (db : Trees) → s.may_leave db → (stored db).version ≡ pos 2 ∷ []
+
+-- whatever rows may be left are of no version, of another, or of several
+abbrev pub IsNotSecond : State → Type 0
+IsNotSecond s = HasCleanDisk s → (db : Trees) → s.may_leave db → (stored db).version ≢ pos 2 ∷ []
 
 -- whatever rows may be left hold this image
 abbrev pub HoldsImage : State → Image → Type 0

@@ -8,6 +8,7 @@ ghost use Rattle.lrs_machine.specs.declared.table.Table.{Table};
 ghost use Rattle.lrs_image.specs.Together.{CanMakeAll, IsChangedBy};
 ghost use Rattle.lrs_store_tables.specs.Resting.{IsReady};
 ghost use Rattle.lrs_store_keeper.specs.Holding.{MayHold, HasEdits, IsOpenIfClean};
+ghost use Rattle.lrs_store_keeper.specs.Opening.{IsSecond};
 
 use crate::texts::prove_all_texts;
 use lrs_image::{Change, CommitFailed};
@@ -31,6 +32,7 @@ fn write_as<S: Alter>(
         → IfOk c (CanMakeAll changes.now) }
     ensures autocommit { conn.new.in_transaction ≡ false }
     ensures ready { OnOk result (IsReady (state S.Store conn.new)) }
+    ensures second { OnOk result (IsSecond (state S.Store conn.new)) }
     ensures open { OnOk result (IsOpenIfClean (state S.Store conn.new)) }
     ensures edits { OnOk result (HasEdits (edits + length changes.now) (state S.Store conn.new)) }
     ensures ok { OnOk result ((c : Result Image Table) → MayHold (state S.Store conn.new) c
@@ -61,6 +63,7 @@ pub(crate) fn write_next<S: Alter>(
         → IfOk c (CanMakeAll changes.now) }
     ensures autocommit { conn.new.in_transaction ≡ false }
     ensures ready { OnOk result (IsReady (state S.Store conn.new)) }
+    ensures second { OnOk result (IsSecond (state S.Store conn.new)) }
     ensures open { OnOk result (IsOpenIfClean (state S.Store conn.new)) }
     ensures edits { IfOk result (λ n. HasEdits n (state S.Store conn.new)) }
     ensures ok { OnOk result ((c : Result Image Table) → MayHold (state S.Store conn.new) c

@@ -1,6 +1,6 @@
 //! An image is read from the rows of a store.
 
-ghost use Rattle.std.specs.Prelude.{◌≡◌, [], ◌∷◌, pos, map, length, IfOk, IfErr, OnOk, IsTrue, true, false, Result, Ok, Err};
+ghost use Rattle.std.specs.Prelude.{◌≡◌, ◌↔◌, [], ◌∷◌, pos, map, length, IfOk, IfErr, OnOk, IsTrue, true, false, Result, Ok, Err};
 ghost use Rattle.sqlite_trees.specs.Tree.{Trees};
 ghost use Rattle.sqlite.specs.State.{HasCleanDisk};
 ghost use Rattle.sqlite.specs.Held.{state};
@@ -8,15 +8,15 @@ ghost use Rattle.lrs_machine.specs.Sound.{IsSound};
 ghost use Rattle.lrs_machine.specs.declared.image.Image.{Image as ImageRows};
 ghost use Rattle.lrs_machine.specs.declared.table.Table.{Table as DeclaredTable};
 ghost use Rattle.lrs_store_rows.specs.Tables.{AreSame};
-ghost use Rattle.lrs_store_rows.specs.Content.{content_of};
 ghost use Rattle.lrs_store_tables.specs.Stored.{stored, version_in, LeavesStore};
 ghost use Rattle.lrs_store_tables.specs.Resting.{IsReady};
 ghost use Rattle.lrs_store_keeper.specs.Rows.{tables_of};
-ghost use Rattle.lrs_store_keeper.specs.Holding.{AreRowsOf, MayHold, HasEdits, IsOpenIfClean, Tells};
+ghost use Rattle.lrs_store_keeper.specs.Holding.{AreRowsOf, MayHold, HasEdits, HoldNone, IsOpenIfClean, Tells};
+ghost use Rattle.lrs_store_keeper.specs.Opening.{IsSecond};
 
 use crate::rows::{StoredRows, read_rows};
 use lrs_image::LoadFault;
-use lrs_machine::Image;
+use lrs_machine::{Image, Table};
 use sqlite::types::ValueRef;
 use sqlite::{Alter, Connection, Error, ErrorCode, Row};
 use std::alloc::Global;
@@ -81,7 +81,7 @@ fn read_open<S: Alter>(conn: &mut Connection<S>) -> Result<StoredRows, Error>
 
 /// Whether a row of the version says 2.
 fn says_two(row: &Row) -> bool
-    ensures { IsTrue result → version_in row.now ≡ pos 2 }
+    ensures { IsTrue result ↔ version_in row.now ≡ pos 2 }
 {
     match row.get_ref(0) {
         Ok(ValueRef::Int(n)) => n == 2,
@@ -91,7 +91,7 @@ fn says_two(row: &Row) -> bool
 
 /// Whether the version is 2.
 pub(crate) fn is_second(rows: &[Row]) -> bool
-    ensures { IsTrue result → map version_in rows.now ≡ pos 2 ∷ [] }
+    ensures { IsTrue result ↔ map version_in rows.now ≡ pos 2 ∷ [] }
 {
     match rows {
         [row] => says_two(row),
@@ -102,7 +102,7 @@ pub(crate) fn is_second(rows: &[Row]) -> bool
 /// The image that rows of version 2 hold.
 ///
 /// # Errors
-/// `Unsound` with the first unsound table, `Store` where the version is another, or `Memory`.
+/// `Unsound` with the first unsound table, or with that of the version where this is another; or `Memory`.
 pub(crate) fn image_of<R: ReadImage>(
     reader: &R,
     alloc: Global,
@@ -110,10 +110,11 @@ pub(crate) fn image_of<R: ReadImage>(
 ) -> Result<Image, LoadFault>
     ensures image { IfOk result (λ image. AreRowsOf image (tables_of rows)) }
     ensures unsound { (t : DeclaredTable) → result ≡ Err (LoadFault.Unsound t)
-        → content_of (tables_of rows) ≡ Err t }
+        → HoldNone t (tables_of rows) }
+    ensures never { result ≡ Err LoadFault.Store → ⊥ }
 {
     if !is_second(rows.named.version.as_slice()) {
-        return Err(LoadFault::Store);
+        return Err(LoadFault::Unsound(Table::Version));
     }
     reader.read(alloc, rows)
 }
@@ -128,14 +129,14 @@ pub(crate) fn read_fault(error: Error) -> LoadFault
     }
 }
 
-/// Why no image is loaded, and whether the store must be opened anew, since its rows were not read.
+/// Why no image is loaded, and whether the store must be opened anew, since a call of it answered an error.
 #[derive(Clone, Copy)]
 pub(crate) struct Unloaded {
     pub fault: LoadFault,
     pub must_reopen: bool,
 }
 
-/// The image that the tables hold.
+/// The image that the tables hold. Nothing is written.
 pub(crate) fn load_from<S: Alter, R: ReadImage>(
     reader: &R,
     alloc: Global,
@@ -143,8 +144,10 @@ pub(crate) fn load_from<S: Alter, R: ReadImage>(
 ) -> Result<Image, Unloaded>
     requires autocommit { conn.old.in_transaction ≡ false }
     requires ready { IsReady (state S.Store conn.old) }
+    requires second { IsSecond (state S.Store conn.old) }
     ensures autocommit { conn.new.in_transaction ≡ false }
     ensures ready { OnOk result (IsReady (state S.Store conn.new)) }
+    ensures second { IsSecond (state S.Store conn.new) }
     ensures open { OnOk result (IsOpenIfClean (state S.Store conn.new)) }
     ensures unbroken { IfErr result (λ e. e.must_reopen ≡ false
         → IsReady (state S.Store conn.new)) }
@@ -154,6 +157,7 @@ pub(crate) fn load_from<S: Alter, R: ReadImage>(
     ensures sound { IfOk result IsSound }
     ensures unsound { IfErr result (λ e. (t : DeclaredTable) → e.fault ≡ LoadFault.Unsound t
         → (c : Result ImageRows DeclaredTable) → MayHold (state S.Store conn.new) c → c ≡ Err t) }
+    ensures cause { IfErr result (λ e. e.fault ≡ LoadFault.Store → e.must_reopen ≡ true) }
     ensures survives { LeavesStore (state S.Store conn.old) (state S.Store conn.new) }
 {
     let rows = match read_open(conn) {

@@ -1,13 +1,15 @@
 //! The tables of a store as a keeper of batches.
 
-ghost use Rattle.std.specs.Prelude.{◌≡◌, ◌≤◌, IfOk, IfErr, true, false, Ok, Err, Result};
+ghost use Rattle.std.specs.Prelude.{◌≡◌, ◌≤◌, IfOk, IfErr, OnOk, MatchResult, true, false, Ok, Err, Result};
 ghost use Rattle.sqlite.specs.State.{HasCleanDisk};
 ghost use Rattle.sqlite.specs.Held.{state};
 ghost use Rattle.sqlite.specs.Steps.{over_memory};
 ghost use Rattle.lrs_machine.specs.declared.image.Image.{Image as ImageRows};
 ghost use Rattle.lrs_machine.specs.declared.table.Table.{Table as DeclaredTable};
 ghost use Rattle.lrs_machine.specs.Image.{nothing};
-ghost use Rattle.lrs_image.specs.Keeping.{HasRisen, HoldsOnly};
+ghost use Rattle.lrs_machine.specs.Sound.{IsSound};
+ghost use Rattle.lrs_image.specs.Keeping.{HasRisen, HoldsOnly, HoldsSound};
+ghost use Rattle.lrs_store_tables.specs.Stored.{LeavesStore};
 ghost use Rattle.lrs_store_tables.specs.Resting.{IsReady};
 ghost use Rattle.lrs_store_keeper.specs.Holding.{MayHold, IsOpenIfClean, IsSafe};
 ghost use Rattle.lrs_store_keeper.specs.Opening.{IsSecond};
@@ -59,33 +61,14 @@ impl<S: Alter, R: ReadImage> Model for Tables<S, R> {
     ghost invariant = { λ k. k.is_broken ≡ false → IsUsable (state S.Store k.conn) k.conn.in_transaction k.is_loaded k.edits };
 }
 
-impl<S: Alter, R: ReadImage> Tables<S, R> {
-    /// Keeps what the tables of a store hold, of which nothing is loaded yet.
-    pub fn over(conn: Connection<S>, reader: R) -> Tables<S, R>
-        requires autocommit { conn.in_transaction ≡ false }
-        requires ready { IsReady (state S.Store conn) }
-        ensures same { result.conn ≡ conn }
-        ensures unloaded { result.is_loaded ≡ false }
-        ensures usable { result.is_broken ≡ false }
-    {
-        Tables {
-            conn,
-            reader,
-            edits: 0,
-            is_loaded: false,
-            is_broken: false,
-            failures: 0,
-        }
-    }
-}
-
 impl<S: Alter, R: ReadImage + Drop> Tables<S, R> {
     /// Keeps what the tables of a store hold. Rows of version 1, and those of a store that has none, become rows
     /// of version 2, in one transaction, and hold the same image. Nothing is loaded yet.
     ///
     /// # Errors
-    /// `Unsound` with the first unsound table of rows that are not of version 2, which stay as they are; `Store` if
-    /// the store fails, and `Memory` if memory runs out. The connection is given back, and holds what it held.
+    /// `Unsound` with the first unsound table of rows that are not of version 2, all of which stay as they are; `Store`
+    /// if the store fails, and `Memory` if memory runs out. The connection is given back, and holds what it held: rows
+    /// of version 2 stay as they are.
     pub fn open(
         alloc: Global,
         mut conn: Connection<S>,
@@ -105,9 +88,21 @@ impl<S: Alter, R: ReadImage + Drop> Tables<S, R> {
             → (c : Result ImageRows DeclaredTable) → MayHold (state S.Store e.1) c → c ≡ Err t) }
         ensures err { IfErr result (λ e. (c : Result ImageRows DeclaredTable)
             → MayHold (state S.Store e.1) c → MayHold (state S.Store conn) c) }
+        ensures still { IfErr result (λ e. (t : DeclaredTable) → e.0 ≡ LoadFault.Unsound t
+            → LeavesStore (state S.Store conn) (state S.Store e.1)) }
+        ensures untouched { IsSecond (state S.Store conn) → MatchResult result (λ k.
+            LeavesStore (state S.Store conn) (state S.Store k.conn)) (λ e.
+            LeavesStore (state S.Store conn) (state S.Store e.1)) }
     {
         match make_second(&reader, alloc, &mut conn) {
-            Ok(()) => Ok(Tables::over(conn, reader)),
+            Ok(()) => Ok(Tables {
+                conn,
+                reader,
+                edits: 0,
+                is_loaded: false,
+                is_broken: false,
+                failures: 0,
+            }),
             Err(fault) => Err((fault, conn)),
         }
     }
@@ -160,7 +155,26 @@ impl<S: Alter, R: ReadImage> Batches for Tables<S, R> {
 
     ghost failures = { λ k. k.failures };
 
-    fn load(&mut self, alloc: Global) -> Result<Image, LoadFault> {
+    // The last clause is not of `Batches`: all rows stay, whatever it answers.
+    fn load(&mut self, alloc: Global) -> Result<Image, LoadFault>
+        ensures image { IfOk result (λ image. (c : Result ImageRows DeclaredTable)
+            → MayHold (state S.Store self.new.conn) c → c ≡ Ok image) }
+        ensures sound { IfOk result (λ image. IsSound image) }
+        ensures loaded { OnOk result (self.new.is_loaded ≡ true) }
+        ensures unsound { (t : DeclaredTable) → result ≡ Err (LoadFault.Unsound t)
+            → (c : Result ImageRows DeclaredTable) → MayHold (state S.Store self.new.conn) c
+            → c ≡ Err t }
+        ensures store { result ≡ Err LoadFault.Store
+            → HasRisen self.old.failures self.new.failures }
+        ensures quiet { (result ≡ Err LoadFault.Store → ⊥)
+            → self.new.failures ≡ self.old.failures }
+        ensures counts { self.old.failures ≤ self.new.failures }
+        ensures found { HoldsSound (MayHold (state S.Store self.new.conn)) }
+        ensures content { (c : Result ImageRows DeclaredTable)
+            → MayHold (state S.Store self.new.conn) c → MayHold (state S.Store self.old.conn) c }
+        ensures open { OnOk result (IsOpenIfClean (state S.Store self.new.conn)) }
+        ensures rows { LeavesStore (state S.Store self.old.conn) (state S.Store self.new.conn) }
+    {
         if self.is_broken {
             self.failures = self.failures.saturating_add(1);
             return Err(LoadFault::Store);

@@ -1,6 +1,6 @@
 //! A store whose rows are not of version 2 is brought up before a keeper takes it.
 
-ghost use Rattle.std.specs.Prelude.{◌≡◌, pos, [], ◌∷◌, map, IfOk, OnOk, IsTrue, false, Result, Err};
+ghost use Rattle.std.specs.Prelude.{◌≡◌, ◌↔◌, pos, [], ◌∷◌, map, IfOk, OnOk, IsTrue, false, Result, Err};
 ghost use Rattle.sqlite_trees.specs.Tree.{Trees};
 ghost use Rattle.sqlite.specs.State.{HasCleanDisk};
 ghost use Rattle.sqlite.specs.Held.{state};
@@ -9,7 +9,7 @@ ghost use Rattle.lrs_machine.specs.declared.table.Table.{Table as DeclaredTable}
 ghost use Rattle.lrs_store_tables.specs.Stored.{stored, version_in, LeavesStore};
 ghost use Rattle.lrs_store_tables.specs.Resting.{IsReady};
 ghost use Rattle.lrs_store_keeper.specs.Holding.{MayHold, IsOpenIfClean};
-ghost use Rattle.lrs_store_keeper.specs.Opening.{HoldsImage, IsSecond, HasVersions};
+ghost use Rattle.lrs_store_keeper.specs.Opening.{HoldsImage, IsSecond, IsNotSecond, HasVersions};
 
 use crate::image::{ReadImage, check_open, is_second, read_alone, read_fault};
 use lrs_image::LoadFault;
@@ -44,6 +44,7 @@ fn has_second<S: Alter>(conn: &mut Connection<S>) -> Result<bool, Error>
     ensures ready { OnOk result (IsReady (state S.Store conn.new)) }
     ensures open { OnOk result (IsOpenIfClean (state S.Store conn.new)) }
     ensures second { IfOk result (λ is. IsTrue is → IsSecond (state S.Store conn.new)) }
+    ensures other { IfOk result (λ is. is ≡ false → IsNotSecond (state S.Store conn.new)) }
     ensures survives { LeavesStore (state S.Store conn.old) (state S.Store conn.new) }
 {
     let rows = read_versions_alone(conn)?;
@@ -86,6 +87,8 @@ fn write_second<S: Alter>(conn: &mut Connection<S>, image: &Image) -> Result<(),
     ensures content { (c : Result ImageRows DeclaredTable) → MayHold (state S.Store conn.new) c
         → MayHold (state S.Store conn.old) c }
     ensures never { (t : DeclaredTable) → result ≡ Err (LoadFault.Unsound t) → ⊥ }
+    ensures untouched { IsSecond (state S.Store conn.old) → IsNotSecond (state S.Store conn.old)
+        → LeavesStore (state S.Store conn.old) (state S.Store conn.new) }
 {
     match bring_up(conn, image.assets.as_slice()) {
         Ok(()) => Ok(()),
@@ -93,7 +96,7 @@ fn write_second<S: Alter>(conn: &mut Connection<S>, image: &Image) -> Result<(),
     }
 }
 
-/// The image that the rows hold is read, and they become those of version 2.
+/// The image is read that the rows hold, which are not of version 2, and they become those of version 2.
 fn rewrite<S: Alter, R: ReadImage>(
     reader: &R,
     alloc: Global,
@@ -101,6 +104,7 @@ fn rewrite<S: Alter, R: ReadImage>(
 ) -> Result<(), LoadFault>
     requires autocommit { conn.old.in_transaction ≡ false }
     requires ready { IsReady (state S.Store conn.old) }
+    requires other { IsNotSecond (state S.Store conn.old) }
     ensures autocommit { conn.new.in_transaction ≡ false }
     ensures clean { HasCleanDisk (state S.Store conn.new) → HasCleanDisk (state S.Store conn.old) }
     ensures ready { OnOk result (IsReady (state S.Store conn.new)) }
@@ -110,6 +114,10 @@ fn rewrite<S: Alter, R: ReadImage>(
         → MayHold (state S.Store conn.old) c }
     ensures unsound { (t : DeclaredTable) → result ≡ Err (LoadFault.Unsound t)
         → (c : Result ImageRows DeclaredTable) → MayHold (state S.Store conn.new) c → c ≡ Err t }
+    ensures still { (t : DeclaredTable) → result ≡ Err (LoadFault.Unsound t)
+        → LeavesStore (state S.Store conn.old) (state S.Store conn.new) }
+    ensures untouched { IsSecond (state S.Store conn.old)
+        → LeavesStore (state S.Store conn.old) (state S.Store conn.new) }
 {
     match held_image(reader, alloc, conn) {
         Ok(image) => write_second(conn, &image),
@@ -134,6 +142,10 @@ pub(crate) fn make_second<S: Alter, R: ReadImage>(
         → MayHold (state S.Store conn.old) c }
     ensures unsound { (t : DeclaredTable) → result ≡ Err (LoadFault.Unsound t)
         → (c : Result ImageRows DeclaredTable) → MayHold (state S.Store conn.new) c → c ≡ Err t }
+    ensures still { (t : DeclaredTable) → result ≡ Err (LoadFault.Unsound t)
+        → LeavesStore (state S.Store conn.old) (state S.Store conn.new) }
+    ensures untouched { IsSecond (state S.Store conn.old)
+        → LeavesStore (state S.Store conn.old) (state S.Store conn.new) }
 {
     match has_second(conn) {
         Ok(true) => Ok(()),

@@ -2,7 +2,7 @@ use Rattle.std.proofs.Common.{true, false}
 use Rattle.sqlite_std_file.specs.File.{IsFresh}
 use Rattle.sqlite_wal.specs.Files.{image_at}
 use Rattle.sqlite.specs.Files.{file_state}
-use Rattle.lrs_store.proofs.OpenedLemmas.{has_opened, holds_still, still_refused}
+use Rattle.lrs_store.proofs.OpenedLemmas.{has_opened, holds_still, each_row, opened_second, rows_left, still_refused}
 use Rattle.lrs_store.proofs.files.open_file.Goals as goal
 
 pub returns-in-Ok-open-clause-found : goal.returns-in-Ok-open-clause-found
@@ -14,3 +14,22 @@ returns-in-Err-open-clause-still g c = holds_still (image_at g.S.Start) (file_st
 
 pub returns-in-Err-clause-still : goal.returns-in-Err-clause-still
 returns-in-Err-clause-still g c = still_refused (image_at g.S.Start) (λ files. IsFresh true files.log × IsFresh false files.db) c.in-Err.refusal.left c.not_opened.result.left c.not_opened.ensures.still c.in-Err.ensures.left
+
+pub returns-in-Err-open-clause-rows : goal.returns-in-Err-open-clause-rows
+returns-in-Err-open-clause-rows g c t e = each_row (image_at g.S.Start) (file_state c.in-Ok.tables.conn) (file_state c.in-Err-open.conn) (c.in-Err-open.ensures.still t e) c.in-Ok.ensures.found
+
+pub returns-in-Ok-open-clause-untouched : goal.returns-in-Ok-open-clause-untouched
+returns-in-Ok-open-clause-untouched g c second =
+    let old = file_state c.in-Ok.tables.conn in
+    each_row (image_at g.S.Start) old (file_state c.in-Ok-open.keeper.conn) (c.in-Ok-open.ensures.untouched (opened_second (image_at g.S.Start) old second c.in-Ok.ensures.found)) c.in-Ok.ensures.found
+
+pub returns-in-Err-open-clause-untouched : goal.returns-in-Err-open-clause-untouched
+returns-in-Err-open-clause-untouched g c second =
+    let old = file_state c.in-Ok.tables.conn in
+    each_row (image_at g.S.Start) old (file_state c.in-Err-open.conn) (c.in-Err-open.ensures.untouched (opened_second (image_at g.S.Start) old second c.in-Ok.ensures.found)) c.in-Ok.ensures.found
+
+pub returns-in-Err-clause-rows : goal.returns-in-Err-clause-rows
+returns-in-Err-clause-rows g c t e = rows_left (image_at g.S.Start) (λ files. IsFresh true files.log × IsFresh false files.db) c.in-Err.refusal.left c.not_opened.result.left c.not_opened.ensures.still (returns-in-Err-clause-still g c)
+
+pub returns-in-Err-clause-untouched : goal.returns-in-Err-clause-untouched
+returns-in-Err-clause-untouched g c second = rows_left (image_at g.S.Start) (λ files. IsFresh true files.log × IsFresh false files.db) c.in-Err.refusal.left c.not_opened.result.left c.not_opened.ensures.still (returns-in-Err-clause-still g c)

@@ -1,6 +1,6 @@
 use Rattle.std.proofs.Common.{◌≡◌}
 use Rattle.sqlite.specs.Files.{file_state, image_of}
-use Rattle.lrs_store.proofs.OpenedLemmas.{has_opened, holds_still, still_given, something_left}
+use Rattle.lrs_store.proofs.OpenedLemmas.{has_opened, holds_still, each_row, opened_second, rows_left, still_given, something_left}
 use Rattle.lrs_store.proofs.files.open_files.Goals as goal
 
 pub returns-in-Ok-open-clause-found : goal.returns-in-Ok-open-clause-found
@@ -15,3 +15,22 @@ returns-in-Err-clause-still g c = still_given (image_of g.D.Disk c.args.files) (
 
 pub returns-in-Err-clause-left : goal.returns-in-Err-clause-left
 returns-in-Err-clause-left g c = something_left _ c.in-Err.refusal.left c.not_opened.result.left c.not_opened.ensures.still c.in-Err.ensures.left
+
+pub returns-in-Err-open-clause-rows : goal.returns-in-Err-open-clause-rows
+returns-in-Err-open-clause-rows g c t e = each_row (image_of g.D.Disk c.args.files) (file_state c.in-Ok.tables.conn) (file_state c.in-Err-open.conn) (c.in-Err-open.ensures.still t e) c.in-Ok.ensures.found
+
+pub returns-in-Ok-open-clause-untouched : goal.returns-in-Ok-open-clause-untouched
+returns-in-Ok-open-clause-untouched g c second =
+    let old = file_state c.in-Ok.tables.conn in
+    each_row (image_of g.D.Disk c.args.files) old (file_state c.in-Ok-open.keeper.conn) (c.in-Ok-open.ensures.untouched (opened_second (image_of g.D.Disk c.args.files) old second c.in-Ok.ensures.found)) c.in-Ok.ensures.found
+
+pub returns-in-Err-open-clause-untouched : goal.returns-in-Err-open-clause-untouched
+returns-in-Err-open-clause-untouched g c second =
+    let old = file_state c.in-Ok.tables.conn in
+    each_row (image_of g.D.Disk c.args.files) old (file_state c.in-Err-open.conn) (c.in-Err-open.ensures.untouched (opened_second (image_of g.D.Disk c.args.files) old second c.in-Ok.ensures.found)) c.in-Ok.ensures.found
+
+pub returns-in-Err-clause-rows : goal.returns-in-Err-clause-rows
+returns-in-Err-clause-rows g c t e = rows_left (image_of g.D.Disk c.args.files) (λ given. given ≡ c.args.files) c.in-Err.refusal.left c.not_opened.result.left c.not_opened.ensures.still (returns-in-Err-clause-still g c)
+
+pub returns-in-Err-clause-untouched : goal.returns-in-Err-clause-untouched
+returns-in-Err-clause-untouched g c second = rows_left (image_of g.D.Disk c.args.files) (λ given. given ≡ c.args.files) c.in-Err.refusal.left c.not_opened.result.left c.not_opened.ensures.still (returns-in-Err-clause-still g c)

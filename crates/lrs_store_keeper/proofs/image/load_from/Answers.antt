@@ -2,7 +2,8 @@ use Rattle.std.proofs.Common.{Err, ap}
 use Rattle.sqlite.specs.Held.{state}
 use Rattle.lrs_store_rows.proofs.Contents.{content_is_sound}
 use Rattle.lrs_store_keeper.specs.Rows.{tables_of}
-use Rattle.lrs_store_keeper.proofs.LoadLemmas.{loaded_edits, loaded_image, loaded_unsound}
+use Rattle.lrs_store_keeper.proofs.LoadLemmas.{loaded_edits, loaded_image, loaded_none}
+use Rattle.lrs_store_keeper.proofs.OpeningLemmas.{second_still}
 use Rattle.lrs_store_keeper.proofs.image.load_from.Goals as goal
 
 pub returns-in-Ok-image_of-clause-image : goal.returns-in-Ok-image_of-clause-image
@@ -18,4 +19,4 @@ returns-in-Ok-image_of-clause-sound g c = content_is_sound (tables_of c.in-Ok.ro
 
 pub returns-in-Err-image_of-clause-unsound : goal.returns-in-Err-image_of-clause-unsound
 returns-in-Err-image_of-clause-unsound g c t e =
-    loaded_unsound (state g.S.Store c.read_open.new.conn) (tables_of c.in-Ok.rows) c.in-Ok.ensures.rows t (c.in-Err-image_of.ensures.unsound t (ap (λ f. Err f) e))
+    loaded_none (state g.S.Store c.read_open.new.conn) (tables_of c.in-Ok.rows) c.in-Ok.ensures.rows (second_still (state g.S.Store c.args.conn.now) (state g.S.Store c.read_open.new.conn) c.read_open.ensures.survives c.requires.second) t (c.in-Err-image_of.ensures.unsound t (ap (λ f. Err f) e))

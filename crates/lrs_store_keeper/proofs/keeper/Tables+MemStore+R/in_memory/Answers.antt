@@ -1,7 +1,7 @@
 use Rattle.std.proofs.Common.{refl}
 use Rattle.sqlite_trees.specs.View.{doubt}
 use Rattle.sqlite.specs.Steps.{over_memory}
-use Rattle.lrs_store_keeper.proofs.NewLemmas.{no_edits, holds_nothing}
+use Rattle.lrs_store_keeper.proofs.NewLemmas.{no_edits, new_second, holds_nothing}
 use Rattle.lrs_store_keeper.proofs.keeper.Tables+MemStore+R.in_memory.Goals as goal
 
 pub invariant_of-result : goal.invariant_of-result
@@ -10,6 +10,7 @@ invariant_of-result g c e =
     record {
       autocommit = c.in_ok-conn.ensures.autocommit;
       ready = λ clean opened. made.rest;
+      second = new_second over_memory (λ s db opened same. same) c.in_ok-conn.conn made;
       is_open = λ loaded clean. made.is_open;
       loaded = λ loaded. no_edits over_memory (λ s db opened same. same) c.in_ok-conn.conn made;
     }
