@@ -119,9 +119,11 @@ pub(crate) fn image_of<R: ReadImage>(
     reader.read(alloc, rows)
 }
 
-/// Why rows are not read.
+/// Why rows are not read: memory ran out, or the store answered another error.
 pub(crate) fn read_fault(error: Error) -> LoadFault
-    ensures { (t : DeclaredTable) → result ≡ LoadFault.Unsound t → ⊥ }
+    ensures unnamed { (t : DeclaredTable) → result ≡ LoadFault.Unsound t → ⊥ }
+    ensures memory { result ≡ LoadFault.Memory
+        → error ≡ Error.SqliteFailure ErrorCode.OutOfMemory }
 {
     match error {
         Error::SqliteFailure(ErrorCode::OutOfMemory) => LoadFault::Memory,
