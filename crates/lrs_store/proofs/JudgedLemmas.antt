@@ -1,6 +1,6 @@
 -- What a store holds that was rolled back and then read.
-use Rattle.std.proofs.Common.{◌≡◌, ◌≢◌, ◌↔◌, inl, inr, ℕ, List, length, Bool, true, false, IsTrue, refl, sym, ap, subst, ◌∙◌, arith, true≢false}
-use Rattle.std.specs.Prelude.{Err, Option, None, Some, IfSome, IsSomeAnd, MatchOption}
+use Rattle.std.proofs.Common.{◌≡◌, ◌≢◌, ◌↔◌, ◌<◌, ◌≤◌, ℕ, List, Bool, true, false, IsTrue, refl, sym, ap, subst, ◌∙◌, arith, true≢false}
+use Rattle.std.specs.Prelude.{[], map, if◌then◌else◌, Err, Option, None, Some, IfSome, IsSomeAnd, MatchOption}
 use Rattle.sqlite_value.specs.Order.{Row}
 use Rattle.sqlite_trees.specs.Objects.{catalog_tree}
 use Rattle.sqlite_schema.specs.declared.schema.Schema.{Schema}
@@ -13,12 +13,13 @@ use Rattle.lrs_store_rows.specs.Tables.{Tables}
 use Rattle.lrs_store_rows.specs.Content.{content_of}
 use Rattle.lrs_store_keeper.specs.declared.rows.StoredRows.{StoredRows}
 use Rattle.lrs_store_keeper.specs.Rows.{tables_of}
-use Rattle.lrs_store_tables.specs.Schema.{inventory}
-use Rattle.lrs_store_tables.specs.Making.{up_to_edit}
+use Rattle.lrs_store_tables.specs.Stored.{stored}
+use Rattle.lrs_store_tables.specs.Making.{first_tables, first_rows}
 use Rattle.lrs_store_files.specs.declared.table_list.Known.{Known}
 use Rattle.lrs_store_files.specs.declared.table_list.Known.TheVariants as known
+use Rattle.lrs_store_files.proofs.FirstTables.{same_count}
 use Rattle.lrs_store.specs.Seeing.{HasSeen}
-use Rattle.lrs_store.specs.Judged.{ListsKnown, ListsOthers, HasRows, HasFound, IsUnsoundIn, IsUnsoundThere, IsSoundThere}
+use Rattle.lrs_store.specs.Judged.{AreFirst, ListsKnown, ListsOthers, HasRows, HasFound, IsUnsoundIn, IsUnsoundThere, IsSoundThere}
 
 open_there : (v : View) → (v.is_open ≡ false → IsTrue v.is_broken) → v.is_broken ≡ false → IsTrue v.is_open
 open_there v shut sound = go v.is_open refl
@@ -27,32 +28,34 @@ open_there v shut sound = go v.is_open refl
     go true is = is
     go false is = absurd (true≢false (sym (shut is) ∙ sound))
 
-first_or_second : up_to_edit ≡ inventory → ⊥
-first_or_second e = let n : 11 ≡ 12 = ap (λ (s : Schema). length s.tables) e in omega (arith, n)
-
 pub lists_it : (o : Option Schema) (found : Schema) (catalog : List Row) → o ≡ Some found → MatchOption o ((s : Schema) → Lists catalog s → ⊥) (Lists catalog) → Lists catalog found
 lists_it o found catalog is = subst (λ o. MatchOption o ((s : Schema) → Lists catalog s → ⊥) (Lists catalog)) is
 
 -- what a catalog lists that was read
-pub lists_known : (k : Known) (found : Schema) (catalog : List Row) → Lists catalog found → ((k ≡ known.First) ↔ (found ≡ up_to_edit)) → ((k ≡ known.Second) ↔ (found ≡ inventory)) → ListsKnown k catalog
-lists_known known.Second found catalog lists first second = subst (Lists catalog) (second.0 refl) lists
-lists_known known.First found catalog lists first second = subst (Lists catalog) (first.0 refl) lists
-lists_known known.Nothing found catalog lists first second =
-    ((λ l. absurd (let e = second.1 (lists_once catalog found inventory lists l) in cc)), (λ l. absurd (let e = first.1 (lists_once catalog found up_to_edit lists l) in cc)))
-lists_known known.Other found catalog lists first second =
-    ((λ l. absurd (let e = second.1 (lists_once catalog found inventory lists l) in cc)), (λ l. absurd (let e = first.1 (lists_once catalog found up_to_edit lists l) in cc)))
+pub lists_known : (k : Known) (found : Schema) (catalog : List Row) → Lists catalog found → ((n : ℕ) → (k ≡ known.First n) ↔ ((n ≤ 12) × (found ≡ first_tables n))) → ListsKnown k catalog
+lists_known (known.First n) found catalog lists is = let e = (is n).0 refl in (e.0, subst (Lists catalog) e.1 lists)
+lists_known known.Other found catalog lists is = λ n some few l. other_is_first n ((is n).1 (few, lists_once catalog found (first_tables n) lists l))
+  where
+    other_is_first : (n : ℕ) → known.Other ≡ known.First n → ⊥
+    other_is_first n e = cc e
 
 -- what a catalog lists from which nothing was read
 pub lists_others : (o : Option Schema) (catalog : List Row) → ((s : Schema) → o ≡ Some s → ⊥) → MatchOption o ((s : Schema) → Lists catalog s → ⊥) (Lists catalog) → ListsOthers catalog
-lists_others None catalog none lists = (lists inventory, lists up_to_edit)
+lists_others None catalog none lists = λ n some few. lists (first_tables n)
 lists_others (Some s) catalog none lists = absurd (none s refl)
 
 -- trees have the rows of an inventory in one way
 one_has_rows : (a b : Tables) (db : Trees) → HasRows a db → HasRows b db → a ≡ b
-one_has_rows a b db (inl (p, x)) (inl (q, y)) = x ∙ sym y
-one_has_rows a b db (inl (p, x)) (inr (q, y)) = absurd (first_or_second (lists_once (db catalog_tree) up_to_edit inventory q p))
-one_has_rows a b db (inr (p, x)) (inl (q, y)) = absurd (first_or_second (lists_once (db catalog_tree) up_to_edit inventory p q))
-one_has_rows a b db (inr (p, x)) (inr (q, y)) = x ∙ sym y
+one_has_rows a b db (n, some, few, p, x) (m, any, many, q, y) =
+    x ∙ ap (λ k. first_rows k (stored db)) (same_count n m few many (lists_once (db catalog_tree) (first_tables n) (first_tables m) p q)) ∙ sym y
+
+-- what is found of the trees of a store, by which of the known tables it lists
+pub found_of : (k : Known) (rows : StoredRows) (found : Option StoredRows) (db : Trees) → ListsKnown k (db catalog_tree) → AreFirst k rows found → tables_of rows ≡ stored db → HasFound found db
+found_of (known.First n) rows (Some first) db lists is read = (n, is.0, lists.0, lists.1, is.1 ∙ ap (first_rows n) read)
+found_of (known.First n) rows None db lists is read = λ m some few l.
+    absurd (let e = same_count n m lists.0 few (lists_once (db catalog_tree) (first_tables n) (first_tables m) lists.1 l) in omega (arith, e, is, some))
+found_of known.Other rows (Some first) db lists is read = absurd (cc is)
+found_of known.Other rows None db lists is read = lists
 
 unsound_in : (found : Option StoredRows) (db : Trees) (t : Table) → HasFound found db → IsSomeAnd found (λ r. content_of (tables_of r) ≡ Err t) → IsUnsoundIn t db
 unsound_in None db t has unsound = absurd unsound
@@ -62,8 +65,7 @@ none_unsound : (found : Option StoredRows) (db : Trees) → HasFound found db �
 none_unsound None db others fine t it = no it.are
   where
     no : HasRows it.rows db → ⊥
-    no (inl (p, _)) = others.0 p
-    no (inr (p, _)) = others.1 p
+    no (n, some, few, p, _) = others n some few p
 none_unsound (Some r) db has fine t it = fine t (ap content_of (one_has_rows (tables_of r) it.rows db has it.are) ∙ it.unsound)
 
 module _ {S : Type 0} {view : S → View} {recovers : S → Trees → Type 0} where
@@ -84,3 +86,8 @@ module _ {S : Type 0} {view : S → View} {recovers : S → Trees → Type 0} wh
 
     pub sound_there : (faults : S → ℕ) → IfSome found (λ r. (t : Table) → content_of (tables_of r) ≢ Err t) → IsSoundThere view faults recovers new
     sound_there faults fine clean is_open none db may t = none_unsound found db (has_found clean db may) fine t
+
+-- what rows say that are there, or not
+pub said_if : {X Y : Type 0} (f : X → Y) (b : Bool) (rows items : List X) → items ≡ (if b then rows else []) → map f items ≡ (if b then map f rows else [])
+said_if f true rows items e = ap (map f) e
+said_if f false rows items e = ap (map f) e

@@ -17,7 +17,8 @@ use Rattle.sqlite_catalog.proofs.ReadLemmas.{lists_once}
 use Rattle.lrs_store_tables.specs.Schema.{inventory}
 use Rattle.lrs_store_tables.specs.Stored.{stored, LeavesStore}
 use Rattle.lrs_store_tables.specs.Starting.{new_rows, NewRowsHoldNothing}
-use Rattle.lrs_store_tables.specs.Changing.{without_origins}
+use Rattle.lrs_store_tables.specs.Making.{first_rows}
+use Rattle.lrs_store_tables.proofs.MakeLemmas.{all_made}
 use Rattle.lrs_store_tables.specs.Holding.{HoldsOnly}
 use Rattle.lrs_store_keeper.specs.Holding.{MayHold}
 use Rattle.lrs_store_keeper.specs.Opening.{IsSecond}
@@ -45,8 +46,7 @@ has_opened image old new found content = record {
   sound = found.sound;
   known = found.known;
   made = λ is c h. holds_only new_rows (found.made is) c h ∙ hold_nothing;
-  grown = λ is. holds_only (without_origins (stored found.trees)) (found.grown is);
-  kept = λ is. holds_only (stored found.trees) (found.kept is);
+  kept = λ n some few is. holds_only (first_rows n (stored found.trees)) (found.kept n some few is);
 }
   where
     holds_only : (t : Tables) → HoldsOnly old t → HoldsContent new (content_of t)
@@ -72,8 +72,7 @@ module _ (image : wal.Image) (old new : State) (survives : LeavesStore old new) 
     sound = found.sound;
     known = found.known;
     made = λ is. only_still new_rows (found.made is);
-    grown = λ is. only_still (without_origins (stored found.trees)) (found.grown is);
-    kept = λ is. only_still (stored found.trees) (found.kept is);
+    kept = λ n some few is. only_still (first_rows n (stored found.trees)) (found.kept n some few is);
   }
 
   pub each_row : (HasCleanDisk old → HasFound image old) → HasCleanDisk new → HasFound image new
@@ -85,7 +84,7 @@ opened_second image s second found clean db left =
     let it = found clean in
     let held = second it.trees it.reads in
     let is = lists_once (it.trees catalog_tree) it.schema inventory it.sound.lists held.0 in
-    alone_again (pos 2) (stored db).version (subst (λ v. IsPermutation v (stored db).version) held.1 (it.kept is clean db left).version)
+    alone_again (pos 2) (stored db).version (subst (λ v. IsPermutation v (stored db).version) held.1 (it.kept 12 (omega arith) (omega arith) (is ∙ sym all_made) clean db left).version)
 
 module _ {D : Type 0} {g : Ghosts D} (image : wal.Image) (Began : Files D → Type 0) where
   -- a store that was looked at holds what it held

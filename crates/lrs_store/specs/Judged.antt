@@ -1,5 +1,5 @@
 -- Which table of a store is unsound that no connection takes.
-use Rattle.std.specs.Prelude.{◌≡◌, ◌⊎◌, ℕ, List, Option, None, Some, Err, IsTrue}
+use Rattle.std.specs.Prelude.{◌≡◌, ◌<◌, ◌≤◌, ℕ, List, Option, None, Some, Err, IsTrue}
 use Rattle.sqlite_value.specs.Order.{Row}
 use Rattle.sqlite_trees.specs.Tree.{Trees}
 use Rattle.sqlite_trees.specs.View.{View, IsClean}
@@ -8,29 +8,31 @@ use Rattle.sqlite_catalog.specs.Listing.{Lists}
 use Rattle.lrs_machine.specs.declared.table.Table.{Table}
 use Rattle.lrs_store_rows.specs.Tables.{Tables}
 use Rattle.lrs_store_rows.specs.Content.{content_of}
-use Rattle.lrs_store_tables.specs.Schema.{inventory}
 use Rattle.lrs_store_tables.specs.Stored.{stored}
-use Rattle.lrs_store_tables.specs.Making.{up_to_edit}
-use Rattle.lrs_store_tables.specs.Changing.{without_origins}
+use Rattle.lrs_store_tables.specs.Making.{first_tables, first_rows}
 use Rattle.lrs_store_files.specs.declared.table_list.Known.{Known}
 use Rattle.lrs_store_files.specs.declared.table_list.Known.TheVariants as known
 use Rattle.lrs_store_keeper.specs.declared.rows.StoredRows.{StoredRows}
 use Rattle.lrs_store_keeper.specs.Rows.{tables_of}
 
--- the catalog lists the tables of no inventory
+-- the catalog lists no table of an inventory, or others too
 abbrev pub ListsOthers : List Row → Type 0
-ListsOthers catalog = (Lists catalog inventory → ⊥) × (Lists catalog up_to_edit → ⊥)
+ListsOthers catalog = (n : ℕ) → 0 < n → n ≤ 12 → Lists catalog (first_tables n) → ⊥
 
 -- the catalog lists these tables
 abbrev pub ListsKnown : Known → List Row → Type 0
-ListsKnown known.Second catalog = Lists catalog inventory
-ListsKnown known.First catalog = Lists catalog up_to_edit
-ListsKnown known.Nothing catalog = ListsOthers catalog
+ListsKnown (known.First n) catalog = (n ≤ 12) × Lists catalog (first_tables n)
 ListsKnown known.Other catalog = ListsOthers catalog
 
--- the trees list the tables of version 2, which have these rows, or those of version 1, which tell no origins
+-- the trees list the first of the tables, which have these rows; a table that is missing has none
 abbrev pub HasRows : Tables → Trees → Type 0
-HasRows rows db = (Lists (db catalog_tree) inventory × (rows ≡ stored db)) ⊎ (Lists (db catalog_tree) up_to_edit × (rows ≡ without_origins (stored db)))
+HasRows rows db = (n : ℕ) × (0 < n) × (n ≤ 12) × Lists (db catalog_tree) (first_tables n) × (rows ≡ first_rows n (stored db))
+
+-- the rows of the first of the tables, where there are some
+abbrev pub AreFirst : Known → StoredRows → Option StoredRows → Type 0
+AreFirst (known.First n) rows (Some first) = (0 < n) × (tables_of first ≡ first_rows n (tables_of rows))
+AreFirst (known.First n) rows None = n ≡ 0
+AreFirst known.Other rows found = found ≡ None
 
 -- these are the rows of an inventory's tables, or there are no such tables
 abbrev pub HasFound : Option StoredRows → Trees → Type 0

@@ -1,5 +1,5 @@
 -- What an opening leaves of the image that files hold.
-use Rattle.std.specs.Prelude.{◌≡◌, Result, Ok}
+use Rattle.std.specs.Prelude.{◌≡◌, ◌<◌, ◌≤◌, ℕ, Result, Ok}
 use Rattle.sqlite_schema.specs.declared.schema.Schema.{Schema}
 use Rattle.sqlite_catalog.specs.Listing.{IsSound}
 use Rattle.sqlite_trees.specs.Tree.{Trees}
@@ -10,10 +10,8 @@ use Rattle.lrs_machine.specs.declared.image.Image.{Image}
 use Rattle.lrs_machine.specs.declared.table.Table.{Table}
 use Rattle.lrs_machine.specs.Image.{nothing}
 use Rattle.lrs_store_rows.specs.Content.{content_of}
-use Rattle.lrs_store_tables.specs.Schema.{inventory}
 use Rattle.lrs_store_tables.specs.Stored.{stored}
-use Rattle.lrs_store_tables.specs.Making.{no_schema, up_to_edit}
-use Rattle.lrs_store_tables.specs.Changing.{without_origins}
+use Rattle.lrs_store_tables.specs.Making.{no_schema, first_tables, first_rows}
 use Rattle.lrs_store_keeper.specs.Holding.{MayHold}
 use Rattle.lrs_store_files.specs.Opening.{IsKnown}
 
@@ -21,7 +19,7 @@ use Rattle.lrs_store_files.specs.Opening.{IsKnown}
 abbrev pub HoldsContent : State → Result Image Table → Type 0
 HoldsContent s content = (c : Result Image Table) → MayHold s c → c ≡ content
 
--- The files held these trees, of tables that are known. A store without tables holds the image without entries, and one with tables what its rows held.
+-- The files held these trees, of tables that are known. A store without tables holds the image without entries, and one with the first of the tables what its rows held; a table that it lacked has no row.
 pub record HasOpened (image : wal.Image) (s : State) : Type 0 where
   pub trees : Trees
   pub schema : Schema
@@ -30,5 +28,4 @@ pub record HasOpened (image : wal.Image) (s : State) : Type 0 where
   pub sound : IsSound schema trees
   pub known : IsKnown schema
   pub made : schema ≡ no_schema → HoldsContent s (Ok nothing)
-  pub grown : schema ≡ up_to_edit → HoldsContent s (content_of (without_origins (stored trees)))
-  pub kept : schema ≡ inventory → HoldsContent s (content_of (stored trees))
+  pub kept : (n : ℕ) → 0 < n → n ≤ 12 → schema ≡ first_tables n → HoldsContent s (content_of (first_rows n (stored trees)))

@@ -1,20 +1,22 @@
 //! The first unsound table of a store that no connection takes.
 
-ghost use Rattle.std.specs.Prelude.{◌≡◌, ◌≢◌, ◌≤◌, Err, IfOk, IfErr, IfSome, IsSomeAnd};
+ghost use Rattle.std.specs.Prelude.{◌≡◌, ◌≢◌, ◌≤◌, [], Err, IfOk, IfErr, IfSome, IsSomeAnd, if◌then◌else◌};
 ghost use Rattle.sqlite_trees.specs.Tree.{Trees};
 ghost use Rattle.sqlite_trees.specs.View.{doubt, IsClean};
 ghost use Rattle.sqlite_trees.specs.Objects.{catalog_tree};
 ghost use Rattle.lrs_machine.specs.declared.table.Table.{Table as DeclaredTable};
 ghost use Rattle.lrs_store_rows.specs.Content.{content_of};
+ghost use Rattle.lrs_store_tables.specs.Making.{first_rows};
 ghost use Rattle.lrs_store_keeper.specs.Rows.{tables_of};
 ghost use Rattle.lrs_store.specs.Seeing.{HasSeen, StopsFor, HasStopped};
-ghost use Rattle.lrs_store.specs.Judged.{ListsKnown, HasFound, IsUnsoundThere, IsSoundThere};
+ghost use Rattle.lrs_store.specs.Judged.{AreFirst, ListsKnown, HasFound, IsUnsoundThere, IsSoundThere};
 
 use crate::rows::read_trees;
 use lrs_image::LoadFault;
 use lrs_store_files::{Known, wanted, which};
 use lrs_store_keeper::ReadImage;
-use lrs_store_keeper::rows::StoredRows;
+use lrs_store_keeper::rows::{LedgerRows, NamedRows, RouteRows, StoredRows};
+use sqlite::Row;
 use sqlite_catalog::load::load;
 use sqlite_trees::error::StoreError;
 use sqlite_trees::store::Alter;
@@ -37,7 +39,59 @@ fn known_of<S: Alter>(alloc: Global, store: &S) -> Result<Known, StoreError>
     Ok(which(&schema, &wanted))
 }
 
-/// The rows of a store's tables, if they are those of an inventory: those of version 1 tell no origins.
+/// The rows of a table, or none where it is missing.
+fn rows_if(rows: Vec<Row>, is_there: bool) -> Vec<Row>
+    ensures { result.items ≡ (if is_there then rows.items else []) }
+{
+    let mut rows = rows;
+    if !is_there {
+        rows.clear();
+    }
+    rows
+}
+
+/// The rows of the first of the tables; a table that is missing has none.
+fn first_of(rows: StoredRows, count: usize) -> StoredRows
+    ensures { tables_of result ≡ first_rows count (tables_of rows) }
+{
+    let StoredRows {
+        named,
+        routes,
+        ledgers,
+    } = rows;
+    StoredRows {
+        named: NamedRows {
+            version: rows_if(named.version, 0 < count),
+            link: rows_if(named.link, 1 < count),
+            class: rows_if(named.class, 2 < count),
+            asset: rows_if(named.asset, 3 < count),
+        },
+        routes: RouteRows {
+            piece: rows_if(routes.piece, 4 < count),
+            mark: rows_if(routes.mark, 5 < count),
+            referent: rows_if(routes.referent, 6 < count),
+            span: rows_if(routes.span, 7 < count),
+        },
+        ledgers: LedgerRows {
+            entered: rows_if(ledgers.entered, 8 < count),
+            gone: rows_if(ledgers.gone, 9 < count),
+            edit: rows_if(ledgers.edit, 10 < count),
+            origin: rows_if(ledgers.origin, 11 < count),
+        },
+    }
+}
+
+/// The rows of the first of the tables, where there are some.
+fn known_rows(known: Known, rows: StoredRows) -> Option<StoredRows>
+    ensures { AreFirst known rows result }
+{
+    match known {
+        Known::First(0) | Known::Other => None,
+        Known::First(count) => Some(first_of(rows, count)),
+    }
+}
+
+/// The rows of a store's tables, if they are the first of an inventory's: those of version 1 tell no origins.
 fn rows_of<S: Alter>(alloc: Global, store: &mut S) -> Result<Option<StoredRows>, StoreError>
     ensures found { IfOk result (λ found. HasSeen S.Store.view S.Store.recovers
         (HasFound found) store.old store.new) }
@@ -45,15 +99,8 @@ fn rows_of<S: Alter>(alloc: Global, store: &mut S) -> Result<Option<StoredRows>,
         (HasStopped S.Store.view S.Store.faults S.Store.recovers store.old store.new) }
 {
     let known = known_of(alloc, store)?;
-    let mut rows = read_trees(alloc, store)?;
-    match known {
-        Known::Second => Ok(Some(rows)),
-        Known::First => {
-            rows.ledgers.origin.clear();
-            Ok(Some(rows))
-        }
-        Known::Nothing | Known::Other => Ok(None),
-    }
+    let rows = read_trees(alloc, store)?;
+    Ok(known_rows(known, rows))
 }
 
 /// Why these rows are no image's: with none, or rows that hold an image, that is not known here.

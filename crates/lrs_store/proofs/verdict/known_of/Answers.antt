@@ -8,4 +8,4 @@ returns-in_default-clause-known g c clean = lists_others c.in_ok-schema.field-0 
 pub returns-clause-known : goal.returns-clause-known
 returns-clause-known g c clean =
     let catalog = (g.S.Store.view c.args.store.now).trees catalog_tree in
-    lists_known c.which.result c.in-Some.schema catalog (lists_it c.in_ok-schema.field-0 c.in-Some.schema catalog c.in-Some.is (c.in_ok-schema.ensures clean)) c.which.ensures.first c.which.ensures.second
+    lists_known c.which.result c.in-Some.schema catalog (lists_it c.in_ok-schema.field-0 c.in-Some.schema catalog c.in-Some.is (c.in_ok-schema.ensures clean)) c.which.ensures
