@@ -108,6 +108,80 @@ def test_help(words):
     assert (ended.stderr, ended.status) == (b"", 0) and ended.stdout, ended
 
 
+def with_sums(*words):
+    """These words with the option before them, at each place between them, and after them."""
+    return [[*words[:place], "--sums", *words[place:]] for place in range(len(words) + 1)]
+
+
+@pytest.mark.parametrize("words", with_sums("roads.db", "stdin"))
+def test_a_new_file_with_sums(words, tmp_path):
+    ends(run("edit", *words, given=FIRST, cwd=tmp_path), FIRST_REPLIES, 0)
+    # the file that is there then goes on as it was made, with the option and without it
+    again = FIRST_REPLIES.replace(b",done,", b",again,")
+    ends(run("edit", *words, given=FIRST, cwd=tmp_path), again, 0)
+    ends(run("edit", "roads.db", "stdin", given=FIRST, cwd=tmp_path), again, 0)
+
+
+@pytest.mark.parametrize("words", with_sums("roads.db", "stdin"))
+def test_a_survey_with_sums(words, tmp_path):
+    ends(run("survey", *words, given=b"", cwd=tmp_path), b"", 0)
+
+
+@pytest.mark.parametrize("words", with_sums(":memory:", "8080", "many"))
+def test_a_service_with_sums(words):
+    # the words are understood, and the last of them is no number
+    ends(run("serve", *words), b"", 2, b"error: MAX is no number of connections\n")
+
+
+def test_sums_that_are_a_path(tmp_path):
+    (tmp_path / "--sums").write_bytes(FIRST)
+    ends(run("edit", ":memory:", "--", "--sums", cwd=tmp_path), FIRST_REPLIES, 0)
+
+
+NO_SUMS = [
+    ["--sums", *UNDERSTOOD],
+    ["edit", "--sums", "--sums", *UNDERSTOOD[1:]],
+    ["edit", "--sums", *UNDERSTOOD[1:], "--sums"],
+    ["edit", "--sums=", *UNDERSTOOD[1:]],
+    ["edit", "--sums=true", *UNDERSTOOD[1:]],
+    ["edit", "--sum", *UNDERSTOOD[1:]],
+    ["edit", "-sums", *UNDERSTOOD[1:]],
+    ["edit", "-s", *UNDERSTOOD[1:]],
+    ["edit", "--sums"],
+    ["edit", "--sums", ":memory:"],
+    ["survey", "--sums", "--sums", *UNDERSTOOD[1:]],
+    ["serve", "--sums", "--sums", ":memory:", "8080", "0"],
+    ["at", "--sums", ":memory:", "A1", "abs", "3000"],
+    ["at", ":memory:", "A1", "abs", "3000", "--sums"],
+    ["translate", "--sums", ":memory:", "A1", "abs", "3000", "int"],
+    ["strip", "--sums", ":memory:", "A1", "R", "SPEED"],
+    ["totals", "--sums", ":memory:"],
+    ["find", "--sums", ":memory:", "10"],
+]
+
+
+@pytest.mark.parametrize("words", NO_SUMS, ids=" ".join)
+def test_sums_that_are_not_understood(words):
+    is_misused(run(*words, given=FIRST))
+
+
+def test_help_names_sums_where_a_file_may_be_new():
+    said = {name: run(name, "--help").stdout for name in ["edit", "survey", "serve", "at", "translate", "strip", "totals", "find"]}
+    line = b"      --sums  Gives a new file sums of its pages, so that damage is found\n"
+    assert [name for name, text in said.items() if line in text] == ["edit", "survey", "serve"], said
+    assert b"--sums" not in b"".join(text.replace(line, b"") for text in said.values()), said
+
+
+USAGES = {"edit": b"<DB> <SHEET>", "survey": b"<DB> <SHEET>", "serve": b"<DB> <PORT> <MAX>"}
+
+
+@pytest.mark.parametrize("name", USAGES)
+def test_usage_names_the_words_alone(name):
+    for words in [[name], [name, "--fast"], [name, ":memory:"], [name, "--sums", "--sums"], [name, *["more"] * 4]]:
+        said = run(*words).stderr
+        assert b"\nUsage: roadlrs %s %s\n" % (name.encode(), USAGES[name]) in said, (words, said)
+
+
 def test_usage_says_roadlrs_whatever_the_file_is_called():
     with tempfile.TemporaryDirectory() as folder:
         link = pathlib.Path(folder) / "another name"

@@ -1,5 +1,5 @@
 -- One of the classes cannot be read.
-use Rattle.std.proofs.Common.{◌≡◌, ℕ, suc, zero, ◌<◌, List, [], ◌∷◌, length, map, get_or, Bor, arith}
+use Rattle.std.proofs.Common.{ℕ, suc, zero, ◌<◌, List, [], ◌∷◌, length, map, get_or, Bor, arith}
 use Rattle.std.specs.Prelude.{IsSomeAnd, slice_get}
 use Rattle.clap.specs.Words.{Text}
 use Rattle.lrs_cli_words.specs.declared.question.BadWord.TheVariants as word

@@ -1,20 +1,21 @@
 -- Where `clap` finds no fault with the words, they name a job, and each of its words is there.
-use Rattle.std.proofs.Common.{◌≡◌, ◌∙◌, ◌++◌, ◌||◌, ℕ, Bool, true, false, true≢false, not, cond, List, [], ◌∷◌, Option, Some, None, is_some, map, option_map, refl, sym, ap, subst, codes}
+use Rattle.std.proofs.Common.{◌≡◌, ◌∙◌, ◌++◌, ◌||◌, ℕ, Bool, true, false, true≢false, not, cond, List, [], ◌∷◌, Option, Some, None, is_some, map, option_map, IfSome, refl, sym, ap, subst, codes}
 use Rattle.std.specs.List.{find, list_any}
 use Rattle.std.specs.Option.{option_map_or}
 use Rattle.std.specs.Str.{bytes_eq}
 use Rattle.std.proofs.lemmas.Slice.Eq.{bytes_eq-Decides}
-use Rattle.clap.specs.Walk.{Row, Rule, Text, answers_to, arg_by_long, arg_by_short, finished, has_long, has_short, nothing_held, walk, walk_from}
+use Rattle.clap.specs.Walk.{Row, Rule, Text, answers_to, finished, has_long, has_short, nothing_held, walk, walk_from}
 use Rattle.clap.specs.Takes.{is_given}
 use Rattle.clap.specs.Faults.{is_simple_and_free, check_fault, defaults_fault, entered_fault, fault_of, level_fault, settle_fault, walk_fault}
 use Rattle.clap.specs.Simple.{App, HasMatchesOf, Shape, built, built_leaf, is_simple, subcommand_rows_of, entered, filled, help_rule, help_shape, inherited, label_of, marked_built, names_of, rows_at, subcommand_of, with_leaf_noted}
 use Rattle.clap.specs.declared.ArgMatches.{ArgMatches}
+use Rattle.clap.specs.declared.builder.ArgAction.TheVariants.{SetTrue}
 use Rattle.clap.specs.declared.error.ErrorKind.TheVariants as kind
 use Rattle.lrs_cli_words.specs.declared.job.JobName.{JobName}
 use Rattle.lrs_cli_words.specs.declared.job.JobName.TheVariants as job
-use Rattle.lrs_cli_words.specs.Words.{AreGiven, HasJobWords, jobs, line_of_job, line_of_program, rules_of}
+use Rattle.lrs_cli_words.specs.Words.{AreGiven, HasJobWords, flag, jobs, line_of_job, line_of_program, rules_of}
 use Rattle.lrs_cli_words.proofs.JobNames.{first_none, names_help, no_kinds, second_none, walk_stops}
-use Rattle.lrs_cli_words.proofs.JobValues.{Filled, HasFlag, flag_if, given_first, rows-filled}
+use Rattle.lrs_cli_words.proofs.JobValues.{Filled, HasFlags, IsFlag, given_first, rows-filled, used-filled}
 
 abbrev program : App
 program = built line_of_program
@@ -26,31 +27,46 @@ shape_at j = built_leaf (inherited (with_leaf_noted (marked_built line_of_progra
 abbrev help_at : Shape
 help_at = built_leaf help_shape
 
--- ---- each line has one flag, which asks for help
+-- ---- the flags of a line: each asks for help, and some for sums
 
 abbrev help_flag : Rule
 help_flag = filled help_rule
 
-flag_in : (c : List Rule) → ((name : Text) → arg_by_long c name ≡ flag_if help_flag (has_long help_flag name))
-    → ((x : ℕ) → arg_by_short c x ≡ flag_if help_flag (has_short help_flag x)) → HasFlag c
-flag_in c long short = record {
-  flag = help_flag;
-  is = record { takes_none = refl; leaves = λ rows. refl };
-  is_long = λ name. has_long help_flag name;
-  long = long;
-  is_short = λ x. has_short help_flag x;
-  short = short;
-}
+abbrev sums_flag : Rule
+sums_flag = filled (flag (codes "sums"))
 
-has_flag : (j : JobName) → HasFlag (shape_at j).rules
-has_flag job.Edit = flag_in _ (λ name. refl) (λ x. refl)
-has_flag job.Survey = flag_in _ (λ name. refl) (λ x. refl)
-has_flag job.At = flag_in _ (λ name. refl) (λ x. refl)
-has_flag job.Translate = flag_in _ (λ name. refl) (λ x. refl)
-has_flag job.Strip = flag_in _ (λ name. refl) (λ x. refl)
-has_flag job.Totals = flag_in _ (λ name. refl) (λ x. refl)
-has_flag job.Find = flag_in _ (λ name. refl) (λ x. refl)
-has_flag job.Serve = flag_in _ (λ name. refl) (λ x. refl)
+abbrev help_if : Bool → Option Rule
+help_if b = cond b (Some help_flag) None
+
+abbrev sums_if : Bool → Option Rule → Option Rule
+sums_if b others = cond b (Some sums_flag) others
+
+is_help : (b : Bool) → IfSome (help_if b) IsFlag
+is_help true = record { takes_none = refl; fills = λ rows e. e }
+is_help false = tt
+
+is_sums : (b c : Bool) → IfSome (sums_if b (help_if c)) IsFlag
+is_sums true c = record { takes_none = refl; fills = λ rows e. used-filled SetTrue (codes "sums") _ (codes "true") [] rows e }
+is_sums false c = is_help c
+
+long_help : (name : Text) → IfSome (help_if (has_long help_flag name)) IsFlag
+long_help name = is_help (has_long help_flag name)
+
+long_sums : (name : Text) → IfSome (sums_if (has_long sums_flag name) (help_if (has_long help_flag name))) IsFlag
+long_sums name = is_sums (has_long sums_flag name) (has_long help_flag name)
+
+short_help : (x : ℕ) → IfSome (help_if (has_short help_flag x)) IsFlag
+short_help x = is_help (has_short help_flag x)
+
+has_flags : (j : JobName) → HasFlags (shape_at j).rules
+has_flags job.Edit = record { long = long_sums; short = short_help }
+has_flags job.Survey = record { long = long_sums; short = short_help }
+has_flags job.At = record { long = long_help; short = short_help }
+has_flags job.Translate = record { long = long_help; short = short_help }
+has_flags job.Strip = record { long = long_help; short = short_help }
+has_flags job.Totals = record { long = long_help; short = short_help }
+has_flags job.Find = record { long = long_help; short = short_help }
+has_flags job.Serve = record { long = long_sums; short = short_help }
 
 -- ---- no word is missing
 
@@ -90,7 +106,7 @@ job_words j words e =
     let after_walk = second_none (walk_fault s [] (walk_from nothing_held) words) _ e in
     let after_settling = second_none (settle_fault s.rules s.args_override_self end) _ after_walk in
     let checked : check_fault s rows false ≡ [] = second_none (defaults_fault _ s.rules) _ after_settling in
-    let filled = rows-filled s.rules [] (walk_from nothing_held) words (has_flag j) (record { rows = refl; pending = refl }) in
+    let filled = rows-filled s.rules [] (walk_from nothing_held) words (has_flags j) (record { rows = refl; pending = refl }) in
     (j, refl, all_given (rules_of j) rows filled (none_missing j rows checked))
 
 -- ---- a line is met

@@ -1,5 +1,5 @@
 -- Each row that `clap` makes of the words of a job has a value.
-use Rattle.std.proofs.Common.{◌≡◌, ◌&&◌, ℕ, Bool, true, false, true≢false, cond, zero, suc, List, [], ◌∷◌, ◌++◌, Option, Some, None, is_some, refl, sym, subst, length, drop}
+use Rattle.std.proofs.Common.{◌≡◌, ◌&&◌, ℕ, Bool, true, false, true≢false, cond, zero, suc, List, [], ◌∷◌, ◌++◌, Option, Some, None, is_some, IfSome, refl, sym, length, drop}
 use Rattle.std.specs.List.{fold, find, list_all, slice_get}
 use Rattle.std.specs.Option.{option_map_or, option_and_then}
 use Rattle.std.specs.Str.{bytes_eq, chars}
@@ -60,7 +60,7 @@ without-filled : (id : Text) (rows : List Row) → Filled rows → Filled (at_ro
 without-filled id [] e = refl
 without-filled id (r ∷ rs) e = without-row id r rs (bytes_eq r.id id) e (without-filled id rs (second_true (has_value r) (list_all has_value rs) e))
 
-used-filled : (x : ArgAction) (id : Text) (how : Reading) (v : Text) (vs : List Text) (rows : List Row) → Filled rows → Filled (used_as x id how (v ∷ vs) rows)
+pub used-filled : (x : ArgAction) (id : Text) (how : Reading) (v : Text) (vs : List Text) (rows : List Row) → Filled rows → Filled (used_as x id how (v ∷ vs) rows)
 used-filled action.Set id how v vs rows e = with_values-filled id how CommandLine v vs _ (without-filled id rows e)
 used-filled action.SetTrue id how v vs rows e = with_values-filled id how CommandLine v vs _ (without-filled id rows e)
 used-filled action.SetFalse id how v vs rows e = with_values-filled id how CommandLine v vs _ (without-filled id rows e)
@@ -103,51 +103,42 @@ placed-filled c a word h f = push a.id word _ (go (is_pending a h.pending && tak
     go true = f
     go false = settle c h f
 
--- ---- flags that take no value and leave no row
-
--- the flag of these rules that a word may name, if it is one
-abbrev pub flag_if : Rule → Bool → Option Rule
-flag_if a b = cond b (Some a) None
+-- ---- flags, which take no value; each row that one leaves has a value
 
 pub record IsFlag (a : Rule) : Type 0 where
   pub takes_none : takes_values a ≡ false
-  pub leaves : (rows : List Row) → used a [] rows ≡ rows
+  pub fills : (rows : List Row) → Filled rows → Filled (used a [] rows)
 
 react : (c : List Rule) (a : Rule) (h : Held) → IsFlag a → IsFilled h → IsFilled (reacted c a [] h)
-react c a h is f = record { rows = subst Filled (sym (is.leaves _)) (settle c h f).rows; pending = refl }
+react c a h is f = record { rows = is.fills _ (settle c h f).rows; pending = refl }
 
 flagged : (c : List Rule) (a : Rule) (v : Option Text) (h : Held) → IsFlag a → IsFilled h → IsFilled (flag_met c a v h).0
 flagged c a None h is f = react c a h is f
 flagged c a (Some v) h is f = f
 
-long-filled : (c : List Rule) (a : Rule) (b : Bool) (v : Option Text) (h : Held) → IsFlag a → IsFilled h → IsFilled (long_met c (flag_if a b) v h).0
-long-filled c a false v h is f = f
-long-filled c a true v h is f = rw is.takes_none (flagged c a v h is f)
+long-filled : (c : List Rule) (named : Option Rule) (v : Option Text) (h : Held) → IfSome named IsFlag → IsFilled h → IsFilled (long_met c named v h).0
+long-filled c None v h is f = f
+long-filled c (Some a) v h is f = rw is.takes_none (flagged c a v h is f)
 
-short-filled : (c : List Rule) (a : Rule) (b : Bool) (rest : Text) (h : Held) (others : Held → Held × Outcome) → IsFlag a → IsFilled h
-    → ((g : Held) → IsFilled g → IsFilled (others g).0) → IsFilled (short_met c (flag_if a b) rest h others).0
-short-filled c a false rest h others is f go = f
-short-filled c a true rest h others is f go = rw is.takes_none (go (reacted c a [] h) (react c a h is f))
+short-filled : (c : List Rule) (named : Option Rule) (rest : Text) (h : Held) (others : Held → Held × Outcome) → IfSome named IsFlag → IsFilled h
+    → ((g : Held) → IsFilled g → IsFilled (others g).0) → IsFilled (short_met c named rest h others).0
+short-filled c None rest h others is f go = f
+short-filled c (Some a) rest h others is f go = rw is.takes_none (go (reacted c a [] h) (react c a h is f))
 
--- a word of flags names this one or none
-pub record HasFlag (c : List Rule) : Type 0 where
-  pub flag : Rule
-  pub is : IsFlag flag
-  pub is_long : Text → Bool
-  pub long : (name : Text) → arg_by_long c name ≡ flag_if flag (is_long name)
-  pub is_short : ℕ → Bool
-  pub short : (x : ℕ) → arg_by_short c x ≡ flag_if flag (is_short x)
+-- what a word of flags names is a flag
+pub record HasFlags (c : List Rule) : Type 0 where
+  pub long : (name : Text) → IfSome (arg_by_long c name) IsFlag
+  pub short : (x : ℕ) → IfSome (arg_by_short c x) IsFlag
 
-bundle_step-filled : (c : List Rule) (o : Option ℕ) (flags : Text) (skip : ℕ) (so_far : Outcome) (h : Held) (others : Text → ℕ → Outcome → Held → Held × Outcome) → HasFlag c → IsFilled h
+bundle_step-filled : (c : List Rule) (o : Option ℕ) (flags : Text) (skip : ℕ) (so_far : Outcome) (h : Held) (others : Text → ℕ → Outcome → Held → Held × Outcome) → HasFlags c → IsFilled h
     → ((rest : Text) (n : ℕ) (p : Outcome) (g : Held) → IsFilled g → IsFilled (others rest n p g).0) → IsFilled (bundle_step c o flags skip so_far h others).0
 bundle_step-filled c None flags skip so_far h others has f go = f
 bundle_step-filled c (Some x) flags zero so_far h others has f go =
     let rest = drop (length (encode_utf8 x)) flags in
-    subst (λ o. IsFilled (short_met c o rest h (others rest 0 done)).0) (sym (has.short x))
-    (short-filled c has.flag (has.is_short x) rest h (others rest 0 done) has.is f (go rest 0 done))
+    short-filled c (arg_by_short c x) rest h (others rest 0 done) (has.short x) f (go rest 0 done)
 bundle_step-filled c (Some x) flags (suc skip) so_far h others has f go = go (drop (length (encode_utf8 x)) flags) skip so_far h f
 
-bundle-filled : (c : List Rule) (k : ℕ) (flags : Text) (skip : ℕ) (so_far : Outcome) (h : Held) → HasFlag c → IsFilled h → IsFilled (bundle_met c k flags skip so_far h).0
+bundle-filled : (c : List Rule) (k : ℕ) (flags : Text) (skip : ℕ) (so_far : Outcome) (h : Held) → HasFlags c → IsFilled h → IsFilled (bundle_met c k flags skip so_far h).0
 unfolding bundle_met
 bundle-filled c zero flags skip so_far h has f = f
 bundle-filled c (suc k) flags skip so_far h has f =
@@ -170,19 +161,19 @@ after-filled c waiting word h (waits id) f = f
 after-filled c waiting word h plain f = plain-filled c waiting word h f
 after-filled c waiting word h refused f = plain-filled c waiting word h f
 
-shorts-filled : (c : List Rule) (waiting : Waiting) (word : Text) (o : Option Text) (h : Held) → HasFlag c → IsFilled h → IsFilled (short_or_plain c waiting word o h).0
+shorts-filled : (c : List Rule) (waiting : Waiting) (word : Text) (o : Option Text) (h : Held) → HasFlags c → IsFilled h → IsFilled (short_or_plain c waiting word o h).0
 shorts-filled c waiting word None h has f = plain-filled c waiting word h f
 shorts-filled c waiting word (Some flags) h has f =
     after-filled c waiting word (bundle c flags h).0 (bundle c flags h).1
     (bundle-filled c (length flags) flags h.skip plain (record h { skip = 0 }) has (record { rows = f.rows; pending = f.pending }))
 
-longs-filled : (c : List Rule) (waiting : Waiting) (word : Text) (l : Option (Text × Option Text)) (h : Held) → HasFlag c → IsFilled h → IsFilled (long_or_other c waiting word l h).0
+longs-filled : (c : List Rule) (waiting : Waiting) (word : Text) (l : Option (Text × Option Text)) (h : Held) → HasFlags c → IsFilled h → IsFilled (long_or_other c waiting word l h).0
 longs-filled c waiting word None h has f = shorts-filled c waiting word (short_of word) h has f
 longs-filled c waiting word (Some p) h has f =
     after-filled c waiting word (long_met c (arg_by_long c p.0) p.1 h).0 (long_met c (arg_by_long c p.0) p.1 h).1
-    (subst (λ o. IsFilled (long_met c o p.1 h).0) (sym (has.long p.0)) (long-filled c has.flag (has.is_long p.0) p.1 h has.is f))
+    (long-filled c (arg_by_long c p.0) p.1 h (has.long p.0) f)
 
-subs-filled : (c : List Rule) (met : Option Text) (waiting : Waiting) (position : ℕ) (word : Text) (h : Held) → HasFlag c → IsFilled h
+subs-filled : (c : List Rule) (met : Option Text) (waiting : Waiting) (position : ℕ) (word : Text) (h : Held) → HasFlags c → IsFilled h
     → IsFilled (subcommand_or_other c met waiting position word h).0
 subs-filled c (Some name) waiting position word h has f = f
 subs-filled c None waiting position word h has f = go (bytes_eq word (45 ∷ 45 ∷ []))
@@ -191,7 +182,7 @@ subs-filled c None waiting position word h has f = go (bytes_eq word (45 ∷ 45 
     go true = f
     go false = longs-filled c waiting word (long_of word) h has f
 
-word-filled : (c : List Rule) (names : Names) (is_trailing : Bool) (waiting : Waiting) (position : ℕ) (word : Text) (h : Held) → HasFlag c → IsFilled h
+word-filled : (c : List Rule) (names : Names) (is_trailing : Bool) (waiting : Waiting) (position : ℕ) (word : Text) (h : Held) → HasFlags c → IsFilled h
     → IsFilled (word_met c names is_trailing waiting position word h).0
 word-filled c names true waiting position word h has f = f
 word-filled c names false waiting position word h has f = subs-filled c (subcommand_met names waiting word) waiting position word h has f
@@ -206,13 +197,13 @@ step-filled c word w h (trailing position) f = f
 step-filled c word w h (subcommand name) f = f
 step-filled c word w h value f = to-filled c (arg_by_index c w.position) word w h f
 
-turn-filled : (c : List Rule) (names : Names) (stop : Option (Text × List Text)) (w : Walk) (word : Text) → HasFlag c → IsFilled w.held → IsFilled (walked_from c names stop w word).held
+turn-filled : (c : List Rule) (names : Names) (stop : Option (Text × List Text)) (w : Walk) (word : Text) → HasFlags c → IsFilled w.held → IsFilled (walked_from c names stop w word).held
 turn-filled c names (Some p) w word has f = f
 turn-filled c names None w word has f =
     let met = word_met c names w.is_trailing w.waiting w.position word w.held in
     step-filled c word w met.0 met.1 (word-filled c names w.is_trailing w.waiting w.position word w.held has f)
 
-walk-filled : (c : List Rule) (names : Names) (w : Walk) (words : List Text) → HasFlag c → IsFilled w.held → IsFilled (fold (walked c names) w words).held
+walk-filled : (c : List Rule) (names : Names) (w : Walk) (words : List Text) → HasFlags c → IsFilled w.held → IsFilled (fold (walked c names) w words).held
 unfolding walked
 walk-filled c names w [] has f = f
 walk-filled c names w (word ∷ rest) has f = walk-filled c names (walked c names w word) rest has (turn-filled c names w.stopped w word has f)
@@ -232,7 +223,7 @@ defaults-filled [] rows e = e
 defaults-filled (a ∷ rest) rows e = defaults-filled rest (with_default rows a) (with_default-filled a rows (has_row a.id rows) e)
 
 -- the rows at the end of a walk
-pub rows-filled : (c : List Rule) (names : Names) (w : Walk) (words : List Text) → HasFlag c → IsFilled w.held → Filled (finished c (fold (walked c names) w words).held)
+pub rows-filled : (c : List Rule) (names : Names) (w : Walk) (words : List Text) → HasFlags c → IsFilled w.held → Filled (finished c (fold (walked c names) w words).held)
 rows-filled c names w words has f = defaults-filled c _ (settle c _ (walk-filled c names w words has f)).rows
 
 -- ---- a row that is given has a first value

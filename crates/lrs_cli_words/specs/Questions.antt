@@ -70,9 +70,9 @@ SaysService port max service = SaysPort port service.port × SaysMost max servic
 
 -- the job asks nothing: it does a sheet, or serves
 abbrev pub AsksNothing : Job → Type 0
-AsksNothing (job.Edit db sheet) = ⊤
-AsksNothing (job.Survey db sheet) = ⊤
-AsksNothing (job.Serve db port max) = ⊤
+AsksNothing (job.Edit db sheet sums) = ⊤
+AsksNothing (job.Survey db sheet sums) = ⊤
+AsksNothing (job.Serve db port max sums) = ⊤
 AsksNothing _ = ⊥
 
 -- the question is what the job's words say
@@ -110,7 +110,7 @@ IsFaultOf (job.Translate db route method position to) fault =
 IsFaultOf (job.Strip db route side classes) fault =
     Cannot word.Route (SaysRoute route.now) fault ⊎ Cannot word.Side (SaysSide side.now) fault ⊎ (fault ≡ Memory) ⊎ CannotClass (map (λ w. w.now) classes.items) fault
 IsFaultOf (job.Find db asset) fault = Cannot word.Asset (SaysAsset asset.now) fault
-IsFaultOf (job.Serve db port max) fault = CannotServe port.now max.now fault
+IsFaultOf (job.Serve db port max sums) fault = CannotServe port.now max.now fault
 IsFaultOf _ fault = ⊥
 
 -- what a word is not

@@ -1,8 +1,9 @@
 -- The words of the program: its command line as `clap` reads it, and what a job says of the words.
-use Rattle.std.specs.Prelude.{◌≡◌, ◌≢◌, ⊤, List, [], ◌∷◌, Option, Some, codes, map, fold, true, is_some, IsSomeAnd}
+use Rattle.std.specs.Prelude.{◌≡◌, ◌≢◌, ◌↔◌, ⊤, IsTrue, Bool, false, List, [], ◌∷◌, ◌++◌, Option, Some, codes, map, fold, true, is_some, IsSomeAnd}
 use Rattle.clap.specs.Lexer.{usize_max}
 use Rattle.clap.specs.Words.{App, IsAmong, Row, Rule, Shape, Text, all_of, fault_of, first_of, new_app, new_rule, subcommand_of, with_subcommand}
 use Rattle.clap.specs.Simple.{new_shape}
+use Rattle.clap.specs.declared.builder.action.ArgAction.TheVariants.{SetTrue}
 use Rattle.clap.specs.declared.error.ErrorKind.{ErrorKind}
 use Rattle.clap.specs.declared.error.ErrorKind.TheVariants as kind
 use Rattle.lrs_cli_words.specs.declared.job.JobName.{JobName}
@@ -19,6 +20,10 @@ required id = record (new_rule id) { required = true }
 -- the same, and more of its kind may follow it
 abbrev pub several : Text → Rule
 several id = record (required id) { range = Some (record { start_inclusive = 1; end_inclusive = usize_max }) }
+
+-- an option with no value, which may be given once
+abbrev pub flag : Text → Rule
+flag name = record (new_rule name) { long = Some name; action = Some SetTrue }
 
 abbrev pub name_text : JobName → Text
 name_text job.Edit = codes "edit"
@@ -41,9 +46,16 @@ rules_of job.Totals = required (codes "DB") ∷ []
 rules_of job.Find = required (codes "DB") ∷ required (codes "ASSET") ∷ []
 rules_of job.Serve = required (codes "DB") ∷ required (codes "PORT") ∷ required (codes "MAX") ∷ []
 
--- the line of a job: its name and its words
+-- the options of a job: those that may make a file have `--sums`
+abbrev pub options_of : JobName → List Rule
+options_of job.Edit = flag (codes "sums") ∷ []
+options_of job.Survey = flag (codes "sums") ∷ []
+options_of job.Serve = flag (codes "sums") ∷ []
+options_of _ = []
+
+-- the line of a job: its name, its words and its options
 abbrev pub line_of_job : JobName → Shape
-line_of_job j = record (new_shape (name_text j)) { rules = rules_of j }
+line_of_job j = record (new_shape (name_text j)) { rules = rules_of j ++ options_of j }
 
 abbrev pub app_of_job : JobName → App
 app_of_job j = record { top = line_of_job j; subs = [] }
@@ -68,35 +80,46 @@ line_of_program = fold with_job bare_line jobs
 -- ---- jobs
 
 abbrev pub job_name : Job → JobName
-job_name (Edit db sheet) = job.Edit
-job_name (Survey db sheet) = job.Survey
+job_name (Edit db sheet sums) = job.Edit
+job_name (Survey db sheet sums) = job.Survey
 job_name (At db route method position) = job.At
 job_name (Translate db route method position to) = job.Translate
 job_name (Strip db route side classes) = job.Strip
 job_name (Totals db) = job.Totals
 job_name (Find db asset) = job.Find
-job_name (Serve db port max) = job.Serve
+job_name (Serve db port max sums) = job.Serve
 
 -- its words that come once, each with what it is called
 abbrev pub words_of : Job → List (Text × Text)
-words_of (Edit db sheet) = (codes "DB", db.now) ∷ (codes "SHEET", sheet.now) ∷ []
-words_of (Survey db sheet) = (codes "DB", db.now) ∷ (codes "SHEET", sheet.now) ∷ []
+words_of (Edit db sheet sums) = (codes "DB", db.now) ∷ (codes "SHEET", sheet.now) ∷ []
+words_of (Survey db sheet sums) = (codes "DB", db.now) ∷ (codes "SHEET", sheet.now) ∷ []
 words_of (At db route method position) = (codes "DB", db.now) ∷ (codes "ROUTE", route.now) ∷ (codes "METHOD", method.now) ∷ (codes "POS", position.now) ∷ []
 words_of (Translate db route method position to) =
     (codes "DB", db.now) ∷ (codes "ROUTE", route.now) ∷ (codes "METHOD", method.now) ∷ (codes "POS", position.now) ∷ (codes "TO", to.now) ∷ []
 words_of (Strip db route side classes) = (codes "DB", db.now) ∷ (codes "ROUTE", route.now) ∷ (codes "SIDE", side.now) ∷ []
 words_of (Totals db) = (codes "DB", db.now) ∷ []
 words_of (Find db asset) = (codes "DB", db.now) ∷ (codes "ASSET", asset.now) ∷ []
-words_of (Serve db port max) = (codes "DB", db.now) ∷ (codes "PORT", port.now) ∷ (codes "MAX", max.now) ∷ []
+words_of (Serve db port max sums) = (codes "DB", db.now) ∷ (codes "PORT", port.now) ∷ (codes "MAX", max.now) ∷ []
 
 -- the classes of a strip are all the words of their place
 abbrev pub HasClasses : Job → List Row → Type 0
 HasClasses (Strip db route side classes) rows = all_of (codes "CLASS") rows ≡ Some (map (λ w. w.now) classes.items)
 HasClasses _ rows = ⊤
 
--- its words stand in their places
+-- the option was given: `clap` reads `true` for it, and else `false`
+abbrev pub IsSet : Text → List Row → Type 0
+IsSet id rows = first_of id rows ≡ Some (codes "true")
+
+-- a new file gets sums exactly where `--sums` was given
+abbrev pub HasSums : Job → List Row → Type 0
+HasSums (Edit db sheet sums) rows = IsTrue sums ↔ IsSet (codes "sums") rows
+HasSums (Survey db sheet sums) rows = IsTrue sums ↔ IsSet (codes "sums") rows
+HasSums (Serve db port max sums) rows = IsTrue sums ↔ IsSet (codes "sums") rows
+HasSums _ rows = ⊤
+
+-- its words stand in their places, and its options are as they were given
 abbrev pub HasWords : Job → List Row → Type 0
-HasWords j rows = (map (λ w. first_of w.0 rows) (words_of j) ≡ map (λ w. Some w.1) (words_of j)) × HasClasses j rows
+HasWords j rows = (map (λ w. first_of w.0 rows) (words_of j) ≡ map (λ w. Some w.1) (words_of j)) × HasClasses j rows × HasSums j rows
 
 -- the job that was met has this name and these rows
 abbrev pub IsMet : Job → Option (Text × List Row) → Type 0
@@ -105,6 +128,13 @@ IsMet j met = IsSomeAnd met (λ m. (m.0 ≡ name_text (job_name j)) × HasWords 
 -- the words, read by `clap`, are those of this job
 abbrev pub IsJobOf : List Text → Job → Type 0
 IsJobOf words j = IsMet j (subcommand_of line_of_program words)
+
+-- a file that the job makes gets sums of its pages
+abbrev pub has_new_sums : Job → Bool
+has_new_sums (Edit db sheet sums) = sums
+has_new_sums (Survey db sheet sums) = sums
+has_new_sums (Serve db port max sums) = sums
+has_new_sums _ = false
 
 -- ---- words that are no job
 

@@ -3,10 +3,10 @@
 ghost use Rattle.std.specs.Prelude.{◌≡◌, IfOk, false, codes};
 ghost use Rattle.clap.specs.Words.{app_of, new_app, rule_of, with_rule};
 ghost use Rattle.clap.specs.declared.builder.command.Command.TheViews.{out-Command};
-ghost use Rattle.lrs_cli_words.specs.Words.{app_of_job, line_of_program, required, several, with_job};
+ghost use Rattle.lrs_cli_words.specs.Words.{app_of_job, flag, line_of_program, required, several, with_job};
 
 use crate::job::JobName;
-use clap::{Arg, Command};
+use clap::{Arg, ArgAction, Command};
 use std::alloc::{AllocError, Global};
 
 /// The version of the program, and the kit that proved it.
@@ -36,6 +36,8 @@ static PORT: &str = "A port of 127.0.0.1, from 1 to 65535";
 
 static MAX: &str = "How many connections are served, at most 1000000";
 
+static SUMS: &str = "Gives a new file sums of its pages, so that damage is found";
+
 fn required<'a>(alloc: Global, id: &'a str, help: &'a str) -> Arg<'a>
     ensures rule { rule_of result ≡ required id.entry.now }
     ensures local { result.global ≡ false }
@@ -48,6 +50,16 @@ fn several<'a>(alloc: Global, id: &'a str, help: &'a str) -> Arg<'a>
     ensures local { result.global ≡ false }
 {
     Arg::new(alloc, id).required(true).num_args(1..).help(help)
+}
+
+fn sums<'a>(alloc: Global) -> Arg<'a>
+    ensures rule { rule_of result ≡ flag (codes "sums") }
+    ensures local { result.global ≡ false }
+{
+    Arg::new(alloc, "sums")
+        .long("sums")
+        .action(ArgAction::SetTrue)
+        .help(SUMS)
 }
 
 /// A line with one more word.
@@ -80,6 +92,20 @@ fn line_over<'a>(
     with_word(alloc, line, "DB", DB)
 }
 
+/// A line with the option `--sums`. The usage names the words alone, and help the option too.
+fn with_sums<'a>(
+    alloc: Global,
+    line: Command<'a>,
+    usage: &'a str,
+) -> Result<Command<'a>, AllocError>
+    ensures app { IfOk result (λ c. app_of c ≡ with_rule (app_of line.entry)
+        (flag (codes "sums"))) }
+    ensures local { (out-Command line.entry).has_globals ≡ false
+        → IfOk result (λ c. (out-Command c).has_globals ≡ false) }
+{
+    line.override_usage(usage).arg(sums(alloc))
+}
+
 fn edit_line<'a>(alloc: Global) -> Result<Command<'a>, AllocError>
     ensures app { IfOk result (λ c. app_of c ≡ app_of_job JobName.Edit) }
     ensures local { IfOk result (λ c. (out-Command c).has_globals ≡ false) }
@@ -87,7 +113,8 @@ fn edit_line<'a>(alloc: Global) -> Result<Command<'a>, AllocError>
     let about = "Does an edit sheet, and prints a reply line for each record";
     let example = "Example: roadlrs edit roads.db first.csv";
     let line = line_over(alloc, "edit", about, example)?;
-    with_word(alloc, line, "SHEET", SHEET)
+    let line = with_word(alloc, line, "SHEET", SHEET)?;
+    with_sums(alloc, line, "roadlrs edit <DB> <SHEET>")
 }
 
 fn survey_line<'a>(alloc: Global) -> Result<Command<'a>, AllocError>
@@ -97,7 +124,8 @@ fn survey_line<'a>(alloc: Global) -> Result<Command<'a>, AllocError>
     let about = "Enters the assets of a survey, and prints a reply line for each record";
     let example = "Example: roadlrs survey roads.db found.csv";
     let line = line_over(alloc, "survey", about, example)?;
-    with_word(alloc, line, "SHEET", SHEET)
+    let line = with_word(alloc, line, "SHEET", SHEET)?;
+    with_sums(alloc, line, "roadlrs survey <DB> <SHEET>")
 }
 
 fn at_line<'a>(alloc: Global) -> Result<Command<'a>, AllocError>
@@ -164,7 +192,8 @@ fn serve_line<'a>(alloc: Global) -> Result<Command<'a>, AllocError>
     let example = "Example: roadlrs serve roads.db 8080 1000000";
     let line = line_over(alloc, "serve", about, example)?;
     let line = with_word(alloc, line, "PORT", PORT)?;
-    with_word(alloc, line, "MAX", MAX)
+    let line = with_word(alloc, line, "MAX", MAX)?;
+    with_sums(alloc, line, "roadlrs serve <DB> <PORT> <MAX>")
 }
 
 fn with_sheets<'a>(alloc: Global, line: Command<'a>) -> Result<Command<'a>, AllocError>

@@ -2,7 +2,7 @@
 
 ghost use Rattle.std.specs.Prelude.{◌≡◌, Some, IfSome};
 ghost use Rattle.lrs_cli_words.specs.declared.job.JobName.{JobName as DeclaredName};
-ghost use Rattle.lrs_cli_words.specs.Words.{name_text};
+ghost use Rattle.lrs_cli_words.specs.Words.{has_new_sums, name_text};
 
 /// What the program can be asked for.
 #[derive(Clone, Copy, Debug, PartialEq, Eq)]
@@ -17,18 +17,21 @@ pub enum JobName {
     Serve,
 }
 
-/// A job, with its words as they were given. `db` is the inventory.
+/// A job, with its words as they were given. `db` is the inventory; with `sums` a new file of it
+/// gets sums of its pages.
 #[derive(Debug, Drop)]
 pub enum Job<'a> {
     /// Does the edit sheet `sheet`.
     Edit {
         db: &'a str,
         sheet: &'a str,
+        sums: bool,
     },
     /// Does the survey `sheet`.
     Survey {
         db: &'a str,
         sheet: &'a str,
+        sums: bool,
     },
     /// Says who holds a millimetre of a route.
     At {
@@ -66,7 +69,22 @@ pub enum Job<'a> {
         db: &'a str,
         port: &'a str,
         max: &'a str,
+        sums: bool,
     },
+}
+
+/// Whether a file that the job makes gets sums of its pages.
+pub fn new_has_sums(job: &Job<'_>) -> bool
+    ensures { result ≡ has_new_sums job.now }
+{
+    match job {
+        Job::Edit { sums, .. } | Job::Survey { sums, .. } | Job::Serve { sums, .. } => *sums,
+        Job::At { .. }
+        | Job::Translate { .. }
+        | Job::Strip { .. }
+        | Job::Totals { .. }
+        | Job::Find { .. } => false,
+    }
 }
 
 /// The job of this name.

@@ -6,6 +6,6 @@ mod job;
 mod question;
 mod words;
 
-pub use job::Job;
+pub use job::{Job, new_has_sums};
 pub use question::{BadWord, QuestionFault, Service, question_of, service_of};
 pub use words::{WordsFault, job_of};

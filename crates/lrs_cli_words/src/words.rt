@@ -1,8 +1,8 @@
 //! Which job the words ask for.
 
-ghost use Rattle.std.specs.Prelude.{◌≡◌, ◌≢◌, IfOk, Err, IfSome, IfNone, IsSome, IsOkAnd, Some, None, codes, is_some, map, true};
+ghost use Rattle.std.specs.Prelude.{◌≡◌, ◌≢◌, ◌↔◌, IsTrue, IfOk, Err, IfSome, IfNone, IsSome, IsOkAnd, Some, None, codes, is_some, map, true};
 ghost use Rattle.clap.specs.Words.{all_of, first_of, found_of, kind_of, rows_of, subcommand_rows_of};
-ghost use Rattle.lrs_cli_words.specs.Words.{AreGiven, AsksForHelp, AsksForVersion, HasJobWords, HasWords, IsJobOf, IsMet, IsMisused, job_name, rules_of};
+ghost use Rattle.lrs_cli_words.specs.Words.{AreGiven, AsksForHelp, AsksForVersion, HasJobWords, HasWords, IsJobOf, IsMet, IsMisused, IsSet, job_name, rules_of};
 
 use crate::command_line::program;
 use crate::job::{Job, JobName, read_job};
@@ -74,6 +74,16 @@ fn words_in<'g, 'a>(given: &'g ArgMatches<'a>, id: &str) -> Option<&'g [&'a str]
     given.get_strs(id)
 }
 
+// The option of this id was given.
+fn is_set(given: &ArgMatches<'_>, id: &str) -> bool
+    ensures { IsTrue result ↔ IsSet id.now (rows_of (found_of given.now)) }
+{
+    match word_in(given, id) {
+        Some(word) => word == "true",
+        None => false,
+    }
+}
+
 fn edit_job<'a>(given: &ArgMatches<'a>) -> Option<Job<'a>>
     ensures job { IfSome result (λ job. (job_name job ≡ JobName.Edit)
         × HasWords job (rows_of (found_of given.now))) }
@@ -82,7 +92,8 @@ fn edit_job<'a>(given: &ArgMatches<'a>) -> Option<Job<'a>>
 {
     let db = word_in(given, "DB")?;
     let sheet = word_in(given, "SHEET")?;
-    Some(Job::Edit { db, sheet })
+    let sums = is_set(given, "sums");
+    Some(Job::Edit { db, sheet, sums })
 }
 
 fn survey_job<'a>(given: &ArgMatches<'a>) -> Option<Job<'a>>
@@ -93,7 +104,8 @@ fn survey_job<'a>(given: &ArgMatches<'a>) -> Option<Job<'a>>
 {
     let db = word_in(given, "DB")?;
     let sheet = word_in(given, "SHEET")?;
-    Some(Job::Survey { db, sheet })
+    let sums = is_set(given, "sums");
+    Some(Job::Survey { db, sheet, sums })
 }
 
 fn at_job<'a>(given: &ArgMatches<'a>) -> Option<Job<'a>>
@@ -206,7 +218,13 @@ fn serve_job<'a>(given: &ArgMatches<'a>) -> Option<Job<'a>>
     let db = word_in(given, "DB")?;
     let port = word_in(given, "PORT")?;
     let max = word_in(given, "MAX")?;
-    Some(Job::Serve { db, port, max })
+    let sums = is_set(given, "sums");
+    Some(Job::Serve {
+        db,
+        port,
+        max,
+        sums,
+    })
 }
 
 // The job of this name, with its words.
