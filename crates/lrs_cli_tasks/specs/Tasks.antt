@@ -14,20 +14,20 @@ use Rattle.lrs_cli_tasks.specs.declared.task.Task.TheVariants as task
 
 -- the inventory that it names
 abbrev pub inventory_of : Job → Text
-inventory_of (job.Edit db sheet) = db.now
-inventory_of (job.Survey db sheet) = db.now
+inventory_of (job.Edit db sheet sums) = db.now
+inventory_of (job.Survey db sheet sums) = db.now
 inventory_of (job.At db route method position) = db.now
 inventory_of (job.Translate db route method position to) = db.now
 inventory_of (job.Strip db route side classes) = db.now
 inventory_of (job.Totals db) = db.now
 inventory_of (job.Find db asset) = db.now
-inventory_of (job.Serve db port max) = db.now
+inventory_of (job.Serve db port max sums) = db.now
 
 -- `edit` does an edit sheet, `survey` a survey, `serve` serves where its words say, and every other job asks what they say
 abbrev pub IsTaskOf : Job → Task → Type 0
-IsTaskOf (job.Edit db sheet) (task.Sheet kind from) = (kind ≡ Edits) × (from.now ≡ sheet.now)
-IsTaskOf (job.Survey db sheet) (task.Sheet kind from) = (kind ≡ Survey) × (from.now ≡ sheet.now)
-IsTaskOf (job.Serve db port max) (task.Service service) = SaysService port.now max.now service
+IsTaskOf (job.Edit db sheet sums) (task.Sheet kind from) = (kind ≡ Edits) × (from.now ≡ sheet.now)
+IsTaskOf (job.Survey db sheet sums) (task.Sheet kind from) = (kind ≡ Survey) × (from.now ≡ sheet.now)
+IsTaskOf (job.Serve db port max sums) (task.Service service) = SaysService port.now max.now service
 IsTaskOf j (task.Question question) = Asks j question
 IsTaskOf j t = ⊥
 
