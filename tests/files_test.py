@@ -31,6 +31,8 @@ from stores import (
 
 AGAIN = FIRST_REPLIES.replace(b"done", b"again")
 
+SURVEY_HEADER = b"key,asset,class,route,side,method,from,to,value,offset\n"
+
 
 def test_a_sheet_over_a_file_is_answered_as_in_memory():
     with folder() as path:
@@ -84,6 +86,77 @@ def test_an_empty_sheet_makes_an_empty_store():
         ends(edit(path, HEADER), b"", 0)
         is_whole(path)
         assert {table: rows for table, rows in rows_of(path).items() if rows} == {"version": [(2,)]}
+
+
+def test_a_store_with_the_first_of_the_tables_gets_the_others():
+    tables = list(TABLES)
+    for count in (1, 4, 8, 11):
+        with folder() as path:
+            ends(edit(path, HEADER), b"", 0)
+            change(path, *(f"DROP TABLE {table}" for table in reversed(tables[count:])))
+            ends(edit(path, FIRST), FIRST_REPLIES, 0)
+            is_whole(path)
+            assert set(rows_of(path)) == set(tables)
+
+
+def log_of(path):
+    return path.with_name(path.name + "-wal")
+
+
+def test_a_log_with_commits_whose_database_is_lost_is_kept():
+    with folder() as path, folder() as lost:
+        child = subprocess.Popen([PROGRAM, "edit", path, "stdin"], stdin=subprocess.PIPE, stdout=subprocess.PIPE)
+        child.stdin.write(FIRST)
+        child.stdin.flush()
+        for reply in FIRST_REPLIES.splitlines(keepends=True):
+            assert child.stdout.readline() == reply
+        shutil.copy(log_of(path), log_of(lost))
+        child.communicate(timeout=PATIENCE)
+        log = digest(log_of(lost))
+        for empty in (False, True):
+            if empty:
+                lost.touch()
+            faults(edit(lost, FIRST), "Open")
+            assert digest(log_of(lost)) == log
+            assert lost.exists() == empty and (not empty or lost.stat().st_size == 0)
+
+
+# ---- sums of pages, where they are asked for
+
+
+def flipped(path, place):
+    """The file with one bit changed."""
+    whole = bytearray(path.read_bytes())
+    whole[place // 8] ^= 1 << place % 8
+    return bytes(whole)
+
+
+def test_a_file_with_sums_tells_a_changed_bit():
+    drawn = random.Random(7)
+    with folder() as path, folder() as other:
+        ends(run("edit", "--sums", str(path), "stdin", given=FIRST), FIRST_REPLIES, 0)
+        assert edit(path, more_sheet(*MORE)).status == 0
+        kept = rows_of(path)
+        for _ in range(60):
+            other.write_bytes(flipped(path, drawn.randrange(8 * path.stat().st_size)))
+            log_of(other).unlink(missing_ok=True)
+            ended = edit(other, HEADER)
+            if ended.status == 0:
+                assert rows_of(other) == kept
+            else:
+                faults(ended, "Open")
+
+
+def test_a_file_goes_on_as_it_was_made():
+    for first, then in ((["--sums"], []), ([], ["--sums"])):
+        with folder() as path:
+            ends(run("edit", *first, str(path), "stdin", given=FIRST), FIRST_REPLIES, 0)
+            reserved = path.read_bytes()[20]
+            assert (reserved > 0) == bool(first)
+            ends(run("survey", *then, str(path), "stdin", given=SURVEY_HEADER), b"", 0)
+            ends(run("edit", *then, str(path), "stdin", given=FIRST), AGAIN, 0)
+            assert path.read_bytes()[20] == reserved
+            is_whole(path)
 
 
 def test_each_table_has_its_columns_its_key_and_its_references():
