@@ -25,7 +25,8 @@ CALLS = [
     ("S", "lrs_sheet", "run", "run_survey", "runs a survey"),
     ("H", "lrs_web", "request", "serve_one", "serves one HTTP request"),
     ("C", "lrs_web", "door", "serve_all", "serves HTTP connections one after another"),
-    ("A", "lrs_desk", "desk", "Desk::act_on_first", "does commands under keys"),
+    ("A", "lrs_desk", "desk", "Desk::act", "does a command under its key"),
+    ("G", "lrs_desk", "desk", "Desk::act_on_first", "does several commands by one commit"),
     ("O", "lrs_desk", "desk", "Desk::open", "opens a desk over a keeper"),
     ("F", "lrs_store", "files", "open_file", "opens the keeper of a file"),
 ]
