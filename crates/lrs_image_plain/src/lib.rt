@@ -1,8 +1,8 @@
 //! An image that is kept in memory.
 #![tactic(auto)]
 
-mod failing;
+mod failure;
 mod plain;
 
-pub use failing::{Failing, Leaves};
+pub use failure::{Failing, Leaves};
 pub use plain::Plain;

@@ -2,7 +2,7 @@
 #![tactic(auto)]
 
 #[cfg(test)]
-mod failing;
+mod failure;
 #[cfg(test)]
 mod limits;
 #[cfg(test)]
