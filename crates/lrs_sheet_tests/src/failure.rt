@@ -6,40 +6,24 @@ use lrs_machine::Limits;
 use std::alloc::Global;
 use std::process::Abort;
 
-/// One of three links.
-#[derive(Clone, Copy, Debug, PartialEq, Eq)]
-enum Known {
-    First,
-    Second,
-    Third,
-}
+const FIRST: Link = Link {
+    number: 1,
+    length: 10,
+};
 
-/// The command that enters a link, under a key of its own.
-fn link(rt: &impl Abort, known: Known) -> (Key, Command) {
-    let (key, link) = match known {
-        Known::First => (
-            Key::new(b"s1"),
-            Link {
-                number: 1,
-                length: 10,
-            },
-        ),
-        Known::Second => (
-            Key::new(b"s2"),
-            Link {
-                number: 2,
-                length: 10,
-            },
-        ),
-        Known::Third => (
-            Key::new(b"s3"),
-            Link {
-                number: 3,
-                length: 10,
-            },
-        ),
-    };
-    match key {
+const SECOND: Link = Link {
+    number: 2,
+    length: 10,
+};
+
+const THIRD: Link = Link {
+    number: 3,
+    length: 10,
+};
+
+/// The command that enters a link, under a key.
+fn command(rt: &impl Abort, key: &str, link: Link) -> (Key, Command) {
+    match Key::new(key.as_bytes()) {
         Some(key) => (key, Command::Link(link)),
         None => panic!(rt; "no key"),
     }
@@ -54,8 +38,8 @@ fn open(rt: &impl Abort, alloc: Global, leaves: Leaves) -> Desk<Failing> {
     }
 }
 
-fn act(rt: &impl Abort, desk: &mut Desk<Failing>, known: Known) -> Result<Answer, Fault> {
-    let (key, command) = link(rt, known);
+fn act(rt: &impl Abort, desk: &mut Desk<Failing>, key: &str, link: Link) -> Result<Answer, Fault> {
+    let (key, command) = command(rt, key, link);
     desk.act(key, &command)
 }
 
@@ -64,10 +48,10 @@ fn act(rt: &impl Abort, desk: &mut Desk<Failing>, known: Known) -> Result<Answer
 fn fails_at_the_second(rt: &(impl Abort + AllocGlobal), leaves: Leaves, again: Answer) {
     let alloc = rt.alloc();
     let mut desk = open(rt, alloc, leaves);
-    assert_eq!(rt; act(rt, &mut desk, Known::First), Ok(Answer::Done(1)));
-    assert_eq!(rt; act(rt, &mut desk, Known::Second), Err(Fault::Keep));
-    assert_eq!(rt; act(rt, &mut desk, Known::Third), Err(Fault::MustReopen));
-    assert_eq!(rt; act(rt, &mut desk, Known::First), Err(Fault::MustReopen));
+    assert_eq!(rt; act(rt, &mut desk, "s1", FIRST), Ok(Answer::Done(1)));
+    assert_eq!(rt; act(rt, &mut desk, "s2", SECOND), Err(Fault::Keep));
+    assert_eq!(rt; act(rt, &mut desk, "s3", THIRD), Err(Fault::MustReopen));
+    assert_eq!(rt; act(rt, &mut desk, "s1", FIRST), Err(Fault::MustReopen));
     assert_eq!(rt; desk.inventory().links(), 1);
     assert!(rt;
         desk.totals()
@@ -76,10 +60,10 @@ fn fails_at_the_second(rt: &(impl Abort + AllocGlobal), leaves: Leaves, again: A
     let Ok(mut desk) = Desk::open(desk.into_keeper(), Limits::full(), alloc) else {
         panic!(rt; "not opened");
     };
-    assert_eq!(rt; act(rt, &mut desk, Known::First), Ok(Answer::Again(1)));
+    assert_eq!(rt; act(rt, &mut desk, "s1", FIRST), Ok(Answer::Again(1)));
     match again {
-        Answer::Again(_) => assert_eq!(rt; act(rt, &mut desk, Known::Second), Ok(again)),
-        _ => assert_eq!(rt; act(rt, &mut desk, Known::Second), Err(Fault::Keep)),
+        Answer::Again(_) => assert_eq!(rt; act(rt, &mut desk, "s2", SECOND), Ok(again)),
+        _ => assert_eq!(rt; act(rt, &mut desk, "s2", SECOND), Err(Fault::Keep)),
     }
 }
 
@@ -98,8 +82,8 @@ fn a_failed_commit_leaves_the_new_content(rt: HostRuntime) {
 fn after_a_failed_commit_of_two_questions_ask_for_a_reopening(rt: HostRuntime) {
     let alloc = rt.alloc();
     let mut desk = open(&rt, alloc, Leaves::Old);
-    assert_eq!(rt; act(&rt, &mut desk, Known::First), Ok(Answer::Done(1)));
-    let both = [link(&rt, Known::Second), link(&rt, Known::Third)];
+    assert_eq!(rt; act(&rt, &mut desk, "s1", FIRST), Ok(Answer::Done(1)));
+    let both = [command(&rt, "s2", SECOND), command(&rt, "s3", THIRD)];
     assert!(rt;
         desk.act_on_first(&both)
             .is_err_and(|fault| fault == Fault::Keep)
