@@ -89,11 +89,15 @@ pub fn make_change<K: Keeper>(
     requires sound { IsSound (image_of kept.old) }
     requires can { CanMake change (image_of kept.old) }
     ensures ok { OnOk result (image_of kept.new ≡ apply change (image_of kept.old)) }
-    ensures ok_kept { OnOk result (HoldsOnly (K.may_hold keeper.new) (apply change (image_of kept.old))) }
+    ensures ok_kept { OnOk result (HoldsOnly (K.may_hold keeper.new)
+        (apply change (image_of kept.old))) }
     ensures err { OnErr result (image_of kept.new ≡ image_of kept.old) }
-    ensures memory { result ≡ Err CommitFault.Memory → (c : Result Image Table) → K.may_hold keeper.new c → K.may_hold keeper.old c }
-    ensures store { result ≡ Err CommitFault.Store → HoldsOldOrNew change (K.may_hold keeper.new) (image_of kept.old) }
-    ensures cause { result ≡ Err CommitFault.Store → HasRisen (K.failures keeper.old) (K.failures keeper.new) }
+    ensures memory { result ≡ Err CommitFault.Memory → (c : Result Image Table)
+        → K.may_hold keeper.new c → K.may_hold keeper.old c }
+    ensures store { result ≡ Err CommitFault.Store
+        → HoldsOldOrNew change (K.may_hold keeper.new) (image_of kept.old) }
+    ensures cause { result ≡ Err CommitFault.Store
+        → HasRisen (K.failures keeper.old) (K.failures keeper.new) }
     ensures loaded { K.is_loaded keeper.new ≡ true }
     ensures reached { (result ≡ Err CommitFault.Store → ⊥)
         → K.is_clean keeper.new → K.is_open keeper.new }
@@ -120,10 +124,15 @@ fn keep_one<K: Keeper>(keeper: &mut K, change: Change) -> Result<(), CommitFault
     requires reached { K.is_clean keeper.old → K.is_open keeper.old }
     requires sound { HoldsSound (K.may_hold keeper.old) }
     requires can { (c : Result Image Table) → K.may_hold keeper.old c → IfOk c (CanMake change) }
-    ensures ok { OnOk result ((c : Result Image Table) → K.may_hold keeper.new c → IsChangedBy (K.may_hold keeper.old) (change ∷ []) c) }
-    ensures memory { result ≡ Err CommitFault.Memory → (c : Result Image Table) → K.may_hold keeper.new c → K.may_hold keeper.old c }
-    ensures store { result ≡ Err CommitFault.Store → (c : Result Image Table) → K.may_hold keeper.new c → K.may_hold keeper.old c ⊎ IsChangedBy (K.may_hold keeper.old) (change ∷ []) c }
-    ensures cause { result ≡ Err CommitFault.Store → HasRisen (K.failures keeper.old) (K.failures keeper.new) }
+    ensures ok { OnOk result ((c : Result Image Table) → K.may_hold keeper.new c
+        → IsChangedBy (K.may_hold keeper.old) (change ∷ []) c) }
+    ensures memory { result ≡ Err CommitFault.Memory → (c : Result Image Table)
+        → K.may_hold keeper.new c → K.may_hold keeper.old c }
+    ensures store { result ≡ Err CommitFault.Store → (c : Result Image Table)
+        → K.may_hold keeper.new c
+        → K.may_hold keeper.old c ⊎ IsChangedBy (K.may_hold keeper.old) (change ∷ []) c }
+    ensures cause { result ≡ Err CommitFault.Store
+        → HasRisen (K.failures keeper.old) (K.failures keeper.new) }
     ensures loaded { K.is_loaded keeper.new ≡ true }
     ensures reached { (result ≡ Err CommitFault.Store → ⊥)
         → K.is_clean keeper.new → K.is_open keeper.new }
