@@ -43,40 +43,6 @@ fn act(rt: &impl Abort, desk: &mut Desk<Failing>, key: &str, link: Link) -> Resu
     desk.act(key, &command)
 }
 
-/// The second of three links is in flight when the device fails. Questions go on, and an opening finds the first link,
-/// and the second one where it was kept.
-fn fails_at_the_second(rt: &(impl Abort + AllocGlobal), leaves: Leaves, again: Answer) {
-    let alloc = rt.alloc();
-    let mut desk = open(rt, alloc, leaves);
-    assert_eq!(rt; act(rt, &mut desk, "s1", FIRST), Ok(Answer::Done(1)));
-    assert_eq!(rt; act(rt, &mut desk, "s2", SECOND), Err(Fault::Keep));
-    assert_eq!(rt; act(rt, &mut desk, "s3", THIRD), Err(Fault::MustReopen));
-    assert_eq!(rt; act(rt, &mut desk, "s1", FIRST), Err(Fault::MustReopen));
-    assert_eq!(rt; desk.inventory().links(), 1);
-    assert!(rt;
-        desk.totals()
-            .is_ok_and(|totals| totals.as_slice().is_empty())
-    );
-    let Ok(mut desk) = Desk::open(desk.into_keeper(), Limits::full(), alloc) else {
-        panic!(rt; "not opened");
-    };
-    assert_eq!(rt; act(rt, &mut desk, "s1", FIRST), Ok(Answer::Again(1)));
-    match again {
-        Answer::Again(_) => assert_eq!(rt; act(rt, &mut desk, "s2", SECOND), Ok(again)),
-        _ => assert_eq!(rt; act(rt, &mut desk, "s2", SECOND), Err(Fault::Keep)),
-    }
-}
-
-#[test]
-fn a_failed_commit_leaves_the_old_content(rt: HostRuntime) {
-    fails_at_the_second(&rt, Leaves::Old, Answer::Done(2));
-}
-
-#[test]
-fn a_failed_commit_leaves_the_new_content(rt: HostRuntime) {
-    fails_at_the_second(&rt, Leaves::New, Answer::Again(2));
-}
-
 /// Two links are in flight together: the image is ahead, so that no question is answered.
 #[test]
 fn after_a_failed_commit_of_two_questions_ask_for_a_reopening(rt: HostRuntime) {
