@@ -37,6 +37,16 @@ pub enum Question {
         position: Expr,
         to: Destination,
     },
+    /// What is drawn of a route as a straight-line diagram: the assets of these classes, or of all where none is named,
+    /// from a chainage to another in millimetres, or from the route's start, or to its end.
+    Diagram {
+        route: RouteName,
+        classes: Rows<ClassName>,
+        from: Option<u64>,
+        to: Option<u64>,
+    },
+    /// The routes, and how long each is.
+    Routes,
     /// What there is of each class.
     Totals,
     /// The stretches that an asset holds.
