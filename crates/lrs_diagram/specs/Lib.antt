@@ -1,0 +1,6 @@
+pub mod Scales
+pub mod Shapes
+pub mod Labels
+pub mod Bands
+pub mod Axis
+pub mod Drawing

@@ -1,0 +1,17 @@
+//! Straight-line diagrams: a route as a straight axis, with its measures, referents and links, and the rows of assets on
+//! bands above it (left) and below it (right), as the bytes of an SVG picture.
+//!
+//! The unit of the page is a tenth of a pixel. All numbers are whole.
+#![tactic(auto)]
+
+mod axis;
+mod bands;
+mod diagram;
+mod labels;
+mod picture;
+mod scale;
+mod shapes;
+
+pub use diagram::{ClassBands, Diagram, DrawnPiece, DrawnRow};
+pub use picture::write_diagram;
+pub use scale::Scale;
