@@ -11,4 +11,4 @@ pub mod Naming
 pub mod Lying
 pub mod Gathering
 pub mod Everywhere
-pub mod Appending
+pub mod Banded

@@ -8,3 +8,5 @@ pub mod Named
 pub mod Told
 pub mod Lines
 pub mod Causes
+pub mod Drawn
+pub mod RouteList

@@ -13,8 +13,10 @@ use Rattle.lrs_machine.specs.declared.total.Total.{Total}
 use Rattle.lrs_machine.specs.declared.hit.Hit.{Hit}
 use Rattle.lrs_machine.specs.Lines.{Text, words}
 use Rattle.lrs_report.specs.Strips.{strip_text}
+use Rattle.lrs_diagram.specs.Drawing.{diagram_text}
 use Rattle.lrs_answers.specs.declared.rows.FoundRow.{FoundRow}
 use Rattle.lrs_answers.specs.declared.hits.AtAnswer.{AtAnswer}
+use Rattle.lrs_answers.specs.declared.route_list.RouteLength.{RouteLength}
 use Rattle.lrs_answers.specs.declared.told.Told.{Told}
 use Rattle.lrs_answers.specs.declared.told.Told.TheVariants as told
 
@@ -67,12 +69,22 @@ link_position_text link distance = decimal link ++ 58 ∷ fraction_text distance
 abbrev pub route_text : Route → Text
 route_text r = line_of (r.name ∷ metres_text (length r.course) ∷ [])
 
--- What is told to a question, in lines.
+-- the same of a route in a list
+abbrev pub length_text : RouteLength → Text
+length_text r = line_of (r.route ∷ metres_text r.length ∷ [])
+
+-- a line for each route
+abbrev pub lengths_text : List RouteLength → Text
+lengths_text = flat_map length_text
+
+-- What is told to a question, in lines; a diagram as a picture.
 abbrev pub told_text : Told → Text
 told_text (told.At route found) = at_text route found
 told_text (told.Route route) = route_text route
 told_text (told.Segments route side len classes segments) = strip_text route side len classes segments
 told_text (told.Translated route e) = expression_line e
 told_text (told.OnLink route link distance) = link_position_text link distance
+told_text (told.Diagram d) = diagram_text d
+told_text (told.Routes routes) = lengths_text routes
 told_text (told.Totals totals) = totals_text totals
 told_text (told.Found rows) = found_text rows

@@ -23,7 +23,9 @@ use Rattle.lrs_answers.specs.declared.fault.AskFault.TheVariants.{NoRoute}
 use Rattle.lrs_answers.specs.declared.told.Told.{Told}
 use Rattle.lrs_answers.specs.declared.told.Told.TheVariants as told
 use Rattle.lrs_answers.specs.Answers.{AsksRoute, IsAt, UnlessMemory}
+use Rattle.lrs_answers.specs.Drawn.{IsDrawn}
 use Rattle.lrs_answers.specs.Finding.{IsFound}
+use Rattle.lrs_answers.specs.RouteList.{AreRoutes}
 use Rattle.lrs_answers.specs.Segmented.{IsSegmented}
 use Rattle.lrs_answers.specs.Totals.{totals_of}
 
@@ -59,5 +61,7 @@ IsTold i (question.Route route) = Tells (IsNamedRoute i route) told.Route
 IsTold i (question.Segments route side classes) = Tells (IsSegmented (state_of i) route classes side) (told.Segments route side (length_on (state_of i) route) classes)
 IsTold i (question.Translate route e (destination.Method target)) = Tells (IsTranslated (state_of i) route e target) (told.Translated route)
 IsTold i (question.Translate route e destination.Link) = Tells (IsOnLink (state_of i) route e) (λ on. told.OnLink route on.0 on.1)
+IsTold i (question.Diagram route classes from to) = Tells (IsDrawn i route classes from to) told.Diagram
+IsTold i question.Routes = Tells (AreRoutes i) told.Routes
 IsTold i question.Totals = Tells (AreTotals (state_of i)) told.Totals
 IsTold i (question.Find asset) = Tells (IsFound (state_of i) asset) told.Found

@@ -35,7 +35,7 @@ pub struct AtAnswer {
 }
 
 /// The asset of a row, with the side of the row.
-fn hit_of(assets: &Chunked<Asset>, row: &Span) -> Option<Hit>
+pub(crate) fn hit_of(assets: &Chunked<Asset>, row: &Span) -> Option<Hit>
     requires order { each_two asset_before assets.now.rows ≡ true }
     ensures { result ≡ hit_by assets.now.rows row.now }
 {

@@ -1,9 +1,11 @@
 //! Answers to questions, over the lists of an inventory: the assets at a position, where an asset is, segments, positions
-//! by another method; and the lines as which answers are printed.
+//! by another method, diagrams; and the lines as which answers are printed.
 #![tactic(auto)]
 
 mod asset_rows;
+mod bands;
 mod cause;
+mod drawing;
 mod entered_parts;
 mod fault;
 mod ground_routes;
@@ -12,17 +14,20 @@ pub mod laws;
 mod lines;
 mod position;
 mod route;
+mod route_list;
 mod rows;
 mod search;
 mod segmentation;
 mod told;
 
 pub use cause::{AskCause, cause_of};
+pub use drawing::diagram;
 pub use fault::AskFault;
 pub use hits::{AtAnswer, at};
 pub use lines::write_told;
 pub use position::{to_link, translate};
 pub use route::{length_of, named_route};
+pub use route_list::{RouteLength, routes};
 pub use rows::{FoundRow, push_rows};
 pub use search::find;
 pub use segmentation::segments;

@@ -3,9 +3,10 @@
 ghost use Rattle.std.specs.Prelude.{◌≡◌, ◌++◌, OnOk};
 ghost use Rattle.std.specs.List.{flat_map};
 ghost use Rattle.std.specs.Io.KnownBytes.{Appends};
-ghost use Rattle.lrs_answers.specs.Lines.{at_text, expression_line, found_text, hit_text, link_position_text, place_text, route_text, row_text, told_text, total_text, totals_text};
+ghost use Rattle.lrs_answers.specs.Lines.{at_text, expression_line, found_text, hit_text, length_text, lengths_text, link_position_text, place_text, route_text, row_text, told_text, total_text, totals_text};
 
-use crate::{AtAnswer, FoundRow, Told};
+use crate::{AtAnswer, FoundRow, RouteLength, Told};
+use lrs_diagram::write_diagram;
 use lrs_machine::{Hit, Total};
 use lrs_measure::{Frac, Metres};
 use lrs_position::{Expr, Route, RouteName};
@@ -133,7 +134,28 @@ fn write_route<W: Write>(writer: &mut W, route: &Route) -> io::Result<()>
     writeln!(writer, " {length}")
 }
 
-/// Writes what is told to a question, in lines. It takes no memory beyond the writer's, and does not flush the writer.
+/// Writes the line of a route in a list: its name, and its length in metres.
+fn write_length<W: Write>(writer: &mut W, row: &RouteLength) -> io::Result<()>
+    ensures { OnOk result (Appends (W.contents writer.old) (W.contents writer.new)
+        (length_text row.now)) }
+{
+    let length = Metres::new(row.length);
+    writer.write_all(row.route.bytes())?;
+    writeln!(writer, " {length}")
+}
+
+/// Writes a line for each route.
+fn write_lengths<W: Write>(writer: &mut W, rows: &[RouteLength]) -> io::Result<()>
+    ensures { OnOk result (Appends (W.contents writer.old) (W.contents writer.new)
+        (lengths_text rows.now)) }
+{
+    for row in rows {
+        write_length(writer, row)?;
+    }
+    Ok(())
+}
+
+/// Writes what is told to a question, in lines, and a diagram as an SVG picture. It takes no memory beyond the writer's, and does not flush the writer.
 ///
 /// # Errors
 /// That of the writer. Part of the lines may be written then.
@@ -156,6 +178,8 @@ pub fn write_told<W: Write>(writer: &mut W, told: &Told) -> io::Result<()>
         }
         Told::Translated { position, .. } => write_expression(writer, *position),
         Told::OnLink { link, distance, .. } => write_link_position(writer, *link, *distance),
+        Told::Diagram(diagram) => write_diagram(writer, diagram),
+        Told::Routes(routes) => write_lengths(writer, routes.as_slice()),
         Told::Totals(totals) => write_totals(writer, totals.as_slice()),
         Told::Found(rows) => write_found(writer, rows.as_slice()),
     }

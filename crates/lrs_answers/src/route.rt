@@ -29,7 +29,7 @@ pub(crate) fn route_of<'a>(kept: &'a KeptImage, name: &RouteName) -> Option<&'a 
 }
 
 /// The row of a route of a name, found by search.
-fn row_of<'a>(kept: &'a KeptImage, name: &RouteName) -> Option<&'a RouteRow>
+pub(crate) fn row_of<'a>(kept: &'a KeptImage, name: &RouteName) -> Option<&'a RouteRow>
     requires sound { IsSound (image_of kept.now) }
     ensures { option_map (λ row. row.now) result
         ≡ find (is_named name.now) (image_of kept.now).routes }

@@ -1,6 +1,7 @@
 //! What is told to a question: its answer, with the words of the question that its text repeats.
 
-use crate::{AtAnswer, FoundRow};
+use crate::{AtAnswer, FoundRow, RouteLength};
+use lrs_diagram::Diagram;
 use lrs_events::{ClassName, Side};
 use lrs_machine::{Segment, Total};
 use lrs_measure::{Frac, Rows};
@@ -35,6 +36,10 @@ pub enum Told {
         link: u32,
         distance: Frac,
     },
+    /// A straight-line diagram of a route.
+    Diagram(Diagram),
+    /// The routes, and how long each is.
+    Routes(Rows<RouteLength>),
     /// What there is of each class.
     Totals(Rows<Total>),
     /// The stretches that an asset holds.

@@ -13,7 +13,8 @@ use std::io;
 use std::io::Write;
 
 /// The names of the rows, and the axis itself.
-const NAMES: &[u8] = b"<text x='40' y='130'>referents</text>\n<text x='40' y='260'>measures</text>\n<text x='40' y='480'>metres</text>\n<text x='40' y='635'>links</text>\n<path d='M1000 340h10000'/>\n";
+const NAMES: &[u8] =
+    b"<text x='40' y='130'>referents</text>\n<text x='40' y='260'>measures</text>\n<text x='40' y='480'>metres</text>\n<text x='40' y='635'>links</text>\n<path d='M1000 340h10000'/>\n";
 
 /// The most ticks: ten steps are no shorter than what is shown, and one begins before it.
 const MOST_TICKS: u64 = 12;
@@ -93,7 +94,10 @@ fn write_axis_head<W: Write>(writer: &mut W, top: u64) -> io::Result<()>
     ensures { OnOk result (Appends (W.contents writer.old) (W.contents writer.new)
         (axis_head top)) }
 {
-    writeln!(writer, "<g data-axis='true' transform='translate(0,{top})'>")?;
+    writeln!(
+        writer,
+        "<g data-axis='true' transform='translate(0,{top})'>"
+    )?;
     writer.write_all(NAMES)
 }
 

@@ -48,7 +48,10 @@ fn write_band_group<W: Write>(writer: &mut W, kind: Kind, top: u64) -> io::Resul
 {
     let style = style_of(kind);
     let middle = top + 85;
-    write!(writer, "<g class='{style}' transform='translate(0,{middle})'>\n")
+    write!(
+        writer,
+        "<g class='{style}' transform='translate(0,{middle})'>\n"
+    )
 }
 
 /// Writes what stands before the rows of a band: the line above it, its name, and where it lies.
@@ -126,22 +129,38 @@ fn write_class<W: Write>(
         (class_text scale shift top bands.now)) }
 {
     write_class_head(writer, &bands.class)?;
-    write_band(writer, scale, &bands.class, Side::L, top, bands.left.as_slice())?;
-    write_band(writer, scale, &bands.class, Side::R, top + shift, bands.right.as_slice())?;
+    write_band(
+        writer,
+        scale,
+        &bands.class,
+        Side::L,
+        top,
+        bands.left.as_slice(),
+    )?;
+    write_band(
+        writer,
+        scale,
+        &bands.class,
+        Side::R,
+        top + shift,
+        bands.right.as_slice(),
+    )?;
     writer.write_all(b"</g>\n")
 }
 
 /// Writes the bands of a diagram.
-pub(crate) fn write_bands<W: Write>(
-    writer: &mut W,
-    diagram: &Diagram,
-    shift: u64,
-) -> io::Result<()>
+pub(crate) fn write_bands<W: Write>(writer: &mut W, diagram: &Diagram, shift: u64) -> io::Result<()>
     requires { shift < 2 ^ 47 }
     ensures { OnOk result (Appends (W.contents writer.old) (W.contents writer.new)
         (classes_text diagram.now.scale shift 400 diagram.now.classes)) }
 {
-    write_classes(writer, diagram.scale, shift, FIRST_TOP, diagram.classes.as_slice())
+    write_classes(
+        writer,
+        diagram.scale,
+        shift,
+        FIRST_TOP,
+        diagram.classes.as_slice(),
+    )
 }
 
 /// Writes the bands of classes, each class below the one before it, from a top on.

@@ -4,9 +4,9 @@ ghost use Rattle.std.specs.Prelude.{◌≡◌, ◌<◌, ◌^◌, OnOk, codes};
 ghost use Rattle.std.specs.Io.KnownBytes.{Appends};
 ghost use Rattle.lrs_diagram.specs.Drawing.{bands_height, bar_label, bar_line, bar_text, data_text, diagram_text, head_text, heading_text, page_text, parts_text, range_text, root_text, style_text, title_text};
 
-use crate::{Diagram, Scale};
 use crate::axis::write_axis;
 use crate::bands::{FIRST_TOP, PITCH, write_bands};
+use crate::{Diagram, Scale};
 use lrs_measure::Metres;
 use std::io;
 use std::io::Write;
@@ -17,14 +17,18 @@ const AXIS_HEIGHT: u64 = 720;
 /// What is free below the last band.
 const FOOT: u64 = 60;
 
-const STYLE: &[u8] = b"<style>text{font:100px monospace}.h{font-size:130px}path{fill:none;stroke:#000;stroke-width:10}.l{stroke:#ccc}.b path{stroke:#8fb0dc;stroke-width:130;stroke-opacity:.8}.b path:nth-of-type(even){stroke:#ccdcf2}.t path{stroke:#b3540a;stroke-width:16}.p path{stroke:#bbb;stroke-width:90}.p path:nth-of-type(even){stroke:#e2e2e2}</style>\n";
+const STYLE: &[u8] =
+    b"<style>text{font:100px monospace}.h{font-size:130px}path{fill:none;stroke:#000;stroke-width:10}.l{stroke:#ccc}.b path{stroke:#8fb0dc;stroke-width:130;stroke-opacity:.8}.b path:nth-of-type(even){stroke:#ccdcf2}.t path{stroke:#b3540a;stroke-width:16}.p path{stroke:#bbb;stroke-width:90}.p path:nth-of-type(even){stroke:#e2e2e2}</style>\n";
 
 fn write_root<W: Write>(writer: &mut W, height: u64) -> io::Result<()>
     ensures { OnOk result (Appends (W.contents writer.old) (W.contents writer.new)
         (root_text height)) }
 {
     let pixels = height / 10;
-    write!(writer, "<svg xmlns='http://www.w3.org/2000/svg' viewBox='0 0 12000 {height}' width='1200' height='{pixels}' role='img' ")
+    write!(
+        writer,
+        "<svg xmlns='http://www.w3.org/2000/svg' viewBox='0 0 12000 {height}' width='1200' height='{pixels}' role='img' "
+    )
 }
 
 fn write_range<W: Write>(writer: &mut W, scale: Scale) -> io::Result<()>
@@ -73,7 +77,10 @@ fn write_page<W: Write>(writer: &mut W, height: u64) -> io::Result<()>
         (page_text height)) }
 {
     writer.write_all(STYLE)?;
-    writeln!(writer, "<rect width='12000' height='{height}' fill='#fff'/>")
+    writeln!(
+        writer,
+        "<rect width='12000' height='{height}' fill='#fff'/>"
+    )
 }
 
 fn write_bar_line<W: Write>(writer: &mut W, length: u64) -> io::Result<()>

@@ -1,5 +1,5 @@
 use Rattle.lrs_answers.specs.Lines.{row_text}
-use Rattle.lrs_answers.proofs.Appending.{appends_next}
+use Rattle.lrs_diagram.proofs.Appending.{appends_next}
 use Rattle.lrs_answers.proofs.lines.write_found.Goals as goal
 
 pub loop-row-preserved : goal.loop-row-preserved

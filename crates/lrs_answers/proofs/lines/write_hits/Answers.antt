@@ -1,5 +1,5 @@
 use Rattle.lrs_answers.specs.Lines.{hit_text}
-use Rattle.lrs_answers.proofs.Appending.{appends_next}
+use Rattle.lrs_diagram.proofs.Appending.{appends_next}
 use Rattle.lrs_answers.proofs.lines.write_hits.Goals as goal
 
 pub loop-hit-preserved : goal.loop-hit-preserved

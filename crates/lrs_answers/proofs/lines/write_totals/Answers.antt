@@ -1,5 +1,5 @@
 use Rattle.lrs_answers.specs.Lines.{total_text}
-use Rattle.lrs_answers.proofs.Appending.{appends_next}
+use Rattle.lrs_diagram.proofs.Appending.{appends_next}
 use Rattle.lrs_answers.proofs.lines.write_totals.Goals as goal
 
 pub loop-total-preserved : goal.loop-total-preserved
