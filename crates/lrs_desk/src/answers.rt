@@ -3,13 +3,16 @@
 
 ghost use Rattle.std.specs.Prelude.{◌≡◌, ◌↔◌, IsTrue, Err, false};
 ghost use Rattle.lrs_answers.specs.Answers.{IsAt};
+ghost use Rattle.lrs_answers.specs.Drawn.{IsDrawn};
 ghost use Rattle.lrs_answers.specs.Finding.{IsFound};
+ghost use Rattle.lrs_answers.specs.RouteList.{AreRoutes};
 ghost use Rattle.lrs_answers.specs.Segmented.{IsSegmented};
 ghost use Rattle.lrs_answers.specs.Told.{AreTotals, IsNamedRoute, IsOnLink, IsTranslated};
 ghost use Rattle.lrs_machine.specs.Image.{state_of};
 
 use crate::desk::Desk;
-use lrs_answers::{AskFault, AtAnswer, FoundRow};
+use lrs_answers::{AskFault, AtAnswer, FoundRow, RouteLength};
+use lrs_diagram::Diagram;
 use lrs_events::{ClassName, Side};
 use lrs_image::Keeper;
 use lrs_machine::{Segment, Total};
@@ -83,6 +86,52 @@ impl<K: Keeper> Desk<K> {
             return Err(AskFault::MustReopen);
         }
         lrs_answers::segments(self.alloc(), self.inventory().kept(), route, wanted, side)
+    }
+
+    /// A straight-line diagram of a route, from a chainage to another in millimetres, by default from its start to its end:
+    /// the rows of the classes of these names, or of all where there is no name.
+    ///
+    /// # Errors
+    ///
+    /// `MustReopen` once a commit of several commands has failed; then `NoRoute`, `NoClass` of the first class that is not there, and
+    /// `OffRoute` where the stretch is empty or ends behind the route.
+    pub fn diagram(
+        &self,
+        route: &RouteName,
+        classes: &[ClassName],
+        from: Option<u64>,
+        to: Option<u64>,
+    ) -> Result<Diagram, AskFault>
+        ensures reopen { (result ≡ Err AskFault.MustReopen) ↔ IsTrue self.now.is_ahead }
+        ensures answer { self.now.is_ahead ≡ false
+            → IsDrawn self.now.image route.now classes.now from to result }
+    {
+        if self.is_ahead() {
+            return Err(AskFault::MustReopen);
+        }
+        lrs_answers::diagram(
+            self.alloc(),
+            self.inventory().kept(),
+            route,
+            classes,
+            from,
+            to,
+        )
+    }
+
+    /// Every route with its length, by name.
+    ///
+    /// # Errors
+    ///
+    /// `MustReopen` once a commit of several commands has failed; else when memory runs out.
+    pub fn routes(&self) -> Result<Rows<RouteLength>, AskFault>
+        ensures reopen { (result ≡ Err AskFault.MustReopen) ↔ IsTrue self.now.is_ahead }
+        ensures answer { self.now.is_ahead ≡ false → AreRoutes self.now.image result }
+    {
+        if self.is_ahead() {
+            return Err(AskFault::MustReopen);
+        }
+        lrs_answers::routes(self.alloc(), self.inventory().kept())
     }
 
     /// What was entered, retired and abandoned of each class, and what of it is present, by class name, in side

@@ -8,7 +8,7 @@ mod group;
 mod questions;
 
 pub use desk::{Desk, Fault, OpenFault};
-pub use lrs_answers::{AskFault, AtAnswer, FoundRow, Told};
+pub use lrs_answers::{AskFault, AtAnswer, FoundRow, RouteLength, Told};
 pub use lrs_answers_totals::Counts;
 pub use lrs_image::{Batches, Change, CommitFailed, Difference, Keeper, LoadFault, Staged};
 pub use lrs_image_plain::{Failing, Leaves, Plain};

@@ -4,7 +4,9 @@ ghost use Rattle.std.specs.Prelude.{◌≡◌, ◌↔◌, IsTrue, Err, false};
 ghost use Rattle.lrs_machine.specs.Image.{state_of};
 ghost use Rattle.lrs_answers.specs.declared.told.Told.TheVariants as told;
 ghost use Rattle.lrs_answers.specs.Answers.{IsAt};
+ghost use Rattle.lrs_answers.specs.Drawn.{IsDrawn};
 ghost use Rattle.lrs_answers.specs.Finding.{IsFound};
+ghost use Rattle.lrs_answers.specs.RouteList.{AreRoutes};
 ghost use Rattle.lrs_answers.specs.Segmented.{IsSegmented};
 ghost use Rattle.lrs_answers.specs.Told.{AreTotals, IsNamedRoute, IsOnLink, IsTold, IsTranslated, Tells, length_on};
 
@@ -93,6 +95,30 @@ impl<K: Keeper> Desk<K> {
         })
     }
 
+    fn tell_diagram(
+        &self,
+        route: RouteName,
+        classes: Rows<ClassName>,
+        from: Option<u64>,
+        to: Option<u64>,
+    ) -> Result<Told, AskFault>
+        ensures reopen { (result ≡ Err AskFault.MustReopen) ↔ IsTrue self.now.is_ahead }
+        ensures answer { self.now.is_ahead ≡ false
+            → Tells (IsDrawn self.now.image route classes from to) told.Diagram result }
+    {
+        let diagram = self.diagram(&route, classes.as_slice(), from, to)?;
+        Ok(Told::Diagram(diagram))
+    }
+
+    fn tell_routes(&self) -> Result<Told, AskFault>
+        ensures reopen { (result ≡ Err AskFault.MustReopen) ↔ IsTrue self.now.is_ahead }
+        ensures answer { self.now.is_ahead ≡ false
+            → Tells (AreRoutes self.now.image) told.Routes result }
+    {
+        let routes = self.routes()?;
+        Ok(Told::Routes(routes))
+    }
+
     fn tell_totals(&self) -> Result<Told, AskFault>
         ensures reopen { (result ≡ Err AskFault.MustReopen) ↔ IsTrue self.now.is_ahead }
         ensures answer { self.now.is_ahead ≡ false
@@ -116,7 +142,7 @@ impl<K: Keeper> Desk<K> {
     /// # Errors
     ///
     /// `MustReopen` once a commit of several commands has failed; else those of the call for its kind: `at`, `route`, `segments`,
-    /// `translate`, `to_link`, `totals` or `find`.
+    /// `translate`, `to_link`, `diagram`, `routes`, `totals` or `find`.
     pub fn ask(&self, question: Question) -> Result<Told, AskFault>
         ensures reopen { (result ≡ Err AskFault.MustReopen) ↔ IsTrue self.now.is_ahead }
         ensures answer { self.now.is_ahead ≡ false → IsTold self.now.image question result }
@@ -137,6 +163,13 @@ impl<K: Keeper> Desk<K> {
                 Destination::Method(target) => self.tell_translated(route, position, target),
                 Destination::Link => self.tell_on_link(route, position),
             },
+            Question::Diagram {
+                route,
+                classes,
+                from,
+                to,
+            } => self.tell_diagram(route, classes, from, to),
+            Question::Routes => self.tell_routes(),
             Question::Totals => self.tell_totals(),
             Question::Find { asset } => self.tell_found(asset),
         }
