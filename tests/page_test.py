@@ -548,7 +548,7 @@ def test_the_page_is_one_file_and_fits_a_telephone(page):
         browser.shows("#rows", "A1: 2.500")
         browser.types("#pos", "3000\ue007")
         browser.shows("#hits", "SPEED")
-        assert browser.runs("return [innerWidth, document.documentElement.scrollWidth]") == [360, 360]
+        assert browser.runs("return innerWidth === 360 && document.documentElement.scrollWidth <= 360")
         page.pictured("narrow")
     finally:
         browser.send("POST", "/goog/cdp/execute", {"cmd": "Emulation.clearDeviceMetricsOverride", "params": {}})
