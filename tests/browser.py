@@ -13,7 +13,7 @@ import time
 from serving import HOST, free_port
 
 # Seconds that the browser may take for anything that it is asked or waited for.
-PATIENCE = 30
+PATIENCE = 60
 
 ELEMENT = "element-6066-11e4-a52e-4f735466cecf"
 

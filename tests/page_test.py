@@ -6,6 +6,7 @@ Route A1 has 8,000 mm. Asset 10 (SPEED) lies on both sides from chainage 2,500 t
 
 import base64
 import contextlib
+import hashlib
 import http.client
 import os
 import pathlib
@@ -347,8 +348,8 @@ TYPED = [
     ("int", "1/1", "chainage 7.999 m. Link 2, mm 0; the route runs against the link"),
     ("abs", "9001", "Error: OffRoute: the position is not on the route"),
     ("rel", "KM9+1", "Error: NoRef: the referent is not on this route"),
-    ("int", "2/1", "Error: Malformed:pos: a text cannot be read"),
-    ("int", "1/1000001", "Error: Malformed:pos: a text cannot be read"),
+    ("int", "2/1", "Error: Malformed:pos: pos cannot be read, or a number in it is too large or too fine."),
+    ("int", "1/1000001", "Error: Malformed:pos: pos cannot be read, or a number in it is too large or too fine."),
 ]
 
 
@@ -450,7 +451,7 @@ def test_a_sheet_is_sent_and_its_lines_are_shown(page):
         ["s1", "again", "edit 1"],
         ["q1", "done", "edit 167"],
         ["q2", "refused", "AssetKnown: the number of the asset was used before"],
-        ["q3", "refused", "Overlap:10: an asset of this class lies there; its number stands behind the colon"],
+        ["q3", "refused", "Overlap:10: asset 10 of this class lies there"],
     ]
     browser.shows("#counts", "1 done, 1 again, 2 refused.")
     colours = browser.runs("return [...document.querySelectorAll('#lines td.word')].map(c => getComputedStyle(c).backgroundColor)")
@@ -514,6 +515,7 @@ def test_a_file_that_is_no_sheet_is_not_sent(page):
 
 
 def test_what_the_disk_does_not_take_is_told(browser, tmp_path):
+    ends(edit(tmp_path / "roads.db", FIRST), FIRST_REPLIES, 0)
     with service(browser, tmp_path, **with_files_up_to(400_000)) as page:
         page.opens()
         browser.types("#file", page.file("long.csv", long_sheet(30_000)[0]))
@@ -554,6 +556,22 @@ def test_the_page_is_one_file_and_fits_a_telephone(page):
         browser.send("POST", "/goog/cdp/execute", {"cmd": "Emulation.clearDeviceMetricsOverride", "params": {}})
 
 
+HOSTILE = """<svg xmlns='http://www.w3.org/2000/svg' xmlns:x='http://www.w3.org/1999/xlink' viewBox='0 0 12000 900' data-from='0' data-to='8000'
+ onload='window.hit = 1'><script>window.hit = 2</script><foreignObject><body xmlns='http://www.w3.org/1999/xhtml'><img src='none' onerror='window.hit = 3'/>
+</body></foreignObject><a x:href='javascript:window.hit = 4'><path d='M1000 0h9000'><title>1: &lt;b&gt;</title></path></a></svg>"""
+
+
+def test_a_diagram_runs_no_script(page):
+    browser = page.browser
+    page.opens_route("A1")
+    browser.runs("putDiagram(arguments[0])", HOSTILE)
+    time.sleep(0.2)
+    assert browser.runs("return window.hit === undefined && document.querySelector('#diagram title').textContent === '1: <b>'")
+    assert browser.runs("return document.querySelectorAll('#diagram script, #diagram img, #diagram [onload]').length") == 0
+    assert "href" not in browser.runs("return document.querySelector('#diagram').innerHTML")
+    assert browser.runs("try { putDiagram('<html></html>'); return '' } catch (error) { return error.message }") == "The diagram cannot be read."
+
+
 UNNAMED = """
 return [...document.querySelectorAll("input, select, button, a")].filter(e =>
   !(e.labels && e.labels.length) && !e.getAttribute("aria-label") && !e.textContent.trim()).map(e => e.outerHTML)
@@ -592,8 +610,8 @@ def test_nginx_passes_on_what_the_document_says(page):
 
 
 def test_only_those_who_are_known_may_edit(tmp_path):
-    made = subprocess.run(["openssl", "passwd", "-apr1", "secret"], capture_output=True, text=True, check=True, timeout=PATIENCE)
-    (tmp_path / "roads.users").write_text(f"anna:{made.stdout}")
+    digest = base64.b64encode(hashlib.sha1(b"secret").digest()).decode()
+    (tmp_path / "roads.users").write_text(f"anna:{{SHA}}{digest}\n")
     with started() as server, web_server(tmp_path, server.port, limited=True) as port:
         assert posted(port, "edits", FIRST)[0] == 401
         assert posted(port, "edits", FIRST, user="anna:guessed")[0] == 401
