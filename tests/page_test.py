@@ -227,6 +227,12 @@ def test_the_routes_are_listed_and_filtered(page):
     # Enter opens the first route that is left
     browser.types("#filter", "LONG\ue007")
     page.draws("LONG", 0, 6_000_000)
+    # by keys alone, and they stay where they are
+    browser.types("#filter", "R149")
+    browser.shows("#routes-said", "1 of 152 routes.")
+    browser.presses("\ue004", "\ue007")
+    page.draws("R149", 0, 1)
+    assert browser.runs("const b = document.activeElement; return [b.value, b.getAttribute('aria-current')]") == ["R149", "true"]
     assert browser.complaints() == []
 
 
