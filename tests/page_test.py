@@ -11,6 +11,7 @@ import http.client
 import os
 import pathlib
 import re
+import shutil
 import signal
 import subprocess
 import sys
@@ -20,7 +21,7 @@ import pytest
 
 from browser import PATIENCE, browsing
 from interrupted_test import with_files_up_to
-from program import FIRST, FIRST_REPLIES, HEADER, TOP, ends, long_sheet, run, sheet_of
+from program import FIRST, FIRST_REPLIES, HEADER, TOP, ends, long_sheet, record, run, sheet_of
 from serving import HOST, SURVEY_HEADER, connect, free_port, started
 from stores import edit
 
@@ -595,9 +596,30 @@ def test_each_field_has_a_label_and_is_reached_by_keys(page):
     assert reached >= {"filter", "asset", "file", "from", "to", "in", "out", "back", "on", "whole", "diagram", "plain", "all", "none", "method", "pos"}
 
 
+def embed(folder, *words):
+    return subprocess.run([sys.executable, "-B", "page/embed.py", *words], cwd=folder, capture_output=True, text=True, timeout=PATIENCE)
+
+
 def test_the_page_is_embedded_as_it_is():
-    done = subprocess.run([sys.executable, "-B", "page/embed.py", "--check"], cwd=TOP, capture_output=True, text=True, timeout=PATIENCE)
+    done = embed(TOP, "--check")
     assert (done.returncode, done.stderr) == (0, "")
+
+
+def test_a_page_is_embedded_byte_for_byte_or_not_at_all(tmp_path):
+    (tmp_path / "page").mkdir()
+    shutil.copy(TOP / "page" / "embed.py", tmp_path / "page")
+    page, module = tmp_path / "page" / "index.html", tmp_path / "crates" / "lrs_cli_page" / "src" / "text.rt"
+    page.write_text('<p title="#">\\ {} \u00e9\n')
+    assert embed(tmp_path, "--check").returncode == 1
+    module.parent.mkdir(parents=True)
+    assert embed(tmp_path).returncode == 0 and embed(tmp_path, "--check").returncode == 0
+    assert module.read_text().endswith('= r##"<p title="#">\\ {} \u00e9\n"##;\n')
+    page.write_text("<p>\n")
+    assert embed(tmp_path, "--check").returncode == 1
+    for text, told in [('<p>\n"##\n', "line 2 of the page has the end of a raw text"), ("\t", "a tabulator"), ("a \n", "a blank at the end of a line")]:
+        page.write_text(text)
+        ended = embed(tmp_path)
+        assert ended.returncode == 1 and told in ended.stderr, ended
 
 
 # ---- nginx
@@ -610,8 +632,8 @@ def test_nginx_passes_on_what_the_document_says(page):
     assert posted(page.port, "edits", sheet_of("z1,link,9,5"), kind="text/plain")[0] == 415
     assert posted(page.port, "edits", b"")[0] == 200
     assert posted(page.port, "edits", HEADER + b"\n" * 1_048_576)[0] == 413
-    longest = HEADER + b"\n" * (1_048_576 - len(HEADER) - 22) + b"z2,link,10,5,,,,,,,,\n"[-22:]
-    assert posted(page.port, "edits", longest[:1_048_576])[0] in [200, 422]
+    last = record("z2,link,10,5")
+    assert posted(page.port, "edits", HEADER + b"\n" * (1_048_576 - len(HEADER) - len(last)) + last) == (200, b"z2,done,167\n")
     assert asked(page.port, "GET", "/v1/at?route=A1&method=rel&pos=KM2%2B500")[0] == 200
 
 
