@@ -510,6 +510,16 @@ def test_a_part_that_is_not_done_is_the_last(page):
     assert posted(page.port, "edits", HEADER + rows[-1]) == (200, b"w99999,done,20167\n")
 
 
+def test_a_line_end_inside_quotes_is_no_end_of_a_record(page):
+    browser = page.browser
+    page.opens()
+    rows = [b'w%d,link,%d,5,"a ""b"",\r\n c",,,,,,\r\n' % (n, n + 1) for n in range(40_000)]
+    browser.types("#file", page.file("long.csv", HEADER + b"".join(rows)))
+    browser.shows("#sheet-said", "long.csv was sent to its end, in 2 parts.")
+    browser.shows("#counts", "0 done, 0 again, 40000 refused. 39000 lines more are not shown here")
+    assert row_of(browser, "#lines tbody tr")[0] == ["w0", "refused", "Malformed:c: c cannot be read, or a number in it is too large or too fine"]
+
+
 def test_a_file_that_is_no_sheet_is_not_sent(page):
     browser = page.browser
     page.opens()
