@@ -4,3 +4,4 @@ pub mod Labels
 pub mod Bands
 pub mod Axis
 pub mod Drawing
+pub mod Laws

@@ -8,6 +8,7 @@ mod axis;
 mod bands;
 mod diagram;
 mod labels;
+pub mod laws;
 mod picture;
 mod scale;
 mod shapes;
