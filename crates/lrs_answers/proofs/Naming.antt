@@ -19,11 +19,17 @@ use Rattle.lrs_machine.specs.declared.image.RouteRow.{RouteRow}
 use Rattle.lrs_machine.specs.Sound.{route_before}
 use Rattle.lrs_machine.proofs.Members.{In, all_at}
 use Rattle.lrs_image.specs.Change.{is_named}
+use Rattle.lrs_position.specs.declared.route.Referent.{Referent}
+use Rattle.lrs_answers.specs.Drawn.{stands_before}
 
 -- ---- names
 
 names_rank : IsStrictWeakOrder name_before
 names_rank = ranks_by nat_list_cmp_total (λ (c : Name). c)
+
+-- referents along a route are in an order
+pub along_ranks : IsStrictWeakOrder stands_before
+along_ranks = ranks_by nat_list_cmp_total (λ (r : Referent). r.at ∷ r.name)
 
 -- of names in order neither is the other
 later_differs : (a b : Name) → name_before a b ≡ true → same_name b a ≡ false

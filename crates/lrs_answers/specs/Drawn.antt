@@ -2,7 +2,10 @@
 use Rattle.std.specs.Prelude.{◌≡◌, ◌⊎◌, ◌&&◌, ◌+◌, ◌<◌, ◌≤◌, ℕ, Bool, true, false, ⊤, List, [], ◌∷◌, take, length, map, filter, Option, Some, None, MatchOption, Result, Ok, Err, slice_get, unwrap_or}
 use Rattle.std.specs.List.{find}
 use Rattle.std.specs.Option.{option_map}
-use Rattle.std.specs.Ordering.{is_eq}
+use Rattle.std.specs.List.Sorted.{IsPermutation, IsSortedBy}
+use Rattle.std.specs.Ordering.{is_eq, is_lt}
+use Rattle.std.specs.declared.cmp.Ordering.{Ordering}
+use Rattle.lrs_position.specs.declared.route.Referent.{Referent}
 use Rattle.lrs_measure.specs.Lists.{each_two}
 use Rattle.lrs_measure.specs.Texts.{Name, name_cmp}
 use Rattle.lrs_element.specs.Course.{course_of, IsFewest}
@@ -82,6 +85,17 @@ placed at (p ∷ ps) = record { from = at; to = at + piece_len p; piece = p } �
 abbrev pub ArePlaced : List Ground → List DrawnPiece → Type 0
 ArePlaced course drawn = (pieces : List Piece) × (course_of pieces ≡ course) × IsFewest pieces × (drawn ≡ placed 0 pieces)
 
+-- how two referents stand along a route: by chainage, and those in one millimetre by name
+abbrev pub along : Referent → Referent → Ordering
+along r s = name_cmp (r.at ∷ r.name) (s.at ∷ s.name)
+
+abbrev pub stands_before : Referent → Referent → Bool
+stands_before r s = is_lt (along r s)
+
+-- the referents in their order along the route
+abbrev pub AreAlong : List Referent → List Referent → Type 0
+AreAlong referents drawn = IsPermutation referents drawn × IsSortedBy stands_before drawn
+
 -- ---- classes
 
 -- the class of a name
@@ -111,7 +125,7 @@ pub record IsDrawing (i : Image) (e : RouteRow) (chosen : List Class) (from to :
   pub start : d.scale.from ≡ from
   pub stop : d.scale.to ≡ to
   pub marks : d.marks ≡ e.route.marks
-  pub referents : d.referents ≡ e.route.refs
+  pub referents : AreAlong e.route.refs d.referents
   pub pieces : ArePlaced e.route.course d.pieces
   pub classes : AreBands i.assets e.spans from to chosen d.classes
 

@@ -4,7 +4,8 @@ ghost use Rattle.std.specs.Prelude.{◌≡◌, ◌<◌, ◌≤◌, ◌^◌, Some
 ghost use Rattle.lrs_machine.specs.Sound.{IsSound, asset_before, class_before};
 ghost use Rattle.lrs_measure.specs.Lists.{each_two};
 ghost use Rattle.lrs_image.specs.Kept.{image_of};
-ghost use Rattle.lrs_answers.specs.Drawn.{AreChosen, ArePlaced, IsDrawing, IsDrawn, IsDrawnOn, IsStretch, LacksClass, class_named};
+ghost use Rattle.lrs_answers.specs.Drawn.{AreAlong, AreChosen, ArePlaced, IsDrawing, IsDrawn, IsDrawnOn, IsStretch, LacksClass, along, class_named, stands_before};
+ghost use Rattle.std.specs.List.Sorted.{IsPermutation, IsSortedBy};
 
 use crate::bands::all_bands;
 use crate::fault::AskFault;
@@ -16,8 +17,9 @@ use lrs_image::KeptImage;
 use lrs_machine::{RouteRow, SegFault};
 use lrs_measure::Rows;
 use lrs_ordered::Chunked;
-use lrs_position::{PlaceFault, RouteName};
+use lrs_position::{PlaceFault, Referent, RouteName};
 use std::alloc::{AllocError, Global};
+use std::cmp::Ordering;
 
 /// More classes than any memory has.
 const TOO_MANY_CLASSES: usize = 4_294_967_296;
@@ -38,6 +40,34 @@ fn placed_pieces(alloc: Global, course: &Course) -> Result<Rows<DrawnPiece>, All
         from = to;
     }
     Ok(Rows::from_vec(placed))
+}
+
+/// How two referents stand along a route: by chainage, and those in one millimetre by name.
+fn along(one: &Referent, other: &Referent) -> Ordering
+    ensures { result ≡ along one.now other.now }
+{
+    match one.at.cmp(&other.at) {
+        Ordering::Less => Ordering::Less,
+        Ordering::Equal => one.name.bytes().cmp(other.name.bytes()),
+        Ordering::Greater => Ordering::Greater,
+    }
+}
+
+/// Sorts referents along their route. It takes no memory.
+fn sort_along(referents: &mut Vec<Referent>)
+    ensures same { IsPermutation referents.old.items referents.new.items }
+    ensures sorted { IsSortedBy stands_before referents.new.items }
+{
+    referents.sort_unstable_by(|one, other| along(one, other));
+}
+
+/// Referents in their order along the route.
+fn placed_referents(alloc: Global, referents: &[Referent]) -> Result<Rows<Referent>, AllocError>
+    ensures { IfOk result (AreAlong referents.now) }
+{
+    let mut sorted = Vec::from_slice(alloc, referents)?;
+    sort_along(&mut sorted);
+    Ok(Rows::from_vec(sorted))
 }
 
 fn all_classes(alloc: Global, classes: &Chunked<Class>) -> Result<Vec<Class>, AllocError>
@@ -128,7 +158,7 @@ fn draw(
         route: row.route.name,
         scale,
         marks: Rows::from_vec(marks),
-        referents: row.route.refs.copy(alloc)?,
+        referents: placed_referents(alloc, row.route.refs.as_slice())?,
         pieces: placed_pieces(alloc, &row.route.course)?,
         classes: all_bands(alloc, &kept.assets, &row.spans, scale, classes)?,
     })

@@ -52,9 +52,13 @@ page_text height = style_text ++ codes "<rect width='12000' height='" ++ decimal
 abbrev pub title_text : Diagram → Text
 title_text d = (codes "Route " ++ d.route) ++ codes " from " ++ metres_text d.scale.from ++ codes " m to " ++ metres_text d.scale.to ++ codes " m"
 
--- ... for browsers, and at the top of the page
+-- ... as browsers and readers show it
+abbrev pub name_text : Diagram → Text
+name_text d = (codes "<title>" ++ title_text d) ++ codes "</title>\n"
+
+-- ... at the top of the page
 abbrev pub heading_text : Diagram → Text
-heading_text d = (((codes "<title>" ++ title_text d) ++ codes "</title>\n<text class='h' x='40' y='160'>") ++ title_text d) ++ codes "</text>\n"
+heading_text d = (codes "<text class='h' x='40' y='160'>" ++ title_text d) ++ codes "</text>\n"
 
 abbrev pub bar_line : ℕ → Text
 bar_line length = codes "<path d='M1000 300v-40h" ++ decimal length ++ codes "v40'/>\n"
@@ -66,8 +70,12 @@ bar_label step = codes "<text x='1020' y='380'>" ++ metres_text step ++ codes " 
 abbrev pub bar_text : Diagram → Text
 bar_text d = bar_line (bar_of d.scale) ++ bar_label (step_of d.scale)
 
+-- how large the picture is, and what it is of
+abbrev pub start_text : Diagram → ℕ → Text
+start_text d height = (root_text height ++ data_text d) ++ name_text d
+
 abbrev pub head_text : Diagram → ℕ → Text
-head_text d height = (((root_text height ++ data_text d) ++ page_text height) ++ heading_text d) ++ bar_text d
+head_text d height = ((start_text d height ++ page_text height) ++ heading_text d) ++ bar_text d
 
 -- ---- the picture
 

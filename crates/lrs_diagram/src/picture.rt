@@ -2,7 +2,7 @@
 
 ghost use Rattle.std.specs.Prelude.{◌≡◌, ◌<◌, ◌^◌, OnOk, codes};
 ghost use Rattle.std.specs.Io.KnownBytes.{Appends};
-ghost use Rattle.lrs_diagram.specs.Drawing.{bands_height, bar_label, bar_line, bar_text, data_text, diagram_text, head_text, heading_text, page_text, parts_text, range_text, root_text, style_text, title_text};
+ghost use Rattle.lrs_diagram.specs.Drawing.{bands_height, bar_label, bar_line, bar_text, data_text, diagram_text, head_text, heading_text, name_text, page_text, parts_text, range_text, root_text, start_text, style_text, title_text};
 
 use crate::axis::write_axis;
 use crate::bands::{FIRST_TOP, PITCH, write_bands};
@@ -61,13 +61,22 @@ fn write_title<W: Write>(writer: &mut W, diagram: &Diagram) -> io::Result<()>
     write!(writer, " from {from} m to {to} m")
 }
 
+/// Writes what the diagram is of, as browsers and readers show it.
+fn write_name<W: Write>(writer: &mut W, diagram: &Diagram) -> io::Result<()>
+    ensures { OnOk result (Appends (W.contents writer.old) (W.contents writer.new)
+        (name_text diagram.now)) }
+{
+    writer.write_all(b"<title>")?;
+    write_title(writer, diagram)?;
+    writer.write_all(b"</title>\n")
+}
+
+/// Writes what the diagram is of, at the top of the page.
 fn write_heading<W: Write>(writer: &mut W, diagram: &Diagram) -> io::Result<()>
     ensures { OnOk result (Appends (W.contents writer.old) (W.contents writer.new)
         (heading_text diagram.now)) }
 {
-    writer.write_all(b"<title>")?;
-    write_title(writer, diagram)?;
-    writer.write_all(b"</title>\n<text class='h' x='40' y='160'>")?;
+    writer.write_all(b"<text class='h' x='40' y='160'>")?;
     write_title(writer, diagram)?;
     writer.write_all(b"</text>\n")
 }
@@ -106,12 +115,21 @@ fn write_bar<W: Write>(writer: &mut W, diagram: &Diagram) -> io::Result<()>
     write_bar_label(writer, diagram.scale.step())
 }
 
+/// Writes how large the picture is, and what it is of.
+fn write_start<W: Write>(writer: &mut W, diagram: &Diagram, height: u64) -> io::Result<()>
+    ensures { OnOk result (Appends (W.contents writer.old) (W.contents writer.new)
+        (start_text diagram.now height)) }
+{
+    write_root(writer, height)?;
+    write_data(writer, diagram)?;
+    write_name(writer, diagram)
+}
+
 fn write_head<W: Write>(writer: &mut W, diagram: &Diagram, height: u64) -> io::Result<()>
     ensures { OnOk result (Appends (W.contents writer.old) (W.contents writer.new)
         (head_text diagram.now height)) }
 {
-    write_root(writer, height)?;
-    write_data(writer, diagram)?;
+    write_start(writer, diagram, height)?;
     write_page(writer, height)?;
     write_heading(writer, diagram)?;
     write_bar(writer, diagram)

@@ -1,4 +1,4 @@
-use Rattle.std.proofs.Common.{append_assoc, refl}
+use Rattle.std.proofs.Common.{refl}
 use Rattle.lrs_diagram.specs.Drawing.{head_text}
 use Rattle.lrs_report.proofs.Writing.{appends_more, appends_last}
 use Rattle.lrs_diagram.proofs.picture.write_head.Goals as goal
@@ -6,11 +6,9 @@ use Rattle.lrs_diagram.proofs.picture.write_head.Goals as goal
 pub returns : goal.returns
 returns g c =
     let start = g.W.Write.contents c.args.writer.now in
-    let one = g.W.Write.contents c.write_root.new.writer in
-    let two = g.W.Write.contents c.write_data.new.writer in
-    let three = g.W.Write.contents c.write_page.new.writer in
-    let four = g.W.Write.contents c.write_heading.new.writer in
-    let to_two = appends_more start one two _ _ c.in_ok-write_root.ensures c.in_ok-write_data.ensures in
-    let to_three = appends_more start two three _ _ to_two c.in_ok-write_page.ensures in
-    let to_four = appends_more start three four _ _ to_three c.in_ok-write_heading.ensures in
-    appends_last c.write_bar.result start four (g.W.Write.contents c.write_bar.new.writer) _ _ (head_text c.args.diagram.now c.args.height) to_four c.write_bar.ensures refl
+    let one = g.W.Write.contents c.write_start.new.writer in
+    let two = g.W.Write.contents c.write_page.new.writer in
+    let three = g.W.Write.contents c.write_heading.new.writer in
+    let to_two = appends_more start one two _ _ c.in_ok-write_start.ensures c.in_ok-write_page.ensures in
+    let to_three = appends_more start two three _ _ to_two c.in_ok-write_heading.ensures in
+    appends_last c.write_bar.result start three (g.W.Write.contents c.write_bar.new.writer) _ _ (head_text c.args.diagram.now c.args.height) to_three c.write_bar.ensures refl
