@@ -2,7 +2,7 @@ use Rattle.std.proofs.Common.{◌≡◌, ◌≤◌, ◌*◌, ◌^◌, ◌++◌, 
 use Rattle.std.specs.List.{AllByRecursion}
 use Rattle.lrs_element.specs.Pieces.{IsFilled}
 use Rattle.lrs_answers.specs.Drawn.{placed}
-use Rattle.lrs_answers.proofs.drawing.placed_pieces.Given as goal
+use Rattle.lrs_answers.proofs.route_diagram.placed_pieces.Given as goal
 
 abbrev pub invariant-loop-piece : goal.invariant-loop-piece
 invariant-loop-piece l = record {

@@ -4,7 +4,7 @@ use Rattle.lrs_element.specs.declared.link.Piece.{Piece}
 use Rattle.lrs_diagram.specs.declared.diagram.DrawnPiece.{DrawnPiece}
 use Rattle.lrs_answers.specs.Drawn.{placed}
 use Rattle.lrs_answers.proofs.Banded.{few_pieces, filled_next, placed_end, placed_more}
-use Rattle.lrs_answers.proofs.drawing.placed_pieces.Goals as goal
+use Rattle.lrs_answers.proofs.route_diagram.placed_pieces.Goals as goal
 
 abbrev no_piece : Piece
 no_piece = record { link = 0; from = 0; to = 0; forward = false }

@@ -1,6 +1,6 @@
 use Rattle.lrs_image.specs.Kept.{image_of}
 use Rattle.lrs_image.proofs.Tables.{assets_in_order, classes_in_order}
-use Rattle.lrs_answers.proofs.drawing.draw_on.Goals as goal
+use Rattle.lrs_answers.proofs.route_diagram.draw_on.Goals as goal
 
 pub chosen_classes-requires : goal.chosen_classes-requires
 chosen_classes-requires c = record { order = classes_in_order (image_of c.args.kept.now) c.requires.sound }

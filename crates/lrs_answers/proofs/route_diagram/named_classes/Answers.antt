@@ -3,7 +3,7 @@ use Rattle.std.specs.Option.{option_map}
 use Rattle.std.proofs.lemmas.Option.{slice_get-map}
 use Rattle.lrs_answers.specs.Drawn.{class_named}
 use Rattle.lrs_answers.proofs.Banded.{there}
-use Rattle.lrs_answers.proofs.drawing.named_classes.Goals as goal
+use Rattle.lrs_answers.proofs.route_diagram.named_classes.Goals as goal
 
 pub returns-in_default-clause-unknown : goal.returns-in_default-clause-unknown
 returns-in_default-clause-unknown c =
