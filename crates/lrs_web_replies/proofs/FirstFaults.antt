@@ -1,5 +1,5 @@
 -- Which parameter is the first malformed one.
-use Rattle.std.proofs.Common.{◌≡◌, ◌⊎◌, ℕ, List, [], ◌∷◌, Option, refl, sym, subst, inl, inr}
+use Rattle.std.proofs.Common.{ℕ, List, [], ◌∷◌, Option, refl, sym, subst, inl, inr}
 use Rattle.std.specs.Prelude.{⊤}
 use Rattle.lrs_measure.specs.Texts.{Name}
 use Rattle.lrs_position.specs.declared.expression.Expr.{Expr}

@@ -160,10 +160,7 @@ pub(crate) fn classes_in(alloc: Global, query: &[u8]) -> Result<Rows<ClassName>,
     class_names(alloc, texts.as_slice(), NO_CLASS)
 }
 
-pub(crate) fn classes_or_all_in(
-    alloc: Global,
-    query: &[u8],
-) -> Result<Rows<ClassName>, QueryFault>
+pub(crate) fn classes_or_all_in(alloc: Global, query: &[u8]) -> Result<Rows<ClassName>, QueryFault>
     ensures read { IfOk result (GivesClassesOrAll query.now) }
     ensures unread { IfErr result (Lacks Parameter.ClassesOrAll query.now) }
 {

@@ -6,8 +6,8 @@ ghost use Rattle.lrs_web_requests.specs.Request.{verb_of};
 ghost use Rattle.lrs_web_replies.specs.Questions.{AsksOf, CannotAsk, parameter_text};
 
 use crate::parameters::{
-    asset_in, classes_in, classes_or_all_in, destination_in, from_in, position_in, route_in, side_in,
-    to_in,
+    asset_in, classes_in, classes_or_all_in, destination_in, from_in, position_in, route_in,
+    side_in, to_in,
 };
 use lrs_machine::Question;
 use lrs_position::RouteName;
