@@ -11,7 +11,7 @@ use Rattle.lrs_machine.specs.declared.segment.Segment.{Segment}
 use Rattle.lrs_machine.specs.declared.total.Total.{Total}
 use Rattle.lrs_machine.specs.declared.hit.Hit.{Hit}
 use Rattle.lrs_answers.specs.declared.rows.FoundRow.{FoundRow}
-use Rattle.lrs_answers.specs.declared.told.RouteLength.{RouteLength}
+use Rattle.lrs_answers.specs.declared.route_list.RouteLength.{RouteLength}
 use Rattle.lrs_web_replies.specs.Shown.{each}
 use Rattle.lrs_web_replies.specs.Answers.{at_data, hit_data, mark_data, piece_data, referent_data, route_data, ShowsRoute, value_data, segment_data, segments_data, route_length_data, routes_data, total_data, totals_data, row_data, found_data}
 

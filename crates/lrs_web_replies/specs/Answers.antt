@@ -20,7 +20,7 @@ use Rattle.lrs_machine.specs.declared.total.Total.{Total}
 use Rattle.lrs_machine.specs.declared.hit.Hit.{Hit}
 use Rattle.lrs_machine.specs.Lines.{Text, method_text, piece_text}
 use Rattle.lrs_answers.specs.declared.rows.FoundRow.{FoundRow}
-use Rattle.lrs_answers.specs.declared.told.RouteLength.{RouteLength}
+use Rattle.lrs_answers.specs.declared.route_list.RouteLength.{RouteLength}
 use Rattle.lrs_web_replies.specs.Shown.{whole, list, each, with}
 
 -- ---- where a position stands
