@@ -6,7 +6,7 @@ use Rattle.lrs_machine.specs.Lines.{Text}
 use Rattle.lrs_answers.specs.declared.fault.AskFault.{AskFault}
 use Rattle.lrs_answers.specs.declared.told.Told.{Told}
 use Rattle.lrs_answers.specs.Told.{IsTold}
-use Rattle.lrs_web_requests.specs.Text.{Answer, answer_of}
+use Rattle.lrs_web_requests.specs.Text.{answer_of}
 use Rattle.lrs_web_requests.specs.declared.paths.Resource.{Resource}
 use Rattle.lrs_web_requests.specs.declared.response.Response.{Response}
 use Rattle.lrs_web_replies.specs.Questions.{AsksOf, CannotAsk}

@@ -38,6 +38,9 @@ fn sheet_of(resource: Resource) -> Sheet
         | Resource::Segments
         | Resource::Totals
         | Resource::Translate
+        | Resource::Diagram
+        | Resource::Routes
+        | Resource::Find
         | Resource::Edits => Sheet::Edits,
     }
 }

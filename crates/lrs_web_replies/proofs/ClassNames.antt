@@ -1,11 +1,10 @@
 -- A text that is no class name, among many.
-use Rattle.std.proofs.Common.{◌≡◌, ℕ, suc, zero, ◌<◌, List, [], ◌∷◌, length, map, get_or, Bool, true, false, ◌&&◌, refl, sym, ap, ◌∙◌, subst, arith}
+use Rattle.std.proofs.Common.{◌≡◌, ℕ, suc, zero, ◌<◌, List, [], ◌∷◌, length, map, get_or, Bool, true, false, ◌&&◌, refl, ap, ◌∙◌, arith}
 use Rattle.std.specs.Prelude.{IsTrue}
 use Rattle.std.specs.Cow.{cow_str_bytes}
 use Rattle.std.specs.List.{list_all}
 use Rattle.std.specs.declared.borrow.CowStr.{CowStr}
 use Rattle.lrs_events.specs.Names.{is_class_name}
-use Rattle.lrs_web_replies.specs.Questions.{are_class_names}
 
 both_first : (a b : Bool) → (a && b) ≡ true → a ≡ true
 both_first true b h = refl
@@ -24,7 +23,7 @@ all_at (x ∷ xs) (suc i) d low h =
 
 -- where one text is no class name, not all are
 pub not_all : {Z : Type 0} (texts : List (CowStr Z)) (i : ℕ) (item : CowStr Z) (bytes : List ℕ) → i < length texts → item ≡ get_or texts i item → bytes ≡ cow_str_bytes item
-    → (IsTrue (is_class_name bytes) → ⊥) → IsTrue (are_class_names (map cow_str_bytes texts)) → ⊥
+    → (IsTrue (is_class_name bytes) → ⊥) → IsTrue (list_all is_class_name (map cow_str_bytes texts)) → ⊥
 not_all [] i item bytes low is at none all = absurd (omega (arith, low))
 not_all (x ∷ xs) i item bytes low is at none all =
     none (ap is_class_name (at ∙ ap cow_str_bytes is) ∙ all_at (x ∷ xs) i item low all)

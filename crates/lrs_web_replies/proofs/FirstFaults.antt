@@ -1,16 +1,16 @@
 -- Which parameter is the first malformed one.
-use Rattle.std.proofs.Common.{◌≡◌, ◌⊎◌, List, [], ◌∷◌, refl, sym, subst, inl, inr}
+use Rattle.std.proofs.Common.{ℕ, List, [], ◌∷◌, Option, refl, sym, subst, inl, inr}
 use Rattle.std.specs.Prelude.{⊤}
 use Rattle.lrs_measure.specs.Texts.{Name}
 use Rattle.lrs_position.specs.declared.expression.Expr.{Expr}
 use Rattle.lrs_events.specs.declared.side.Side.{Side as HandSide}
 use Rattle.lrs_web_requests.specs.declared.paths.Resource.TheVariants as path
 use Rattle.lrs_web_replies.specs.declared.question.Parameter.{Parameter}
-use Rattle.lrs_web_replies.specs.declared.question.Parameter.TheVariants.{Route, Method, Position, To, Side, Class}
+use Rattle.lrs_web_replies.specs.declared.question.Parameter.TheVariants.{Route, Method, Position, To, Side, Class, ClassesOrAll, From, UpTo, Asset}
 use Rattle.lrs_web_replies.specs.declared.question.QueryFault.{QueryFault}
 use Rattle.lrs_web_replies.specs.declared.question.QueryFault.TheVariants.{Malformed, NoRoute, Memory}
 use Rattle.lrs_web_replies.specs.Faults.{Lacks, LacksPosition}
-use Rattle.lrs_web_replies.specs.Questions.{Text, CannotAsk, GivesPosition, GivesRoute, GivesSide, IsFirstMalformed, IsGiven}
+use Rattle.lrs_web_replies.specs.Questions.{Text, CannotAsk, GivesClassesOrAll, GivesFrom, GivesPosition, GivesRoute, GivesSide, IsFirstMalformed, IsGiven}
 
 -- the fault is the first of these, or memory ran out
 abbrev FaultAmong : Text → List Parameter → QueryFault → Type 0
@@ -46,6 +46,16 @@ translate query (Malformed p) among = among
 translate query NoRoute among = among
 translate query Memory among = tt
 
+diagram : (query : Text) (e : QueryFault) → FaultAmong query (Route ∷ ClassesOrAll ∷ From ∷ UpTo ∷ []) e → CannotAsk path.Diagram query e
+diagram query (Malformed p) among = among
+diagram query NoRoute among = among
+diagram query Memory among = tt
+
+find : (query : Text) (e : QueryFault) → FaultAmong query (Asset ∷ []) e → CannotAsk path.Find query e
+find query (Malformed p) among = among
+find query NoRoute among = among
+find query Memory among = tt
+
 pub at_route : (query : Text) (e : QueryFault) → Lacks Route query e → CannotAsk path.At query e
 at_route query e lacks = at query e (first query Route (Method ∷ Position ∷ []) e lacks)
 
@@ -75,3 +85,27 @@ translate_to query e route x given stated lacks =
     later query Method (Position ∷ To ∷ []) e (stated.0, stated.1) (later query Position (To ∷ []) e (x, stated) (first query To [] e lacks))
     )
     )
+
+pub diagram_route : (query : Text) (e : QueryFault) → Lacks Route query e → CannotAsk path.Diagram query e
+diagram_route query e lacks = diagram query e (first query Route (ClassesOrAll ∷ From ∷ UpTo ∷ []) e lacks)
+
+-- behind a route that is given
+behind_route : (query : Text) (e : QueryFault) (route : Name) → GivesRoute query route → FaultAmong query (ClassesOrAll ∷ From ∷ UpTo ∷ []) e → CannotAsk path.Diagram query e
+behind_route query e route given among = diagram query e (later query Route (ClassesOrAll ∷ From ∷ UpTo ∷ []) e (route, given) among)
+
+-- behind classes, or none, that are given
+behind_classes : (query : Text) (e : QueryFault) (classes : List Name) → GivesClassesOrAll query classes → FaultAmong query (From ∷ UpTo ∷ []) e → FaultAmong query (ClassesOrAll ∷ From ∷ UpTo ∷ []) e
+behind_classes query e classes named among = later query ClassesOrAll (From ∷ UpTo ∷ []) e (classes, named) among
+
+pub diagram_classes : (query : Text) (e : QueryFault) (route : Name) → GivesRoute query route → Lacks ClassesOrAll query e → CannotAsk path.Diagram query e
+diagram_classes query e route given lacks = behind_route query e route given (first query ClassesOrAll (From ∷ UpTo ∷ []) e lacks)
+
+pub diagram_from : (query : Text) (e : QueryFault) (route : Name) (classes : List Name) → GivesRoute query route → GivesClassesOrAll query classes → Lacks From query e → CannotAsk path.Diagram query e
+diagram_from query e route classes given named lacks = behind_route query e route given (behind_classes query e classes named (first query From (UpTo ∷ []) e lacks))
+
+pub diagram_to : (query : Text) (e : QueryFault) (route : Name) (classes : List Name) (from : Option ℕ) → GivesRoute query route → GivesClassesOrAll query classes → GivesFrom query from → Lacks UpTo query e → CannotAsk path.Diagram query e
+diagram_to query e route classes from given named began lacks =
+    behind_route query e route given (behind_classes query e classes named (later query From (UpTo ∷ []) e (from, began) (first query UpTo [] e lacks)))
+
+pub find_asset : (query : Text) (e : QueryFault) → Lacks Asset query e → CannotAsk path.Find query e
+find_asset query e lacks = find query e (first query Asset [] e lacks)

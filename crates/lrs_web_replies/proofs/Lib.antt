@@ -1,4 +1,3 @@
 pub mod Whole
 pub mod FirstFaults
 pub mod ClassNames
-pub mod Asked

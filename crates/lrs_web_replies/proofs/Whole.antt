@@ -1,5 +1,5 @@
 -- What is shown has no float.
-use Rattle.std.proofs.Common.{◌≡◌, ℕ, List, [], ◌∷◌, Bool, false, ◌||◌, map, refl, sym, ap, ◌∙◌, Option, None, Some}
+use Rattle.std.proofs.Common.{◌≡◌, ℕ, List, [], ◌∷◌, Bool, false, ◌||◌, refl, ap, ◌∙◌, Option, None, Some}
 use Rattle.serde_json.specs.Data.{Data}
 use Rattle.serde_json.specs.Written.{has_float}
 use Rattle.lrs_measure.specs.Texts.{Name}
@@ -11,8 +11,9 @@ use Rattle.lrs_machine.specs.declared.segment.Segment.{Segment}
 use Rattle.lrs_machine.specs.declared.total.Total.{Total}
 use Rattle.lrs_machine.specs.declared.hit.Hit.{Hit}
 use Rattle.lrs_answers.specs.declared.rows.FoundRow.{FoundRow}
+use Rattle.lrs_answers.specs.declared.route_list.RouteLength.{RouteLength}
 use Rattle.lrs_web_replies.specs.Shown.{each}
-use Rattle.lrs_web_replies.specs.Answers.{at_data, hit_data, mark_data, piece_data, referent_data, route_data, ShowsRoute, value_data, segment_data, segments_data, total_data, totals_data, row_data, found_data}
+use Rattle.lrs_web_replies.specs.Answers.{at_data, hit_data, mark_data, piece_data, referent_data, route_data, ShowsRoute, value_data, segment_data, segments_data, route_length_data, routes_data, total_data, totals_data, row_data, found_data}
 
 neither : (a b : Bool) → a ≡ false → b ≡ false → (a || b) ≡ false
 neither a b p q = ap (λ x. x || b) p ∙ q
@@ -45,6 +46,10 @@ route_whole d r shows = ap has_float shows.is ∙ route_with r shows.pieces
 pub segments_whole : (d : Data) (route : Name) (side : Side) (segments : List Segment) → d ≡ segments_data route side segments → has_float d ≡ false
 segments_whole d route side segments is =
     ap has_float is ∙ neither (has_float (each segment_data segments)) false (each_whole segment_data segment_whole segments) refl
+
+pub routes_whole : (d : Data) (routes : List RouteLength) → d ≡ routes_data routes → has_float d ≡ false
+routes_whole d routes is =
+    ap has_float is ∙ neither (has_float (each route_length_data routes)) false (each_whole route_length_data (λ r. refl) routes) refl
 
 pub totals_whole : (d : Data) (totals : List Total) → d ≡ totals_data totals → has_float d ≡ false
 totals_whole d totals is =

@@ -8,26 +8,29 @@ use Rattle.lrs_answers.specs.declared.fault.AskFault.{AskFault}
 use Rattle.lrs_answers.specs.declared.told.Told.{Told}
 use Rattle.lrs_answers.specs.declared.told.Told.TheVariants as told
 use Rattle.lrs_answers.specs.Told.{IsTold}
+use Rattle.lrs_diagram.specs.Drawing.{diagram_text}
 use Rattle.lrs_web_requests.specs.Text.{Answer}
 use Rattle.lrs_web_requests.specs.declared.paths.Resource.{Resource}
-use Rattle.lrs_web_replies.specs.Answers.{at_data, ShowsRoute, segments_data, translated_data, on_link_data, totals_data, found_data}
+use Rattle.lrs_web_replies.specs.Answers.{at_data, ShowsRoute, segments_data, translated_data, on_link_data, routes_data, totals_data, found_data}
 use Rattle.lrs_web_replies.specs.Questions.{AsksOf, CannotAsk}
 use Rattle.lrs_web_replies.specs.declared.question.QueryFault.{QueryFault}
-use Rattle.lrs_web_replies.specs.Replies.{json_answer, refusal, unasked}
+use Rattle.lrs_web_replies.specs.Replies.{json_answer, svg_answer, refusal, unasked}
 
--- The table: how each answer is shown as JSON.
-abbrev pub ShowsTold : Told → Data → Type 0
-ShowsTold (told.At route found) d = d ≡ at_data route found.at found.ground found.hits
-ShowsTold (told.Route route) d = ShowsRoute route d
-ShowsTold (told.Segments route side len classes segments) d = d ≡ segments_data route side segments
-ShowsTold (told.Translated route e) d = d ≡ translated_data route e
-ShowsTold (told.OnLink route link distance) d = d ≡ on_link_data route (link, distance)
-ShowsTold (told.Totals totals) d = d ≡ totals_data totals
-ShowsTold (told.Found rows) d = d ≡ found_data rows
+-- The table: the reply to each answer. A diagram is a picture, and any other answer is JSON.
+abbrev pub ShowsTold : Told → Answer → Type 0
+ShowsTold (told.At route found) answer = answer ≡ json_answer 200 (at_data route found.at found.ground found.hits)
+ShowsTold (told.Route route) answer = (d : Data) × ShowsRoute route d × (answer ≡ json_answer 200 d)
+ShowsTold (told.Segments route side len classes segments) answer = answer ≡ json_answer 200 (segments_data route side segments)
+ShowsTold (told.Translated route e) answer = answer ≡ json_answer 200 (translated_data route e)
+ShowsTold (told.OnLink route link distance) answer = answer ≡ json_answer 200 (on_link_data route (link, distance))
+ShowsTold (told.Diagram diagram) answer = answer ≡ svg_answer (diagram_text diagram)
+ShowsTold (told.Routes routes) answer = answer ≡ json_answer 200 (routes_data routes)
+ShowsTold (told.Totals totals) answer = answer ≡ json_answer 200 (totals_data totals)
+ShowsTold (told.Found rows) answer = answer ≡ json_answer 200 (found_data rows)
 
 -- What is told is shown, or why nothing is told.
 abbrev pub IsReplyTo : Result Told AskFault → Answer → Type 0
-IsReplyTo (Ok t) answer = (d : Data) × ShowsTold t d × (answer ≡ json_answer 200 d)
+IsReplyTo (Ok t) answer = ShowsTold t answer
 IsReplyTo (Err fault) answer = answer ≡ refusal fault
 
 -- What the inventory of this image tells to a question is the reply.

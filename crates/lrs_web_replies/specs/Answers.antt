@@ -1,5 +1,5 @@
 -- Answers to questions, as JSON: an object with its members in the order of their names.
-use Rattle.std.specs.Prelude.{◌≡◌, ℕ, Bool, List, [], ◌∷◌, ◌++◌, codes, if◌then◌else◌, Option, None, Some, map, length}
+use Rattle.std.specs.Prelude.{◌≡◌, ℕ, Bool, List, [], ◌∷◌, ◌++◌, codes, if◌then◌else◌, Option, None, Some, length}
 use Rattle.std.specs.Fmt.{decimal}
 use Rattle.serde_json.specs.Data.{Data, string}
 use Rattle.lrs_measure.specs.Fraction.{Fraction}
@@ -20,6 +20,7 @@ use Rattle.lrs_machine.specs.declared.total.Total.{Total}
 use Rattle.lrs_machine.specs.declared.hit.Hit.{Hit}
 use Rattle.lrs_machine.specs.Lines.{Text, method_text, piece_text}
 use Rattle.lrs_answers.specs.declared.rows.FoundRow.{FoundRow}
+use Rattle.lrs_answers.specs.declared.route_list.RouteLength.{RouteLength}
 use Rattle.lrs_web_replies.specs.Shown.{whole, list, each, with}
 
 -- ---- where a position stands
@@ -108,6 +109,15 @@ total_data t = with (
 
 abbrev pub totals_data : List Total → Data
 totals_data totals = with ((codes "totals", each total_data totals) ∷ [])
+
+-- ---- the routes
+
+-- a route, and how long it is in millimetres
+abbrev pub route_length_data : RouteLength → Data
+route_length_data r = with ((codes "length", whole r.length) ∷ (codes "name", string r.route) ∷ [])
+
+abbrev pub routes_data : List RouteLength → Data
+routes_data routes = with ((codes "routes", each route_length_data routes) ∷ [])
 
 -- ---- where an asset is
 

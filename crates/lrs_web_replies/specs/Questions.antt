@@ -1,6 +1,8 @@
 -- What the parameters of a query ask of an inventory.
-use Rattle.std.specs.Prelude.{◌≡◌, ⊤, ◌⊎◌, IsTrue, Bool, false, List, [], ◌∷◌, codes, Option, None, Some}
+use Rattle.std.specs.Prelude.{◌≡◌, ⊤, ◌⊎◌, ℕ, ◌≤◌, IsTrue, Bool, false, List, [], ◌∷◌, codes, Option, None, Some}
 use Rattle.std.specs.List.{list_all}
+use Rattle.std.specs.Str.Parse.{IsNumeral, digits_value}
+use Rattle.lrs_measure.specs.Limits.{greatest_asset, longest_route}
 use Rattle.lrs_measure.specs.Texts.{Name}
 use Rattle.lrs_position.specs.declared.expression.Expr.{Expr}
 use Rattle.lrs_position.specs.declared.expression.Method.{Method}
@@ -14,7 +16,7 @@ use Rattle.lrs_web_requests.specs.declared.paths.Resource.TheVariants as path
 use Rattle.lrs_machine.specs.declared.question.Destination.{Destination}
 use Rattle.lrs_machine.specs.declared.question.Destination.TheVariants as destination
 use Rattle.lrs_web_replies.specs.declared.question.Parameter.{Parameter}
-use Rattle.lrs_web_replies.specs.declared.question.Parameter.TheVariants.{Route, Method as Way, Position, To, Side as Hand, Class}
+use Rattle.lrs_web_replies.specs.declared.question.Parameter.TheVariants.{Route, Method as Way, Position, To, Side as Hand, Class, ClassesOrAll, From, UpTo, Asset}
 use Rattle.lrs_machine.specs.declared.question.Question.{Question}
 use Rattle.lrs_machine.specs.declared.question.Question.TheVariants as question
 use Rattle.lrs_web_replies.specs.declared.question.QueryFault.{QueryFault}
@@ -38,6 +40,20 @@ SaysSide text side = text ≡ side_text side
 abbrev pub SaysDestination : Text → Destination → Type 0
 SaysDestination text (destination.Method t) = (text ≡ target_text t) × IsNamed t
 SaysDestination text destination.Link = text ≡ codes "link"
+
+-- digits of a number between these bounds
+pub record SaysNumber (least greatest : ℕ) (text : Text) (number : ℕ) : Type 0 where
+  pub digits : IsNumeral 10 text
+  pub value : number ≡ digits_value 10 text
+  pub above : least ≤ number
+  pub below : number ≤ greatest
+
+abbrev pub SaysAsset : Text → ℕ → Type 0
+SaysAsset = SaysNumber 1 greatest_asset
+
+-- whole millimetres along a route
+abbrev pub SaysChainage : Text → ℕ → Type 0
+SaysChainage = SaysNumber 0 longest_route
 
 -- one name at least, and each the name of a class
 abbrev pub are_class_names : List Text → Bool
@@ -75,6 +91,29 @@ GivesSide query = Said SaysSide (parameter (codes "side") query)
 abbrev pub GivesClasses : Text → List Name → Type 0
 GivesClasses query classes = (classes ≡ parameters (codes "class") query) × IsTrue (are_class_names (parameters (codes "class") query))
 
+-- all that are given, in their order; none is given where all classes are meant
+abbrev pub GivesClassesOrAll : Text → List Name → Type 0
+GivesClassesOrAll query classes = (classes ≡ parameters (codes "class") query) × IsTrue (list_all is_class_name (parameters (codes "class") query))
+
+-- the text says the chainage, and where there is no text there is no chainage
+abbrev pub SaidIfGiven : Option Text → Option ℕ → Type 0
+SaidIfGiven None None = ⊤
+SaidIfGiven (Some text) (Some chainage) = SaysChainage text chainage
+SaidIfGiven _ _ = ⊥
+
+-- by the parameter of this name
+abbrev pub GivesChainage : Text → Text → Option ℕ → Type 0
+GivesChainage name query = SaidIfGiven (parameter name query)
+
+abbrev pub GivesFrom : Text → Option ℕ → Type 0
+GivesFrom = GivesChainage (codes "from")
+
+abbrev pub GivesUpTo : Text → Option ℕ → Type 0
+GivesUpTo = GivesChainage (codes "to")
+
+abbrev pub GivesAsset : Text → ℕ → Type 0
+GivesAsset query = Said SaysAsset (parameter (codes "asset") query)
+
 -- ---- what is asked
 
 -- What a resource is asked by this argument: a route by its name, any other by the parameters of its query.
@@ -84,6 +123,10 @@ AsksOf path.Route name (question.Route route) = SaysRoute name route
 AsksOf path.Segments query (question.Segments route side classes) = GivesRoute query route × GivesSide query side × GivesClasses query classes
 AsksOf path.Translate query (question.Translate route e to) = GivesRoute query route × GivesPosition query e × GivesDestination query to
 AsksOf path.Totals query question.Totals = ⊤
+AsksOf path.Diagram query (question.Diagram route classes from to) =
+    GivesRoute query route × GivesClassesOrAll query classes × GivesFrom query from × GivesUpTo query to
+AsksOf path.Routes query question.Routes = ⊤
+AsksOf path.Find query (question.Find asset) = GivesAsset query asset
 AsksOf _ argument q = ⊥
 
 -- ---- what cannot be asked
@@ -93,6 +136,8 @@ abbrev pub parameters_of : Resource → List Parameter
 parameters_of path.At = Route ∷ Way ∷ Position ∷ []
 parameters_of path.Segments = Route ∷ Hand ∷ Class ∷ []
 parameters_of path.Translate = Route ∷ Way ∷ Position ∷ To ∷ []
+parameters_of path.Diagram = Route ∷ ClassesOrAll ∷ From ∷ UpTo ∷ []
+parameters_of path.Find = Asset ∷ []
 parameters_of _ = []
 
 abbrev pub parameter_text : Parameter → Text
@@ -102,8 +147,12 @@ parameter_text Position = codes "pos"
 parameter_text To = codes "to"
 parameter_text Hand = codes "side"
 parameter_text Class = codes "class"
+parameter_text ClassesOrAll = codes "class"
+parameter_text From = codes "from"
+parameter_text UpTo = codes "to"
+parameter_text Asset = codes "asset"
 
--- the parameter is there, and can be read
+-- the parameter is there, or may be left out, and can be read
 abbrev pub IsGiven : Text → Parameter → Type 0
 IsGiven query Route = (route : Name) × GivesRoute query route
 IsGiven query Way = (m : Method) × GivesMethod query m
@@ -111,6 +160,10 @@ IsGiven query Position = (e : Expr) × GivesPosition query e
 IsGiven query To = (to : Destination) × GivesDestination query to
 IsGiven query Hand = (side : Side) × GivesSide query side
 IsGiven query Class = (classes : List Name) × GivesClasses query classes
+IsGiven query ClassesOrAll = (classes : List Name) × GivesClassesOrAll query classes
+IsGiven query From = (from : Option ℕ) × GivesFrom query from
+IsGiven query UpTo = (to : Option ℕ) × GivesUpTo query to
+IsGiven query Asset = (asset : ℕ) × GivesAsset query asset
 
 -- the first of these that is not
 abbrev pub IsFirstMalformed : Text → List Parameter → Parameter → Type 0

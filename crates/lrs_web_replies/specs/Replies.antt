@@ -1,4 +1,4 @@
--- Replies with a body: JSON, and why there is no answer.
+-- Replies with a body: JSON or a picture, and why there is no answer.
 use Rattle.std.specs.Prelude.{ℕ, ◌++◌, Option, None, Some, Result, Ok, Err, codes}
 use Rattle.serde_json.specs.Data.{Data}
 use Rattle.serde_json.specs.Written.{compact_text}
@@ -7,19 +7,28 @@ use Rattle.lrs_answers.specs.declared.fault.AskFault.{AskFault}
 use Rattle.lrs_answers.specs.declared.cause.AskCause.{AskCause}
 use Rattle.lrs_answers.specs.declared.cause.AskCause.TheVariants as cause
 use Rattle.lrs_answers.specs.Causes.{cause_of, cause_text}
-use Rattle.lrs_web_requests.specs.declared.response.ContentType.TheVariants.{Json}
+use Rattle.lrs_web_requests.specs.declared.response.ContentType.{ContentType}
+use Rattle.lrs_web_requests.specs.declared.response.ContentType.TheVariants.{Json, Svg}
 use Rattle.lrs_web_requests.specs.Text.{Answer, empty_answer}
 use Rattle.lrs_web_replies.specs.Answers.{error_data}
 use Rattle.lrs_web_replies.specs.Questions.{parameter_text}
 use Rattle.lrs_web_replies.specs.declared.question.QueryFault.{QueryFault}
 use Rattle.lrs_web_replies.specs.declared.question.QueryFault.TheVariants.{Malformed, NoRoute, Memory}
 
+-- a body with its type
+abbrev pub answer_with : ℕ → ContentType → Text → Answer
+answer_with status kind bytes = record { status = status; content_type = Some kind; allow = None; body = bytes }
+
 -- these bytes are JSON
 abbrev pub json_bytes : ℕ → Text → Answer
-json_bytes status bytes = record { status = status; content_type = Some Json; allow = None; body = bytes }
+json_bytes status = answer_with status Json
 
 abbrev pub json_answer : ℕ → Data → Answer
 json_answer status d = json_bytes status (compact_text d)
+
+-- these bytes are a picture
+abbrev pub svg_answer : Text → Answer
+svg_answer = answer_with 200 Svg
 
 abbrev pub error_answer : ℕ → Text → Answer
 error_answer status cause = json_answer status (error_data cause)

@@ -1,6 +1,6 @@
 -- JSON of few parts: whole numbers, texts, lists, and objects with their members in the order of their names.
 use Rattle.std.specs.Prelude.{ℕ, List, [], ◌∷◌, map}
-use Rattle.serde_json.specs.Data.{Data, number, unsigned, string, array, object, Members, no_members, member}
+use Rattle.serde_json.specs.Data.{Data, number, unsigned, array, object, Members, no_members, member}
 use Rattle.serde_json.specs.View.{items_of}
 use Rattle.lrs_machine.specs.Lines.{Text}
 

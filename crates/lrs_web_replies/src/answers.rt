@@ -5,11 +5,11 @@ ghost use Rattle.std.specs.Str.{IsAscii};
 ghost use Rattle.serde_json.specs.Data.{Data};
 ghost use Rattle.serde_json.specs.View.{view};
 ghost use Rattle.serde_json.specs.Written.{compact_text, has_float};
-ghost use Rattle.lrs_web_replies.specs.Answers.{at_data, ShowsRoute, segments_data, translated_data, on_link_data, totals_data, found_data, error_data};
+ghost use Rattle.lrs_web_replies.specs.Answers.{at_data, ShowsRoute, segments_data, translated_data, on_link_data, routes_data, totals_data, found_data, error_data};
 ghost use Rattle.lrs_machine.specs.Lines.{method_text};
 
 use crate::list::{Shown, list_value};
-use lrs_answers::FoundRow;
+use lrs_answers::{FoundRow, RouteLength};
 use lrs_element::Ground;
 use lrs_events::Side;
 use lrs_machine::{Hit, Segment, Total};
@@ -208,6 +208,25 @@ pub fn totals_json(alloc: Global, totals: &[Total]) -> Result<Vec<u8>, AllocErro
     ensures { IfOk result (λ bytes. bytes.items ≡ compact_text (totals_data totals.now)) }
 {
     let value = totals_value(alloc, totals)?;
+    bytes_of(alloc, &value)
+}
+
+fn routes_value(alloc: Global, routes: &[RouteLength]) -> Result<Value, AllocError>
+    ensures { IfOk result (λ value. view value ≡ routes_data routes.now) }
+{
+    let routes = list_value(alloc, routes)?;
+    json!(in alloc; {"routes": routes})
+}
+
+/// The routes, and how long each is.
+///
+/// # Errors
+/// When memory runs out.
+#[tactic(auto, using(crate::proofs::Whole::routes_whole))]
+pub fn routes_json(alloc: Global, routes: &[RouteLength]) -> Result<Vec<u8>, AllocError>
+    ensures { IfOk result (λ bytes. bytes.items ≡ compact_text (routes_data routes.now)) }
+{
+    let value = routes_value(alloc, routes)?;
     bytes_of(alloc, &value)
 }
 

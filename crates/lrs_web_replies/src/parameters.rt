@@ -1,15 +1,18 @@
 //! The parameters of a query, each read by the reader of its text.
 
-ghost use Rattle.std.specs.Prelude.{◌≡◌, ◌⊎◌, IfOk, IfErr, IfSome, IfNone, IsTrue, map};
+ghost use Rattle.std.specs.Prelude.{◌≡◌, ◌⊎◌, ℕ, Option, IfOk, IfErr, IfSome, IfNone, IsTrue, map};
+ghost use Rattle.std.specs.List.{list_all};
 ghost use Rattle.std.specs.Cow.{cow_str_bytes};
+ghost use Rattle.lrs_events.specs.Names.{is_class_name};
 ghost use Rattle.lrs_position.specs.declared.expression.Expr.{Expr as Expression};
-ghost use Rattle.lrs_web_replies.specs.Questions.{SaysDestination, GivesClasses, GivesDestination, GivesMethod, GivesPosition, GivesPositionBy, GivesRoute, GivesSide, are_class_names};
+ghost use Rattle.lrs_web_replies.specs.Questions.{SaysDestination, SaysNumber, GivesAsset, GivesChainage, GivesClasses, GivesClassesOrAll, GivesDestination, GivesFrom, GivesMethod, GivesPosition, GivesPositionBy, GivesRoute, GivesSide, GivesUpTo};
 ghost use Rattle.lrs_web_replies.specs.Faults.{Lacks, LacksPosition};
 
 use crate::question::{Parameter, QueryFault};
 use lrs_events::{ClassName, Side, read_side};
 use lrs_machine::Destination;
-use lrs_measure::Rows;
+use lrs_measure::limits::{GREATEST_ASSET, LONGEST_ROUTE};
+use lrs_measure::{Rows, read_digits};
 use lrs_position::{Expr, Method, RouteName, read_expr, read_method, read_target};
 use lrs_web_requests::{value_of, values_of};
 use std::alloc::Global;
@@ -26,6 +29,14 @@ const NO_DESTINATION: QueryFault = QueryFault::Malformed(Parameter::To);
 const NO_SIDE: QueryFault = QueryFault::Malformed(Parameter::Side);
 
 const NO_CLASS: QueryFault = QueryFault::Malformed(Parameter::Class);
+
+const NO_CLASSES: QueryFault = QueryFault::Malformed(Parameter::ClassesOrAll);
+
+const NO_FROM: QueryFault = QueryFault::Malformed(Parameter::From);
+
+const NO_UP_TO: QueryFault = QueryFault::Malformed(Parameter::UpTo);
+
+const NO_ASSET: QueryFault = QueryFault::Malformed(Parameter::Asset);
 
 pub(crate) fn route_in(alloc: Global, query: &[u8]) -> Result<RouteName, QueryFault>
     ensures read { IfOk result (GivesRoute query.now) }
@@ -116,22 +127,23 @@ pub(crate) fn side_in(alloc: Global, query: &[u8]) -> Result<Side, QueryFault>
     }
 }
 
-/// The classes that these texts name.
-fn class_names(alloc: Global, texts: &[CowStr<'_>]) -> Result<Rows<ClassName>, QueryFault>
+/// The classes that these texts name, or the fault where one of them names none.
+fn class_names(
+    alloc: Global,
+    texts: &[CowStr<'_>],
+    fault: QueryFault,
+) -> Result<Rows<ClassName>, QueryFault>
     ensures read { IfOk result (λ names. (names ≡ map cow_str_bytes texts.now)
-        × IsTrue (are_class_names (map cow_str_bytes texts.now))) }
+        × IsTrue (list_all is_class_name (map cow_str_bytes texts.now))) }
     ensures unread { IfErr result (λ e. (e ≡ QueryFault.Memory)
-        ⊎ ((e ≡ QueryFault.Malformed Parameter.Class)
-        × (IsTrue (are_class_names (map cow_str_bytes texts.now)) → ⊥))) }
+        ⊎ ((e ≡ fault)
+        × (IsTrue (list_all is_class_name (map cow_str_bytes texts.now)) → ⊥))) }
 {
-    if texts.is_empty() {
-        return Err(NO_CLASS);
-    }
     let mut names = Vec::new(alloc);
     for text in texts {
         match ClassName::new(text.as_str().as_bytes()) {
             Some(name) => names.push(name)?,
-            None => return Err(NO_CLASS),
+            None => return Err(fault),
         }
     }
     Ok(Rows::from_vec(names))
@@ -142,5 +154,75 @@ pub(crate) fn classes_in(alloc: Global, query: &[u8]) -> Result<Rows<ClassName>,
     ensures unread { IfErr result (Lacks Parameter.Class query.now) }
 {
     let texts = values_of(alloc, query, "class")?;
-    class_names(alloc, texts.as_slice())
+    if texts.is_empty() {
+        return Err(NO_CLASS);
+    }
+    class_names(alloc, texts.as_slice(), NO_CLASS)
+}
+
+pub(crate) fn classes_or_all_in(alloc: Global, query: &[u8]) -> Result<Rows<ClassName>, QueryFault>
+    ensures read { IfOk result (GivesClassesOrAll query.now) }
+    ensures unread { IfErr result (Lacks Parameter.ClassesOrAll query.now) }
+{
+    let texts = values_of(alloc, query, "class")?;
+    class_names(alloc, texts.as_slice(), NO_CLASSES)
+}
+
+/// The number of at least `least` and at most `greatest` that a text says.
+fn read_number(text: &str, least: u64, greatest: u64) -> Option<u64>
+    ensures read { IfSome result (SaysNumber least greatest text.now) }
+    ensures unread { IfNone result ((number : ℕ) → SaysNumber least greatest text.now number → ⊥) }
+{
+    match read_digits(text.as_bytes(), greatest) {
+        Some(number) if number >= least => Some(number),
+        _ => None,
+    }
+}
+
+pub(crate) fn asset_in(alloc: Global, query: &[u8]) -> Result<u64, QueryFault>
+    ensures read { IfOk result (GivesAsset query.now) }
+    ensures unread { IfErr result (Lacks Parameter.Asset query.now) }
+{
+    match value_of(alloc, query, "asset")? {
+        Some(text) => match read_number(text.as_str(), 1, GREATEST_ASSET) {
+            Some(asset) => Ok(asset),
+            None => Err(NO_ASSET),
+        },
+        None => Err(NO_ASSET),
+    }
+}
+
+/// The chainage that a parameter says, if it is given; the fault where it says none.
+fn chainage_in(
+    alloc: Global,
+    query: &[u8],
+    name: &str,
+    fault: QueryFault,
+) -> Result<Option<u64>, QueryFault>
+    ensures read { IfOk result (GivesChainage name.now query.now) }
+    ensures unread { IfErr result (λ e. (e ≡ QueryFault.Memory)
+        ⊎ ((e ≡ fault)
+        × ((chainage : Option ℕ) → GivesChainage name.now query.now chainage → ⊥))) }
+{
+    match value_of(alloc, query, name)? {
+        Some(text) => match read_number(text.as_str(), 0, LONGEST_ROUTE) {
+            Some(chainage) => Ok(Some(chainage)),
+            None => Err(fault),
+        },
+        None => Ok(None),
+    }
+}
+
+pub(crate) fn from_in(alloc: Global, query: &[u8]) -> Result<Option<u64>, QueryFault>
+    ensures read { IfOk result (GivesFrom query.now) }
+    ensures unread { IfErr result (Lacks Parameter.From query.now) }
+{
+    chainage_in(alloc, query, "from", NO_FROM)
+}
+
+pub(crate) fn to_in(alloc: Global, query: &[u8]) -> Result<Option<u64>, QueryFault>
+    ensures read { IfOk result (GivesUpTo query.now) }
+    ensures unread { IfErr result (Lacks Parameter.UpTo query.now) }
+{
+    chainage_in(alloc, query, "to", NO_UP_TO)
 }

@@ -6,7 +6,7 @@ ghost use Rattle.serde_json.specs.View.{view};
 
 use crate::answers::name_of;
 use crate::list::{Shown, list_value};
-use lrs_answers::FoundRow;
+use lrs_answers::{FoundRow, RouteLength};
 use lrs_element::{Mark, Piece};
 use lrs_events::Value as AssetValue;
 use lrs_machine::{Hit, Segment, Total, piece_text};
@@ -99,6 +99,17 @@ impl Shown for Total {
         let class = self.class;
         let class = format!(in alloc; "{class}")?;
         json!(in alloc; {"abandoned": self.abandoned, "class": class, "entered": self.entered, "present": self.present, "retired": self.retired})
+    }
+}
+
+impl Shown for RouteLength {
+    ghost use Rattle.lrs_web_replies.specs.Answers.{route_length_data};
+
+    ghost shown = { route_length_data };
+
+    fn value(&self, alloc: Global) -> Result<Value, AllocError> {
+        let name = name_of(&self.route);
+        json!(in alloc; {"length": self.length, "name": name})
     }
 }
 

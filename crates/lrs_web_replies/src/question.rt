@@ -5,7 +5,10 @@ ghost use Rattle.lrs_web_requests.specs.declared.response.Verb.TheVariants as ve
 ghost use Rattle.lrs_web_requests.specs.Request.{verb_of};
 ghost use Rattle.lrs_web_replies.specs.Questions.{AsksOf, CannotAsk, parameter_text};
 
-use crate::parameters::{classes_in, destination_in, position_in, route_in, side_in};
+use crate::parameters::{
+    asset_in, classes_in, classes_or_all_in, destination_in, from_in, position_in, route_in,
+    side_in, to_in,
+};
 use lrs_machine::Question;
 use lrs_position::RouteName;
 use lrs_web_requests::Resource;
@@ -17,9 +20,17 @@ pub enum Parameter {
     Route,
     Method,
     Position,
+    /// The destination of a translation.
     To,
     Side,
     Class,
+    /// The classes of a diagram, which may be left out for all. Its name is `class`, too.
+    ClassesOrAll,
+    /// Where a diagram begins.
+    From,
+    /// Where a diagram ends. Its name is `to`, as that of `To`.
+    UpTo,
+    Asset,
 }
 
 impl Parameter {
@@ -31,9 +42,11 @@ impl Parameter {
             Parameter::Route => "route",
             Parameter::Method => "method",
             Parameter::Position => "pos",
-            Parameter::To => "to",
+            Parameter::To | Parameter::UpTo => "to",
             Parameter::Side => "side",
-            Parameter::Class => "class",
+            Parameter::Class | Parameter::ClassesOrAll => "class",
+            Parameter::From => "from",
+            Parameter::Asset => "asset",
         }
     }
 }
@@ -119,6 +132,32 @@ fn translate_question(alloc: Global, query: &[u8]) -> Result<Question, QueryFaul
     })
 }
 
+#[tactic(auto, using(crate::proofs::FirstFaults::diagram_route, crate::proofs::FirstFaults::diagram_classes, crate::proofs::FirstFaults::diagram_from, crate::proofs::FirstFaults::diagram_to))]
+fn diagram_question(alloc: Global, query: &[u8]) -> Result<Question, QueryFault>
+    ensures asked { IfOk result (AsksOf Resource.Diagram query.now) }
+    ensures unasked { IfErr result (CannotAsk Resource.Diagram query.now) }
+{
+    let route = route_in(alloc, query)?;
+    let classes = classes_or_all_in(alloc, query)?;
+    let from = from_in(alloc, query)?;
+    let to = to_in(alloc, query)?;
+    Ok(Question::Diagram {
+        route,
+        classes,
+        from,
+        to,
+    })
+}
+
+#[tactic(auto, using(crate::proofs::FirstFaults::find_asset))]
+fn find_question(alloc: Global, query: &[u8]) -> Result<Question, QueryFault>
+    ensures asked { IfOk result (AsksOf Resource.Find query.now) }
+    ensures unasked { IfErr result (CannotAsk Resource.Find query.now) }
+{
+    let asset = asset_in(alloc, query)?;
+    Ok(Question::Find { asset })
+}
+
 /// What a resource is asked: a route by its name, any other by the parameters of a query. Unknown parameters are passed
 /// over; of several of one name the first counts, but of classes all do.
 ///
@@ -140,6 +179,9 @@ pub fn question_of(
         Resource::Segments => segments_question(alloc, argument),
         Resource::Translate => translate_question(alloc, argument),
         Resource::Totals => Ok(Question::Totals),
+        Resource::Diagram => diagram_question(alloc, argument),
+        Resource::Routes => Ok(Question::Routes),
+        Resource::Find => find_question(alloc, argument),
         Resource::Edits | Resource::Surveys => unreachable!(),
     }
 }

@@ -1,56 +1,72 @@
 //! Replies to questions.
 
-ghost use Rattle.std.specs.Prelude.{◌≡◌, IfOk, Ok};
-ghost use Rattle.serde_json.specs.Data.{Data};
-ghost use Rattle.serde_json.specs.Written.{compact_text};
+ghost use Rattle.std.specs.Prelude.{◌≡◌, IfOk};
+ghost use Rattle.lrs_diagram.specs.Drawing.{diagram_text};
 ghost use Rattle.lrs_web_requests.specs.Text.{answer_of};
 ghost use Rattle.lrs_web_replies.specs.Answered.{IsReplyTo, ShowsTold};
+ghost use Rattle.lrs_web_replies.specs.Replies.{json_bytes};
 
 use crate::answers::{
-    at_json, found_json, link_json, route_json, segments_json, totals_json, translated_json,
+    at_json, found_json, link_json, route_json, routes_json, segments_json, totals_json,
+    translated_json,
 };
-use crate::reply::{json_reply, refusal};
+use crate::reply::{json_reply, refusal, svg_reply};
 use http::StatusCode;
 use lrs_answers::{AskFault, Told};
+use lrs_diagram::{Diagram, write_diagram};
 use lrs_web_requests::Response;
 use std::alloc::{AllocError, Global};
 
-/// What is told to a question, as JSON.
-fn told_json(alloc: Global, told: &Told) -> Result<Vec<u8>, AllocError>
-    ensures { IfOk result (λ bytes. (json : Data) × ShowsTold told.now json
-        × (bytes.items ≡ compact_text json)) }
+// A vector takes every byte that it is given, unless memory runs out.
+fn diagram_bytes(alloc: Global, diagram: &Diagram) -> Result<Vec<u8>, AllocError>
+    ensures { IfOk result (λ bytes. bytes.items ≡ diagram_text diagram.now) }
+{
+    let mut bytes = Vec::new(alloc);
+    match write_diagram(&mut bytes, diagram) {
+        Ok(()) => Ok(bytes),
+        Err(_) => Err(AllocError),
+    }
+}
+
+/// The reply with an answer that was found, as these bytes of JSON.
+fn found_reply(bytes: Vec<u8>) -> Response
+    ensures { answer_of result ≡ json_bytes 200 bytes.items }
+{
+    json_reply(StatusCode::OK, bytes)
+}
+
+/// The reply to what is told to a question: a diagram as SVG, and any other answer as JSON.
+fn told_reply(alloc: Global, told: &Told) -> Result<Response, AllocError>
+    ensures { IfOk result (λ reply. ShowsTold told.now (answer_of reply)) }
 {
     match told {
         Told::At { route, found } => {
-            at_json(alloc, route, found.at, found.ground, found.hits.as_slice())
+            let hits = found.hits.as_slice();
+            Ok(found_reply(at_json(alloc, route, found.at, found.ground, hits)?))
         }
-        Told::Route(route) => route_json(alloc, route),
+        Told::Route(route) => Ok(found_reply(route_json(alloc, route)?)),
         Told::Segments {
             route,
             side,
             segments,
             ..
-        } => segments_json(alloc, route, *side, segments.as_slice()),
-        Told::Translated { route, position } => translated_json(alloc, route, *position),
+        } => Ok(found_reply(segments_json(alloc, route, *side, segments.as_slice())?)),
+        Told::Translated { route, position } => {
+            Ok(found_reply(translated_json(alloc, route, *position)?))
+        }
         Told::OnLink {
             route,
             link,
             distance,
-        } => link_json(alloc, route, *link, *distance),
-        Told::Totals(totals) => totals_json(alloc, totals.as_slice()),
-        Told::Found(rows) => found_json(alloc, rows.as_slice()),
+        } => Ok(found_reply(link_json(alloc, route, *link, *distance)?)),
+        Told::Diagram(diagram) => Ok(svg_reply(diagram_bytes(alloc, diagram)?)),
+        Told::Routes(routes) => Ok(found_reply(routes_json(alloc, routes.as_slice())?)),
+        Told::Totals(totals) => Ok(found_reply(totals_json(alloc, totals.as_slice())?)),
+        Told::Found(rows) => Ok(found_reply(found_json(alloc, rows.as_slice())?)),
     }
 }
 
-#[tactic(auto, using(crate::proofs::Asked::reply_shown))]
-fn told_reply(alloc: Global, told: &Told) -> Result<Response, AllocError>
-    ensures { IfOk result (λ reply. IsReplyTo (Ok told.now) (answer_of reply)) }
-{
-    let bytes = told_json(alloc, told)?;
-    Ok(json_reply(StatusCode::OK, bytes))
-}
-
-/// The reply to what is told to a question: its answer as JSON, or why it is refused.
+/// The reply to what is told to a question: its answer, or why it is refused.
 ///
 /// # Errors
 /// When memory runs out; the reply may be the empty 503 then, too.

@@ -1,4 +1,4 @@
-//! Replies that are JSON.
+//! Replies that are JSON, or a picture.
 
 ghost use Rattle.std.specs.Prelude.{◌≡◌, IfOk};
 ghost use Rattle.lrs_web_requests.specs.Text.{answer_of};
@@ -11,19 +11,28 @@ use lrs_answers::{AskCause, AskFault, cause_of};
 use lrs_web_requests::{Content, ContentType, Response};
 use std::alloc::{AllocError, Global};
 
+fn reply_with(status: StatusCode, kind: ContentType, bytes: Vec<u8>) -> Response
+    ensures { answer_of result ≡ spec.answer_with status kind bytes.items }
+{
+    Response {
+        status,
+        allow: None,
+        content: Some(Content { kind, bytes }),
+    }
+}
+
 /// A reply with these bytes of JSON.
 pub(crate) fn json_reply(status: StatusCode, bytes: Vec<u8>) -> Response
     ensures { answer_of result ≡ spec.json_bytes status bytes.items }
 {
-    let content = Content {
-        kind: ContentType::Json,
-        bytes,
-    };
-    Response {
-        status,
-        allow: None,
-        content: Some(content),
-    }
+    reply_with(status, ContentType::Json, bytes)
+}
+
+/// A reply with a picture, as these bytes of SVG.
+pub(crate) fn svg_reply(bytes: Vec<u8>) -> Response
+    ensures { answer_of result ≡ spec.svg_answer bytes.items }
+{
+    reply_with(StatusCode::OK, ContentType::Svg, bytes)
 }
 
 /// A reply that names why there is no answer.

@@ -2,7 +2,7 @@
 use Rattle.std.specs.Prelude.{ℕ, List, [], ◌∷◌, ◌++◌, length, Option, Some, None, option_map, unwrap_or, codes, decimal}
 use Rattle.http.specs.StatusCode.{code_digits, reason_phrase}
 use Rattle.lrs_web_requests.specs.declared.response.ContentType.{ContentType}
-use Rattle.lrs_web_requests.specs.declared.response.ContentType.TheVariants.{Json, Csv}
+use Rattle.lrs_web_requests.specs.declared.response.ContentType.TheVariants.{Json, Csv, Svg}
 use Rattle.lrs_web_requests.specs.declared.response.Verb.{Verb}
 use Rattle.lrs_web_requests.specs.declared.response.Verb.TheVariants.{Get, Post}
 use Rattle.lrs_web_requests.specs.declared.response.Content.{Content}
@@ -25,6 +25,7 @@ crlf = 13 ∷ 10 ∷ []
 abbrev pub media_type : ContentType → List ℕ
 media_type Json = codes "application/json"
 media_type Csv = codes "text/csv"
+media_type Svg = codes "image/svg+xml"
 
 abbrev pub method_name : Verb → List ℕ
 method_name Get = codes "GET"

@@ -14,6 +14,9 @@ pub enum Resource {
     Segments,
     Totals,
     Translate,
+    Diagram,
+    Routes,
+    Find,
     Edits,
     Surveys,
 }
@@ -28,6 +31,9 @@ pub fn routes(alloc: Global) -> Result<Router<Resource>, InsertError>
     router.insert("/v1/segments", Resource::Segments)?;
     router.insert("/v1/totals", Resource::Totals)?;
     router.insert("/v1/translate", Resource::Translate)?;
+    router.insert("/v1/diagram", Resource::Diagram)?;
+    router.insert("/v1/routes", Resource::Routes)?;
+    router.insert("/v1/find", Resource::Find)?;
     router.insert("/v1/edits", Resource::Edits)?;
     router.insert("/v1/surveys", Resource::Surveys)?;
     Ok(router)

@@ -47,7 +47,10 @@ fn verb_for(resource: Resource) -> Verb
         | Resource::Route
         | Resource::Segments
         | Resource::Totals
-        | Resource::Translate => Verb::Get,
+        | Resource::Translate
+        | Resource::Diagram
+        | Resource::Routes
+        | Resource::Find => Verb::Get,
         Resource::Edits | Resource::Surveys => Verb::Post,
     }
 }
@@ -85,6 +88,9 @@ fn argument(resource: Resource, target: &str) -> &[u8]
         | Resource::Segments
         | Resource::Totals
         | Resource::Translate
+        | Resource::Diagram
+        | Resource::Routes
+        | Resource::Find
         | Resource::Edits
         | Resource::Surveys => query.as_bytes(),
     }

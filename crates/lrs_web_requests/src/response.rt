@@ -15,6 +15,7 @@ use std::io::{self, Write};
 pub enum ContentType {
     Json,
     Csv,
+    Svg,
 }
 
 impl ContentType {
@@ -24,6 +25,7 @@ impl ContentType {
         match self {
             ContentType::Json => "application/json",
             ContentType::Csv => "text/csv",
+            ContentType::Svg => "image/svg+xml",
         }
     }
 }
