@@ -121,9 +121,10 @@ all_given : (rs : List Rule) (rows : List Row) → Filled rows → list_any (λ 
 all_given [] rows f none e = tt
 all_given (r ∷ rs) rows f none e =
     let b = list_any (λ r. not (is_given r.id rows)) rs in
-    let lacking = list_any (λ r. lacks r.id) rs in
-    (given_first r.id rows (first_false (lacks r.id) lacking none) f (given_of (is_given r.id rows) b e),
-    all_given rs rows f (second_false (lacks r.id) lacking none) (others_of (is_given r.id rows) b e))
+    let lacking = list_any (λ r. lacks r.id) rs in (
+      given_first r.id rows (first_false (lacks r.id) lacking none) f (given_of (is_given r.id rows) b e),
+      all_given rs rows f (second_false (lacks r.id) lacking none) (others_of (is_given r.id rows) b e),
+    )
 
 -- no word that a job needs may lack its value
 none_lack : (j : JobName) → list_any (λ r. lacks r.id) (rules_of j) ≡ false

@@ -193,8 +193,8 @@ fn asset_of(text: &str) -> Result<u64, QuestionFault>
 
 /// The chainage at an end of a diagram, where one was given.
 fn end_of(text: Option<&str>, fault: BadWord) -> Result<Option<u64>, QuestionFault>
-    ensures read { IfOk result (SaysEnd (option_map (λ t. t.now) text)) }
-    ensures unread { IfErr result (CannotEnd fault (option_map (λ t. t.now) text)) }
+    ensures read { IfOk result (SaysEnd (option_map (λ t. t.now) text.entry)) }
+    ensures unread { IfErr result (CannotEnd fault (option_map (λ t. t.now) text.entry)) }
 {
     match text {
         Some(text) => Ok(Some(number_of(text, 0, LONGEST_ROUTE, fault)?)),
@@ -210,9 +210,9 @@ fn diagram_of(
     to: Option<&str>,
 ) -> Result<Question, QuestionFault>
     ensures read { IfOk result (AsksDiagram route.now (map (λ t. t.now) classes.now)
-        (option_map (λ t. t.now) from) (option_map (λ t. t.now) to)) }
+        (option_map (λ t. t.now) from.entry) (option_map (λ t. t.now) to.entry)) }
     ensures unread { IfErr result (CannotDiagram route.now (map (λ t. t.now) classes.now)
-        (option_map (λ t. t.now) from) (option_map (λ t. t.now) to)) }
+        (option_map (λ t. t.now) from.entry) (option_map (λ t. t.now) to.entry)) }
 {
     let route = route_of(route)?;
     let classes = classes_of(alloc, classes)?;
