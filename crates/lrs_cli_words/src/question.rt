@@ -2,7 +2,7 @@
 
 ghost use Rattle.std.specs.Prelude.{◌≡◌, ◌⊎◌, IfOk, IfErr, IfNone, IfSome, map, option_map};
 ghost use Rattle.lrs_position.specs.Readings.{States};
-ghost use Rattle.lrs_cli_words.specs.Questions.{Asks, AsksDiagram, AsksNothing, Cannot, CannotClass, CannotDiagram, CannotEnd, CannotPosition, CannotServe, IsFaultOf, SaysAsset, SaysClass, SaysDestination, SaysEnd, SaysMethod, SaysMost, SaysNumber, SaysPort, SaysPosition, SaysRoute, SaysService, SaysSide};
+ghost use Rattle.lrs_cli_words.specs.Questions.{Asks, AsksAt, AsksDiagram, AsksNothing, AsksStrip, AsksTranslate, Cannot, CannotAt, CannotClass, CannotDiagram, CannotEnd, CannotPosition, CannotServe, CannotStrip, CannotTranslate, IsFaultOf, SaysAsset, SaysClass, SaysDestination, SaysEnd, SaysMethod, SaysMost, SaysNumber, SaysPort, SaysPosition, SaysRoute, SaysService, SaysSide};
 
 use crate::job::Job;
 use lrs_events::{ClassName, Side, read_side};
@@ -202,6 +202,54 @@ fn end_of(text: Option<&str>, fault: BadWord) -> Result<Option<u64>, QuestionFau
     }
 }
 
+fn at_of(route: &str, method: &str, position: &str) -> Result<Question, QuestionFault>
+    ensures read { IfOk result (AsksAt route.now method.now position.now) }
+    ensures unread { IfErr result (CannotAt route.now method.now position.now) }
+{
+    let route = route_of(route)?;
+    let position = position_of(method, position)?;
+    Ok(Question::At { route, position })
+}
+
+fn translate_of(
+    route: &str,
+    method: &str,
+    position: &str,
+    to: &str,
+) -> Result<Question, QuestionFault>
+    ensures read { IfOk result (AsksTranslate route.now method.now position.now to.now) }
+    ensures unread { IfErr result (CannotTranslate route.now method.now position.now to.now) }
+{
+    let route = route_of(route)?;
+    let position = position_of(method, position)?;
+    let to = destination_of(to)?;
+    Ok(Question::Translate {
+        route,
+        position,
+        to,
+    })
+}
+
+fn strip_of(
+    alloc: Global,
+    route: &str,
+    side: &str,
+    classes: &[&str],
+) -> Result<Question, QuestionFault>
+    ensures read { IfOk result (AsksStrip route.now side.now (map (λ t. t.now) classes.now)) }
+    ensures unread { IfErr result (CannotStrip route.now side.now
+        (map (λ t. t.now) classes.now)) }
+{
+    let route = route_of(route)?;
+    let side = side_of(side)?;
+    let classes = classes_of(alloc, classes)?;
+    Ok(Question::Segments {
+        route,
+        side,
+        classes,
+    })
+}
+
 fn diagram_of(
     alloc: Global,
     route: &str,
@@ -264,60 +312,40 @@ pub fn question_of(alloc: Global, job: &Job<'_>) -> Result<Option<Question>, Que
     ensures read { IfOk result (λ asked. IfSome asked (Asks job.now)) }
     ensures unread { IfErr result (IsFaultOf job.now) }
 {
-    match job {
-        Job::Edit { .. } | Job::Survey { .. } | Job::Serve { .. } | Job::Page { .. } => Ok(None),
+    let question = match job {
+        Job::Edit { .. } | Job::Survey { .. } | Job::Serve { .. } | Job::Page { .. } => {
+            return Ok(None);
+        }
         Job::At {
             route,
             method,
             position,
             ..
-        } => {
-            let route = route_of(route)?;
-            let position = position_of(method, position)?;
-            Ok(Some(Question::At { route, position }))
-        }
+        } => at_of(route, method, position)?,
         Job::Translate {
             route,
             method,
             position,
             to,
             ..
-        } => {
-            let route = route_of(route)?;
-            let position = position_of(method, position)?;
-            let to = destination_of(to)?;
-            Ok(Some(Question::Translate {
-                route,
-                position,
-                to,
-            }))
-        }
+        } => translate_of(route, method, position, to)?,
         Job::Strip {
             route,
             side,
             classes,
             ..
-        } => {
-            let route = route_of(route)?;
-            let side = side_of(side)?;
-            let classes = classes_of(alloc, classes.as_slice())?;
-            Ok(Some(Question::Segments {
-                route,
-                side,
-                classes,
-            }))
-        }
+        } => strip_of(alloc, route, side, classes.as_slice())?,
         Job::Diagram {
             route,
             classes,
             from,
             to,
             ..
-        } => Ok(Some(diagram_of(alloc, route, classes.as_slice(), *from, *to)?)),
-        Job::Totals { .. } => Ok(Some(Question::Totals)),
-        Job::Find { asset, .. } => {
-            let asset = asset_of(asset)?;
-            Ok(Some(Question::Find { asset }))
-        }
-    }
+        } => diagram_of(alloc, route, classes.as_slice(), *from, *to)?,
+        Job::Totals { .. } => Question::Totals,
+        Job::Find { asset, .. } => Question::Find {
+            asset: asset_of(asset)?,
+        },
+    };
+    Ok(Some(question))
 }
