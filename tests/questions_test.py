@@ -9,6 +9,7 @@ QUESTIONS = {
     "at": ["A1", "abs", "3000"],
     "translate": ["A1", "int", "1/3", "abs"],
     "strip": ["A1", "R", "SPEED"],
+    "diagram": ["A1"],
     "totals": [],
     "find": ["10"],
 }
@@ -19,6 +20,7 @@ EXAMPLES = {
     "at": "at roads.db A1 abs 3000",
     "translate": "translate roads.db A1 int 1/3 abs",
     "strip": "strip roads.db A1 R SPEED WIDTH",
+    "diagram": "diagram roads.db A1 SPEED > a1.svg",
     "totals": "totals roads.db",
     "find": "find roads.db 10",
 }
@@ -57,7 +59,7 @@ def test_an_inventory_that_cannot_be_opened():
 
 def test_routes_that_cannot_be_read():
     for text in ["", "a1", "A_1", "A 1", "A1\n", "ABCDEFGHIJKLM", "\u00c4", "A1,"]:
-        for name in ["at", "translate", "strip"]:
+        for name in ["at", "translate", "strip", "diagram"]:
             is_unreadable(name, [text, *QUESTIONS[name][1:]], "ROUTE is no route name")
     for text in ["A", "0-9", "ABCDEFGHIJKL", "A-"]:
         refuses(ask("at", text, "abs", "0"), "NoRoute")
@@ -98,6 +100,7 @@ def test_classes_that_cannot_be_read():
     for text in ["", "speed", "SPEED-1", "ABCDEFGHI", "SPEED,WIDTH", "A B"]:
         for classes in [[text], ["SPEED", text], [text, "SPEED"], ["SPEED"] * 40 + [text]]:
             is_unreadable("strip", ["A1", "R", *classes], "CLASS is no class name")
+            is_unreadable("diagram", ["A1", *classes], "CLASS is no class name")
     refuses(ask("strip", "A1", "R", *["ABCDEFGH"] * 1_000), "NoRoute")
 
 
@@ -119,7 +122,7 @@ def test_the_first_word_that_cannot_be_read_is_named():
 def test_words_that_are_too_few_or_too_many():
     for name, words in QUESTIONS.items():
         too_few = [[name], [name, ":memory:", *words][:-1]]
-        too_many = [] if name == "strip" else [[name, ":memory:", *words, "more"]]
+        too_many = [] if name in ["strip", "diagram"] else [[name, ":memory:", *words, "more"]]
         for given in too_few + too_many:
             ended = run(*given)
             assert (ended.stdout, ended.status) == (b"", 2) and b"Usage: roadlrs " in ended.stderr, (given, ended)
@@ -131,12 +134,13 @@ def test_each_command_shows_an_example_that_is_understood():
             ended = run(*words)
             assert (ended.stderr, ended.status) == (b"", 0), ended
             assert f"Example: roadlrs {example}\n".encode() in ended.stdout, ended
-        assert run(*example.replace("roads.db", ":memory:").split()).status in (0, 1, 3), example
+        words = example.partition(" > ")[0].replace("roads.db", ":memory:").split()
+        assert run(*words).status in (0, 1, 3), example
 
 
 def test_help_names_each_command():
     said = run("--help").stdout.decode()
-    assert re.findall(r"^  (\w+)  ", said, re.M) == [*EXAMPLES, "serve", "help"], said
+    assert re.findall(r"^  (\w+)  ", said, re.M) == [*EXAMPLES, "serve", "page", "help"], said
 
 
 def test_the_version_names_the_kit_that_proved_it():

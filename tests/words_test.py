@@ -7,7 +7,7 @@ import threading
 
 import pytest
 
-from program import BUILT, FIRST, FIRST_REPLIES, PROGRAM, ends, faults, run
+from program import BUILT, FIRST, FIRST_REPLIES, PROGRAM, TOP, ends, faults, run
 
 
 def is_misused(ended):
@@ -155,8 +155,10 @@ NO_SUMS = [
     ["at", ":memory:", "A1", "abs", "3000", "--sums"],
     ["translate", "--sums", ":memory:", "A1", "abs", "3000", "int"],
     ["strip", "--sums", ":memory:", "A1", "R", "SPEED"],
+    ["diagram", "--sums", ":memory:", "A1"],
     ["totals", "--sums", ":memory:"],
     ["find", "--sums", ":memory:", "10"],
+    ["page", "--sums", "www"],
 ]
 
 
@@ -165,8 +167,11 @@ def test_sums_that_are_not_understood(words):
     is_misused(run(*words, given=FIRST))
 
 
+NAMES_OF_JOBS = ["edit", "survey", "serve", "at", "translate", "strip", "diagram", "totals", "find", "page"]
+
+
 def test_help_names_sums_where_a_file_may_be_new():
-    said = {name: run(name, "--help").stdout for name in ["edit", "survey", "serve", "at", "translate", "strip", "totals", "find"]}
+    said = {name: run(name, "--help").stdout for name in NAMES_OF_JOBS}
     line = b"      --sums  Gives a new file sums of its pages, so that damage is found\n"
     assert [name for name, text in said.items() if line in text] == ["edit", "survey", "serve"], said
     assert b"--sums" not in b"".join(text.replace(line, b"") for text in said.values()), said
@@ -190,3 +195,143 @@ def test_usage_says_roadlrs_whatever_the_file_is_called():
             for words, stream in [(["edit"], "stderr"), (["edit", "--help"], "stdout")]:
                 said = getattr(run(*words, executable=program), stream)
                 assert b"Usage: roadlrs edit <DB> <SHEET>\n" in said, said
+
+
+# ---- diagrams
+
+
+VIEWS = [
+    [],
+    ["SPEED"],
+    ["SPEED", "WIDTH", "SIGN"],
+    ["--from", "0"],
+    ["--to", "10000000000"],
+    ["--from=5", "--to=9"],
+    ["--to", "9", "--from", "5"],
+    ["--from", "0005", "SPEED"],
+    ["SPEED", "--to", "9"],
+    ["SPEED", "--from", "5", "WIDTH", "--to=9", "SIGN"],
+    ["--from", "5", "--", "SPEED"],
+]
+
+
+@pytest.mark.parametrize("view", VIEWS, ids=" ".join)
+def test_a_diagram_of_a_route_that_is_not_there(view):
+    ends(run("diagram", ":memory:", "A1", *view), b"", 1, b"roadlrs: NoRoute\n")
+
+
+@pytest.mark.parametrize("words", [["--from", "5", ":memory:", "A1"], [":memory:", "--from", "5", "A1", "SPEED"], [":memory:", "--to=5", "A1"]])
+def test_the_ends_of_a_diagram_stand_anywhere(words):
+    ends(run("diagram", *words), b"", 1, b"roadlrs: NoRoute\n")
+
+
+NO_CHAINAGES = ["x", "+5", "1.0", " 5", "5 ", "1/3", "10000000001", "9" * 30, "\uff15"]
+
+
+@pytest.mark.parametrize("db", [":memory:", "/dev/null/db"])
+@pytest.mark.parametrize("text", NO_CHAINAGES + ["", "-5"])
+def test_chainages_that_cannot_be_read(text, db):
+    for name in ["from", "to"]:
+        said = f"error: {name.upper()} is no chainage in millimetres\n".encode()
+        ends(run("diagram", db, "A1", f"--{name}={text}"), b"", 2, said)
+        if text in NO_CHAINAGES:
+            ends(run("diagram", db, "A1", f"--{name}", text, "SPEED"), b"", 2, said)
+
+
+@pytest.mark.parametrize(
+    "words, said",
+    [
+        (["a1", "speed", "--from", "x", "--to", "x"], b"ROUTE is no route name"),
+        (["A1", "SPEED", "speed", "--from", "x", "--to", "x"], b"CLASS is no class name"),
+        (["A1", "SPEED", "--to", "x", "--from", "x"], b"FROM is no chainage in millimetres"),
+        (["A1", "SPEED", "--to", "x", "--from", "5"], b"TO is no chainage in millimetres"),
+    ],
+)
+def test_the_first_word_of_a_diagram_that_cannot_be_read_is_named(words, said):
+    ends(run("diagram", ":memory:", *words), b"", 2, b"error: " + said + b"\n")
+
+
+NO_DIAGRAMS = [
+    ["diagram"],
+    ["diagram", ":memory:"],
+    ["diagram", "--from", "5", ":memory:"],
+    ["diagram", ":memory:", "A1", "--from"],
+    ["diagram", ":memory:", "A1", "--from", "--to", "5"],
+    ["diagram", ":memory:", "A1", "--from", "-5"],
+    ["diagram", ":memory:", "A1", "--from", "5", "--from", "5"],
+    ["diagram", ":memory:", "A1", "--to=5", "--to=6"],
+    ["diagram", ":memory:", "A1", "--fro", "5"],
+    ["diagram", ":memory:", "A1", "-f", "5"],
+    ["diagram", ":memory:", "A1", "SPEED", "--fast"],
+]
+
+
+@pytest.mark.parametrize("words", NO_DIAGRAMS, ids=" ".join)
+def test_diagrams_that_are_not_understood(words):
+    is_misused(run(*words))
+
+
+def test_help_on_diagrams():
+    said = run("diagram", "--help").stdout
+    for line in [
+        b"Draws a straight-line diagram of a route, as SVG\n\nUsage: roadlrs diagram <DB> <ROUTE> [CLASS]...\n",
+        b"\n  [CLASS]...  The names of classes; all where none is named\n",
+        b"\n      --from <C>  From this chainage, in millimetres; else from the start\n",
+        b"\n      --to <C>    To this chainage, in millimetres; else to the end\n",
+        b"\nExample: roadlrs diagram roads.db A1 SPEED > a1.svg\n",
+    ]:
+        assert line in said, (line, said)
+
+
+# ---- the web page
+
+
+PAGE = TOP / "page" / "index.html"
+
+
+def has_page(folder):
+    assert [path.name for path in folder.iterdir()] == ["index.html"]
+    assert (folder / "index.html").read_bytes() == PAGE.read_bytes()
+
+
+@pytest.mark.parametrize("name", ["www", "www/", "./www", "a folder", "\u00e9\u9053"])
+def test_the_page_in_a_folder_that_is_made(name, tmp_path):
+    for _ in range(2):
+        ends(run("page", name, cwd=tmp_path), b"", 0)
+        has_page(tmp_path / name)
+
+
+def test_the_page_in_a_folder_that_is_there(tmp_path):
+    (tmp_path / "index.html").write_text("an older and longer page" * 10_000)
+    for name in [".", str(tmp_path), f"{tmp_path}/"]:
+        ends(run("page", name, cwd=tmp_path), b"", 0)
+        has_page(tmp_path)
+
+
+def test_folders_that_cannot_have_the_page(tmp_path):
+    (tmp_path / "file").write_text("")
+    (tmp_path / "taken" / "index.html").mkdir(parents=True)
+    for name in ["", "file", "file/www", "none/www", "taken", "/dev/null", "/proc/www", "s" * 256]:
+        faults(run("page", name, cwd=tmp_path), "Write")
+    assert sorted(path.name for path in tmp_path.iterdir()) == ["file", "taken"]
+
+
+def test_a_disk_without_room_for_the_page(tmp_path):
+    (tmp_path / "index.html").symlink_to("/dev/full")
+    faults(run("page", ".", cwd=tmp_path), "Write")
+
+
+@pytest.mark.parametrize("words", [["page"], ["page", "www", "more"], ["page", "--from", "5", "www"], ["page", "--", "www", "more"]], ids=" ".join)
+def test_pages_that_are_not_understood(words, tmp_path):
+    is_misused(run(*words, cwd=tmp_path))
+    assert not list(tmp_path.iterdir())
+
+
+def test_help_on_the_page():
+    said = run("page", "--help").stdout
+    for line in [
+        b"Writes a web page that shows a served inventory\n\nUsage: roadlrs page <DIR>\n",
+        b"\n  <DIR>  The folder that gets the page, as index.html; made where it is missing\n",
+        b"\nExample: roadlrs page www\n",
+    ]:
+        assert line in said, (line, said)

@@ -1,9 +1,9 @@
-//! A task, done.
+//! What is done with an inventory.
 
 ghost use Rattle.std.specs.Prelude.{◌≡◌, false};
 
 use crate::server::do_service;
-use lrs_cli_tasks::{Ending, Pace, Shown, Task, do_question, do_sheet, open_in_memory};
+use lrs_cli_tasks::{Ending, Pace, Shown, Work, do_question, do_sheet, open_in_memory};
 use lrs_desk::{Desk, Keeper};
 use std::alloc::Global;
 use std::net::Net;
@@ -11,30 +11,30 @@ use std::rt::Runtime;
 
 /// Does what a job asks for at a desk, whatever keeps the inventory, and prints what is said to it. The replies to a
 /// sheet in a file go out at the pace `of_file`.
-pub fn do_task<R: Runtime<A = Global> + Net, K: Keeper>(
+pub fn do_work<R: Runtime<A = Global> + Net, K: Keeper>(
     rt: &R,
     desk: &mut Desk<K>,
-    task: Task<'_>,
+    work: Work<'_>,
     of_file: Pace,
     shown: Shown,
 ) -> Ending
     requires behind { desk.old.is_ahead ≡ false }
 {
-    match task {
-        Task::Sheet { kind, from } => match do_sheet(rt, desk, kind, from, of_file, shown) {
+    match work {
+        Work::Sheet { kind, from } => match do_sheet(rt, desk, kind, from, of_file, shown) {
             Ok(tally) if tally.refused == 0 => Ending::Done,
             Ok(_) => Ending::RecordsRefused,
             Err(fault) => Ending::Stopped(fault),
         },
-        Task::Question(question) => do_question(rt, desk, question),
-        Task::Service(service) => do_service(rt, desk, service),
+        Work::Question(question) => do_question(rt, desk, question),
+        Work::Service(service) => do_service(rt, desk, service),
     }
 }
 
-/// Does a task in a fresh inventory in memory.
-pub fn do_in_memory<R: Runtime<A = Global> + Net>(rt: &R, task: Task<'_>, shown: Shown) -> Ending {
+/// Does work in a fresh inventory in memory.
+pub fn do_in_memory<R: Runtime<A = Global> + Net>(rt: &R, work: Work<'_>, shown: Shown) -> Ending {
     match open_in_memory(rt.alloc()) {
-        Ok(mut desk) => do_task(rt, &mut desk, task, Pace::InPieces, shown),
+        Ok(mut desk) => do_work(rt, &mut desk, work, Pace::InPieces, shown),
         Err(fault) => Ending::Stopped(fault),
     }
 }

@@ -6,9 +6,9 @@ mod jobs;
 mod server;
 
 use inventory::open_file;
-use jobs::{do_in_memory, do_task};
+use jobs::{do_in_memory, do_work};
 use lrs_cli_tasks::{
-    Ending, Pace, ProgramFault, Shown, Task, inventory_of, is_in_memory, status, task_of,
+    Ending, Pace, ProgramFault, Shown, Task, Work, do_page, is_in_memory, status, task_of,
 };
 use lrs_cli_words::{Job, QuestionFault, WordsFault, job_of, new_has_sums};
 use lrs_store::close_files;
@@ -16,36 +16,32 @@ use std::env;
 use std::io::{ErrorKind, IsTerminal};
 use std::process::ExitCode;
 
-// Does a task in the inventory of a file, which is closed afterwards. Where it cannot be closed, its log still has
+// Does work in the inventory of a file, which is closed afterwards. Where it cannot be closed, its log still has
 // what was committed. Each reply goes out once its record is committed.
 fn do_in_file(
     rt: &HostRuntime,
     path: &str,
     new_has_sums: bool,
-    task: Task<'_>,
+    work: Work<'_>,
     shown: Shown,
 ) -> Ending {
     let mut desk = match open_file(rt, path, new_has_sums) {
         Ok(desk) => desk,
         Err(fault) => return Ending::Stopped(fault),
     };
-    let ending = do_task(rt, &mut desk, task, Pace::InGroups, shown);
+    let ending = do_work(rt, &mut desk, work, Pace::InGroups, shown);
     drop(close_files(desk.into_keeper().into_inner()));
     ending
 }
 
-// Reads the words of a job, and then opens its inventory.
+// Reads the words of a job, and then opens its inventory, if it has one.
 fn do_job(rt: &HostRuntime, job: &Job<'_>, shown: Shown) -> Ending {
-    let task = match task_of(rt.alloc(), job) {
-        Ok(task) => task,
-        Err(QuestionFault::Unreadable(word)) => return Ending::Unreadable(word),
-        Err(QuestionFault::Memory) => return Ending::Stopped(ProgramFault::Memory),
-    };
-    let db = inventory_of(job);
-    if is_in_memory(db) {
-        do_in_memory(rt, task, shown)
-    } else {
-        do_in_file(rt, db, new_has_sums(job), task, shown)
+    match task_of(rt.alloc(), job) {
+        Ok(Task::Page { dir }) => do_page(rt, dir),
+        Ok(Task::Inventory { db, work }) if is_in_memory(db) => do_in_memory(rt, work, shown),
+        Ok(Task::Inventory { db, work }) => do_in_file(rt, db, new_has_sums(job), work, shown),
+        Err(QuestionFault::Unreadable(word)) => Ending::Unreadable(word),
+        Err(QuestionFault::Memory) => Ending::Stopped(ProgramFault::Memory),
     }
 }
 

@@ -1,5 +1,5 @@
 -- A run of a sheet over a writer that is put before another and taken away again.
-use Rattle.std.proofs.Common.{◌≡◌, ◌⊎◌, ◌∙◌, ℕ, List, ◌++◌, Option, Some, None, [], Result, Ok, Err, refl, ap, inl, inr}
+use Rattle.std.proofs.Common.{◌∙◌, ℕ, List, ◌++◌, Option, Some, None, [], Result, Ok, Err, refl, ap, inl, inr}
 use Rattle.std.specs.Prelude.{IfSome}
 use Rattle.std.specs.Io.KnownBytes.{Appends, Keeps}
 use Rattle.lrs_machine.specs.State.{State}

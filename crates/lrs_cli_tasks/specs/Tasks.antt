@@ -1,5 +1,5 @@
 -- What a job has the program do.
-use Rattle.std.specs.Prelude.{◌≡◌, ◌⊎◌, Result}
+use Rattle.std.specs.Prelude.{◌≡◌, ◌⊎◌, Option, Some, None, Result}
 use Rattle.clap.specs.Words.{Text}
 use Rattle.lrs_machine.specs.declared.image.Image.{Image}
 use Rattle.lrs_machine.specs.declared.table.Table.{Table}
@@ -11,24 +11,34 @@ use Rattle.lrs_cli_words.specs.declared.job.Job.TheVariants as job
 use Rattle.lrs_cli_words.specs.Questions.{Asks, SaysService}
 use Rattle.lrs_cli_tasks.specs.declared.task.Task.{Task}
 use Rattle.lrs_cli_tasks.specs.declared.task.Task.TheVariants as task
+use Rattle.lrs_cli_tasks.specs.declared.task.Work.{Work}
+use Rattle.lrs_cli_tasks.specs.declared.task.Work.TheVariants as work
 
--- the inventory that it names
-abbrev pub inventory_of : Job → Text
-inventory_of (job.Edit db sheet sums) = db.now
-inventory_of (job.Survey db sheet sums) = db.now
-inventory_of (job.At db route method position) = db.now
-inventory_of (job.Translate db route method position to) = db.now
-inventory_of (job.Strip db route side classes) = db.now
-inventory_of (job.Totals db) = db.now
-inventory_of (job.Find db asset) = db.now
-inventory_of (job.Serve db port max sums) = db.now
+-- the inventory that it names; none for the page
+abbrev pub inventory_of : Job → Option Text
+inventory_of (job.Edit db sheet sums) = Some db.now
+inventory_of (job.Survey db sheet sums) = Some db.now
+inventory_of (job.At db route method position) = Some db.now
+inventory_of (job.Translate db route method position to) = Some db.now
+inventory_of (job.Strip db route side classes) = Some db.now
+inventory_of (job.Diagram db route classes from to) = Some db.now
+inventory_of (job.Totals db) = Some db.now
+inventory_of (job.Find db asset) = Some db.now
+inventory_of (job.Serve db port max sums) = Some db.now
+inventory_of (job.Page dir) = None
 
 -- `edit` does an edit sheet, `survey` a survey, `serve` serves where its words say, and every other job asks what they say
+abbrev pub IsWorkOf : Job → Work → Type 0
+IsWorkOf (job.Edit db sheet sums) (work.Sheet kind from) = (kind ≡ Edits) × (from.now ≡ sheet.now)
+IsWorkOf (job.Survey db sheet sums) (work.Sheet kind from) = (kind ≡ Survey) × (from.now ≡ sheet.now)
+IsWorkOf (job.Serve db port max sums) (work.Service service) = SaysService port.now max.now service
+IsWorkOf j (work.Question question) = Asks j question
+IsWorkOf j w = ⊥
+
+-- `page` has a folder, and every other job an inventory and what is done with it
 abbrev pub IsTaskOf : Job → Task → Type 0
-IsTaskOf (job.Edit db sheet sums) (task.Sheet kind from) = (kind ≡ Edits) × (from.now ≡ sheet.now)
-IsTaskOf (job.Survey db sheet sums) (task.Sheet kind from) = (kind ≡ Survey) × (from.now ≡ sheet.now)
-IsTaskOf (job.Serve db port max sums) (task.Service service) = SaysService port.now max.now service
-IsTaskOf j (task.Question question) = Asks j question
+IsTaskOf (job.Page dir) (task.Page folder) = folder.now ≡ dir.now
+IsTaskOf j (task.Inventory db w) = (inventory_of j ≡ Some db.now) × IsWorkOf j w
 IsTaskOf j t = ⊥
 
 -- The desk goes along with its keeper, or a commit of it has failed.

@@ -1,8 +1,8 @@
-//! What a job has the program do with its inventory.
+//! What a job has the program do.
 
 ghost use Rattle.std.specs.Prelude.{◌≡◌, IfOk, IfErr};
 ghost use Rattle.lrs_cli_words.specs.Questions.{IsFaultOf};
-ghost use Rattle.lrs_cli_tasks.specs.Tasks.{IsTaskOf, inventory_of};
+ghost use Rattle.lrs_cli_tasks.specs.Tasks.{IsTaskOf};
 
 use lrs_cli_words::{Job, QuestionFault, Service, question_of, service_of};
 use lrs_machine::Question;
@@ -11,7 +11,7 @@ use std::alloc::Global;
 
 /// What is done with an inventory.
 #[derive(Drop)]
-pub enum Task<'a> {
+pub enum Work<'a> {
     /// A sheet of this kind is read from `from`, and done.
     Sheet { kind: Sheet, from: &'a str },
     /// A question is answered.
@@ -20,20 +20,19 @@ pub enum Task<'a> {
     Service(Service),
 }
 
-/// The inventory that a job names.
-pub fn inventory_of<'a>(job: &Job<'a>) -> &'a str
-    ensures { result.now ≡ inventory_of job.now }
+/// What the program does.
+#[derive(Drop)]
+pub enum Task<'a> {
+    /// This is done with the inventory `db`.
+    Inventory { db: &'a str, work: Work<'a> },
+    /// The web page is written into the folder `dir`.
+    Page { dir: &'a str },
+}
+
+fn sheet_work<'a>(kind: Sheet, from: &'a str) -> Work<'a>
+    ensures { result ≡ Work.Sheet kind from.entry }
 {
-    match job {
-        Job::Edit { db, .. }
-        | Job::Survey { db, .. }
-        | Job::At { db, .. }
-        | Job::Translate { db, .. }
-        | Job::Strip { db, .. }
-        | Job::Totals { db }
-        | Job::Find { db, .. }
-        | Job::Serve { db, .. } => db,
-    }
+    Work::Sheet { kind, from }
 }
 
 /// What a job asks for. Its words are read, and nothing else is looked at.
@@ -44,23 +43,20 @@ pub fn task_of<'a>(alloc: Global, job: &Job<'a>) -> Result<Task<'a>, QuestionFau
     ensures task { IfOk result (IsTaskOf job.now) }
     ensures unread { IfErr result (IsFaultOf job.now) }
 {
-    match job {
-        Job::Edit { sheet, .. } => Ok(Task::Sheet {
-            kind: Sheet::Edits,
-            from: sheet,
-        }),
-        Job::Survey { sheet, .. } => Ok(Task::Sheet {
-            kind: Sheet::Survey,
-            from: sheet,
-        }),
-        Job::Serve { port, max, .. } => Ok(Task::Service(service_of(port, max)?)),
-        Job::At { .. }
-        | Job::Translate { .. }
-        | Job::Strip { .. }
-        | Job::Totals { .. }
-        | Job::Find { .. } => match question_of(alloc, job)? {
-            Some(question) => Ok(Task::Question(question)),
+    let (db, work) = match job {
+        Job::Page { dir } => return Ok(Task::Page { dir }),
+        Job::Edit { db, sheet, .. } => (db, sheet_work(Sheet::Edits, sheet)),
+        Job::Survey { db, sheet, .. } => (db, sheet_work(Sheet::Survey, sheet)),
+        Job::Serve { db, port, max, .. } => (db, Work::Service(service_of(port, max)?)),
+        Job::At { db, .. }
+        | Job::Translate { db, .. }
+        | Job::Strip { db, .. }
+        | Job::Diagram { db, .. }
+        | Job::Totals { db }
+        | Job::Find { db, .. } => match question_of(alloc, job)? {
+            Some(question) => (db, Work::Question(question)),
             None => unreachable!(),
         },
-    }
+    };
+    Ok(Task::Inventory { db, work })
 }

@@ -4,18 +4,19 @@ use Rattle.std.specs.List.{find, list_any}
 use Rattle.std.specs.Option.{option_map_or}
 use Rattle.std.specs.Str.{bytes_eq}
 use Rattle.std.proofs.lemmas.Slice.Eq.{bytes_eq-Decides}
-use Rattle.clap.specs.Walk.{Row, Rule, Text, answers_to, finished, has_long, has_short, nothing_held, walk, walk_from}
+use Rattle.clap.specs.Walk.{Row, Rule, Text, answers_to, arg_by_id, finished, has_long, has_short, nothing_held, reading_by, walk, walk_from, without}
 use Rattle.clap.specs.Takes.{is_given}
 use Rattle.clap.specs.Faults.{is_simple_and_free, check_fault, defaults_fault, entered_fault, fault_of, level_fault, settle_fault, walk_fault}
 use Rattle.clap.specs.Simple.{App, HasMatchesOf, Shape, built, built_leaf, is_simple, subcommand_rows_of, entered, filled, help_rule, help_shape, inherited, label_of, marked_built, names_of, rows_at, subcommand_of, with_leaf_noted}
 use Rattle.clap.specs.declared.ArgMatches.{ArgMatches}
 use Rattle.clap.specs.declared.builder.ArgAction.TheVariants.{SetTrue}
 use Rattle.clap.specs.declared.error.ErrorKind.TheVariants as kind
+use Rattle.clap.specs.declared.parser.matches.ValueSource.TheVariants.{CommandLine}
 use Rattle.lrs_cli_words.specs.declared.job.JobName.{JobName}
 use Rattle.lrs_cli_words.specs.declared.job.JobName.TheVariants as job
-use Rattle.lrs_cli_words.specs.Words.{AreGiven, HasJobWords, flag, jobs, line_of_job, line_of_program, rules_of}
+use Rattle.lrs_cli_words.specs.Words.{AreGiven, HasJobWords, flag, jobs, line_of_job, line_of_program, option, rules_of}
 use Rattle.lrs_cli_words.proofs.JobNames.{first_none, names_help, no_kinds, second_none, walk_stops}
-use Rattle.lrs_cli_words.proofs.JobValues.{Filled, HasFlags, IsFlag, given_first, rows-filled, used-filled}
+use Rattle.lrs_cli_words.proofs.JobValues.{Filled, Fills, HasFlags, IsNamed, given_first, lacks, rows-filled, used-filled, with_none-filled, without-filled}
 
 abbrev program : App
 program = built line_of_program
@@ -27,7 +28,10 @@ shape_at j = built_leaf (inherited (with_leaf_noted (marked_built line_of_progra
 abbrev help_at : Shape
 help_at = built_leaf help_shape
 
--- ---- the flags of a line: each asks for help, and some for sums
+-- ---- the names of a line: each has help, some have sums, and a diagram has its ends
+
+abbrev rules_at : JobName → List Rule
+rules_at j = (shape_at j).rules
 
 abbrev help_flag : Rule
 help_flag = filled help_rule
@@ -35,38 +39,61 @@ help_flag = filled help_rule
 abbrev sums_flag : Rule
 sums_flag = filled (flag (codes "sums"))
 
-abbrev help_if : Bool → Option Rule
-help_if b = cond b (Some help_flag) None
+abbrev from_option : Rule
+from_option = filled (option (codes "from"))
 
-abbrev sums_if : Bool → Option Rule → Option Rule
-sums_if b others = cond b (Some sums_flag) others
+abbrev to_option : Rule
+to_option = filled (option (codes "to"))
 
-is_help : (b : Bool) → IfSome (help_if b) IsFlag
-is_help true = record { takes_none = refl; fills = λ rows e. e }
-is_help false = tt
+help_fills : Fills help_flag
+help_fills rows e = e
 
-is_sums : (b c : Bool) → IfSome (sums_if b (help_if c)) IsFlag
-is_sums true c = record { takes_none = refl; fills = λ rows e. used-filled SetTrue (codes "sums") _ (codes "true") [] rows e }
-is_sums false c = is_help c
+sums_fills : Fills sums_flag
+sums_fills rows e = used-filled SetTrue (codes "sums") _ (codes "true") [] rows e
 
-long_help : (name : Text) → IfSome (help_if (has_long help_flag name)) IsFlag
-long_help name = is_help (has_long help_flag name)
+from_fills : Fills from_option
+from_fills rows e = with_none-filled (codes "from") (reading_by from_option) CommandLine (without (codes "from") rows) refl (without-filled (codes "from") rows e)
 
-long_sums : (name : Text) → IfSome (sums_if (has_long sums_flag name) (help_if (has_long help_flag name))) IsFlag
-long_sums name = is_sums (has_long sums_flag name) (has_long help_flag name)
+to_fills : Fills to_option
+to_fills rows e = with_none-filled (codes "to") (reading_by to_option) CommandLine (without (codes "to") rows) refl (without-filled (codes "to") rows e)
 
-short_help : (x : ℕ) → IfSome (help_if (has_short help_flag x)) IsFlag
-short_help x = is_help (has_short help_flag x)
+named_if : (c : List Rule) (a : Rule) (b : Bool) (others : Option Rule) → Fills a → IfSome (arg_by_id c a.id) Fills → IfSome others (IsNamed c)
+    → IfSome (cond b (Some a) others) (IsNamed c)
+named_if c a true others fills waits below = record { fills = fills; waits = waits }
+named_if c a false others fills waits below = below
 
-has_flags : (j : JobName) → HasFlags (shape_at j).rules
-has_flags job.Edit = record { long = long_sums; short = short_help }
-has_flags job.Survey = record { long = long_sums; short = short_help }
-has_flags job.At = record { long = long_help; short = short_help }
-has_flags job.Translate = record { long = long_help; short = short_help }
-has_flags job.Strip = record { long = long_help; short = short_help }
-has_flags job.Totals = record { long = long_help; short = short_help }
-has_flags job.Find = record { long = long_help; short = short_help }
-has_flags job.Serve = record { long = long_sums; short = short_help }
+abbrev HasHelp : List Rule → Type 0
+HasHelp c = IfSome (arg_by_id c (codes "help")) Fills
+
+is_help : (c : List Rule) → HasHelp c → (b : Bool) → IfSome (cond b (Some help_flag) None) (IsNamed c)
+is_help c help b = named_if c help_flag b None help_fills help tt
+
+long_help : (c : List Rule) → HasHelp c → (name : Text) → IfSome (cond (has_long help_flag name) (Some help_flag) None) (IsNamed c)
+long_help c help name = is_help c help (has_long help_flag name)
+
+short_help : (c : List Rule) → HasHelp c → (x : ℕ) → IfSome (cond (has_short help_flag x) (Some help_flag) None) (IsNamed c)
+short_help c help x = is_help c help (has_short help_flag x)
+
+long_sums : (c : List Rule) → IfSome (arg_by_id c (codes "sums")) Fills → HasHelp c → (name : Text)
+    → IfSome (cond (has_long sums_flag name) (Some sums_flag) (cond (has_long help_flag name) (Some help_flag) None)) (IsNamed c)
+long_sums c sums help name = named_if c sums_flag (has_long sums_flag name) _ sums_fills sums (long_help c help name)
+
+long_ends : (c : List Rule) → IfSome (arg_by_id c (codes "from")) Fills → IfSome (arg_by_id c (codes "to")) Fills → HasHelp c → (name : Text)
+    → IfSome (cond (has_long from_option name) (Some from_option) (cond (has_long to_option name) (Some to_option) (cond (has_long help_flag name) (Some help_flag) None))) (IsNamed c)
+long_ends c from to help name =
+    named_if c from_option (has_long from_option name) _ from_fills from (named_if c to_option (has_long to_option name) _ to_fills to (long_help c help name))
+
+has_flags : (j : JobName) → HasFlags (rules_at j)
+has_flags job.Edit = record { long = long_sums (rules_at job.Edit) sums_fills help_fills; short = short_help (rules_at job.Edit) help_fills }
+has_flags job.Survey = record { long = long_sums (rules_at job.Survey) sums_fills help_fills; short = short_help (rules_at job.Survey) help_fills }
+has_flags job.At = record { long = long_help (rules_at job.At) help_fills; short = short_help (rules_at job.At) help_fills }
+has_flags job.Translate = record { long = long_help (rules_at job.Translate) help_fills; short = short_help (rules_at job.Translate) help_fills }
+has_flags job.Strip = record { long = long_help (rules_at job.Strip) help_fills; short = short_help (rules_at job.Strip) help_fills }
+has_flags job.Diagram = record { long = long_ends (rules_at job.Diagram) from_fills to_fills help_fills; short = short_help (rules_at job.Diagram) help_fills }
+has_flags job.Totals = record { long = long_help (rules_at job.Totals) help_fills; short = short_help (rules_at job.Totals) help_fills }
+has_flags job.Find = record { long = long_help (rules_at job.Find) help_fills; short = short_help (rules_at job.Find) help_fills }
+has_flags job.Serve = record { long = long_sums (rules_at job.Serve) sums_fills help_fills; short = short_help (rules_at job.Serve) help_fills }
+has_flags job.Page = record { long = long_help (rules_at job.Page) help_fills; short = short_help (rules_at job.Page) help_fills }
 
 -- ---- no word is missing
 
@@ -82,11 +109,35 @@ missing_none : (b : Bool) → cond b (kind.MissingRequiredArgument ∷ []) [] �
 missing_none false e = refl
 missing_none true e = no_kinds kind.MissingRequiredArgument [] e
 
-all_given : (rs : List Rule) (rows : List Row) → Filled rows → list_any (λ r. not (is_given r.id rows)) rs ≡ false → AreGiven rs rows
-all_given [] rows f e = tt
-all_given (r ∷ rs) rows f e =
+first_false : (a b : Bool) → (a || b) ≡ false → a ≡ false
+first_false true b e = e
+first_false false b e = refl
+
+second_false : (a b : Bool) → (a || b) ≡ false → b ≡ false
+second_false true b e = absurd (true≢false e)
+second_false false b e = e
+
+all_given : (rs : List Rule) (rows : List Row) → Filled rows → list_any (λ r. lacks r.id) rs ≡ false → list_any (λ r. not (is_given r.id rows)) rs ≡ false → AreGiven rs rows
+all_given [] rows f none e = tt
+all_given (r ∷ rs) rows f none e =
     let b = list_any (λ r. not (is_given r.id rows)) rs in
-    (given_first r.id rows f (given_of (is_given r.id rows) b e), all_given rs rows f (others_of (is_given r.id rows) b e))
+    let lacking = list_any (λ r. lacks r.id) rs in (
+      given_first r.id rows (first_false (lacks r.id) lacking none) f (given_of (is_given r.id rows) b e),
+      all_given rs rows f (second_false (lacks r.id) lacking none) (others_of (is_given r.id rows) b e),
+    )
+
+-- no word that a job needs may lack its value
+none_lack : (j : JobName) → list_any (λ r. lacks r.id) (rules_of j) ≡ false
+none_lack job.Edit = refl
+none_lack job.Survey = refl
+none_lack job.At = refl
+none_lack job.Translate = refl
+none_lack job.Strip = refl
+none_lack job.Diagram = refl
+none_lack job.Totals = refl
+none_lack job.Find = refl
+none_lack job.Serve = refl
+none_lack job.Page = refl
 
 none_missing : (j : JobName) (rows : List Row) → check_fault (shape_at j) rows false ≡ [] → list_any (λ r. not (is_given r.id rows)) (rules_of j) ≡ false
 none_missing job.Edit rows e = missing_none _ e
@@ -94,9 +145,11 @@ none_missing job.Survey rows e = missing_none _ e
 none_missing job.At rows e = missing_none _ e
 none_missing job.Translate rows e = missing_none _ e
 none_missing job.Strip rows e = missing_none _ e
+none_missing job.Diagram rows e = missing_none _ e
 none_missing job.Totals rows e = missing_none _ e
 none_missing job.Find rows e = missing_none _ e
 none_missing job.Serve rows e = missing_none _ e
+none_missing job.Page rows e = missing_none _ e
 
 job_words : (j : JobName) (words : List Text) → level_fault (shape_at j) [] nothing_held words false [] ≡ [] → HasJobWords (Some (rows_at (shape_at j) words))
 job_words j words e =
@@ -106,8 +159,8 @@ job_words j words e =
     let after_walk = second_none (walk_fault s [] (walk_from nothing_held) words) _ e in
     let after_settling = second_none (settle_fault s.rules s.args_override_self end) _ after_walk in
     let checked : check_fault s rows false ≡ [] = second_none (defaults_fault _ s.rules) _ after_settling in
-    let filled = rows-filled s.rules [] (walk_from nothing_held) words (has_flags j) (record { rows = refl; pending = refl }) in
-    (j, refl, all_given (rules_of j) rows filled (none_missing j rows checked))
+    let filled = rows-filled s.rules [] (walk_from nothing_held) words (has_flags j) (record { rows = refl; pending = tt }) in
+    (j, refl, all_given (rules_of j) rows filled (none_lack j) (none_missing j rows checked))
 
 -- ---- a line is met
 

@@ -1,8 +1,8 @@
 -- What a job's words ask of an inventory, and which of them cannot be read.
-use Rattle.std.specs.Prelude.{◌≡◌, ◌⊎◌, ⊤, ℕ, ◌≤◌, IsTrue, IsSomeAnd, List, map, codes, slice_get}
+use Rattle.std.specs.Prelude.{◌≡◌, ◌⊎◌, ⊤, ℕ, ◌≤◌, IsTrue, IsSomeAnd, List, Option, Some, None, map, option_map, codes, slice_get}
 use Rattle.std.specs.Str.Parse.{IsNumeral, digits_value}
 use Rattle.clap.specs.Words.{Text}
-use Rattle.lrs_measure.specs.Limits.{greatest_asset}
+use Rattle.lrs_measure.specs.Limits.{greatest_asset, longest_route}
 use Rattle.lrs_measure.specs.Texts.{Name}
 use Rattle.lrs_position.specs.declared.expression.Expr.{Expr}
 use Rattle.lrs_position.specs.declared.expression.Method.{Method}
@@ -58,6 +58,16 @@ SaysAsset = SaysNumber 1 greatest_asset
 abbrev pub SaysPort : Text → ℕ → Type 0
 SaysPort = SaysNumber 1 65_535
 
+-- millimetres from the start of a route
+abbrev pub SaysChainage : Text → ℕ → Type 0
+SaysChainage = SaysNumber 0 longest_route
+
+-- the chainage at an end, where a text says one
+abbrev pub SaysEnd : Option Text → Option ℕ → Type 0
+SaysEnd (Some text) (Some at) = SaysChainage text at
+SaysEnd None None = ⊤
+SaysEnd _ at = ⊥
+
 -- how many connections
 abbrev pub SaysMost : Text → ℕ → Type 0
 SaysMost = SaysNumber 0 1_000_000
@@ -68,18 +78,40 @@ SaysService port max service = SaysPort port service.port × SaysMost max servic
 
 -- ---- questions
 
--- the job asks nothing: it does a sheet, or serves
+-- the job asks nothing: it does a sheet, serves, or writes the page
 abbrev pub AsksNothing : Job → Type 0
 AsksNothing (job.Edit db sheet sums) = ⊤
 AsksNothing (job.Survey db sheet sums) = ⊤
 AsksNothing (job.Serve db port max sums) = ⊤
+AsksNothing (job.Page dir) = ⊤
 AsksNothing _ = ⊥
+
+-- a position on a route
+abbrev pub AsksAt : Text → Text → Text → Question → Type 0
+AsksAt route method position (question.At r e) = SaysRoute route r × SaysPosition method position e
+AsksAt route method position _ = ⊥
+
+-- the same, to be said in another way
+abbrev pub AsksTranslate : Text → Text → Text → Text → Question → Type 0
+AsksTranslate route method position to (question.Translate r e d) = SaysRoute route r × SaysPosition method position e × SaysDestination to d
+AsksTranslate route method position to _ = ⊥
+
+-- the segments of a side of a route by these classes
+abbrev pub AsksStrip : Text → Text → List Text → Question → Type 0
+AsksStrip route side classes (question.Segments r s names) = SaysRoute route r × SaysSide side s × (names ≡ classes)
+AsksStrip route side classes _ = ⊥
+
+-- a diagram of a route with these classes, from a chainage to another
+abbrev pub AsksDiagram : Text → List Text → Option Text → Option Text → Question → Type 0
+AsksDiagram route classes from to (question.Diagram r names first last) = SaysRoute route r × (names ≡ classes) × SaysEnd from first × SaysEnd to last
+AsksDiagram route classes from to _ = ⊥
 
 -- the question is what the job's words say
 abbrev pub Asks : Job → Question → Type 0
-Asks (job.At db route method position) (question.At r e) = SaysRoute route.now r × SaysPosition method.now position.now e
-Asks (job.Translate db route method position to) (question.Translate r e d) = SaysRoute route.now r × SaysPosition method.now position.now e × SaysDestination to.now d
-Asks (job.Strip db route side classes) (question.Segments r s names) = SaysRoute route.now r × SaysSide side.now s × (names ≡ map (λ w. w.now) classes.items)
+Asks (job.At db route method position) q = AsksAt route.now method.now position.now q
+Asks (job.Translate db route method position to) q = AsksTranslate route.now method.now position.now to.now q
+Asks (job.Strip db route side classes) q = AsksStrip route.now side.now (map (λ w. w.now) classes.items) q
+Asks (job.Diagram db route classes from to) q = AsksDiagram route.now (map (λ w. w.now) classes.items) (option_map (λ w. w.now) from) (option_map (λ w. w.now) to) q
 Asks (job.Totals db) question.Totals = ⊤
 Asks (job.Find db asset) (question.Find n) = SaysAsset asset.now n
 Asks _ q = ⊥
@@ -98,17 +130,38 @@ CannotPosition method text fault = Cannot word.Method (SaysMethod method) fault 
 abbrev pub CannotClass : List Text → QuestionFault → Type 0
 CannotClass texts fault = (i : ℕ) × IsSomeAnd (slice_get texts i) (λ text. Cannot word.Class (SaysClass text) fault)
 
+-- the route, or the position on it
+abbrev pub CannotAt : Text → Text → Text → QuestionFault → Type 0
+CannotAt route method position fault = Cannot word.Route (SaysRoute route) fault ⊎ CannotPosition method position fault
+
+-- the route, the position or how to say it
+abbrev pub CannotTranslate : Text → Text → Text → Text → QuestionFault → Type 0
+CannotTranslate route method position to fault = CannotAt route method position fault ⊎ Cannot word.Destination (SaysDestination to) fault
+
+-- the route, the side or a class, or want of memory for the classes
+abbrev pub CannotStrip : Text → Text → List Text → QuestionFault → Type 0
+CannotStrip route side classes fault =
+    Cannot word.Route (SaysRoute route) fault ⊎ Cannot word.Side (SaysSide side) fault ⊎ (fault ≡ Memory) ⊎ CannotClass classes fault
+
+-- the chainage at an end, which was given
+abbrev pub CannotEnd : BadWord → Option Text → QuestionFault → Type 0
+CannotEnd w text fault = IsSomeAnd text (λ t. Cannot w (SaysChainage t) fault)
+
+-- the route, a class or an end of a diagram, or want of memory for the classes
+abbrev pub CannotDiagram : Text → List Text → Option Text → Option Text → QuestionFault → Type 0
+CannotDiagram route classes from to fault =
+    Cannot word.Route (SaysRoute route) fault ⊎ (fault ≡ Memory) ⊎ CannotClass classes fault ⊎ CannotEnd word.From from fault ⊎ CannotEnd word.To to fault
+
 -- the port, or how many connections
 abbrev pub CannotServe : Text → Text → QuestionFault → Type 0
 CannotServe port max fault = Cannot word.Port (SaysPort port) fault ⊎ Cannot word.Max (SaysMost max) fault
 
 -- the fault is a word of the job that cannot be read, or want of memory for the classes
 abbrev pub IsFaultOf : Job → QuestionFault → Type 0
-IsFaultOf (job.At db route method position) fault = Cannot word.Route (SaysRoute route.now) fault ⊎ CannotPosition method.now position.now fault
-IsFaultOf (job.Translate db route method position to) fault =
-    Cannot word.Route (SaysRoute route.now) fault ⊎ CannotPosition method.now position.now fault ⊎ Cannot word.Destination (SaysDestination to.now) fault
-IsFaultOf (job.Strip db route side classes) fault =
-    Cannot word.Route (SaysRoute route.now) fault ⊎ Cannot word.Side (SaysSide side.now) fault ⊎ (fault ≡ Memory) ⊎ CannotClass (map (λ w. w.now) classes.items) fault
+IsFaultOf (job.At db route method position) fault = CannotAt route.now method.now position.now fault
+IsFaultOf (job.Translate db route method position to) fault = CannotTranslate route.now method.now position.now to.now fault
+IsFaultOf (job.Strip db route side classes) fault = CannotStrip route.now side.now (map (λ w. w.now) classes.items) fault
+IsFaultOf (job.Diagram db route classes from to) fault = CannotDiagram route.now (map (λ w. w.now) classes.items) (option_map (λ w. w.now) from) (option_map (λ w. w.now) to) fault
 IsFaultOf (job.Find db asset) fault = Cannot word.Asset (SaysAsset asset.now) fault
 IsFaultOf (job.Serve db port max sums) fault = CannotServe port.now max.now fault
 IsFaultOf _ fault = ⊥
@@ -121,6 +174,8 @@ bad_word_text word.Position = codes "POS is no position by this method"
 bad_word_text word.Destination = codes "TO is none of abs, int, rel:NAME and link"
 bad_word_text word.Side = codes "SIDE is none of L, R and B"
 bad_word_text word.Class = codes "CLASS is no class name"
+bad_word_text word.From = codes "FROM is no chainage in millimetres"
+bad_word_text word.To = codes "TO is no chainage in millimetres"
 bad_word_text word.Asset = codes "ASSET is no asset number"
 bad_word_text word.Port = codes "PORT is no port number"
 bad_word_text word.Max = codes "MAX is no number of connections"

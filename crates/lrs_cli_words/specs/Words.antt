@@ -1,5 +1,5 @@
 -- The words of the program: its command line as `clap` reads it, and what a job says of the words.
-use Rattle.std.specs.Prelude.{◌≡◌, ◌≢◌, ◌↔◌, ⊤, IsTrue, Bool, false, List, [], ◌∷◌, ◌++◌, Option, Some, codes, map, fold, true, is_some, IsSomeAnd}
+use Rattle.std.specs.Prelude.{◌≡◌, ◌≢◌, ◌↔◌, ⊤, IsTrue, Bool, false, List, [], ◌∷◌, ◌++◌, Option, Some, codes, map, fold, true, is_some, IsSomeAnd, option_map, unwrap_or}
 use Rattle.clap.specs.Lexer.{usize_max}
 use Rattle.clap.specs.Words.{App, IsAmong, Row, Rule, Shape, Text, all_of, fault_of, first_of, new_app, new_rule, subcommand_of, with_subcommand}
 use Rattle.clap.specs.Simple.{new_shape}
@@ -9,7 +9,7 @@ use Rattle.clap.specs.declared.error.ErrorKind.TheVariants as kind
 use Rattle.lrs_cli_words.specs.declared.job.JobName.{JobName}
 use Rattle.lrs_cli_words.specs.declared.job.JobName.TheVariants as job
 use Rattle.lrs_cli_words.specs.declared.job.Job.{Job}
-use Rattle.lrs_cli_words.specs.declared.job.Job.TheVariants.{Edit, Survey, At, Translate, Strip, Totals, Find, Serve}
+use Rattle.lrs_cli_words.specs.declared.job.Job.TheVariants.{Edit, Survey, At, Translate, Strip, Diagram, Totals, Find, Serve, Page}
 
 -- ---- the command line
 
@@ -21,9 +21,17 @@ required id = record (new_rule id) { required = true }
 abbrev pub several : Text → Rule
 several id = record (required id) { range = Some (record { start_inclusive = 1; end_inclusive = usize_max }) }
 
+-- words that may be there, none or more of them
+abbrev pub any : Text → Rule
+any id = record (several id) { required = false }
+
 -- an option with no value, which may be given once
 abbrev pub flag : Text → Rule
 flag name = record (new_rule name) { long = Some name; action = Some SetTrue }
+
+-- an option with one value, which may be given once
+abbrev pub option : Text → Rule
+option name = record (new_rule name) { long = Some name; value_names = 1 }
 
 abbrev pub name_text : JobName → Text
 name_text job.Edit = codes "edit"
@@ -31,26 +39,31 @@ name_text job.Survey = codes "survey"
 name_text job.At = codes "at"
 name_text job.Translate = codes "translate"
 name_text job.Strip = codes "strip"
+name_text job.Diagram = codes "diagram"
 name_text job.Totals = codes "totals"
 name_text job.Find = codes "find"
 name_text job.Serve = codes "serve"
+name_text job.Page = codes "page"
 
--- what the words of a job are called, in their order
+-- what the words that a job needs are called, in their order
 abbrev pub rules_of : JobName → List Rule
 rules_of job.Edit = required (codes "DB") ∷ required (codes "SHEET") ∷ []
 rules_of job.Survey = required (codes "DB") ∷ required (codes "SHEET") ∷ []
 rules_of job.At = required (codes "DB") ∷ required (codes "ROUTE") ∷ required (codes "METHOD") ∷ required (codes "POS") ∷ []
 rules_of job.Translate = required (codes "DB") ∷ required (codes "ROUTE") ∷ required (codes "METHOD") ∷ required (codes "POS") ∷ required (codes "TO") ∷ []
 rules_of job.Strip = required (codes "DB") ∷ required (codes "ROUTE") ∷ required (codes "SIDE") ∷ several (codes "CLASS") ∷ []
+rules_of job.Diagram = required (codes "DB") ∷ required (codes "ROUTE") ∷ []
 rules_of job.Totals = required (codes "DB") ∷ []
 rules_of job.Find = required (codes "DB") ∷ required (codes "ASSET") ∷ []
 rules_of job.Serve = required (codes "DB") ∷ required (codes "PORT") ∷ required (codes "MAX") ∷ []
+rules_of job.Page = required (codes "DIR") ∷ []
 
--- the options of a job: those that may make a file have `--sums`
+-- what may be left out: those jobs that may make a file have `--sums`, and a diagram has its classes and its ends
 abbrev pub options_of : JobName → List Rule
 options_of job.Edit = flag (codes "sums") ∷ []
 options_of job.Survey = flag (codes "sums") ∷ []
 options_of job.Serve = flag (codes "sums") ∷ []
+options_of job.Diagram = any (codes "CLASS") ∷ option (codes "from") ∷ option (codes "to") ∷ []
 options_of _ = []
 
 -- the line of a job: its name, its words and its options
@@ -66,7 +79,7 @@ with_job a j = with_subcommand a (line_of_job j)
 
 -- all jobs
 abbrev pub jobs : List JobName
-jobs = job.Edit ∷ job.Survey ∷ job.At ∷ job.Translate ∷ job.Strip ∷ job.Totals ∷ job.Find ∷ job.Serve ∷ []
+jobs = job.Edit ∷ job.Survey ∷ job.At ∷ job.Translate ∷ job.Strip ∷ job.Diagram ∷ job.Totals ∷ job.Find ∷ job.Serve ∷ job.Page ∷ []
 
 abbrev pub bare_line : App
 bare_line = record (new_app (codes "roadlrs")) {
@@ -85,9 +98,11 @@ job_name (Survey db sheet sums) = job.Survey
 job_name (At db route method position) = job.At
 job_name (Translate db route method position to) = job.Translate
 job_name (Strip db route side classes) = job.Strip
+job_name (Diagram db route classes from to) = job.Diagram
 job_name (Totals db) = job.Totals
 job_name (Find db asset) = job.Find
 job_name (Serve db port max sums) = job.Serve
+job_name (Page dir) = job.Page
 
 -- its words that come once, each with what it is called
 abbrev pub words_of : Job → List (Text × Text)
@@ -97,14 +112,23 @@ words_of (At db route method position) = (codes "DB", db.now) ∷ (codes "ROUTE"
 words_of (Translate db route method position to) =
     (codes "DB", db.now) ∷ (codes "ROUTE", route.now) ∷ (codes "METHOD", method.now) ∷ (codes "POS", position.now) ∷ (codes "TO", to.now) ∷ []
 words_of (Strip db route side classes) = (codes "DB", db.now) ∷ (codes "ROUTE", route.now) ∷ (codes "SIDE", side.now) ∷ []
+words_of (Diagram db route classes from to) = (codes "DB", db.now) ∷ (codes "ROUTE", route.now) ∷ []
 words_of (Totals db) = (codes "DB", db.now) ∷ []
 words_of (Find db asset) = (codes "DB", db.now) ∷ (codes "ASSET", asset.now) ∷ []
 words_of (Serve db port max sums) = (codes "DB", db.now) ∷ (codes "PORT", port.now) ∷ (codes "MAX", max.now) ∷ []
+words_of (Page dir) = (codes "DIR", dir.now) ∷ []
 
--- the classes of a strip are all the words of their place
+-- the classes of a strip or a diagram are all the words of their place
 abbrev pub HasClasses : Job → List Row → Type 0
 HasClasses (Strip db route side classes) rows = all_of (codes "CLASS") rows ≡ Some (map (λ w. w.now) classes.items)
+HasClasses (Diagram db route classes from to) rows = unwrap_or (all_of (codes "CLASS") rows) [] ≡ map (λ w. w.now) classes.items
 HasClasses _ rows = ⊤
+
+-- the ends of a diagram are the values of `--from` and `--to`, where these were given
+abbrev pub HasEnds : Job → List Row → Type 0
+HasEnds (Diagram db route classes from to) rows =
+    (first_of (codes "from") rows ≡ option_map (λ w. w.now) from) × (first_of (codes "to") rows ≡ option_map (λ w. w.now) to)
+HasEnds _ rows = ⊤
 
 -- the option was given: `clap` reads `true` for it, and else `false`
 abbrev pub IsSet : Text → List Row → Type 0
@@ -119,7 +143,7 @@ HasSums _ rows = ⊤
 
 -- its words stand in their places, and its options are as they were given
 abbrev pub HasWords : Job → List Row → Type 0
-HasWords j rows = (map (λ w. first_of w.0 rows) (words_of j) ≡ map (λ w. Some w.1) (words_of j)) × HasClasses j rows × HasSums j rows
+HasWords j rows = (map (λ w. first_of w.0 rows) (words_of j) ≡ map (λ w. Some w.1) (words_of j)) × HasClasses j rows × HasEnds j rows × HasSums j rows
 
 -- the job that was met has this name and these rows
 abbrev pub IsMet : Job → Option (Text × List Row) → Type 0

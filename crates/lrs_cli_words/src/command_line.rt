@@ -1,9 +1,9 @@
 //! The command line, as `clap` is told of it.
 
-ghost use Rattle.std.specs.Prelude.{◌≡◌, IfOk, false, codes};
+ghost use Rattle.std.specs.Prelude.{◌≡◌, ◌∷◌, [], IfOk, false, codes, fold};
 ghost use Rattle.clap.specs.Words.{app_of, new_app, rule_of, with_rule};
 ghost use Rattle.clap.specs.declared.builder.command.Command.TheViews.{out-Command};
-ghost use Rattle.lrs_cli_words.specs.Words.{app_of_job, flag, line_of_program, required, several, with_job};
+ghost use Rattle.lrs_cli_words.specs.Words.{any, app_of_job, flag, line_of_program, option, required, several, with_job};
 
 use crate::job::JobName;
 use clap::{Arg, ArgAction, Command};
@@ -30,11 +30,19 @@ static SIDE: &str = "The side, seen along the route: L or R";
 
 static CLASS: &str = "The names of exclusive classes";
 
+static CLASSES: &str = "The names of classes; all where none is named";
+
+static FROM_CHAINAGE: &str = "From this chainage, in millimetres; else from the start";
+
+static TO_CHAINAGE: &str = "To this chainage, in millimetres; else to the end";
+
 static ASSET: &str = "The number of an asset";
 
 static PORT: &str = "A port of 127.0.0.1, from 1 to 65535";
 
 static MAX: &str = "How many connections are served, at most 1000000";
+
+static DIR: &str = "The folder that gets the page, as index.html; made where it is missing";
 
 static SUMS: &str = "Gives a new file sums of its pages, so that damage is found";
 
@@ -50,6 +58,20 @@ fn several<'a>(alloc: Global, id: &'a str, help: &'a str) -> Arg<'a>
     ensures local { result.global ≡ false }
 {
     Arg::new(alloc, id).required(true).num_args(1..).help(help)
+}
+
+fn any<'a>(alloc: Global, id: &'a str, help: &'a str) -> Arg<'a>
+    ensures rule { rule_of result ≡ any id.entry.now }
+    ensures local { result.global ≡ false }
+{
+    Arg::new(alloc, id).num_args(1..).help(help)
+}
+
+fn chainage<'a>(alloc: Global, name: &'a str, help: &'a str) -> Arg<'a>
+    ensures rule { rule_of result ≡ option name.entry.now }
+    ensures local { result.global ≡ false }
+{
+    Arg::new(alloc, name).long(name).value_name("C").help(help)
 }
 
 fn sums<'a>(alloc: Global) -> Arg<'a>
@@ -104,6 +126,23 @@ fn with_sums<'a>(
         → IfOk result (λ c. (out-Command c).has_globals ≡ false) }
 {
     line.override_usage(usage).arg(sums(alloc))
+}
+
+/// A line with the classes and the ends of a diagram. The usage names the words alone, and help the ends too.
+fn with_view<'a>(
+    alloc: Global,
+    line: Command<'a>,
+    usage: &'a str,
+) -> Result<Command<'a>, AllocError>
+    ensures app { IfOk result (λ c. app_of c ≡ with_rule (with_rule (with_rule (app_of line.entry)
+        (any (codes "CLASS"))) (option (codes "from"))) (option (codes "to"))) }
+    ensures local { (out-Command line.entry).has_globals ≡ false
+        → IfOk result (λ c. (out-Command c).has_globals ≡ false) }
+{
+    let classes = any(alloc, "CLASS", CLASSES);
+    let from = chainage(alloc, "from", FROM_CHAINAGE);
+    let to = chainage(alloc, "to", TO_CHAINAGE);
+    line.override_usage(usage).arg(classes)?.arg(from)?.arg(to)
 }
 
 fn edit_line<'a>(alloc: Global) -> Result<Command<'a>, AllocError>
@@ -165,6 +204,17 @@ fn strip_line<'a>(alloc: Global) -> Result<Command<'a>, AllocError>
     line.arg(several(alloc, "CLASS", CLASS))
 }
 
+fn diagram_line<'a>(alloc: Global) -> Result<Command<'a>, AllocError>
+    ensures app { IfOk result (λ c. app_of c ≡ app_of_job JobName.Diagram) }
+    ensures local { IfOk result (λ c. (out-Command c).has_globals ≡ false) }
+{
+    let about = "Draws a straight-line diagram of a route, as SVG";
+    let example = "Example: roadlrs diagram roads.db A1 SPEED > a1.svg";
+    let line = line_over(alloc, "diagram", about, example)?;
+    let line = with_word(alloc, line, "ROUTE", ROUTE)?;
+    with_view(alloc, line, "roadlrs diagram <DB> <ROUTE> [CLASS]...")
+}
+
 fn totals_line<'a>(alloc: Global) -> Result<Command<'a>, AllocError>
     ensures app { IfOk result (λ c. app_of c ≡ app_of_job JobName.Totals) }
     ensures local { IfOk result (λ c. (out-Command c).has_globals ≡ false) }
@@ -196,6 +246,16 @@ fn serve_line<'a>(alloc: Global) -> Result<Command<'a>, AllocError>
     with_sums(alloc, line, "roadlrs serve <DB> <PORT> <MAX>")
 }
 
+fn page_line<'a>(alloc: Global) -> Result<Command<'a>, AllocError>
+    ensures app { IfOk result (λ c. app_of c ≡ app_of_job JobName.Page) }
+    ensures local { IfOk result (λ c. (out-Command c).has_globals ≡ false) }
+{
+    let line = Command::new(alloc, "page")
+        .about("Writes a web page that shows a served inventory")
+        .after_help("Example: roadlrs page www");
+    with_word(alloc, line, "DIR", DIR)
+}
+
 fn with_sheets<'a>(alloc: Global, line: Command<'a>) -> Result<Command<'a>, AllocError>
     ensures { IfOk result (λ c. app_of c ≡ with_job
         (with_job (app_of line.entry) JobName.Edit) JobName.Survey) }
@@ -214,21 +274,41 @@ fn with_positions<'a>(alloc: Global, line: Command<'a>) -> Result<Command<'a>, A
     line.subcommand(at)?.subcommand(translate)
 }
 
-fn with_reports<'a>(alloc: Global, line: Command<'a>) -> Result<Command<'a>, AllocError>
+fn with_pictures<'a>(alloc: Global, line: Command<'a>) -> Result<Command<'a>, AllocError>
     ensures { IfOk result (λ c. app_of c ≡ with_job
-        (with_job (with_job (app_of line.entry) JobName.Strip) JobName.Totals) JobName.Find) }
+        (with_job (app_of line.entry) JobName.Strip) JobName.Diagram) }
 {
     let strip = strip_line(alloc)?;
+    let diagram = diagram_line(alloc)?;
+    line.subcommand(strip)?.subcommand(diagram)
+}
+
+fn with_reports<'a>(alloc: Global, line: Command<'a>) -> Result<Command<'a>, AllocError>
+    ensures { IfOk result (λ c. app_of c ≡ with_job
+        (with_job (app_of line.entry) JobName.Totals) JobName.Find) }
+{
     let totals = totals_line(alloc)?;
     let find = find_line(alloc)?;
-    line.subcommand(strip)?.subcommand(totals)?.subcommand(find)
+    line.subcommand(totals)?.subcommand(find)
 }
 
 fn with_service<'a>(alloc: Global, line: Command<'a>) -> Result<Command<'a>, AllocError>
-    ensures { IfOk result (λ c. app_of c ≡ with_job (app_of line.entry) JobName.Serve) }
+    ensures { IfOk result (λ c. app_of c ≡ with_job
+        (with_job (app_of line.entry) JobName.Serve) JobName.Page) }
 {
     let serve = serve_line(alloc)?;
-    line.subcommand(serve)
+    let page = page_line(alloc)?;
+    line.subcommand(serve)?.subcommand(page)
+}
+
+fn with_questions<'a>(alloc: Global, line: Command<'a>) -> Result<Command<'a>, AllocError>
+    ensures { IfOk result (λ c. app_of c ≡ fold with_job (app_of line.entry)
+        (JobName.At ∷ JobName.Translate ∷ JobName.Strip ∷ JobName.Diagram
+        ∷ JobName.Totals ∷ JobName.Find ∷ [])) }
+{
+    let line = with_positions(alloc, line)?;
+    let line = with_pictures(alloc, line)?;
+    with_reports(alloc, line)
 }
 
 /// The command line of the program.
@@ -242,7 +322,6 @@ pub(crate) fn program<'a>(alloc: Global) -> Result<Command<'a>, AllocError>
         .no_binary_name(true)
         .subcommand_required(true);
     let line = with_sheets(alloc, line)?;
-    let line = with_positions(alloc, line)?;
-    let line = with_reports(alloc, line)?;
+    let line = with_questions(alloc, line)?;
     with_service(alloc, line)
 }

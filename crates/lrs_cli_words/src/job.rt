@@ -12,9 +12,11 @@ pub enum JobName {
     At,
     Translate,
     Strip,
+    Diagram,
     Totals,
     Find,
     Serve,
+    Page,
 }
 
 /// A job, with its words as they were given. `db` is the inventory; with `sums` a new file of it
@@ -55,6 +57,15 @@ pub enum Job<'a> {
         side: &'a str,
         classes: Vec<&'a str>,
     },
+    /// Draws a route with the assets of classes, or of all where none is named, from a chainage to
+    /// another.
+    Diagram {
+        db: &'a str,
+        route: &'a str,
+        classes: Vec<&'a str>,
+        from: Option<&'a str>,
+        to: Option<&'a str>,
+    },
     /// Counts side millimetres by class.
     Totals {
         db: &'a str,
@@ -71,6 +82,10 @@ pub enum Job<'a> {
         max: &'a str,
         sums: bool,
     },
+    /// Writes the web page into the folder `dir`.
+    Page {
+        dir: &'a str,
+    },
 }
 
 /// Whether a file that the job makes gets sums of its pages.
@@ -82,8 +97,10 @@ pub fn new_has_sums(job: &Job<'_>) -> bool
         Job::At { .. }
         | Job::Translate { .. }
         | Job::Strip { .. }
+        | Job::Diagram { .. }
         | Job::Totals { .. }
-        | Job::Find { .. } => false,
+        | Job::Find { .. }
+        | Job::Page { .. } => false,
     }
 }
 
@@ -98,9 +115,11 @@ pub(crate) fn read_job(name: &str) -> Option<JobName>
         "at" => Some(JobName::At),
         "translate" => Some(JobName::Translate),
         "strip" => Some(JobName::Strip),
+        "diagram" => Some(JobName::Diagram),
         "totals" => Some(JobName::Totals),
         "find" => Some(JobName::Find),
         "serve" => Some(JobName::Serve),
+        "page" => Some(JobName::Page),
         _ => None,
     }
 }

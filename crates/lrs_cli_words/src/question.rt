@@ -1,13 +1,13 @@
 //! Which question a job asks: each word, read by the reader of its text.
 
-ghost use Rattle.std.specs.Prelude.{◌≡◌, ◌⊎◌, IfOk, IfErr, IfNone, IfSome, map};
+ghost use Rattle.std.specs.Prelude.{◌≡◌, ◌⊎◌, IfOk, IfErr, IfNone, IfSome, map, option_map};
 ghost use Rattle.lrs_position.specs.Readings.{States};
-ghost use Rattle.lrs_cli_words.specs.Questions.{Asks, AsksNothing, Cannot, CannotClass, CannotPosition, CannotServe, IsFaultOf, SaysAsset, SaysClass, SaysDestination, SaysMethod, SaysMost, SaysNumber, SaysPort, SaysPosition, SaysRoute, SaysService, SaysSide};
+ghost use Rattle.lrs_cli_words.specs.Questions.{Asks, AsksAt, AsksDiagram, AsksNothing, AsksStrip, AsksTranslate, Cannot, CannotAt, CannotClass, CannotDiagram, CannotEnd, CannotPosition, CannotServe, CannotStrip, CannotTranslate, IsFaultOf, SaysAsset, SaysClass, SaysDestination, SaysEnd, SaysMethod, SaysMost, SaysNumber, SaysPort, SaysPosition, SaysRoute, SaysService, SaysSide};
 
 use crate::job::Job;
 use lrs_events::{ClassName, Side, read_side};
 use lrs_machine::{Destination, Question};
-use lrs_measure::limits::GREATEST_ASSET;
+use lrs_measure::limits::{GREATEST_ASSET, LONGEST_ROUTE};
 use lrs_measure::{Rows, read_digits};
 use lrs_position::{Expr, Method, RouteName, Target, read_expr, read_method, read_target};
 use std::alloc::{AllocError, Global};
@@ -35,6 +35,8 @@ pub enum BadWord {
     Destination,
     Side,
     Class,
+    From,
+    To,
     Asset,
     Port,
     Max,
@@ -55,6 +57,8 @@ impl fmt::Display for BadWord {
             BadWord::Destination => f.write_str("TO is none of abs, int, rel:NAME and link"),
             BadWord::Side => f.write_str("SIDE is none of L, R and B"),
             BadWord::Class => f.write_str("CLASS is no class name"),
+            BadWord::From => f.write_str("FROM is no chainage in millimetres"),
+            BadWord::To => f.write_str("TO is no chainage in millimetres"),
             BadWord::Asset => f.write_str("ASSET is no asset number"),
             BadWord::Port => f.write_str("PORT is no port number"),
             BadWord::Max => f.write_str("MAX is no number of connections"),
@@ -187,6 +191,89 @@ fn asset_of(text: &str) -> Result<u64, QuestionFault>
     number_of(text, 1, GREATEST_ASSET, BadWord::Asset)
 }
 
+/// The chainage at an end of a diagram, where one was given.
+fn end_of(text: Option<&str>, fault: BadWord) -> Result<Option<u64>, QuestionFault>
+    ensures read { IfOk result (SaysEnd (option_map (λ t. t.now) text.entry)) }
+    ensures unread { IfErr result (CannotEnd fault (option_map (λ t. t.now) text.entry)) }
+{
+    match text {
+        Some(text) => Ok(Some(number_of(text, 0, LONGEST_ROUTE, fault)?)),
+        None => Ok(None),
+    }
+}
+
+fn at_of(route: &str, method: &str, position: &str) -> Result<Question, QuestionFault>
+    ensures read { IfOk result (AsksAt route.now method.now position.now) }
+    ensures unread { IfErr result (CannotAt route.now method.now position.now) }
+{
+    let route = route_of(route)?;
+    let position = position_of(method, position)?;
+    Ok(Question::At { route, position })
+}
+
+fn translate_of(
+    route: &str,
+    method: &str,
+    position: &str,
+    to: &str,
+) -> Result<Question, QuestionFault>
+    ensures read { IfOk result (AsksTranslate route.now method.now position.now to.now) }
+    ensures unread { IfErr result (CannotTranslate route.now method.now position.now to.now) }
+{
+    let route = route_of(route)?;
+    let position = position_of(method, position)?;
+    let to = destination_of(to)?;
+    Ok(Question::Translate {
+        route,
+        position,
+        to,
+    })
+}
+
+fn strip_of(
+    alloc: Global,
+    route: &str,
+    side: &str,
+    classes: &[&str],
+) -> Result<Question, QuestionFault>
+    ensures read { IfOk result (AsksStrip route.now side.now (map (λ t. t.now) classes.now)) }
+    ensures unread { IfErr result (CannotStrip route.now side.now
+        (map (λ t. t.now) classes.now)) }
+{
+    let route = route_of(route)?;
+    let side = side_of(side)?;
+    let classes = classes_of(alloc, classes)?;
+    Ok(Question::Segments {
+        route,
+        side,
+        classes,
+    })
+}
+
+fn diagram_of(
+    alloc: Global,
+    route: &str,
+    classes: &[&str],
+    from: Option<&str>,
+    to: Option<&str>,
+) -> Result<Question, QuestionFault>
+    ensures read { IfOk result (AsksDiagram route.now (map (λ t. t.now) classes.now)
+        (option_map (λ t. t.now) from.entry) (option_map (λ t. t.now) to.entry)) }
+    ensures unread { IfErr result (CannotDiagram route.now (map (λ t. t.now) classes.now)
+        (option_map (λ t. t.now) from.entry) (option_map (λ t. t.now) to.entry)) }
+{
+    let route = route_of(route)?;
+    let classes = classes_of(alloc, classes)?;
+    let from = end_of(from, BadWord::From)?;
+    let to = end_of(to, BadWord::To)?;
+    Ok(Question::Diagram {
+        route,
+        classes,
+        from,
+        to,
+    })
+}
+
 fn port_of(text: &str) -> Result<u16, QuestionFault>
     ensures read { IfOk result (SaysPort text.now) }
     ensures unread { IfErr result (Cannot BadWord.Port (SaysPort text.now)) }
@@ -216,7 +303,7 @@ pub fn service_of(port: &str, max: &str) -> Result<Service, QuestionFault>
     Ok(Service { port, max })
 }
 
-/// What a job asks of its inventory; none where it does a sheet, or serves.
+/// What a job asks of its inventory; none where it does a sheet, serves, or writes the page.
 ///
 /// # Errors
 /// The first word that cannot be read, and `Memory`.
@@ -225,53 +312,40 @@ pub fn question_of(alloc: Global, job: &Job<'_>) -> Result<Option<Question>, Que
     ensures read { IfOk result (λ asked. IfSome asked (Asks job.now)) }
     ensures unread { IfErr result (IsFaultOf job.now) }
 {
-    match job {
-        Job::Edit { .. } | Job::Survey { .. } | Job::Serve { .. } => Ok(None),
+    let question = match job {
+        Job::Edit { .. } | Job::Survey { .. } | Job::Serve { .. } | Job::Page { .. } => {
+            return Ok(None);
+        }
         Job::At {
             route,
             method,
             position,
             ..
-        } => {
-            let route = route_of(route)?;
-            let position = position_of(method, position)?;
-            Ok(Some(Question::At { route, position }))
-        }
+        } => at_of(route, method, position)?,
         Job::Translate {
             route,
             method,
             position,
             to,
             ..
-        } => {
-            let route = route_of(route)?;
-            let position = position_of(method, position)?;
-            let to = destination_of(to)?;
-            Ok(Some(Question::Translate {
-                route,
-                position,
-                to,
-            }))
-        }
+        } => translate_of(route, method, position, to)?,
         Job::Strip {
             route,
             side,
             classes,
             ..
-        } => {
-            let route = route_of(route)?;
-            let side = side_of(side)?;
-            let classes = classes_of(alloc, classes.as_slice())?;
-            Ok(Some(Question::Segments {
-                route,
-                side,
-                classes,
-            }))
-        }
-        Job::Totals { .. } => Ok(Some(Question::Totals)),
-        Job::Find { asset, .. } => {
-            let asset = asset_of(asset)?;
-            Ok(Some(Question::Find { asset }))
-        }
-    }
+        } => strip_of(alloc, route, side, classes.as_slice())?,
+        Job::Diagram {
+            route,
+            classes,
+            from,
+            to,
+            ..
+        } => diagram_of(alloc, route, classes.as_slice(), *from, *to)?,
+        Job::Totals { .. } => Question::Totals,
+        Job::Find { asset, .. } => Question::Find {
+            asset: asset_of(asset)?,
+        },
+    };
+    Ok(Some(question))
 }

@@ -1,6 +1,6 @@
 //! Which job the words ask for.
 
-ghost use Rattle.std.specs.Prelude.{◌≡◌, ◌≢◌, ◌↔◌, IsTrue, IfOk, Err, IfSome, IfNone, IsSome, IsOkAnd, Some, None, codes, is_some, map, true};
+ghost use Rattle.std.specs.Prelude.{◌≡◌, ◌≢◌, ◌↔◌, IsTrue, IfOk, Err, IfSome, IfNone, IsSome, IsOkAnd, Some, None, [], codes, is_some, map, true, unwrap_or};
 ghost use Rattle.clap.specs.Words.{all_of, first_of, found_of, kind_of, rows_of, subcommand_rows_of};
 ghost use Rattle.lrs_cli_words.specs.Words.{AreGiven, AsksForHelp, AsksForVersion, HasJobWords, HasWords, IsJobOf, IsMet, IsMisused, IsSet, job_name, rules_of};
 
@@ -68,6 +68,7 @@ fn word_in<'a>(given: &ArgMatches<'a>, id: &str) -> Option<&'a str>
 // All words that were given for this id.
 fn words_in<'g, 'a>(given: &'g ArgMatches<'a>, id: &str) -> Option<&'g [&'a str]>
     ensures none { IfNone result (first_of id.now (rows_of (found_of given.now)) ≡ None) }
+    ensures none_at_all { IfNone result (all_of id.now (rows_of (found_of given.now)) ≡ None) }
     ensures some { IfSome result (λ words. all_of id.now (rows_of (found_of given.now))
         ≡ Some (map (λ w. w.now) words.now)) }
 {
@@ -188,6 +189,59 @@ fn strip_job<'a>(alloc: Global, given: &ArgMatches<'a>) -> Result<Option<Job<'a>
     }
 }
 
+// A copy of the words that were given for this id: of none where it was not given.
+fn copied_words<'a>(
+    alloc: Global,
+    given: &ArgMatches<'a>,
+    id: &str,
+) -> Result<Vec<&'a str>, AllocError>
+    ensures { IfOk result (λ words. unwrap_or (all_of id.now (rows_of (found_of given.now))) []
+        ≡ map (λ w. w.now) words.items) }
+{
+    let mut words = Vec::new(alloc);
+    if let Some(named) = words_in(given, id) {
+        words.extend_from_slice(named)?;
+    }
+    Ok(words)
+}
+
+// The inventory and the route that a diagram is given.
+fn diagram_words<'a>(given: &ArgMatches<'a>) -> Option<(&'a str, &'a str)>
+    ensures db { IfSome result (λ words. first_of (codes "DB") (rows_of (found_of given.now))
+        ≡ Some words.0.now) }
+    ensures route { IfSome result (λ words. first_of (codes "ROUTE") (rows_of (found_of given.now))
+        ≡ Some words.1.now) }
+    ensures there { AreGiven (rules_of JobName.Diagram) (rows_of (found_of given.now))
+        → IsSome result }
+{
+    let db = word_in(given, "DB")?;
+    let route = word_in(given, "ROUTE")?;
+    Some((db, route))
+}
+
+fn diagram_job<'a>(alloc: Global, given: &ArgMatches<'a>) -> Result<Option<Job<'a>>, AllocError>
+    ensures job { IfOk result (λ found. IfSome found (λ job.
+        (job_name job ≡ JobName.Diagram) × HasWords job (rows_of (found_of given.now)))) }
+    ensures there { AreGiven (rules_of JobName.Diagram) (rows_of (found_of given.now))
+        → IfOk result (λ found. IsSome found) }
+{
+    match diagram_words(given) {
+        Some((db, route)) => {
+            let classes = copied_words(alloc, given, "CLASS")?;
+            let from = word_in(given, "from");
+            let to = word_in(given, "to");
+            Ok(Some(Job::Diagram {
+                db,
+                route,
+                classes,
+                from,
+                to,
+            }))
+        }
+        None => Ok(None),
+    }
+}
+
 fn totals_job<'a>(given: &ArgMatches<'a>) -> Option<Job<'a>>
     ensures job { IfSome result (λ job. (job_name job ≡ JobName.Totals)
         × HasWords job (rows_of (found_of given.now))) }
@@ -227,6 +281,16 @@ fn serve_job<'a>(given: &ArgMatches<'a>) -> Option<Job<'a>>
     })
 }
 
+fn page_job<'a>(given: &ArgMatches<'a>) -> Option<Job<'a>>
+    ensures job { IfSome result (λ job. (job_name job ≡ JobName.Page)
+        × HasWords job (rows_of (found_of given.now))) }
+    ensures there { AreGiven (rules_of JobName.Page) (rows_of (found_of given.now))
+        → IsSome result }
+{
+    let dir = word_in(given, "DIR")?;
+    Some(Job::Page { dir })
+}
+
 // The job of this name, with its words.
 fn job_with<'a>(
     alloc: Global,
@@ -244,9 +308,11 @@ fn job_with<'a>(
         JobName::At => Ok(at_job(given)),
         JobName::Translate => Ok(translate_job(given)),
         JobName::Strip => strip_job(alloc, given),
+        JobName::Diagram => diagram_job(alloc, given),
         JobName::Totals => Ok(totals_job(given)),
         JobName::Find => Ok(find_job(given)),
         JobName::Serve => Ok(serve_job(given)),
+        JobName::Page => Ok(page_job(given)),
     }
 }
 
