@@ -329,7 +329,7 @@ def test_a_click_asks_for_the_millimetre_under_it(page):
 def test_a_click_on_a_point_asks_for_its_millimetre(page):
     browser = page.browser
     page.opens_route("LONG")
-    path = "return document.querySelector('g[data-kind=point] path').getBoundingClientRect().toJSON()"
+    path = "return document.querySelector('g[data-kind=point] g path').getBoundingClientRect().toJSON()"
     box = browser.runs("document.querySelector('#diagram').scrollIntoView();" + path)
     browser.clicks_at(box["x"] + box["width"] / 2, box["y"] + box["height"] / 2)
     browser.shows("#at-said", "chainage 4333.333 m")
