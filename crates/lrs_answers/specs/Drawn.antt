@@ -6,14 +6,12 @@ use Rattle.std.specs.List.Sorted.{IsPermutation, IsSortedBy}
 use Rattle.std.specs.Ordering.{is_eq, is_lt}
 use Rattle.std.specs.declared.cmp.Ordering.{Ordering}
 use Rattle.lrs_position.specs.declared.route.Referent.{Referent}
-use Rattle.lrs_measure.specs.Lists.{each_two}
 use Rattle.lrs_measure.specs.Texts.{Name, name_cmp}
 use Rattle.lrs_element.specs.Course.{course_of, IsFewest}
 use Rattle.lrs_element.specs.Pieces.{piece_len}
 use Rattle.lrs_element.specs.declared.link.Ground.{Ground}
 use Rattle.lrs_element.specs.declared.link.Piece.{Piece}
 use Rattle.lrs_position.specs.declared.location.PlaceFault.TheVariants as place
-use Rattle.lrs_events.specs.Changes.{has_row}
 use Rattle.lrs_events.specs.declared.class.Asset.{Asset}
 use Rattle.lrs_events.specs.declared.class.Class.{Class}
 use Rattle.lrs_events.specs.declared.class.Kind.{Kind}
@@ -22,8 +20,7 @@ use Rattle.lrs_events.specs.declared.side.LinkSide.{LinkSide}
 use Rattle.lrs_events.specs.declared.side.LinkSide.TheVariants.{Left, Right}
 use Rattle.lrs_events.specs.declared.span.Span.{Span}
 use Rattle.lrs_events_lanes.specs.Lane.{is_met}
-use Rattle.lrs_events_lanes.specs.Order.{place_before}
-use Rattle.lrs_events_spans.specs.Tied.{is_on}
+use Rattle.lrs_events_spans.specs.Tied.{IsLaneOf}
 use Rattle.lrs_machine.specs.declared.image.Image.{Image}
 use Rattle.lrs_machine.specs.declared.image.RouteRow.{RouteRow}
 use Rattle.lrs_machine.specs.declared.segment.SegFault.TheVariants as seg
@@ -51,15 +48,10 @@ value_of assets r = option_map (λ h. h.asset.value) (hit_by assets r)
 abbrev pub drawn_row : List Asset → Bool → Span → DrawnRow
 drawn_row assets point r = record { from = r.from; to = r.to; asset = r.asset; value = value_of assets r; is_point = point }
 
--- the rows of a class with a side of the route or both, each once, by start and then by asset
-pub record IsLane (rows : List Span) (class : Name) (side : LinkSide) (lane : List Span) : Type 0 where
-  pub rows_are : (r : Span) → has_row lane r ≡ (has_row rows r && is_on class side r)
-  pub order : each_two place_before lane ≡ true
-
 -- Each row of the class on this side that has a millimetre of the stretch is drawn on the band, once, and nothing else is.
 abbrev pub IsBand : List Asset → List Span → ℕ → ℕ → Class → LinkSide → List DrawnRow → Type 0
 IsBand assets rows from to class side drawn =
-    (lane : List Span) × IsLane rows class.name side lane × (drawn ≡ map (drawn_row assets (is_point class.kind)) (filter (is_met from to) lane))
+    (lane : List Span) × IsLaneOf rows class.name side lane × (drawn ≡ map (drawn_row assets (is_point class.kind)) (filter (is_met from to) lane))
 
 -- the bands of a class, one on each side
 pub record AreBandsOf (assets : List Asset) (rows : List Span) (from to : ℕ) (class : Class) (b : ClassBands) : Type 0 where

@@ -75,8 +75,8 @@ fn band_of(
     requires order { each_two asset_before assets.now.rows ≡ true }
     ensures { IfOk result (IsBand assets.now.rows spans.now scale.from scale.to class side) }
 {
-    let lane = spans.lane(class.name, side);
-    rows_within(alloc, assets, is_point(class.kind), scale, lane)
+    let near = spans.near(class.name, side, scale.from, scale.to);
+    rows_within(alloc, assets, is_point(class.kind), scale, near)
 }
 
 /// What is drawn of a class.

@@ -225,11 +225,18 @@ impl Lane {
         self.rows.as_slice()
     }
 
+    /// Some of the rows, in their order: with all that have a millimetre from low up to high, and few others.
+    pub fn near(&self, low: u64, high: u64) -> &[Span]
+        ensures { filter (is_met low high) result.now ≡ filter (is_met low high) self.now.rows }
+    {
+        reach(&self.rows, &self.greatest, low, high)
+    }
+
     /// The least asset with a millimetre from low up to high.
     pub fn over(&self, low: u64, high: u64) -> Option<u64>
         ensures { IsLeast (is_met low high) self.now.rows result }
     {
-        least_met(reach(&self.rows, &self.greatest, low, high), low, high)
+        least_met(self.near(low, high), low, high)
     }
 
     /// Copies the rows with a millimetre from low up to high, in their order, to the end of others.
@@ -241,7 +248,7 @@ impl Lane {
             ++ filter (is_met low high) self.now.rows) }
         ensures err { OnErr result (out.new.items ≡ out.old.items) }
     {
-        push_whole(out, reach(&self.rows, &self.greatest, low, high), low, high)
+        push_whole(out, self.near(low, high), low, high)
     }
 
     /// Makes room for more rows.

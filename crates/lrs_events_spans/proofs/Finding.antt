@@ -29,7 +29,7 @@ use Rattle.lrs_events_lanes.specs.Lane.{is_met, IsLeast}
 use Rattle.lrs_events_lanes.proofs.Members.{In as LaneIn}
 use Rattle.lrs_events_lanes.proofs.Lanes.{LeastOf, nothing, something, least_from}
 use Rattle.lrs_events_spans.specs.declared.lanes.ClassLanes.{ClassLanes}
-use Rattle.lrs_events_spans.specs.Tied.{is_on, has_lanes, AreKept}
+use Rattle.lrs_events_spans.specs.Tied.{is_on, has_lanes, AreKept, IsLaneOf}
 use Rattle.lrs_events_spans.specs.Search.{IsPlaceOf, one_side, HoldsOver, lesser_of}
 use Rattle.lrs_events_spans.specs.Search.{IsOver as IsLeastOver}
 
@@ -107,11 +107,6 @@ place_none lanes class i h k = record {
 }
 
 -- ---- a lane
-
--- the class's rows with that side or both, in the order of places
-pub record IsLaneOf (rows : List Span) (class : Name) (side : LinkSide) (lane : List Span) : Type 0 where
-  pub has : (r : Span) → has_row lane r ≡ (has_row rows r && is_on class side r)
-  pub in_order : each_two place_before lane ≡ true
 
 module _ (rows : List Span) (lanes : List ClassLanes) (class : Name) (at : ℕ) (kept : AreKept rows lanes) (place : IsPlaceOf lanes class at) where
   pub left_is : (l : ClassLanes) → at < length lanes → l ≡ get_or lanes at l → IsLaneOf rows class Left l.left.rows

@@ -1,5 +1,5 @@
 -- What is found of the rows of a route.
-use Rattle.std.specs.Prelude.{◌≡◌, ℕ, ◌<◌, ◌≤◌, true, false, min, List, length, slice_index_or, Option, Some, None}
+use Rattle.std.specs.Prelude.{◌≡◌, ℕ, ◌<◌, ◌≤◌, true, false, min, List, filter, length, slice_index_or, Option, Some, None}
 use Rattle.lrs_measure.specs.Texts.{Name}
 use Rattle.lrs_events.specs.declared.side.Side.{Side}
 use Rattle.lrs_events.specs.declared.side.Side.TheVariants.{L, R}
@@ -7,14 +7,19 @@ use Rattle.lrs_events.specs.declared.side.LinkSide.{LinkSide}
 use Rattle.lrs_events.specs.declared.side.LinkSide.TheVariants.{Left, Right}
 use Rattle.lrs_events.specs.declared.span.Span.{Span}
 use Rattle.lrs_events.specs.Members.{has_side, is_member}
+use Rattle.lrs_events_lanes.specs.Lane.{is_met}
 use Rattle.lrs_events_spans.specs.declared.lanes.ClassLanes.{ClassLanes}
-use Rattle.lrs_events_spans.specs.Tied.{has_lanes}
+use Rattle.lrs_events_spans.specs.Tied.{has_lanes, IsLaneOf}
 
 -- the lanes of the class are there, or it has none
 pub record IsPlaceOf (lanes : List ClassLanes) (class : Name) (at : ℕ) : Type 0 where
   pub within : at ≤ length lanes
   pub there : (d : ClassLanes) → at < length lanes → (slice_index_or lanes at d).class ≡ class
   pub nowhere : length lanes ≤ at → has_lanes lanes class ≡ false
+
+-- some rows of a lane, in its order, and with them all that have a millimetre of the stretch
+abbrev pub AreNear : List Span → Name → LinkSide → ℕ → ℕ → List Span → Type 0
+AreNear rows class side from to near = (lane : List Span) × IsLaneOf rows class side lane × (filter (is_met from to) near ≡ filter (is_met from to) lane)
 
 -- the side of a course that has one side of it
 abbrev pub one_side : LinkSide → Side

@@ -16,6 +16,11 @@ use Rattle.lrs_events_spans.specs.declared.lanes.ClassLanes.{ClassLanes}
 abbrev pub is_on : Name → LinkSide → Span → Bool
 is_on class s r = same_name r.class class && has_side r.side s
 
+-- the rows of a class with a side of the route or both, each once, in the order of places
+pub record IsLaneOf (rows : List Span) (class : Name) (side : LinkSide) (lane : List Span) : Type 0 where
+  pub has : (r : Span) → has_row lane r ≡ (has_row rows r && is_on class side r)
+  pub in_order : each_two place_before lane ≡ true
+
 -- the lanes of a class have its rows, in the order of places
 pub record IsClass (rows : List Span) (l : ClassLanes) : Type 0 where
   pub left : (r : Span) → has_row l.left.rows r ≡ (has_row rows r && is_on l.class Left r)

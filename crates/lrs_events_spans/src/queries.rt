@@ -8,7 +8,7 @@ ghost use Rattle.lrs_events.specs.Spans.{are_rows};
 ghost use Rattle.lrs_events_rows.specs.Removals.{is_met};
 ghost use Rattle.lrs_events_rows.specs.Members.{is_of, is_free};
 ghost use Rattle.lrs_events_lanes.specs.Order.{place_before};
-ghost use Rattle.lrs_events_spans.specs.Search.{IsOver};
+ghost use Rattle.lrs_events_spans.specs.Search.{AreNear, IsOver};
 ghost use Rattle.lrs_events_spans.specs.Tied.{is_on};
 
 use crate::spans::Spans;
@@ -34,6 +34,14 @@ impl Spans {
         ensures order { each_two place_before result.now ≡ true }
     {
         search::lane_of(self.kept.rows(), self.kept.lanes(), class, side)
+    }
+
+    /// Rows of the class with this side of the route or both, in the order of `lane`: all that have a millimetre from
+    /// chainage `from` up to `to`, and few others.
+    pub fn near(&self, class: ClassName, side: LinkSide, from: u64, to: u64) -> &[Span]
+        ensures { AreNear self.now class side from to result.now }
+    {
+        search::near(self.kept.rows(), self.kept.lanes(), class, side, from, to)
     }
 
     /// Whether a span can be added: its asset has no other class, and nothing yet of its millimetres.

@@ -10,7 +10,7 @@ ghost use Rattle.lrs_events_rows.specs.Members.{is_of, leaves_free, is_free};
 ghost use Rattle.lrs_events_lanes.specs.Lane.{is_met};
 ghost use Rattle.lrs_events_lanes.specs.Order.{place_before};
 ghost use Rattle.lrs_events_spans.specs.Tied.{AreKept, is_on};
-ghost use Rattle.lrs_events_spans.specs.Search.{IsPlaceOf, one_side, IsOver, lesser_of};
+ghost use Rattle.lrs_events_spans.specs.Search.{AreNear, IsPlaceOf, one_side, IsOver, lesser_of};
 
 use crate::lanes::ClassLanes;
 use lrs_events::{ClassName, LinkSide, Side, Span};
@@ -64,6 +64,29 @@ pub(crate) fn lane_of<'a>(
         match side {
             LinkSide::Left => lanes[at].left.rows(),
             LinkSide::Right => lanes[at].right.rows(),
+        }
+    } else {
+        &rows[..0]
+    }
+}
+
+/// Rows of the class with that side or both: all with a millimetre from `from` up to `to`, and few others.
+pub(crate) fn near<'a>(
+    rows: &'a [Span],
+    lanes: &'a [ClassLanes],
+    class: ClassName,
+    side: LinkSide,
+    from: u64,
+    to: u64,
+) -> &'a [Span]
+    requires kept { AreKept rows.now lanes.now }
+    ensures { AreNear rows.now class side from to result.now }
+{
+    let at = place_of(lanes, class);
+    if at < lanes.len() {
+        match side {
+            LinkSide::Left => lanes[at].left.near(from, to),
+            LinkSide::Right => lanes[at].right.near(from, to),
         }
     } else {
         &rows[..0]
