@@ -221,7 +221,7 @@ def test_the_routes_are_listed_and_filtered(page):
     browser.types("#filter", "a1")
     browser.shows("#routes-said", "1 of 152 routes.")
     assert browser.text("#routes li").split() == ["A1", "8.000", "m"]
-    browser.types("#filter", "R14")
+    browser.types("#filter", "r14")
     browser.shows("#routes-said", "11 of 152 routes.")
     page.pictured("routes")
     assert len(browser.text("#routes li").splitlines()) >= 11
