@@ -30,15 +30,20 @@ def blocks_of_the_readme():
 
 def test_the_commands_of_the_readme_are_there():
     commands = [line.split()[0] for line in blocks_of_the_readme()[0].splitlines()]
-    assert commands == ["./roadlrs", "./test"], commands
+    assert commands == ["./roadlrs", "./verify", "./test", "./package"], commands
     for command in commands:
         assert os.access(TOP / command, os.X_OK), command
 
 
+def first_sheet():
+    """The first sheet of the readme, and the replies that it shows."""
+    typed = r"\$ cat first\.csv\n(.*)\$ \./roadlrs edit :memory: first\.csv\n(.*)"
+    return re.fullmatch(typed, blocks_of_the_readme()[1], re.S).groups()
+
+
 def test_the_example_of_the_readme():
     """A new user who types it sees what the readme shows."""
-    typed = r"\$ cat first\.csv\n(.*)\$ \./roadlrs edit :memory: first\.csv\n(.*)"
-    sheet, replies = re.fullmatch(typed, blocks_of_the_readme()[1], re.S).groups()
+    sheet, replies = first_sheet()
     with tempfile.TemporaryDirectory() as folder:
         (pathlib.Path(folder) / "first.csv").write_text(sheet)
         ends(run("edit", ":memory:", "first.csv", cwd=folder), replies.encode(), 1)
