@@ -343,6 +343,7 @@ def test_what_the_manifest_says():
         kept = "kept: an earlier run on the same machine proved the same files over the same libraries"
         wanted = [
             "version 7.0.1",
+            r"made \d{4}-\d\d-\d\d",
             f"kit {KIT}",
             f"sources {sum_of_sources(tree.top)}",
             f"program {hashlib.sha256(program).hexdigest()}",
@@ -454,3 +455,40 @@ def test_the_release_of_other_bytes_is_not_verified():
         assert ended.status == 1 and b"DIFFERS  program: what was built is not the released one" in ended.stdout, ended
 
     in_tree(test)
+
+
+# how a release is packed
+
+
+def test_the_archive_and_the_package_have_the_same_files():
+    def test(tree):
+        tree.write("docs/PAGE.md", "page\n")
+        tree.write("docs/roadlrs.1", "manual\n")
+        tree.write("released/roadlrs.bash", "completion\n")
+        ended = tree.call("package")
+        archive, package = [tree.top / name for name in ended.stdout.decode().split()]
+        assert ended.status == 0 and archive.name == "roadlrs-7.0.1-x86_64-linux.tar.xz" and package.name == "roadlrs_7.0.1_amd64.deb", ended
+        first = [archive.read_bytes(), package.read_bytes()]
+        doc = ["share/doc/roadlrs/" + name for name in ["README.md", "docs/PAGE.md", "manifest"]]
+        files = ["bin/roadlrs", "share/bash-completion/completions/roadlrs", *doc, "share/man/man1/roadlrs.1.gz"]
+        subprocess.run(["tar", "-C", tree.folder, "-xf", archive], check=True)
+        subprocess.run(["dpkg-deb", "-x", package, tree.folder / "deb"], check=True)
+        for top in [tree.folder / "roadlrs-7.0.1", tree.folder / "deb" / "usr"]:
+            assert sorted(str(path.relative_to(top)) for path in top.rglob("*") if path.is_file()) == files
+            ends(tree.run(*WORDS, program=top / "bin" / "roadlrs"), OUTPUT, 0)
+        time.sleep(1.1)
+        (tree.top / "README.md").touch()
+        (tree.top / "released" / "manifest").touch()
+        assert tree.call("package").status == 0
+        assert [archive.read_bytes(), package.read_bytes()] == first
+
+    in_release(test)
+
+
+def test_only_a_release_of_these_sources_is_packed():
+    def test(tree):
+        change(tree.top / "crates.txt")
+        ends(tree.call("package"), b"", 70, b"package: the sources are not those of a release: run ./release first\n")
+        assert not (tree.top / "out").exists()
+
+    in_release(test)
