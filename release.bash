@@ -56,8 +56,8 @@ find_sources() {
 # A sum over the names and bytes of files and of what lies in folders. There is none where something is neither, as a link.
 sum_of() (
     set -o pipefail
-    cd "$top" || exit
-    [ -z "$(find "$@" ! -type f ! -type d -print -quit)" ] || exit
+    cd "$top" || exit 1
+    [ -z "$(find "$@" ! -type f ! -type d -print -quit)" ] || exit 1
     find "$@" -type f -print0 | LC_ALL=C sort -z | xargs -0 sha256sum -- | sha256sum | cut -d ' ' -f 1
 )
 
@@ -84,7 +84,7 @@ is_built() {
 
 is_released() {
     local sum
-    [ -f "$top/$packed" ] && sum=$(sum_of "${sources[@]}") && [ -n "$sum" ] && [ "$sum" = "$(fact sources)" ]
+    [ -f "$top/$packed" ] && sum=$(sum_of "${sources[@]}") && [ "$sum" = "$(fact sources)" ]
 }
 
 # unpacks the released program to a file, by whatever can; what has another sum than the manifest's is no release
@@ -163,10 +163,11 @@ prove() {
     [ "${PIPESTATUS[0]}" -eq 0 ]
 }
 
-# what a log of rt ci says of a crate that was proved in that run
+# what a log of rt ci says of a crate that was proved in that run, and did not change while it ran
 said_of() {
     awk -v crate="$1" '
         /^== / { is_its = $2 == crate && NF == 2 }
         is_its && /^logic=proved / { said = $0 }
+        /^rt: note: what this run proved of / && index($0, " " crate " ") { said = "" }
         END { if (said != "") print said }' "$2"
 }

@@ -68,7 +68,7 @@ def test_the_release_is_of_these_sources():
 
 def test_what_is_built_is_what_is_released():
     assert (TOP / "released" / "manifest").exists(), AGAIN
-    kit = subprocess.run(["rt", "version"], capture_output=True, text=True, timeout=PATIENCE).stdout.strip()
+    kit = told(TOP, "rt version")
     if facts(TOP)["kit"] != kit:
         warnings.warn(f"the release is of another kit ({facts(TOP)['kit']}) than the one here ({kit}), so only sums of sources are compared")
         return
@@ -370,10 +370,13 @@ def test_what_was_said_before_of_the_same_sources():
     def test(tree):
         tree.build()
         log = tree.folder / "log"
-        log.write_text("== middle\nlogic=proved functions=3 sum=1\nrt: middle proved\n== middle: its tests\nlogic=proved functions=4\n")
+        said = "== middle\nlogic=proved functions=3 sum=1\nrt: middle proved\n== middle: its tests\nlogic=proved functions=4\n"
+        log.write_text(said)
         os.utime(log, (1, 1))
         assert said_of_middle(tree, log).startswith("kept: ")
-        log.touch()
+        log.write_text(said + "rt: note: what this run proved of low middle is not kept, as files of theirs changed while it ran\n")
+        assert said_of_middle(tree, log).startswith("kept: ")
+        log.write_text(said)
         assert said_of_middle(tree, log) == "logic=proved functions=3 sum=1"
         assert said_of_middle(tree) == "logic=proved functions=3 sum=1"
         tree.write("crates/middle/src/lib.rt", "# other\n")
