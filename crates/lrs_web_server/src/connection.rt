@@ -1,5 +1,7 @@
 //! A connection whose client may keep the server waiting only so long.
 
+ghost use Rattle.std.specs.Io.{ReadsAtMost};
+
 use crate::deadlines::Patience;
 use std::io;
 use std::io::{ErrorKind, Read, Write};
@@ -13,7 +15,7 @@ const TAKING_MILLIS: u64 = 4_000;
 
 const ENDING_MILLIS: u64 = 1_000;
 
-// So often a signal may interrupt a read before the connection is given up.
+// So often a signal may interrupt a read or a write before the connection is given up.
 const MOST_INTERRUPTIONS: u32 = 1_000;
 
 // What a client sent beyond its request is read in at most this many pieces, and let go.
@@ -42,42 +44,48 @@ impl<'a, S: Read + Write + OpenStream + Drop, C: Clock> Connection<'a, S, C> {
     }
 }
 
+// Reads what comes while there is patience.
+fn read_in_time<S: Read + OpenStream, C: Clock>(
+    stream: &mut S,
+    patience: &mut Patience,
+    clock: &C,
+    buf: &mut [u8],
+) -> io::Result<usize>
+    ensures { ReadsAtMost result buf.new }
+{
+    for _turn in 0..MOST_INTERRUPTIONS {
+        let left = patience.left(clock)?;
+        stream.set_read_timeout(Some(left))?;
+        match stream.read(buf) {
+            Err(error) if error.kind() == ErrorKind::Interrupted => {}
+            outcome => return outcome,
+        }
+    }
+    Err(io::Error::from(ErrorKind::Interrupted))
+}
+
 impl<'a, S: Read + Write + OpenStream + Drop, C: Clock> Read for Connection<'a, S, C> {
     fn read(&mut self, buf: &mut [u8]) -> io::Result<usize> {
+        read_in_time(&mut self.stream, &mut self.sending, self.clock, buf)
+    }
+}
+
+impl<'a, S: Read + Write + OpenStream + Drop, C: Clock> Write for Connection<'a, S, C> {
+    fn write(&mut self, buf: &[u8]) -> io::Result<usize> {
         for _turn in 0..MOST_INTERRUPTIONS {
-            let left = self.sending.left(self.clock)?;
-            self.stream.set_read_timeout(Some(left))?;
-            match self.stream.read(buf) {
+            let left = self.taking.left(self.clock)?;
+            self.stream.set_write_timeout(Some(left))?;
+            match self.stream.write(buf) {
                 Err(error) if error.kind() == ErrorKind::Interrupted => {}
                 outcome => return outcome,
             }
         }
         Err(io::Error::from(ErrorKind::Interrupted))
     }
-}
-
-impl<'a, S: Read + Write + OpenStream + Drop, C: Clock> Write for Connection<'a, S, C> {
-    fn write(&mut self, buf: &[u8]) -> io::Result<usize> {
-        let left = self.taking.left(self.clock)?;
-        self.stream.set_write_timeout(Some(left))?;
-        self.stream.write(buf)
-    }
 
     fn flush(&mut self) -> io::Result<()> {
         self.stream.flush()
     }
-}
-
-// Reads a piece of what a client still sends, and answers whether there may be more.
-fn let_go<S: Read + OpenStream, C: Clock>(
-    stream: &mut S,
-    ending: &mut Patience,
-    clock: &C,
-    piece: &mut [u8],
-) -> io::Result<bool> {
-    let left = ending.left(clock)?;
-    stream.set_read_timeout(Some(left))?;
-    Ok(stream.read(piece)? > 0)
 }
 
 // Ends the reply. A stream that is closed with bytes unread may take the reply back from a client that has not read it
@@ -89,9 +97,9 @@ fn end<S: Read + OpenStream, C: Clock>(stream: &mut S, clock: &C) {
     let mut ending = Patience::of_millis(ENDING_MILLIS);
     let mut piece = [0u8; PIECE];
     for _turn in 0..MOST_PIECES {
-        match let_go(stream, &mut ending, clock, &mut piece) {
-            Ok(true) => {}
-            Ok(false) | Err(_) => return,
+        match read_in_time(stream, &mut ending, clock, &mut piece) {
+            Ok(0) | Err(_) => return,
+            Ok(_) => {}
         }
     }
 }
