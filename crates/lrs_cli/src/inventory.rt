@@ -1,10 +1,12 @@
 //! The inventory in a file.
 
-ghost use Rattle.std.specs.Prelude.{◌≡◌, IfOk, false};
+ghost use Rattle.std.specs.Prelude.{◌≡◌, IfErr, IfOk, false};
+ghost use Rattle.lrs_desk.specs.declared.desk.OpenFault.{OpenFault as DeclaredFault};
 ghost use Rattle.sqlite.specs.Files.{file_state};
 ghost use Rattle.lrs_measure.specs.Limits.{most_assets, most_edits, most_routes};
 ghost use Rattle.lrs_image.specs.Keeping.{HoldsOnly};
 ghost use Rattle.lrs_store_keeper.specs.Holding.{MayHold};
+ghost use Rattle.lrs_cli_tasks.specs.Faults.{fault_of_open};
 
 use lrs_cli_tasks::{ProgramFault, open_desk};
 use lrs_desk::{Desk, OpenFault, Staged};
@@ -29,6 +31,7 @@ pub fn open_file(
     ensures behind { IfOk result (λ desk. desk.is_ahead ≡ false) }
     ensures limits { IfOk result (λ desk. (desk.limits.routes ≡ most_routes)
         × (desk.limits.assets ≡ most_assets) × (desk.limits.edits ≡ most_edits)) }
+    ensures fault { IfErr result (λ e. (why : DeclaredFault) × (e ≡ fault_of_open why)) }
 {
     match open_tables(rt, path, new_has_sums, Unknown, Reader) {
         Ok(tables) => open_desk(Staged::over(tables, rt.alloc()), rt.alloc()),

@@ -1,6 +1,7 @@
 //! What is done with an inventory.
 
 ghost use Rattle.std.specs.Prelude.{◌≡◌, false};
+ghost use Rattle.lrs_cli.specs.Jobs.{HasWorked};
 
 use crate::server::do_service;
 use lrs_cli_tasks::{Ending, Pace, Shown, Work, do_question, do_sheet, open_in_memory};
@@ -19,13 +20,14 @@ pub fn do_work<R: Runtime<A = Global> + Net, K: Keeper>(
     shown: Shown,
 ) -> Ending
     requires behind { desk.old.is_ahead ≡ false }
+    ensures { HasWorked K.may_hold work.entry desk.old desk.new result }
 {
     match work {
-        Work::Sheet { kind, from } => match do_sheet(rt, desk, kind, from, of_file, shown) {
-            Ok(tally) if tally.refused == 0 => Ending::Done,
-            Ok(_) => Ending::RecordsRefused,
-            Err(fault) => Ending::Stopped(fault),
-        },
+        Work::Sheet {
+            kind,
+            from,
+            resumes,
+        } => do_sheet(rt, desk, kind, resumes, from, of_file, shown),
         Work::Question(question) => do_question(rt, desk, question),
         Work::Service(service) => do_service(rt, desk, service),
     }

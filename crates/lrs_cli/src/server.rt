@@ -1,8 +1,7 @@
 //! The inventory, served over HTTP.
 
-ghost use Rattle.std.specs.Prelude.{ℕ, ◌≡◌, ◌+◌};
-ghost use Rattle.lrs_cli.specs.Services.{fault_of_service};
-ghost use Rattle.lrs_web.specs.Visits.{HasVisited};
+ghost use Rattle.std.specs.Prelude.{◌≡◌};
+ghost use Rattle.lrs_cli.specs.Services.{EndsService, fault_of_service};
 
 use lrs_cli_tasks::{Ending, ProgramFault};
 use lrs_cli_words::Service;
@@ -27,8 +26,7 @@ pub fn do_service<R: Runtime<A = Global> + Net, K: Keeper>(
     desk: &mut Desk<K>,
     service: Service,
 ) -> Ending
-    ensures { result ≡ Ending.Done → (full : ℕ) × (cut : ℕ) × (full + cut ≡ service.max)
-        × HasVisited K.may_hold full cut desk.old desk.new }
+    ensures { EndsService K.may_hold service.max desk.old desk.new result }
 {
     match serve(rt, service.port, service.max, desk) {
         Ok(_) => Ending::Done,

@@ -1,5 +1,5 @@
 -- A run of a sheet over a writer that is put before another and taken away again.
-use Rattle.std.proofs.Common.{◌∙◌, ℕ, List, ◌++◌, Option, Some, None, [], Result, Ok, Err, refl, ap, inl, inr}
+use Rattle.std.proofs.Common.{◌≡◌, ◌∙◌, ℕ, List, ◌++◌, ◌∷◌, length, Option, Some, None, [], Result, Ok, Err, refl, ap, inl, inr, arith}
 use Rattle.std.specs.Prelude.{IfSome}
 use Rattle.std.specs.Io.KnownBytes.{Appends, Keeps}
 use Rattle.lrs_machine.specs.State.{State}
@@ -13,8 +13,10 @@ use Rattle.lrs_sheet_records.specs.declared.sheet.Sheet.{Sheet}
 use Rattle.lrs_machine.specs.declared.image.Image.{Image}
 use Rattle.lrs_machine.specs.declared.table.Table.{Table}
 use Rattle.lrs_desk.specs.DeskView.{DeskView}
-use Rattle.lrs_sheet.specs.Sheets.{AreAnswered, HasFailedToKeep, HasStopped, IsAfterCommands, LeavesDesk, Runs}
-use Rattle.lrs_cli_tasks.specs.Tasks.{GoesOnOrBreaks}
+use Rattle.lrs_sheet.specs.Sheets.{AreAnswered, HasFailedToKeep, HasStopped, IsAfterCommands, LeavesDesk, Runs, RunsBehind, StandAtFront}
+use Rattle.lrs_machine.specs.Image.{state_of}
+use Rattle.lrs_cli_tasks.specs.declared.sheets.Way.{Way}
+use Rattle.lrs_cli_tasks.specs.Sheets.{GoesOnOrBreaks, HasRun, together_at}
 
 -- bytes that are appended between two that are kept
 appends-between : (first old new last : Option (List ℕ)) (bytes : List ℕ) → Keeps first old → Keeps new last → Appends old new bytes → Appends first last bytes
@@ -31,7 +33,7 @@ keeps-between (Some xs) (Some ys) None last kept keeps same = absurd same
 keeps-between (Some xs) (Some ys) (Some zs) None kept keeps same = absurd keeps
 keeps-between (Some xs) (Some ys) (Some zs) (Some rest) kept keeps same = keeps ∙ same ∙ kept
 
-module _ (sheet : Sheet) (together : ℕ) (limits : Limits) (input : List ℕ) (before after : State) (first old new last : Option (List ℕ)) (kept : Keeps first old) (keeps : Keeps new last) where
+module _ (front : List (List (List ℕ))) (sheet : Sheet) (together : ℕ) (limits : Limits) (input : List ℕ) (before after : State) (first old new last : Option (List ℕ)) (kept : Keeps first old) (keeps : Keeps new last) where
   answered-between : (to : State) (records : List (List (List ℕ))) (replies : List Reply) → AreAnswered sheet limits before records replies to old new → AreAnswered sheet limits before records replies to first last
   answered-between to records replies answered = record {
     width = answered.width;
@@ -39,10 +41,10 @@ module _ (sheet : Sheet) (together : ℕ) (limits : Limits) (input : List ℕ) (
     written = appends-between first old new last _ kept keeps answered.written;
   }
 
-  stopped-between : (to : State) → HasStopped sheet together limits input before to old new → HasStopped sheet together limits input before to first last
+  stopped-between : (to : State) → HasStopped front sheet together limits input before to old new → HasStopped front sheet together limits input before to first last
   stopped-between to (header, records, further, replies, is, begins, come, answered) = (header, records, further, replies, is, begins, come, answered-between to records replies answered)
 
-  failed-between : HasFailedToKeep sheet together limits input before after old new → HasFailedToKeep sheet together limits input before after first last
+  failed-between : HasFailedToKeep front sheet together limits input before after old new → HasFailedToKeep front sheet together limits input before after first last
   failed-between failed = record {
     header = failed.header;
     records = failed.records;
@@ -56,7 +58,7 @@ module _ (sheet : Sheet) (together : ℕ) (limits : Limits) (input : List ℕ) (
     flight = failed.flight;
   }
 
-  pub runs-between : (result : Result Tally SheetFault) → Runs sheet together limits input before after old new result → Runs sheet together limits input before after first last result
+  runs-between : (result : Result Tally SheetFault) → RunsBehind front sheet together limits input before after old new result → RunsBehind front sheet together limits input before after first last result
   runs-between (Ok tally) (inl (all, state, same, counts)) = inl (all, state, keeps-between first old new last kept keeps same, counts)
   runs-between (Ok tally) (inr (header, records, replies, is, all, answered, counts, few)) = inr (header, records, replies, is, all, answered-between after records replies answered, counts, few)
   runs-between (Err fault.BadHeader) (header, begins, other, state, same) = (header, begins, other, state, keeps-between first old new last kept keeps same)
@@ -70,11 +72,30 @@ module _ (sheet : Sheet) (together : ℕ) (limits : Limits) (input : List ℕ) (
   runs-between (Err fault.Memory) (inl (state, same)) = inl (state, keeps-between first old new last kept keeps same)
   runs-between (Err fault.Memory) (inr (header, records, replies, is, begins, answered)) = inr (header, records, replies, is, begins, answered-between after records replies answered)
 
--- the same where it may be unknown what the reader has left
-pub known-between : (known : Option (List ℕ)) (sheet : Sheet) (together : ℕ) (limits : Limits) (before after : State) (first old new last : Option (List ℕ)) (result : Result Tally SheetFault) → Keeps first old → Keeps new last
-    → IfSome known (λ input. Runs sheet together limits input before after old new result) → IfSome known (λ input. Runs sheet together limits input before after first last result)
-known-between None sheet together limits before after first old new last result kept keeps runs = tt
-known-between (Some input) sheet together limits before after first old new last result kept keeps runs = runs-between sheet together limits input before after first old new last kept keeps result runs
+known-between : (known : Option (List ℕ)) (passed : ℕ) (sheet : Sheet) (together : ℕ) (limits : Limits) (before after : State) (first old new last : Option (List ℕ)) (result : Result Tally SheetFault) → Keeps first old → Keeps new last
+    → IfSome known (λ input. (front : List (List (List ℕ))) → StandAtFront input front → length front ≡ passed → RunsBehind front sheet together limits input before after old new result)
+    → IfSome known (λ input. (front : List (List (List ℕ))) → StandAtFront input front → length front ≡ passed → RunsBehind front sheet together limits input before after first last result)
+known-between None passed sheet together limits before after first old new last result kept keeps runs = tt
+known-between (Some input) passed sheet together limits before after first old new last result kept keeps runs =
+    λ front at count. runs-between front sheet together limits input before after first old new last kept keeps result (runs front at count)
+
+-- the same where it may be unknown what the reader has left, and what the run leaves of the desk
+pub ran-between : {K : Type 0} (holds : K → Result Image Table → Type 0) (way : Way) (known : Option (List ℕ)) (before after : DeskView K) (first old new last : Option (List ℕ)) (outcome : Result Tally SheetFault)
+    → Keeps first old → Keeps new last → HasRun holds way known before after old new outcome → HasRun holds way known before after first last outcome
+ran-between holds way known before after first old new last outcome kept keeps ran = record {
+  runs = known-between known way.passed way.kind (together_at way.pace) before.limits (state_of before.image) (state_of after.image) first old new last outcome kept keeps ran.runs;
+  desk = ran.desk;
+}
+
+-- a run of the whole sheet passes over no record
+pub whole-run : {K : Type 0} (holds : K → Result Image Table → Type 0) (way : Way) (known : Option (List ℕ)) (before after : DeskView K) (old new : Option (List ℕ)) (outcome : Result Tally SheetFault)
+    → way.passed ≡ 0 → IfSome known (λ input. Runs way.kind (together_at way.pace) before.limits input (state_of before.image) (state_of after.image) old new outcome) → LeavesDesk holds before after outcome → HasRun holds way known before after old new outcome
+whole-run holds way None before after old new outcome none runs desk = record { runs = tt; desk = desk }
+whole-run holds way (Some input) before after old new outcome none runs desk = record { runs = λ front at count. by front (count ∙ none); desk = desk }
+  where
+    by : (front : List (List (List ℕ))) → length front ≡ 0 → RunsBehind front way.kind (together_at way.pace) before.limits input (state_of before.image) (state_of after.image) old new outcome
+    by [] e = runs
+    by (r ∷ rs) e = absurd (omega (arith, e))
 
 -- what a run leaves of a desk: it goes along with its keeper, or a commit failed
 pub either_left : {K : Type 0} (holds : K → Result Image Table → Type 0) (old new : DeskView K) (result : Result Tally SheetFault) → LeavesDesk holds old new result → GoesOnOrBreaks holds old new
@@ -88,9 +109,6 @@ either_left holds old new (Err (fault.Desk stop.Keep)) left = inr left
 either_left holds old new (Err (fault.Desk stop.Memory)) left = inl left
 either_left holds old new (Err (fault.Desk stop.MustReopen)) left = inl left.0
 
--- Where nothing is done, the desk is as it was.
-pub as_it_was : {K : Type 0} (holds : K → Result Image Table → Type 0) (d : DeskView K) → GoesOnOrBreaks holds d d
-as_it_was holds d = inl (record { limits = refl; kept = λ h. h; reopen = refl; ahead = refl })
-
+-- where nothing is done, no command is
 pub none_done : (limits : Limits) (s : State) → IsAfterCommands limits s s
 none_done limits s = ([], refl)

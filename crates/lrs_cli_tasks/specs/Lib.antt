@@ -1,4 +1,5 @@
 pub mod Asking
 pub mod Endings
 pub mod Faults
+pub mod Sheets
 pub mod Tasks

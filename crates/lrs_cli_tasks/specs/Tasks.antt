@@ -1,10 +1,6 @@
 -- What a job has the program do.
-use Rattle.std.specs.Prelude.{◌≡◌, ◌⊎◌, Option, Some, None, Result}
+use Rattle.std.specs.Prelude.{◌≡◌, Option, Some, None}
 use Rattle.clap.specs.Words.{Text}
-use Rattle.lrs_machine.specs.declared.image.Image.{Image}
-use Rattle.lrs_machine.specs.declared.table.Table.{Table}
-use Rattle.lrs_desk.specs.DeskView.{DeskView}
-use Rattle.lrs_sheet.specs.Sheets.{GoesAlong, MustReopen}
 use Rattle.lrs_sheet_records.specs.declared.sheet.Sheet.TheVariants.{Edits, Survey}
 use Rattle.lrs_cli_words.specs.declared.job.Job.{Job}
 use Rattle.lrs_cli_words.specs.declared.job.Job.TheVariants as job
@@ -16,8 +12,8 @@ use Rattle.lrs_cli_tasks.specs.declared.task.Work.TheVariants as work
 
 -- the inventory that it names; none for the page
 abbrev pub inventory_of : Job → Option Text
-inventory_of (job.Edit db sheet sums) = Some db.now
-inventory_of (job.Survey db sheet sums) = Some db.now
+inventory_of (job.Edit db sheet sums resume) = Some db.now
+inventory_of (job.Survey db sheet sums resume) = Some db.now
 inventory_of (job.At db route method position) = Some db.now
 inventory_of (job.Translate db route method position to) = Some db.now
 inventory_of (job.Strip db route side classes) = Some db.now
@@ -29,8 +25,8 @@ inventory_of (job.Page dir) = None
 
 -- `edit` does an edit sheet, `survey` a survey, `serve` serves where its words say, and every other job asks what they say
 abbrev pub IsWorkOf : Job → Work → Type 0
-IsWorkOf (job.Edit db sheet sums) (work.Sheet kind from) = (kind ≡ Edits) × (from.now ≡ sheet.now)
-IsWorkOf (job.Survey db sheet sums) (work.Sheet kind from) = (kind ≡ Survey) × (from.now ≡ sheet.now)
+IsWorkOf (job.Edit db sheet sums resume) (work.Sheet kind from resumes) = (kind ≡ Edits) × (from.now ≡ sheet.now) × (resumes ≡ resume)
+IsWorkOf (job.Survey db sheet sums resume) (work.Sheet kind from resumes) = (kind ≡ Survey) × (from.now ≡ sheet.now) × (resumes ≡ resume)
 IsWorkOf (job.Serve db port max sums) (work.Service service) = SaysService port.now max.now service
 IsWorkOf j (work.Question question) = Asks j question
 IsWorkOf j w = ⊥
@@ -40,7 +36,3 @@ abbrev pub IsTaskOf : Job → Task → Type 0
 IsTaskOf (job.Page dir) (task.Page folder) = folder.now ≡ dir.now
 IsTaskOf j (task.Inventory db w) = (inventory_of j ≡ Some db.now) × IsWorkOf j w
 IsTaskOf j t = ⊥
-
--- The desk goes along with its keeper, or a commit of it has failed.
-abbrev pub GoesOnOrBreaks : {K : Type 0} → (K → Result Image Table → Type 0) → DeskView K → DeskView K → Type 0
-GoesOnOrBreaks holds old new = GoesAlong holds old new ⊎ MustReopen old new

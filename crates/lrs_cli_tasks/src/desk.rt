@@ -21,6 +21,8 @@ pub fn is_in_memory(db: &str) -> bool
 /// Opens a fresh inventory in memory, which ends with the program.
 pub fn open_in_memory(alloc: Global) -> Result<Desk<Plain>, ProgramFault>
     ensures fresh { IfOk result (λ desk. (desk.image ≡ nothing) × (desk.must_reopen ≡ false)) }
+    ensures kept { IfOk result (λ desk. HoldsOnly (⟦<Plain as Keeper>⟧.may_hold desk.keeper)
+        desk.image) }
     ensures behind { IfOk result (λ desk. desk.is_ahead ≡ false) }
     ensures limits { IfOk result (λ desk. (desk.limits.routes ≡ most_routes)
         × (desk.limits.assets ≡ most_assets) × (desk.limits.edits ≡ most_edits)) }

@@ -22,9 +22,8 @@ pub enum Shown {
     BetweenLines,
 }
 
-/// Passes bytes on to a writer, and counts their lines on standard error.
-#[derive(Drop)]
-pub struct Progress<'a, W, R> {
+/// Passes bytes on to a writer, and counts their lines on standard error. Where it ends, the count is taken away.
+pub struct Progress<'a, W: Write + Drop, R: Eprint + Clock> {
     to: W,
     rt: &'a R,
     shown: Shown,
@@ -39,7 +38,7 @@ fn lines_in(bytes: &[u8]) -> u64
     bytes.iter().filter(|b| **b == b'\n').count() as u64
 }
 
-impl<'a, W: Write, R: Eprint + Clock> Progress<'a, W, R> {
+impl<'a, W: Write + Drop, R: Eprint + Clock> Progress<'a, W, R> {
     /// Counts the lines that go to this writer.
     pub fn new(to: W, rt: &'a R, shown: Shown) -> Progress<'a, W, R>
         ensures { result.to ≡ to }
@@ -74,8 +73,8 @@ impl<'a, W: Write, R: Eprint + Clock> Progress<'a, W, R> {
         self.last = Instant::now(self.rt).ok();
     }
 
-    /// Takes the line away, if there is one.
-    pub fn clear(&mut self)
+    // Takes the line away, if there is one.
+    fn clear(&mut self)
         ensures { self.new.to ≡ self.old.to }
     {
         if self.is_standing {
@@ -83,9 +82,39 @@ impl<'a, W: Write, R: Eprint + Clock> Progress<'a, W, R> {
             self.is_standing = false;
         }
     }
+
+    /// Gives the writer back.
+    pub fn into_writer(mut self) -> W
+        ensures { result ≡ self.entry.to }
+    {
+        self.clear();
+        let Progress {
+            to,
+            rt: _,
+            shown: _,
+            lines: _,
+            last: _,
+            is_standing: _,
+        } = self;
+        to
+    }
 }
 
-impl<'a, W: Write, R: Eprint + Clock> Write for Progress<'a, W, R> {
+impl<'a, W: Write + Drop, R: Eprint + Clock> Drop for Progress<'a, W, R> {
+    fn drop(mut self) {
+        self.clear();
+        let Self {
+            to: _,
+            rt: _,
+            shown: _,
+            lines: _,
+            last: _,
+            is_standing: _,
+        } = self;
+    }
+}
+
+impl<'a, W: Write + Drop, R: Eprint + Clock> Write for Progress<'a, W, R> {
     // What is written is what the writer behind is given, no byte more.
     ghost contents = { λ p. W.contents p.to };
 

@@ -3,7 +3,7 @@
 ghost use Rattle.std.specs.Prelude.{◌≡◌, ◌⊎◌, IfOk, IfErr, Err, false};
 ghost use Rattle.lrs_answers.specs.Lines.{told_text};
 ghost use Rattle.lrs_answers.specs.Told.{IsTold};
-ghost use Rattle.lrs_cli_tasks.specs.Asking.{HasAnswered, IsPrinted, ending_of, stop_of};
+ghost use Rattle.lrs_cli_tasks.specs.Asking.{EndsTold, HasAnswered, IsPrinted, ending_of, stop_of};
 
 use crate::endings::Ending;
 use crate::fault::ProgramFault;
@@ -122,6 +122,7 @@ pub fn do_question<R: Runtime<A = Global>, K: Keeper>(
     question: Question,
 ) -> Ending
     requires behind { desk.now.is_ahead ≡ false }
+    ensures { EndsTold desk.now.image question result }
 {
     match answer(rt.alloc(), desk, question, io::writer(rt)) {
         Ok((_, ending)) => ending,

@@ -1,14 +1,18 @@
 //! Sheets, from a file or the standard input, and their replies.
 
-ghost use Rattle.std.specs.Prelude.{◌≡◌, ◌≤◌, ◌⊎◌, IfOk, IfErr, IfSome};
+ghost use Rattle.std.specs.Prelude.{◌≡◌, ◌⊎◌, IfOk, IfErr, IfSome, false, true};
 ghost use Rattle.lrs_machine.specs.Image.{state_of};
 ghost use Rattle.lrs_sheet.specs.Sheets.{IsAfterCommands, LeavesDesk, Runs};
-ghost use Rattle.lrs_cli_tasks.specs.Tasks.{GoesOnOrBreaks};
+ghost use Rattle.lrs_cli_tasks.specs.Sheets.{EndsRun, EndsSheet, HasRun, IsUnwritten, ending_of_sheet, together_at};
 
+use crate::endings::Ending;
 use crate::fault::ProgramFault;
 use crate::progress::{Progress, Shown};
 use lrs_desk::{Desk, Keeper};
-use lrs_sheet::{RECORDS_TOGETHER, Sheet, SheetFault, Tally, run_sheet};
+use lrs_sheet::{
+    Decided, RECORDS_TOGETHER, Sheet, SheetFault, Tally, last_edit, run_behind, run_edits,
+    run_survey,
+};
 use std::alloc::Global;
 use std::io::{BufWriter, ErrorKind, LineWriter, Read, Write};
 use std::rt::Runtime;
@@ -17,87 +21,194 @@ use std::{fs, io};
 // The replies to a file go out in pieces of this many bytes.
 const REPLY_BUFFER: usize = 65_536;
 
-// When reply lines are handed to the operating system.
+// How many records are done together, and when their reply lines are handed to the operating system.
 #[derive(Clone, Copy, Debug, PartialEq, Eq)]
 pub enum Pace {
-    // Each before the next record is read: whoever sends the records may wait for it.
+    // One, and its line before the next record is read: whoever sends the records may wait for it.
     LineByLine,
-    // Those of records that are kept together, before more are done.
+    // Those of a group, and their lines before more are done.
     InGroups,
-    // Many at once.
+    // One, and the lines of many at once.
     InPieces,
 }
 
-// Runs a sheet's bytes, this many records together, with a buffer of this size in front of the writer, and gives the
-// writer back with all that was answered. So a fault of the sheet is handed out beside the writer; what fails here is the writing
-// itself, or there is no memory for it. Whatever fails, the desk's image stands for the state after some commands in order.
-#[tactic(auto, using(crate::proofs::Between::either_left, crate::proofs::Between::as_it_was, crate::proofs::Between::none_done))]
-fn write_replies<S: Read + Drop, W: Write + Drop, K: Keeper>(
+// How a sheet is done: of which kind, at which pace, and behind how many of its records.
+#[derive(Clone, Copy, Debug, PartialEq, Eq)]
+pub struct Way {
+    pub kind: Sheet,
+    pub pace: Pace,
+    pub passed: u32,
+}
+
+// How many records are done together at a pace.
+fn together_at(pace: Pace) -> usize
+    ensures { result ≡ together_at pace }
+{
+    match pace {
+        Pace::LineByLine | Pace::InPieces => 1,
+        Pace::InGroups => RECORDS_TOGETHER,
+    }
+}
+
+// Runs a sheet's bytes, one record after another.
+fn run_one_by_one<S: Read + Drop, W: Write, K: Keeper>(
     alloc: Global,
     kind: Sheet,
     sheet: S,
-    together: usize,
-    buffer: usize,
+    writer: &mut W,
+    desk: &mut Desk<K>,
+) -> Result<Tally, SheetFault>
+    ensures runs { IfSome (S.remaining sheet) (λ input. Runs kind 1 desk.old.limits input
+        (state_of desk.old.image) (state_of desk.new.image) (W.contents writer.old)
+        (W.contents writer.new) result) }
+    ensures desk { LeavesDesk K.may_hold desk.old desk.new result }
+    ensures left { IsAfterCommands desk.old.limits (state_of desk.old.image)
+        (state_of desk.new.image) }
+{
+    match kind {
+        Sheet::Edits => run_edits(alloc, sheet, writer, desk),
+        Sheet::Survey => run_survey(alloc, sheet, writer, desk),
+    }
+}
+
+// Runs a sheet's bytes in this way.
+fn run<S: Read + Drop, W: Write, K: Keeper>(
+    alloc: Global,
+    way: Way,
+    sheet: S,
+    writer: &mut W,
+    desk: &mut Desk<K>,
+) -> Result<Tally, SheetFault>
+    ensures ran { HasRun K.may_hold way (S.remaining sheet) desk.old desk.new
+        (W.contents writer.old) (W.contents writer.new) result }
+    ensures left { IsAfterCommands desk.old.limits (state_of desk.old.image)
+        (state_of desk.new.image) }
+{
+    let together = together_at(way.pace);
+    if together == 1 && way.passed == 0 {
+        return run_one_by_one(alloc, way.kind, sheet, writer, desk);
+    }
+    run_behind(alloc, way.kind, together, way.passed, sheet, writer, desk)
+}
+
+// Runs a sheet's bytes, writes the lines of its replies as they come, and gives the writer back with all of them. So a
+// fault of the sheet is handed out beside the writer; what fails here is the writing, or there is no memory for it.
+#[tactic(auto, using(crate::proofs::Between::either_left, crate::proofs::Between::none_done))]
+fn write_lines<S: Read + Drop, W: Write + Drop, K: Keeper>(
+    alloc: Global,
+    way: Way,
+    sheet: S,
     to: W,
     desk: &mut Desk<K>,
 ) -> Result<(W, Result<Tally, SheetFault>), ProgramFault>
-    requires together { 1 ≤ together }
-    ensures runs { IfOk result (λ done. IfSome (S.remaining sheet) (λ input.
-        Runs kind together desk.old.limits input (state_of desk.old.image) (state_of desk.new.image)
-        (W.contents to) (W.contents done.0) done.1)) }
-    ensures ended { IfOk result (λ done. LeavesDesk K.may_hold desk.old desk.new done.1) }
+    ensures ran { IfOk result (λ done. HasRun K.may_hold way (S.remaining sheet)
+        desk.old desk.new (W.contents to) (W.contents done.0) done.1) }
+    ensures unwritten { IfErr result (IsUnwritten K.may_hold desk.old desk.new) }
     ensures left { IsAfterCommands desk.old.limits (state_of desk.old.image)
         (state_of desk.new.image) }
-    ensures desk { GoesOnOrBreaks K.may_hold desk.old desk.new }
-    ensures faults { IfErr result (λ e. (e ≡ ProgramFault.Memory) ⊎ (e ≡ ProgramFault.Write)) }
 {
-    let Ok(mut writer) = BufWriter::with_capacity(alloc, buffer, to) else {
+    let Ok(mut lines) = LineWriter::new(alloc, to) else {
         return Err(ProgramFault::Memory);
     };
-    let outcome = run_sheet(alloc, kind, together, sheet, &mut writer, desk);
-    match writer.into_inner() {
+    let outcome = run(alloc, way, sheet, &mut lines, desk);
+    match lines.into_inner() {
         Ok(to) => Ok((to, outcome)),
         Err(_) => Err(ProgramFault::Write),
     }
 }
 
-// Runs a sheet's bytes, this many records together, and writes their reply lines before more are done.
-#[tactic(auto, using(crate::proofs::Between::either_left, crate::proofs::Between::as_it_was, crate::proofs::Between::none_done))]
-fn write_lines<S: Read + Drop, W: Write + Drop, K: Keeper>(
-    alloc: Global,
-    kind: Sheet,
-    sheet: S,
-    together: usize,
-    to: W,
-    desk: &mut Desk<K>,
-) -> Result<Tally, ProgramFault>
-    requires { 1 ≤ together }
-    ensures left { IsAfterCommands desk.old.limits (state_of desk.old.image)
-        (state_of desk.new.image) }
-    ensures desk { GoesOnOrBreaks K.may_hold desk.old desk.new }
-{
-    let Ok(lines) = LineWriter::new(alloc, to) else {
-        return Err(ProgramFault::Memory);
-    };
-    let (_, outcome) = write_replies(alloc, kind, sheet, together, 0, lines, desk)?;
-    Ok(outcome?)
-}
-
-// Runs a sheet's bytes, one record after another, and writes the reply lines in pieces of many.
-#[tactic(auto, using(crate::proofs::Between::either_left, crate::proofs::Between::as_it_was, crate::proofs::Between::none_done))]
+// The same, with the lines of many replies in a piece.
+#[tactic(auto, using(crate::proofs::Between::either_left, crate::proofs::Between::none_done))]
 fn write_pieces<S: Read + Drop, W: Write + Drop, K: Keeper>(
     alloc: Global,
-    kind: Sheet,
+    way: Way,
     sheet: S,
     to: W,
     desk: &mut Desk<K>,
-) -> Result<Tally, ProgramFault>
+) -> Result<(W, Result<Tally, SheetFault>), ProgramFault>
+    ensures ran { IfOk result (λ done. HasRun K.may_hold way (S.remaining sheet)
+        desk.old desk.new (W.contents to) (W.contents done.0) done.1) }
+    ensures unwritten { IfErr result (IsUnwritten K.may_hold desk.old desk.new) }
     ensures left { IsAfterCommands desk.old.limits (state_of desk.old.image)
         (state_of desk.new.image) }
-    ensures desk { GoesOnOrBreaks K.may_hold desk.old desk.new }
 {
-    let (_, outcome) = write_replies(alloc, kind, sheet, 1, REPLY_BUFFER, to, desk)?;
-    Ok(outcome?)
+    let Ok(mut pieces) = BufWriter::with_capacity(alloc, REPLY_BUFFER, to) else {
+        return Err(ProgramFault::Memory);
+    };
+    let outcome = run(alloc, way, sheet, &mut pieces, desk);
+    match pieces.into_inner() {
+        Ok(to) => Ok((to, outcome)),
+        Err(_) => Err(ProgramFault::Write),
+    }
+}
+
+// The same, with the lines as they go out at this pace.
+fn write_replies<S: Read + Drop, W: Write + Drop, K: Keeper>(
+    alloc: Global,
+    way: Way,
+    sheet: S,
+    to: W,
+    desk: &mut Desk<K>,
+) -> Result<(W, Result<Tally, SheetFault>), ProgramFault>
+    ensures ran { IfOk result (λ done. HasRun K.may_hold way (S.remaining sheet)
+        desk.old desk.new (W.contents to) (W.contents done.0) done.1) }
+    ensures unwritten { IfErr result (IsUnwritten K.may_hold desk.old desk.new) }
+    ensures left { IsAfterCommands desk.old.limits (state_of desk.old.image)
+        (state_of desk.new.image) }
+{
+    match way.pace {
+        Pace::LineByLine | Pace::InGroups => write_lines(alloc, way, sheet, to, desk),
+        Pace::InPieces => write_pieces(alloc, way, sheet, to, desk),
+    }
+}
+
+// The same, with the progress shown meanwhile.
+fn reply_to<R: Runtime<A = Global>, S: Read + Drop, W: Write + Drop, K: Keeper>(
+    rt: &R,
+    way: Way,
+    sheet: S,
+    to: W,
+    desk: &mut Desk<K>,
+    shown: Shown,
+) -> Result<(W, Result<Tally, SheetFault>), ProgramFault>
+    ensures ran { IfOk result (λ done. HasRun K.may_hold way (S.remaining sheet)
+        desk.old desk.new (W.contents to) (W.contents done.0) done.1) }
+    ensures unwritten { IfErr result (IsUnwritten K.may_hold desk.old desk.new) }
+    ensures left { IsAfterCommands desk.old.limits (state_of desk.old.image)
+        (state_of desk.new.image) }
+{
+    let progress = Progress::new(to, rt, shown);
+    let (progress, outcome) = write_replies(rt.alloc(), way, sheet, progress, desk)?;
+    Ok((progress.into_writer(), outcome))
+}
+
+// How the program ends where a sheet ended so.
+fn ending_of(outcome: Result<Tally, SheetFault>) -> Ending
+    ensures { result ≡ ending_of_sheet outcome }
+{
+    match outcome {
+        Ok(tally) if tally.refused == 0 => Ending::Done,
+        Ok(_) => Ending::RecordsRefused,
+        Err(fault) => Ending::Stopped(ProgramFault::from(fault)),
+    }
+}
+
+// Does the sheet that a reader gives, and prints its replies.
+fn print_replies<R: Runtime<A = Global>, S: Read + Drop, K: Keeper>(
+    rt: &R,
+    way: Way,
+    sheet: S,
+    desk: &mut Desk<K>,
+    shown: Shown,
+) -> Ending
+    ensures ended { EndsRun K.may_hold way (S.remaining sheet) desk.old desk.new result }
+    ensures left { IsAfterCommands desk.old.limits (state_of desk.old.image)
+        (state_of desk.new.image) }
+{
+    match reply_to(rt, way, sheet, io::writer(rt), desk, shown) {
+        Ok((_, outcome)) => ending_of(outcome),
+        Err(fault) => Ending::Stopped(fault),
+    }
 }
 
 // Only a file has all its records already; on a pipe or a terminal they may come one by one.
@@ -108,60 +219,110 @@ fn pace_of<R: Runtime<A = Global>>(rt: &R, sheet: &str, of_file: Pace) -> Pace {
     }
 }
 
-#[tactic(auto, using(crate::proofs::Between::either_left, crate::proofs::Between::as_it_was, crate::proofs::Between::none_done))]
-fn reply_to<R: Runtime<A = Global>, S: Read + Drop, K: Keeper>(
-    rt: &R,
-    kind: Sheet,
-    sheet: S,
-    pace: Pace,
-    desk: &mut Desk<K>,
-    shown: Shown,
-) -> Result<Tally, ProgramFault>
-    ensures left { IsAfterCommands desk.old.limits (state_of desk.old.image)
-        (state_of desk.new.image) }
-    ensures desk { GoesOnOrBreaks K.may_hold desk.old desk.new }
+// Why a sheet is not read.
+fn unopened(error: io::Error) -> Ending
+    ensures { (result ≡ Ending.Stopped ProgramFault.Read)
+        ⊎ (result ≡ Ending.Stopped ProgramFault.Memory) }
 {
-    let mut progress = Progress::new(io::writer(rt), rt, shown);
-    let outcome = match pace {
-        Pace::LineByLine => write_lines(rt.alloc(), kind, sheet, 1, &mut progress, desk),
-        Pace::InGroups => {
-            write_lines(
-                rt.alloc(),
-                kind,
-                sheet,
-                RECORDS_TOGETHER,
-                &mut progress,
-                desk,
-            )
-        }
-        Pace::InPieces => write_pieces(rt.alloc(), kind, sheet, &mut progress, desk),
-    };
-    progress.clear();
-    outcome
+    if error.kind() == ErrorKind::OutOfMemory {
+        Ending::Stopped(ProgramFault::Memory)
+    } else {
+        Ending::Stopped(ProgramFault::Read)
+    }
 }
 
-/// Does a sheet of this kind at a desk, and prints its replies: those to a sheet in a file at the pace `of_file`. Whatever
-/// fails, the desk's image stands for the state after some commands in order, and its keeper goes along, unless a commit
-/// failed.
-#[tactic(auto, using(crate::proofs::Between::either_left, crate::proofs::Between::as_it_was, crate::proofs::Between::none_done))]
-pub fn do_sheet<R: Runtime<A = Global>, K: Keeper>(
+// Does a whole sheet.
+#[tactic(auto, using(crate::proofs::Between::none_done))]
+fn do_whole<R: Runtime<A = Global>, K: Keeper>(
     rt: &R,
     desk: &mut Desk<K>,
     kind: Sheet,
     sheet: &str,
     of_file: Pace,
     shown: Shown,
-) -> Result<Tally, ProgramFault>
+) -> Ending
+    ensures ended { EndsSheet K.may_hold kind false desk.old desk.new result }
     ensures left { IsAfterCommands desk.old.limits (state_of desk.old.image)
         (state_of desk.new.image) }
-    ensures desk { GoesOnOrBreaks K.may_hold desk.old desk.new }
 {
+    let passed = 0;
     if sheet == "stdin" {
-        return reply_to(rt, kind, rt.reader(), Pace::LineByLine, desk, shown);
+        let pace = Pace::LineByLine;
+        return print_replies(rt, Way { kind, pace, passed }, rt.reader(), desk, shown);
     }
     match fs::open(rt, sheet) {
-        Ok(file) => reply_to(rt, kind, file, pace_of(rt, sheet, of_file), desk, shown),
-        Err(error) if error.kind() == ErrorKind::OutOfMemory => Err(ProgramFault::Memory),
-        Err(_) => Err(ProgramFault::Read),
+        Ok(file) => {
+            let pace = pace_of(rt, sheet, of_file);
+            print_replies(rt, Way { kind, pace, passed }, file, desk, shown)
+        }
+        Err(error) => unopened(error),
+    }
+}
+
+// The bytes of a sheet.
+fn read_whole<R: Runtime<A = Global>>(rt: &R, sheet: &str) -> io::Result<Vec<u8>> {
+    if sheet != "stdin" {
+        return fs::read(rt, sheet);
+    }
+    let mut text = Vec::new(rt.alloc());
+    rt.reader().read_to_end(&mut text)?;
+    Ok(text)
+}
+
+// Tells on standard error behind which record a sheet goes on. Where that takes nothing, it goes on all the same.
+fn tell<R: Runtime<A = Global>>(rt: &R, decided: &Decided) {
+    let _ = match decided.key {
+        Some(key) => eprintln!(rt; "resumes behind record {}, key {key}", decided.records),
+        None => eprintln!(rt; "resumes at the first record"),
+    };
+}
+
+// Goes on with a sheet behind its last record that is an edit. It is read as a whole before.
+#[tactic(auto, using(crate::proofs::Between::none_done))]
+fn go_on<R: Runtime<A = Global>, K: Keeper>(
+    rt: &R,
+    desk: &mut Desk<K>,
+    kind: Sheet,
+    sheet: &str,
+    pace: Pace,
+    shown: Shown,
+) -> Ending
+    ensures ended { EndsSheet K.may_hold kind true desk.old desk.new result }
+    ensures left { IsAfterCommands desk.old.limits (state_of desk.old.image)
+        (state_of desk.new.image) }
+{
+    let text = match read_whole(rt, sheet) {
+        Ok(text) => text,
+        Err(error) => return unopened(error),
+    };
+    let decided = match last_edit(rt.alloc(), kind, text.as_slice(), desk) {
+        Ok(decided) => decided,
+        Err(fault) => return Ending::Stopped(ProgramFault::from(fault)),
+    };
+    tell(rt, &decided);
+    let passed = decided.records;
+    print_replies(rt, Way { kind, pace, passed }, text.as_slice(), desk, shown)
+}
+
+/// Does a sheet of this kind at a desk, or goes on with it behind its last record that is an edit, and prints its replies:
+/// those to a sheet in a file at the pace `of_file`. Whatever fails, the desk's image stands for the state after some
+/// commands in order, and its keeper goes along, unless a commit failed.
+pub fn do_sheet<R: Runtime<A = Global>, K: Keeper>(
+    rt: &R,
+    desk: &mut Desk<K>,
+    kind: Sheet,
+    resumes: bool,
+    sheet: &str,
+    of_file: Pace,
+    shown: Shown,
+) -> Ending
+    ensures ended { EndsSheet K.may_hold kind resumes desk.old desk.new result }
+    ensures left { IsAfterCommands desk.old.limits (state_of desk.old.image)
+        (state_of desk.new.image) }
+{
+    if resumes {
+        go_on(rt, desk, kind, sheet, of_file, shown)
+    } else {
+        do_whole(rt, desk, kind, sheet, of_file, shown)
     }
 }

@@ -12,8 +12,12 @@ use std::alloc::Global;
 /// What is done with an inventory.
 #[derive(Drop)]
 pub enum Work<'a> {
-    /// A sheet of this kind is read from `from`, and done.
-    Sheet { kind: Sheet, from: &'a str },
+    /// A sheet of this kind is read from `from`, and done; or it goes on behind its last record that is an edit.
+    Sheet {
+        kind: Sheet,
+        from: &'a str,
+        resumes: bool,
+    },
     /// A question is answered.
     Question(Question),
     /// The inventory is served.
@@ -29,10 +33,14 @@ pub enum Task<'a> {
     Page { dir: &'a str },
 }
 
-fn sheet_work<'a>(kind: Sheet, from: &'a str) -> Work<'a>
-    ensures { result ≡ Work.Sheet kind from.entry }
+fn sheet_work<'a>(kind: Sheet, from: &'a str, resumes: bool) -> Work<'a>
+    ensures { result ≡ Work.Sheet kind from.entry resumes }
 {
-    Work::Sheet { kind, from }
+    Work::Sheet {
+        kind,
+        from,
+        resumes,
+    }
 }
 
 /// What a job asks for. Its words are read, and nothing else is looked at.
@@ -45,8 +53,18 @@ pub fn task_of<'a>(alloc: Global, job: &Job<'a>) -> Result<Task<'a>, QuestionFau
 {
     let (db, work) = match job {
         Job::Page { dir } => return Ok(Task::Page { dir }),
-        Job::Edit { db, sheet, .. } => (db, sheet_work(Sheet::Edits, sheet)),
-        Job::Survey { db, sheet, .. } => (db, sheet_work(Sheet::Survey, sheet)),
+        Job::Edit {
+            db,
+            sheet,
+            resume,
+            ..
+        } => (db, sheet_work(Sheet::Edits, sheet, *resume)),
+        Job::Survey {
+            db,
+            sheet,
+            resume,
+            ..
+        } => (db, sheet_work(Sheet::Survey, sheet, *resume)),
         Job::Serve { db, port, max, .. } => (db, Work::Service(service_of(port, max)?)),
         Job::At { db, .. }
         | Job::Translate { db, .. }

@@ -28,7 +28,7 @@ shape_at j = built_leaf (inherited (with_leaf_noted (marked_built line_of_progra
 abbrev help_at : Shape
 help_at = built_leaf help_shape
 
--- ---- the names of a line: each has help, some have sums, and a diagram has its ends
+-- ---- the names of a line: each has help, some have sums, a sheet can go on, and a diagram has its ends
 
 abbrev rules_at : JobName → List Rule
 rules_at j = (shape_at j).rules
@@ -38,6 +38,9 @@ help_flag = filled help_rule
 
 abbrev sums_flag : Rule
 sums_flag = filled (flag (codes "sums"))
+
+abbrev resume_flag : Rule
+resume_flag = filled (flag (codes "resume"))
 
 abbrev from_option : Rule
 from_option = filled (option (codes "from"))
@@ -50,6 +53,9 @@ help_fills rows e = e
 
 sums_fills : Fills sums_flag
 sums_fills rows e = used-filled SetTrue (codes "sums") _ (codes "true") [] rows e
+
+resume_fills : Fills resume_flag
+resume_fills rows e = used-filled SetTrue (codes "resume") _ (codes "true") [] rows e
 
 from_fills : Fills from_option
 from_fills rows e = with_none-filled (codes "from") (reading_by from_option) CommandLine (without (codes "from") rows) refl (without-filled (codes "from") rows e)
@@ -78,14 +84,19 @@ long_sums : (c : List Rule) → IfSome (arg_by_id c (codes "sums")) Fills → Ha
     → IfSome (cond (has_long sums_flag name) (Some sums_flag) (cond (has_long help_flag name) (Some help_flag) None)) (IsNamed c)
 long_sums c sums help name = named_if c sums_flag (has_long sums_flag name) _ sums_fills sums (long_help c help name)
 
+long_sheet : (c : List Rule) → IfSome (arg_by_id c (codes "sums")) Fills → IfSome (arg_by_id c (codes "resume")) Fills → HasHelp c → (name : Text)
+    → IfSome (cond (has_long sums_flag name) (Some sums_flag) (cond (has_long resume_flag name) (Some resume_flag) (cond (has_long help_flag name) (Some help_flag) None))) (IsNamed c)
+long_sheet c sums resume help name =
+    named_if c sums_flag (has_long sums_flag name) _ sums_fills sums (named_if c resume_flag (has_long resume_flag name) _ resume_fills resume (long_help c help name))
+
 long_ends : (c : List Rule) → IfSome (arg_by_id c (codes "from")) Fills → IfSome (arg_by_id c (codes "to")) Fills → HasHelp c → (name : Text)
     → IfSome (cond (has_long from_option name) (Some from_option) (cond (has_long to_option name) (Some to_option) (cond (has_long help_flag name) (Some help_flag) None))) (IsNamed c)
 long_ends c from to help name =
     named_if c from_option (has_long from_option name) _ from_fills from (named_if c to_option (has_long to_option name) _ to_fills to (long_help c help name))
 
 has_flags : (j : JobName) → HasFlags (rules_at j)
-has_flags job.Edit = record { long = long_sums (rules_at job.Edit) sums_fills help_fills; short = short_help (rules_at job.Edit) help_fills }
-has_flags job.Survey = record { long = long_sums (rules_at job.Survey) sums_fills help_fills; short = short_help (rules_at job.Survey) help_fills }
+has_flags job.Edit = record { long = long_sheet (rules_at job.Edit) sums_fills resume_fills help_fills; short = short_help (rules_at job.Edit) help_fills }
+has_flags job.Survey = record { long = long_sheet (rules_at job.Survey) sums_fills resume_fills help_fills; short = short_help (rules_at job.Survey) help_fills }
 has_flags job.At = record { long = long_help (rules_at job.At) help_fills; short = short_help (rules_at job.At) help_fills }
 has_flags job.Translate = record { long = long_help (rules_at job.Translate) help_fills; short = short_help (rules_at job.Translate) help_fills }
 has_flags job.Strip = record { long = long_help (rules_at job.Strip) help_fills; short = short_help (rules_at job.Strip) help_fills }

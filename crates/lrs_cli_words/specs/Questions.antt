@@ -80,8 +80,8 @@ SaysService port max service = SaysPort port service.port × SaysMost max servic
 
 -- the job asks nothing: it does a sheet, serves, or writes the page
 abbrev pub AsksNothing : Job → Type 0
-AsksNothing (job.Edit db sheet sums) = ⊤
-AsksNothing (job.Survey db sheet sums) = ⊤
+AsksNothing (job.Edit db sheet sums resume) = ⊤
+AsksNothing (job.Survey db sheet sums resume) = ⊤
 AsksNothing (job.Serve db port max sums) = ⊤
 AsksNothing (job.Page dir) = ⊤
 AsksNothing _ = ⊥

@@ -58,10 +58,10 @@ rules_of job.Find = required (codes "DB") ∷ required (codes "ASSET") ∷ []
 rules_of job.Serve = required (codes "DB") ∷ required (codes "PORT") ∷ required (codes "MAX") ∷ []
 rules_of job.Page = required (codes "DIR") ∷ []
 
--- what may be left out: those jobs that may make a file have `--sums`, and a diagram has its classes and its ends
+-- what may be left out: those jobs that may make a file have `--sums`, those that do a sheet also `--resume`, and a diagram has its classes and its ends
 abbrev pub options_of : JobName → List Rule
-options_of job.Edit = flag (codes "sums") ∷ []
-options_of job.Survey = flag (codes "sums") ∷ []
+options_of job.Edit = flag (codes "sums") ∷ flag (codes "resume") ∷ []
+options_of job.Survey = flag (codes "sums") ∷ flag (codes "resume") ∷ []
 options_of job.Serve = flag (codes "sums") ∷ []
 options_of job.Diagram = any (codes "CLASS") ∷ option (codes "from") ∷ option (codes "to") ∷ []
 options_of _ = []
@@ -93,8 +93,8 @@ line_of_program = fold with_job bare_line jobs
 -- ---- jobs
 
 abbrev pub job_name : Job → JobName
-job_name (Edit db sheet sums) = job.Edit
-job_name (Survey db sheet sums) = job.Survey
+job_name (Edit db sheet sums resume) = job.Edit
+job_name (Survey db sheet sums resume) = job.Survey
 job_name (At db route method position) = job.At
 job_name (Translate db route method position to) = job.Translate
 job_name (Strip db route side classes) = job.Strip
@@ -106,8 +106,8 @@ job_name (Page dir) = job.Page
 
 -- its words that come once, each with what it is called
 abbrev pub words_of : Job → List (Text × Text)
-words_of (Edit db sheet sums) = (codes "DB", db.now) ∷ (codes "SHEET", sheet.now) ∷ []
-words_of (Survey db sheet sums) = (codes "DB", db.now) ∷ (codes "SHEET", sheet.now) ∷ []
+words_of (Edit db sheet sums resume) = (codes "DB", db.now) ∷ (codes "SHEET", sheet.now) ∷ []
+words_of (Survey db sheet sums resume) = (codes "DB", db.now) ∷ (codes "SHEET", sheet.now) ∷ []
 words_of (At db route method position) = (codes "DB", db.now) ∷ (codes "ROUTE", route.now) ∷ (codes "METHOD", method.now) ∷ (codes "POS", position.now) ∷ []
 words_of (Translate db route method position to) =
     (codes "DB", db.now) ∷ (codes "ROUTE", route.now) ∷ (codes "METHOD", method.now) ∷ (codes "POS", position.now) ∷ (codes "TO", to.now) ∷ []
@@ -136,14 +136,20 @@ IsSet id rows = first_of id rows ≡ Some (codes "true")
 
 -- a new file gets sums exactly where `--sums` was given
 abbrev pub HasSums : Job → List Row → Type 0
-HasSums (Edit db sheet sums) rows = IsTrue sums ↔ IsSet (codes "sums") rows
-HasSums (Survey db sheet sums) rows = IsTrue sums ↔ IsSet (codes "sums") rows
+HasSums (Edit db sheet sums resume) rows = IsTrue sums ↔ IsSet (codes "sums") rows
+HasSums (Survey db sheet sums resume) rows = IsTrue sums ↔ IsSet (codes "sums") rows
 HasSums (Serve db port max sums) rows = IsTrue sums ↔ IsSet (codes "sums") rows
 HasSums _ rows = ⊤
 
+-- a sheet goes on behind its last record that is an edit exactly where `--resume` was given
+abbrev pub HasResume : Job → List Row → Type 0
+HasResume (Edit db sheet sums resume) rows = IsTrue resume ↔ IsSet (codes "resume") rows
+HasResume (Survey db sheet sums resume) rows = IsTrue resume ↔ IsSet (codes "resume") rows
+HasResume _ rows = ⊤
+
 -- its words stand in their places, and its options are as they were given
 abbrev pub HasWords : Job → List Row → Type 0
-HasWords j rows = (map (λ w. first_of w.0 rows) (words_of j) ≡ map (λ w. Some w.1) (words_of j)) × HasClasses j rows × HasEnds j rows × HasSums j rows
+HasWords j rows = (map (λ w. first_of w.0 rows) (words_of j) ≡ map (λ w. Some w.1) (words_of j)) × HasClasses j rows × HasEnds j rows × HasSums j rows × HasResume j rows
 
 -- the job that was met has this name and these rows
 abbrev pub IsMet : Job → Option (Text × List Row) → Type 0
@@ -155,8 +161,8 @@ IsJobOf words j = IsMet j (subcommand_of line_of_program words)
 
 -- a file that the job makes gets sums of its pages
 abbrev pub has_new_sums : Job → Bool
-has_new_sums (Edit db sheet sums) = sums
-has_new_sums (Survey db sheet sums) = sums
+has_new_sums (Edit db sheet sums resume) = sums
+has_new_sums (Survey db sheet sums resume) = sums
 has_new_sums (Serve db port max sums) = sums
 has_new_sums _ = false
 

@@ -10,7 +10,7 @@ use clap::{Arg, ArgAction, Command};
 use std::alloc::{AllocError, Global};
 
 /// The version of the program, and the kit that proved it.
-static VERSION: &str = "0.1.0, proved by rattle-kit-13f logic dac8208d650f15bf";
+static VERSION: &str = "0.2.0, proved by rattle-kit-13f logic dac8208d650f15bf";
 
 // What help says of the words.
 static DB: &str = "The inventory's file, or :memory: for a fresh one in memory";
@@ -46,6 +46,8 @@ static DIR: &str = "The folder that gets the page, as index.html; made where it 
 
 static SUMS: &str = "Gives a new file sums of its pages, so that damage is found";
 
+static RESUME: &str = "Goes on behind the last record that was accepted before";
+
 fn required<'a>(alloc: Global, id: &'a str, help: &'a str) -> Arg<'a>
     ensures rule { rule_of result ≡ required id.entry.now }
     ensures local { result.global ≡ false }
@@ -74,14 +76,14 @@ fn chainage<'a>(alloc: Global, name: &'a str, help: &'a str) -> Arg<'a>
     Arg::new(alloc, name).long(name).value_name("C").help(help)
 }
 
-fn sums<'a>(alloc: Global) -> Arg<'a>
-    ensures rule { rule_of result ≡ flag (codes "sums") }
+fn switch<'a>(alloc: Global, name: &'a str, help: &'a str) -> Arg<'a>
+    ensures rule { rule_of result ≡ flag name.entry.now }
     ensures local { result.global ≡ false }
 {
-    Arg::new(alloc, "sums")
-        .long("sums")
+    Arg::new(alloc, name)
+        .long(name)
         .action(ArgAction::SetTrue)
-        .help(SUMS)
+        .help(help)
 }
 
 /// A line with one more word.
@@ -125,7 +127,23 @@ fn with_sums<'a>(
     ensures local { (out-Command line.entry).has_globals ≡ false
         → IfOk result (λ c. (out-Command c).has_globals ≡ false) }
 {
-    line.override_usage(usage).arg(sums(alloc))
+    line.override_usage(usage).arg(switch(alloc, "sums", SUMS))
+}
+
+/// A line with a sheet and the options of one that is done.
+fn with_sheet<'a>(
+    alloc: Global,
+    line: Command<'a>,
+    usage: &'a str,
+) -> Result<Command<'a>, AllocError>
+    ensures app { IfOk result (λ c. app_of c ≡ with_rule (with_rule (with_rule (app_of line.entry)
+        (required (codes "SHEET"))) (flag (codes "sums"))) (flag (codes "resume"))) }
+    ensures local { (out-Command line.entry).has_globals ≡ false
+        → IfOk result (λ c. (out-Command c).has_globals ≡ false) }
+{
+    let line = with_word(alloc, line, "SHEET", SHEET)?;
+    let line = with_sums(alloc, line, usage)?;
+    line.arg(switch(alloc, "resume", RESUME))
 }
 
 /// A line with the classes and the ends of a diagram. The usage names the words alone, and help the ends too.
@@ -152,8 +170,7 @@ fn edit_line<'a>(alloc: Global) -> Result<Command<'a>, AllocError>
     let about = "Does an edit sheet, and prints a reply line for each record";
     let example = "Example: roadlrs edit roads.db first.csv";
     let line = line_over(alloc, "edit", about, example)?;
-    let line = with_word(alloc, line, "SHEET", SHEET)?;
-    with_sums(alloc, line, "roadlrs edit <DB> <SHEET>")
+    with_sheet(alloc, line, "roadlrs edit <DB> <SHEET>")
 }
 
 fn survey_line<'a>(alloc: Global) -> Result<Command<'a>, AllocError>
@@ -163,8 +180,7 @@ fn survey_line<'a>(alloc: Global) -> Result<Command<'a>, AllocError>
     let about = "Enters the assets of a survey, and prints a reply line for each record";
     let example = "Example: roadlrs survey roads.db found.csv";
     let line = line_over(alloc, "survey", about, example)?;
-    let line = with_word(alloc, line, "SHEET", SHEET)?;
-    with_sums(alloc, line, "roadlrs survey <DB> <SHEET>")
+    with_sheet(alloc, line, "roadlrs survey <DB> <SHEET>")
 }
 
 fn at_line<'a>(alloc: Global) -> Result<Command<'a>, AllocError>

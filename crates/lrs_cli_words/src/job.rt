@@ -20,7 +20,7 @@ pub enum JobName {
 }
 
 /// A job, with its words as they were given. `db` is the inventory; with `sums` a new file of it
-/// gets sums of its pages.
+/// gets sums of its pages. With `resume` a sheet goes on behind its last record that is an edit.
 #[derive(Debug, Drop)]
 pub enum Job<'a> {
     /// Does the edit sheet `sheet`.
@@ -28,12 +28,14 @@ pub enum Job<'a> {
         db: &'a str,
         sheet: &'a str,
         sums: bool,
+        resume: bool,
     },
     /// Does the survey `sheet`.
     Survey {
         db: &'a str,
         sheet: &'a str,
         sums: bool,
+        resume: bool,
     },
     /// Says who holds a millimetre of a route.
     At {

@@ -94,7 +94,13 @@ fn edit_job<'a>(given: &ArgMatches<'a>) -> Option<Job<'a>>
     let db = word_in(given, "DB")?;
     let sheet = word_in(given, "SHEET")?;
     let sums = is_set(given, "sums");
-    Some(Job::Edit { db, sheet, sums })
+    let resume = is_set(given, "resume");
+    Some(Job::Edit {
+        db,
+        sheet,
+        sums,
+        resume,
+    })
 }
 
 fn survey_job<'a>(given: &ArgMatches<'a>) -> Option<Job<'a>>
@@ -106,7 +112,13 @@ fn survey_job<'a>(given: &ArgMatches<'a>) -> Option<Job<'a>>
     let db = word_in(given, "DB")?;
     let sheet = word_in(given, "SHEET")?;
     let sums = is_set(given, "sums");
-    Some(Job::Survey { db, sheet, sums })
+    let resume = is_set(given, "resume");
+    Some(Job::Survey {
+        db,
+        sheet,
+        sums,
+        resume,
+    })
 }
 
 fn at_job<'a>(given: &ArgMatches<'a>) -> Option<Job<'a>>

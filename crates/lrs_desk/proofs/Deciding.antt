@@ -2,6 +2,7 @@
 use Rattle.std.proofs.Common.{◌≡◌, ℕ, ◌+◌, ◌≤◌, Bool, true, false, cond, List, [], ◌∷◌, length, map, Option, Some, None, Result, Ok, Err, refl, sym, ap, ◌∙◌, arith, ◌⊎◌, inl, inr}
 use Rattle.std.specs.Prelude.{not, ◌&&◌, nat_le, nat_lt, option_map}
 use Rattle.std.specs.List.{position, position_or_len, prefix_len, list_all}
+use Rattle.std.specs.Option.{option_and_then}
 use Rattle.std.proofs.lemmas.Bool.{and_parts, leb-true}
 use Rattle.std.proofs.lemmas.Bool.Decides.{nat_tests}
 use Rattle.std.proofs.lemmas.List.{map-append, length-map}
@@ -20,6 +21,7 @@ use Rattle.lrs_measure.specs.Limits.{most_routes, most_assets, most_edits}
 use Rattle.lrs_machine.specs.State.{State}
 use Rattle.lrs_machine.specs.State as state
 use Rattle.lrs_machine.specs.Image.{state_of, asset_entry, route_entry}
+use Rattle.lrs_machine_stops.specs.Known as known
 use Rattle.lrs_image.specs.Change.{with_difference, apply}
 use Rattle.lrs_inventory.specs.Keys.{place_among}
 use Rattle.lrs_machine.specs.Lines.{line_of}
@@ -76,6 +78,15 @@ place_before n (Some place) h = (place, refl, cc h)
 pub no_place : (o : Option ℕ) → ◌≡◌ {A = Option ℕ} None (option_map (λ place. place + 1) o) → o ≡ None
 no_place None h = refl
 no_place (Some place) h = absurd (cc h)
+
+-- The edit that a command is, where its key is known.
+pub edit_at : (s : State) (key : Name) (command : Command) (place : ℕ) → place_of_key key s.done ≡ Some place
+    → known.edit_of s (record { key = key; command = command }) ≡ cond (same_name (line_at place s.done) (line_of command)) (Some (place + 1)) None
+edit_at s key command place at = ap (option_and_then (λ (place : ℕ). cond (same_name (line_at place s.done) (line_of command)) (Some (place + 1)) None)) at
+
+-- ... and where it is not
+pub no_edit : (s : State) (key : Name) (command : Command) → place_of_key key s.done ≡ None → known.edit_of s (record { key = key; command = command }) ≡ None
+no_edit s key command none = ap (option_and_then (λ (place : ℕ). cond (same_name (line_at place s.done) (line_of command)) (Some (place + 1)) None)) none
 
 -- no edit of an image has the key
 pub new_key : (key : Name) (i : Image) → place_of_key key (state_of i).done ≡ None → place_among i.edits key ≡ None

@@ -1,8 +1,12 @@
 //! What is decided about a command: an answer, or what it changes.
 
 ghost use Rattle.std.specs.Prelude.{◌≡◌, IfOk, IfSome, IfNone};
+ghost use Rattle.lrs_measure.specs.Texts.{same_name};
+ghost use Rattle.lrs_machine.specs.Image.{state_of};
 ghost use Rattle.lrs_machine.specs.Lines.{line_of};
 ghost use Rattle.lrs_machine.specs.Machine.{answer_known};
+ghost use Rattle.lrs_machine.specs.declared.command.Command.{Command as CommandSaid};
+ghost use Rattle.lrs_machine_stops.specs.Known.{edit_of};
 ghost use Rattle.lrs_desk.specs.Decide.{IsDecision, HasRoom, LacksRoom};
 
 use lrs_inventory::{Inventory, Plan, Stop};
@@ -57,10 +61,26 @@ fn refusal(stop: Stop) -> Result<Cause, AllocError>
     }
 }
 
+/// The number of the edit that a command with this line is, under this key.
+pub(crate) fn known_edit(inventory: &Inventory, key: &Key, line: &Line) -> Option<u64>
+    ensures { (command : CommandSaid) → line.now ≡ line_of command
+        → result ≡ edit_of (state_of inventory.now) (record { key = key.now; command = command }) }
+{
+    let (number, edit) = inventory.edit_of_key(key)?;
+    has_line(edit, line).then_some(number)
+}
+
+/// Whether an edit is of a command with this line.
+fn has_line(edit: &Edit, line: &Line) -> bool
+    ensures { result ≡ same_name edit.now.line line.now }
+{
+    edit.line.as_str() == line.as_str()
+}
+
 fn known_answer(number: u64, edit: &Edit, line: &Line) -> Answer
     ensures { result ≡ answer_known number edit.now.line line.now }
 {
-    if edit.line.as_str() == line.as_str() {
+    if has_line(edit, line) {
         Answer::Again(number)
     } else {
         Answer::Refused(Cause::KeyUsed(number))

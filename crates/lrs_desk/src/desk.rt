@@ -5,13 +5,14 @@ ghost use Rattle.lrs_machine.specs.declared.table.Table.{Table};
 ghost use Rattle.lrs_machine.specs.declared.image.Image.{Image as ImageRows};
 ghost use Rattle.lrs_machine.specs.Image.{state_of};
 ghost use Rattle.lrs_machine.specs.Machine.{step};
+ghost use Rattle.lrs_machine_stops.specs.Known.{edit_of};
 ghost use Rattle.lrs_image.specs.Change.{apply, CanMake};
 ghost use Rattle.lrs_image.specs.Keeping.{HasRisen, HoldsOnly, HoldsOldOrNew};
 ghost use Rattle.lrs_answers_totals.specs.Running.{IsCounted};
 ghost use Rattle.lrs_inventory.specs.Plans.{change_of, TellsGround};
 ghost use Rattle.lrs_desk.specs.Desk.{IsUnchanged, HasBroken, DoesFirst, BreaksAmid, records_of};
 
-use crate::decision::{Decision, decide};
+use crate::decision::{Decision, decide, known_edit};
 use crate::group::{class_of, do_first};
 use lrs_answers_totals::Counts;
 use lrs_image::{CommitFailed, CommitFault, Keeper, LoadFault};
@@ -178,6 +179,24 @@ impl<K: Keeper> Desk<K> {
         ensures { result ≡ self.now.is_ahead }
     {
         self.is_ahead
+    }
+
+    /// The number of the edit that a command is, where it was accepted under this key before.
+    ///
+    /// # Errors
+    ///
+    /// `MustReopen` once a commit has failed, and `Memory`.
+    pub fn edit_of(&self, key: &Key, command: &Command) -> Result<Option<u64>, Fault>
+        ensures edit { IfOk result (λ number. number ≡ edit_of (state_of self.now.image)
+            (record { key = key.now; command = command.now })) }
+        ensures reopen { (result ≡ Err Fault.MustReopen) ↔ IsTrue self.now.must_reopen }
+        ensures never { result ≡ Err Fault.Keep → ⊥ }
+    {
+        if self.must_reopen {
+            return Err(Fault::MustReopen);
+        }
+        let line = command.line(self.alloc)?;
+        Ok(known_edit(&self.inventory, key, &line))
     }
 
     pub(crate) fn alloc(&self) -> Global {

@@ -36,7 +36,7 @@ one-list cfg s s1 s2 xs y1 y2 (r ∷ rs) (q ∷ qs) (p, next, is, more) none (o,
     let others : rs ≡ qs = one-list cfg p.1 s1 s2 p.2 y1 y2 rs qs more none (rw same at more') end in
     rw (first, others) refl
 
-all-one : (input : List ℕ) (a b : List (List (List ℕ))) → AreAll input a → AreAll input b → a ≡ b
+pub all-one : (input : List ℕ) (a b : List (List (List ℕ))) → AreAll input a → AreAll input b → a ≡ b
 all-one input a b (s1, y1, reached, none) (s2, y2, reached', end) = one-list _ _ s1 s2 _ y1 y2 a b reached none reached' end
 
 -- a key is as its test says
@@ -67,7 +67,7 @@ one-reply limits before after other fields a b (key, answered) (key', answered')
     ((λ i. record { key = keys i; answer = answers i }), states)
 
 -- records are answered in one way
-one-run : (sheet : Sheet) (limits : Limits) (before after other : State) (records : List (List (List ℕ))) (a b : List Reply) → Replied sheet limits before records a after → Replied sheet limits before records b other → (a ≡ b) × (after ≡ other)
+pub one-run : (sheet : Sheet) (limits : Limits) (before after other : State) (records : List (List (List ℕ))) (a b : List Reply) → Replied sheet limits before records a after → Replied sheet limits before records b other → (a ≡ b) × (after ≡ other)
 unfolding Replied
 one-run sheet limits before after other [] [] [] h g = (refl, h ∙ sym g)
 one-run sheet limits before after other [] [] (b ∷ bs) h g = absurd g
@@ -89,8 +89,8 @@ of-one old earlier one other a b same wrote wrote' state counts counts' = record
 }
 
 by-records : (sheet : Sheet) (limits : Limits) (input : List ℕ) (before : State) (old earlier : List ℕ) (one other : Outcome)
-    → AnswersAll sheet limits input before one.state (Some old) (Some one.written) one.tally
-    → AnswersAll sheet limits input before other.state (Some earlier) (Some other.written) other.tally
+    → AnswersAll [] sheet limits input before one.state (Some old) (Some one.written) one.tally
+    → AnswersAll [] sheet limits input before other.state (Some earlier) (Some other.written) other.tally
     → IsOneReply old one earlier other
 by-records sheet limits input before old earlier one other (inl (all, state, wrote, counts)) (inl (all', state', wrote', counts')) =
     of-one old earlier one other [] [] refl (wrote ∙ sym (append-nil old)) (wrote' ∙ sym (append-nil earlier)) (state ∙ sym state') counts counts'

@@ -86,6 +86,10 @@ stays desk = record { limits = refl; kept = λ kept. kept; reopen = refl; ahead 
 pub along : {K : Type 0} {holds : K → Result Image Table → Type 0} (a b c : DeskView K) → GoesAlong holds a b → GoesAlong holds b c → GoesAlong holds a c
 along a b c first next = record { limits = next.limits ∙ first.limits; kept = λ kept. next.kept (first.kept kept); reopen = next.reopen ∙ first.reopen; ahead = next.ahead ∙ first.ahead }
 
+-- nothing is read
+pub gave-none : {R : Type 0} (rem : R → Option (List ℕ)) (rows : Reader R) → Gave rem rows rows []
+gave-none rem rows = λ input before h. rw (append-nil before) h
+
 -- before the first turn
 pub start-done : {K : Type 0} {holds : K → Result Image Table → Type 0} {R : Type 0} (sheet : Sheet) (rem : R → Option (List ℕ)) (rows : Reader R) (desk : DeskView K) (contents : Option (List ℕ)) (tally : Tally)
     → IsPlain rows → expected_len rows ≡ Some (width_of sheet) → tally ≡ tally_of [] → HasDone sheet holds rem rows rows desk desk contents contents tally 0
@@ -95,7 +99,7 @@ start-done sheet rem rows desk contents tally plain width none = record {
   replies = [];
   plain = plain;
   width = width;
-  gave = λ input before h. rw (append-nil before) h;
+  gave = gave-none rem rows;
   answered = record { width = tt; replied = refl; written = appends-none contents };
   desk = stays desk;
   counts = none;

@@ -8,3 +8,5 @@ pub mod Waits
 pub mod Stopping
 pub mod Taking
 pub mod Left
+pub mod Resuming
+pub mod GoingOn

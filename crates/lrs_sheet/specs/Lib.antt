@@ -3,3 +3,4 @@ pub mod Sheets
 pub mod Rows
 pub mod Laws
 pub mod Waiting
+pub mod Resuming

@@ -32,6 +32,10 @@ BeginsWith input records = (state : Place) × (rest : Text) × Reached default_c
 abbrev pub AreAll : Text → List (List Text) → Type 0
 AreAll input records = AreRecords default_config st.StartRecord (strip_bom input) records
 
+-- These records stand at the front of the input, under some header; or they are none.
+abbrev pub StandAtFront : Text → List (List Text) → Type 0
+StandAtFront input records = (records ≡ []) ⊎ ((header : List Text) × BeginsWith input (header ∷ records))
+
 -- each record has as many fields as the header
 abbrev pub HaveWidth : Sheet → List (List Text) → Type 0
 HaveWidth sheet records = AllByRecursion (λ fields. length fields ≡ width_of sheet) records
@@ -50,11 +54,13 @@ pub record AreAnswered (sheet : Sheet) (limits : Limits) (before : State) (recor
   pub replied : Replied sheet limits before records replies after
   pub written : Appends old new (lines_of replies)
 
+-- ---- what a run gives that passes over these first records (none, if the whole sheet is done)
+
 -- The reply to the whole sheet: to an empty one, or to the records under its header.
-abbrev pub AnswersAll : Sheet → Limits → Text → State → State → Option Text → Option Text → Tally → Type 0
-AnswersAll sheet limits input before after old new tally =
+abbrev pub AnswersAll : List (List Text) → Sheet → Limits → Text → State → State → Option Text → Option Text → Tally → Type 0
+AnswersAll passed sheet limits input before after old new tally =
     (AreAll input [] × (after ≡ before) × Keeps old new × (tally ≡ tally_of []))
-    ⊎ ((header : List Text) × (records : List (List Text)) × (replies : List Reply) × IsHeader sheet header × AreAll input (header ∷ records)
+    ⊎ ((header : List Text) × (records : List (List Text)) × (replies : List Reply) × IsHeader sheet header × AreAll input (header ∷ (passed ++ records))
     × AreAnswered sheet limits before records replies after old new × (tally ≡ tally_of replies) × (length records ≤ max_records))
 
 -- The first record is not the header of the sheet, and nothing is done.
@@ -63,16 +69,16 @@ HasBadHeader sheet input before after old new =
     (header : List Text) × BeginsWith input (header ∷ []) × (IsHeader sheet header → ⊥) × (after ≡ before) × Keeps old new
 
 -- A record has not as many fields as the header, and those before it are done and answered.
-abbrev pub HasBadRecord : Sheet → Limits → Text → State → State → Option Text → Option Text → Type 0
-HasBadRecord sheet limits input before after old new =
+abbrev pub HasBadRecord : List (List Text) → Sheet → Limits → Text → State → State → Option Text → Option Text → Type 0
+HasBadRecord passed sheet limits input before after old new =
     (header : List Text) × (records : List (List Text)) × (fields : List Text) × (replies : List Reply) × IsHeader sheet header
-    × BeginsWith input ((header ∷ records) ++ fields ∷ []) × (length fields ≡ width_of sheet → ⊥) × AreAnswered sheet limits before records replies after old new
+    × BeginsWith input (header ∷ ((passed ++ records) ++ fields ∷ [])) × (length fields ≡ width_of sheet → ⊥) × AreAnswered sheet limits before records replies after old new
 
 -- Some records at the front of the sheet are done, and each has its line; nothing else is written.
-abbrev pub HasAnsweredSome : Sheet → Limits → Text → State → State → Option Text → Option Text → Type 0
-HasAnsweredSome sheet limits input before after old new =
+abbrev pub HasAnsweredSome : List (List Text) → Sheet → Limits → Text → State → State → Option Text → Option Text → Type 0
+HasAnsweredSome passed sheet limits input before after old new =
     ((after ≡ before) × Keeps old new)
-    ⊎ ((header : List Text) × (records : List (List Text)) × (replies : List Reply) × IsHeader sheet header × BeginsWith input (header ∷ records)
+    ⊎ ((header : List Text) × (records : List (List Text)) × (replies : List Reply) × IsHeader sheet header × BeginsWith input (header ∷ (passed ++ records))
     × AreAnswered sheet limits before records replies after old new)
 
 -- Further records come next, one at least and no more than are done together.
@@ -80,10 +86,10 @@ abbrev pub ComeNext : Sheet → ℕ → List (List Text) → Type 0
 ComeNext sheet together further = (1 ≤ length further) × (length further ≤ together) × HaveWidth sheet further
 
 -- Some records at the front of the sheet are done, and each has its line; the next ones are not done.
-abbrev pub HasStopped : Sheet → ℕ → Limits → Text → State → State → Option Text → Option Text → Type 0
-HasStopped sheet together limits input before after old new =
+abbrev pub HasStopped : List (List Text) → Sheet → ℕ → Limits → Text → State → State → Option Text → Option Text → Type 0
+HasStopped passed sheet together limits input before after old new =
     (header : List Text) × (records : List (List Text)) × (further : List (List Text)) × (replies : List Reply) × IsHeader sheet header
-    × BeginsWith input ((header ∷ records) ++ further) × ComeNext sheet together further × AreAnswered sheet limits before records replies after old new
+    × BeginsWith input (header ∷ (passed ++ (records ++ further))) × ComeNext sheet together further × AreAnswered sheet limits before records replies after old new
 
 -- Of these records the first are in flight: their commit failed, so that all of them are kept or none. The desk's image stands for the state after them; where there is one, it may stand for the state before it, and does so if records are done one at a time.
 pub record RecordsInFlight (sheet : Sheet) (together : ℕ) (limits : Limits) (before : State) (records : List (List Text)) (after : State) : Type 0 where
@@ -97,35 +103,39 @@ pub record RecordsInFlight (sheet : Sheet) (together : ℕ) (limits : Limits) (b
   pub alone : together ≡ 1 → after ≡ before
 
 -- A commit failed: some records at the front of the sheet are done, and each has its line; of the further ones the first are in flight.
-pub record HasFailedToKeep (sheet : Sheet) (together : ℕ) (limits : Limits) (input : Text) (before after : State) (old new : Option Text) : Type 0 where
+pub record HasFailedToKeep (passed : List (List Text)) (sheet : Sheet) (together : ℕ) (limits : Limits) (input : Text) (before after : State) (old new : Option Text) : Type 0 where
   pub header : List Text
   pub records : List (List Text)
   pub further : List (List Text)
   pub replies : List Reply
   pub settled : State
   pub is_header : IsHeader sheet header
-  pub begins : BeginsWith input ((header ∷ records) ++ further)
+  pub begins : BeginsWith input (header ∷ (passed ++ (records ++ further)))
   pub come_next : ComeNext sheet together further
   pub answered : AreAnswered sheet limits before records replies settled old new
   pub flight : RecordsInFlight sheet together limits settled further after
 
 -- Some records at the front of the sheet are done, one at least; not all of their lines are written whole.
-abbrev pub HasDoneUpTo : Sheet → Limits → Text → State → State → Type 0
-HasDoneUpTo sheet limits input before after =
+abbrev pub HasDoneUpTo : List (List Text) → Sheet → Limits → Text → State → State → Type 0
+HasDoneUpTo passed sheet limits input before after =
     (header : List Text) × (records : List (List Text)) × (further : List (List Text)) × (replies : List Reply) × IsHeader sheet header
-    × BeginsWith input ((header ∷ records) ++ further) × (1 ≤ length records) × HaveWidth sheet records × Replied sheet limits before records replies after
+    × BeginsWith input (header ∷ (passed ++ (records ++ further))) × (1 ≤ length records) × HaveWidth sheet records × Replied sheet limits before records replies after
 
--- What a run of a sheet gives, which does at most this many records together.
+-- What a run of a sheet gives behind these first records, which does at most this many together.
+abbrev pub RunsBehind : List (List Text) → Sheet → ℕ → Limits → Text → State → State → Option Text → Option Text → Result Tally SheetFault → Type 0
+RunsBehind passed sheet together limits input before after old new (Ok tally) = AnswersAll passed sheet limits input before after old new tally
+RunsBehind passed sheet together limits input before after old new (Err fault.BadHeader) = HasBadHeader sheet input before after old new
+RunsBehind passed sheet together limits input before after old new (Err fault.BadCsv) = HasBadRecord passed sheet limits input before after old new
+RunsBehind passed sheet together limits input before after old new (Err fault.Read) = HasAnsweredSome passed sheet limits input before after old new
+RunsBehind passed sheet together limits input before after old new (Err fault.Write) = HasDoneUpTo passed sheet limits input before after
+RunsBehind passed sheet together limits input before after old new (Err (fault.Desk stop.Memory)) = HasStopped passed sheet together limits input before after old new
+RunsBehind passed sheet together limits input before after old new (Err (fault.Desk stop.MustReopen)) = HasStopped passed sheet together limits input before after old new
+RunsBehind passed sheet together limits input before after old new (Err (fault.Desk stop.Keep)) = HasFailedToKeep passed sheet together limits input before after old new
+RunsBehind passed sheet together limits input before after old new (Err fault.Memory) = HasAnsweredSome passed sheet limits input before after old new
+
+-- What a run of a whole sheet gives.
 abbrev pub Runs : Sheet → ℕ → Limits → Text → State → State → Option Text → Option Text → Result Tally SheetFault → Type 0
-Runs sheet together limits input before after old new (Ok tally) = AnswersAll sheet limits input before after old new tally
-Runs sheet together limits input before after old new (Err fault.BadHeader) = HasBadHeader sheet input before after old new
-Runs sheet together limits input before after old new (Err fault.BadCsv) = HasBadRecord sheet limits input before after old new
-Runs sheet together limits input before after old new (Err fault.Read) = HasAnsweredSome sheet limits input before after old new
-Runs sheet together limits input before after old new (Err fault.Write) = HasDoneUpTo sheet limits input before after
-Runs sheet together limits input before after old new (Err (fault.Desk stop.Memory)) = HasStopped sheet together limits input before after old new
-Runs sheet together limits input before after old new (Err (fault.Desk stop.MustReopen)) = HasStopped sheet together limits input before after old new
-Runs sheet together limits input before after old new (Err (fault.Desk stop.Keep)) = HasFailedToKeep sheet together limits input before after old new
-Runs sheet together limits input before after old new (Err fault.Memory) = HasAnsweredSome sheet limits input before after old new
+Runs = RunsBehind []
 
 -- What a run of an edit sheet gives, one record after the other.
 abbrev pub RunsEdits : Limits → Text → State → State → Option Text → Option Text → Result Tally SheetFault → Type 0
@@ -168,9 +178,13 @@ abbrev pub StandsForEither : Result Image Table → State → State → Type 0
 StandsForEither content one other = StandsFor content one ⊎ StandsFor content other
 
 -- A commit failed: what the keeper has stands for the state of the records that have lines, or for that after all in flight.
+abbrev pub BreaksOffBehind : List (List Text) → Sheet → ℕ → Limits → Text → State → State → Option Text → Option Text → Result Image Table → Type 0
+BreaksOffBehind passed sheet together limits input before after old new content =
+    (failed : HasFailedToKeep passed sheet together limits input before after old new) × StandsForEither content failed.settled failed.flight.next
+
+-- the same of a whole sheet
 abbrev pub BreaksOff : Sheet → ℕ → Limits → Text → State → State → Option Text → Option Text → Result Image Table → Type 0
-BreaksOff sheet together limits input before after old new content =
-    (failed : HasFailedToKeep sheet together limits input before after old new) × StandsForEither content failed.settled failed.flight.next
+BreaksOff = BreaksOffBehind []
 
 -- the same of an edit sheet, one record after the other
 abbrev pub HasBrokenOff : Limits → Text → State → State → Option Text → Option Text → Result Image Table → Type 0

@@ -6,10 +6,12 @@ mod fault;
 pub mod laws;
 mod queue;
 mod reply;
+mod resumption;
 mod rows;
 mod run;
 
 pub use fault::SheetFault;
 pub use lrs_sheet_records::{ReadFault, Sheet, command_of, survey_of};
 pub use reply::{Reply, Tally};
-pub use run::{RECORDS_TOGETHER, run_edits, run_sheet, run_survey};
+pub use resumption::{Decided, last_edit, resume_sheet};
+pub use run::{RECORDS_TOGETHER, run_behind, run_edits, run_sheet, run_survey};

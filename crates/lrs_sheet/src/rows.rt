@@ -1,8 +1,11 @@
 //! The records of a text, one at a time.
 
-ghost use Rattle.std.specs.Prelude.{◌≡◌, ◌∷◌, [], true, false, length, IfOk, IfErr, IfSome, Some, None};
+ghost use Rattle.std.specs.Prelude.{◌≡◌, ◌⊎◌, ◌∷◌, [], List, true, false, length, IfOk, OnOk, IfErr, IfSome, Some, None};
 ghost use Rattle.csv.specs.Records.{fields_of};
 ghost use Rattle.csv.specs.Reading.{error_kind, expected_len};
+ghost use Rattle.lrs_machine.specs.Lines.{Text};
+ghost use Rattle.lrs_sheet_records.specs.Kinds.{width_of};
+ghost use Rattle.lrs_sheet_records.specs.declared.sheet.Sheet.{Sheet};
 ghost use Rattle.lrs_sheet.specs.Rows.{IsPlain, HasRead, Gave, EndsAfter, IsReadFault, fault_of_kind};
 
 use crate::fault::SheetFault;
@@ -55,4 +58,32 @@ pub(crate) fn next_row<R: Read>(
         Ok(found) => Ok(found),
         Err(error) => Err(fault_of(error)),
     }
+}
+
+/// Reads so many records, and lets them go.
+///
+/// # Errors
+///
+/// `Memory`, or `Read` where there are not so many.
+pub(crate) fn skip_rows<R: Read>(
+    rows: &mut Reader<R>,
+    row: &mut ByteRecord,
+    count: u32,
+) -> Result<(), SheetFault>
+    requires { IsPlain rows.old }
+    ensures plain { OnOk result (IsPlain rows.new) }
+    ensures width { OnOk result ((sheet : Sheet) → expected_len rows.old ≡ Some (width_of sheet)
+        → expected_len rows.new ≡ Some (width_of sheet)) }
+    ensures gave { OnOk result ((records : List (List Text)) × (length records ≡ count)
+        × Gave R.remaining rows.old rows.new records) }
+    ensures faults { IfErr result (λ e. (e ≡ SheetFault.Read) ⊎ (e ≡ SheetFault.Memory)) }
+{
+    for _turn in 0..count {
+        match next_row(rows, row) {
+            Ok(true) => {}
+            Err(SheetFault::Memory) => return Err(SheetFault::Memory),
+            Ok(false) | Err(_) => return Err(SheetFault::Read),
+        }
+    }
+    Ok(())
 }

@@ -1,20 +1,21 @@
 //! Sheets, from their bytes to the bytes of their replies.
 
-ghost use Rattle.std.specs.Prelude.{◌≡◌, ◌≤◌, ◌<◌, [], Some, Err, length, false, IfOk, OnOk, IfErr, IfSome, Result};
+ghost use Rattle.std.specs.Prelude.{◌≡◌, ◌≤◌, ◌<◌, [], List, Some, Err, length, false, IfOk, OnOk, IfErr, IfSome, Result};
 ghost use Rattle.csv.specs.Reading.{expected_len};
 ghost use Rattle.lrs_machine.specs.Image.{state_of};
 ghost use Rattle.lrs_machine.specs.declared.image.Image.{Image as ImageRows};
 ghost use Rattle.lrs_machine.specs.declared.table.Table.{Table};
+ghost use Rattle.lrs_machine.specs.Lines.{Text};
 ghost use Rattle.lrs_sheet_records.specs.Kinds.{width_of};
 ghost use Rattle.lrs_sheet.specs.Replies.{tally_of};
-ghost use Rattle.lrs_sheet.specs.Sheets.{Runs, RunsEdits, RunsSurvey, LeavesDesk, BreaksOff, HasBrokenOff, SurveyHasBrokenOff, IsAfterCommands};
+ghost use Rattle.lrs_sheet.specs.Sheets.{Runs, RunsBehind, RunsEdits, RunsSurvey, LeavesDesk, BreaksOff, BreaksOffBehind, HasBrokenOff, SurveyHasBrokenOff, IsAfterCommands, StandAtFront};
 ghost use Rattle.lrs_sheet.specs.Rows.{IsPlain, DoesRows, BreaksAfter};
 ghost use Rattle.lrs_sheet.specs.Waiting.{HasTaken};
 
 use crate::fault::SheetFault;
 use crate::queue::{Queue, settle, take_row};
 use crate::reply::Tally;
-use crate::rows::{next_row, open};
+use crate::rows::{next_row, open, skip_rows};
 use csv::{ByteRecord, Reader};
 use lrs_desk::{Desk, Fault, Keeper};
 use lrs_sheet_records::{Sheet, SheetRecord, is_header};
@@ -22,7 +23,7 @@ use std::alloc::Global;
 use std::io::{Read, Write};
 
 /// The most records of a sheet after its header.
-const MAX_RECORDS: u32 = 100_000_000;
+pub(crate) const MAX_RECORDS: u32 = 100_000_000;
 
 /// How many records are done together of a sheet that is there as a whole: some tens of milliseconds over a file, a
 /// few hundred bytes of memory each.
@@ -114,6 +115,50 @@ fn do_rows<R: Read, W: Write, K: Keeper>(
     }
 }
 
+/// Does the records of a sheet behind the first `passed` ones in order, at most this many together: they are kept
+/// together, and then each has its line. The first ones have been done or decided before; they are read, and no more.
+/// The writer is not flushed.
+///
+/// # Errors
+///
+/// Those of `run_sheet`. `Read` also where the sheet has not so many records.
+pub fn run_behind<R: Read + Drop, W: Write, K: Keeper>(
+    alloc: Global,
+    sheet: Sheet,
+    together: usize,
+    passed: u32,
+    reader: R,
+    writer: &mut W,
+    desk: &mut Desk<K>,
+) -> Result<Tally, SheetFault>
+    requires together { 1 ≤ together }
+    ensures runs { IfSome (R.remaining reader) (λ input. (front : List (List Text))
+        → StandAtFront input front → length front ≡ passed
+        → RunsBehind front sheet together desk.old.limits input (state_of desk.old.image)
+        (state_of desk.new.image) (W.contents writer.old) (W.contents writer.new) result) }
+    ensures desk { LeavesDesk K.may_hold desk.old desk.new result }
+    ensures broken { result ≡ Err (SheetFault.Desk Fault.Keep) → (c : Result ImageRows Table)
+        → K.may_hold desk.new.keeper c → IfSome (R.remaining reader) (λ input.
+        (front : List (List Text)) → StandAtFront input front → length front ≡ passed
+        → BreaksOffBehind front sheet together desk.old.limits input (state_of desk.old.image)
+        (state_of desk.new.image) (W.contents writer.old) (W.contents writer.new) c) }
+    ensures still { result ≡ Err (SheetFault.Desk Fault.Keep) → together ≡ 1
+        → desk.new.is_ahead ≡ false }
+    ensures left { IsAfterCommands desk.old.limits (state_of desk.old.image)
+        (state_of desk.new.image) }
+{
+    let mut rows = open(alloc, reader);
+    let mut row = ByteRecord::new(alloc);
+    if !next_row(&mut rows, &mut row)? {
+        return Ok(Tally::default());
+    }
+    if !is_header(sheet, &row) {
+        return Err(SheetFault::BadHeader);
+    }
+    skip_rows(&mut rows, &mut row, passed)?;
+    do_rows(alloc, sheet, together, &mut rows, &mut row, writer, desk)
+}
+
 /// Does the records of a sheet in order, at most this many together: they are kept together, and then each has its
 /// line. With one, the line of each reply is written before the next record is read. The writer is not flushed.
 ///
@@ -143,15 +188,7 @@ pub fn run_sheet<R: Read + Drop, W: Write, K: Keeper>(
     ensures left { IsAfterCommands desk.old.limits (state_of desk.old.image)
         (state_of desk.new.image) }
 {
-    let mut rows = open(alloc, reader);
-    let mut row = ByteRecord::new(alloc);
-    if !next_row(&mut rows, &mut row)? {
-        return Ok(Tally::default());
-    }
-    if !is_header(sheet, &row) {
-        return Err(SheetFault::BadHeader);
-    }
-    do_rows(alloc, sheet, together, &mut rows, &mut row, writer, desk)
+    run_behind(alloc, sheet, together, 0, reader, writer, desk)
 }
 
 /// Does the records of an edit sheet in order, and writes the line of each reply before it reads the next

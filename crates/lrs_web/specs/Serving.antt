@@ -30,7 +30,7 @@ Does holds (refused status) old answer new = (new ≡ old) × (answer ≡ empty_
 Does holds (not_allowed verb) old answer new = (new ≡ old) × (answer ≡ allowed_answer verb)
 Does holds (query resource argument) old answer new =
     (new ≡ old) × (AnswersAsked old.image resource argument answer ⊎ (answer ≡ empty_answer 503)) × (old.is_ahead ≡ true → answer ≡ empty_answer 503)
-Does holds (sheet resource bytes) old answer new = DoesSheet holds (sheet_at resource) bytes old answer new
+Does holds (sheet resource resumes bytes) old answer new = DoesSheet holds (sheet_at resource) resumes bytes old answer new
 
 -- What is asked for is done; the answer, or for want of memory an empty 503, is given.
 abbrev pub Responds : {K : Type 0} → (K → Result Image Table → Type 0) → Asked → DeskView K → Answer → DeskView K → Type 0

@@ -1,7 +1,9 @@
 -- What a sheet over HTTP is answered.
-use Rattle.std.specs.Prelude.{◌≡◌, ◌⊎◌, ℕ, [], ◌∷◌, ◌++◌, Option, Some, None, Result, Ok, Err, codes}
+use Rattle.std.specs.Prelude.{◌≡◌, ◌⊎◌, ℕ, Bool, true, false, [], ◌∷◌, ◌++◌, Option, Some, None, Result, Ok, Err, codes}
 use Rattle.lrs_machine.specs.Image.{state_of}
 use Rattle.lrs_machine.specs.Lines.{Text}
+use Rattle.lrs_machine.specs.State.{State}
+use Rattle.lrs_machine.specs.declared.answer.Limits.{Limits}
 use Rattle.lrs_machine.specs.declared.image.Image.{Image}
 use Rattle.lrs_machine.specs.declared.table.Table.{Table}
 use Rattle.lrs_desk.specs.DeskView.{DeskView}
@@ -10,6 +12,7 @@ use Rattle.lrs_sheet.specs.declared.reply.Tally.{Tally}
 use Rattle.lrs_sheet.specs.declared.fault.SheetFault.{SheetFault}
 use Rattle.lrs_sheet.specs.declared.fault.SheetFault.TheVariants as fault
 use Rattle.lrs_sheet_records.specs.declared.sheet.Sheet.{Sheet}
+use Rattle.lrs_sheet.specs.Resuming.{BreaksOffResumed, Resumes}
 use Rattle.lrs_sheet.specs.Sheets.{Runs, LeavesDesk, BreaksOff, records_together}
 use Rattle.lrs_web_requests.specs.declared.response.ContentType.{ContentType}
 use Rattle.lrs_web_requests.specs.declared.response.ContentType.TheVariants.{Csv}
@@ -38,19 +41,28 @@ answer_after (Err fault.Write) lines = empty_answer 503
 answer_after (Err (fault.Desk e)) lines = empty_answer 503
 answer_after (Err fault.Memory) lines = empty_answer 503
 
+-- what a run gives, of the whole sheet, or behind its last record that is an edit
+abbrev pub RunsSo : Bool → Sheet → ℕ → Limits → Text → State → State → Option Text → Option Text → Result Tally SheetFault → Type 0
+RunsSo false = Runs
+RunsSo true = Resumes
+
+-- after a failed commit: the keeper has the state of the records that have lines, or that after all in flight
+abbrev pub BreaksOffSo : Bool → Sheet → ℕ → Limits → Text → State → State → Option Text → Option Text → Result Image Table → Type 0
+BreaksOffSo false = BreaksOff
+BreaksOffSo true = BreaksOffResumed
+
 -- a sheet is run at a desk, ends so and writes these lines
-pub record IsRun {K : Type 0} (holds : K → Result Image Table → Type 0) (sheet : Sheet) (input : Text) (old new : DeskView K) (ended : Result Tally SheetFault) (lines : Text) : Type 0 where
-  pub runs : Runs sheet records_together old.limits input (state_of old.image) (state_of new.image) (Some []) (Some lines) ended
+pub record IsRun {K : Type 0} (holds : K → Result Image Table → Type 0) (sheet : Sheet) (resumes : Bool) (input : Text) (old new : DeskView K) (ended : Result Tally SheetFault) (lines : Text) : Type 0 where
+  pub runs : RunsSo resumes sheet records_together old.limits input (state_of old.image) (state_of new.image) (Some []) (Some lines) ended
   pub desk : LeavesDesk holds old new ended
-  -- after a failed commit: the keeper has the state of the records that have lines, or that after all in flight
   pub broken : ended ≡ Err (fault.Desk stop.Keep) → (c : Result Image Table) → holds new.keeper c
-      → BreaksOff sheet records_together old.limits input (state_of old.image) (state_of new.image) (Some []) (Some lines) c
+      → BreaksOffSo resumes sheet records_together old.limits input (state_of old.image) (state_of new.image) (Some []) (Some lines) c
 
 -- the reply to such a run; where memory runs out for it, there is an empty 503 in its place
 abbrev pub IsAnswerAfter : Result Tally SheetFault → Text → Answer → Type 0
 IsAnswerAfter ended lines answer = (answer ≡ answer_after ended lines) ⊎ (answer ≡ empty_answer 503)
 
--- A sheet is done at a desk, and answered.
-abbrev pub DoesSheet : {K : Type 0} → (K → Result Image Table → Type 0) → Sheet → Text → DeskView K → Answer → DeskView K → Type 0
-DoesSheet holds sheet input old answer new =
-    (ended : Result Tally SheetFault) × (lines : Text) × IsRun holds sheet input old new ended lines × IsAnswerAfter ended lines answer
+-- A sheet is done at a desk, or gone on with, and answered.
+abbrev pub DoesSheet : {K : Type 0} → (K → Result Image Table → Type 0) → Sheet → Bool → Text → DeskView K → Answer → DeskView K → Type 0
+DoesSheet holds sheet resumes input old answer new =
+    (ended : Result Tally SheetFault) × (lines : Text) × IsRun holds sheet resumes input old new ended lines × IsAnswerAfter ended lines answer

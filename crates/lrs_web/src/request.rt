@@ -105,8 +105,8 @@ fn do_task<K: Keeper>(alloc: Global, task: &Request, desk: &mut Desk<K>) -> Resp
         Request::Query(resource, argument) => {
             question_reply(alloc, *resource, argument.as_slice(), desk)
         }
-        Request::Sheet(resource, bytes) => {
-            do_sheet(alloc, sheet_of(*resource), bytes.as_slice(), desk)
+        Request::Sheet(resource, resumes, bytes) => {
+            do_sheet(alloc, sheet_of(*resource), *resumes, bytes.as_slice(), desk)
         }
     }
 }

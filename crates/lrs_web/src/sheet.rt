@@ -1,12 +1,17 @@
 //! Sheets are done at a desk, and what they are answered.
 
-ghost use Rattle.std.specs.Prelude.{◌≡◌, ◌⊎◌};
+ghost use Rattle.std.specs.Prelude.{◌≡◌, ◌⊎◌, Err, Result, Some, false, true};
+ghost use Rattle.lrs_machine.specs.Image.{state_of};
+ghost use Rattle.lrs_machine.specs.declared.image.Image.{Image as ImageRows};
+ghost use Rattle.lrs_machine.specs.declared.table.Table.{Table};
+ghost use Rattle.lrs_sheet.specs.Resuming.{BreaksOffResumed, Resumes};
+ghost use Rattle.lrs_sheet.specs.Sheets.{BreaksOff, LeavesDesk, Runs, records_together};
 ghost use Rattle.lrs_web_requests.specs.Text.{answer_of, empty_answer};
 ghost use Rattle.lrs_web.specs.Sheets.{DoesSheet, IsAnswerAfter, fault_answer, lines_answer};
 
 use http::StatusCode;
-use lrs_desk::{Desk, Keeper};
-use lrs_sheet::{RECORDS_TOGETHER, Sheet, SheetFault, Tally, run_sheet};
+use lrs_desk::{Desk, Fault, Keeper};
+use lrs_sheet::{RECORDS_TOGETHER, Sheet, SheetFault, Tally, resume_sheet, run_sheet};
 use lrs_web_requests::{Content, ContentType, Response};
 use std::alloc::Global;
 
@@ -53,17 +58,50 @@ fn reply_after(ended: Result<Tally, SheetFault>, lines: Vec<u8>) -> Response
     }
 }
 
-/// Does a sheet whose bytes have all come. Where memory or the keeper fails, some of its records may be done, and the
-/// reply is an empty 503; their keys make sending it again safe.
+/// Runs a sheet, or what stands behind its last record that is an edit.
+fn run<K: Keeper>(
+    alloc: Global,
+    sheet: Sheet,
+    resumes: bool,
+    bytes: &[u8],
+    lines: &mut Vec<u8>,
+    desk: &mut Desk<K>,
+) -> Result<Tally, SheetFault>
+    ensures whole { resumes ≡ false → Runs sheet records_together desk.old.limits bytes.now
+        (state_of desk.old.image) (state_of desk.new.image) (Some lines.old.items)
+        (Some lines.new.items) result }
+    ensures behind { resumes ≡ true → Resumes sheet records_together desk.old.limits bytes.now
+        (state_of desk.old.image) (state_of desk.new.image) (Some lines.old.items)
+        (Some lines.new.items) result }
+    ensures desk { LeavesDesk K.may_hold desk.old desk.new result }
+    ensures whole_broken { resumes ≡ false → result ≡ Err (SheetFault.Desk Fault.Keep)
+        → (c : Result ImageRows Table) → K.may_hold desk.new.keeper c
+        → BreaksOff sheet records_together desk.old.limits bytes.now (state_of desk.old.image)
+        (state_of desk.new.image) (Some lines.old.items) (Some lines.new.items) c }
+    ensures behind_broken { resumes ≡ true → result ≡ Err (SheetFault.Desk Fault.Keep)
+        → (c : Result ImageRows Table) → K.may_hold desk.new.keeper c
+        → BreaksOffResumed sheet records_together desk.old.limits bytes.now (state_of desk.old.image)
+        (state_of desk.new.image) (Some lines.old.items) (Some lines.new.items) c }
+{
+    if resumes {
+        resume_sheet(alloc, sheet, RECORDS_TOGETHER, bytes, lines, desk)
+    } else {
+        run_sheet(alloc, sheet, RECORDS_TOGETHER, bytes, lines, desk)
+    }
+}
+
+/// Does a sheet whose bytes have all come, or goes on with it behind its last record that is an edit. Where memory or the
+/// keeper fails, some of its records may be done, and the reply is an empty 503; then the sheet can go on.
 pub(crate) fn do_sheet<K: Keeper>(
     alloc: Global,
     sheet: Sheet,
+    resumes: bool,
     bytes: &[u8],
     desk: &mut Desk<K>,
 ) -> Response
-    ensures { DoesSheet K.may_hold sheet bytes.now desk.old (answer_of result) desk.new }
+    ensures { DoesSheet K.may_hold sheet resumes bytes.now desk.old (answer_of result) desk.new }
 {
     let mut lines = Vec::new(alloc);
-    let ended = run_sheet(alloc, sheet, RECORDS_TOGETHER, bytes, &mut lines, desk);
+    let ended = run(alloc, sheet, resumes, bytes, &mut lines, desk);
     reply_after(ended, lines)
 }

@@ -1,11 +1,12 @@
 -- What a request asks for.
-use Rattle.std.specs.Prelude.{◌≡◌, ⊤, ℕ, ◌≤◌, ◌⊎◌, Bool, List, length, drop, map, codes, Option, None, Some, Result, Ok, Err, if◌then◌else◌, ◌==◌, bytes_eq}
+use Rattle.std.specs.Prelude.{◌≡◌, ⊤, ℕ, ◌≤◌, ◌⊎◌, Bool, true, false, List, length, drop, map, codes, Option, None, Some, Result, Ok, Err, if◌then◌else◌, ◌==◌, bytes_eq}
 use Rattle.std.specs.List.{before_first, after_first}
 use Rattle.httparse.specs.Grammar.{RequestHead, ReadsRequest, print_request}
 use Rattle.httparse.specs.Spans.{name_and_value}
 use Rattle.lrs_web_requests.specs.Reading.{IsTooLarge, IsUnreadable}
 use Rattle.lrs_web_requests.specs.Body.{body_at}
 use Rattle.lrs_web_requests.specs.Framing.{Field, body_length}
+use Rattle.lrs_web_requests.specs.Query.{parameter}
 use Rattle.lrs_web_requests.specs.declared.response.Verb.{Verb}
 use Rattle.lrs_web_requests.specs.declared.response.Verb.TheVariants.{Get, Post}
 use Rattle.lrs_web_requests.specs.Text.{method_name}
@@ -15,18 +16,18 @@ use Rattle.lrs_web_requests.specs.Routes.{resource_at}
 use Rattle.lrs_web_requests.specs.declared.request.Request.{Request}
 use Rattle.lrs_web_requests.specs.declared.request.Request.TheVariants as task
 
--- what is asked for: nothing that is served, an answer to a question, with what it is asked by, or that a sheet is done
+-- what is asked for: nothing that is served, an answer to a question, with what it is asked by, or that a sheet is done, or gone on with
 pub data Asked : Type 0 where
   refused : ℕ → Asked
   not_allowed : Verb → Asked
   query : Resource → List ℕ → Asked
-  sheet : Resource → List ℕ → Asked
+  sheet : Resource → Bool → List ℕ → Asked
 
 abbrev pub asked_by : Request → Asked
 asked_by (task.Refused status) = refused status
 asked_by (task.NotAllowed verb) = not_allowed verb
 asked_by (task.Query resource text) = query resource text.items
-asked_by (task.Sheet resource bytes) = sheet resource bytes.items
+asked_by (task.Sheet resource resumes bytes) = sheet resource resumes bytes.items
 
 abbrev pub is_question_mark : ℕ → Bool
 is_question_mark b = b == 63
@@ -61,18 +62,27 @@ verb_of Find = Get
 verb_of Edits = Post
 verb_of Surveys = Post
 
-abbrev pub with_body : Resource → Option (List ℕ) → Asked
-with_body resource None = refused 400
-with_body resource (Some body) = sheet resource body
+-- whether a sheet goes on behind its last record that is an edit: where `resume` is 1, not where there is no `resume`; any other value is refused
+abbrev pub resumes_for : Option (List ℕ) → Option Bool
+resumes_for None = Some false
+resumes_for (Some value) = if bytes_eq value (codes "1") then Some true else None
 
-abbrev pub with_length : Resource → Result ℕ ℕ → List ℕ → Asked
-with_length resource (Err status) rest = refused status
-with_length resource (Ok length) rest = with_body resource (body_at length rest)
+abbrev pub resumes : List ℕ → Option Bool
+resumes target = resumes_for (parameter (codes "resume") (query_of target))
+
+abbrev pub with_body : Resource → Option Bool → Option (List ℕ) → Asked
+with_body resource None body = refused 400
+with_body resource (Some resumes) None = refused 400
+with_body resource (Some resumes) (Some body) = sheet resource resumes body
+
+abbrev pub with_length : Resource → Option Bool → Result ℕ ℕ → List ℕ → Asked
+with_length resource resumes (Err status) rest = refused status
+with_length resource resumes (Ok length) rest = with_body resource resumes (body_at length rest)
 
 -- by the verb of the resource; rest is what follows the head
 abbrev pub by_verb : Verb → Resource → List ℕ → List Field → List ℕ → Asked
 by_verb Get resource target fields rest = query resource (argument_of resource target)
-by_verb Post resource target fields rest = with_length resource (body_length fields) rest
+by_verb Post resource target fields rest = with_length resource (resumes target) (body_length fields) rest
 
 abbrev pub at_resource : Option Resource → List ℕ → List ℕ → List Field → List ℕ → Asked
 at_resource None method target fields rest = refused 404
@@ -102,7 +112,7 @@ abbrev pub IsServed : Asked → Type 0
 IsServed (refused status) = ⊤
 IsServed (not_allowed verb) = ⊤
 IsServed (query resource argument) = verb_of resource ≡ Get
-IsServed (sheet resource bytes) = verb_of resource ≡ Post
+IsServed (sheet resource resumes bytes) = verb_of resource ≡ Post
 
 -- what an input asks for; one whose head has several faults may be refused for either
 abbrev pub Asks : List ℕ → Asked → Type 0

@@ -6,12 +6,13 @@ ghost use Rattle.httparse.specs.Spans.{header_bytes, IsHeaderWithin, IsRequestOf
 ghost use Rattle.lrs_web_requests.specs.Routes.{rows};
 ghost use Rattle.lrs_web_requests.specs.Framing.{body_length};
 ghost use Rattle.lrs_web_requests.specs.declared.response.Verb.TheVariants.{Post};
-ghost use Rattle.lrs_web_requests.specs.Request.{asked_by, asked_at, Asks, AsksByHead, most_head, most_fields, path_of, query_of, argument_of, name_in, verb_of, with_length, by_verb, IsServed};
+ghost use Rattle.lrs_web_requests.specs.Request.{asked_by, asked_at, Asks, AsksByHead, most_head, most_fields, path_of, query_of, argument_of, name_in, resumes, verb_of, with_length, by_verb, IsServed};
 
 use crate::body::{BodyFault, read_body};
 use crate::framing::length_of_body;
 use crate::head::{Outcome, read_head};
 use crate::paths::{Resource, find};
+use crate::query::value_of;
 use crate::response::Verb;
 use http::StatusCode;
 use httparse::spans::{EMPTY_HEADER_SPAN, HeaderSpan, RequestSpans};
@@ -35,8 +36,8 @@ pub enum Request {
     NotAllowed(Verb),
     /// An answer: to a query, or of a route to the name in its path.
     Query(Resource, Vec<u8>),
-    /// That the sheet in the body is done.
-    Sheet(Resource, Vec<u8>),
+    /// That the sheet in the body is done, or that it goes on behind its last record that is an edit.
+    Sheet(Resource, bool, Vec<u8>),
 }
 
 fn verb_for(resource: Resource) -> Verb
@@ -96,6 +97,19 @@ fn argument(resource: Resource, target: &str) -> &[u8]
     }
 }
 
+/// Whether a sheet goes on behind its last record that is an edit; `None` where the parameter that says so has another
+/// value than 1.
+fn resumes(alloc: Global, target: &str) -> Result<Option<bool>, AllocError>
+    ensures { IfOk result (λ found. found ≡ resumes target.now) }
+{
+    let (_, query) = split_target(target);
+    match value_of(alloc, query.as_bytes(), "resume")? {
+        None => Ok(Some(false)),
+        Some(value) if value.as_str() == "1" => Ok(Some(true)),
+        Some(_) => Ok(None),
+    }
+}
+
 /// The parts of a head, and the front of what follows it.
 #[derive(Clone, Copy)]
 struct Head<'b> {
@@ -116,15 +130,16 @@ fn read_sheet<R: Read>(
     requires verb { verb_of resource ≡ Post }
     ensures served { IfOk result (λ task. IsServed (asked_by task)) }
     ensures asked { IfOk result (λ task. IfSome (R.remaining reader.old) (λ more.
-        asked_by task ≡ with_length resource (body_length (map (header_bytes head.entry.text.now) head.entry.fields.now)) (head.entry.front.now ++ more))) }
+        asked_by task ≡ with_length resource (resumes head.entry.target.now) (body_length (map (header_bytes head.entry.text.now) head.entry.fields.now)) (head.entry.front.now ++ more))) }
 {
     let length = match length_of_body(head.text, head.fields) {
         Ok(length) => length,
         Err(status) => return Ok(Request::Refused(status)),
     };
-    match read_body(alloc, reader, head.front, length)? {
-        Some(body) => Ok(Request::Sheet(resource, body)),
-        None => Ok(Request::Refused(StatusCode::BAD_REQUEST)),
+    let body = read_body(alloc, reader, head.front, length)?;
+    match (resumes(alloc, head.target)?, body) {
+        (Some(resumes), Some(body)) => Ok(Request::Sheet(resource, resumes, body)),
+        (None, _) | (_, None) => Ok(Request::Refused(StatusCode::BAD_REQUEST)),
     }
 }
 
