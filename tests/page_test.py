@@ -135,9 +135,9 @@ class Page:
         self.browser.pictured(self.folder / f"{name}.png")
 
     def drawn(self):
-        """The stretch that is drawn, in millimetres."""
-        data = self.browser.runs("const d = document.querySelector('#diagram svg').dataset; return [d.route, d.from, d.to]")
-        return data[0], int(data[1]), int(data[2])
+        """The stretch that is drawn, in millimetres, or nothing while there is none."""
+        data = self.browser.runs("const d = document.querySelector('#diagram svg')?.dataset; return d ? [d.route, d.from, d.to] : null")
+        return data and (data[0], int(data[1]), int(data[2]))
 
     def draws(self, route, start, end):
         """Waits for this stretch; the address has it, and the fields."""

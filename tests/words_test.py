@@ -2,6 +2,7 @@
 
 import os
 import pathlib
+import re
 import tempfile
 import threading
 
@@ -170,11 +171,19 @@ def test_sums_that_are_not_understood(words):
 NAMES_OF_JOBS = ["edit", "survey", "serve", "at", "translate", "strip", "diagram", "totals", "find", "page"]
 
 
-def test_help_names_sums_where_a_file_may_be_new():
+OPTIONS = {
+    b"--sums": (b"Gives a new file sums of its pages, so that damage is found", ["edit", "survey", "serve"]),
+    b"--resume": (b"Goes on behind the last record that was accepted before", ["edit", "survey"]),
+}
+
+
+@pytest.mark.parametrize("option", OPTIONS)
+def test_help_names_an_option_where_it_may_be_given(option):
+    says, names = OPTIONS[option]
+    line = re.compile(rb"^      " + option + rb" +" + re.escape(says) + rb"\n", re.M)
     said = {name: run(name, "--help").stdout for name in NAMES_OF_JOBS}
-    line = b"      --sums  Gives a new file sums of its pages, so that damage is found\n"
-    assert [name for name, text in said.items() if line in text] == ["edit", "survey", "serve"], said
-    assert b"--sums" not in b"".join(text.replace(line, b"") for text in said.values()), said
+    assert [name for name, text in said.items() if line.search(text)] == names, said
+    assert option not in b"".join(line.sub(b"", text) for text in said.values()), said
 
 
 USAGES = {"edit": b"<DB> <SHEET>", "survey": b"<DB> <SHEET>", "serve": b"<DB> <PORT> <MAX>"}
