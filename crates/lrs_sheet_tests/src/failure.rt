@@ -43,6 +43,34 @@ fn act(rt: &impl Abort, desk: &mut Desk<Failing>, key: &str, link: Link) -> Resu
     desk.act(key, &command)
 }
 
+/// A desk that has done one command, and whose next commit failed.
+fn broken(rt: &impl Abort, alloc: Global, leaves: Leaves) -> Desk<Failing> {
+    let mut desk = open(rt, alloc, leaves);
+    assert_eq!(rt; act(rt, &mut desk, "s1", FIRST), Ok(Answer::Done(1)));
+    assert_eq!(rt; act(rt, &mut desk, "s2", SECOND), Err(Fault::Keep));
+    desk
+}
+
+/// The image is as before the command whose commit failed, and questions go on.
+#[test]
+fn after_a_failed_commit_of_one_questions_go_on(rt: HostRuntime) {
+    let mut desk = broken(&rt, rt.alloc(), Leaves::Old);
+    assert_eq!(rt; act(&rt, &mut desk, "s3", THIRD), Err(Fault::MustReopen));
+    assert!(rt; desk.totals().is_ok());
+    assert_eq!(rt; desk.inventory().links(), 1);
+}
+
+/// The device failed, and the command was kept: an opening finds it.
+#[test]
+fn a_command_that_was_kept_is_done_no_second_time(rt: HostRuntime) {
+    let alloc = rt.alloc();
+    let keeper = broken(&rt, alloc, Leaves::New).into_keeper();
+    match Desk::open(keeper, Limits::full(), alloc) {
+        Ok(mut desk) => assert_eq!(rt; act(&rt, &mut desk, "s2", SECOND), Ok(Answer::Again(2))),
+        Err((fault, _)) => panic!(rt; "{fault:?}"),
+    }
+}
+
 /// Two links are in flight together: the image is ahead, so that no question is answered.
 #[test]
 fn after_a_failed_commit_of_two_questions_ask_for_a_reopening(rt: HostRuntime) {
