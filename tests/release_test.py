@@ -101,7 +101,7 @@ def test_a_byte_of_any_source_makes_it_other_sources(clone):
     for crate in ["lrs_measure", "lrs_cli"]:
         for part in ["src", "specs", "proofs"]:
             sources += sorted((clone / "crates" / crate / part).rglob("*.*t"))[-1:]
-    assert len(sources) == 8
+    assert {path.name for path in sources} > {"crates.txt", "HANDLES"} and len(sources) > 6, sources
     for path in sources:
         change_back = change(path)
         assert sum_of_sources(clone) != before, path
