@@ -93,7 +93,7 @@ def test_destinations_that_cannot_be_read():
 
 def test_sides_that_cannot_be_read():
     for text in ["", "l", "LR", "left", "L "]:
-        is_unreadable("strip", ["A1", text, "SPEED"], "SIDE is none of L, R and B")
+        is_unreadable("strip", ["A1", text, "SPEED"], "SIDE is neither L nor R")
 
 
 def test_classes_that_cannot_be_read():
@@ -116,7 +116,7 @@ def test_the_first_word_that_cannot_be_read_is_named():
     is_unreadable("at", ["A1", "foot", "x"], "METHOD is none of abs, rel and int")
     is_unreadable("translate", ["A1", "abs", "x", "foot"], "POS is no position by this method")
     is_unreadable("strip", ["a1", "x", "speed"], "ROUTE is no route name")
-    is_unreadable("strip", ["A1", "x", "speed"], "SIDE is none of L, R and B")
+    is_unreadable("strip", ["A1", "x", "speed"], "SIDE is neither L nor R")
 
 
 def test_words_that_are_too_few_or_too_many():
@@ -146,4 +146,4 @@ def test_help_names_each_command():
 def test_the_version_names_the_kit_that_proved_it():
     kit = re.search(r"Proved with the kit `([^`]+)`", (TOP / "README.md").read_text()).group(1)
     for word in ["--version", "-V"]:
-        ends(run(word), f"roadlrs 0.2.0, proved by {kit}\n".encode(), 0)
+        ends(run(word), f"roadlrs 0.3.0, proved by {kit}\n".encode(), 0)

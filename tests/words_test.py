@@ -53,6 +53,12 @@ def test_paths_that_begin_with_a_dash(name, tmp_path):
     ends(run("edit", ":memory:", f"./{name}", cwd=tmp_path), FIRST_REPLIES, 0)
 
 
+@pytest.mark.parametrize("job", ["edit", "survey", "check"])
+def test_a_dash_is_no_name_for_the_standard_input(job, tmp_path):
+    said = b"hint: standard input is written stdin\nroadlrs: fault Read\n"
+    ends(run(job, ":memory:", "--", "-", given=FIRST, cwd=tmp_path), b"", 3, said)
+
+
 @pytest.mark.parametrize("path", ["", "/", "/dev/null/sheet", "s" * 256, "s/" * 3000, "stdin\n"])
 def test_sheets_that_lead_nowhere(path):
     faults(run("edit", ":memory:", path, given=FIRST), "Read")
@@ -168,12 +174,14 @@ def test_sums_that_are_not_understood(words):
     is_misused(run(*words, given=FIRST))
 
 
-NAMES_OF_JOBS = ["edit", "survey", "serve", "at", "translate", "strip", "diagram", "totals", "find", "page"]
+NAMES_OF_JOBS = ["edit", "survey", "check", "serve", "at", "translate", "strip", "diagram", "totals", "find", "list", "rows", "gone", "log", "audit", "page"]
 
 
 OPTIONS = {
-    b"--sums": (b"Gives a new file sums of its pages, so that damage is found", ["edit", "survey", "serve"]),
-    b"--resume": (b"Goes on behind the last record that was accepted before", ["edit", "survey"]),
+    b"--sums": (b"Gives a new file a sum behind each page, so that damage is found", ["edit", "survey", "serve"]),
+    b"--resume": (b"Goes on behind the last record of the sheet that was accepted before", ["edit", "survey"]),
+    b"--all": (b"Does the sheet only if no record of it is refused", ["edit", "survey"]),
+    b"--survey": (b"The sheet is a survey", ["check"]),
 }
 
 
@@ -283,13 +291,52 @@ def test_diagrams_that_are_not_understood(words):
 def test_help_on_diagrams():
     said = run("diagram", "--help").stdout
     for line in [
-        b"Draws a straight-line diagram of a route, as SVG\n\nUsage: roadlrs diagram <DB> <ROUTE> [CLASS]...\n",
+        b"Draws a straight-line diagram of a route as SVG\n\nUsage: roadlrs diagram <DB> <ROUTE> [CLASS]...\n",
         b"\n  [CLASS]...  The names of classes; all where none is named\n",
         b"\n      --from <C>  From this chainage, in millimetres; else from the start\n",
         b"\n      --to <C>    To this chainage, in millimetres; else to the end\n",
         b"\nExample: roadlrs diagram roads.db A1 SPEED > a1.svg\n",
     ]:
         assert line in said, (line, said)
+
+
+# ---- reports
+
+
+MISUSED_REPORTS = [
+    ["check", ":memory:"],
+    ["check", ":memory:", "stdin", "more"],
+    ["check", ":memory:", "stdin", "--sums"],
+    ["list", ":memory:"],
+    ["list", ":memory:", "roads"],
+    ["rows"],
+    ["rows", ":memory:", "A1"],
+    ["rows", ":memory:", "--route"],
+    ["rows", ":memory:", "--route", "a1"],
+    ["rows", ":memory:", "--from", "-1"],
+    ["rows", ":memory:", "--to", "10000000001"],
+    ["rows", ":memory:", "--class", "speed"],
+    ["rows", ":memory:", "--asset", "0"],
+    ["rows", ":memory:", "--asset", "1", "--asset", "2"],
+    ["gone", ":memory:", "--edit", "0"],
+    ["gone", ":memory:", "1"],
+    ["log", ":memory:", "0"],
+    ["log", ":memory:", "--key", "a key"],
+    ["audit"],
+    ["audit", ":memory:", "more"],
+]
+
+
+@pytest.mark.parametrize("words", MISUSED_REPORTS, ids=" ".join)
+def test_misused_reports(words):
+    is_misused(run(*words, given=FIRST))
+
+
+def test_help_tells_the_fields_of_each_verb():
+    said = run("edit", "--help").stdout.decode()
+    for verb in "link class route ref unref enter supersede retire split join renumber recalibrate turn realign close".split():
+        assert re.search(rf"^  {verb} ", said, re.M), (verb, said)
+    assert all(len(line) < 80 for line in said.partition("A record has")[2].splitlines()), said
 
 
 # ---- the web page
@@ -339,8 +386,8 @@ def test_pages_that_are_not_understood(words, tmp_path):
 def test_help_on_the_page():
     said = run("page", "--help").stdout
     for line in [
-        b"Writes a web page that shows a served inventory\n\nUsage: roadlrs page <DIR>\n",
-        b"\n  <DIR>  The folder that gets the page, as index.html; made where it is missing\n",
+        b"Writes a web page for a served inventory\n\nUsage: roadlrs page <DIR>\n",
+        b"\n  <DIR>  The folder that gets index.html; made where it is missing\n",
         b"\nExample: roadlrs page www\n",
     ]:
         assert line in said, (line, said)

@@ -4,7 +4,10 @@ ghost use Rattle.std.specs.Prelude.{◌≡◌, false};
 ghost use Rattle.lrs_cli.specs.Jobs.{HasWorked};
 
 use crate::server::do_service;
-use lrs_cli_tasks::{Ending, Pace, Shown, Work, do_question, do_sheet, open_in_memory};
+use lrs_cli_tasks::{
+    Ending, Pace, Shown, Work, do_audit, do_check, do_question, do_records, do_report,
+    open_in_memory,
+};
 use lrs_desk::{Desk, Keeper};
 use std::alloc::Global;
 use std::net::Net;
@@ -27,8 +30,12 @@ pub fn do_work<R: Runtime<A = Global> + Net, K: Keeper>(
             kind,
             from,
             resumes,
-        } => do_sheet(rt, desk, kind, resumes, from, of_file, shown),
+            all,
+        } => do_records(rt, desk, kind, resumes, all, from, of_file, shown),
+        Work::Check { kind, from } => do_check(rt, desk, kind, from),
         Work::Question(question) => do_question(rt, desk, question),
+        Work::Report(report) => do_report(rt, desk, &report),
+        Work::Audit => do_audit(rt, desk),
         Work::Service(service) => do_service(rt, desk, service),
     }
 }

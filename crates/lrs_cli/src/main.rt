@@ -12,9 +12,9 @@ use lrs_cli_tasks::{
 };
 use lrs_cli_words::{Job, QuestionFault, WordsFault, job_of, new_has_sums};
 use lrs_store::close_files;
-use std::env;
 use std::io::{ErrorKind, IsTerminal};
 use std::process::ExitCode;
+use std::{env, fs};
 
 // Does work in the inventory of a file, which is closed afterwards. Where it cannot be closed, its log still has
 // what was committed. Each reply goes out once its record is committed.
@@ -34,12 +34,46 @@ fn do_in_file(
     ending
 }
 
+// Whether something is at a path. Where that is not known, opening it tells why.
+fn is_there(rt: &HostRuntime, path: &str) -> bool {
+    match fs::exists(rt, path) {
+        Ok(exists) => exists,
+        Err(_) => true,
+    }
+}
+
+// Whether neither the file of an inventory nor its log is there.
+fn is_new(rt: &HostRuntime, path: &str) -> bool {
+    match format!(in rt.alloc(); "{path}-wal") {
+        Ok(log) => !is_there(rt, path) && !is_there(rt, log.as_str()),
+        Err(_) => false,
+    }
+}
+
+// Does work in the inventory of a file. What only looks makes no file: a check looks at a fresh inventory then, and a
+// report or an audit has none.
+fn do_at_path(
+    rt: &HostRuntime,
+    path: &str,
+    new_has_sums: bool,
+    work: Work<'_>,
+    shown: Shown,
+) -> Ending {
+    if matches!(work, Work::Check { .. }) && is_new(rt, path) {
+        return do_in_memory(rt, work, shown);
+    }
+    if matches!(work, Work::Report(_) | Work::Audit) && is_new(rt, path) {
+        return Ending::Stopped(ProgramFault::Open);
+    }
+    do_in_file(rt, path, new_has_sums, work, shown)
+}
+
 // Reads the words of a job, and then opens its inventory, if it has one.
 fn do_job(rt: &HostRuntime, job: &Job<'_>, shown: Shown) -> Ending {
     match task_of(rt.alloc(), job) {
         Ok(Task::Page { dir }) => do_page(rt, dir),
         Ok(Task::Inventory { db, work }) if is_in_memory(db) => do_in_memory(rt, work, shown),
-        Ok(Task::Inventory { db, work }) => do_in_file(rt, db, new_has_sums(job), work, shown),
+        Ok(Task::Inventory { db, work }) => do_at_path(rt, db, new_has_sums(job), work, shown),
         Err(QuestionFault::Unreadable(word)) => Ending::Unreadable(word),
         Err(QuestionFault::Memory) => Ending::Stopped(ProgramFault::Memory),
     }

@@ -1,10 +1,12 @@
 -- What a job has the program do.
-use Rattle.std.specs.Prelude.{◌≡◌, Option, Some, None}
+use Rattle.std.specs.Prelude.{◌≡◌, ⊤, Bool, true, false, Option, Some, None}
 use Rattle.clap.specs.Words.{Text}
+use Rattle.lrs_sheet_records.specs.declared.sheet.Sheet.{Sheet}
 use Rattle.lrs_sheet_records.specs.declared.sheet.Sheet.TheVariants.{Edits, Survey}
 use Rattle.lrs_cli_words.specs.declared.job.Job.{Job}
 use Rattle.lrs_cli_words.specs.declared.job.Job.TheVariants as job
 use Rattle.lrs_cli_words.specs.Questions.{Asks, SaysService}
+use Rattle.lrs_cli_words.specs.Reports.{Reports}
 use Rattle.lrs_cli_tasks.specs.declared.task.Task.{Task}
 use Rattle.lrs_cli_tasks.specs.declared.task.Task.TheVariants as task
 use Rattle.lrs_cli_tasks.specs.declared.task.Work.{Work}
@@ -12,23 +14,37 @@ use Rattle.lrs_cli_tasks.specs.declared.task.Work.TheVariants as work
 
 -- the inventory that it names; none for the page
 abbrev pub inventory_of : Job → Option Text
-inventory_of (job.Edit db sheet sums resume) = Some db.now
-inventory_of (job.Survey db sheet sums resume) = Some db.now
+inventory_of (job.Edit db sheet sums resume all) = Some db.now
+inventory_of (job.Survey db sheet sums resume all) = Some db.now
+inventory_of (job.Check db sheet survey) = Some db.now
 inventory_of (job.At db route method position) = Some db.now
 inventory_of (job.Translate db route method position to) = Some db.now
 inventory_of (job.Strip db route side classes) = Some db.now
 inventory_of (job.Diagram db route classes from to) = Some db.now
 inventory_of (job.Totals db) = Some db.now
 inventory_of (job.Find db asset) = Some db.now
+inventory_of (job.List db what) = Some db.now
+inventory_of (job.Rows db route from to class asset) = Some db.now
+inventory_of (job.Gone db edit) = Some db.now
+inventory_of (job.Log db from key) = Some db.now
+inventory_of (job.Audit db) = Some db.now
 inventory_of (job.Serve db port max sums) = Some db.now
 inventory_of (job.Page dir) = None
 
--- `edit` does an edit sheet, `survey` a survey, `serve` serves where its words say, and every other job asks what they say
+-- of which kind a sheet is that is checked
+abbrev pub kind_checked : Bool → Sheet
+kind_checked true = Survey
+kind_checked false = Edits
+
+-- `edit` does an edit sheet, `survey` a survey, `check` tries one, `audit` audits, `serve` serves where its words say, and every other job reports or asks what they say
 abbrev pub IsWorkOf : Job → Work → Type 0
-IsWorkOf (job.Edit db sheet sums resume) (work.Sheet kind from resumes) = (kind ≡ Edits) × (from.now ≡ sheet.now) × (resumes ≡ resume)
-IsWorkOf (job.Survey db sheet sums resume) (work.Sheet kind from resumes) = (kind ≡ Survey) × (from.now ≡ sheet.now) × (resumes ≡ resume)
+IsWorkOf (job.Edit db sheet sums resume all) (work.Sheet kind from resumes whole) = (kind ≡ Edits) × (from.now ≡ sheet.now) × (resumes ≡ resume) × (whole ≡ all)
+IsWorkOf (job.Survey db sheet sums resume all) (work.Sheet kind from resumes whole) = (kind ≡ Survey) × (from.now ≡ sheet.now) × (resumes ≡ resume) × (whole ≡ all)
+IsWorkOf (job.Check db sheet survey) (work.Check kind from) = (kind ≡ kind_checked survey) × (from.now ≡ sheet.now)
+IsWorkOf (job.Audit db) work.Audit = ⊤
 IsWorkOf (job.Serve db port max sums) (work.Service service) = SaysService port.now max.now service
 IsWorkOf j (work.Question question) = Asks j question
+IsWorkOf j (work.Report report) = Reports j report
 IsWorkOf j w = ⊥
 
 -- `page` has a folder, and every other job an inventory and what is done with it

@@ -3,10 +3,38 @@
 ghost use Rattle.std.specs.Prelude.{◌≡◌};
 ghost use Rattle.lrs_cli_tasks.specs.Endings.{status_of};
 
-use crate::fault::ProgramFault;
+use crate::fault::{ProgramFault, table_name};
 use lrs_answers::AskCause;
 use lrs_cli_words::BadWord;
+use lrs_machine::Table;
 use std::fmt;
+
+/// What a report names, and the inventory does not have.
+#[derive(Clone, Copy, Debug, PartialEq, Eq)]
+pub enum Missing {
+    Route,
+    Class,
+    Asset,
+    Edit,
+    Key,
+}
+
+impl fmt::Display for Missing {
+    ghost use Rattle.std.specs.Prelude.{Some};
+    ghost use Rattle.lrs_cli_tasks.specs.Endings.{missing_text};
+
+    ghost output = { λ missing. Some (missing_text missing) };
+
+    fn fmt<W: fmt::Write>(&self, f: &mut fmt::Formatter<W>) -> fmt::Result {
+        match self {
+            Missing::Route => f.write_str("NoRoute"),
+            Missing::Class => f.write_str("NoClass"),
+            Missing::Asset => f.write_str("NoAsset"),
+            Missing::Edit => f.write_str("NoEdit"),
+            Missing::Key => f.write_str("NoKey"),
+        }
+    }
+}
 
 /// How the program ends.
 #[derive(Clone, Copy, Debug, PartialEq, Eq)]
@@ -15,6 +43,10 @@ pub enum Ending {
     /// A record of a sheet was refused, as its reply line says.
     RecordsRefused,
     QuestionRefused(AskCause),
+    /// The inventory does not have what a report names.
+    NotFound(Missing),
+    /// What is kept is not what its log makes: the first table that differs.
+    Differs(Table),
     /// A word is not what it should be.
     Unreadable(BadWord),
     /// The words are not understood. What is wrong with them was said where that was seen.
@@ -28,7 +60,10 @@ pub fn status(ending: Ending) -> u8
 {
     match ending {
         Ending::Done => 0,
-        Ending::RecordsRefused | Ending::QuestionRefused(_) => 1,
+        Ending::RecordsRefused
+        | Ending::QuestionRefused(_)
+        | Ending::NotFound(_)
+        | Ending::Differs(_) => 1,
         Ending::Unreadable(_) | Ending::Misused => 2,
         Ending::Stopped(_) => 3,
     }
@@ -45,6 +80,11 @@ impl fmt::Display for Ending {
         match self {
             Ending::Done | Ending::RecordsRefused | Ending::Misused => Ok(()),
             Ending::QuestionRefused(cause) => writeln!(f, "roadlrs: {cause}"),
+            Ending::NotFound(missing) => writeln!(f, "roadlrs: {missing}"),
+            Ending::Differs(table) => {
+                let name = table_name(*table);
+                writeln!(f, "roadlrs: Differs:{name}")
+            }
             Ending::Unreadable(word) => writeln!(f, "error: {word}"),
             Ending::Stopped(fault) => writeln!(f, "roadlrs: fault {fault}"),
         }

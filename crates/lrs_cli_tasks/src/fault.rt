@@ -74,7 +74,7 @@ impl From<SheetFault> for ProgramFault {
     }
 }
 
-fn table_name(table: Table) -> &'static str
+pub(crate) fn table_name(table: Table) -> &'static str
     ensures { result.now ≡ table_text table }
 {
     match table {

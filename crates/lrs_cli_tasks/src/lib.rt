@@ -1,20 +1,27 @@
 //! What the program does for a job, whatever keeps the inventory, and how it ends.
 #![tactic(auto)]
 
+mod advice;
+mod audit;
 mod desk;
 mod endings;
 mod fault;
 mod page;
 mod progress;
 mod questions;
+mod report;
 mod sheets;
 mod task;
+mod trial;
 
+pub use audit::do_audit;
 pub use desk::{is_in_memory, open_desk, open_in_memory};
-pub use endings::{Ending, status};
+pub use endings::{Ending, Missing, status};
 pub use fault::ProgramFault;
 pub use page::do_page;
 pub use progress::Shown;
 pub use questions::{answer, do_question};
-pub use sheets::{Pace, do_sheet};
+pub use report::do_report;
+pub use sheets::Pace;
 pub use task::{Task, Work, task_of};
+pub use trial::{do_check, do_records};

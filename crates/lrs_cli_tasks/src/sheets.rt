@@ -143,7 +143,7 @@ fn write_pieces<S: Read + Drop, W: Write + Drop, K: Keeper>(
 }
 
 // The same, with the lines as they go out at this pace.
-fn write_replies<S: Read + Drop, W: Write + Drop, K: Keeper>(
+pub(crate) fn write_replies<S: Read + Drop, W: Write + Drop, K: Keeper>(
     alloc: Global,
     way: Way,
     sheet: S,
@@ -183,7 +183,7 @@ fn reply_to<R: Runtime<A = Global>, S: Read + Drop, W: Write + Drop, K: Keeper>(
 }
 
 // How the program ends where a sheet ended so.
-fn ending_of(outcome: Result<Tally, SheetFault>) -> Ending
+pub(crate) fn ending_of(outcome: Result<Tally, SheetFault>) -> Ending
     ensures { result ≡ ending_of_sheet outcome }
 {
     match outcome {
@@ -194,7 +194,7 @@ fn ending_of(outcome: Result<Tally, SheetFault>) -> Ending
 }
 
 // Does the sheet that a reader gives, and prints its replies.
-fn print_replies<R: Runtime<A = Global>, S: Read + Drop, K: Keeper>(
+pub(crate) fn print_replies<R: Runtime<A = Global>, S: Read + Drop, K: Keeper>(
     rt: &R,
     way: Way,
     sheet: S,
@@ -219,11 +219,14 @@ fn pace_of<R: Runtime<A = Global>>(rt: &R, sheet: &str, of_file: Pace) -> Pace {
     }
 }
 
-// Why a sheet is not read.
-fn unopened(error: io::Error) -> Ending
+// Why a sheet is not read. Who wrote `-` for the standard input is told how it is written.
+pub(crate) fn unopened<R: Runtime<A = Global>>(rt: &R, sheet: &str, error: io::Error) -> Ending
     ensures { (result ≡ Ending.Stopped ProgramFault.Read)
         ⊎ (result ≡ Ending.Stopped ProgramFault.Memory) }
 {
+    if sheet == "-" {
+        let _ = eprintln!(rt; "hint: standard input is written stdin");
+    }
     if error.kind() == ErrorKind::OutOfMemory {
         Ending::Stopped(ProgramFault::Memory)
     } else {
@@ -255,12 +258,12 @@ fn do_whole<R: Runtime<A = Global>, K: Keeper>(
             let pace = pace_of(rt, sheet, of_file);
             print_replies(rt, Way { kind, pace, passed }, file, desk, shown)
         }
-        Err(error) => unopened(error),
+        Err(error) => unopened(rt, sheet, error),
     }
 }
 
 // The bytes of a sheet.
-fn read_whole<R: Runtime<A = Global>>(rt: &R, sheet: &str) -> io::Result<Vec<u8>> {
+pub(crate) fn read_whole<R: Runtime<A = Global>>(rt: &R, sheet: &str) -> io::Result<Vec<u8>> {
     if sheet != "stdin" {
         return fs::read(rt, sheet);
     }
@@ -270,7 +273,7 @@ fn read_whole<R: Runtime<A = Global>>(rt: &R, sheet: &str) -> io::Result<Vec<u8>
 }
 
 // Tells on standard error behind which record a sheet goes on. Where that takes nothing, it goes on all the same.
-fn tell<R: Runtime<A = Global>>(rt: &R, decided: &Decided) {
+pub(crate) fn tell<R: Runtime<A = Global>>(rt: &R, decided: &Decided) {
     let _ = match decided.key {
         Some(key) => eprintln!(rt; "resumes behind record {}, key {key}", decided.records),
         None => eprintln!(rt; "resumes at the first record"),
@@ -293,7 +296,7 @@ fn go_on<R: Runtime<A = Global>, K: Keeper>(
 {
     let text = match read_whole(rt, sheet) {
         Ok(text) => text,
-        Err(error) => return unopened(error),
+        Err(error) => return unopened(rt, sheet, error),
     };
     let decided = match last_edit(rt.alloc(), kind, text.as_slice(), desk) {
         Ok(decided) => decided,

@@ -2,9 +2,9 @@
 
 ghost use Rattle.std.specs.Prelude.{◌≡◌, IfOk, IfErr};
 ghost use Rattle.lrs_cli_words.specs.Questions.{IsFaultOf};
-ghost use Rattle.lrs_cli_tasks.specs.Tasks.{IsTaskOf};
+ghost use Rattle.lrs_cli_tasks.specs.Tasks.{IsTaskOf, kind_checked};
 
-use lrs_cli_words::{Job, QuestionFault, Service, question_of, service_of};
+use lrs_cli_words::{Job, QuestionFault, Report, Service, question_of, report_of, service_of};
 use lrs_machine::Question;
 use lrs_sheet::Sheet;
 use std::alloc::Global;
@@ -12,14 +12,25 @@ use std::alloc::Global;
 /// What is done with an inventory.
 #[derive(Drop)]
 pub enum Work<'a> {
-    /// A sheet of this kind is read from `from`, and done; or it goes on behind its last record that is an edit.
+    /// A sheet of this kind is read from `from`, and done; or it goes on behind its last record that is an edit. With
+    /// `all` it is done only if no record of it is refused.
     Sheet {
         kind: Sheet,
         from: &'a str,
         resumes: bool,
+        all: bool,
+    },
+    /// A sheet of this kind is read from `from`, and tried.
+    Check {
+        kind: Sheet,
+        from: &'a str,
     },
     /// A question is answered.
     Question(Question),
+    /// A report is printed.
+    Report(Report),
+    /// The log is done again in memory, and what it makes is compared with what is kept.
+    Audit,
     /// The inventory is served.
     Service(Service),
 }
@@ -33,14 +44,22 @@ pub enum Task<'a> {
     Page { dir: &'a str },
 }
 
-fn sheet_work<'a>(kind: Sheet, from: &'a str, resumes: bool) -> Work<'a>
-    ensures { result ≡ Work.Sheet kind from.entry resumes }
+fn sheet_work<'a>(kind: Sheet, from: &'a str, resumes: bool, all: bool) -> Work<'a>
+    ensures { result ≡ Work.Sheet kind from.entry resumes all }
 {
     Work::Sheet {
         kind,
         from,
         resumes,
+        all,
     }
+}
+
+fn check_work<'a>(from: &'a str, survey: bool) -> Work<'a>
+    ensures { result ≡ Work.Check (kind_checked survey) from.entry }
+{
+    let kind = if survey { Sheet::Survey } else { Sheet::Edits };
+    Work::Check { kind, from }
 }
 
 /// What a job asks for. Its words are read, and nothing else is looked at.
@@ -57,14 +76,18 @@ pub fn task_of<'a>(alloc: Global, job: &Job<'a>) -> Result<Task<'a>, QuestionFau
             db,
             sheet,
             resume,
+            all,
             ..
-        } => (db, sheet_work(Sheet::Edits, sheet, *resume)),
+        } => (db, sheet_work(Sheet::Edits, sheet, *resume, *all)),
         Job::Survey {
             db,
             sheet,
             resume,
+            all,
             ..
-        } => (db, sheet_work(Sheet::Survey, sheet, *resume)),
+        } => (db, sheet_work(Sheet::Survey, sheet, *resume, *all)),
+        Job::Check { db, sheet, survey } => (db, check_work(sheet, *survey)),
+        Job::Audit { db } => (db, Work::Audit),
         Job::Serve { db, port, max, .. } => (db, Work::Service(service_of(port, max)?)),
         Job::At { db, .. }
         | Job::Translate { db, .. }
@@ -75,6 +98,11 @@ pub fn task_of<'a>(alloc: Global, job: &Job<'a>) -> Result<Task<'a>, QuestionFau
             Some(question) => (db, Work::Question(question)),
             None => unreachable!(),
         },
+        Job::List { db, .. } | Job::Rows { db, .. } | Job::Gone { db, .. } | Job::Log { db, .. } =>
+            match report_of(job)? {
+                Some(report) => (db, Work::Report(report)),
+                None => unreachable!(),
+            },
     };
     Ok(Task::Inventory { db, work })
 }

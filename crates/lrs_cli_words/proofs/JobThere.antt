@@ -1,5 +1,6 @@
 -- Where `clap` finds no fault with the words, they name a job, and each of its words is there.
 use Rattle.std.proofs.Common.{◌≡◌, ◌∙◌, ◌++◌, ◌||◌, ℕ, Bool, true, false, true≢false, not, cond, List, [], ◌∷◌, Option, Some, None, is_some, map, option_map, IfSome, refl, sym, ap, subst, codes}
+use Rattle.std.specs.Prelude.{⊤}
 use Rattle.std.specs.List.{find, list_any}
 use Rattle.std.specs.Option.{option_map_or}
 use Rattle.std.specs.Str.{bytes_eq}
@@ -28,7 +29,7 @@ shape_at j = built_leaf (inherited (with_leaf_noted (marked_built line_of_progra
 abbrev help_at : Shape
 help_at = built_leaf help_shape
 
--- ---- the names of a line: each has help, some have sums, a sheet can go on, and a diagram has its ends
+-- ---- the names of a line: each has help, and some have options before it
 
 abbrev rules_at : JobName → List Rule
 rules_at j = (shape_at j).rules
@@ -36,32 +37,20 @@ rules_at j = (shape_at j).rules
 abbrev help_flag : Rule
 help_flag = filled help_rule
 
-abbrev sums_flag : Rule
-sums_flag = filled (flag (codes "sums"))
+abbrev flag_at : Text → Rule
+flag_at name = filled (flag name)
 
-abbrev resume_flag : Rule
-resume_flag = filled (flag (codes "resume"))
-
-abbrev from_option : Rule
-from_option = filled (option (codes "from"))
-
-abbrev to_option : Rule
-to_option = filled (option (codes "to"))
+abbrev option_at : Text → Rule
+option_at name = filled (option name)
 
 help_fills : Fills help_flag
 help_fills rows e = e
 
-sums_fills : Fills sums_flag
-sums_fills rows e = used-filled SetTrue (codes "sums") _ (codes "true") [] rows e
+flag_fills : (name : Text) → Fills (flag_at name)
+flag_fills name rows e = used-filled SetTrue name _ (codes "true") [] rows e
 
-resume_fills : Fills resume_flag
-resume_fills rows e = used-filled SetTrue (codes "resume") _ (codes "true") [] rows e
-
-from_fills : Fills from_option
-from_fills rows e = with_none-filled (codes "from") (reading_by from_option) CommandLine (without (codes "from") rows) refl (without-filled (codes "from") rows e)
-
-to_fills : Fills to_option
-to_fills rows e = with_none-filled (codes "to") (reading_by to_option) CommandLine (without (codes "to") rows) refl (without-filled (codes "to") rows e)
+option_fills : (name : Text) → lacks name ≡ true → Fills (option_at name)
+option_fills name lack rows e = with_none-filled name (reading_by (option_at name)) CommandLine (without name rows) lack (without-filled name rows e)
 
 named_if : (c : List Rule) (a : Rule) (b : Bool) (others : Option Rule) → Fills a → IfSome (arg_by_id c a.id) Fills → IfSome others (IsNamed c)
     → IfSome (cond b (Some a) others) (IsNamed c)
@@ -74,37 +63,110 @@ HasHelp c = IfSome (arg_by_id c (codes "help")) Fills
 is_help : (c : List Rule) → HasHelp c → (b : Bool) → IfSome (cond b (Some help_flag) None) (IsNamed c)
 is_help c help b = named_if c help_flag b None help_fills help tt
 
-long_help : (c : List Rule) → HasHelp c → (name : Text) → IfSome (cond (has_long help_flag name) (Some help_flag) None) (IsNamed c)
-long_help c help name = is_help c help (has_long help_flag name)
-
 short_help : (c : List Rule) → HasHelp c → (x : ℕ) → IfSome (cond (has_short help_flag x) (Some help_flag) None) (IsNamed c)
 short_help c help x = is_help c help (has_short help_flag x)
 
-long_sums : (c : List Rule) → IfSome (arg_by_id c (codes "sums")) Fills → HasHelp c → (name : Text)
-    → IfSome (cond (has_long sums_flag name) (Some sums_flag) (cond (has_long help_flag name) (Some help_flag) None)) (IsNamed c)
-long_sums c sums help name = named_if c sums_flag (has_long sums_flag name) _ sums_fills sums (long_help c help name)
+-- the first of some options, and of help behind them, that has a long name
+abbrev among : List Rule → Text → Option Rule
+among [] name = cond (has_long help_flag name) (Some help_flag) None
+among (a ∷ others) name = cond (has_long a name) (Some a) (among others name)
 
-long_sheet : (c : List Rule) → IfSome (arg_by_id c (codes "sums")) Fills → IfSome (arg_by_id c (codes "resume")) Fills → HasHelp c → (name : Text)
-    → IfSome (cond (has_long sums_flag name) (Some sums_flag) (cond (has_long resume_flag name) (Some resume_flag) (cond (has_long help_flag name) (Some help_flag) None))) (IsNamed c)
-long_sheet c sums resume help name =
-    named_if c sums_flag (has_long sums_flag name) _ sums_fills sums (named_if c resume_flag (has_long resume_flag name) _ resume_fills resume (long_help c help name))
+-- each option of a line leaves its rows filled
+abbrev AllFill : List Rule → List Rule → Type 0
+AllFill c [] = ⊤
+AllFill c (a ∷ others) = Fills a × IfSome (arg_by_id c a.id) Fills × AllFill c others
 
-long_ends : (c : List Rule) → IfSome (arg_by_id c (codes "from")) Fills → IfSome (arg_by_id c (codes "to")) Fills → HasHelp c → (name : Text)
-    → IfSome (cond (has_long from_option name) (Some from_option) (cond (has_long to_option name) (Some to_option) (cond (has_long help_flag name) (Some help_flag) None))) (IsNamed c)
-long_ends c from to help name =
-    named_if c from_option (has_long from_option name) _ from_fills from (named_if c to_option (has_long to_option name) _ to_fills to (long_help c help name))
+long_among : (c options : List Rule) → AllFill c options → HasHelp c → (name : Text) → IfSome (among options name) (IsNamed c)
+long_among c [] fill help name = is_help c help (has_long help_flag name)
+long_among c (a ∷ others) fill help name = named_if c a (has_long a name) (among others name) fill.0 fill.1 (long_among c others fill.2 help name)
+
+sums_fills : Fills (flag_at (codes "sums"))
+sums_fills = flag_fills (codes "sums")
+
+resume_fills : Fills (flag_at (codes "resume"))
+resume_fills = flag_fills (codes "resume")
+
+all_fills : Fills (flag_at (codes "all"))
+all_fills = flag_fills (codes "all")
+
+survey_fills : Fills (flag_at (codes "survey"))
+survey_fills = flag_fills (codes "survey")
+
+from_fills : Fills (option_at (codes "from"))
+from_fills = option_fills (codes "from") refl
+
+to_fills : Fills (option_at (codes "to"))
+to_fills = option_fills (codes "to") refl
+
+route_fills : Fills (option_at (codes "route"))
+route_fills = option_fills (codes "route") refl
+
+class_fills : Fills (option_at (codes "class"))
+class_fills = option_fills (codes "class") refl
+
+asset_fills : Fills (option_at (codes "asset"))
+asset_fills = option_fills (codes "asset") refl
+
+edit_fills : Fills (option_at (codes "edit"))
+edit_fills = option_fills (codes "edit") refl
+
+key_fills : Fills (option_at (codes "key"))
+key_fills = option_fills (codes "key") refl
+
+abbrev sheet_options : List Rule
+sheet_options = flag_at (codes "sums") ∷ flag_at (codes "resume") ∷ flag_at (codes "all") ∷ []
+
+abbrev end_options : List Rule
+end_options = option_at (codes "from") ∷ option_at (codes "to") ∷ []
+
+abbrev row_options : List Rule
+row_options = option_at (codes "route") ∷ option_at (codes "from") ∷ option_at (codes "to") ∷ option_at (codes "class") ∷ option_at (codes "asset") ∷ []
+
+without_options : (j : JobName) → HasHelp (rules_at j) → ((name : Text) → IfSome (among [] name) (IsNamed (rules_at j)))
+without_options j help = long_among (rules_at j) [] tt help
 
 has_flags : (j : JobName) → HasFlags (rules_at j)
-has_flags job.Edit = record { long = long_sheet (rules_at job.Edit) sums_fills resume_fills help_fills; short = short_help (rules_at job.Edit) help_fills }
-has_flags job.Survey = record { long = long_sheet (rules_at job.Survey) sums_fills resume_fills help_fills; short = short_help (rules_at job.Survey) help_fills }
-has_flags job.At = record { long = long_help (rules_at job.At) help_fills; short = short_help (rules_at job.At) help_fills }
-has_flags job.Translate = record { long = long_help (rules_at job.Translate) help_fills; short = short_help (rules_at job.Translate) help_fills }
-has_flags job.Strip = record { long = long_help (rules_at job.Strip) help_fills; short = short_help (rules_at job.Strip) help_fills }
-has_flags job.Diagram = record { long = long_ends (rules_at job.Diagram) from_fills to_fills help_fills; short = short_help (rules_at job.Diagram) help_fills }
-has_flags job.Totals = record { long = long_help (rules_at job.Totals) help_fills; short = short_help (rules_at job.Totals) help_fills }
-has_flags job.Find = record { long = long_help (rules_at job.Find) help_fills; short = short_help (rules_at job.Find) help_fills }
-has_flags job.Serve = record { long = long_sums (rules_at job.Serve) sums_fills help_fills; short = short_help (rules_at job.Serve) help_fills }
-has_flags job.Page = record { long = long_help (rules_at job.Page) help_fills; short = short_help (rules_at job.Page) help_fills }
+has_flags job.Edit = record {
+  long = long_among (rules_at job.Edit) sheet_options (sums_fills, sums_fills, (resume_fills, resume_fills, (all_fills, all_fills, tt))) help_fills;
+  short = short_help (rules_at job.Edit) help_fills;
+}
+has_flags job.Survey = record {
+  long = long_among (rules_at job.Survey) sheet_options (sums_fills, sums_fills, (resume_fills, resume_fills, (all_fills, all_fills, tt))) help_fills;
+  short = short_help (rules_at job.Survey) help_fills;
+}
+has_flags job.Check = record {
+  long = long_among (rules_at job.Check) (flag_at (codes "survey") ∷ []) (survey_fills, survey_fills, tt) help_fills;
+  short = short_help (rules_at job.Check) help_fills;
+}
+has_flags job.At = record { long = without_options job.At help_fills; short = short_help (rules_at job.At) help_fills }
+has_flags job.Translate = record { long = without_options job.Translate help_fills; short = short_help (rules_at job.Translate) help_fills }
+has_flags job.Strip = record { long = without_options job.Strip help_fills; short = short_help (rules_at job.Strip) help_fills }
+has_flags job.Diagram = record {
+  long = long_among (rules_at job.Diagram) end_options (from_fills, from_fills, (to_fills, to_fills, tt)) help_fills;
+  short = short_help (rules_at job.Diagram) help_fills;
+}
+has_flags job.Totals = record { long = without_options job.Totals help_fills; short = short_help (rules_at job.Totals) help_fills }
+has_flags job.Find = record { long = without_options job.Find help_fills; short = short_help (rules_at job.Find) help_fills }
+has_flags job.List = record { long = without_options job.List help_fills; short = short_help (rules_at job.List) help_fills }
+has_flags job.Rows = record {
+  long = long_among (rules_at job.Rows) row_options
+      (route_fills, route_fills, (from_fills, from_fills, (to_fills, to_fills, (class_fills, class_fills, (asset_fills, asset_fills, tt))))) help_fills;
+  short = short_help (rules_at job.Rows) help_fills;
+}
+has_flags job.Gone = record {
+  long = long_among (rules_at job.Gone) (option_at (codes "edit") ∷ []) (edit_fills, edit_fills, tt) help_fills;
+  short = short_help (rules_at job.Gone) help_fills;
+}
+has_flags job.Log = record {
+  long = long_among (rules_at job.Log) (option_at (codes "key") ∷ []) (key_fills, key_fills, tt) help_fills;
+  short = short_help (rules_at job.Log) help_fills;
+}
+has_flags job.Audit = record { long = without_options job.Audit help_fills; short = short_help (rules_at job.Audit) help_fills }
+has_flags job.Serve = record {
+  long = long_among (rules_at job.Serve) (flag_at (codes "sums") ∷ []) (sums_fills, sums_fills, tt) help_fills;
+  short = short_help (rules_at job.Serve) help_fills;
+}
+has_flags job.Page = record { long = without_options job.Page help_fills; short = short_help (rules_at job.Page) help_fills }
 
 -- ---- no word is missing
 
@@ -141,24 +203,36 @@ all_given (r ∷ rs) rows f none e =
 none_lack : (j : JobName) → list_any (λ r. lacks r.id) (rules_of j) ≡ false
 none_lack job.Edit = refl
 none_lack job.Survey = refl
+none_lack job.Check = refl
 none_lack job.At = refl
 none_lack job.Translate = refl
 none_lack job.Strip = refl
 none_lack job.Diagram = refl
 none_lack job.Totals = refl
 none_lack job.Find = refl
+none_lack job.List = refl
+none_lack job.Rows = refl
+none_lack job.Gone = refl
+none_lack job.Log = refl
+none_lack job.Audit = refl
 none_lack job.Serve = refl
 none_lack job.Page = refl
 
 none_missing : (j : JobName) (rows : List Row) → check_fault (shape_at j) rows false ≡ [] → list_any (λ r. not (is_given r.id rows)) (rules_of j) ≡ false
 none_missing job.Edit rows e = missing_none _ e
 none_missing job.Survey rows e = missing_none _ e
+none_missing job.Check rows e = missing_none _ e
 none_missing job.At rows e = missing_none _ e
 none_missing job.Translate rows e = missing_none _ e
 none_missing job.Strip rows e = missing_none _ e
 none_missing job.Diagram rows e = missing_none _ e
 none_missing job.Totals rows e = missing_none _ e
 none_missing job.Find rows e = missing_none _ e
+none_missing job.List rows e = missing_none _ e
+none_missing job.Rows rows e = missing_none _ e
+none_missing job.Gone rows e = missing_none _ e
+none_missing job.Log rows e = missing_none _ e
+none_missing job.Audit rows e = missing_none _ e
 none_missing job.Serve rows e = missing_none _ e
 none_missing job.Page rows e = missing_none _ e
 

@@ -1,6 +1,6 @@
 -- Each row that `clap` makes of the words of a job has a value, but for an option whose value is missing.
 use Rattle.std.proofs.Common.{◌≡◌, ◌∙◌, ◌⊎◌, ◌&&◌, ◌||◌, ℕ, Bool, true, false, true≢false, cond, zero, suc, List, [], ◌∷◌, ◌++◌, Option, Some, None, is_some, IfSome, ap, refl, sym, inl, inr, length, drop, codes}
-use Rattle.std.specs.List.{fold, find, list_all, slice_get}
+use Rattle.std.specs.List.{fold, find, list_all, list_any, slice_get}
 use Rattle.std.specs.Option.{option_map_or, option_and_then}
 use Rattle.std.specs.Str.{bytes_eq, chars}
 use Rattle.std.specs.Prelude.{encode_utf8, ⊤}
@@ -18,9 +18,12 @@ use Rattle.clap.specs.declared.parser.matches.ValueSource.TheVariants.{CommandLi
 abbrev has_text : List Text → Bool
 has_text values = is_some (slice_get values 0)
 
+abbrev valued : List Text
+valued = codes "from" ∷ codes "to" ∷ codes "route" ∷ codes "class" ∷ codes "asset" ∷ codes "edit" ∷ codes "key" ∷ []
+
 -- an option that has a value: it is used with none where that is missing, which `clap` refuses only later
 abbrev pub lacks : Text → Bool
-lacks id = bytes_eq id (codes "from") || bytes_eq id (codes "to")
+lacks id = list_any (λ option. bytes_eq id option) valued
 
 abbrev has_value : Row → Bool
 has_value r = has_text r.values || lacks r.id

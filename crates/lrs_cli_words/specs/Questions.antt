@@ -2,7 +2,7 @@
 use Rattle.std.specs.Prelude.{◌≡◌, ◌⊎◌, ⊤, ℕ, ◌≤◌, IsTrue, IsSomeAnd, List, Option, Some, None, map, option_map, codes, slice_get}
 use Rattle.std.specs.Str.Parse.{IsNumeral, digits_value}
 use Rattle.clap.specs.Words.{Text}
-use Rattle.lrs_measure.specs.Limits.{greatest_asset, longest_route}
+use Rattle.lrs_measure.specs.Limits.{greatest_asset, longest_route, most_edits}
 use Rattle.lrs_measure.specs.Texts.{Name}
 use Rattle.lrs_position.specs.declared.expression.Expr.{Expr}
 use Rattle.lrs_position.specs.declared.expression.Method.{Method}
@@ -14,6 +14,9 @@ use Rattle.lrs_cli_words.specs.declared.job.Job.{Job}
 use Rattle.lrs_cli_words.specs.declared.job.Job.TheVariants as job
 use Rattle.lrs_cli_words.specs.declared.question.BadWord.{BadWord}
 use Rattle.lrs_cli_words.specs.declared.question.BadWord.TheVariants as word
+use Rattle.lrs_cli_words.specs.declared.report.Listed.{Listed}
+use Rattle.lrs_cli_words.specs.declared.report.Listed.TheVariants as listed
+use Rattle.lrs_machine.specs.Keys.{is_key}
 use Rattle.lrs_machine.specs.declared.question.Destination.{Destination}
 use Rattle.lrs_machine.specs.declared.question.Destination.TheVariants as destination
 use Rattle.lrs_machine.specs.declared.question.Question.{Question}
@@ -62,11 +65,33 @@ SaysPort = SaysNumber 1 65_535
 abbrev pub SaysChainage : Text → ℕ → Type 0
 SaysChainage = SaysNumber 0 longest_route
 
+-- what a text says, where there is one
+abbrev pub SaysIfGiven : {A : Type 0} → (Text → A → Type 0) → Option Text → Option A → Type 0
+SaysIfGiven Says (Some text) (Some x) = Says text x
+SaysIfGiven Says None None = ⊤
+SaysIfGiven Says _ _ = ⊥
+
 -- the chainage at an end, where a text says one
 abbrev pub SaysEnd : Option Text → Option ℕ → Type 0
-SaysEnd (Some text) (Some at) = SaysChainage text at
-SaysEnd None None = ⊤
-SaysEnd _ at = ⊥
+SaysEnd = SaysIfGiven SaysChainage
+
+-- the number of an edit
+abbrev pub SaysEdit : Text → ℕ → Type 0
+SaysEdit = SaysNumber 1 most_edits
+
+-- the key of a command
+abbrev pub SaysKey : Text → Name → Type 0
+SaysKey text key = (key ≡ text) × IsTrue (is_key text)
+
+-- what is listed
+abbrev pub list_text : Listed → Text
+list_text listed.Routes = codes "routes"
+list_text listed.Links = codes "links"
+list_text listed.Classes = codes "classes"
+list_text listed.Refs = codes "refs"
+
+abbrev pub SaysList : Text → Listed → Type 0
+SaysList text what = text ≡ list_text what
 
 -- how many connections
 abbrev pub SaysMost : Text → ℕ → Type 0
@@ -78,10 +103,16 @@ SaysService port max service = SaysPort port service.port × SaysMost max servic
 
 -- ---- questions
 
--- the job asks nothing: it does a sheet, serves, or writes the page
+-- the job asks no question: it does or checks a sheet, reports, audits, serves, or writes the page
 abbrev pub AsksNothing : Job → Type 0
-AsksNothing (job.Edit db sheet sums resume) = ⊤
-AsksNothing (job.Survey db sheet sums resume) = ⊤
+AsksNothing (job.Edit db sheet sums resume all) = ⊤
+AsksNothing (job.Survey db sheet sums resume all) = ⊤
+AsksNothing (job.Check db sheet survey) = ⊤
+AsksNothing (job.List db what) = ⊤
+AsksNothing (job.Rows db route from to class asset) = ⊤
+AsksNothing (job.Gone db edit) = ⊤
+AsksNothing (job.Log db from key) = ⊤
+AsksNothing (job.Audit db) = ⊤
 AsksNothing (job.Serve db port max sums) = ⊤
 AsksNothing (job.Page dir) = ⊤
 AsksNothing _ = ⊥
@@ -143,9 +174,13 @@ abbrev pub CannotStrip : Text → Text → List Text → QuestionFault → Type 
 CannotStrip route side classes fault =
     Cannot word.Route (SaysRoute route) fault ⊎ Cannot word.Side (SaysSide side) fault ⊎ (fault ≡ Memory) ⊎ CannotClass classes fault
 
+-- the same of a word that was given
+abbrev pub CannotIfGiven : {A : Type 0} → BadWord → (Text → A → Type 0) → Option Text → QuestionFault → Type 0
+CannotIfGiven w Says text fault = IsSomeAnd text (λ t. Cannot w (Says t) fault)
+
 -- the chainage at an end, which was given
 abbrev pub CannotEnd : BadWord → Option Text → QuestionFault → Type 0
-CannotEnd w text fault = IsSomeAnd text (λ t. Cannot w (SaysChainage t) fault)
+CannotEnd w = CannotIfGiven w SaysChainage
 
 -- the route, a class or an end of a diagram, or want of memory for the classes
 abbrev pub CannotDiagram : Text → List Text → Option Text → Option Text → QuestionFault → Type 0
@@ -156,6 +191,16 @@ CannotDiagram route classes from to fault =
 abbrev pub CannotServe : Text → Text → QuestionFault → Type 0
 CannotServe port max fault = Cannot word.Port (SaysPort port) fault ⊎ Cannot word.Max (SaysMost max) fault
 
+-- one of the words that narrow a list of rows
+abbrev pub CannotRows : Option Text → Option Text → Option Text → Option Text → Option Text → QuestionFault → Type 0
+CannotRows route from to class asset fault =
+    CannotIfGiven word.Route SaysRoute route fault ⊎ CannotEnd word.From from fault ⊎ CannotEnd word.To to fault ⊎ CannotIfGiven word.Class SaysClass class fault
+    ⊎ CannotIfGiven word.Asset SaysAsset asset fault
+
+-- the number of the first edit, or the key
+abbrev pub CannotLog : Option Text → Option Text → QuestionFault → Type 0
+CannotLog from key fault = CannotIfGiven word.Number SaysEdit from fault ⊎ CannotIfGiven word.Key SaysKey key fault
+
 -- the fault is a word of the job that cannot be read, or want of memory for the classes
 abbrev pub IsFaultOf : Job → QuestionFault → Type 0
 IsFaultOf (job.At db route method position) fault = CannotAt route.now method.now position.now fault
@@ -163,6 +208,11 @@ IsFaultOf (job.Translate db route method position to) fault = CannotTranslate ro
 IsFaultOf (job.Strip db route side classes) fault = CannotStrip route.now side.now (map (λ w. w.now) classes.items) fault
 IsFaultOf (job.Diagram db route classes from to) fault = CannotDiagram route.now (map (λ w. w.now) classes.items) (option_map (λ w. w.now) from) (option_map (λ w. w.now) to) fault
 IsFaultOf (job.Find db asset) fault = Cannot word.Asset (SaysAsset asset.now) fault
+IsFaultOf (job.List db what) fault = Cannot word.What (SaysList what.now) fault
+IsFaultOf (job.Rows db route from to class asset) fault =
+    CannotRows (option_map (λ w. w.now) route) (option_map (λ w. w.now) from) (option_map (λ w. w.now) to) (option_map (λ w. w.now) class) (option_map (λ w. w.now) asset) fault
+IsFaultOf (job.Gone db edit) fault = CannotIfGiven word.Edit SaysEdit (option_map (λ w. w.now) edit) fault
+IsFaultOf (job.Log db from key) fault = CannotLog (option_map (λ w. w.now) from) (option_map (λ w. w.now) key) fault
 IsFaultOf (job.Serve db port max sums) fault = CannotServe port.now max.now fault
 IsFaultOf _ fault = ⊥
 
@@ -172,10 +222,14 @@ bad_word_text word.Route = codes "ROUTE is no route name"
 bad_word_text word.Method = codes "METHOD is none of abs, rel and int"
 bad_word_text word.Position = codes "POS is no position by this method"
 bad_word_text word.Destination = codes "TO is none of abs, int, rel:NAME and link"
-bad_word_text word.Side = codes "SIDE is none of L, R and B"
+bad_word_text word.Side = codes "SIDE is neither L nor R"
 bad_word_text word.Class = codes "CLASS is no class name"
 bad_word_text word.From = codes "FROM is no chainage in millimetres"
 bad_word_text word.To = codes "TO is no chainage in millimetres"
 bad_word_text word.Asset = codes "ASSET is no asset number"
+bad_word_text word.What = codes "WHAT is none of routes, links, classes and refs"
+bad_word_text word.Edit = codes "EDIT is no number of an edit"
+bad_word_text word.Number = codes "FROM is no number of an edit"
+bad_word_text word.Key = codes "KEY is no key"
 bad_word_text word.Port = codes "PORT is no port number"
 bad_word_text word.Max = codes "MAX is no number of connections"

@@ -9,7 +9,7 @@ use Rattle.clap.specs.declared.error.ErrorKind.TheVariants as kind
 use Rattle.lrs_cli_words.specs.declared.job.JobName.{JobName}
 use Rattle.lrs_cli_words.specs.declared.job.JobName.TheVariants as job
 use Rattle.lrs_cli_words.specs.declared.job.Job.{Job}
-use Rattle.lrs_cli_words.specs.declared.job.Job.TheVariants.{Edit, Survey, At, Translate, Strip, Diagram, Totals, Find, Serve, Page}
+use Rattle.lrs_cli_words.specs.declared.job.Job.TheVariants.{Edit, Survey, Check, At, Translate, Strip, Diagram, Totals, Find, List as Listing, Rows, Gone, Log, Audit, Serve, Page}
 
 -- ---- the command line
 
@@ -25,6 +25,10 @@ several id = record (required id) { range = Some (record { start_inclusive = 1; 
 abbrev pub any : Text → Rule
 any id = record (several id) { required = false }
 
+-- a word that may be there
+abbrev pub optional : Text → Rule
+optional id = new_rule id
+
 -- an option with no value, which may be given once
 abbrev pub flag : Text → Rule
 flag name = record (new_rule name) { long = Some name; action = Some SetTrue }
@@ -36,12 +40,18 @@ option name = record (new_rule name) { long = Some name; value_names = 1 }
 abbrev pub name_text : JobName → Text
 name_text job.Edit = codes "edit"
 name_text job.Survey = codes "survey"
+name_text job.Check = codes "check"
 name_text job.At = codes "at"
 name_text job.Translate = codes "translate"
 name_text job.Strip = codes "strip"
 name_text job.Diagram = codes "diagram"
 name_text job.Totals = codes "totals"
 name_text job.Find = codes "find"
+name_text job.List = codes "list"
+name_text job.Rows = codes "rows"
+name_text job.Gone = codes "gone"
+name_text job.Log = codes "log"
+name_text job.Audit = codes "audit"
 name_text job.Serve = codes "serve"
 name_text job.Page = codes "page"
 
@@ -49,21 +59,31 @@ name_text job.Page = codes "page"
 abbrev pub rules_of : JobName → List Rule
 rules_of job.Edit = required (codes "DB") ∷ required (codes "SHEET") ∷ []
 rules_of job.Survey = required (codes "DB") ∷ required (codes "SHEET") ∷ []
+rules_of job.Check = required (codes "DB") ∷ required (codes "SHEET") ∷ []
 rules_of job.At = required (codes "DB") ∷ required (codes "ROUTE") ∷ required (codes "METHOD") ∷ required (codes "POS") ∷ []
 rules_of job.Translate = required (codes "DB") ∷ required (codes "ROUTE") ∷ required (codes "METHOD") ∷ required (codes "POS") ∷ required (codes "TO") ∷ []
 rules_of job.Strip = required (codes "DB") ∷ required (codes "ROUTE") ∷ required (codes "SIDE") ∷ several (codes "CLASS") ∷ []
 rules_of job.Diagram = required (codes "DB") ∷ required (codes "ROUTE") ∷ []
 rules_of job.Totals = required (codes "DB") ∷ []
 rules_of job.Find = required (codes "DB") ∷ required (codes "ASSET") ∷ []
+rules_of job.List = required (codes "DB") ∷ required (codes "WHAT") ∷ []
+rules_of job.Rows = required (codes "DB") ∷ []
+rules_of job.Gone = required (codes "DB") ∷ []
+rules_of job.Log = required (codes "DB") ∷ []
+rules_of job.Audit = required (codes "DB") ∷ []
 rules_of job.Serve = required (codes "DB") ∷ required (codes "PORT") ∷ required (codes "MAX") ∷ []
 rules_of job.Page = required (codes "DIR") ∷ []
 
--- what may be left out: those jobs that may make a file have `--sums`, those that do a sheet also `--resume`, and a diagram has its classes and its ends
+-- what may be left out: those jobs that may make a file have `--sums`, those that do a sheet also `--resume` and `--all`, a check says of which kind its sheet is, a diagram has its classes and its ends, and a report may be narrowed
 abbrev pub options_of : JobName → List Rule
-options_of job.Edit = flag (codes "sums") ∷ flag (codes "resume") ∷ []
-options_of job.Survey = flag (codes "sums") ∷ flag (codes "resume") ∷ []
+options_of job.Edit = flag (codes "sums") ∷ flag (codes "resume") ∷ flag (codes "all") ∷ []
+options_of job.Survey = flag (codes "sums") ∷ flag (codes "resume") ∷ flag (codes "all") ∷ []
+options_of job.Check = flag (codes "survey") ∷ []
 options_of job.Serve = flag (codes "sums") ∷ []
 options_of job.Diagram = any (codes "CLASS") ∷ option (codes "from") ∷ option (codes "to") ∷ []
+options_of job.Rows = option (codes "route") ∷ option (codes "from") ∷ option (codes "to") ∷ option (codes "class") ∷ option (codes "asset") ∷ []
+options_of job.Gone = option (codes "edit") ∷ []
+options_of job.Log = optional (codes "FROM") ∷ option (codes "key") ∷ []
 options_of _ = []
 
 -- the line of a job: its name, its words and its options
@@ -79,7 +99,9 @@ with_job a j = with_subcommand a (line_of_job j)
 
 -- all jobs
 abbrev pub jobs : List JobName
-jobs = job.Edit ∷ job.Survey ∷ job.At ∷ job.Translate ∷ job.Strip ∷ job.Diagram ∷ job.Totals ∷ job.Find ∷ job.Serve ∷ job.Page ∷ []
+jobs =
+    job.Edit ∷ job.Survey ∷ job.Check ∷ job.At ∷ job.Translate ∷ job.Strip ∷ job.Diagram ∷ job.Totals ∷ job.Find ∷ job.List ∷ job.Rows ∷ job.Gone ∷ job.Log
+    ∷ job.Audit ∷ job.Serve ∷ job.Page ∷ []
 
 abbrev pub bare_line : App
 bare_line = record (new_app (codes "roadlrs")) {
@@ -93,21 +115,28 @@ line_of_program = fold with_job bare_line jobs
 -- ---- jobs
 
 abbrev pub job_name : Job → JobName
-job_name (Edit db sheet sums resume) = job.Edit
-job_name (Survey db sheet sums resume) = job.Survey
+job_name (Edit db sheet sums resume all) = job.Edit
+job_name (Survey db sheet sums resume all) = job.Survey
+job_name (Check db sheet survey) = job.Check
 job_name (At db route method position) = job.At
 job_name (Translate db route method position to) = job.Translate
 job_name (Strip db route side classes) = job.Strip
 job_name (Diagram db route classes from to) = job.Diagram
 job_name (Totals db) = job.Totals
 job_name (Find db asset) = job.Find
+job_name (Listing db what) = job.List
+job_name (Rows db route from to class asset) = job.Rows
+job_name (Gone db edit) = job.Gone
+job_name (Log db from key) = job.Log
+job_name (Audit db) = job.Audit
 job_name (Serve db port max sums) = job.Serve
 job_name (Page dir) = job.Page
 
 -- its words that come once, each with what it is called
 abbrev pub words_of : Job → List (Text × Text)
-words_of (Edit db sheet sums resume) = (codes "DB", db.now) ∷ (codes "SHEET", sheet.now) ∷ []
-words_of (Survey db sheet sums resume) = (codes "DB", db.now) ∷ (codes "SHEET", sheet.now) ∷ []
+words_of (Edit db sheet sums resume all) = (codes "DB", db.now) ∷ (codes "SHEET", sheet.now) ∷ []
+words_of (Survey db sheet sums resume all) = (codes "DB", db.now) ∷ (codes "SHEET", sheet.now) ∷ []
+words_of (Check db sheet survey) = (codes "DB", db.now) ∷ (codes "SHEET", sheet.now) ∷ []
 words_of (At db route method position) = (codes "DB", db.now) ∷ (codes "ROUTE", route.now) ∷ (codes "METHOD", method.now) ∷ (codes "POS", position.now) ∷ []
 words_of (Translate db route method position to) =
     (codes "DB", db.now) ∷ (codes "ROUTE", route.now) ∷ (codes "METHOD", method.now) ∷ (codes "POS", position.now) ∷ (codes "TO", to.now) ∷ []
@@ -115,6 +144,11 @@ words_of (Strip db route side classes) = (codes "DB", db.now) ∷ (codes "ROUTE"
 words_of (Diagram db route classes from to) = (codes "DB", db.now) ∷ (codes "ROUTE", route.now) ∷ []
 words_of (Totals db) = (codes "DB", db.now) ∷ []
 words_of (Find db asset) = (codes "DB", db.now) ∷ (codes "ASSET", asset.now) ∷ []
+words_of (Listing db what) = (codes "DB", db.now) ∷ (codes "WHAT", what.now) ∷ []
+words_of (Rows db route from to class asset) = (codes "DB", db.now) ∷ []
+words_of (Gone db edit) = (codes "DB", db.now) ∷ []
+words_of (Log db from key) = (codes "DB", db.now) ∷ []
+words_of (Audit db) = (codes "DB", db.now) ∷ []
 words_of (Serve db port max sums) = (codes "DB", db.now) ∷ (codes "PORT", port.now) ∷ (codes "MAX", max.now) ∷ []
 words_of (Page dir) = (codes "DIR", dir.now) ∷ []
 
@@ -124,11 +158,21 @@ HasClasses (Strip db route side classes) rows = all_of (codes "CLASS") rows ≡ 
 HasClasses (Diagram db route classes from to) rows = unwrap_or (all_of (codes "CLASS") rows) [] ≡ map (λ w. w.now) classes.items
 HasClasses _ rows = ⊤
 
--- the ends of a diagram are the values of `--from` and `--to`, where these were given
-abbrev pub HasEnds : Job → List Row → Type 0
-HasEnds (Diagram db route classes from to) rows =
-    (first_of (codes "from") rows ≡ option_map (λ w. w.now) from) × (first_of (codes "to") rows ≡ option_map (λ w. w.now) to)
-HasEnds _ rows = ⊤
+-- the first word of this id is the one that may have been given
+abbrev pub IsValue : Text → List Row → Option Text → Type 0
+IsValue id rows word = first_of id rows ≡ word
+
+-- the ends of a diagram, and what narrows a report, are the values that were given
+abbrev pub HasValues : Job → List Row → Type 0
+HasValues (Diagram db route classes from to) rows =
+    IsValue (codes "from") rows (option_map (λ w. w.now) from) × IsValue (codes "to") rows (option_map (λ w. w.now) to)
+HasValues (Rows db route from to class asset) rows =
+    IsValue (codes "route") rows (option_map (λ w. w.now) route) × IsValue (codes "from") rows (option_map (λ w. w.now) from)
+    × IsValue (codes "to") rows (option_map (λ w. w.now) to) × IsValue (codes "class") rows (option_map (λ w. w.now) class)
+    × IsValue (codes "asset") rows (option_map (λ w. w.now) asset)
+HasValues (Gone db edit) rows = IsValue (codes "edit") rows (option_map (λ w. w.now) edit)
+HasValues (Log db from key) rows = IsValue (codes "FROM") rows (option_map (λ w. w.now) from) × IsValue (codes "key") rows (option_map (λ w. w.now) key)
+HasValues _ rows = ⊤
 
 -- the option was given: `clap` reads `true` for it, and else `false`
 abbrev pub IsSet : Text → List Row → Type 0
@@ -136,20 +180,31 @@ IsSet id rows = first_of id rows ≡ Some (codes "true")
 
 -- a new file gets sums exactly where `--sums` was given
 abbrev pub HasSums : Job → List Row → Type 0
-HasSums (Edit db sheet sums resume) rows = IsTrue sums ↔ IsSet (codes "sums") rows
-HasSums (Survey db sheet sums resume) rows = IsTrue sums ↔ IsSet (codes "sums") rows
+HasSums (Edit db sheet sums resume all) rows = IsTrue sums ↔ IsSet (codes "sums") rows
+HasSums (Survey db sheet sums resume all) rows = IsTrue sums ↔ IsSet (codes "sums") rows
 HasSums (Serve db port max sums) rows = IsTrue sums ↔ IsSet (codes "sums") rows
 HasSums _ rows = ⊤
 
 -- a sheet goes on behind its last record that is an edit exactly where `--resume` was given
 abbrev pub HasResume : Job → List Row → Type 0
-HasResume (Edit db sheet sums resume) rows = IsTrue resume ↔ IsSet (codes "resume") rows
-HasResume (Survey db sheet sums resume) rows = IsTrue resume ↔ IsSet (codes "resume") rows
+HasResume (Edit db sheet sums resume all) rows = IsTrue resume ↔ IsSet (codes "resume") rows
+HasResume (Survey db sheet sums resume all) rows = IsTrue resume ↔ IsSet (codes "resume") rows
 HasResume _ rows = ⊤
+
+-- a sheet is done only if no record is refused exactly where `--all` was given
+abbrev pub HasAll : Job → List Row → Type 0
+HasAll (Edit db sheet sums resume all) rows = IsTrue all ↔ IsSet (codes "all") rows
+HasAll (Survey db sheet sums resume all) rows = IsTrue all ↔ IsSet (codes "all") rows
+HasAll _ rows = ⊤
+
+-- a survey is checked exactly where `--survey` was given
+abbrev pub HasKind : Job → List Row → Type 0
+HasKind (Check db sheet survey) rows = IsTrue survey ↔ IsSet (codes "survey") rows
+HasKind _ rows = ⊤
 
 -- its words stand in their places, and its options are as they were given
 abbrev pub HasWords : Job → List Row → Type 0
-HasWords j rows = (map (λ w. first_of w.0 rows) (words_of j) ≡ map (λ w. Some w.1) (words_of j)) × HasClasses j rows × HasEnds j rows × HasSums j rows × HasResume j rows
+HasWords j rows = (map (λ w. first_of w.0 rows) (words_of j) ≡ map (λ w. Some w.1) (words_of j)) × HasClasses j rows × HasValues j rows × HasSums j rows × HasResume j rows × HasAll j rows × HasKind j rows
 
 -- the job that was met has this name and these rows
 abbrev pub IsMet : Job → Option (Text × List Row) → Type 0
@@ -161,8 +216,8 @@ IsJobOf words j = IsMet j (subcommand_of line_of_program words)
 
 -- a file that the job makes gets sums of its pages
 abbrev pub has_new_sums : Job → Bool
-has_new_sums (Edit db sheet sums resume) = sums
-has_new_sums (Survey db sheet sums resume) = sums
+has_new_sums (Edit db sheet sums resume all) = sums
+has_new_sums (Survey db sheet sums resume all) = sums
 has_new_sums (Serve db port max sums) = sums
 has_new_sums _ = false
 

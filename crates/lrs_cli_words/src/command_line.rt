@@ -3,14 +3,14 @@
 ghost use Rattle.std.specs.Prelude.{◌≡◌, ◌∷◌, [], IfOk, false, codes, fold};
 ghost use Rattle.clap.specs.Words.{app_of, new_app, rule_of, with_rule};
 ghost use Rattle.clap.specs.declared.builder.command.Command.TheViews.{out-Command};
-ghost use Rattle.lrs_cli_words.specs.Words.{any, app_of_job, flag, line_of_program, option, required, several, with_job};
+ghost use Rattle.lrs_cli_words.specs.Words.{any, app_of_job, flag, line_of_program, option, optional, required, several, with_job};
 
 use crate::job::JobName;
 use clap::{Arg, ArgAction, Command};
 use std::alloc::{AllocError, Global};
 
 /// The version of the program, and the kit that proved it.
-static VERSION: &str = "0.2.0, proved by rattle-kit-13f logic dac8208d650f15bf";
+static VERSION: &str = "0.3.0, proved by rattle-kit-13f logic dac8208d650f15bf";
 
 // What help says of the words.
 static DB: &str = "The inventory's file, or :memory: for a fresh one in memory";
@@ -19,12 +19,11 @@ static SHEET: &str = "The sheet's file, or stdin for the standard input";
 
 static ROUTE: &str = "The name of a route";
 
-static METHOD: &str = "How POS is measured: abs, rel or int";
+static METHOD: &str = "What POS is: abs (a measure), rel (a distance), int (a proportion)";
 
-static POS: &str =
-    "A measure as 3000, a distance from a referent as KM2+500, or a proportion as 1/3";
+static POS: &str = "As 3000 (abs), KM2+500 (rel, in mm) or 1/3 (int)";
 
-static TO: &str = "How to say it: abs, int, rel:NAME of a referent, or link";
+static TO: &str = "abs, int, rel:NAME of a referent, or link";
 
 static SIDE: &str = "The side, seen along the route: L or R";
 
@@ -42,11 +41,76 @@ static PORT: &str = "A port of 127.0.0.1, from 1 to 65535";
 
 static MAX: &str = "How many connections are served, at most 1000000";
 
-static DIR: &str = "The folder that gets the page, as index.html; made where it is missing";
+static DIR: &str = "The folder that gets index.html; made where it is missing";
 
-static SUMS: &str = "Gives a new file sums of its pages, so that damage is found";
+static SUMS: &str = "Gives a new file a sum behind each page, so that damage is found";
 
-static RESUME: &str = "Goes on behind the last record that was accepted before";
+static RESUME: &str = "Goes on behind the last record of the sheet that was accepted before";
+
+static ALL: &str = "Does the sheet only if no record of it is refused";
+
+static SURVEY: &str = "The sheet is a survey";
+
+static WHAT: &str = "What is listed: routes, links, classes or refs";
+
+static OF_ROUTE: &str = "On this route; else on all";
+
+static ROWS_FROM: &str = "What lies behind this chainage, in millimetres";
+
+static ROWS_TO: &str = "What lies before this chainage, in millimetres";
+
+static OF_CLASS: &str = "Of this class; else of all";
+
+static OF_ASSET: &str = "Of the asset of this number; else of all";
+
+static OF_EDIT: &str = "By the edit of this number; else by all";
+
+static FROM_EDIT: &str = "The number of the first edit; else from the first one of all";
+
+static OF_KEY: &str = "The edit of this key alone";
+
+// What help says of the records of an edit sheet, and of a survey.
+static RECORDS: &str = "A record has a key, a verb and its fields a to i, 11 fields in all:
+  link LINK LENGTH                     a new link; lengths are in whole mm
+  class CLASS point|stretch|exclusive  a new class of assets
+  route ROUTE PIECES MARKS             a new route of parts of links
+  ref REF ROUTE METHOD POS             a referent: a known place with a name
+  unref REF                            removes it
+  enter ASSET CLASS ROUTE SIDE METHOD FROM TO VALUE OFFSET
+                                       a new asset; TO is empty at a point
+  supersede (fields as enter)          the same, and retires what lay there
+  retire ASSET ROUTE METHOD FROM TO    takes an asset away over a stretch
+  split ROUTE CHAINAGE NEW             divides a route at one of its marks
+  join FIRST SECOND                    appends the second route to the first
+  renumber ROUTE NEW                   gives a route another name
+  recalibrate ROUTE MARKS              gives a route other marks
+  turn ROUTE                           lets a route run the other way
+  realign ROUTE FROM TO PIECES MARKS   replaces FROM to TO by other ground
+  close ROUTE                          ends a route and abandons its assets
+PIECES: LINK:FROM:TO:+ or LINK:FROM:TO:-, one space between two of them.
+MARKS: CHAINAGE:MEASURE, from 0 to the route's end, one space between two.
+SIDE: L, R or B. METHOD and POS, FROM, TO: abs 3000, rel KM2+500 or int 1/3.
+Header: key,verb,a,b,c,d,e,f,g,h,i
+Replies: KEY,done,N or KEY,again,N or KEY,refused,CAUSE. See docs/SHEETS.md.
+
+Example: roadlrs edit roads.db first.csv";
+
+static SURVEYED: &str = "A record has a key and one asset, 10 fields in all:
+  asset   a new number, never used before
+  class   its class: SPEED
+  route   the route on which it lies: A38
+  side    L, R or B, seen along the route
+  method  of from and to: abs, rel or int
+  from    where it stands or begins: 3000, KM2+500 or 1/3
+  to      where it ends; empty for a class of points, and only there
+  value   what it is: 80, W-beam
+  offset  how far beside the route, in mm
+Header: key,asset,class,route,side,method,from,to,value,offset
+It is what edit does with KEY,enter and the same nine fields a to i, and a
+refusal names them so: Malformed:a is asset, Malformed:i is offset.
+Replies: KEY,done,N or KEY,again,N or KEY,refused,CAUSE. See docs/SHEETS.md.
+
+Example: roadlrs survey roads.db found.csv";
 
 fn required<'a>(alloc: Global, id: &'a str, help: &'a str) -> Arg<'a>
     ensures rule { rule_of result ≡ required id.entry.now }
@@ -69,11 +133,21 @@ fn any<'a>(alloc: Global, id: &'a str, help: &'a str) -> Arg<'a>
     Arg::new(alloc, id).num_args(1..).help(help)
 }
 
-fn chainage<'a>(alloc: Global, name: &'a str, help: &'a str) -> Arg<'a>
+fn maybe<'a>(alloc: Global, id: &'a str, help: &'a str) -> Arg<'a>
+    ensures rule { rule_of result ≡ optional id.entry.now }
+    ensures local { result.global ≡ false }
+{
+    Arg::new(alloc, id).help(help)
+}
+
+fn valued<'a>(alloc: Global, name: &'a str, value: &'a str, help: &'a str) -> Arg<'a>
     ensures rule { rule_of result ≡ option name.entry.now }
     ensures local { result.global ≡ false }
 {
-    Arg::new(alloc, name).long(name).value_name("C").help(help)
+    Arg::new(alloc, name)
+        .long(name)
+        .value_name(value)
+        .help(help)
 }
 
 fn switch<'a>(alloc: Global, name: &'a str, help: &'a str) -> Arg<'a>
@@ -136,14 +210,16 @@ fn with_sheet<'a>(
     line: Command<'a>,
     usage: &'a str,
 ) -> Result<Command<'a>, AllocError>
-    ensures app { IfOk result (λ c. app_of c ≡ with_rule (with_rule (with_rule (app_of line.entry)
-        (required (codes "SHEET"))) (flag (codes "sums"))) (flag (codes "resume"))) }
+    ensures app { IfOk result (λ c. app_of c ≡ with_rule (with_rule (with_rule (with_rule
+        (app_of line.entry) (required (codes "SHEET"))) (flag (codes "sums")))
+        (flag (codes "resume"))) (flag (codes "all"))) }
     ensures local { (out-Command line.entry).has_globals ≡ false
         → IfOk result (λ c. (out-Command c).has_globals ≡ false) }
 {
     let line = with_word(alloc, line, "SHEET", SHEET)?;
     let line = with_sums(alloc, line, usage)?;
-    line.arg(switch(alloc, "resume", RESUME))
+    line.arg(switch(alloc, "resume", RESUME))?
+        .arg(switch(alloc, "all", ALL))
 }
 
 /// A line with the classes and the ends of a diagram. The usage names the words alone, and help the ends too.
@@ -158,8 +234,8 @@ fn with_view<'a>(
         → IfOk result (λ c. (out-Command c).has_globals ≡ false) }
 {
     let classes = any(alloc, "CLASS", CLASSES);
-    let from = chainage(alloc, "from", FROM_CHAINAGE);
-    let to = chainage(alloc, "to", TO_CHAINAGE);
+    let from = valued(alloc, "from", "C", FROM_CHAINAGE);
+    let to = valued(alloc, "to", "C", TO_CHAINAGE);
     line.override_usage(usage).arg(classes)?.arg(from)?.arg(to)
 }
 
@@ -167,9 +243,8 @@ fn edit_line<'a>(alloc: Global) -> Result<Command<'a>, AllocError>
     ensures app { IfOk result (λ c. app_of c ≡ app_of_job JobName.Edit) }
     ensures local { IfOk result (λ c. (out-Command c).has_globals ≡ false) }
 {
-    let about = "Does an edit sheet, and prints a reply line for each record";
-    let example = "Example: roadlrs edit roads.db first.csv";
-    let line = line_over(alloc, "edit", about, example)?;
+    let about = "Applies an edit sheet and prints one reply per record";
+    let line = line_over(alloc, "edit", about, RECORDS)?;
     with_sheet(alloc, line, "roadlrs edit <DB> <SHEET>")
 }
 
@@ -177,17 +252,27 @@ fn survey_line<'a>(alloc: Global) -> Result<Command<'a>, AllocError>
     ensures app { IfOk result (λ c. app_of c ≡ app_of_job JobName.Survey) }
     ensures local { IfOk result (λ c. (out-Command c).has_globals ≡ false) }
 {
-    let about = "Enters the assets of a survey, and prints a reply line for each record";
-    let example = "Example: roadlrs survey roads.db found.csv";
-    let line = line_over(alloc, "survey", about, example)?;
+    let about = "Enters the assets of a survey and prints one reply per record";
+    let line = line_over(alloc, "survey", about, SURVEYED)?;
     with_sheet(alloc, line, "roadlrs survey <DB> <SHEET>")
+}
+
+fn check_line<'a>(alloc: Global) -> Result<Command<'a>, AllocError>
+    ensures app { IfOk result (λ c. app_of c ≡ app_of_job JobName.Check) }
+    ensures local { IfOk result (λ c. (out-Command c).has_globals ≡ false) }
+{
+    let about = "Prints the replies that edit would give, with advice; writes nothing";
+    let example = "Example: roadlrs check roads.db first.csv";
+    let line = line_over(alloc, "check", about, example)?;
+    let line = with_word(alloc, line, "SHEET", SHEET)?;
+    line.arg(switch(alloc, "survey", SURVEY))
 }
 
 fn at_line<'a>(alloc: Global) -> Result<Command<'a>, AllocError>
     ensures app { IfOk result (λ c. app_of c ≡ app_of_job JobName.At) }
     ensures local { IfOk result (λ c. (out-Command c).has_globals ≡ false) }
 {
-    let about = "Says where a position stands, and which assets hold it";
+    let about = "Shows a position's place on its link and the assets there";
     let example = "Example: roadlrs at roads.db A1 abs 3000";
     let line = line_over(alloc, "at", about, example)?;
     let line = with_word(alloc, line, "ROUTE", ROUTE)?;
@@ -199,7 +284,7 @@ fn translate_line<'a>(alloc: Global) -> Result<Command<'a>, AllocError>
     ensures app { IfOk result (λ c. app_of c ≡ app_of_job JobName.Translate) }
     ensures local { IfOk result (λ c. (out-Command c).has_globals ≡ false) }
 {
-    let about = "Says a position by another method, or where on a link it is";
+    let about = "Converts a position to another method or to its link";
     let example = "Example: roadlrs translate roads.db A1 int 1/3 abs";
     let line = line_over(alloc, "translate", about, example)?;
     let line = with_word(alloc, line, "ROUTE", ROUTE)?;
@@ -212,7 +297,7 @@ fn strip_line<'a>(alloc: Global) -> Result<Command<'a>, AllocError>
     ensures app { IfOk result (λ c. app_of c ≡ app_of_job JobName.Strip) }
     ensures local { IfOk result (λ c. (out-Command c).has_globals ≡ false) }
 {
-    let about = "Shows the segments of a route by the values of classes";
+    let about = "Divides a route wherever the value of a listed class changes";
     let example = "Example: roadlrs strip roads.db A1 R SPEED WIDTH";
     let line = line_over(alloc, "strip", about, example)?;
     let line = with_word(alloc, line, "ROUTE", ROUTE)?;
@@ -224,7 +309,7 @@ fn diagram_line<'a>(alloc: Global) -> Result<Command<'a>, AllocError>
     ensures app { IfOk result (λ c. app_of c ≡ app_of_job JobName.Diagram) }
     ensures local { IfOk result (λ c. (out-Command c).has_globals ≡ false) }
 {
-    let about = "Draws a straight-line diagram of a route, as SVG";
+    let about = "Draws a straight-line diagram of a route as SVG";
     let example = "Example: roadlrs diagram roads.db A1 SPEED > a1.svg";
     let line = line_over(alloc, "diagram", about, example)?;
     let line = with_word(alloc, line, "ROUTE", ROUTE)?;
@@ -235,7 +320,7 @@ fn totals_line<'a>(alloc: Global) -> Result<Command<'a>, AllocError>
     ensures app { IfOk result (λ c. app_of c ≡ app_of_job JobName.Totals) }
     ensures local { IfOk result (λ c. (out-Command c).has_globals ≡ false) }
 {
-    let about = "Counts the side millimetres of each class: entered, retired, abandoned, present";
+    let about = "Counts what each class has entered, retired, abandoned and present";
     let example = "Example: roadlrs totals roads.db";
     line_over(alloc, "totals", about, example)
 }
@@ -244,17 +329,83 @@ fn find_line<'a>(alloc: Global) -> Result<Command<'a>, AllocError>
     ensures app { IfOk result (λ c. app_of c ≡ app_of_job JobName.Find) }
     ensures local { IfOk result (λ c. (out-Command c).has_globals ≡ false) }
 {
-    let about = "Says where an asset lies";
+    let about = "Shows where an asset is";
     let example = "Example: roadlrs find roads.db 10";
     let line = line_over(alloc, "find", about, example)?;
     with_word(alloc, line, "ASSET", ASSET)
+}
+
+fn list_line<'a>(alloc: Global) -> Result<Command<'a>, AllocError>
+    ensures app { IfOk result (λ c. app_of c ≡ app_of_job JobName.List) }
+    ensures local { IfOk result (λ c. (out-Command c).has_globals ≡ false) }
+{
+    let about = "Lists the routes, links, classes or referents as CSV";
+    let example = "Example: roadlrs list roads.db routes";
+    let line = line_over(alloc, "list", about, example)?;
+    with_word(alloc, line, "WHAT", WHAT)
+}
+
+/// A line with the stretch that its report is about: a route, and from a chainage to another.
+fn with_stretch<'a>(alloc: Global, line: Command<'a>) -> Result<Command<'a>, AllocError>
+    ensures app { IfOk result (λ c. app_of c ≡ with_rule (with_rule (with_rule (app_of line.entry)
+        (option (codes "route"))) (option (codes "from"))) (option (codes "to"))) }
+    ensures local { (out-Command line.entry).has_globals ≡ false
+        → IfOk result (λ c. (out-Command c).has_globals ≡ false) }
+{
+    let route = valued(alloc, "route", "ROUTE", OF_ROUTE);
+    let from = valued(alloc, "from", "C", ROWS_FROM);
+    let to = valued(alloc, "to", "C", ROWS_TO);
+    line.arg(route)?.arg(from)?.arg(to)
+}
+
+fn rows_line<'a>(alloc: Global) -> Result<Command<'a>, AllocError>
+    ensures app { IfOk result (λ c. app_of c ≡ app_of_job JobName.Rows) }
+    ensures local { IfOk result (λ c. (out-Command c).has_globals ≡ false) }
+{
+    let about = "Lists the stretches that assets hold as CSV";
+    let example = "Example: roadlrs rows roads.db --route A1 --class SPEED";
+    let line = line_over(alloc, "rows", about, example)?;
+    let line = with_stretch(alloc, line)?;
+    let class = valued(alloc, "class", "CLASS", OF_CLASS);
+    let asset = valued(alloc, "asset", "ASSET", OF_ASSET);
+    line.arg(class)?.arg(asset)
+}
+
+fn gone_line<'a>(alloc: Global) -> Result<Command<'a>, AllocError>
+    ensures app { IfOk result (λ c. app_of c ≡ app_of_job JobName.Gone) }
+    ensures local { IfOk result (λ c. (out-Command c).has_globals ≡ false) }
+{
+    let about = "Lists what was retired, or abandoned with its ground, as CSV";
+    let example = "Example: roadlrs gone roads.db --edit 17";
+    let line = line_over(alloc, "gone", about, example)?;
+    line.arg(valued(alloc, "edit", "N", OF_EDIT))
+}
+
+fn log_line<'a>(alloc: Global) -> Result<Command<'a>, AllocError>
+    ensures app { IfOk result (λ c. app_of c ≡ app_of_job JobName.Log) }
+    ensures local { IfOk result (λ c. (out-Command c).has_globals ≡ false) }
+{
+    let about = "Prints the accepted commands as an edit sheet";
+    let example = "Example: roadlrs log roads.db > log.csv";
+    let line = line_over(alloc, "log", about, example)?;
+    let line = line.arg(maybe(alloc, "FROM", FROM_EDIT))?;
+    line.arg(valued(alloc, "key", "KEY", OF_KEY))
+}
+
+fn audit_line<'a>(alloc: Global) -> Result<Command<'a>, AllocError>
+    ensures app { IfOk result (λ c. app_of c ≡ app_of_job JobName.Audit) }
+    ensures local { IfOk result (λ c. (out-Command c).has_globals ≡ false) }
+{
+    let about = "Applies the log to an empty inventory and compares the two";
+    let example = "Example: roadlrs audit roads.db";
+    line_over(alloc, "audit", about, example)
 }
 
 fn serve_line<'a>(alloc: Global) -> Result<Command<'a>, AllocError>
     ensures app { IfOk result (λ c. app_of c ≡ app_of_job JobName.Serve) }
     ensures local { IfOk result (λ c. (out-Command c).has_globals ≡ false) }
 {
-    let about = "Serves the inventory over HTTP on 127.0.0.1, one connection after another";
+    let about = "Serves the inventory over HTTP on 127.0.0.1, one connection at a time";
     let example = "Example: roadlrs serve roads.db 8080 1000000";
     let line = line_over(alloc, "serve", about, example)?;
     let line = with_word(alloc, line, "PORT", PORT)?;
@@ -267,18 +418,19 @@ fn page_line<'a>(alloc: Global) -> Result<Command<'a>, AllocError>
     ensures local { IfOk result (λ c. (out-Command c).has_globals ≡ false) }
 {
     let line = Command::new(alloc, "page")
-        .about("Writes a web page that shows a served inventory")
+        .about("Writes a web page for a served inventory")
         .after_help("Example: roadlrs page www");
     with_word(alloc, line, "DIR", DIR)
 }
 
 fn with_sheets<'a>(alloc: Global, line: Command<'a>) -> Result<Command<'a>, AllocError>
-    ensures { IfOk result (λ c. app_of c ≡ with_job
-        (with_job (app_of line.entry) JobName.Edit) JobName.Survey) }
+    ensures { IfOk result (λ c. app_of c ≡ with_job (with_job
+        (with_job (app_of line.entry) JobName.Edit) JobName.Survey) JobName.Check) }
 {
     let edit = edit_line(alloc)?;
     let survey = survey_line(alloc)?;
-    line.subcommand(edit)?.subcommand(survey)
+    let check = check_line(alloc)?;
+    line.subcommand(edit)?.subcommand(survey)?.subcommand(check)
 }
 
 fn with_positions<'a>(alloc: Global, line: Command<'a>) -> Result<Command<'a>, AllocError>
@@ -308,6 +460,25 @@ fn with_reports<'a>(alloc: Global, line: Command<'a>) -> Result<Command<'a>, All
     line.subcommand(totals)?.subcommand(find)
 }
 
+fn with_lists<'a>(alloc: Global, line: Command<'a>) -> Result<Command<'a>, AllocError>
+    ensures { IfOk result (λ c. app_of c ≡ with_job (with_job
+        (with_job (app_of line.entry) JobName.List) JobName.Rows) JobName.Gone) }
+{
+    let list = list_line(alloc)?;
+    let rows = rows_line(alloc)?;
+    let gone = gone_line(alloc)?;
+    line.subcommand(list)?.subcommand(rows)?.subcommand(gone)
+}
+
+fn with_log<'a>(alloc: Global, line: Command<'a>) -> Result<Command<'a>, AllocError>
+    ensures { IfOk result (λ c. app_of c ≡ with_job
+        (with_job (app_of line.entry) JobName.Log) JobName.Audit) }
+{
+    let log = log_line(alloc)?;
+    let audit = audit_line(alloc)?;
+    line.subcommand(log)?.subcommand(audit)
+}
+
 fn with_service<'a>(alloc: Global, line: Command<'a>) -> Result<Command<'a>, AllocError>
     ensures { IfOk result (λ c. app_of c ≡ with_job
         (with_job (app_of line.entry) JobName.Serve) JobName.Page) }
@@ -320,11 +491,14 @@ fn with_service<'a>(alloc: Global, line: Command<'a>) -> Result<Command<'a>, All
 fn with_questions<'a>(alloc: Global, line: Command<'a>) -> Result<Command<'a>, AllocError>
     ensures { IfOk result (λ c. app_of c ≡ fold with_job (app_of line.entry)
         (JobName.At ∷ JobName.Translate ∷ JobName.Strip ∷ JobName.Diagram
-        ∷ JobName.Totals ∷ JobName.Find ∷ [])) }
+        ∷ JobName.Totals ∷ JobName.Find ∷ JobName.List ∷ JobName.Rows ∷ JobName.Gone
+        ∷ JobName.Log ∷ JobName.Audit ∷ [])) }
 {
     let line = with_positions(alloc, line)?;
     let line = with_pictures(alloc, line)?;
-    with_reports(alloc, line)
+    let line = with_reports(alloc, line)?;
+    let line = with_lists(alloc, line)?;
+    with_log(alloc, line)
 }
 
 /// The command line of the program.
@@ -334,7 +508,7 @@ pub(crate) fn program<'a>(alloc: Global) -> Result<Command<'a>, AllocError>
     let line = Command::new(alloc, "roadlrs")
         .bin_name("roadlrs")?
         .version(VERSION)
-        .about("A road asset inventory by linear referencing")
+        .about("Keeps a road asset inventory by linear referencing")
         .no_binary_name(true)
         .subcommand_required(true);
     let line = with_sheets(alloc, line)?;

@@ -9,18 +9,25 @@ ghost use Rattle.lrs_cli_words.specs.Words.{has_new_sums, name_text};
 pub enum JobName {
     Edit,
     Survey,
+    Check,
     At,
     Translate,
     Strip,
     Diagram,
     Totals,
     Find,
+    List,
+    Rows,
+    Gone,
+    Log,
+    Audit,
     Serve,
     Page,
 }
 
 /// A job, with its words as they were given. `db` is the inventory; with `sums` a new file of it
-/// gets sums of its pages. With `resume` a sheet goes on behind its last record that is an edit.
+/// gets sums of its pages. With `resume` a sheet goes on behind its last record that is an edit, and
+/// with `all` it is done only if no record is refused.
 #[derive(Debug, Drop)]
 pub enum Job<'a> {
     /// Does the edit sheet `sheet`.
@@ -29,6 +36,7 @@ pub enum Job<'a> {
         sheet: &'a str,
         sums: bool,
         resume: bool,
+        all: bool,
     },
     /// Does the survey `sheet`.
     Survey {
@@ -36,6 +44,13 @@ pub enum Job<'a> {
         sheet: &'a str,
         sums: bool,
         resume: bool,
+        all: bool,
+    },
+    /// Says what `sheet` would be answered, an edit sheet or a survey, and does nothing.
+    Check {
+        db: &'a str,
+        sheet: &'a str,
+        survey: bool,
     },
     /// Says who holds a millimetre of a route.
     At {
@@ -77,6 +92,36 @@ pub enum Job<'a> {
         db: &'a str,
         asset: &'a str,
     },
+    /// Lists all of one kind: routes, links, classes or referents.
+    List {
+        db: &'a str,
+        what: &'a str,
+    },
+    /// Lists the stretches that assets hold: on a route, from a chainage to another, of a class, of an
+    /// asset, where these are given.
+    Rows {
+        db: &'a str,
+        route: Option<&'a str>,
+        from: Option<&'a str>,
+        to: Option<&'a str>,
+        class: Option<&'a str>,
+        asset: Option<&'a str>,
+    },
+    /// Lists what was retired or abandoned, by one edit where it is given.
+    Gone {
+        db: &'a str,
+        edit: Option<&'a str>,
+    },
+    /// Prints the accepted commands as an edit sheet: from a number on, or the one of a key.
+    Log {
+        db: &'a str,
+        from: Option<&'a str>,
+        key: Option<&'a str>,
+    },
+    /// Does the log again in memory, and compares what it makes with what is kept.
+    Audit {
+        db: &'a str,
+    },
     /// Serves `max` connections over HTTP on a port of this machine.
     Serve {
         db: &'a str,
@@ -96,12 +141,18 @@ pub fn new_has_sums(job: &Job<'_>) -> bool
 {
     match job {
         Job::Edit { sums, .. } | Job::Survey { sums, .. } | Job::Serve { sums, .. } => *sums,
-        Job::At { .. }
+        Job::Check { .. }
+        | Job::At { .. }
         | Job::Translate { .. }
         | Job::Strip { .. }
         | Job::Diagram { .. }
         | Job::Totals { .. }
         | Job::Find { .. }
+        | Job::List { .. }
+        | Job::Rows { .. }
+        | Job::Gone { .. }
+        | Job::Log { .. }
+        | Job::Audit { .. }
         | Job::Page { .. } => false,
     }
 }
@@ -114,12 +165,18 @@ pub(crate) fn read_job(name: &str) -> Option<JobName>
     match name {
         "edit" => Some(JobName::Edit),
         "survey" => Some(JobName::Survey),
+        "check" => Some(JobName::Check),
         "at" => Some(JobName::At),
         "translate" => Some(JobName::Translate),
         "strip" => Some(JobName::Strip),
         "diagram" => Some(JobName::Diagram),
         "totals" => Some(JobName::Totals),
         "find" => Some(JobName::Find),
+        "list" => Some(JobName::List),
+        "rows" => Some(JobName::Rows),
+        "gone" => Some(JobName::Gone),
+        "log" => Some(JobName::Log),
+        "audit" => Some(JobName::Audit),
         "serve" => Some(JobName::Serve),
         "page" => Some(JobName::Page),
         _ => None,

@@ -38,6 +38,10 @@ pub enum BadWord {
     From,
     To,
     Asset,
+    What,
+    Edit,
+    Number,
+    Key,
     Port,
     Max,
 }
@@ -55,11 +59,15 @@ impl fmt::Display for BadWord {
             BadWord::Method => f.write_str("METHOD is none of abs, rel and int"),
             BadWord::Position => f.write_str("POS is no position by this method"),
             BadWord::Destination => f.write_str("TO is none of abs, int, rel:NAME and link"),
-            BadWord::Side => f.write_str("SIDE is none of L, R and B"),
+            BadWord::Side => f.write_str("SIDE is neither L nor R"),
             BadWord::Class => f.write_str("CLASS is no class name"),
             BadWord::From => f.write_str("FROM is no chainage in millimetres"),
             BadWord::To => f.write_str("TO is no chainage in millimetres"),
             BadWord::Asset => f.write_str("ASSET is no asset number"),
+            BadWord::What => f.write_str("WHAT is none of routes, links, classes and refs"),
+            BadWord::Edit => f.write_str("EDIT is no number of an edit"),
+            BadWord::Number => f.write_str("FROM is no number of an edit"),
+            BadWord::Key => f.write_str("KEY is no key"),
             BadWord::Port => f.write_str("PORT is no port number"),
             BadWord::Max => f.write_str("MAX is no number of connections"),
         }
@@ -83,7 +91,7 @@ impl From<AllocError> for QuestionFault {
     }
 }
 
-fn route_of(text: &str) -> Result<RouteName, QuestionFault>
+pub(crate) fn route_of(text: &str) -> Result<RouteName, QuestionFault>
     ensures read { IfOk result (SaysRoute text.now) }
     ensures unread { IfErr result (Cannot BadWord.Route (SaysRoute text.now)) }
 {
@@ -144,7 +152,7 @@ fn side_of(text: &str) -> Result<Side, QuestionFault>
     }
 }
 
-fn class_of(text: &str) -> Result<ClassName, QuestionFault>
+pub(crate) fn class_of(text: &str) -> Result<ClassName, QuestionFault>
     ensures read { IfOk result (SaysClass text.now) }
     ensures unread { IfErr result (Cannot BadWord.Class (SaysClass text.now)) }
 {
@@ -174,7 +182,12 @@ fn classes_of(alloc: Global, texts: &[&str]) -> Result<Rows<ClassName>, Question
 }
 
 /// The number between these bounds that a word says.
-fn number_of(text: &str, least: u64, greatest: u64, fault: BadWord) -> Result<u64, QuestionFault>
+pub(crate) fn number_of(
+    text: &str,
+    least: u64,
+    greatest: u64,
+    fault: BadWord,
+) -> Result<u64, QuestionFault>
     ensures read { IfOk result (SaysNumber least greatest text.now) }
     ensures unread { IfErr result (Cannot fault (SaysNumber least greatest text.now)) }
 {
@@ -184,7 +197,7 @@ fn number_of(text: &str, least: u64, greatest: u64, fault: BadWord) -> Result<u6
     }
 }
 
-fn asset_of(text: &str) -> Result<u64, QuestionFault>
+pub(crate) fn asset_of(text: &str) -> Result<u64, QuestionFault>
     ensures read { IfOk result (SaysAsset text.now) }
     ensures unread { IfErr result (Cannot BadWord.Asset (SaysAsset text.now)) }
 {
@@ -192,7 +205,7 @@ fn asset_of(text: &str) -> Result<u64, QuestionFault>
 }
 
 /// The chainage at an end of a diagram, where one was given.
-fn end_of(text: Option<&str>, fault: BadWord) -> Result<Option<u64>, QuestionFault>
+pub(crate) fn end_of(text: Option<&str>, fault: BadWord) -> Result<Option<u64>, QuestionFault>
     ensures read { IfOk result (SaysEnd (option_map (λ t. t.now) text.entry)) }
     ensures unread { IfErr result (CannotEnd fault (option_map (λ t. t.now) text.entry)) }
 {
@@ -303,7 +316,7 @@ pub fn service_of(port: &str, max: &str) -> Result<Service, QuestionFault>
     Ok(Service { port, max })
 }
 
-/// What a job asks of its inventory; none where it does a sheet, serves, or writes the page.
+/// What a job asks of its inventory; none where it does or checks a sheet, reports, serves, or writes the page.
 ///
 /// # Errors
 /// The first word that cannot be read, and `Memory`.
@@ -313,9 +326,16 @@ pub fn question_of(alloc: Global, job: &Job<'_>) -> Result<Option<Question>, Que
     ensures unread { IfErr result (IsFaultOf job.now) }
 {
     let question = match job {
-        Job::Edit { .. } | Job::Survey { .. } | Job::Serve { .. } | Job::Page { .. } => {
-            return Ok(None);
-        }
+        Job::Edit { .. }
+        | Job::Survey { .. }
+        | Job::Check { .. }
+        | Job::List { .. }
+        | Job::Rows { .. }
+        | Job::Gone { .. }
+        | Job::Log { .. }
+        | Job::Audit { .. }
+        | Job::Serve { .. }
+        | Job::Page { .. } => return Ok(None),
         Job::At {
             route,
             method,

@@ -95,11 +95,13 @@ fn edit_job<'a>(given: &ArgMatches<'a>) -> Option<Job<'a>>
     let sheet = word_in(given, "SHEET")?;
     let sums = is_set(given, "sums");
     let resume = is_set(given, "resume");
+    let all = is_set(given, "all");
     Some(Job::Edit {
         db,
         sheet,
         sums,
         resume,
+        all,
     })
 }
 
@@ -113,12 +115,26 @@ fn survey_job<'a>(given: &ArgMatches<'a>) -> Option<Job<'a>>
     let sheet = word_in(given, "SHEET")?;
     let sums = is_set(given, "sums");
     let resume = is_set(given, "resume");
+    let all = is_set(given, "all");
     Some(Job::Survey {
         db,
         sheet,
         sums,
         resume,
+        all,
     })
+}
+
+fn check_job<'a>(given: &ArgMatches<'a>) -> Option<Job<'a>>
+    ensures job { IfSome result (λ job. (job_name job ≡ JobName.Check)
+        × HasWords job (rows_of (found_of given.now))) }
+    ensures there { AreGiven (rules_of JobName.Check) (rows_of (found_of given.now))
+        → IsSome result }
+{
+    let db = word_in(given, "DB")?;
+    let sheet = word_in(given, "SHEET")?;
+    let survey = is_set(given, "survey");
+    Some(Job::Check { db, sheet, survey })
 }
 
 fn at_job<'a>(given: &ArgMatches<'a>) -> Option<Job<'a>>
@@ -275,6 +291,72 @@ fn find_job<'a>(given: &ArgMatches<'a>) -> Option<Job<'a>>
     Some(Job::Find { db, asset })
 }
 
+fn list_job<'a>(given: &ArgMatches<'a>) -> Option<Job<'a>>
+    ensures job { IfSome result (λ job. (job_name job ≡ JobName.List)
+        × HasWords job (rows_of (found_of given.now))) }
+    ensures there { AreGiven (rules_of JobName.List) (rows_of (found_of given.now))
+        → IsSome result }
+{
+    let db = word_in(given, "DB")?;
+    let what = word_in(given, "WHAT")?;
+    Some(Job::List { db, what })
+}
+
+fn rows_job<'a>(given: &ArgMatches<'a>) -> Option<Job<'a>>
+    ensures job { IfSome result (λ job. (job_name job ≡ JobName.Rows)
+        × HasWords job (rows_of (found_of given.now))) }
+    ensures there { AreGiven (rules_of JobName.Rows) (rows_of (found_of given.now))
+        → IsSome result }
+{
+    let db = word_in(given, "DB")?;
+    let route = word_in(given, "route");
+    let from = word_in(given, "from");
+    let to = word_in(given, "to");
+    let class = word_in(given, "class");
+    let asset = word_in(given, "asset");
+    Some(Job::Rows {
+        db,
+        route,
+        from,
+        to,
+        class,
+        asset,
+    })
+}
+
+fn gone_job<'a>(given: &ArgMatches<'a>) -> Option<Job<'a>>
+    ensures job { IfSome result (λ job. (job_name job ≡ JobName.Gone)
+        × HasWords job (rows_of (found_of given.now))) }
+    ensures there { AreGiven (rules_of JobName.Gone) (rows_of (found_of given.now))
+        → IsSome result }
+{
+    let db = word_in(given, "DB")?;
+    let edit = word_in(given, "edit");
+    Some(Job::Gone { db, edit })
+}
+
+fn log_job<'a>(given: &ArgMatches<'a>) -> Option<Job<'a>>
+    ensures job { IfSome result (λ job. (job_name job ≡ JobName.Log)
+        × HasWords job (rows_of (found_of given.now))) }
+    ensures there { AreGiven (rules_of JobName.Log) (rows_of (found_of given.now))
+        → IsSome result }
+{
+    let db = word_in(given, "DB")?;
+    let from = word_in(given, "FROM");
+    let key = word_in(given, "key");
+    Some(Job::Log { db, from, key })
+}
+
+fn audit_job<'a>(given: &ArgMatches<'a>) -> Option<Job<'a>>
+    ensures job { IfSome result (λ job. (job_name job ≡ JobName.Audit)
+        × HasWords job (rows_of (found_of given.now))) }
+    ensures there { AreGiven (rules_of JobName.Audit) (rows_of (found_of given.now))
+        → IsSome result }
+{
+    let db = word_in(given, "DB")?;
+    Some(Job::Audit { db })
+}
+
 fn serve_job<'a>(given: &ArgMatches<'a>) -> Option<Job<'a>>
     ensures job { IfSome result (λ job. (job_name job ≡ JobName.Serve)
         × HasWords job (rows_of (found_of given.now))) }
@@ -317,12 +399,18 @@ fn job_with<'a>(
     match name {
         JobName::Edit => Ok(edit_job(given)),
         JobName::Survey => Ok(survey_job(given)),
+        JobName::Check => Ok(check_job(given)),
         JobName::At => Ok(at_job(given)),
         JobName::Translate => Ok(translate_job(given)),
         JobName::Strip => strip_job(alloc, given),
         JobName::Diagram => diagram_job(alloc, given),
         JobName::Totals => Ok(totals_job(given)),
         JobName::Find => Ok(find_job(given)),
+        JobName::List => Ok(list_job(given)),
+        JobName::Rows => Ok(rows_job(given)),
+        JobName::Gone => Ok(gone_job(given)),
+        JobName::Log => Ok(log_job(given)),
+        JobName::Audit => Ok(audit_job(given)),
         JobName::Serve => Ok(serve_job(given)),
         JobName::Page => Ok(page_job(given)),
     }

@@ -1,7 +1,7 @@
 //! Courses and marks: made, cut, joined, and refused by their first fault.
 
 use lrs_element::{Course, CourseFault, Ground, Link, Mark, MarkFault, Marks, Piece};
-use std::alloc::Global;
+use std::alloc::{AllocGlobal, Global};
 use std::process::Abort;
 
 /// A forward piece.
@@ -35,8 +35,7 @@ pub(super) const LINKS: [Link; 2] = [
     },
 ];
 
-#[test]
-fn the_first_fault_is_named(rt: HostRuntime) {
+fn the_first_fault_is_named(rt: &(impl Abort + Print + AllocGlobal)) {
     let alloc = rt.alloc();
     let faults = [
         (
@@ -115,36 +114,32 @@ const LONG_LINKS: [Link; 11] = [
     },
 ];
 
-#[test]
-fn the_longest_route_has_ten_links(rt: HostRuntime) {
+fn the_longest_route_has_ten_links(rt: &(impl Abort + Print + AllocGlobal)) {
     let alloc = rt.alloc();
     let mut pieces = Vec::new(alloc);
     for number in 1..12 {
         pieces
             .push(ahead(number, 0, 1_000_000_000))
-            .expect(&rt, "memory");
+            .expect(rt, "memory");
     }
     let fault = Course::new(alloc, &pieces, &LONG_LINKS.as_slice()).err();
     assert_eq!(rt; fault, Some(CourseFault::TooLong));
     pieces.pop();
-    let course = Course::new(alloc, &pieces, &LONG_LINKS.as_slice()).expect(&rt, "ten links");
+    let course = Course::new(alloc, &pieces, &LONG_LINKS.as_slice()).expect(rt, "ten links");
     assert_eq!(rt; course.len(), 10_000_000_000);
     assert_eq!(rt; course.pieces().len(), 10);
 }
 
-#[test]
-fn a_route_has_a_thousand_pieces(rt: HostRuntime) {
+fn a_route_has_a_thousand_pieces(rt: &(impl Abort + Print + AllocGlobal)) {
     let alloc = rt.alloc();
     let mut pieces = Vec::new(alloc);
     for i in 0..1_001 {
-        pieces
-            .push(ahead(7, 2 * i, 2 * i + 1))
-            .expect(&rt, "memory");
+        pieces.push(ahead(7, 2 * i, 2 * i + 1)).expect(rt, "memory");
     }
     let fault = Course::new(alloc, &pieces, &LINKS.as_slice()).err();
     assert_eq!(rt; fault, Some(CourseFault::TooLong));
     pieces.pop();
-    let course = Course::new(alloc, &pieces, &LINKS.as_slice()).expect(&rt, "a thousand pieces");
+    let course = Course::new(alloc, &pieces, &LINKS.as_slice()).expect(rt, "a thousand pieces");
     assert_eq!(rt; course.len(), 1_000);
     assert_eq!(rt; course.pieces().len(), 1_000);
 }
@@ -154,10 +149,9 @@ fn course_of(rt: &impl Abort, alloc: Global, pieces: &[Piece]) -> Course {
     Course::new(alloc, pieces, &LINKS.as_slice()).expect(rt, "a course")
 }
 
-#[test]
-fn courses_are_cut_and_joined(rt: HostRuntime) {
+fn courses_are_cut_and_joined(rt: &(impl Abort + Print + AllocGlobal)) {
     let mut course = course_of(
-        &rt,
+        rt,
         rt.alloc(),
         &[ahead(3, 0, 4), ahead(3, 4, 10), back(7, 5, 20)],
     );
@@ -175,31 +169,31 @@ fn courses_are_cut_and_joined(rt: HostRuntime) {
         }
     );
 
-    let (mut before, after) = course.cut(12).expect(&rt, "memory");
+    let (mut before, after) = course.cut(12).expect(rt, "memory");
     assert_eq!(rt;
         before.pieces(),
         [ahead(3, 0, 10), back(7, 18, 20)].as_slice()
     );
     assert_eq!(rt; after.pieces(), [back(7, 5, 18)].as_slice());
-    before.concat(&after).expect(&rt, "a join");
+    before.concat(&after).expect(rt, "a join");
     assert_eq!(rt; before.pieces(), course.pieces());
 
-    let turned = course.turned().expect(&rt, "memory");
+    let turned = course.turned().expect(rt, "memory");
     assert_eq!(rt;
         turned.pieces(),
         [ahead(7, 5, 20), back(3, 0, 10)].as_slice()
     );
 
-    let detour = course_of(&rt, rt.alloc(), &[ahead(7, 100, 103)]);
+    let detour = course_of(rt, rt.alloc(), &[ahead(7, 100, 103)]);
     assert_eq!(rt; course.meets(&detour), None);
     assert_eq!(rt; course.meets(&turned), Some(3));
     assert!(rt; course.covers(ahead(7, 4, 6)) && !course.covers(ahead(7, 0, 5)));
-    course.replace(5, 12, &detour).expect(&rt, "a replacement");
+    course.replace(5, 12, &detour).expect(rt, "a replacement");
     assert_eq!(rt;
         course.pieces(),
         [ahead(3, 0, 5), ahead(7, 100, 103), back(7, 5, 18)].as_slice()
     );
-    let copy = course.copy().expect(&rt, "memory");
+    let copy = course.copy().expect(rt, "memory");
     assert_eq!(rt; copy.pieces(), course.pieces());
     assert!(rt; !copy.is_empty());
 }
@@ -209,8 +203,7 @@ fn mark(chainage: u64, measure: u64) -> Mark {
     Mark { chainage, measure }
 }
 
-#[test]
-fn the_first_bad_mark_is_named(rt: HostRuntime) {
+fn the_first_bad_mark_is_named(rt: &(impl Abort + Print + AllocGlobal)) {
     let alloc = rt.alloc();
     let faults = [
         ([mark(0, 5), mark(0, 6), mark(8, 5)], 1),
@@ -227,18 +220,17 @@ fn the_first_bad_mark_is_named(rt: HostRuntime) {
         ),
     ];
     for (marks, want) in faults {
-        let list = Vec::from_slice(alloc, &marks).expect(&rt, "memory");
+        let list = Vec::from_slice(alloc, &marks).expect(rt, "memory");
         assert!(rt;
             Marks::new(list, 8).is_err_and(|fault| fault == MarkFault(want)),
             "mark {want}"
         );
     }
-    let one = Vec::from_slice(alloc, &[mark(0, 5)]).expect(&rt, "memory");
+    let one = Vec::from_slice(alloc, &[mark(0, 5)]).expect(rt, "memory");
     assert!(rt; Marks::new(one, 0).is_err_and(|fault| fault == MarkFault(0)));
 }
 
-#[test]
-fn marks_are_cut_and_joined(rt: HostRuntime) {
+fn marks_are_cut_and_joined(rt: &(impl Abort + Print + AllocGlobal)) {
     let alloc = rt.alloc();
     let list = vec![in alloc;
         Mark {
@@ -254,19 +246,29 @@ fn marks_are_cut_and_joined(rt: HostRuntime) {
             measure: 30
         },
     ]
-    .expect(&rt, "memory");
-    let marks = Marks::new(list, 9).expect(&rt, "marks");
-    let mirrored = marks.mirrored().expect(&rt, "memory");
+    .expect(rt, "memory");
+    let marks = Marks::new(list, 9).expect(rt, "marks");
+    let mirrored = marks.mirrored().expect(rt, "memory");
     assert_eq!(rt;
         mirrored.list(),
         [mark(0, 10), mark(5, 28), mark(9, 30)].as_slice()
     );
-    let (mut before, after) = marks.cut(4).expect(&rt, "memory");
+    let (mut before, after) = marks.cut(4).expect(rt, "memory");
     assert_eq!(rt; before.list(), [mark(0, 10), mark(4, 12)].as_slice());
     assert_eq!(rt; after.list(), [mark(0, 12), mark(5, 30)].as_slice());
     assert!(rt; !before.joins_out_of_range(&after));
-    before.join(&after).expect(&rt, "memory");
+    before.join(&after).expect(rt, "memory");
     assert_eq!(rt; before.list(), marks.list());
-    let copy = before.copy().expect(&rt, "memory");
+    let copy = before.copy().expect(rt, "memory");
     assert_eq!(rt; copy.list(), marks.list());
+}
+
+#[test]
+fn courses_and_marks(rt: HostRuntime) {
+    the_first_fault_is_named(&rt);
+    the_longest_route_has_ten_links(&rt);
+    a_route_has_a_thousand_pieces(&rt);
+    courses_are_cut_and_joined(&rt);
+    the_first_bad_mark_is_named(&rt);
+    marks_are_cut_and_joined(&rt);
 }

@@ -53,78 +53,72 @@ fn bypass(rt: &(impl Abort + Print + AllocGlobal)) -> Course {
     course_of(rt, &[ahead(7, 100, 103)])
 }
 
-#[test]
-fn a_course_is_made(rt: HostRuntime) {
-    is_the_road(&rt, &road(&rt));
+fn a_course_is_made(rt: &(impl Abort + Print + AllocGlobal)) {
+    is_the_road(rt, &road(rt));
 }
 
-#[test]
-fn a_course_is_copied(rt: HostRuntime) {
-    let course = road(&rt);
+fn a_course_is_copied(rt: &(impl Abort + Print + AllocGlobal)) {
+    let course = road(rt);
     let copy = match course.copy() {
         Ok(copy) => copy,
         Err(_) => {
-            refused(&rt, "Course::copy");
-            is_the_road(&rt, &course);
-            course.copy().expect(&rt, "memory")
+            refused(rt, "Course::copy");
+            is_the_road(rt, &course);
+            course.copy().expect(rt, "memory")
         }
     };
-    is_the_road(&rt, &copy);
+    is_the_road(rt, &copy);
 }
 
-#[test]
-fn a_course_is_cut(rt: HostRuntime) {
-    let course = road(&rt);
+fn a_course_is_cut(rt: &(impl Abort + Print + AllocGlobal)) {
+    let course = road(rt);
     assert_eq!(rt; course.len(), 35);
     let (before, after) = match course.cut(30) {
         Ok(parts) => parts,
         Err(_) => {
-            refused(&rt, "Course::cut");
-            is_the_road(&rt, &course);
-            course.cut(30).expect(&rt, "memory")
+            refused(rt, "Course::cut");
+            is_the_road(rt, &course);
+            course.cut(30).expect(rt, "memory")
         }
     };
     assert_eq!(rt; (before.len(), after.len()), (30, 5));
 }
 
-#[test]
-fn a_course_is_turned(rt: HostRuntime) {
-    let course = road(&rt);
+fn a_course_is_turned(rt: &(impl Abort + Print + AllocGlobal)) {
+    let course = road(rt);
     let turned = match course.turned() {
         Ok(turned) => turned,
         Err(_) => {
-            refused(&rt, "Course::turned");
-            is_the_road(&rt, &course);
-            course.turned().expect(&rt, "memory")
+            refused(rt, "Course::turned");
+            is_the_road(rt, &course);
+            course.turned().expect(rt, "memory")
         }
     };
     assert_eq!(rt; turned.len(), 35);
 }
 
-#[test]
-fn a_course_is_added(rt: HostRuntime) {
-    let mut course = road(&rt);
-    let other = bypass(&rt);
+fn a_course_is_added(rt: &(impl Abort + Print + AllocGlobal)) {
+    let mut course = road(rt);
+    let other = bypass(rt);
     if let Err(fault) = course.concat(&other) {
         assert_eq!(rt; fault, JoinFault::Memory);
-        refused(&rt, "Course::concat");
-        is_the_road(&rt, &course);
-        course.concat(&other).expect(&rt, "memory");
+        refused(rt, "Course::concat");
+        is_the_road(rt, &course);
+        course.concat(&other).expect(rt, "memory");
     }
     assert_eq!(rt; course.len(), 38);
 }
 
-#[test]
-fn a_course_is_put_in_place(rt: HostRuntime) {
-    let mut course = road(&rt);
-    let other = bypass(&rt);
+fn a_course_is_put_in_place(rt: &(impl Abort + Print + AllocGlobal)) {
+    let mut course = road(rt);
+    let other = bypass(rt);
     assert_eq!(rt; course.len(), 35);
     if let Err(fault) = course.replace(4, 20, &other) {
         assert_eq!(rt; fault, JoinFault::Memory);
-        refused(&rt, "Course::replace");
-        is_the_road(&rt, &course);
+        refused(rt, "Course::replace");
+        is_the_road(rt, &course);
         assert_eq!(rt; course.len(), 35);
-        course.replace(4, 20, &other).expect(&rt, "memory");
+        course.replace(4, 20, &other).expect(rt, "memory");
     }
     assert_eq!(rt; course.len(), 22);
 }
@@ -161,56 +155,66 @@ fn are_the_marks(rt: &impl Abort, marks: &Marks) {
     assert_eq!(rt; marks.list(), MARKS.as_slice());
 }
 
-#[test]
-fn marks_are_copied(rt: HostRuntime) {
-    let marks = marks_of_road(&rt);
+fn marks_are_copied(rt: &(impl Abort + Print + AllocGlobal)) {
+    let marks = marks_of_road(rt);
     let copy = match marks.copy() {
         Ok(copy) => copy,
         Err(_) => {
-            refused(&rt, "Marks::copy");
-            are_the_marks(&rt, &marks);
-            marks.copy().expect(&rt, "memory")
+            refused(rt, "Marks::copy");
+            are_the_marks(rt, &marks);
+            marks.copy().expect(rt, "memory")
         }
     };
-    are_the_marks(&rt, &copy);
+    are_the_marks(rt, &copy);
 }
 
-#[test]
-fn marks_are_cut(rt: HostRuntime) {
-    let marks = marks_of_road(&rt);
+fn marks_are_cut(rt: &(impl Abort + Print + AllocGlobal)) {
+    let marks = marks_of_road(rt);
     let (before, after) = match marks.cut(20) {
         Ok(parts) => parts,
         Err(_) => {
-            refused(&rt, "Marks::cut");
-            are_the_marks(&rt, &marks);
-            marks.cut(20).expect(&rt, "memory")
+            refused(rt, "Marks::cut");
+            are_the_marks(rt, &marks);
+            marks.cut(20).expect(rt, "memory")
         }
     };
     assert_eq!(rt; (before.list().len(), after.list().len()), (2, 2));
 }
 
-#[test]
-fn marks_are_joined(rt: HostRuntime) {
-    let mut marks = marks_of_road(&rt);
-    let other = marks_of_road(&rt);
+fn marks_are_joined(rt: &(impl Abort + Print + AllocGlobal)) {
+    let mut marks = marks_of_road(rt);
+    let other = marks_of_road(rt);
     if marks.join(&other).is_err() {
-        refused(&rt, "Marks::join");
-        are_the_marks(&rt, &marks);
-        marks.join(&other).expect(&rt, "memory");
+        refused(rt, "Marks::join");
+        are_the_marks(rt, &marks);
+        marks.join(&other).expect(rt, "memory");
     }
     assert_eq!(rt; marks.list().len(), 5);
 }
 
-#[test]
-fn marks_are_mirrored(rt: HostRuntime) {
-    let marks = marks_of_road(&rt);
+fn marks_are_mirrored(rt: &(impl Abort + Print + AllocGlobal)) {
+    let marks = marks_of_road(rt);
     let mirrored = match marks.mirrored() {
         Ok(mirrored) => mirrored,
         Err(_) => {
-            refused(&rt, "Marks::mirrored");
-            are_the_marks(&rt, &marks);
-            marks.mirrored().expect(&rt, "memory")
+            refused(rt, "Marks::mirrored");
+            are_the_marks(rt, &marks);
+            marks.mirrored().expect(rt, "memory")
         }
     };
     assert_eq!(rt; mirrored.list().len(), 3);
+}
+
+#[test]
+fn each_call_bears_a_refused_growth(rt: HostRuntime) {
+    a_course_is_made(&rt);
+    a_course_is_copied(&rt);
+    a_course_is_cut(&rt);
+    a_course_is_turned(&rt);
+    a_course_is_added(&rt);
+    a_course_is_put_in_place(&rt);
+    marks_are_copied(&rt);
+    marks_are_cut(&rt);
+    marks_are_joined(&rt);
+    marks_are_mirrored(&rt);
 }

@@ -4,7 +4,7 @@ ghost use Rattle.std.specs.Prelude.{◌≡◌, true};
 ghost use Rattle.lrs_measure.specs.Lists.{each_two};
 
 use lrs_ordered::{Chunked, Keyed, Ordered};
-use std::alloc::Global;
+use std::alloc::{AllocGlobal, Global};
 use std::cmp;
 use std::process::Abort;
 
@@ -71,9 +71,8 @@ fn shuffled(rt: &impl Abort, alloc: Global) -> Chunked<Row>
     rows
 }
 
-#[test]
-fn rows_put_in_any_order_are_in_theirs(rt: HostRuntime) {
-    let rows = shuffled(&rt, rt.alloc());
+fn rows_put_in_any_order_are_in_theirs(rt: &(impl Abort + Print + AllocGlobal)) {
+    let rows = shuffled(rt, rt.alloc());
     assert_eq!(rt; rows.len(), ROWS as usize);
     let mut numbers = 0..ROWS;
     for row in rows.iter() {
@@ -81,10 +80,15 @@ fn rows_put_in_any_order_are_in_theirs(rt: HostRuntime) {
     }
 }
 
-#[test]
-fn a_row_that_was_taken_out_is_not_found(rt: HostRuntime) {
-    let mut rows = shuffled(&rt, rt.alloc());
+fn a_row_that_was_taken_out_is_not_found(rt: &(impl Abort + Print + AllocGlobal)) {
+    let mut rows = shuffled(rt, rt.alloc());
     assert!(rt; rows.find(&200).is_some());
     assert!(rt; rows.remove(&200).is_some_and(|row| row.number == 200));
     assert_eq!(rt; rows.len(), ROWS as usize - 1);
+}
+
+#[test]
+fn rows_in_chunks(rt: HostRuntime) {
+    rows_put_in_any_order_are_in_theirs(&rt);
+    a_row_that_was_taken_out_is_not_found(&rt);
 }

@@ -155,25 +155,23 @@ fn long_image(rt: &(impl Abort + AllocGlobal)) -> Image {
     image_with(rt, [whole_route(rt)], all_pieces(rt))
 }
 
-#[test]
-fn the_image_is_sound(rt: HostRuntime) {
-    is_sound(&rt, long_image(&rt));
+fn the_image_is_sound(rt: &(impl Abort + Print + AllocGlobal)) {
+    is_sound(rt, long_image(rt));
 }
 
-#[test]
-fn keys_of_rows(rt: HostRuntime) {
-    let mut links = long_image(&rt);
-    let first = long_links(&rt).first().copied().expect(&rt, "a link");
-    links.links.items.push(first).expect(&rt, "memory");
-    names(&rt, Table::Link, links);
-    let mut classes = long_image(&rt);
-    let again = class(&rt, b"SIGN", Kind::Point);
-    classes.classes.items.push(again).expect(&rt, "memory");
-    names(&rt, Table::Class, classes);
-    let mut assets = long_image(&rt);
-    let signs = asset(&rt, 4, b"SIGNS");
-    assets.assets.items.push(signs).expect(&rt, "memory");
-    names(&rt, Table::Asset, assets);
+fn keys_of_rows(rt: &(impl Abort + Print + AllocGlobal)) {
+    let mut links = long_image(rt);
+    let first = long_links(rt).first().copied().expect(rt, "a link");
+    links.links.items.push(first).expect(rt, "memory");
+    names(rt, Table::Link, links);
+    let mut classes = long_image(rt);
+    let again = class(rt, b"SIGN", Kind::Point);
+    classes.classes.items.push(again).expect(rt, "memory");
+    names(rt, Table::Class, classes);
+    let mut assets = long_image(rt);
+    let signs = asset(rt, 4, b"SIGNS");
+    assets.assets.items.push(signs).expect(rt, "memory");
+    names(rt, Table::Asset, assets);
 }
 
 /// The image with another route in the place of that of pieces.
@@ -182,82 +180,71 @@ fn with_second_route(rt: &(impl Abort + AllocGlobal), piece: Piece) -> Image {
     image_along(rt, [long_route(rt, &[whole_route(rt)]), second])
 }
 
-#[test]
-fn courses(rt: HostRuntime) {
+fn courses(rt: &(impl Abort + Print + AllocGlobal)) {
     // the last millimetre of the long route
-    let image = with_second_route(&rt, forth(10, LONGEST_LINK - 1, LONGEST_LINK));
-    names(&rt, Table::Piece, image);
+    let image = with_second_route(rt, forth(10, LONGEST_LINK - 1, LONGEST_LINK));
+    names(rt, Table::Piece, image);
     // no millimetre of it, and nothing lies there
-    let image = with_second_route(&rt, forth(11, LONGEST_LINK - 1, LONGEST_LINK));
-    names(&rt, Table::Gone, image);
+    let image = with_second_route(rt, forth(11, LONGEST_LINK - 1, LONGEST_LINK));
+    names(rt, Table::Gone, image);
 }
 
-#[test]
-fn names_of_referents(rt: HostRuntime) {
-    let long = long_route(&rt, &[whole_route(&rt)]);
-    let second = route_of_pieces(&rt, b"KM0", &[all_pieces(&rt)]);
-    names(&rt, Table::Ref, image_along(&rt, [long, second]));
+fn names_of_referents(rt: &(impl Abort + Print + AllocGlobal)) {
+    let long = long_route(rt, &[whole_route(rt)]);
+    let second = route_of_pieces(rt, b"KM0", &[all_pieces(rt)]);
+    names(rt, Table::Ref, image_along(rt, [long, second]));
 }
 
-#[test]
-fn spans(rt: HostRuntime) {
-    let sign = ClassName::new(b"SIGN").expect(&rt, "a class name");
+fn spans(rt: &(impl Abort + Print + AllocGlobal)) {
+    let sign = ClassName::new(b"SIGN").expect(rt, "a class name");
     // past the end of the course
     names(
-        &rt,
+        rt,
         Table::Span,
-        image_with(&rt, [whole_route(&rt)], rail(&rt, 3, 0, 1_001, Side::L)),
+        image_with(rt, [whole_route(rt)], rail(rt, 3, 0, 1_001, Side::L)),
     );
     // of an asset that is not there
     names(
-        &rt,
+        rt,
         Table::Span,
-        image_with(&rt, [whole_route(&rt)], rail(&rt, 4, 0, 1_000, Side::L)),
+        image_with(rt, [whole_route(rt)], rail(rt, 4, 0, 1_000, Side::L)),
     );
     // of another class than its asset
     names(
-        &rt,
+        rt,
         Table::Span,
         image_with(
-            &rt,
+            rt,
             [
-                whole_route(&rt),
+                whole_route(rt),
                 Span {
                     asset: 1,
                     class: sign,
-                    ..last_millimetre(&rt)
+                    ..last_millimetre(rt)
                 },
             ],
             Span {
                 class: sign,
-                ..all_pieces(&rt)
+                ..all_pieces(rt)
             },
         ),
     );
     // two holders in the last millimetre
     names(
-        &rt,
+        rt,
         Table::Span,
-        image_with(
-            &rt,
-            [whole_route(&rt), last_millimetre(&rt)],
-            all_pieces(&rt),
-        ),
+        image_with(rt, [whole_route(rt), last_millimetre(rt)], all_pieces(rt)),
     );
     // two holders of a class that is not exclusive
-    let mut image = image_with(
-        &rt,
-        [whole_route(&rt), last_millimetre(&rt)],
-        all_pieces(&rt),
-    );
+    let mut image = image_with(rt, [whole_route(rt), last_millimetre(rt)], all_pieces(rt));
     image.classes = rows(
-        &rt,
+        rt,
         [
-            class(&rt, b"RAIL", Kind::Stretch),
-            class(&rt, b"SIGN", Kind::Stretch),
+            class(rt, b"RAIL", Kind::Stretch),
+            class(rt, b"SIGN", Kind::Stretch),
         ],
     );
-    names(&rt, Table::Gone, image);
+    names(rt, Table::Gone, image);
 }
 
 /// The image with one more part entered.
@@ -267,90 +254,95 @@ fn with_entered(rt: &(impl Abort + AllocGlobal), part: Part) -> Image {
     image
 }
 
-#[test]
-fn entered_parts(rt: HostRuntime) {
+fn entered_parts(rt: &(impl Abort + Print + AllocGlobal)) {
     let one_more = Part {
         to: 1,
         ..part(4, 2, 11, LinkSide::Left)
     };
     // one place more than an asset may have
-    names(&rt, Table::Entered, with_entered(&rt, one_more));
+    names(rt, Table::Entered, with_entered(rt, one_more));
     // as many as that of another asset, which does not hold it
     let other = Part {
         asset: 3,
         ..one_more
     };
-    names(&rt, Table::Gone, with_entered(&rt, other));
+    names(rt, Table::Gone, with_entered(rt, other));
     // the last millimetre twice
     let twice = Part {
         from: LONGEST_LINK - 1,
         ..part(4, 1, 10, LinkSide::Left)
     };
-    names(&rt, Table::Entered, with_entered(&rt, twice));
+    names(rt, Table::Entered, with_entered(rt, twice));
     // a millimetre past the end of a link
     let beyond = Part {
         from: LONGEST_LINK,
         to: LONGEST_LINK + 1,
         ..part(4, 1, 10, LinkSide::Left)
     };
-    names(&rt, Table::Entered, with_entered(&rt, beyond));
+    names(rt, Table::Entered, with_entered(rt, beyond));
 }
 
-#[test]
-fn unbalanced_ledgers(rt: HostRuntime) {
-    let mut forgotten = long_image(&rt);
+fn unbalanced_ledgers(rt: &(impl Abort + Print + AllocGlobal)) {
+    let mut forgotten = long_image(rt);
     forgotten.gone.items.pop();
-    let mut shorter = long_image(&rt);
+    let mut shorter = long_image(rt);
     if let Some(last) = shorter.gone.items.last_mut() {
         last.part.to = LONGEST_LINK - 1;
     }
-    let mut never = long_image(&rt);
+    let mut never = long_image(rt);
     never.entered.items.pop();
     // held, but for one millimetre
     names(
-        &rt,
+        rt,
         Table::Gone,
         image_with(
-            &rt,
-            [rail(&rt, 2, 0, LONGEST_ROUTE - 1, Side::B)],
-            all_pieces(&rt),
+            rt,
+            [rail(rt, 2, 0, LONGEST_ROUTE - 1, Side::B)],
+            all_pieces(rt),
         ),
     );
     names(
-        &rt,
+        rt,
         Table::Gone,
-        image_with(
-            &rt,
-            [rail(&rt, 2, 1, LONGEST_ROUTE, Side::B)],
-            all_pieces(&rt),
-        ),
+        image_with(rt, [rail(rt, 2, 1, LONGEST_ROUTE, Side::B)], all_pieces(rt)),
     );
     names(
-        &rt,
+        rt,
         Table::Gone,
-        image_with(&rt, [whole_route(&rt)], rail(&rt, 3, 0, 999, Side::L)),
+        image_with(rt, [whole_route(rt)], rail(rt, 3, 0, 999, Side::L)),
     );
     // held on the other side
     names(
-        &rt,
+        rt,
         Table::Gone,
-        image_with(&rt, [whole_route(&rt)], rail(&rt, 3, 0, 1_000, Side::R)),
+        image_with(rt, [whole_route(rt)], rail(rt, 3, 0, 1_000, Side::R)),
     );
     // neither held nor gone
-    names(&rt, Table::Gone, forgotten);
-    names(&rt, Table::Gone, shorter);
+    names(rt, Table::Gone, forgotten);
+    names(rt, Table::Gone, shorter);
     // never entered
-    names(&rt, Table::Gone, never);
+    names(rt, Table::Gone, never);
 }
 
-#[test]
-fn edits_and_origins(rt: HostRuntime) {
-    let mut fewer = long_image(&rt);
+fn edits_and_origins(rt: &(impl Abort + Print + AllocGlobal)) {
+    let mut fewer = long_image(rt);
     fewer.edits.items.pop();
-    names(&rt, Table::Edit, fewer);
-    let mut image = long_image(&rt);
+    names(rt, Table::Edit, fewer);
+    let mut image = long_image(rt);
     if let Some(last) = image.assets.items.last_mut() {
         last.entered_by = 2;
     }
-    names(&rt, Table::Origin, image);
+    names(rt, Table::Origin, image);
+}
+
+#[test]
+fn the_image_and_its_neighbours(rt: HostRuntime) {
+    the_image_is_sound(&rt);
+    keys_of_rows(&rt);
+    courses(&rt);
+    names_of_referents(&rt);
+    spans(&rt);
+    entered_parts(&rt);
+    unbalanced_ledgers(&rt);
+    edits_and_origins(&rt);
 }

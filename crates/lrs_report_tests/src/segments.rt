@@ -145,59 +145,55 @@ fn strip_of(
     written
 }
 
-#[test]
-fn each_side_has_its_strip(rt: HostRuntime) {
-    let wanted = [name(&rt, b"SPEED")];
+fn each_side_has_its_strip(rt: &(impl Abort + Print + AllocGlobal)) {
+    let wanted = [name(rt, b"SPEED")];
     let left =
         "STRIP A1 L 8.000\n        FROM           TO        SPEED\n       0.000        8.000            -\n";
     for (side, text) in [(Side::R, RIGHT), (Side::L, left)] {
-        let found = segments_of(&rt, Kind::Exclusive, &wanted, side).expect(&rt, "segments");
-        let written = strip_of(&rt, &found, &wanted, side);
+        let found = segments_of(rt, Kind::Exclusive, &wanted, side).expect(rt, "segments");
+        let written = strip_of(rt, &found, &wanted, side);
         assert_eq!(rt; written.as_slice(), text.as_bytes());
     }
 }
 
-#[test]
-fn a_class_can_be_asked_for_twice_or_not_at_all(rt: HostRuntime) {
-    let speed = name(&rt, b"SPEED");
+fn a_class_can_be_asked_for_twice_or_not_at_all(rt: &(impl Abort + Print + AllocGlobal)) {
+    let speed = name(rt, b"SPEED");
     let twice = [speed, speed];
-    let found = segments_of(&rt, Kind::Exclusive, &twice, Side::R).expect(&rt, "segments");
-    let written = strip_of(&rt, &found, &twice, Side::R);
+    let found = segments_of(rt, Kind::Exclusive, &twice, Side::R).expect(rt, "segments");
+    let written = strip_of(rt, &found, &twice, Side::R);
     let text =
         "STRIP A1 R 8.000\n        FROM           TO        SPEED        SPEED\n       0.000        2.500            -            -\n       2.500        4.000           80           80\n       4.000        6.000            -            -\n       6.000        8.000           80           80\n";
     assert_eq!(rt; written.as_slice(), text.as_bytes());
-    let found = segments_of(&rt, Kind::Exclusive, &[], Side::R).expect(&rt, "segments");
-    let written = strip_of(&rt, &found, &[], Side::R);
+    let found = segments_of(rt, Kind::Exclusive, &[], Side::R).expect(rt, "segments");
+    let written = strip_of(rt, &found, &[], Side::R);
     let text = "STRIP A1 R 8.000\n        FROM           TO\n       0.000        8.000\n";
     assert_eq!(rt; written.as_slice(), text.as_bytes());
 }
 
-#[test]
-fn a_route_without_assets_has_one_segment(rt: HostRuntime) {
-    let speed = name(&rt, b"SPEED");
-    let classes = classes_of(&rt, speed, Kind::Exclusive);
+fn a_route_without_assets_has_one_segment(rt: &(impl Abort + Print + AllocGlobal)) {
+    let speed = name(rt, b"SPEED");
+    let classes = classes_of(rt, speed, Kind::Exclusive);
     let spans = Spans::empty(rt.alloc());
     let assets = Chunked::new(rt.alloc());
     let found = segments(
         rt.alloc(),
-        &route(&rt),
+        &route(rt),
         &spans,
         &assets,
         &classes,
         &[speed],
         Side::L,
     )
-    .expect(&rt, "segments");
-    let written = strip_of(&rt, &found, &[speed], Side::L);
+    .expect(rt, "segments");
+    let written = strip_of(rt, &found, &[speed], Side::L);
     let text =
         "STRIP A1 L 8.000\n        FROM           TO        SPEED\n       0.000        8.000            -\n";
     assert_eq!(rt; written.as_slice(), text.as_bytes());
 }
 
-#[test]
-fn tables_can_be_slices(rt: HostRuntime) {
-    let speed = name(&rt, b"SPEED");
-    let value = Value::new(b"80").expect(&rt, "a value");
+fn tables_can_be_slices(rt: &(impl Abort + Print + AllocGlobal)) {
+    let speed = name(rt, b"SPEED");
+    let value = Value::new(b"80").expect(rt, "a value");
     let classes = [Class {
         name: speed,
         kind: Kind::Exclusive,
@@ -209,19 +205,27 @@ fn tables_can_be_slices(rt: HostRuntime) {
         lateral: 0,
         entered_by: 1,
     }];
-    let found = segments_by_slices(&rt, speed, value, &assets, &classes).expect(&rt, "segments");
-    let written = strip_of(&rt, &found, &[speed], Side::R);
+    let found = segments_by_slices(rt, speed, value, &assets, &classes).expect(rt, "segments");
+    let written = strip_of(rt, &found, &[speed], Side::R);
     assert_eq!(rt; written.as_slice(), RIGHT.as_bytes());
 }
 
-#[test]
-fn faults_come_in_their_order(rt: HostRuntime) {
-    let speed = name(&rt, b"SPEED");
-    let width = name(&rt, b"WIDTH");
-    let unknown = segments_of(&rt, Kind::Stretch, &[speed, width], Side::B);
+fn faults_come_in_their_order(rt: &(impl Abort + Print + AllocGlobal)) {
+    let speed = name(rt, b"SPEED");
+    let width = name(rt, b"WIDTH");
+    let unknown = segments_of(rt, Kind::Stretch, &[speed, width], Side::B);
     assert_eq!(rt; unknown.err(), Some(SegFault::NoClass(1)));
-    let shared = segments_of(&rt, Kind::Stretch, &[speed], Side::B);
+    let shared = segments_of(rt, Kind::Stretch, &[speed], Side::B);
     assert_eq!(rt; shared.err(), Some(SegFault::NotExclusive(0)));
-    let both = segments_of(&rt, Kind::Exclusive, &[speed], Side::B);
+    let both = segments_of(rt, Kind::Exclusive, &[speed], Side::B);
     assert_eq!(rt; both.err(), Some(SegFault::SideB));
+}
+
+#[test]
+fn segments_and_strips(rt: HostRuntime) {
+    each_side_has_its_strip(&rt);
+    a_class_can_be_asked_for_twice_or_not_at_all(&rt);
+    a_route_without_assets_has_one_segment(&rt);
+    tables_can_be_slices(&rt);
+    faults_come_in_their_order(&rt);
 }

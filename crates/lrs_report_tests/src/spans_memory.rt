@@ -68,150 +68,154 @@ fn list_of(rt: &(impl Abort + AllocGlobal), spans: &Spans) -> Vec<Span>
     }
 }
 
-#[test]
-fn a_span_is_added(rt: HostRuntime) {
-    let mut spans = route(&rt);
-    are_the_rows(&rt, &spans);
-    let gap = row(&rt, 3, 4, 6);
+fn a_span_is_added(rt: &(impl Abort + Print + AllocGlobal)) {
+    let mut spans = route(rt);
+    are_the_rows(rt, &spans);
+    let gap = row(rt, 3, 4, 6);
     if calls::add(&mut spans, rt.alloc(), &gap).is_err() {
-        refused(&rt, "Spans::add");
-        are_the_rows(&rt, &spans);
-        let added = calls::add(&mut spans, rt.alloc(), &gap).expect(&rt, "memory");
+        refused(rt, "Spans::add");
+        are_the_rows(rt, &spans);
+        let added = calls::add(&mut spans, rt.alloc(), &gap).expect(rt, "memory");
         assert!(rt; added);
     }
     assert_eq!(rt; spans.rows().len(), 2);
 }
 
-#[test]
-fn a_stretch_is_cleared(rt: HostRuntime) {
-    let mut spans = route(&rt);
+fn a_stretch_is_cleared(rt: &(impl Abort + Print + AllocGlobal)) {
+    let mut spans = route(rt);
     if calls::remove_within(&mut spans, rt.alloc(), 3, 8).is_err() {
-        refused(&rt, "Spans::remove_within");
-        are_the_rows(&rt, &spans);
-        let removal = calls::remove_within(&mut spans, rt.alloc(), 3, 8).expect(&rt, "memory");
+        refused(rt, "Spans::remove_within");
+        are_the_rows(rt, &spans);
+        let removal = calls::remove_within(&mut spans, rt.alloc(), 3, 8).expect(rt, "memory");
         assert!(rt; removal.is_some());
     }
     assert_eq!(rt; spans.rows().len(), 4);
 }
 
-#[test]
-fn spans_are_cut(rt: HostRuntime) {
-    let mut spans = route(&rt);
+fn spans_are_cut(rt: &(impl Abort + Print + AllocGlobal)) {
+    let mut spans = route(rt);
     let (rear, _) = match spans.cut(rt.alloc(), 7) {
         Ok(cut) => cut,
         Err(_) => {
-            refused(&rt, "Spans::cut");
-            are_the_rows(&rt, &spans);
-            spans.cut(rt.alloc(), 7).expect(&rt, "memory")
+            refused(rt, "Spans::cut");
+            are_the_rows(rt, &spans);
+            spans.cut(rt.alloc(), 7).expect(rt, "memory")
         }
     };
     assert_eq!(rt; (spans.rows().len(), rear.rows().len()), (3, 2));
 }
 
-#[test]
-fn spans_are_joined(rt: HostRuntime) {
-    let mut spans = route(&rt);
-    let other = route(&rt);
+fn spans_are_joined(rt: &(impl Abort + Print + AllocGlobal)) {
+    let mut spans = route(rt);
+    let other = route(rt);
     if calls::concat(&mut spans, rt.alloc(), &other, 20).is_err() {
-        refused(&rt, "Spans::concat");
-        are_the_rows(&rt, &spans);
-        let joined = calls::concat(&mut spans, rt.alloc(), &other, 20).expect(&rt, "memory");
+        refused(rt, "Spans::concat");
+        are_the_rows(rt, &spans);
+        let joined = calls::concat(&mut spans, rt.alloc(), &other, 20).expect(rt, "memory");
         assert!(rt; joined);
     }
     assert_eq!(rt; spans.rows().len(), 5);
 }
 
-#[test]
-fn spans_are_turned(rt: HostRuntime) {
-    let spans = route(&rt);
+fn spans_are_turned(rt: &(impl Abort + Print + AllocGlobal)) {
+    let spans = route(rt);
     let turned = match calls::turned(&spans, rt.alloc(), 20) {
         Ok(turned) => turned,
         Err(_) => {
-            refused(&rt, "Spans::turned");
-            are_the_rows(&rt, &spans);
-            calls::turned(&spans, rt.alloc(), 20).expect(&rt, "memory")
+            refused(rt, "Spans::turned");
+            are_the_rows(rt, &spans);
+            calls::turned(&spans, rt.alloc(), 20).expect(rt, "memory")
         }
     };
-    let turned = turned.expect(&rt, "no row ends behind the route");
+    let turned = turned.expect(rt, "no row ends behind the route");
     assert_eq!(rt; turned.rows().len(), 3);
 }
 
-#[test]
-fn spans_are_copied(rt: HostRuntime) {
-    let spans = route(&rt);
+fn spans_are_copied(rt: &(impl Abort + Print + AllocGlobal)) {
+    let spans = route(rt);
     let copy = match spans.copy(rt.alloc()) {
         Ok(copy) => copy,
         Err(_) => {
-            refused(&rt, "Spans::copy");
-            are_the_rows(&rt, &spans);
-            spans.copy(rt.alloc()).expect(&rt, "memory")
+            refused(rt, "Spans::copy");
+            are_the_rows(rt, &spans);
+            spans.copy(rt.alloc()).expect(rt, "memory")
         }
     };
-    are_the_rows(&rt, &copy);
+    are_the_rows(rt, &copy);
 }
 
-#[test]
-fn spans_are_made_of_rows(rt: HostRuntime) {
-    let spans = route(&rt);
-    let list = list_of(&rt, &spans);
+fn spans_are_made_of_rows(rt: &(impl Abort + Print + AllocGlobal)) {
+    let spans = route(rt);
+    let list = list_of(rt, &spans);
     let made = match Spans::of_rows(rt.alloc(), list) {
         Ok(made) => made,
         Err(_) => {
-            refused(&rt, "Spans::of_rows");
-            calls::again(&spans, rt.alloc()).expect(&rt, "memory")
+            refused(rt, "Spans::of_rows");
+            calls::again(&spans, rt.alloc()).expect(rt, "memory")
         }
     };
-    are_the_rows(&rt, &made);
+    are_the_rows(rt, &made);
 }
 
-#[test]
-fn a_stretch_of_an_asset_is_cleared(rt: HostRuntime) {
-    let mut spans = route(&rt);
-    let class = class(&rt, b"SIGN");
+fn a_stretch_of_an_asset_is_cleared(rt: &(impl Abort + Print + AllocGlobal)) {
+    let mut spans = route(rt);
+    let class = class(rt, b"SIGN");
     if let Err(_) = spans.remove_asset_within(rt.alloc(), class, 3, 1, 8) {
-        refused(&rt, "Spans::remove_asset_within");
-        are_the_rows(&rt, &spans);
+        refused(rt, "Spans::remove_asset_within");
+        are_the_rows(rt, &spans);
         let again = spans.remove_asset_within(rt.alloc(), class, 3, 1, 8);
         assert!(rt; again.is_ok());
     }
     assert_eq!(rt; spans.rows().len(), 3);
 }
 
-#[test]
-fn a_side_of_a_class_is_cleared(rt: HostRuntime) {
-    let mut spans = route(&rt);
-    let class = class(&rt, b"SIGN");
+fn a_side_of_a_class_is_cleared(rt: &(impl Abort + Print + AllocGlobal)) {
+    let mut spans = route(rt);
+    let class = class(rt, b"SIGN");
     if let Err(_) = spans.remove_class_places(rt.alloc(), class, 1, 8, Side::L) {
-        refused(&rt, "Spans::remove_class_places");
-        are_the_rows(&rt, &spans);
+        refused(rt, "Spans::remove_class_places");
+        are_the_rows(rt, &spans);
         let again = spans.remove_class_places(rt.alloc(), class, 1, 8, Side::L);
         assert!(rt; again.is_ok());
     }
     assert_eq!(rt; spans.rows().len(), 6);
 }
 
-#[test]
-fn rows_over_a_millimetre_are_found(rt: HostRuntime) {
-    let spans = route(&rt);
+fn rows_over_a_millimetre_are_found(rt: &(impl Abort + Print + AllocGlobal)) {
+    let spans = route(rt);
     let found = match spans.at(rt.alloc(), 3) {
         Ok(found) => found,
         Err(_) => {
-            refused(&rt, "Spans::at");
-            spans.at(rt.alloc(), 3).expect(&rt, "memory")
+            refused(rt, "Spans::at");
+            spans.at(rt.alloc(), 3).expect(rt, "memory")
         }
     };
     assert_eq!(rt; found.len(), 2);
 }
 
-#[test]
-fn rows_of_a_stretch_are_found(rt: HostRuntime) {
-    let spans = route(&rt);
+fn rows_of_a_stretch_are_found(rt: &(impl Abort + Print + AllocGlobal)) {
+    let spans = route(rt);
     let found = match spans.met(rt.alloc(), 3, 7) {
         Ok(found) => found,
         Err(_) => {
-            refused(&rt, "Spans::met");
-            spans.met(rt.alloc(), 3, 7).expect(&rt, "memory")
+            refused(rt, "Spans::met");
+            spans.met(rt.alloc(), 3, 7).expect(rt, "memory")
         }
     };
     assert_eq!(rt; found.len(), 3);
+}
+
+#[test]
+fn each_call_bears_a_refused_growth(rt: HostRuntime) {
+    a_span_is_added(&rt);
+    a_stretch_is_cleared(&rt);
+    spans_are_cut(&rt);
+    spans_are_joined(&rt);
+    spans_are_turned(&rt);
+    spans_are_copied(&rt);
+    spans_are_made_of_rows(&rt);
+    a_stretch_of_an_asset_is_cleared(&rt);
+    a_side_of_a_class_is_cleared(&rt);
+    rows_over_a_millimetre_are_found(&rt);
+    rows_of_a_stretch_are_found(&rt);
 }

@@ -4,6 +4,8 @@ ghost use Rattle.std.specs.Prelude.{◌≡◌, ◌⊎◌, IfOk, IfSome, Err, tru
 ghost use Rattle.lrs_web_requests.specs.Request.{Asked, IsServed, asked_by};
 ghost use Rattle.lrs_web_requests.specs.Text.{Answer, answer_of, empty_answer};
 ghost use Rattle.lrs_web_replies.specs.Answered.{AnswersAsked};
+ghost use Rattle.lrs_web_replies.specs.Replies.{log_answer};
+ghost use Rattle.lrs_web_requests.specs.declared.paths.Resource.TheVariants as path;
 ghost use Rattle.lrs_web_requests.specs.Request.{verb_of};
 ghost use Rattle.lrs_web_requests.specs.declared.response.Verb.TheVariants.{Get};
 ghost use Rattle.lrs_web.specs.Serving.{Does, Responds, Serves, Writes, allowed_answer, sheet_at};
@@ -12,7 +14,7 @@ use crate::sheet::do_sheet;
 use http::StatusCode;
 use lrs_desk::{Desk, Keeper};
 use lrs_sheet::Sheet;
-use lrs_web_replies::{question_of, reply_to, unasked};
+use lrs_web_replies::{log_from, log_reply, question_of, reply_to, unasked};
 use lrs_web_requests::{
     BodyFault, Request, Resource, Response, Verb, receive, routes, write_reply, write_unavailable,
 };
@@ -41,6 +43,7 @@ fn sheet_of(resource: Resource) -> Sheet
         | Resource::Diagram
         | Resource::Routes
         | Resource::Find
+        | Resource::Log
         | Resource::Edits => Sheet::Edits,
     }
 }
@@ -56,6 +59,50 @@ fn allowed_reply(verb: Verb) -> Response
 }
 
 #[tactic(auto, using(crate::proofs::Asking::answered, crate::proofs::Asking::refused))]
+fn question_reply<K: Keeper>(
+    alloc: Global,
+    resource: Resource,
+    argument: &[u8],
+    desk: &Desk<K>,
+) -> Result<Response, AllocError>
+    requires verb { verb_of resource ≡ Get }
+    requires question { resource ≡ path.Log → ⊥ }
+    requires behind { desk.now.is_ahead ≡ false }
+    ensures { IfOk result (λ reply. AnswersAsked desk.now.image resource argument.now
+        (answer_of reply)) }
+{
+    match question_of(alloc, resource, argument) {
+        Ok(question) => reply_to(alloc, desk.ask(question)),
+        Err(fault) => unasked(alloc, fault),
+    }
+}
+
+fn desk_log_reply<K: Keeper>(
+    alloc: Global,
+    from: u64,
+    desk: &Desk<K>,
+) -> Result<Response, AllocError>
+    ensures { IfOk result (λ reply. answer_of reply ≡ log_answer from desk.now.image) }
+{
+    log_reply(alloc, desk.inventory().kept(), from)
+}
+
+#[tactic(auto, using(crate::proofs::Asking::logged, crate::proofs::Asking::refused))]
+fn log_query_reply<K: Keeper>(
+    alloc: Global,
+    argument: &[u8],
+    desk: &Desk<K>,
+) -> Result<Response, AllocError>
+    ensures { IfOk result (λ reply. AnswersAsked desk.now.image path.Log argument.now
+        (answer_of reply)) }
+{
+    match log_from(alloc, argument) {
+        Ok(from) => desk_log_reply(alloc, from, desk),
+        Err(fault) => unasked(alloc, fault),
+    }
+}
+
+/// The reply to a question, or with the log.
 fn asked_reply<K: Keeper>(
     alloc: Global,
     resource: Resource,
@@ -67,14 +114,14 @@ fn asked_reply<K: Keeper>(
     ensures { IfOk result (λ reply. AnswersAsked desk.now.image resource argument.now
         (answer_of reply)) }
 {
-    match question_of(alloc, resource, argument) {
-        Ok(question) => reply_to(alloc, desk.ask(question)),
-        Err(fault) => unasked(alloc, fault),
+    match resource {
+        Resource::Log => log_query_reply(alloc, argument, desk),
+        _ => question_reply(alloc, resource, argument, desk),
     }
 }
 
-// Once a commit of several commands has failed, nothing is answered: not even that a question cannot be read.
-fn question_reply<K: Keeper>(
+// Once a commit of several commands has failed, nothing is answered: not even that a parameter cannot be read.
+fn query_reply<K: Keeper>(
     alloc: Global,
     resource: Resource,
     argument: &[u8],
@@ -103,7 +150,7 @@ fn do_task<K: Keeper>(alloc: Global, task: &Request, desk: &mut Desk<K>) -> Resp
         Request::Refused(status) => Response::empty(*status),
         Request::NotAllowed(verb) => allowed_reply(*verb),
         Request::Query(resource, argument) => {
-            question_reply(alloc, *resource, argument.as_slice(), desk)
+            query_reply(alloc, *resource, argument.as_slice(), desk)
         }
         Request::Sheet(resource, resumes, bytes) => {
             do_sheet(alloc, sheet_of(*resource), *resumes, bytes.as_slice(), desk)

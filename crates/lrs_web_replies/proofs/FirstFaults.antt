@@ -1,12 +1,12 @@
 -- Which parameter is the first malformed one.
-use Rattle.std.proofs.Common.{ℕ, List, [], ◌∷◌, Option, refl, sym, subst, inl, inr}
+use Rattle.std.proofs.Common.{ℕ, List, [], ◌∷◌, Option, Result, Ok, Err, IfErr, refl, sym, subst, inl, inr}
 use Rattle.std.specs.Prelude.{⊤}
 use Rattle.lrs_measure.specs.Texts.{Name}
 use Rattle.lrs_position.specs.declared.expression.Expr.{Expr}
 use Rattle.lrs_events.specs.declared.side.Side.{Side as HandSide}
 use Rattle.lrs_web_requests.specs.declared.paths.Resource.TheVariants as path
 use Rattle.lrs_web_replies.specs.declared.question.Parameter.{Parameter}
-use Rattle.lrs_web_replies.specs.declared.question.Parameter.TheVariants.{Route, Method, Position, To, Side, Class, ClassesOrAll, From, UpTo, Asset}
+use Rattle.lrs_web_replies.specs.declared.question.Parameter.TheVariants.{Route, Method, Position, To, Side, Class, ClassesOrAll, From, UpTo, Asset, FirstEdit}
 use Rattle.lrs_web_replies.specs.declared.question.QueryFault.{QueryFault}
 use Rattle.lrs_web_replies.specs.declared.question.QueryFault.TheVariants.{Malformed, NoRoute, Memory}
 use Rattle.lrs_web_replies.specs.Faults.{Lacks, LacksPosition}
@@ -55,6 +55,11 @@ find : (query : Text) (e : QueryFault) → FaultAmong query (Asset ∷ []) e →
 find query (Malformed p) among = among
 find query NoRoute among = among
 find query Memory among = tt
+
+log : (query : Text) (e : QueryFault) → FaultAmong query (FirstEdit ∷ []) e → CannotAsk path.Log query e
+log query (Malformed p) among = among
+log query NoRoute among = among
+log query Memory among = tt
 
 pub at_route : (query : Text) (e : QueryFault) → Lacks Route query e → CannotAsk path.At query e
 at_route query e lacks = at query e (first query Route (Method ∷ Position ∷ []) e lacks)
@@ -109,3 +114,7 @@ diagram_to query e route classes from given named began lacks =
 
 pub find_asset : (query : Text) (e : QueryFault) → Lacks Asset query e → CannotAsk path.Find query e
 find_asset query e lacks = find query e (first query Asset [] e lacks)
+
+pub log_edit : (query : Text) (from : Result ℕ QueryFault) → IfErr from (Lacks FirstEdit query) → IfErr from (CannotAsk path.Log query)
+log_edit query (Ok number) lacks = tt
+log_edit query (Err e) lacks = log query e (first query FirstEdit [] e lacks)

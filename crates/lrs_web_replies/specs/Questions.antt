@@ -2,7 +2,7 @@
 use Rattle.std.specs.Prelude.{◌≡◌, ⊤, ◌⊎◌, ℕ, ◌≤◌, IsTrue, Bool, false, List, [], ◌∷◌, codes, Option, None, Some}
 use Rattle.std.specs.List.{list_all}
 use Rattle.std.specs.Str.Parse.{IsNumeral, digits_value}
-use Rattle.lrs_measure.specs.Limits.{greatest_asset, longest_route}
+use Rattle.lrs_measure.specs.Limits.{greatest_asset, longest_route, most_edits}
 use Rattle.lrs_measure.specs.Texts.{Name}
 use Rattle.lrs_position.specs.declared.expression.Expr.{Expr}
 use Rattle.lrs_position.specs.declared.expression.Method.{Method}
@@ -16,7 +16,7 @@ use Rattle.lrs_web_requests.specs.declared.paths.Resource.TheVariants as path
 use Rattle.lrs_machine.specs.declared.question.Destination.{Destination}
 use Rattle.lrs_machine.specs.declared.question.Destination.TheVariants as destination
 use Rattle.lrs_web_replies.specs.declared.question.Parameter.{Parameter}
-use Rattle.lrs_web_replies.specs.declared.question.Parameter.TheVariants.{Route, Method as Way, Position, To, Side as Hand, Class, ClassesOrAll, From, UpTo, Asset}
+use Rattle.lrs_web_replies.specs.declared.question.Parameter.TheVariants.{Route, Method as Way, Position, To, Side as Hand, Class, ClassesOrAll, From, UpTo, Asset, FirstEdit}
 use Rattle.lrs_machine.specs.declared.question.Question.{Question}
 use Rattle.lrs_machine.specs.declared.question.Question.TheVariants as question
 use Rattle.lrs_web_replies.specs.declared.question.QueryFault.{QueryFault}
@@ -54,6 +54,10 @@ SaysAsset = SaysNumber 1 greatest_asset
 -- whole millimetres along a route
 abbrev pub SaysChainage : Text → ℕ → Type 0
 SaysChainage = SaysNumber 0 longest_route
+
+-- the number of an edit
+abbrev pub SaysEdit : Text → ℕ → Type 0
+SaysEdit = SaysNumber 1 most_edits
 
 -- one name at least, and each the name of a class
 abbrev pub are_class_names : List Text → Bool
@@ -114,6 +118,14 @@ GivesUpTo = GivesChainage (codes "to")
 abbrev pub GivesAsset : Text → ℕ → Type 0
 GivesAsset query = Said SaysAsset (parameter (codes "asset") query)
 
+-- the text says the number of the edit, and where there is no text it is the first
+abbrev pub SaidOrFirst : Option Text → ℕ → Type 0
+SaidOrFirst None number = number ≡ 1
+SaidOrFirst (Some text) number = SaysEdit text number
+
+abbrev pub GivesFirstEdit : Text → ℕ → Type 0
+GivesFirstEdit query = SaidOrFirst (parameter (codes "from") query)
+
 -- ---- what is asked
 
 -- What a resource is asked by this argument: a route by its name, any other by the parameters of its query.
@@ -129,6 +141,11 @@ AsksOf path.Routes query question.Routes = ⊤
 AsksOf path.Find query (question.Find asset) = GivesAsset query asset
 AsksOf _ argument q = ⊥
 
+-- A resource is asked for the log from this edit on.
+abbrev pub AsksLog : Resource → Text → ℕ → Type 0
+AsksLog path.Log query from = GivesFirstEdit query from
+AsksLog _ argument from = ⊥
+
 -- ---- what cannot be asked
 
 -- the parameters of each path, in the order in which they are read
@@ -138,6 +155,7 @@ parameters_of path.Segments = Route ∷ Hand ∷ Class ∷ []
 parameters_of path.Translate = Route ∷ Way ∷ Position ∷ To ∷ []
 parameters_of path.Diagram = Route ∷ ClassesOrAll ∷ From ∷ UpTo ∷ []
 parameters_of path.Find = Asset ∷ []
+parameters_of path.Log = FirstEdit ∷ []
 parameters_of _ = []
 
 abbrev pub parameter_text : Parameter → Text
@@ -151,6 +169,7 @@ parameter_text ClassesOrAll = codes "class"
 parameter_text From = codes "from"
 parameter_text UpTo = codes "to"
 parameter_text Asset = codes "asset"
+parameter_text FirstEdit = codes "from"
 
 -- the parameter is there, or may be left out, and can be read
 abbrev pub IsGiven : Text → Parameter → Type 0
@@ -164,6 +183,7 @@ IsGiven query ClassesOrAll = (classes : List Name) × GivesClassesOrAll query cl
 IsGiven query From = (from : Option ℕ) × GivesFrom query from
 IsGiven query UpTo = (to : Option ℕ) × GivesUpTo query to
 IsGiven query Asset = (asset : ℕ) × GivesAsset query asset
+IsGiven query FirstEdit = (from : ℕ) × GivesFirstEdit query from
 
 -- the first of these that is not
 abbrev pub IsFirstMalformed : Text → List Parameter → Parameter → Type 0

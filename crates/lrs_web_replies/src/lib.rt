@@ -1,4 +1,4 @@
-//! Questions over HTTP: asked by the parameters of a query, and answered as JSON (RFC 8259).
+//! Questions over HTTP, asked by the parameters of a query and answered as JSON (RFC 8259) or SVG; and the log, as CSV.
 #![tactic(auto)]
 
 mod answers;
@@ -9,6 +9,6 @@ mod question;
 mod replies;
 mod reply;
 
-pub use question::{Parameter, QueryFault, question_of};
-pub use replies::reply_to;
+pub use question::{Parameter, QueryFault, log_from, question_of};
+pub use replies::{log_reply, reply_to};
 pub use reply::unasked;

@@ -5,13 +5,13 @@ ghost use Rattle.std.specs.List.{list_all};
 ghost use Rattle.std.specs.Cow.{cow_str_bytes};
 ghost use Rattle.lrs_events.specs.Names.{is_class_name};
 ghost use Rattle.lrs_position.specs.declared.expression.Expr.{Expr as Expression};
-ghost use Rattle.lrs_web_replies.specs.Questions.{SaysDestination, SaysNumber, GivesAsset, GivesChainage, GivesClasses, GivesClassesOrAll, GivesDestination, GivesFrom, GivesMethod, GivesPosition, GivesPositionBy, GivesRoute, GivesSide, GivesUpTo};
+ghost use Rattle.lrs_web_replies.specs.Questions.{SaysDestination, SaysNumber, GivesAsset, GivesChainage, GivesClasses, GivesClassesOrAll, GivesDestination, GivesFirstEdit, GivesFrom, GivesMethod, GivesPosition, GivesPositionBy, GivesRoute, GivesSide, GivesUpTo};
 ghost use Rattle.lrs_web_replies.specs.Faults.{Lacks, LacksPosition};
 
 use crate::question::{Parameter, QueryFault};
 use lrs_events::{ClassName, Side, read_side};
 use lrs_machine::Destination;
-use lrs_measure::limits::{GREATEST_ASSET, LONGEST_ROUTE};
+use lrs_measure::limits::{GREATEST_ASSET, LONGEST_ROUTE, MOST_EDITS};
 use lrs_measure::{Rows, read_digits};
 use lrs_position::{Expr, Method, RouteName, read_expr, read_method, read_target};
 use lrs_web_requests::{value_of, values_of};
@@ -37,6 +37,8 @@ const NO_FROM: QueryFault = QueryFault::Malformed(Parameter::From);
 const NO_UP_TO: QueryFault = QueryFault::Malformed(Parameter::UpTo);
 
 const NO_ASSET: QueryFault = QueryFault::Malformed(Parameter::Asset);
+
+const NO_EDIT: QueryFault = QueryFault::Malformed(Parameter::FirstEdit);
 
 pub(crate) fn route_in(alloc: Global, query: &[u8]) -> Result<RouteName, QueryFault>
     ensures read { IfOk result (GivesRoute query.now) }
@@ -189,6 +191,20 @@ pub(crate) fn asset_in(alloc: Global, query: &[u8]) -> Result<u64, QueryFault>
             None => Err(NO_ASSET),
         },
         None => Err(NO_ASSET),
+    }
+}
+
+/// The first edit of the log that is asked for.
+pub(crate) fn first_edit_in(alloc: Global, query: &[u8]) -> Result<u64, QueryFault>
+    ensures read { IfOk result (GivesFirstEdit query.now) }
+    ensures unread { IfErr result (Lacks Parameter.FirstEdit query.now) }
+{
+    match value_of(alloc, query, "from")? {
+        Some(text) => match read_number(text.as_str(), 1, MOST_EDITS as u64) {
+            Some(number) => Ok(number),
+            None => Err(NO_EDIT),
+        },
+        None => Ok(1),
     }
 }
 

@@ -1,13 +1,14 @@
-//! How questions are asked by the parameters of a query.
+//! How questions, and the log, are asked for by the parameters of a query.
 
 ghost use Rattle.std.specs.Prelude.{◌≡◌, IfOk, IfErr};
 ghost use Rattle.lrs_web_requests.specs.declared.response.Verb.TheVariants as verb;
+ghost use Rattle.lrs_web_requests.specs.declared.paths.Resource.TheVariants as path;
 ghost use Rattle.lrs_web_requests.specs.Request.{verb_of};
-ghost use Rattle.lrs_web_replies.specs.Questions.{AsksOf, CannotAsk, parameter_text};
+ghost use Rattle.lrs_web_replies.specs.Questions.{AsksLog, AsksOf, CannotAsk, parameter_text};
 
 use crate::parameters::{
-    asset_in, classes_in, classes_or_all_in, destination_in, from_in, position_in, route_in,
-    side_in, to_in,
+    asset_in, classes_in, classes_or_all_in, destination_in, first_edit_in, from_in, position_in,
+    route_in, side_in, to_in,
 };
 use lrs_machine::Question;
 use lrs_position::RouteName;
@@ -31,6 +32,8 @@ pub enum Parameter {
     /// Where a diagram ends. Its name is `to`, as that of `To`.
     UpTo,
     Asset,
+    /// The first edit of the log, which may be left out for the very first. Its name is `from`, as that of `From`.
+    FirstEdit,
 }
 
 impl Parameter {
@@ -45,7 +48,7 @@ impl Parameter {
             Parameter::To | Parameter::UpTo => "to",
             Parameter::Side => "side",
             Parameter::Class | Parameter::ClassesOrAll => "class",
-            Parameter::From => "from",
+            Parameter::From | Parameter::FirstEdit => "from",
             Parameter::Asset => "asset",
         }
     }
@@ -169,7 +172,8 @@ pub fn question_of(
     resource: Resource,
     argument: &[u8],
 ) -> Result<Question, QueryFault>
-    requires { verb_of resource ≡ verb.Get }
+    requires verb { verb_of resource ≡ verb.Get }
+    requires question { resource ≡ path.Log → ⊥ }
     ensures asked { IfOk result (AsksOf resource argument.now) }
     ensures unasked { IfErr result (CannotAsk resource argument.now) }
 {
@@ -182,6 +186,19 @@ pub fn question_of(
         Resource::Diagram => diagram_question(alloc, argument),
         Resource::Routes => Ok(Question::Routes),
         Resource::Find => find_question(alloc, argument),
-        Resource::Edits | Resource::Surveys => unreachable!(),
+        Resource::Log | Resource::Edits | Resource::Surveys => unreachable!(),
     }
+}
+
+/// From which edit on the log is asked for by the parameters of a query: from the first, where it is not said. Unknown
+/// parameters are passed over; of several of one name the first counts.
+///
+/// # Errors
+/// `Malformed` where the number of the edit cannot be read, and `Memory`.
+#[tactic(auto, using(crate::proofs::FirstFaults::log_edit))]
+pub fn log_from(alloc: Global, query: &[u8]) -> Result<u64, QueryFault>
+    ensures asked { IfOk result (AsksLog path.Log query.now) }
+    ensures unasked { IfErr result (CannotAsk path.Log query.now) }
+{
+    first_edit_in(alloc, query)
 }

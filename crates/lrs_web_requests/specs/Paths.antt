@@ -1,14 +1,14 @@
--- Which resource a path names: nine paths stand for themselves, and the path of a route ends in the route's name.
+-- Which resource a path names: ten paths stand for themselves, and the path of a route ends in the route's name.
 use Rattle.std.specs.Prelude.{◌≡◌, ◌≢◌, ◌⊎◌, ◌↔◌, ℕ, List, [], ◌∷◌, ◌++◌, codes, None, Some, Contains}
 use Rattle.lrs_web_requests.specs.declared.paths.Resource.{Resource}
-use Rattle.lrs_web_requests.specs.declared.paths.Resource.TheVariants.{At, Route, Segments, Totals, Translate, Diagram, Routes, Find, Edits, Surveys}
+use Rattle.lrs_web_requests.specs.declared.paths.Resource.TheVariants.{At, Route, Segments, Totals, Translate, Diagram, Routes, Find, Log, Edits, Surveys}
 use Rattle.lrs_web_requests.specs.Routes.{resource_at}
 
 -- the paths that stand for themselves
 abbrev pub literal_paths : List (List ℕ × Resource)
 literal_paths =
     (codes "/v1/at", At) ∷ (codes "/v1/diagram", Diagram) ∷ (codes "/v1/edits", Edits) ∷ (codes "/v1/find", Find)
-    ∷ (codes "/v1/routes", Routes) ∷ (codes "/v1/segments", Segments) ∷ (codes "/v1/surveys", Surveys)
+    ∷ (codes "/v1/log", Log) ∷ (codes "/v1/routes", Routes) ∷ (codes "/v1/segments", Segments) ∷ (codes "/v1/surveys", Surveys)
     ∷ (codes "/v1/totals", Totals) ∷ (codes "/v1/translate", Translate) ∷ []
 
 -- the code of a slash

@@ -11,7 +11,7 @@ use Rattle.lrs_web_requests.specs.declared.response.Verb.{Verb}
 use Rattle.lrs_web_requests.specs.declared.response.Verb.TheVariants.{Get, Post}
 use Rattle.lrs_web_requests.specs.Text.{method_name}
 use Rattle.lrs_web_requests.specs.declared.paths.Resource.{Resource}
-use Rattle.lrs_web_requests.specs.declared.paths.Resource.TheVariants.{At, Route, Segments, Totals, Translate, Diagram, Routes, Find, Edits, Surveys}
+use Rattle.lrs_web_requests.specs.declared.paths.Resource.TheVariants.{At, Route, Segments, Totals, Translate, Diagram, Routes, Find, Log, Edits, Surveys}
 use Rattle.lrs_web_requests.specs.Routes.{resource_at}
 use Rattle.lrs_web_requests.specs.declared.request.Request.{Request}
 use Rattle.lrs_web_requests.specs.declared.request.Request.TheVariants as task
@@ -59,6 +59,7 @@ verb_of Translate = Get
 verb_of Diagram = Get
 verb_of Routes = Get
 verb_of Find = Get
+verb_of Log = Get
 verb_of Edits = Post
 verb_of Surveys = Post
 

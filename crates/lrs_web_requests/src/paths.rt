@@ -17,6 +17,7 @@ pub enum Resource {
     Diagram,
     Routes,
     Find,
+    Log,
     Edits,
     Surveys,
 }
@@ -34,6 +35,7 @@ pub fn routes(alloc: Global) -> Result<Router<Resource>, InsertError>
     router.insert("/v1/diagram", Resource::Diagram)?;
     router.insert("/v1/routes", Resource::Routes)?;
     router.insert("/v1/find", Resource::Find)?;
+    router.insert("/v1/log", Resource::Log)?;
     router.insert("/v1/edits", Resource::Edits)?;
     router.insert("/v1/surveys", Resource::Surveys)?;
     Ok(router)

@@ -51,7 +51,8 @@ fn verb_for(resource: Resource) -> Verb
         | Resource::Translate
         | Resource::Diagram
         | Resource::Routes
-        | Resource::Find => Verb::Get,
+        | Resource::Find
+        | Resource::Log => Verb::Get,
         Resource::Edits | Resource::Surveys => Verb::Post,
     }
 }
@@ -92,6 +93,7 @@ fn argument(resource: Resource, target: &str) -> &[u8]
         | Resource::Diagram
         | Resource::Routes
         | Resource::Find
+        | Resource::Log
         | Resource::Edits
         | Resource::Surveys => query.as_bytes(),
     }

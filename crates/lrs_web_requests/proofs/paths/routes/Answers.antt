@@ -15,4 +15,5 @@ returns c =
     let i = c.in_ok-insert-8.ensures in
     let j = c.in_ok-insert-9.ensures in
     let k = c.in_ok-insert-10.ensures in
-    rw (k.1, j.1, i.1, h.1, g.1, f.1, e.1, d.1, b.1, a.1, c.new-router.ensures)
+    let l = c.in_ok-insert-11.ensures in
+    rw (l.1, k.1, j.1, i.1, h.1, g.1, f.1, e.1, d.1, b.1, a.1, c.new-router.ensures)

@@ -1,0 +1,5 @@
+pub mod AdviceLines
+pub mod Refusals
+pub mod Columns
+pub mod Slots
+pub mod Summary

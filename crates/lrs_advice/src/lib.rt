@@ -1,0 +1,29 @@
+//! Advice about a sheet: for each record that is refused, a line for people that says where it is, what is wrong with it
+//! and what to do about it.
+//!
+//! The sentences stand in three tables: `sentence` for causes, `wanted` for fields, `flaw` for what was found.
+#![tactic(auto)]
+
+mod advice;
+mod cause;
+mod column;
+mod fault;
+mod flaw;
+mod item;
+mod line;
+mod malformed;
+mod place;
+mod records;
+mod refused;
+mod reply;
+mod sentence;
+mod slot;
+mod summary;
+mod verb;
+mod wanted;
+mod whole;
+
+pub use advice::write_advice;
+pub use fault::AdviceFault;
+pub use summary::write_summary;
+pub use whole::{SheetFlaw, write_fault_advice};

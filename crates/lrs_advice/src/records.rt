@@ -1,0 +1,123 @@
+//! The records of a sheet while its replies are gone through, one record a reply.
+
+use crate::fault::AdviceFault;
+use crate::place::Place;
+use crate::verb::{Verb, read_verb};
+use csv::{ByteRecord, ErrorKind, Reader, ReaderBuilder};
+use lrs_machine::Field;
+use lrs_position::{Method, read_method};
+use lrs_sheet_records::{Sheet, SheetRecord, text_at};
+use std::alloc::Global;
+
+/// A reader of the records of a sheet.
+pub(crate) fn open(alloc: Global, sheet: &[u8]) -> Reader<&[u8]> {
+    ReaderBuilder::new()
+        .has_headers(false)
+        .from_reader(alloc, sheet)
+}
+
+/// The records of a sheet, at one of them.
+#[derive(Drop)]
+pub(crate) struct Records<'a> {
+    kind: Sheet,
+    rows: Reader<&'a [u8]>,
+    row: ByteRecord,
+    is_found: bool,
+    place: Place<'a>,
+}
+
+impl<'a> Records<'a> {
+    /// The records of a sheet, before the first behind its header.
+    pub(crate) fn new(
+        alloc: Global,
+        kind: Sheet,
+        sheet: &'a [u8],
+    ) -> Result<Records<'a>, AdviceFault> {
+        let mut records = Records {
+            kind,
+            rows: open(alloc, sheet),
+            row: ByteRecord::new(alloc),
+            is_found: false,
+            place: Place::start(sheet),
+        };
+        records.go_on()?;
+        Ok(records)
+    }
+
+    /// Goes on to the next record.
+    pub(crate) fn go_on(&mut self) -> Result<(), AdviceFault> {
+        match self.rows.read_byte_record(&mut self.row) {
+            Ok(is_found) => {
+                self.is_found = is_found;
+                Ok(())
+            }
+            Err(error) => match error.into_kind() {
+                ErrorKind::OutOfMemory => Err(AdviceFault::Memory),
+                _ => {
+                    self.is_found = false;
+                    Ok(())
+                }
+            },
+        }
+    }
+
+    /// Which kind the sheet is.
+    pub(crate) fn kind(&self) -> Sheet {
+        self.kind
+    }
+
+    /// The line on which the record starts, where there is a record.
+    pub(crate) fn line(&mut self) -> Option<usize> {
+        if !self.is_found {
+            return None;
+        }
+        let bytes = match self.row.position() {
+            Some(position) => position.byte,
+            None => return None,
+        };
+        self.place = self.place.record_from(bytes);
+        Some(self.place.line)
+    }
+
+    /// The text at a place of the record, as an edit sheet has it.
+    fn text(&self, place: usize) -> &[u8] {
+        if !self.is_found {
+            return b"";
+        }
+        let record = SheetRecord {
+            fields: &self.row,
+            sheet: self.kind,
+        };
+        text_at(&record, place)
+    }
+
+    /// The text of a field.
+    pub(crate) fn text_of(&self, field: Field) -> &[u8] {
+        match field {
+            Field::Key => self.text(0),
+            Field::Verb => self.text(1),
+            Field::A => self.text(2),
+            Field::B => self.text(3),
+            Field::C => self.text(4),
+            Field::D => self.text(5),
+            Field::E => self.text(6),
+            Field::F => self.text(7),
+            Field::G => self.text(8),
+            Field::H => self.text(9),
+            Field::I => self.text(10),
+        }
+    }
+
+    /// The verb of the record. A record of a survey enters an asset.
+    pub(crate) fn verb(&self) -> Option<Verb> {
+        match self.kind {
+            Sheet::Survey => Some(Verb::Enter),
+            Sheet::Edits => read_verb(self.text(1)),
+        }
+    }
+
+    /// The method that a field of the record names.
+    pub(crate) fn method_in(&self, field: Field) -> Option<Method> {
+        read_method(self.text_of(field))
+    }
+}

@@ -1,0 +1,72 @@
+//! What is wanted in a field, in words: one table for all fields.
+
+use crate::slot::Slot;
+use lrs_position::Method;
+
+/// What is wanted of a position by this method, or by none that is known.
+fn wanted_position(method: Option<Method>) -> &'static str {
+    match method {
+        Some(Method::Abs) => "a measure is wanted, a whole number from 0 to 100000000000",
+        Some(Method::Rel) => {
+            "a referent, + or -, and a whole number of millimetres are wanted, as KM2+500"
+        }
+        Some(Method::Int) => {
+            "a part of the route's length is wanted, as 1/3: two whole numbers up to 1000000, the first not above the second"
+        }
+        None => "a position by the method in this record is wanted",
+    }
+}
+
+/// What is wanted of an end, which a point does not have.
+fn wanted_end(method: Option<Method>) -> &'static str {
+    match method {
+        Some(Method::Abs) => {
+            "a measure is wanted, a whole number from 0 to 100000000000, and nothing for a point"
+        }
+        Some(Method::Rel) => {
+            "a referent, + or -, and a whole number of millimetres are wanted, as KM2+500, and nothing for a point"
+        }
+        Some(Method::Int) => {
+            "a part of the route's length is wanted, as 1/3: two whole numbers up to 1000000, the first not above the second; and nothing for a point"
+        }
+        None => "a position by the method in this record is wanted, and nothing for a point",
+    }
+}
+
+/// What is wanted in a field. The method is that of the record's positions, where it is known.
+pub(crate) fn wanted(slot: Slot, method: Option<Method>) -> &'static str {
+    match slot {
+        Slot::Key => "1 to 40 of A-Z, a-z, 0-9, ., :, _ and - are wanted, and not - alone",
+        Slot::VerbName => {
+            "one of link, class, route, ref, unref, enter, retire, split, join, renumber, recalibrate, realign, close, supersede and turn is wanted"
+        }
+        Slot::LinkNumber => "a whole number from 1 to 999999 is wanted",
+        Slot::LinkLength => "a whole number of millimetres from 1 to 1000000000 is wanted",
+        Slot::ClassName => "1 to 8 of A-Z and 0-9 are wanted",
+        Slot::ClassKind => "point, stretch or exclusive is wanted",
+        Slot::Route | Slot::NewName | Slot::SecondRoute => {
+            "1 to 12 of A-Z, 0-9 and - are wanted, the first not -"
+        }
+        Slot::Pieces => {
+            "pieces LINK:FROM:TO:+ or LINK:FROM:TO:- are wanted with one space between two, at most 1000, as 7:0:5000:+ 8:0:300:-"
+        }
+        Slot::SomePieces => {
+            "pieces LINK:FROM:TO:+ or LINK:FROM:TO:- are wanted with one space between two, at most 1000, as 7:0:5000:+ 8:0:300:-; or nothing"
+        }
+        Slot::Marks => {
+            "marks CHAINAGE:MEASURE are wanted with one space between two, 2 to 1000 of them, as 0:0 5000:6000"
+        }
+        Slot::Referent => "1 to 12 of A-Z and 0-9 are wanted",
+        Slot::Asset => "a whole number from 1 to 1000000000000 is wanted",
+        Slot::RouteSide => "L, R or B is wanted",
+        Slot::MethodName => "abs, rel or int is wanted",
+        Slot::At(_) | Slot::From(_) => wanted_position(method),
+        Slot::To(_) => wanted_end(method),
+        Slot::Value => "1 to 12 of A-Z, a-z, 0-9, ., _ and - are wanted, and not - alone",
+        Slot::Offset => "a whole number of millimetres from 0 to 100000 is wanted",
+        Slot::Chainage | Slot::ChainageStart | Slot::ChainageEnd => {
+            "a whole number of millimetres from 0 to 10000000000 is wanted"
+        }
+        Slot::Unused => "this verb has no such field: leave it empty",
+    }
+}

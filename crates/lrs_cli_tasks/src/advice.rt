@@ -1,0 +1,58 @@
+//! What is said on standard error about a sheet that was tried.
+
+use lrs_advice::{AdviceFault, SheetFlaw, write_advice, write_fault_advice, write_summary};
+use lrs_sheet::{Sheet, SheetFault, Tally};
+use std::alloc::{AllocError, Global};
+use std::rt::Runtime;
+
+/// A sheet that was tried behind its first records: its bytes, the lines of the replies, and how it ended.
+#[derive(Drop)]
+pub(crate) struct Trial<'a> {
+    pub(crate) kind: Sheet,
+    pub(crate) text: &'a [u8],
+    pub(crate) passed: u32,
+    pub(crate) replies: &'a [u8],
+    pub(crate) outcome: Result<Tally, SheetFault>,
+}
+
+// A line for each record: an empty one where it was passed over.
+fn lines_of(alloc: Global, trial: &Trial<'_>) -> Result<Vec<u8>, AllocError> {
+    let mut lines = Vec::new(alloc);
+    for _ in 0..trial.passed {
+        lines.push(b'\n')?;
+    }
+    lines.extend_from_slice(trial.replies)?;
+    Ok(lines)
+}
+
+// What to do about each record that is refused, and about the sheet where it cannot be read on; and how many records
+// there are of each kind.
+fn advice_on(alloc: Global, trial: &Trial<'_>) -> Result<Vec<u8>, AdviceFault> {
+    let Ok(lines) = lines_of(alloc, trial) else {
+        return Err(AdviceFault::Memory);
+    };
+    let mut said = Vec::new(alloc);
+    write_advice(alloc, &mut said, trial.kind, trial.text, lines.as_slice())?;
+    let flaw = match trial.outcome {
+        Ok(tally) => {
+            write_summary(&mut said, tally.done, tally.again, tally.refused)?;
+            return Ok(said);
+        }
+        Err(SheetFault::BadHeader) => SheetFlaw::Header,
+        Err(SheetFault::BadCsv) => SheetFlaw::Width,
+        Err(_) => return Ok(said),
+    };
+    write_fault_advice(alloc, &mut said, flaw, trial.kind, trial.text)?;
+    Ok(said)
+}
+
+/// Says on standard error how many records would be done, and what to do about each one that would be refused. Where
+/// standard error takes nothing, or memory runs out, the status alone tells.
+pub(crate) fn advise<R: Runtime<A = Global>>(rt: &R, trial: &Trial<'_>) {
+    let Ok(said) = advice_on(rt.alloc(), trial) else {
+        return;
+    };
+    if let Ok(text) = str::from_utf8(said.as_slice()) {
+        let _ = eprint!(rt; "{text}");
+    }
+}

@@ -1,0 +1,5 @@
+pub mod Writing
+pub mod Measured
+pub mod Chosen
+pub mod Plain
+pub mod Stretch

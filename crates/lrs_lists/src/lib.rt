@@ -1,0 +1,25 @@
+//! Lists of an inventory as CSV: a header, and a line for each route, link, class, referent, row or part that is gone. No
+//! field has to be quoted.
+#![tactic(auto)]
+
+mod assets;
+mod classes;
+pub mod laws;
+mod ledger;
+mod links;
+mod measures;
+mod presence;
+mod referents;
+mod route_list;
+mod row_list;
+mod wanted;
+
+pub use classes::write_classes;
+pub use ledger::write_gone;
+pub use links::write_links;
+pub use measures::measure_on;
+pub use presence::{knows_asset, knows_class, knows_edit, knows_route};
+pub use referents::write_refs;
+pub use route_list::write_routes;
+pub use row_list::write_rows;
+pub use wanted::RowsWanted;

@@ -1,0 +1,3 @@
+pub mod Log
+pub mod Differences
+pub mod Laws
