@@ -17,12 +17,18 @@ QUESTIONS = {
 EXAMPLES = {
     "edit": "edit roads.db first.csv",
     "survey": "survey roads.db found.csv",
+    "check": "check roads.db first.csv",
     "at": "at roads.db A1 abs 3000",
     "translate": "translate roads.db A1 int 1/3 abs",
     "strip": "strip roads.db A1 R SPEED WIDTH",
     "diagram": "diagram roads.db A1 SPEED > a1.svg",
     "totals": "totals roads.db",
     "find": "find roads.db 10",
+    "list": "list roads.db routes",
+    "rows": "rows roads.db --route A1 --class SPEED",
+    "gone": "gone roads.db --edit 17",
+    "log": "log roads.db > log.csv",
+    "audit": "audit roads.db",
 }
 
 
