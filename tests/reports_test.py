@@ -11,7 +11,7 @@ import pytest
 
 from check_test import random_record
 from program import FIRST, HEADER, ends, faults, run, sheet_of
-from stores import MORE, MORE_REPLIES, change, edit, look, make, make_full, rows_of
+from stores import MORE, change, edit, look, make_full, rows_of, settle
 
 
 @pytest.fixture
@@ -256,6 +256,29 @@ CHANGES = [
 def test_what_was_changed_is_found_though_the_tables_agree(db, name, statements):
     change(db, *statements)
     ends(run("audit", db), b"", 1, f"roadlrs: Differs:{name}\n".encode())
+
+
+def without_keys(rows):
+    """The rows of each table; of the edits all but the keys."""
+    return {**rows, "edit": [(number, line) for number, _, line in rows["edit"]]}
+
+
+def test_no_single_bit_passes_that_changes_a_row(db, top):
+    """Bits of a small and dense file: an audit passes only where the rows are the same, but for keys."""
+    settle(db)
+    before, whole = db.read_bytes(), without_keys(rows_of(db))
+    drawn, passed = random.Random(19), 0
+    for number in range(300):
+        path = top / f"{number}.db"
+        at, bit = drawn.randrange(len(before)), drawn.randrange(8)
+        path.write_bytes(before[:at] + bytes([before[at] ^ 1 << bit]) + before[at + 1 :])
+        ended = run("audit", path)
+        if ended.status == 0:
+            passed += 1
+            assert without_keys(rows_of(path)) == whole, (at, bit)
+        else:
+            assert ended.stdout == b"" and ended.stderr.startswith((b"roadlrs: Differs:", b"roadlrs: fault ")), (at, bit, ended)
+    assert passed < 300
 
 
 def test_another_key_is_another_log(db):
