@@ -57,11 +57,11 @@ def test_the_page_has_each_option():
             assert re.search(rf"--{option}\b", shown), (command, option)
 
 
-def test_the_page_is_shown_without_a_warning():
-    groff = subprocess.run(["bash", "-c", "command -v groff"], capture_output=True).stdout.strip()
-    if groff:
-        done = subprocess.run([groff, "-man", "-Tutf8", "-ww", TOP / "docs" / "roadlrs.1"], capture_output=True, check=True, timeout=60)
-        assert done.stderr == b""
+def test_the_page_uses_the_macros_of_manual_pages_alone():
+    known = set("TH SH PP TP RS RE EX EE B I R BI BR IB IR RB RI nf fi".split())
+    used = set(re.findall(r"^\.(\w+)", PAGE, re.M))
+    assert used <= known, used - known
+    assert PAGE.count("\n.EX") == PAGE.count("\n.EE") and PAGE.count("\n.RS") == PAGE.count("\n.RE") and PAGE.isascii()
 
 
 def test_the_completions_have_each_command_and_its_options():

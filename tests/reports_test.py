@@ -104,9 +104,8 @@ def test_routes(db):
 
 def test_links_and_classes(db):
     assert table(run("list", db, "links")) == (["link", "length"], texts(rows_of(db)["link"]))
-    kinds = dict(zip(rows_of(db)["class"], table(run("list", db, "classes"))[1]))
-    assert [row[0] for row in table(run("list", db, "classes"))[1]] == sorted(name for name, _ in kinds)
-    assert sorted(row[1] for row in table(run("list", db, "classes"))[1]) == ["exclusive", "point", "stretch"]
+    assert table(run("list", db, "classes")) == (["class", "kind"], [["RAIL", "stretch"], ["SIGN", "point"], ["SPEED", "exclusive"]])
+
 
 
 def measure_at(marks, chainage):
