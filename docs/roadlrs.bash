@@ -6,14 +6,16 @@ declare -gA _roadlrs_words=(
     [edit]="db sheet"
     [survey]="db sheet"
     [at]="db none method"
+    [where]="db place none"
     [translate]="db none method none target"
     [strip]="db none side none+"
     [diagram]="db none+"
     [totals]="db"
+    [lengths]="db"
     [find]="db none"
     [serve]="db none+"
     [page]="folder"
-    [help]="command"
+    [help]="topic"
     [check]="db sheet"
     [list]="db listed"
     [rows]="db"
@@ -22,13 +24,20 @@ declare -gA _roadlrs_words=(
     [audit]="db"
 )
 
-# the options of each command besides --help; one that wants a value ends in =
+# the options that go with every command
+declare -g _roadlrs_general="--existing --explain"
+
+# the verbs of edit sheets, on which there is help
+declare -g _roadlrs_verbs="link class route ref unref enter retire supersede split join renumber recalibrate turn realign close"
+
+# the options of each command besides --help and those; one that wants a value ends in =
 declare -gA _roadlrs_options=(
     [edit]="--sums --resume --all"
     [survey]="--sums --resume --all"
-    [serve]="--sums"
+    [serve]="--sums --log --end-on-fault"
     [diagram]="--from= --to="
     [check]="--survey"
+    [lengths]="--route="
     [rows]="--route= --from= --to= --class= --asset="
     [gone]="--edit="
     [log]="--key="
@@ -60,7 +69,9 @@ _roadlrs_word() {
             _roadlrs_reply -W 'abs int rel: link' -- "$cur" ;;
         side) _roadlrs_reply -W 'L R' -- "$cur" ;;
         listed) _roadlrs_reply -W 'routes links classes refs' -- "$cur" ;;
+        place) _roadlrs_reply -W 'link' -- "$cur" ;;
         command) _roadlrs_reply -W "${!_roadlrs_words[*]}" -- "$cur" ;;
+        topic) _roadlrs_reply -W "${!_roadlrs_words[*]} $_roadlrs_verbs" -- "$cur" ;;
     esac
     # a word with a colon is several words to bash: what stands before the last colon is typed already
     if [[ $cur == *:* && $COMP_WORDBREAKS == *:* ]]; then COMPREPLY=("${COMPREPLY[@]#"${cur%"${cur##*:}"}"}"); fi
@@ -111,10 +122,10 @@ _roadlrs() {
         return
     fi
     if [[ -z $command ]]; then
-        options='--help --version'
+        options="--help --version $_roadlrs_general"
         if [[ $cur == -* ]]; then _roadlrs_reply -W "$options" -- "$cur"; else _roadlrs_word command "$cur"; fi
     elif [[ $cur == -* && -z $only_words ]]; then
-        options="${_roadlrs_options[$command]:-} --help"
+        options="${_roadlrs_options[$command]:-} $_roadlrs_general --help"
         _roadlrs_reply -W "${options//=/}" -- "$cur"
     else
         local kinds kind

@@ -7,7 +7,7 @@ import subprocess
 import tempfile
 import xml.etree.ElementTree as tree
 
-from program import PATIENCE, PROGRAM, TOP, ends, record, run, sheet_of
+from program import PATIENCE, PROGRAM, TOP, ends, record, refuses_word, run, sheet_of
 from serving import error, reply, request, serving
 
 SVG = "{http://www.w3.org/2000/svg}"
@@ -212,7 +212,7 @@ def test_words_that_cannot_be_read():
             (["A1", "--to", "10000000001"], "TO is no chainage in millimetres"),
             (["A1", "--from", "x", "--to", "y"], "FROM is no chainage in millimetres"),
         ]:
-            ends(run("diagram", db, *words), b"", 2, f"error: {said}\n".encode())
+            refuses_word(run("diagram", db, *words), said)
 
 
 def test_over_http():
@@ -258,11 +258,11 @@ def test_what_a_reader_of_the_picture_finds():
 
 
 def test_a_pipe_that_is_closed():
-    """A reader that has seen enough is a failed write, as with every question."""
+    """A reader that has seen enough is a failed write, of which the status alone tells, as with every question."""
     edits, survey, _ = random_inventory(1, 6_000)
     with tempfile.TemporaryDirectory() as folder:
         db = inventory(folder, edits, survey)
         with subprocess.Popen([PROGRAM, "diagram", str(db), "R-1"], stdout=subprocess.PIPE, stderr=subprocess.PIPE) as child:
             child.stdout.read(10)
             child.stdout.close()
-            assert (child.stderr.read(), child.wait(PATIENCE)) == (b"roadlrs: fault Write\n", 3)
+            assert (child.stderr.read(), child.wait(PATIENCE)) == (b"", 3)

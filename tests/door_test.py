@@ -31,8 +31,8 @@ def test_a_server_without_descriptors_waits_for_them():
     waiting = 40
     with serving(waiting + 1) as server:
         before, _ = resource.prlimit(server.child.pid, resource.RLIMIT_NOFILE)
+        server.answers(ASK, SAYS)
         allow(server, files_of(server))
-        server.answers(ASK, SAYS)  # it waits for this one with a descriptor already
         streams = [connect(server.port) for _ in range(waiting)]
         for stream in streams:
             stream.sendall(ASK)

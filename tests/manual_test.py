@@ -20,8 +20,12 @@ def commands():
 def options(command):
     """The long options of a command, and whether each takes a value."""
     said = run(command, "--help").stdout.decode()
-    found = re.findall(r"^ +(?:-\w, )?--(\w+)( <\w+>)?  ", said, re.M)
+    found = re.findall(r"^ +(?:-\w, )?--([\w-]+)( <\w+>)?  ", said, re.M)
     return {name: bool(value) for name, value in found if name != "help"}
+
+
+# the options that go with every command
+GENERAL = ["--existing", "--explain"]
 
 
 def words(command):
@@ -55,6 +59,8 @@ def test_the_page_has_each_option():
     for command in commands():
         for option in options(command):
             assert re.search(rf"--{option}\b", shown), (command, option)
+    for option in GENERAL:
+        assert re.search(rf"^\.B {option}$", shown, re.M) and option in run("--help").stdout.decode(), option
 
 
 def test_the_page_uses_the_macros_of_manual_pages_alone():
@@ -87,8 +93,11 @@ def completed(line):
         ("roadlrs list roads.db r", ["routes", "refs"]),
         ("roadlrs at roads.db A1 ", ["abs", "rel", "int"]),
         ("roadlrs rows roads.db --c", ["--class"]),
-        ("roadlrs edit roads.db first.csv --", ["--sums", "--resume", "--all", "--help"]),
+        ("roadlrs edit roads.db first.csv --", ["--sums", "--resume", "--all", *GENERAL, "--help"]),
         ("roadlrs edit :m", [":memory:"]),
+        ("roadlrs where roads.db l", ["link"]),
+        ("roadlrs help re", ["ref", "retire", "renumber", "recalibrate", "realign"]),
+        ("roadlrs serve roads.db 8080 5 --e", ["--end-on-fault", *GENERAL]),
     ],
 )
 def test_what_is_completed(line, offered):

@@ -12,7 +12,7 @@ from serving import answer, request, started
 API = json.loads((TOP / "docs" / "openapi.json").read_text())
 OPERATIONS = [(path, method, said) for path, methods in API["paths"].items() for method, said in methods.items()]
 QUESTIONS = [(path, said) for path, method, said in OPERATIONS if method == "get"]
-MORE = sheet_of("o1,enter,10,SPEED,A1,B,abs,3000,9000,80,0", "o2,ref,KM2,A1,abs,2000")
+MORE = sheet_of("o1,enter,10,SPEED,A1,B,abs,3000,9000,80,0", "o2,ref,KM2,A1,abs,2000", "o3,retire,10,A1,abs,8000,8500")
 
 
 @pytest.fixture(scope="module")
@@ -57,7 +57,7 @@ def fits(value, schema):
 
 def test_its_paths_are_those_of_the_program():
     page = (TOP / "crates" / "lrs_web_requests" / "specs" / "Paths.antt").read_text()
-    routed = {path + "{name}" if path.endswith("/") else path for path in re.findall(r'codes "(/v1/[a-z/]*)"', page)}
+    routed = {path + "{name}" if path.endswith("/") else path for path in re.findall(r'codes "(/[a-z0-9/]*)"', page)}
     assert set(API["paths"]) == routed and API["openapi"] == "3.1.0"
 
 
@@ -83,14 +83,16 @@ def test_what_is_missing_or_malformed_is_named(port, path, said):
             assert "400" in said["responses"]
 
 
+# what the inventory does not have, and the status that says so
+ABSENT = {"route": ("Z9", "404"), "name": ("Z9", "404"), "class": ("NONE", "422"), "asset": (99, "422"), "edit": (999_999, "422")}
+
+
 @pytest.mark.parametrize("path, said", QUESTIONS, ids=lambda x: x if isinstance(x, str) else "")
 def test_what_is_not_there_has_the_status_that_the_file_says(port, path, said):
-    named = {"route": "Z9", "name": "Z9", "asset": 99}
-    other = {parameter["name"]: named[parameter["name"]] for parameter in said["parameters"] if parameter["name"] in named}
-    status, _, body = got(port, "GET " + target(path, said["parameters"], **other))
-    if other:
-        wanted = "422" if "asset" in other else "404"
-        assert status == wanted and wanted in said["responses"] and fits(json.loads(body), {"$ref": "/Error"}), (path, status, body)
+    for name in [parameter["name"] for parameter in said["parameters"] if parameter["name"] in ABSENT]:
+        value, wanted = ABSENT[name]
+        status, _, body = got(port, "GET " + target(path, said["parameters"], **{name: value}))
+        assert status == wanted and wanted in said["responses"] and fits(json.loads(body), {"$ref": "/Error"}), (path, name, status, body)
 
 
 @pytest.mark.parametrize("path, method, said", OPERATIONS, ids=lambda x: x if isinstance(x, str) else "")

@@ -8,11 +8,8 @@ import base64
 import contextlib
 import hashlib
 import http.client
-import os
-import pathlib
 import re
 import shutil
-import signal
 import subprocess
 import sys
 import time
@@ -22,10 +19,9 @@ import pytest
 from browser import PATIENCE, browsing
 from interrupted_test import with_files_up_to
 from program import FIRST, FIRST_REPLIES, HEADER, TOP, ends, long_sheet, record, run, sheet_of
-from serving import HOST, SURVEY_HEADER, connect, free_port, started
+from proxies import web_server
+from serving import HOST, SURVEY_HEADER, started
 from stores import edit
-
-NGINX = "/usr/sbin/nginx"
 
 MORE = sheet_of(
     "m1,ref,KM2,A1,abs,3",
@@ -41,69 +37,6 @@ SURVEY = SURVEY_HEADER + (
     b"e4,13,SPEED,LONG,B,abs,1000000,1000001,50,0\n"
     b"e5,14,SIGN,LONG,L,abs,4333333,,YIELD,0\n"
 )
-
-
-# ---- nginx, as the document has it
-
-
-def blocks_of_the_document():
-    """The lines for nginx: the server, and what limits who may edit."""
-    return re.findall(r"```nginx\n(.*?)```", (TOP / "docs" / "SERVICE.md").read_text(), re.S)
-
-
-def put(text, old, new):
-    assert text.count(old) == 1, old
-    return text.replace(old, new)
-
-
-def server_lines(folder, port, program_port, limited):
-    """The lines of the document, with the ports and folders of a test."""
-    server, limit = blocks_of_the_document()
-    server = put(server, "listen 80;", f"listen {HOST}:{port};")
-    server = put(server, "http://127.0.0.1:8080;", f"http://{HOST}:{program_port};")
-    server = put(server, "/srv/roads/page;", f"{folder};")
-    if limited:
-        place = "    location /v1/ {\n"
-        server = put(server, place, place + put(limit, "/etc/nginx/roads.users", f"{folder}/roads.users"))
-    return server
-
-
-def configuration(folder, *settings):
-    """All that nginx is told: everything that it writes goes into the folder."""
-    places = ["client_body", "proxy", "fastcgi", "uwsgi", "scgi"]
-    paths = "\n".join(f"{place}_temp_path {folder}/{place};" for place in places)
-    user = "user root;" if os.getuid() == 0 else ""
-    return (
-        f"{user}\ndaemon off;\nworker_processes 1;\npid {folder}/nginx.pid;\nerror_log {folder}/error.log;\n"
-        f"events {{ worker_connections 64; }}\nhttp {{\naccess_log off;\n{paths}\n{server_lines(folder, *settings)}\n}}\n"
-    )
-
-
-def listens(port):
-    with contextlib.suppress(OSError), connect(port):
-        return True
-    return False
-
-
-@contextlib.contextmanager
-def web_server(folder, program_port, limited=False):
-    """nginx before the program; its port is answered."""
-    port = free_port()
-    (folder / "nginx.conf").write_text(configuration(folder, port, program_port, limited))
-    words = [NGINX, "-p", str(folder), "-e", f"{folder}/error.log", "-c", f"{folder}/nginx.conf"]
-    child = subprocess.Popen(words, stdin=subprocess.DEVNULL, stdout=subprocess.DEVNULL, stderr=subprocess.PIPE)
-    try:
-        limit = time.monotonic() + PATIENCE
-        while not listens(port):
-            if child.poll() is not None or time.monotonic() > limit:
-                child.kill()
-                raise AssertionError(("nginx does not start", child.communicate()[1]))
-            time.sleep(0.05)
-        yield port
-    finally:
-        child.send_signal(signal.SIGTERM)
-        child.wait(timeout=PATIENCE)
-        child.stderr.close()
 
 
 # ---- the page, opened

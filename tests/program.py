@@ -56,6 +56,13 @@ def ends(ended, stdout, status, stderr=b""):
     assert (ended.stdout, ended.stderr, ended.status) == (stdout, stderr, status), ended
 
 
+def refuses_word(ended, said):
+    """The run did nothing, since a word cannot be read: a hint shows it, and the last line says which it is."""
+    *hints, last = ended.stderr.splitlines()
+    assert (ended.stdout, ended.status, last) == (b"", 2, b"error: " + said.encode()), ended
+    assert len(hints) <= 2 and ended.stderr.startswith(b'hint: "'), ended
+
+
 def faults(ended, name, stdout=b""):
     """The run ended in this fault, after it had written this."""
     ends(ended, stdout, 3, f"roadlrs: fault {name}\n".encode())

@@ -2,7 +2,7 @@
 
 import re
 
-from program import TOP, ends, faults, run
+from program import TOP, ends, faults, refuses_word, run
 
 # each question with words that can be read, behind the inventory
 QUESTIONS = {
@@ -19,10 +19,12 @@ EXAMPLES = {
     "survey": "survey roads.db found.csv",
     "check": "check roads.db first.csv",
     "at": "at roads.db A1 abs 3000",
+    "where": "where roads.db A1 3000",
     "translate": "translate roads.db A1 int 1/3 abs",
     "strip": "strip roads.db A1 R SPEED WIDTH",
     "diagram": "diagram roads.db A1 SPEED > a1.svg",
     "totals": "totals roads.db",
+    "lengths": "lengths roads.db --route A1",
     "find": "find roads.db 10",
     "list": "list roads.db routes",
     "rows": "rows roads.db --route A1 --class SPEED",
@@ -44,7 +46,7 @@ def refuses(ended, cause):
 def is_unreadable(name, words, said):
     """The program says so of these words, and ends before it opens an inventory."""
     for db in [":memory:", "/dev/null/db"]:
-        ends(ask(name, *words, db=db), b"", 2, f"error: {said}\n".encode())
+        refuses_word(ask(name, *words, db=db), said)
 
 
 def test_an_inventory_without_entries():
@@ -139,7 +141,7 @@ def test_each_command_shows_an_example_that_is_understood():
         for words in [[name, "--help"], ["help", name]]:
             ended = run(*words)
             assert (ended.stderr, ended.status) == (b"", 0), ended
-            assert f"Example: roadlrs {example}\n".encode() in ended.stdout, ended
+            assert re.search(rf"^Examples?: roadlrs {re.escape(example)}$", ended.stdout.decode(), re.M), ended
         words = example.partition(" > ")[0].replace("roads.db", ":memory:").split()
         assert run(*words).status in (0, 1, 3), example
 
@@ -152,4 +154,4 @@ def test_help_names_each_command():
 def test_the_version_names_the_kit_that_proved_it():
     kit = re.search(r"Proved with the kit `([^`]+)`", (TOP / "README.md").read_text()).group(1)
     for word in ["--version", "-V"]:
-        ends(run(word), f"roadlrs 0.3.0, proved by {kit}\n".encode(), 0)
+        ends(run(word), f"roadlrs 0.4.0, proved by {kit}\n".encode(), 0)

@@ -251,10 +251,31 @@ CHANGES = [
 ]
 
 
-@pytest.mark.parametrize("name, statements", CHANGES[:-1])
-def test_what_was_changed_is_found_though_the_tables_agree(db, name, statements):
+# the first row that is another: as it is kept, and as the log makes it
+ROWS_TOLD = [
+    ("3,2001", "3,2000"),
+    ("10,SPEED,81,0,8", "10,SPEED,80,0,8"),
+    ("11,RAIL,steel,1,9", "11,RAIL,steel,150,9"),
+    ("A2,3000:8999", "A2,3000:9000"),
+    ("KM2,A1,1999", "KM2,A1,1666"),
+    ("KM3,A1,1666", "KM2,A1,1666"),
+    ("SIGNS,point", "SIGN,point"),
+    ("3,2000", "3,2001"),
+]
+
+
+@pytest.mark.parametrize("name, statements, told", [(*change, told) for change, told in zip(CHANGES[:-1], ROWS_TOLD)])
+def test_what_was_changed_is_found_though_the_tables_agree(db, name, statements, told):
     change(db, *statements)
-    ends(run("audit", db), b"", 1, f"roadlrs: Differs:{name}\n".encode())
+    ended = run("audit", db)
+    *rows, last = ended.stderr.decode().splitlines()
+    assert (ended.stdout, ended.status, last) == (b"", 1, f"roadlrs: Differs:{name}"), ended
+    assert rows == [f"kept: {told[0]}", f"log:  {told[1]}"]
+
+
+def test_a_row_too_many_is_told(db):
+    change(db, "INSERT INTO link VALUES (9, 7)")
+    ends(run("audit", db), b"", 1, b"kept: 9,7\nlog:  no row\nroadlrs: Differs:link\n")
 
 
 def without_keys(rows):
@@ -276,7 +297,8 @@ def test_no_single_bit_passes_that_changes_a_row(db, top):
             passed += 1
             assert without_keys(rows_of(path)) == whole, (at, bit)
         else:
-            assert ended.stdout == b"" and ended.stderr.startswith((b"roadlrs: Differs:", b"roadlrs: fault ")), (at, bit, ended)
+            *_, last = ended.stderr.splitlines()
+            assert ended.stdout == b"" and last.startswith((b"roadlrs: Differs:", b"roadlrs: fault ")), (at, bit, ended)
     assert passed < 300
 
 

@@ -16,7 +16,7 @@ import time
 import pytest
 
 from interrupted_test import with_files_up_to
-from program import FIRST, FIRST_REPLIES, HEADER, PATIENCE, TOP, ends, faults, lines, long_sheet, record, run, sheet_of
+from program import FIRST, FIRST_REPLIES, HEADER, PATIENCE, TOP, ends, faults, lines, long_sheet, record, refuses_word, run, sheet_of
 from serving import AGAIN, ASK, AT, AT_3000, DAWDLING, FAILING, FIRST_AGAIN, NONE_OF, ROUTE, SEGMENTS, STRETCHES, SURVEY, TABLE, TOTALS, TRANSLATED
 from serving import answer, by_curl, by_http_client, by_socket, connect, error, free_port, head_of, links_up_to, long_question, reply, request, rest_of
 from serving import serving, sheet_reply, started, totals_of, wait_behind
@@ -563,9 +563,9 @@ NO_NUMBERS = ["", " ", "x", "+1", "1.", "1e3", "0x10", "80 ", "\u0665", "9" * 30
 def test_words_that_cannot_be_read(db):
     for port in [*NO_NUMBERS, "0", "00", "65536"]:
         for most in ["1", "x"]:
-            ends(run("serve", db, port, most), b"", 2, b"error: PORT is no port number\n")
+            refuses_word(run("serve", db, port, most), "PORT is no port number")
     for most in [*NO_NUMBERS, "1000001"]:
-        ends(run("serve", db, "65535", most), b"", 2, b"error: MAX is no number of connections\n")
+        refuses_word(run("serve", db, "65535", most), "MAX is no number of connections")
 
 
 @pytest.mark.parametrize("words", [[], [":memory:"], [":memory:", "8080"], [":memory:", "8080", "1", "1"], [":memory:", "-1", "1"], [":memory:", "8080", "-1"]])

@@ -108,9 +108,9 @@ def by_http_client(port, asked, body):
 class Server:
     """A program that serves so many connections, and has said so."""
 
-    def __init__(self, most, db=":memory:", port=None, **settings):
+    def __init__(self, most, db=":memory:", port=None, options=(), **settings):
         self.port = port or free_port()
-        words = [PROGRAM, "serve", str(db), str(self.port), str(most)]
+        words = [PROGRAM, "serve", *options, str(db), str(self.port), str(most)]
         streams = {"stdin": subprocess.DEVNULL, "stdout": subprocess.PIPE, "stderr": subprocess.PIPE}
         self.child = subprocess.Popen(words, **streams, **settings)
         ready, _, _ = select.select([self.child.stdout], [], [], PATIENCE)

@@ -108,7 +108,7 @@ def test_replies_into_a_pipe_that_is_closed():
                 child.stdout.close()
                 errors = child.communicate(timeout=PATIENCE)[1]
             assert taken == LONG_REPLIES[:bytes_read], taken[-100:]
-            assert (errors, child.returncode) == (b"roadlrs: fault Write\n", 3), (errors, child.returncode)
+            assert (errors, child.returncode) == (b"", 3), (errors, child.returncode)
 
 
 def test_replies_into_a_file_that_takes_only_so_much():

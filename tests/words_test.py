@@ -8,7 +8,7 @@ import threading
 
 import pytest
 
-from program import BUILT, FIRST, FIRST_REPLIES, PROGRAM, TOP, ends, faults, run
+from program import BUILT, FIRST, FIRST_REPLIES, PROGRAM, TOP, ends, faults, refuses_word, run
 
 
 def is_misused(ended):
@@ -137,7 +137,7 @@ def test_a_survey_with_sums(words, tmp_path):
 @pytest.mark.parametrize("words", with_sums(":memory:", "8080", "many"))
 def test_a_service_with_sums(words):
     # the words are understood, and the last of them is no number
-    ends(run("serve", *words), b"", 2, b"error: MAX is no number of connections\n")
+    refuses_word(run("serve", *words), "MAX is no number of connections")
 
 
 def test_sums_that_are_a_path(tmp_path):
@@ -174,14 +174,16 @@ def test_sums_that_are_not_understood(words):
     is_misused(run(*words, given=FIRST))
 
 
-NAMES_OF_JOBS = ["edit", "survey", "check", "serve", "at", "translate", "strip", "diagram", "totals", "find", "list", "rows", "gone", "log", "audit", "page"]
+NAMES_OF_JOBS = ["edit", "survey", "check", "serve", "at", "where", "translate", "strip", "diagram", "totals", "lengths", "find", "list", "rows", "gone", "log", "audit", "page"]
 
 
 OPTIONS = {
-    b"--sums": (b"Gives a new file a sum behind each page, so that damage is found", ["edit", "survey", "serve"]),
-    b"--resume": (b"Goes on behind the last record of the sheet that was accepted before", ["edit", "survey"]),
+    b"--sums": (b"Gives a new file checksums, so that damage is found", ["edit", "survey", "serve"]),
+    b"--resume": (b"Goes on after the last record of the sheet that was accepted before", ["edit", "survey"]),
     b"--all": (b"Does the sheet only if no record of it is refused", ["edit", "survey"]),
     b"--survey": (b"The sheet is a survey", ["check"]),
+    b"--log": (b"Writes a line for each request on standard error", ["serve"]),
+    b"--end-on-fault": (b"Ends with status 3 once the inventory was not written", ["serve"]),
 }
 
 
@@ -249,23 +251,23 @@ NO_CHAINAGES = ["x", "+5", "1.0", " 5", "5 ", "1/3", "10000000001", "9" * 30, "\
 @pytest.mark.parametrize("text", NO_CHAINAGES + ["", "-5"])
 def test_chainages_that_cannot_be_read(text, db):
     for name in ["from", "to"]:
-        said = f"error: {name.upper()} is no chainage in millimetres\n".encode()
-        ends(run("diagram", db, "A1", f"--{name}={text}"), b"", 2, said)
+        said = f"{name.upper()} is no chainage in millimetres"
+        refuses_word(run("diagram", db, "A1", f"--{name}={text}"), said)
         if text in NO_CHAINAGES:
-            ends(run("diagram", db, "A1", f"--{name}", text, "SPEED"), b"", 2, said)
+            refuses_word(run("diagram", db, "A1", f"--{name}", text, "SPEED"), said)
 
 
 @pytest.mark.parametrize(
     "words, said",
     [
-        (["a1", "speed", "--from", "x", "--to", "x"], b"ROUTE is no route name"),
-        (["A1", "SPEED", "speed", "--from", "x", "--to", "x"], b"CLASS is no class name"),
-        (["A1", "SPEED", "--to", "x", "--from", "x"], b"FROM is no chainage in millimetres"),
-        (["A1", "SPEED", "--to", "x", "--from", "5"], b"TO is no chainage in millimetres"),
+        (["a1", "speed", "--from", "x", "--to", "x"], "ROUTE is no route name"),
+        (["A1", "SPEED", "speed", "--from", "x", "--to", "x"], "CLASS is no class name"),
+        (["A1", "SPEED", "--to", "x", "--from", "x"], "FROM is no chainage in millimetres"),
+        (["A1", "SPEED", "--to", "x", "--from", "5"], "TO is no chainage in millimetres"),
     ],
 )
 def test_the_first_word_of_a_diagram_that_cannot_be_read_is_named(words, said):
-    ends(run("diagram", ":memory:", *words), b"", 2, b"error: " + said + b"\n")
+    refuses_word(run("diagram", ":memory:", *words), said)
 
 
 NO_DIAGRAMS = [

@@ -13,6 +13,8 @@ pub(crate) enum Flaw {
     SmallLetters,
     Capitals,
     Decimal,
+    /// A measure with a point, a comma or a unit.
+    DecimalMeasure,
     Empty,
     TooLong,
     TooGreat,
@@ -242,6 +244,15 @@ fn sort_flaw(slot: Slot, text: &[u8], method: Option<Method>) -> Flaw {
     }
 }
 
+/// What a decimal number is in a field: a measure has the unit of the marks, and all else is in millimetres.
+fn decimal_flaw(slot: Slot, method: Option<Method>) -> Flaw {
+    if sort_of(slot) == Sort::Position && method == Some(Method::Abs) {
+        Flaw::DecimalMeasure
+    } else {
+        Flaw::Decimal
+    }
+}
+
 /// What is wrong with a malformed text: the first that is seen, in this order.
 pub(crate) fn flaw_of(slot: Slot, text: &[u8], method: Option<Method>) -> Flaw {
     if slot == Slot::Unused {
@@ -255,7 +266,7 @@ pub(crate) fn flaw_of(slot: Slot, text: &[u8], method: Option<Method>) -> Flaw {
     } else if wants_small_letters(slot) && has_capital(text) {
         Flaw::Capitals
     } else if has_numbers(slot, method) && is_decimal(text) {
-        Flaw::Decimal
+        decimal_flaw(slot, method)
     } else if text.is_empty() {
         Flaw::Empty
     } else {
@@ -273,6 +284,9 @@ pub(crate) fn words_of(flaw: Flaw) -> &'static str {
         Flaw::Capitals => " has capital letters",
         Flaw::Decimal => {
             " is not a whole number: write millimetres, as 300000 for 300 m, without a point, a comma or a unit"
+        }
+        Flaw::DecimalMeasure => {
+            " is not a whole number: a measure is whole and in the unit of the route's marks, without a point, a comma or a unit"
         }
         Flaw::Empty => " is empty",
         Flaw::TooLong => " is too long",

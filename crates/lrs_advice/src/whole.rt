@@ -87,15 +87,27 @@ fn say_kind(line: &mut AdviceLine, kind: Sheet, row: &ByteRecord) -> Result<(), 
     Ok(())
 }
 
+/// The line on which the first record stands: the empty ones before it are passed over.
+fn line_of_first(sheet: &[u8], row: &ByteRecord) -> u64 {
+    match row.position() {
+        Some(position) => Place::start(sheet).record_from(position.byte).line as u64,
+        None => 1,
+    }
+}
+
 /// Says which header was found, and which is wanted.
 fn say_header(
+    alloc: Global,
     line: &mut AdviceLine,
     kind: Sheet,
+    sheet: &[u8],
     row: &ByteRecord,
     is_found: bool,
 ) -> Result<(), AllocError> {
     if is_found {
-        line.say("line 1: the header has the fields ")?;
+        line.say("line ")?;
+        line.say_number(alloc, line_of_first(sheet, row))?;
+        line.say(": the header has the fields ")?;
         say_fields(line, row)?;
         say_kind(line, kind, row)?;
     } else {
@@ -179,7 +191,7 @@ fn say_flaw(
     match flaw {
         SheetFlaw::Header => {
             let (row, is_found) = read_first(alloc, sheet)?;
-            say_header(line, kind, &row, is_found)?;
+            say_header(alloc, line, kind, sheet, &row, is_found)?;
         }
         SheetFlaw::Width => {
             let wrong = first_wrong_width(alloc, sheet)?;

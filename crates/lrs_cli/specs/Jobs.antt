@@ -21,4 +21,4 @@ HasWorked holds (work.Check kind from) before after ending = (after ≡ before) 
 HasWorked holds (work.Report report) before after ending = (after ≡ before) × EndsReport before.image report ending
 HasWorked holds work.Audit before after ending = (after ≡ before) × EndsAudit before.image ending
 HasWorked holds (work.Question question) before after ending = (after ≡ before) × EndsTold before.image question ending
-HasWorked holds (work.Service service) before after ending = EndsService holds service.max before after ending
+HasWorked holds (work.Service service) before after ending = EndsService holds service before after ending

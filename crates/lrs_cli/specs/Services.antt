@@ -1,23 +1,42 @@
 -- How the program names what ends a service, and what a service leaves.
-use Rattle.std.specs.Prelude.{◌≡◌, ◌+◌, ℕ, Result}
+use Rattle.std.specs.Prelude.{◌≡◌, ◌+◌, ℕ, true, false, Result}
 use Rattle.lrs_machine.specs.declared.image.Image.{Image}
 use Rattle.lrs_machine.specs.declared.table.Table.{Table}
 use Rattle.lrs_desk.specs.DeskView.{DeskView}
 use Rattle.lrs_web.specs.Visits.{HasVisited}
 use Rattle.lrs_web_server.specs.declared.service.ServiceFault.{ServiceFault}
-use Rattle.lrs_web_server.specs.declared.service.ServiceFault.TheVariants as service
+use Rattle.lrs_web_server.specs.declared.service.ServiceFault.TheVariants as ended
 use Rattle.lrs_cli_tasks.specs.declared.endings.Ending.{Ending}
 use Rattle.lrs_cli_tasks.specs.declared.endings.Ending.TheVariants.{Done, Stopped}
 use Rattle.lrs_cli_tasks.specs.declared.fault.ProgramFault.{ProgramFault}
-use Rattle.lrs_cli_tasks.specs.declared.fault.ProgramFault.TheVariants.{Door, Write}
+use Rattle.lrs_cli_tasks.specs.declared.fault.ProgramFault.TheVariants.{Door, Keep, Write}
+use Rattle.lrs_cli_words.specs.declared.question.Service.{Service}
 
 -- what it is for the program that a service ended before its last connection
 abbrev pub fault_of_service : ServiceFault → ProgramFault
-fault_of_service service.Door = Door
-fault_of_service service.Write = Write
+fault_of_service ended.Door = Door
+fault_of_service ended.Write = Write
+fault_of_service ended.Desk = Keep
 
--- As many connections as were wanted are served, in full or cut off; or a fault ended the service, and some are.
-abbrev pub EndsService : {K : Type 0} → (K → Result Image Table → Type 0) → ℕ → DeskView K → DeskView K → Ending → Type 0
-EndsService holds max before after Done = (full : ℕ) × (cut : ℕ) × (full + cut ≡ max) × HasVisited holds full cut before after
-EndsService holds max before after (Stopped fault) = (why : ServiceFault) × (fault ≡ fault_of_service why) × ((full : ℕ) × (cut : ℕ) × HasVisited holds full cut before after)
-EndsService holds max before after other = ⊥
+module _ {K : Type 0} (holds : K → Result Image Table → Type 0) where
+  -- As many connections as were wanted are served, in full or cut off; where a failed commit is to end the service, none failed.
+  pub record HasServed (service : Service) (before after : DeskView K) : Type 0 where
+    pub full : ℕ
+    pub cut : ℕ
+    pub count : full + cut ≡ service.max
+    pub visited : HasVisited holds full cut before after
+    pub unfailed : service.ends_on_fault ≡ true → after.must_reopen ≡ false
+
+  -- A fault ended the service, and some are served. A desk that has to be opened anew is one only where that is to end it.
+  pub record IsEnded (service : Service) (why : ServiceFault) (before after : DeskView K) : Type 0 where
+    pub full : ℕ
+    pub cut : ℕ
+    pub visited : HasVisited holds full cut before after
+    pub failed : why ≡ ended.Desk → after.must_reopen ≡ true
+    pub asked : service.ends_on_fault ≡ false → why ≡ ended.Desk → ⊥
+
+  -- A service ends as it served, or by a fault.
+  abbrev pub EndsService : Service → DeskView K → DeskView K → Ending → Type 0
+  EndsService service before after Done = HasServed service before after
+  EndsService service before after (Stopped fault) = (why : ServiceFault) × (fault ≡ fault_of_service why) × IsEnded service why before after
+  EndsService service before after other = ⊥

@@ -7,10 +7,13 @@ mod server;
 
 use inventory::open_file;
 use jobs::{do_in_memory, do_work};
+use lrs_cli_help::{
+    Options, explain, hint_at, is_reader_gone, keep_job_words, options_of, verb_help,
+};
 use lrs_cli_tasks::{
     Ending, Pace, ProgramFault, Shown, Task, Work, do_page, is_in_memory, status, task_of,
 };
-use lrs_cli_words::{Job, QuestionFault, WordsFault, job_of, new_has_sums};
+use lrs_cli_words::{BadWord, Job, QuestionFault, WordsFault, job_of, new_has_sums};
 use lrs_store::close_files;
 use std::io::{ErrorKind, IsTerminal};
 use std::process::ExitCode;
@@ -51,38 +54,74 @@ fn is_new(rt: &HostRuntime, path: &str) -> bool {
 }
 
 // Does work in the inventory of a file. What only looks makes no file: a check looks at a fresh inventory then, and a
-// report or an audit has none.
+// report or an audit has none. Nor is one made where it has to be there.
 fn do_at_path(
     rt: &HostRuntime,
     path: &str,
     new_has_sums: bool,
+    existing: bool,
     work: Work<'_>,
     shown: Shown,
 ) -> Ending {
+    let wants_file = existing || matches!(work, Work::Report(_) | Work::Audit);
+    if wants_file && is_new(rt, path) {
+        return Ending::Stopped(ProgramFault::Open);
+    }
     if matches!(work, Work::Check { .. }) && is_new(rt, path) {
         return do_in_memory(rt, work, shown);
-    }
-    if matches!(work, Work::Report(_) | Work::Audit) && is_new(rt, path) {
-        return Ending::Stopped(ProgramFault::Open);
     }
     do_in_file(rt, path, new_has_sums, work, shown)
 }
 
+// Says what was given for a word that cannot be read.
+fn refuse_word(rt: &HostRuntime, job: &Job<'_>, word: BadWord) -> Ending {
+    hint_at(rt, job, word);
+    Ending::Unreadable(word)
+}
+
 // Reads the words of a job, and then opens its inventory, if it has one.
-fn do_job(rt: &HostRuntime, job: &Job<'_>, shown: Shown) -> Ending {
+fn do_job(rt: &HostRuntime, job: &Job<'_>, existing: bool, shown: Shown) -> Ending {
     match task_of(rt.alloc(), job) {
         Ok(Task::Page { dir }) => do_page(rt, dir),
         Ok(Task::Inventory { db, work }) if is_in_memory(db) => do_in_memory(rt, work, shown),
-        Ok(Task::Inventory { db, work }) => do_at_path(rt, db, new_has_sums(job), work, shown),
-        Err(QuestionFault::Unreadable(word)) => Ending::Unreadable(word),
+        Ok(Task::Inventory { db, work }) => {
+            do_at_path(rt, db, new_has_sums(job), existing, work, shown)
+        }
+        Err(QuestionFault::Unreadable(word)) => refuse_word(rt, job, word),
         Err(QuestionFault::Memory) => Ending::Stopped(ProgramFault::Memory),
     }
+}
+
+// Does a job, and explains the fault that stops it where that is asked for.
+fn do_explained(rt: &HostRuntime, job: &Job<'_>, options: Options, shown: Shown) -> Ending {
+    let ending = do_job(rt, job, options.existing, shown);
+    match ending {
+        Ending::Stopped(fault) if options.explain => explain(rt, job, fault),
+        _ => {}
+    }
+    ending
 }
 
 fn show(rt: &HostRuntime, text: String) -> Ending {
     match rt.print(text) {
         Ok(()) => Ending::Done,
         Err(_) => Ending::Stopped(ProgramFault::Write),
+    }
+}
+
+fn show_text(rt: &HostRuntime, text: &str) -> Ending {
+    match rt.print(text) {
+        Ok(()) => Ending::Done,
+        Err(_) => Ending::Stopped(ProgramFault::Write),
+    }
+}
+
+// The help on a verb, where the words ask for it: `help` and its name.
+fn help_on_verb(words: &[&str]) -> Option<&'static str> {
+    if words.len() == 2 && words[0] == "help" {
+        verb_help(words[1])
+    } else {
+        None
     }
 }
 
@@ -96,6 +135,17 @@ fn answer_words(rt: &HostRuntime, fault: WordsFault) -> Ending {
             let _ = rt.eprint(text);
             Ending::Misused
         }
+    }
+}
+
+// Does the job that the words say; or shows the help on a verb.
+fn do_given(rt: &HostRuntime, words: &[&str], options: Options, shown: Shown) -> Ending {
+    if let Some(text) = help_on_verb(words) {
+        return show_text(rt, text);
+    }
+    match job_of(rt.alloc(), words) {
+        Ok(job) => do_explained(rt, &job, options, shown),
+        Err(fault) => answer_words(rt, fault),
     }
 }
 
@@ -119,10 +169,17 @@ fn do_words(rt: &HostRuntime, shown: Shown) -> Ending {
             return Ending::Stopped(ProgramFault::Memory);
         }
     }
-    match job_of(rt.alloc(), words.as_slice()) {
-        Ok(job) => do_job(rt, &job, shown),
-        Err(fault) => answer_words(rt, fault),
+    let options = options_of(words.as_slice());
+    keep_job_words(&mut words);
+    do_given(rt, words.as_slice(), options, shown)
+}
+
+// Says how the program ends. Where the reader of its output has gone, as `head` goes, the status alone tells.
+fn tell_ending(rt: &HostRuntime, ending: Ending) {
+    if ending == Ending::Stopped(ProgramFault::Write) && is_reader_gone(rt) {
+        return;
     }
+    let _ = eprint!(rt; "{ending}");
 }
 
 fn main(rt: HostRuntime) -> ExitCode {
@@ -132,6 +189,6 @@ fn main(rt: HostRuntime) -> ExitCode {
         (true, true) => Shown::BetweenLines,
     };
     let ending = do_words(&rt, shown);
-    let _ = eprint!(rt; "{ending}");
+    tell_ending(&rt, ending);
     ExitCode::from(status(ending))
 }

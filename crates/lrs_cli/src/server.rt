@@ -6,7 +6,7 @@ ghost use Rattle.lrs_cli.specs.Services.{EndsService, fault_of_service};
 use lrs_cli_tasks::{Ending, ProgramFault};
 use lrs_cli_words::Service;
 use lrs_desk::{Desk, Keeper};
-use lrs_web_server::{ServiceFault, serve};
+use lrs_web_server::{Manner, ServiceFault, serve};
 use std::alloc::Global;
 use std::net::Net;
 use std::rt::Runtime;
@@ -17,18 +17,24 @@ fn service_fault(fault: ServiceFault) -> ProgramFault
     match fault {
         ServiceFault::Door => ProgramFault::Door,
         ServiceFault::Write => ProgramFault::Write,
+        ServiceFault::Desk => ProgramFault::Keep,
     }
 }
 
-/// Serves a desk until the last connection has ended. It is done where as many were served as the service says.
+/// Serves a desk until the last connection has ended, or as the service says until a commit has failed. It is done where
+/// as many were served as the service says.
 pub fn do_service<R: Runtime<A = Global> + Net, K: Keeper>(
     rt: &R,
     desk: &mut Desk<K>,
     service: Service,
 ) -> Ending
-    ensures { EndsService K.may_hold service.max desk.old desk.new result }
+    ensures { EndsService K.may_hold service desk.old desk.new result }
 {
-    match serve(rt, service.port, service.max, desk) {
+    let manner = Manner {
+        logs: service.logs,
+        ends_on_fault: service.ends_on_fault,
+    };
+    match serve(rt, service.port, service.max, manner, desk) {
         Ok(_) => Ending::Done,
         Err(fault) => Ending::Stopped(service_fault(fault)),
     }

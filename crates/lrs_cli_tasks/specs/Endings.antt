@@ -27,6 +27,8 @@ missing_text lacked.Class = codes "NoClass"
 missing_text lacked.Asset = codes "NoAsset"
 missing_text lacked.Edit = codes "NoEdit"
 missing_text lacked.Key = codes "NoKey"
+missing_text lacked.Link = codes "NoLink"
+missing_text lacked.Place = codes "OffRoute"
 
 -- why a question was refused, what a report does not find, which table differs, which word cannot be read, or which fault stopped the program
 abbrev pub last_words : Ending → Text

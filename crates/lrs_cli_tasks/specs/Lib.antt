@@ -4,5 +4,8 @@ pub mod Faults
 pub mod Sheets
 pub mod Tasks
 pub mod Trials
+pub mod Listings
+pub mod Places
+pub mod Lengths
 pub mod Reporting
 pub mod Auditing

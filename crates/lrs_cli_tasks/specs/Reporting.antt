@@ -1,83 +1,14 @@
--- What the program prints for a report, and how it ends.
-use Rattle.std.specs.Prelude.{◌≡◌, ◌⊎◌, ℕ, Bool, false, not, nat_eq, is_some, List, length, Option, Some, None, if◌then◌else◌}
-use Rattle.std.specs.List.{list_any}
-use Rattle.std.specs.Io.KnownBytes.{Appends, Keeps}
-use Rattle.std.specs.Option.{option_map_or}
-use Rattle.lrs_measure.specs.Lists.{is_from_to}
-use Rattle.lrs_measure.specs.Texts.{Name, same_name}
-use Rattle.lrs_image.specs.Change.{is_named}
-use Rattle.lrs_machine.specs.Image.{state_of}
-use Rattle.lrs_machine.specs.Lines.{Text}
-use Rattle.lrs_machine.specs.Machine.{place_of_key}
+-- How the program ends with a report.
 use Rattle.lrs_machine.specs.declared.image.Image.{Image}
-use Rattle.lrs_lists.specs.Lists.{classes_text, gone_text, links_text, refs_text, routes_text, rows_text}
-use Rattle.lrs_lists.specs.declared.wanted.RowsWanted.{RowsWanted}
-use Rattle.lrs_log.specs.Log.{edits_from, edits_under, log_text}
 use Rattle.lrs_cli_words.specs.declared.report.Report.{Report}
 use Rattle.lrs_cli_words.specs.declared.report.Report.TheVariants as report
-use Rattle.lrs_cli_words.specs.declared.report.Listed.{Listed}
-use Rattle.lrs_cli_words.specs.declared.report.Listed.TheVariants as listed
 use Rattle.lrs_cli_tasks.specs.declared.endings.Ending.{Ending}
-use Rattle.lrs_cli_tasks.specs.declared.endings.Ending.TheVariants.{Done, NotFound, Stopped}
-use Rattle.lrs_cli_tasks.specs.declared.endings.Missing.{Missing}
-use Rattle.lrs_cli_tasks.specs.declared.endings.Missing.TheVariants as lacked
-use Rattle.lrs_cli_tasks.specs.declared.fault.ProgramFault.TheVariants.{Memory, Write}
+use Rattle.lrs_cli_tasks.specs.Lengths.{EndsLengths}
+use Rattle.lrs_cli_tasks.specs.Listings.{EndsListing}
+use Rattle.lrs_cli_tasks.specs.Places.{EndsPlace}
 
--- all of one kind
-abbrev pub list_text : Image → Listed → Text
-list_text i listed.Routes = routes_text i
-list_text i listed.Links = links_text i
-list_text i listed.Classes = classes_text i
-list_text i listed.Refs = refs_text i
-
--- what is printed
-abbrev pub report_text : Image → Report → Text
-report_text i (report.List what) = list_text i what
-report_text i (report.Rows wanted) = rows_text wanted i
-report_text i (report.Gone edit) = gone_text edit i
-report_text i (report.Log from) = log_text (edits_from from (state_of i).done)
-report_text i (report.LogOfKey key) = log_text (edits_under key (state_of i).done)
-
-abbrev pub has_route : Image → Name → Bool
-has_route i name = list_any (is_named name) i.routes
-
-abbrev pub has_class : Image → Name → Bool
-has_class i name = list_any (λ c. same_name c.name name) i.classes
-
-abbrev pub has_asset : Image → ℕ → Bool
-has_asset i number = list_any (λ a. nat_eq a.number number) i.assets
-
--- edits are numbered from 1
-abbrev pub has_edit : Image → ℕ → Bool
-has_edit i number = is_from_to 1 (length i.edits) number
-
-abbrev pub has_key : Image → Name → Bool
-has_key i key = is_some (place_of_key key (state_of i).done)
-
--- what is named, and is not there
-abbrev pub lacks : {A : Type 0} → (A → Bool) → Option A → Bool
-lacks has named = option_map_or (λ x. not (has x)) named false
-
--- the first of the things that a report names, and the inventory does not have
-abbrev pub missing_row : Image → RowsWanted → Option Missing
-missing_row i wanted =
-    if lacks (has_route i) wanted.route then Some lacked.Route
-    else if lacks (has_class i) wanted.class then Some lacked.Class
-    else if lacks (has_asset i) wanted.asset then Some lacked.Asset else None
-
-abbrev pub missing_of : Image → Report → Option Missing
-missing_of i (report.Rows wanted) = missing_row i wanted
-missing_of i (report.Gone edit) = if lacks (has_edit i) edit then Some lacked.Edit else None
-missing_of i (report.LogOfKey key) = if has_key i key then None else Some lacked.Key
-missing_of i (report.Log from) = None
-missing_of i (report.List what) = None
-
--- A report was printed as it is defined; or nothing was, since the inventory does not have what it names.
-abbrev pub IsReported : Image → Report → Option Missing → Option Text → Option Text → Ending → Type 0
-IsReported i r None old new ending = Appends old new (report_text i r) × (ending ≡ Done)
-IsReported i r (Some missing) old new ending = Keeps old new × (ending ≡ NotFound missing)
-
--- The program ends so, whatever the report was written to; or there was no memory for it, or it was not written.
+-- a place, lengths, or a listing
 abbrev pub EndsReport : Image → Report → Ending → Type 0
-EndsReport i r ending =
-    ((old : Option Text) × (new : Option Text) × IsReported i r (missing_of i r) old new ending) ⊎ (ending ≡ Stopped Memory) ⊎ (ending ≡ Stopped Write)
+EndsReport i (report.Where place) ending = EndsPlace i place ending
+EndsReport i (report.Lengths route) ending = EndsLengths i route ending
+EndsReport i (report.Listing listing) ending = EndsListing i listing ending

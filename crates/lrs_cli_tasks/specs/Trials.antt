@@ -16,9 +16,9 @@ use Rattle.lrs_sheet.specs.declared.reply.Tally.{Tally}
 use Rattle.lrs_sheet.specs.declared.resumption.Decided.{Decided}
 use Rattle.lrs_cli_tasks.specs.declared.endings.Ending.{Ending}
 use Rattle.lrs_cli_tasks.specs.declared.endings.Ending.TheVariants.{Stopped}
-use Rattle.lrs_cli_tasks.specs.declared.fault.ProgramFault.{ProgramFault}
 use Rattle.lrs_cli_tasks.specs.declared.fault.ProgramFault.TheVariants.{Memory, Read, Write}
 use Rattle.lrs_cli_tasks.specs.declared.sheets.Pace.{Pace}
+use Rattle.lrs_cli_tasks.specs.Faults.{fault_of_sheet}
 use Rattle.lrs_cli_tasks.specs.Sheets.{EndsRun, EndsSheet, ending_of_sheet}
 
 -- an inventory may hold as much as one may hold at all
@@ -81,11 +81,15 @@ module _ {K : Type 0} (holds : K → Result Image Table → Type 0) where
     pub same : after ≡ before
     pub ends : ending ≡ ending_of_sheet outcome
 
+  -- a sheet was not tried: there was no memory, it was not read, or its replies had no room; or where it goes on, it is not known behind which record
+  abbrev pub IsUntried : Bool → Ending → Type 0
+  IsUntried resumes ending = IsUnchecked ending ⊎ ((resumes ≡ true) × ((fault : SheetFault) × (ending ≡ Stopped (fault_of_sheet fault))))
+
   -- A sheet is done as a whole or not at all; or it was not tried, and nothing is done.
   abbrev pub EndsAll : Sheet → Bool → DeskView K → DeskView K → Ending → Type 0
   EndsAll kind resumes before after ending =
       IsDoneAll kind resumes before after ending ⊎ IsRefusedAll kind resumes before after ending
-      ⊎ ((after ≡ before) × ((fault : ProgramFault) × (ending ≡ Stopped fault)))
+      ⊎ ((after ≡ before) × IsUntried resumes ending)
 
   -- How the program ends with a sheet: done as it comes, or as a whole or not at all.
   abbrev pub EndsRecords : Sheet → Bool → Bool → DeskView K → DeskView K → Ending → Type 0

@@ -1,12 +1,16 @@
 //! Whether an inventory is what its log makes.
 
 ghost use Rattle.std.specs.Prelude.{◌≡◌, ◌⊎◌, IfOk, IfErr};
+ghost use Rattle.lrs_image.specs.Kept.{image_of};
+ghost use Rattle.lrs_log.specs.Differences.{IsFirstDifference};
 ghost use Rattle.lrs_cli_tasks.specs.Auditing.{EndsAudit, IsAudited, IsMadeBy, log_of};
 
 use crate::desk::open_in_memory;
+use crate::difference::tell_row;
 use crate::endings::Ending;
 use crate::fault::ProgramFault;
 use lrs_desk::{Desk, Keeper, Plain};
+use lrs_image::KeptImage;
 use lrs_inventory::Inventory;
 use lrs_log::{first_difference, write_log};
 use lrs_machine::Table;
@@ -40,22 +44,41 @@ fn desk_made_by(alloc: Global, sheet: &[u8]) -> Result<Desk<Plain>, ProgramFault
     }
 }
 
+// The first table in which two images differ, if there is one. Its first row that is another is told on standard error.
+fn told_difference<R: Runtime<A = Global>>(
+    rt: &R,
+    kept: &KeptImage,
+    made: &KeptImage,
+) -> Option<Table>
+    ensures { IsFirstDifference (image_of kept.now) (image_of made.now) result }
+{
+    let differs = first_difference(kept, made);
+    if let Some(table) = differs {
+        tell_row(rt, kept, made, table);
+    }
+    differs
+}
+
 // The first table in which an inventory is not what its log makes, if there is one.
-fn audit(alloc: Global, inventory: &Inventory) -> Result<Option<Table>, ProgramFault>
+fn audit<R: Runtime<A = Global>>(
+    rt: &R,
+    inventory: &Inventory,
+) -> Result<Option<Table>, ProgramFault>
     ensures audited { IfOk result (IsAudited inventory.now) }
     ensures memory { IfErr result (λ e. e ≡ ProgramFault.Memory) }
 {
-    let log = log_of(alloc, inventory)?;
-    let made = desk_made_by(alloc, log.as_slice())?;
-    Ok(first_difference(inventory.kept(), made.inventory().kept()))
+    let log = log_of(rt.alloc(), inventory)?;
+    let made = desk_made_by(rt.alloc(), log.as_slice())?;
+    Ok(told_difference(rt, inventory.kept(), made.inventory().kept()))
 }
 
 /// Does the log of a desk's inventory again on the empty inventory in memory, and compares what it makes with the
-/// inventory, table by table. It changes nothing.
+/// inventory, table by table. It changes nothing. Of a table that differs, its first row that is another is told on
+/// standard error: as it is kept, and as the log makes it.
 pub fn do_audit<R: Runtime<A = Global>, K: Keeper>(rt: &R, desk: &Desk<K>) -> Ending
     ensures { EndsAudit desk.now.image result }
 {
-    match audit(rt.alloc(), desk.inventory()) {
+    match audit(rt, desk.inventory()) {
         Ok(None) => match println!(rt; "sound, and as its log says") {
             Ok(()) => Ending::Done,
             Err(_) => Ending::Stopped(ProgramFault::Write),

@@ -17,6 +17,9 @@ pub enum Missing {
     Asset,
     Edit,
     Key,
+    Link,
+    /// The chainage is not on the route, or no route runs over the millimetre of the link.
+    Place,
 }
 
 impl fmt::Display for Missing {
@@ -32,6 +35,8 @@ impl fmt::Display for Missing {
             Missing::Asset => f.write_str("NoAsset"),
             Missing::Edit => f.write_str("NoEdit"),
             Missing::Key => f.write_str("NoKey"),
+            Missing::Link => f.write_str("NoLink"),
+            Missing::Place => f.write_str("OffRoute"),
         }
     }
 }

@@ -4,9 +4,13 @@
 mod advice;
 mod audit;
 mod desk;
+mod difference;
 mod endings;
 mod fault;
+mod lengths;
+mod listings;
 mod page;
+mod places;
 mod progress;
 mod questions;
 mod report;

@@ -88,7 +88,17 @@ pub fn task_of<'a>(alloc: Global, job: &Job<'a>) -> Result<Task<'a>, QuestionFau
         } => (db, sheet_work(Sheet::Survey, sheet, *resume, *all)),
         Job::Check { db, sheet, survey } => (db, check_work(sheet, *survey)),
         Job::Audit { db } => (db, Work::Audit),
-        Job::Serve { db, port, max, .. } => (db, Work::Service(service_of(port, max)?)),
+        Job::Serve {
+            db,
+            port,
+            max,
+            log,
+            end_on_fault,
+            ..
+        } => (
+            db,
+            Work::Service(service_of(port, max, *log, *end_on_fault)?),
+        ),
         Job::At { db, .. }
         | Job::Translate { db, .. }
         | Job::Strip { db, .. }
@@ -98,11 +108,15 @@ pub fn task_of<'a>(alloc: Global, job: &Job<'a>) -> Result<Task<'a>, QuestionFau
             Some(question) => (db, Work::Question(question)),
             None => unreachable!(),
         },
-        Job::List { db, .. } | Job::Rows { db, .. } | Job::Gone { db, .. } | Job::Log { db, .. } =>
-            match report_of(job)? {
-                Some(report) => (db, Work::Report(report)),
-                None => unreachable!(),
-            },
+        Job::Where { db, .. }
+        | Job::Lengths { db, .. }
+        | Job::List { db, .. }
+        | Job::Rows { db, .. }
+        | Job::Gone { db, .. }
+        | Job::Log { db, .. } => match report_of(job)? {
+            Some(report) => (db, Work::Report(report)),
+            None => unreachable!(),
+        },
     };
     Ok(Task::Inventory { db, work })
 }

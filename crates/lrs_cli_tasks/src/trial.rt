@@ -1,6 +1,6 @@
 //! Sheets that are tried at a copy of the inventory, in memory.
 
-ghost use Rattle.std.specs.Prelude.{◌≡◌, ◌⊎◌, IfOk, IfErr};
+ghost use Rattle.std.specs.Prelude.{◌≡◌, ◌⊎◌, IfOk, IfErr, true};
 ghost use Rattle.lrs_machine.specs.Image.{state_of};
 ghost use Rattle.lrs_sheet.specs.Sheets.{IsAfterCommands};
 ghost use Rattle.lrs_cli_tasks.specs.Sheets.{ending_of_sheet};
@@ -116,7 +116,8 @@ fn passed_of<R: Runtime<A = Global>, K: Keeper>(
     resumes: bool,
     text: &[u8],
 ) -> Result<u32, SheetFault>
-    ensures { IfOk result (ArePassed kind resumes desk.now.image text.now) }
+    ensures passed { IfOk result (ArePassed kind resumes desk.now.image text.now) }
+    ensures fault { IfErr result (λ _. resumes ≡ true) }
 {
     if !resumes {
         return Ok(0);

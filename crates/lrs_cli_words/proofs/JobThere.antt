@@ -92,6 +92,12 @@ all_fills = flag_fills (codes "all")
 survey_fills : Fills (flag_at (codes "survey"))
 survey_fills = flag_fills (codes "survey")
 
+log_fills : Fills (flag_at (codes "log"))
+log_fills = flag_fills (codes "log")
+
+end_fills : Fills (flag_at (codes "end-on-fault"))
+end_fills = flag_fills (codes "end-on-fault")
+
 from_fills : Fills (option_at (codes "from"))
 from_fills = option_fills (codes "from") refl
 
@@ -116,6 +122,9 @@ key_fills = option_fills (codes "key") refl
 abbrev sheet_options : List Rule
 sheet_options = flag_at (codes "sums") ∷ flag_at (codes "resume") ∷ flag_at (codes "all") ∷ []
 
+abbrev serve_options : List Rule
+serve_options = flag_at (codes "sums") ∷ flag_at (codes "log") ∷ flag_at (codes "end-on-fault") ∷ []
+
 abbrev end_options : List Rule
 end_options = option_at (codes "from") ∷ option_at (codes "to") ∷ []
 
@@ -139,6 +148,7 @@ has_flags job.Check = record {
   short = short_help (rules_at job.Check) help_fills;
 }
 has_flags job.At = record { long = without_options job.At help_fills; short = short_help (rules_at job.At) help_fills }
+has_flags job.Where = record { long = without_options job.Where help_fills; short = short_help (rules_at job.Where) help_fills }
 has_flags job.Translate = record { long = without_options job.Translate help_fills; short = short_help (rules_at job.Translate) help_fills }
 has_flags job.Strip = record { long = without_options job.Strip help_fills; short = short_help (rules_at job.Strip) help_fills }
 has_flags job.Diagram = record {
@@ -146,6 +156,10 @@ has_flags job.Diagram = record {
   short = short_help (rules_at job.Diagram) help_fills;
 }
 has_flags job.Totals = record { long = without_options job.Totals help_fills; short = short_help (rules_at job.Totals) help_fills }
+has_flags job.Lengths = record {
+  long = long_among (rules_at job.Lengths) (option_at (codes "route") ∷ []) (route_fills, route_fills, tt) help_fills;
+  short = short_help (rules_at job.Lengths) help_fills;
+}
 has_flags job.Find = record { long = without_options job.Find help_fills; short = short_help (rules_at job.Find) help_fills }
 has_flags job.List = record { long = without_options job.List help_fills; short = short_help (rules_at job.List) help_fills }
 has_flags job.Rows = record {
@@ -163,7 +177,7 @@ has_flags job.Log = record {
 }
 has_flags job.Audit = record { long = without_options job.Audit help_fills; short = short_help (rules_at job.Audit) help_fills }
 has_flags job.Serve = record {
-  long = long_among (rules_at job.Serve) (flag_at (codes "sums") ∷ []) (sums_fills, sums_fills, tt) help_fills;
+  long = long_among (rules_at job.Serve) serve_options (sums_fills, sums_fills, (log_fills, log_fills, (end_fills, end_fills, tt))) help_fills;
   short = short_help (rules_at job.Serve) help_fills;
 }
 has_flags job.Page = record { long = without_options job.Page help_fills; short = short_help (rules_at job.Page) help_fills }
@@ -205,10 +219,12 @@ none_lack job.Edit = refl
 none_lack job.Survey = refl
 none_lack job.Check = refl
 none_lack job.At = refl
+none_lack job.Where = refl
 none_lack job.Translate = refl
 none_lack job.Strip = refl
 none_lack job.Diagram = refl
 none_lack job.Totals = refl
+none_lack job.Lengths = refl
 none_lack job.Find = refl
 none_lack job.List = refl
 none_lack job.Rows = refl
@@ -223,10 +239,12 @@ none_missing job.Edit rows e = missing_none _ e
 none_missing job.Survey rows e = missing_none _ e
 none_missing job.Check rows e = missing_none _ e
 none_missing job.At rows e = missing_none _ e
+none_missing job.Where rows e = missing_none _ e
 none_missing job.Translate rows e = missing_none _ e
 none_missing job.Strip rows e = missing_none _ e
 none_missing job.Diagram rows e = missing_none _ e
 none_missing job.Totals rows e = missing_none _ e
+none_missing job.Lengths rows e = missing_none _ e
 none_missing job.Find rows e = missing_none _ e
 none_missing job.List rows e = missing_none _ e
 none_missing job.Rows rows e = missing_none _ e

@@ -1,8 +1,8 @@
 -- What a job's words ask of an inventory, and which of them cannot be read.
-use Rattle.std.specs.Prelude.{◌≡◌, ◌⊎◌, ⊤, ℕ, ◌≤◌, IsTrue, IsSomeAnd, List, Option, Some, None, map, option_map, codes, slice_get}
+use Rattle.std.specs.Prelude.{◌≡◌, ◌⊎◌, ⊤, ℕ, ◌≤◌, Bool, IsTrue, IsSomeAnd, List, Option, Some, None, map, option_map, codes, slice_get}
 use Rattle.std.specs.Str.Parse.{IsNumeral, digits_value}
 use Rattle.clap.specs.Words.{Text}
-use Rattle.lrs_measure.specs.Limits.{greatest_asset, longest_route, most_edits}
+use Rattle.lrs_measure.specs.Limits.{greatest_asset, greatest_link, longest_link, longest_route, most_edits}
 use Rattle.lrs_measure.specs.Texts.{Name}
 use Rattle.lrs_position.specs.declared.expression.Expr.{Expr}
 use Rattle.lrs_position.specs.declared.expression.Method.{Method}
@@ -75,6 +75,13 @@ SaysIfGiven Says _ _ = ⊥
 abbrev pub SaysEnd : Option Text → Option ℕ → Type 0
 SaysEnd = SaysIfGiven SaysChainage
 
+-- the number of a link, and a millimetre of it
+abbrev pub SaysLink : Text → ℕ → Type 0
+SaysLink = SaysNumber 1 greatest_link
+
+abbrev pub SaysMillimetre : Text → ℕ → Type 0
+SaysMillimetre = SaysNumber 0 longest_link
+
 -- the number of an edit
 abbrev pub SaysEdit : Text → ℕ → Type 0
 SaysEdit = SaysNumber 1 most_edits
@@ -97,9 +104,12 @@ SaysList text what = text ≡ list_text what
 abbrev pub SaysMost : Text → ℕ → Type 0
 SaysMost = SaysNumber 0 1_000_000
 
--- the port and how many connections, as these words say
-abbrev pub SaysService : Text → Text → Service → Type 0
-SaysService port max service = SaysPort port service.port × SaysMost max service.max
+-- the port and how many connections, as these words say, and how they are served, as the options do
+pub record SaysService (at most : Text) (tells ends : Bool) (service : Service) : Type 0 where
+  pub port : SaysPort at service.port
+  pub max : SaysMost most service.max
+  pub logs : service.logs ≡ tells
+  pub ends_on_fault : service.ends_on_fault ≡ ends
 
 -- ---- questions
 
@@ -108,12 +118,14 @@ abbrev pub AsksNothing : Job → Type 0
 AsksNothing (job.Edit db sheet sums resume all) = ⊤
 AsksNothing (job.Survey db sheet sums resume all) = ⊤
 AsksNothing (job.Check db sheet survey) = ⊤
+AsksNothing (job.Where db route chainage mm) = ⊤
+AsksNothing (job.Lengths db route) = ⊤
 AsksNothing (job.List db what) = ⊤
 AsksNothing (job.Rows db route from to class asset) = ⊤
 AsksNothing (job.Gone db edit) = ⊤
 AsksNothing (job.Log db from key) = ⊤
 AsksNothing (job.Audit db) = ⊤
-AsksNothing (job.Serve db port max sums) = ⊤
+AsksNothing (job.Serve db port max sums log end_on_fault) = ⊤
 AsksNothing (job.Page dir) = ⊤
 AsksNothing _ = ⊥
 
@@ -191,6 +203,19 @@ CannotDiagram route classes from to fault =
 abbrev pub CannotServe : Text → Text → QuestionFault → Type 0
 CannotServe port max fault = Cannot word.Port (SaysPort port) fault ⊎ Cannot word.Max (SaysMost max) fault
 
+-- the route, or the chainage
+abbrev pub CannotPlace : Text → Text → QuestionFault → Type 0
+CannotPlace route chainage fault = Cannot word.Route (SaysRoute route) fault ⊎ Cannot word.Chainage (SaysChainage chainage) fault
+
+-- the link, or the millimetre
+abbrev pub CannotLink : Text → Text → QuestionFault → Type 0
+CannotLink link mm fault = Cannot word.Link (SaysLink link) fault ⊎ Cannot word.Millimetre (SaysMillimetre mm) fault
+
+-- a word of a place: a third one says that the first is `link`
+abbrev pub CannotWhere : Text → Text → Option Text → QuestionFault → Type 0
+CannotWhere route chainage None fault = CannotPlace route chainage fault
+CannotWhere route chainage (Some mm) fault = ((fault ≡ Unreadable word.NotLink) × (route ≡ codes "link" → ⊥)) ⊎ CannotLink chainage mm fault
+
 -- one of the words that narrow a list of rows
 abbrev pub CannotRows : Option Text → Option Text → Option Text → Option Text → Option Text → QuestionFault → Type 0
 CannotRows route from to class asset fault =
@@ -208,12 +233,14 @@ IsFaultOf (job.Translate db route method position to) fault = CannotTranslate ro
 IsFaultOf (job.Strip db route side classes) fault = CannotStrip route.now side.now (map (λ w. w.now) classes.items) fault
 IsFaultOf (job.Diagram db route classes from to) fault = CannotDiagram route.now (map (λ w. w.now) classes.items) (option_map (λ w. w.now) from) (option_map (λ w. w.now) to) fault
 IsFaultOf (job.Find db asset) fault = Cannot word.Asset (SaysAsset asset.now) fault
+IsFaultOf (job.Where db route chainage mm) fault = CannotWhere route.now chainage.now (option_map (λ w. w.now) mm) fault
+IsFaultOf (job.Lengths db route) fault = CannotIfGiven word.Route SaysRoute (option_map (λ w. w.now) route) fault
 IsFaultOf (job.List db what) fault = Cannot word.What (SaysList what.now) fault
 IsFaultOf (job.Rows db route from to class asset) fault =
     CannotRows (option_map (λ w. w.now) route) (option_map (λ w. w.now) from) (option_map (λ w. w.now) to) (option_map (λ w. w.now) class) (option_map (λ w. w.now) asset) fault
 IsFaultOf (job.Gone db edit) fault = CannotIfGiven word.Edit SaysEdit (option_map (λ w. w.now) edit) fault
 IsFaultOf (job.Log db from key) fault = CannotLog (option_map (λ w. w.now) from) (option_map (λ w. w.now) key) fault
-IsFaultOf (job.Serve db port max sums) fault = CannotServe port.now max.now fault
+IsFaultOf (job.Serve db port max sums log end_on_fault) fault = CannotServe port.now max.now fault
 IsFaultOf _ fault = ⊥
 
 -- what a word is not
@@ -231,5 +258,9 @@ bad_word_text word.What = codes "WHAT is none of routes, links, classes and refs
 bad_word_text word.Edit = codes "EDIT is no number of an edit"
 bad_word_text word.Number = codes "FROM is no number of an edit"
 bad_word_text word.Key = codes "KEY is no key"
+bad_word_text word.Chainage = codes "CHAINAGE is no chainage in millimetres"
+bad_word_text word.NotLink = codes "MM stands only behind the word link and LINK"
+bad_word_text word.Link = codes "LINK is no link number"
+bad_word_text word.Millimetre = codes "MM is no millimetre of a link"
 bad_word_text word.Port = codes "PORT is no port number"
 bad_word_text word.Max = codes "MAX is no number of connections"

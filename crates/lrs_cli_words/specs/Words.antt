@@ -9,7 +9,7 @@ use Rattle.clap.specs.declared.error.ErrorKind.TheVariants as kind
 use Rattle.lrs_cli_words.specs.declared.job.JobName.{JobName}
 use Rattle.lrs_cli_words.specs.declared.job.JobName.TheVariants as job
 use Rattle.lrs_cli_words.specs.declared.job.Job.{Job}
-use Rattle.lrs_cli_words.specs.declared.job.Job.TheVariants.{Edit, Survey, Check, At, Translate, Strip, Diagram, Totals, Find, List as Listing, Rows, Gone, Log, Audit, Serve, Page}
+use Rattle.lrs_cli_words.specs.declared.job.Job.TheVariants.{Edit, Survey, Check, At, Where, Translate, Strip, Diagram, Totals, Lengths, Find, List as Listing, Rows, Gone, Log, Audit, Serve, Page}
 
 -- ---- the command line
 
@@ -42,10 +42,12 @@ name_text job.Edit = codes "edit"
 name_text job.Survey = codes "survey"
 name_text job.Check = codes "check"
 name_text job.At = codes "at"
+name_text job.Where = codes "where"
 name_text job.Translate = codes "translate"
 name_text job.Strip = codes "strip"
 name_text job.Diagram = codes "diagram"
 name_text job.Totals = codes "totals"
+name_text job.Lengths = codes "lengths"
 name_text job.Find = codes "find"
 name_text job.List = codes "list"
 name_text job.Rows = codes "rows"
@@ -61,10 +63,12 @@ rules_of job.Edit = required (codes "DB") ∷ required (codes "SHEET") ∷ []
 rules_of job.Survey = required (codes "DB") ∷ required (codes "SHEET") ∷ []
 rules_of job.Check = required (codes "DB") ∷ required (codes "SHEET") ∷ []
 rules_of job.At = required (codes "DB") ∷ required (codes "ROUTE") ∷ required (codes "METHOD") ∷ required (codes "POS") ∷ []
+rules_of job.Where = required (codes "DB") ∷ required (codes "ROUTE") ∷ required (codes "CHAINAGE") ∷ []
 rules_of job.Translate = required (codes "DB") ∷ required (codes "ROUTE") ∷ required (codes "METHOD") ∷ required (codes "POS") ∷ required (codes "TO") ∷ []
 rules_of job.Strip = required (codes "DB") ∷ required (codes "ROUTE") ∷ required (codes "SIDE") ∷ several (codes "CLASS") ∷ []
 rules_of job.Diagram = required (codes "DB") ∷ required (codes "ROUTE") ∷ []
 rules_of job.Totals = required (codes "DB") ∷ []
+rules_of job.Lengths = required (codes "DB") ∷ []
 rules_of job.Find = required (codes "DB") ∷ required (codes "ASSET") ∷ []
 rules_of job.List = required (codes "DB") ∷ required (codes "WHAT") ∷ []
 rules_of job.Rows = required (codes "DB") ∷ []
@@ -74,12 +78,14 @@ rules_of job.Audit = required (codes "DB") ∷ []
 rules_of job.Serve = required (codes "DB") ∷ required (codes "PORT") ∷ required (codes "MAX") ∷ []
 rules_of job.Page = required (codes "DIR") ∷ []
 
--- what may be left out: those jobs that may make a file have `--sums`, those that do a sheet also `--resume` and `--all`, a check says of which kind its sheet is, a diagram has its classes and its ends, and a report may be narrowed
+-- what may be left out: those jobs that may make a file have `--sums`, those that do a sheet also `--resume` and `--all`, a service also `--log` and `--end-on-fault`, a check says of which kind its sheet is, a place on a link has its millimetre, a diagram has its classes and its ends, and a report may be narrowed
 abbrev pub options_of : JobName → List Rule
 options_of job.Edit = flag (codes "sums") ∷ flag (codes "resume") ∷ flag (codes "all") ∷ []
 options_of job.Survey = flag (codes "sums") ∷ flag (codes "resume") ∷ flag (codes "all") ∷ []
 options_of job.Check = flag (codes "survey") ∷ []
-options_of job.Serve = flag (codes "sums") ∷ []
+options_of job.Serve = flag (codes "sums") ∷ flag (codes "log") ∷ flag (codes "end-on-fault") ∷ []
+options_of job.Where = optional (codes "MM") ∷ []
+options_of job.Lengths = option (codes "route") ∷ []
 options_of job.Diagram = any (codes "CLASS") ∷ option (codes "from") ∷ option (codes "to") ∷ []
 options_of job.Rows = option (codes "route") ∷ option (codes "from") ∷ option (codes "to") ∷ option (codes "class") ∷ option (codes "asset") ∷ []
 options_of job.Gone = option (codes "edit") ∷ []
@@ -100,8 +106,8 @@ with_job a j = with_subcommand a (line_of_job j)
 -- all jobs
 abbrev pub jobs : List JobName
 jobs =
-    job.Edit ∷ job.Survey ∷ job.Check ∷ job.At ∷ job.Translate ∷ job.Strip ∷ job.Diagram ∷ job.Totals ∷ job.Find ∷ job.List ∷ job.Rows ∷ job.Gone ∷ job.Log
-    ∷ job.Audit ∷ job.Serve ∷ job.Page ∷ []
+    job.Edit ∷ job.Survey ∷ job.Check ∷ job.At ∷ job.Where ∷ job.Translate ∷ job.Strip ∷ job.Diagram ∷ job.Totals ∷ job.Lengths ∷ job.Find ∷ job.List ∷ job.Rows
+    ∷ job.Gone ∷ job.Log ∷ job.Audit ∷ job.Serve ∷ job.Page ∷ []
 
 abbrev pub bare_line : App
 bare_line = record (new_app (codes "roadlrs")) {
@@ -119,17 +125,19 @@ job_name (Edit db sheet sums resume all) = job.Edit
 job_name (Survey db sheet sums resume all) = job.Survey
 job_name (Check db sheet survey) = job.Check
 job_name (At db route method position) = job.At
+job_name (Where db route chainage mm) = job.Where
 job_name (Translate db route method position to) = job.Translate
 job_name (Strip db route side classes) = job.Strip
 job_name (Diagram db route classes from to) = job.Diagram
 job_name (Totals db) = job.Totals
+job_name (Lengths db route) = job.Lengths
 job_name (Find db asset) = job.Find
 job_name (Listing db what) = job.List
 job_name (Rows db route from to class asset) = job.Rows
 job_name (Gone db edit) = job.Gone
 job_name (Log db from key) = job.Log
 job_name (Audit db) = job.Audit
-job_name (Serve db port max sums) = job.Serve
+job_name (Serve db port max sums log end_on_fault) = job.Serve
 job_name (Page dir) = job.Page
 
 -- its words that come once, each with what it is called
@@ -138,18 +146,20 @@ words_of (Edit db sheet sums resume all) = (codes "DB", db.now) ∷ (codes "SHEE
 words_of (Survey db sheet sums resume all) = (codes "DB", db.now) ∷ (codes "SHEET", sheet.now) ∷ []
 words_of (Check db sheet survey) = (codes "DB", db.now) ∷ (codes "SHEET", sheet.now) ∷ []
 words_of (At db route method position) = (codes "DB", db.now) ∷ (codes "ROUTE", route.now) ∷ (codes "METHOD", method.now) ∷ (codes "POS", position.now) ∷ []
+words_of (Where db route chainage mm) = (codes "DB", db.now) ∷ (codes "ROUTE", route.now) ∷ (codes "CHAINAGE", chainage.now) ∷ []
 words_of (Translate db route method position to) =
     (codes "DB", db.now) ∷ (codes "ROUTE", route.now) ∷ (codes "METHOD", method.now) ∷ (codes "POS", position.now) ∷ (codes "TO", to.now) ∷ []
 words_of (Strip db route side classes) = (codes "DB", db.now) ∷ (codes "ROUTE", route.now) ∷ (codes "SIDE", side.now) ∷ []
 words_of (Diagram db route classes from to) = (codes "DB", db.now) ∷ (codes "ROUTE", route.now) ∷ []
 words_of (Totals db) = (codes "DB", db.now) ∷ []
+words_of (Lengths db route) = (codes "DB", db.now) ∷ []
 words_of (Find db asset) = (codes "DB", db.now) ∷ (codes "ASSET", asset.now) ∷ []
 words_of (Listing db what) = (codes "DB", db.now) ∷ (codes "WHAT", what.now) ∷ []
 words_of (Rows db route from to class asset) = (codes "DB", db.now) ∷ []
 words_of (Gone db edit) = (codes "DB", db.now) ∷ []
 words_of (Log db from key) = (codes "DB", db.now) ∷ []
 words_of (Audit db) = (codes "DB", db.now) ∷ []
-words_of (Serve db port max sums) = (codes "DB", db.now) ∷ (codes "PORT", port.now) ∷ (codes "MAX", max.now) ∷ []
+words_of (Serve db port max sums log end_on_fault) = (codes "DB", db.now) ∷ (codes "PORT", port.now) ∷ (codes "MAX", max.now) ∷ []
 words_of (Page dir) = (codes "DIR", dir.now) ∷ []
 
 -- the classes of a strip or a diagram are all the words of their place
@@ -162,7 +172,7 @@ HasClasses _ rows = ⊤
 abbrev pub IsValue : Text → List Row → Option Text → Type 0
 IsValue id rows word = first_of id rows ≡ word
 
--- the ends of a diagram, and what narrows a report, are the values that were given
+-- the ends of a diagram, the millimetre of a link, and what narrows a report, are the values that were given
 abbrev pub HasValues : Job → List Row → Type 0
 HasValues (Diagram db route classes from to) rows =
     IsValue (codes "from") rows (option_map (λ w. w.now) from) × IsValue (codes "to") rows (option_map (λ w. w.now) to)
@@ -170,6 +180,8 @@ HasValues (Rows db route from to class asset) rows =
     IsValue (codes "route") rows (option_map (λ w. w.now) route) × IsValue (codes "from") rows (option_map (λ w. w.now) from)
     × IsValue (codes "to") rows (option_map (λ w. w.now) to) × IsValue (codes "class") rows (option_map (λ w. w.now) class)
     × IsValue (codes "asset") rows (option_map (λ w. w.now) asset)
+HasValues (Where db route chainage mm) rows = IsValue (codes "MM") rows (option_map (λ w. w.now) mm)
+HasValues (Lengths db route) rows = IsValue (codes "route") rows (option_map (λ w. w.now) route)
 HasValues (Gone db edit) rows = IsValue (codes "edit") rows (option_map (λ w. w.now) edit)
 HasValues (Log db from key) rows = IsValue (codes "FROM") rows (option_map (λ w. w.now) from) × IsValue (codes "key") rows (option_map (λ w. w.now) key)
 HasValues _ rows = ⊤
@@ -182,7 +194,7 @@ IsSet id rows = first_of id rows ≡ Some (codes "true")
 abbrev pub HasSums : Job → List Row → Type 0
 HasSums (Edit db sheet sums resume all) rows = IsTrue sums ↔ IsSet (codes "sums") rows
 HasSums (Survey db sheet sums resume all) rows = IsTrue sums ↔ IsSet (codes "sums") rows
-HasSums (Serve db port max sums) rows = IsTrue sums ↔ IsSet (codes "sums") rows
+HasSums (Serve db port max sums log end_on_fault) rows = IsTrue sums ↔ IsSet (codes "sums") rows
 HasSums _ rows = ⊤
 
 -- a sheet goes on behind its last record that is an edit exactly where `--resume` was given
@@ -202,9 +214,14 @@ abbrev pub HasKind : Job → List Row → Type 0
 HasKind (Check db sheet survey) rows = IsTrue survey ↔ IsSet (codes "survey") rows
 HasKind _ rows = ⊤
 
+-- a service tells its requests exactly where `--log` was given, and ends on a fault exactly where `--end-on-fault` was
+abbrev pub HasManner : Job → List Row → Type 0
+HasManner (Serve db port max sums log end_on_fault) rows = (IsTrue log ↔ IsSet (codes "log") rows) × (IsTrue end_on_fault ↔ IsSet (codes "end-on-fault") rows)
+HasManner _ rows = ⊤
+
 -- its words stand in their places, and its options are as they were given
 abbrev pub HasWords : Job → List Row → Type 0
-HasWords j rows = (map (λ w. first_of w.0 rows) (words_of j) ≡ map (λ w. Some w.1) (words_of j)) × HasClasses j rows × HasValues j rows × HasSums j rows × HasResume j rows × HasAll j rows × HasKind j rows
+HasWords j rows = (map (λ w. first_of w.0 rows) (words_of j) ≡ map (λ w. Some w.1) (words_of j)) × HasClasses j rows × HasValues j rows × HasSums j rows × HasResume j rows × HasAll j rows × HasKind j rows × HasManner j rows
 
 -- the job that was met has this name and these rows
 abbrev pub IsMet : Job → Option (Text × List Row) → Type 0
@@ -218,7 +235,7 @@ IsJobOf words j = IsMet j (subcommand_of line_of_program words)
 abbrev pub has_new_sums : Job → Bool
 has_new_sums (Edit db sheet sums resume all) = sums
 has_new_sums (Survey db sheet sums resume all) = sums
-has_new_sums (Serve db port max sums) = sums
+has_new_sums (Serve db port max sums log end_on_fault) = sums
 has_new_sums _ = false
 
 -- ---- words that are no job

@@ -10,12 +10,19 @@ use clap::{Arg, ArgAction, Command};
 use std::alloc::{AllocError, Global};
 
 /// The version of the program, and the kit that proved it.
-static VERSION: &str = "0.3.0, proved by rattle-kit-13f logic dac8208d650f15bf";
+static VERSION: &str = "0.4.0, proved by rattle-kit-13f logic dac8208d650f15bf";
 
 // What help says of the words.
 static DB: &str = "The inventory's file, or :memory: for a fresh one in memory";
 
 static SHEET: &str = "The sheet's file, or stdin for the standard input";
+
+// What help says of the program, behind its commands.
+static GENERAL: &str = "Two options go with every command, anywhere after roadlrs:
+  --existing  a DB that is not there is a fault, and no new inventory
+  --explain   of a fault, says what was found and what to do
+
+roadlrs help VERB shows the fields and the refusals of a verb of edit sheets.";
 
 static ROUTE: &str = "The name of a route";
 
@@ -43,9 +50,9 @@ static MAX: &str = "How many connections are served, at most 1000000";
 
 static DIR: &str = "The folder that gets index.html; made where it is missing";
 
-static SUMS: &str = "Gives a new file a sum behind each page, so that damage is found";
+static SUMS: &str = "Gives a new file checksums, so that damage is found";
 
-static RESUME: &str = "Goes on behind the last record of the sheet that was accepted before";
+static RESUME: &str = "Goes on after the last record of the sheet that was accepted before";
 
 static ALL: &str = "Does the sheet only if no record of it is refused";
 
@@ -55,7 +62,7 @@ static WHAT: &str = "What is listed: routes, links, classes or refs";
 
 static OF_ROUTE: &str = "On this route; else on all";
 
-static ROWS_FROM: &str = "What lies behind this chainage, in millimetres";
+static ROWS_FROM: &str = "What lies after this chainage, in millimetres";
 
 static ROWS_TO: &str = "What lies before this chainage, in millimetres";
 
@@ -64,6 +71,14 @@ static OF_CLASS: &str = "Of this class; else of all";
 static OF_ASSET: &str = "Of the asset of this number; else of all";
 
 static OF_EDIT: &str = "By the edit of this number; else by all";
+
+static CHAINAGE: &str = "A chainage of the route, in millimetres";
+
+static MM: &str = "After the word link and a link's number: a millimetre of the link";
+
+static LOG: &str = "Writes a line for each request on standard error";
+
+static END_ON_FAULT: &str = "Ends with status 3 once the inventory was not written";
 
 static FROM_EDIT: &str = "The number of the first edit; else from the first one of all";
 
@@ -75,7 +90,7 @@ static RECORDS: &str = "A record has a key, a verb and its fields a to i, 11 fie
   class CLASS point|stretch|exclusive  a new class of assets
   route ROUTE PIECES MARKS             a new route of parts of links
   ref REF ROUTE METHOD POS             a referent: a known place with a name
-  unref REF                            removes it
+  unref REF                            removes a referent
   enter ASSET CLASS ROUTE SIDE METHOD FROM TO VALUE OFFSET
                                        a new asset; TO is empty at a point
   supersede (fields as enter)          the same, and retires what lay there
@@ -84,8 +99,8 @@ static RECORDS: &str = "A record has a key, a verb and its fields a to i, 11 fie
   join FIRST SECOND                    appends the second route to the first
   renumber ROUTE NEW                   gives a route another name
   recalibrate ROUTE MARKS              gives a route other marks
-  turn ROUTE                           lets a route run the other way
-  realign ROUTE FROM TO PIECES MARKS   replaces FROM to TO by other ground
+  turn ROUTE                           reverses a route
+  realign ROUTE FROM TO PIECES MARKS   replaces the ground from FROM to TO
   close ROUTE                          ends a route and abandons its assets
 PIECES: LINK:FROM:TO:+ or LINK:FROM:TO:-, one space between two of them.
 MARKS: CHAINAGE:MEASURE, from 0 to the route's end, one space between two.
@@ -280,6 +295,19 @@ fn at_line<'a>(alloc: Global) -> Result<Command<'a>, AllocError>
     with_word(alloc, line, "POS", POS)
 }
 
+fn where_line<'a>(alloc: Global) -> Result<Command<'a>, AllocError>
+    ensures app { IfOk result (λ c. app_of c ≡ app_of_job JobName.Where) }
+    ensures local { IfOk result (λ c. (out-Command c).has_globals ≡ false) }
+{
+    let about = "Shows what is at a chainage, and its position by each method";
+    let example = "Examples: roadlrs where roads.db A1 3000
+          roadlrs where roads.db link 101 3000";
+    let line = line_over(alloc, "where", about, example)?;
+    let line = with_word(alloc, line, "ROUTE", ROUTE)?;
+    let line = with_word(alloc, line, "CHAINAGE", CHAINAGE)?;
+    line.arg(maybe(alloc, "MM", MM))
+}
+
 fn translate_line<'a>(alloc: Global) -> Result<Command<'a>, AllocError>
     ensures app { IfOk result (λ c. app_of c ≡ app_of_job JobName.Translate) }
     ensures local { IfOk result (λ c. (out-Command c).has_globals ≡ false) }
@@ -323,6 +351,16 @@ fn totals_line<'a>(alloc: Global) -> Result<Command<'a>, AllocError>
     let about = "Counts what each class has entered, retired, abandoned and present";
     let example = "Example: roadlrs totals roads.db";
     line_over(alloc, "totals", about, example)
+}
+
+fn lengths_line<'a>(alloc: Global) -> Result<Command<'a>, AllocError>
+    ensures app { IfOk result (λ c. app_of c ≡ app_of_job JobName.Lengths) }
+    ensures local { IfOk result (λ c. (out-Command c).has_globals ≡ false) }
+{
+    let about = "Lists the length of each value of each class in metres, as CSV";
+    let example = "Example: roadlrs lengths roads.db --route A1";
+    let line = line_over(alloc, "lengths", about, example)?;
+    line.arg(valued(alloc, "route", "ROUTE", OF_ROUTE))
 }
 
 fn find_line<'a>(alloc: Global) -> Result<Command<'a>, AllocError>
@@ -405,12 +443,14 @@ fn serve_line<'a>(alloc: Global) -> Result<Command<'a>, AllocError>
     ensures app { IfOk result (λ c. app_of c ≡ app_of_job JobName.Serve) }
     ensures local { IfOk result (λ c. (out-Command c).has_globals ≡ false) }
 {
-    let about = "Serves the inventory over HTTP on 127.0.0.1, one connection at a time";
+    let about = "Serves the inventory over HTTP on 127.0.0.1, one request at a time";
     let example = "Example: roadlrs serve roads.db 8080 1000000";
     let line = line_over(alloc, "serve", about, example)?;
     let line = with_word(alloc, line, "PORT", PORT)?;
     let line = with_word(alloc, line, "MAX", MAX)?;
-    with_sums(alloc, line, "roadlrs serve <DB> <PORT> <MAX>")
+    let line = with_sums(alloc, line, "roadlrs serve <DB> <PORT> <MAX>")?;
+    line.arg(switch(alloc, "log", LOG))?
+        .arg(switch(alloc, "end-on-fault", END_ON_FAULT))
 }
 
 fn page_line<'a>(alloc: Global) -> Result<Command<'a>, AllocError>
@@ -434,12 +474,15 @@ fn with_sheets<'a>(alloc: Global, line: Command<'a>) -> Result<Command<'a>, Allo
 }
 
 fn with_positions<'a>(alloc: Global, line: Command<'a>) -> Result<Command<'a>, AllocError>
-    ensures { IfOk result (λ c. app_of c ≡ with_job
-        (with_job (app_of line.entry) JobName.At) JobName.Translate) }
+    ensures { IfOk result (λ c. app_of c ≡ with_job (with_job
+        (with_job (app_of line.entry) JobName.At) JobName.Where) JobName.Translate) }
 {
     let at = at_line(alloc)?;
+    let place = where_line(alloc)?;
     let translate = translate_line(alloc)?;
-    line.subcommand(at)?.subcommand(translate)
+    line.subcommand(at)?
+        .subcommand(place)?
+        .subcommand(translate)
 }
 
 fn with_pictures<'a>(alloc: Global, line: Command<'a>) -> Result<Command<'a>, AllocError>
@@ -452,12 +495,15 @@ fn with_pictures<'a>(alloc: Global, line: Command<'a>) -> Result<Command<'a>, Al
 }
 
 fn with_reports<'a>(alloc: Global, line: Command<'a>) -> Result<Command<'a>, AllocError>
-    ensures { IfOk result (λ c. app_of c ≡ with_job
-        (with_job (app_of line.entry) JobName.Totals) JobName.Find) }
+    ensures { IfOk result (λ c. app_of c ≡ with_job (with_job
+        (with_job (app_of line.entry) JobName.Totals) JobName.Lengths) JobName.Find) }
 {
     let totals = totals_line(alloc)?;
+    let lengths = lengths_line(alloc)?;
     let find = find_line(alloc)?;
-    line.subcommand(totals)?.subcommand(find)
+    line.subcommand(totals)?
+        .subcommand(lengths)?
+        .subcommand(find)
 }
 
 fn with_lists<'a>(alloc: Global, line: Command<'a>) -> Result<Command<'a>, AllocError>
@@ -490,8 +536,8 @@ fn with_service<'a>(alloc: Global, line: Command<'a>) -> Result<Command<'a>, All
 
 fn with_questions<'a>(alloc: Global, line: Command<'a>) -> Result<Command<'a>, AllocError>
     ensures { IfOk result (λ c. app_of c ≡ fold with_job (app_of line.entry)
-        (JobName.At ∷ JobName.Translate ∷ JobName.Strip ∷ JobName.Diagram
-        ∷ JobName.Totals ∷ JobName.Find ∷ JobName.List ∷ JobName.Rows ∷ JobName.Gone
+        (JobName.At ∷ JobName.Where ∷ JobName.Translate ∷ JobName.Strip ∷ JobName.Diagram
+        ∷ JobName.Totals ∷ JobName.Lengths ∷ JobName.Find ∷ JobName.List ∷ JobName.Rows ∷ JobName.Gone
         ∷ JobName.Log ∷ JobName.Audit ∷ [])) }
 {
     let line = with_positions(alloc, line)?;
@@ -509,6 +555,7 @@ pub(crate) fn program<'a>(alloc: Global) -> Result<Command<'a>, AllocError>
         .bin_name("roadlrs")?
         .version(VERSION)
         .about("Keeps a road asset inventory by linear referencing")
+        .after_help(GENERAL)
         .no_binary_name(true)
         .subcommand_required(true);
     let line = with_sheets(alloc, line)?;

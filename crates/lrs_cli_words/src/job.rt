@@ -11,10 +11,12 @@ pub enum JobName {
     Survey,
     Check,
     At,
+    Where,
     Translate,
     Strip,
     Diagram,
     Totals,
+    Lengths,
     Find,
     List,
     Rows,
@@ -59,6 +61,14 @@ pub enum Job<'a> {
         method: &'a str,
         position: &'a str,
     },
+    /// Says what is at a chainage of a route; or, where `route` is `link`, at the millimetre `mm` of the link
+    /// `chainage`.
+    Where {
+        db: &'a str,
+        route: &'a str,
+        chainage: &'a str,
+        mm: Option<&'a str>,
+    },
     /// Says a position on a route by another method, or on a link.
     Translate {
         db: &'a str,
@@ -86,6 +96,11 @@ pub enum Job<'a> {
     /// Counts side millimetres by class.
     Totals {
         db: &'a str,
+    },
+    /// Says how long each value of each class is, on a route where it is given.
+    Lengths {
+        db: &'a str,
+        route: Option<&'a str>,
     },
     /// Says where an asset lies.
     Find {
@@ -122,12 +137,15 @@ pub enum Job<'a> {
     Audit {
         db: &'a str,
     },
-    /// Serves `max` connections over HTTP on a port of this machine.
+    /// Serves `max` connections over HTTP on a port of this machine. With `log` each request is told on
+    /// standard error, and with `end_on_fault` a failed commit ends the service.
     Serve {
         db: &'a str,
         port: &'a str,
         max: &'a str,
         sums: bool,
+        log: bool,
+        end_on_fault: bool,
     },
     /// Writes the web page into the folder `dir`.
     Page {
@@ -143,10 +161,12 @@ pub fn new_has_sums(job: &Job<'_>) -> bool
         Job::Edit { sums, .. } | Job::Survey { sums, .. } | Job::Serve { sums, .. } => *sums,
         Job::Check { .. }
         | Job::At { .. }
+        | Job::Where { .. }
         | Job::Translate { .. }
         | Job::Strip { .. }
         | Job::Diagram { .. }
         | Job::Totals { .. }
+        | Job::Lengths { .. }
         | Job::Find { .. }
         | Job::List { .. }
         | Job::Rows { .. }
@@ -167,10 +187,12 @@ pub(crate) fn read_job(name: &str) -> Option<JobName>
         "survey" => Some(JobName::Survey),
         "check" => Some(JobName::Check),
         "at" => Some(JobName::At),
+        "where" => Some(JobName::Where),
         "translate" => Some(JobName::Translate),
         "strip" => Some(JobName::Strip),
         "diagram" => Some(JobName::Diagram),
         "totals" => Some(JobName::Totals),
+        "lengths" => Some(JobName::Lengths),
         "find" => Some(JobName::Find),
         "list" => Some(JobName::List),
         "rows" => Some(JobName::Rows),

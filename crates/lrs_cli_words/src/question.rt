@@ -19,11 +19,15 @@ const GREATEST_PORT: u64 = 65_535;
 /// The most connections that are served before the program ends.
 const MOST_CONNECTIONS: u64 = 1_000_000;
 
-/// Where an inventory is served: a port of this machine, for a number of connections.
+/// Where an inventory is served: a port of this machine, for a number of connections; and how.
 #[derive(Clone, Copy, Debug, PartialEq, Eq)]
 pub struct Service {
     pub port: u16,
     pub max: u32,
+    /// Each request is told on standard error.
+    pub logs: bool,
+    /// A failed commit ends the service.
+    pub ends_on_fault: bool,
 }
 
 /// A word that cannot be read.
@@ -42,6 +46,10 @@ pub enum BadWord {
     Edit,
     Number,
     Key,
+    Chainage,
+    NotLink,
+    Link,
+    Millimetre,
     Port,
     Max,
 }
@@ -68,6 +76,10 @@ impl fmt::Display for BadWord {
             BadWord::Edit => f.write_str("EDIT is no number of an edit"),
             BadWord::Number => f.write_str("FROM is no number of an edit"),
             BadWord::Key => f.write_str("KEY is no key"),
+            BadWord::Chainage => f.write_str("CHAINAGE is no chainage in millimetres"),
+            BadWord::NotLink => f.write_str("MM stands only behind the word link and LINK"),
+            BadWord::Link => f.write_str("LINK is no link number"),
+            BadWord::Millimetre => f.write_str("MM is no millimetre of a link"),
             BadWord::Port => f.write_str("PORT is no port number"),
             BadWord::Max => f.write_str("MAX is no number of connections"),
         }
@@ -303,17 +315,27 @@ fn most_of(text: &str) -> Result<u32, QuestionFault>
     Ok(max as u32)
 }
 
-/// Where an inventory is served, as these words say.
+/// Where and how an inventory is served, as these words and options say.
 ///
 /// # Errors
 /// The first word that cannot be read.
-pub fn service_of(port: &str, max: &str) -> Result<Service, QuestionFault>
-    ensures read { IfOk result (SaysService port.now max.now) }
+pub fn service_of(
+    port: &str,
+    max: &str,
+    logs: bool,
+    ends_on_fault: bool,
+) -> Result<Service, QuestionFault>
+    ensures read { IfOk result (SaysService port.now max.now logs ends_on_fault) }
     ensures unread { IfErr result (CannotServe port.now max.now) }
 {
     let port = port_of(port)?;
     let max = most_of(max)?;
-    Ok(Service { port, max })
+    Ok(Service {
+        port,
+        max,
+        logs,
+        ends_on_fault,
+    })
 }
 
 /// What a job asks of its inventory; none where it does or checks a sheet, reports, serves, or writes the page.
@@ -329,6 +351,8 @@ pub fn question_of(alloc: Global, job: &Job<'_>) -> Result<Option<Question>, Que
         Job::Edit { .. }
         | Job::Survey { .. }
         | Job::Check { .. }
+        | Job::Where { .. }
+        | Job::Lengths { .. }
         | Job::List { .. }
         | Job::Rows { .. }
         | Job::Gone { .. }

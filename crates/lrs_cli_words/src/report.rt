@@ -1,15 +1,15 @@
 //! Which report a job asks for.
 
 ghost use Rattle.std.specs.Prelude.{◌≡◌, ◌⊎◌, IfOk, IfErr, IfNone, IfSome, option_map};
-ghost use Rattle.lrs_cli_words.specs.Questions.{Cannot, CannotIfGiven, CannotLog, CannotRows, IsFaultOf, SaysAsset, SaysClass, SaysEdit, SaysIfGiven, SaysKey, SaysList, SaysRoute};
-ghost use Rattle.lrs_cli_words.specs.Reports.{AreWanted, AsksLog, Reports, ReportsNothing};
+ghost use Rattle.lrs_cli_words.specs.Questions.{Cannot, CannotIfGiven, CannotLink, CannotLog, CannotPlace, CannotRows, CannotWhere, IsFaultOf, SaysAsset, SaysClass, SaysEdit, SaysIfGiven, SaysKey, SaysLink, SaysList, SaysRoute};
+ghost use Rattle.lrs_cli_words.specs.Reports.{AreWanted, AsksLog, IsOnLink, IsOnRoute, IsPlace, Reports, ReportsNothing};
 
 use crate::job::Job;
 use crate::question::{BadWord, QuestionFault, asset_of, class_of, end_of, number_of, route_of};
 use lrs_events::ClassName;
 use lrs_lists::RowsWanted;
 use lrs_machine::Key;
-use lrs_measure::limits::MOST_EDITS;
+use lrs_measure::limits::{GREATEST_LINK, LONGEST_LINK, LONGEST_ROUTE, MOST_EDITS};
 use lrs_position::RouteName;
 
 /// What is listed.
@@ -21,9 +21,29 @@ pub enum Listed {
     Refs,
 }
 
+/// A place that is asked for.
+#[derive(Clone, Copy, Debug, PartialEq, Eq)]
+pub enum Place {
+    /// A chainage of a route, in millimetres.
+    OnRoute { route: RouteName, chainage: u64 },
+    /// A millimetre of a link.
+    OnLink { link: u32, mm: u64 },
+}
+
 /// What is reported of an inventory.
 #[derive(Clone, Copy, Debug, PartialEq, Eq)]
 pub enum Report {
+    /// What is at a place, and its position by each method.
+    Where(Place),
+    /// How long each value of each class is, on a route where it is given.
+    Lengths(Option<RouteName>),
+    /// What an inventory has, line by line.
+    Listing(Listing),
+}
+
+/// What is printed line by line.
+#[derive(Clone, Copy, Debug, PartialEq, Eq)]
+pub enum Listing {
     /// All of one kind.
     List(Listed),
     /// The stretches that assets hold.
@@ -46,6 +66,46 @@ fn list_of(text: &str) -> Result<Listed, QuestionFault>
         "classes" => Ok(Listed::Classes),
         "refs" => Ok(Listed::Refs),
         _ => Err(QuestionFault::Unreadable(BadWord::What)),
+    }
+}
+
+fn link_of(text: &str) -> Result<u32, QuestionFault>
+    ensures read { IfOk result (SaysLink text.now) }
+    ensures unread { IfErr result (Cannot BadWord.Link (SaysLink text.now)) }
+{
+    let link = number_of(text, 1, u64::from(GREATEST_LINK), BadWord::Link)?;
+    Ok(link as u32)
+}
+
+fn place_on_link(link: &str, mm: &str) -> Result<Place, QuestionFault>
+    ensures read { IfOk result (IsOnLink link.now mm.now) }
+    ensures unread { IfErr result (CannotLink link.now mm.now) }
+{
+    let link = link_of(link)?;
+    let mm = number_of(mm, 0, u64::from(LONGEST_LINK), BadWord::Millimetre)?;
+    Ok(Place::OnLink { link, mm })
+}
+
+fn place_on_route(route: &str, chainage: &str) -> Result<Place, QuestionFault>
+    ensures read { IfOk result (IsOnRoute route.now chainage.now) }
+    ensures unread { IfErr result (CannotPlace route.now chainage.now) }
+{
+    let route = route_of(route)?;
+    let chainage = number_of(chainage, 0, LONGEST_ROUTE, BadWord::Chainage)?;
+    Ok(Place::OnRoute { route, chainage })
+}
+
+// A route's name is in capitals, so `link` is none.
+fn place_of(route: &str, chainage: &str, mm: Option<&str>) -> Result<Place, QuestionFault>
+    ensures read { IfOk result (IsPlace route.now chainage.now
+        (option_map (λ t. t.now) mm.entry)) }
+    ensures unread { IfErr result (CannotWhere route.now chainage.now
+        (option_map (λ t. t.now) mm.entry)) }
+{
+    match mm {
+        Some(mm) if route == "link" => place_on_link(chainage, mm),
+        Some(_) => Err(QuestionFault::Unreadable(BadWord::NotLink)),
+        None => place_on_route(route, chainage),
     }
 }
 
@@ -138,16 +198,16 @@ fn rows_of(
     })
 }
 
-fn log_of(from: Option<&str>, key: Option<&str>) -> Result<Report, QuestionFault>
+fn log_of(from: Option<&str>, key: Option<&str>) -> Result<Listing, QuestionFault>
     ensures read { IfOk result (AsksLog (option_map (λ t. t.now) from.entry)
         (option_map (λ t. t.now) key.entry)) }
     ensures unread { IfErr result (CannotLog (option_map (λ t. t.now) from.entry)
         (option_map (λ t. t.now) key.entry)) }
 {
     match (key, from) {
-        (Some(key), _) => Ok(Report::LogOfKey(key_of(key)?)),
-        (None, Some(from)) => Ok(Report::Log(edit_of(from, BadWord::Number)?)),
-        (None, None) => Ok(Report::Log(1)),
+        (Some(key), _) => Ok(Listing::LogOfKey(key_of(key)?)),
+        (None, Some(from)) => Ok(Listing::Log(edit_of(from, BadWord::Number)?)),
+        (None, None) => Ok(Listing::Log(1)),
     }
 }
 
@@ -162,7 +222,14 @@ pub fn report_of(job: &Job<'_>) -> Result<Option<Report>, QuestionFault>
     ensures unread { IfErr result (IsFaultOf job.now) }
 {
     let report = match job {
-        Job::List { what, .. } => Report::List(list_of(what)?),
+        Job::Where {
+            route,
+            chainage,
+            mm,
+            ..
+        } => Report::Where(place_of(route, chainage, *mm)?),
+        Job::Lengths { route, .. } => Report::Lengths(route_if_given(*route)?),
+        Job::List { what, .. } => Report::Listing(Listing::List(list_of(what)?)),
         Job::Rows {
             route,
             from,
@@ -170,9 +237,9 @@ pub fn report_of(job: &Job<'_>) -> Result<Option<Report>, QuestionFault>
             class,
             asset,
             ..
-        } => Report::Rows(rows_of(*route, *from, *to, *class, *asset)?),
-        Job::Gone { edit, .. } => Report::Gone(edit_if_given(*edit)?),
-        Job::Log { from, key, .. } => log_of(*from, *key)?,
+        } => Report::Listing(Listing::Rows(rows_of(*route, *from, *to, *class, *asset)?)),
+        Job::Gone { edit, .. } => Report::Listing(Listing::Gone(edit_if_given(*edit)?)),
+        Job::Log { from, key, .. } => Report::Listing(log_of(*from, *key)?),
         Job::Edit { .. }
         | Job::Survey { .. }
         | Job::Check { .. }

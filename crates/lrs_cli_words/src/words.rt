@@ -154,6 +154,24 @@ fn at_job<'a>(given: &ArgMatches<'a>) -> Option<Job<'a>>
     })
 }
 
+fn where_job<'a>(given: &ArgMatches<'a>) -> Option<Job<'a>>
+    ensures job { IfSome result (λ job. (job_name job ≡ JobName.Where)
+        × HasWords job (rows_of (found_of given.now))) }
+    ensures there { AreGiven (rules_of JobName.Where) (rows_of (found_of given.now))
+        → IsSome result }
+{
+    let db = word_in(given, "DB")?;
+    let route = word_in(given, "ROUTE")?;
+    let chainage = word_in(given, "CHAINAGE")?;
+    let mm = word_in(given, "MM");
+    Some(Job::Where {
+        db,
+        route,
+        chainage,
+        mm,
+    })
+}
+
 fn translate_job<'a>(given: &ArgMatches<'a>) -> Option<Job<'a>>
     ensures job { IfSome result (λ job. (job_name job ≡ JobName.Translate)
         × HasWords job (rows_of (found_of given.now))) }
@@ -280,6 +298,17 @@ fn totals_job<'a>(given: &ArgMatches<'a>) -> Option<Job<'a>>
     Some(Job::Totals { db })
 }
 
+fn lengths_job<'a>(given: &ArgMatches<'a>) -> Option<Job<'a>>
+    ensures job { IfSome result (λ job. (job_name job ≡ JobName.Lengths)
+        × HasWords job (rows_of (found_of given.now))) }
+    ensures there { AreGiven (rules_of JobName.Lengths) (rows_of (found_of given.now))
+        → IsSome result }
+{
+    let db = word_in(given, "DB")?;
+    let route = word_in(given, "route");
+    Some(Job::Lengths { db, route })
+}
+
 fn find_job<'a>(given: &ArgMatches<'a>) -> Option<Job<'a>>
     ensures job { IfSome result (λ job. (job_name job ≡ JobName.Find)
         × HasWords job (rows_of (found_of given.now))) }
@@ -367,11 +396,15 @@ fn serve_job<'a>(given: &ArgMatches<'a>) -> Option<Job<'a>>
     let port = word_in(given, "PORT")?;
     let max = word_in(given, "MAX")?;
     let sums = is_set(given, "sums");
+    let log = is_set(given, "log");
+    let end_on_fault = is_set(given, "end-on-fault");
     Some(Job::Serve {
         db,
         port,
         max,
         sums,
+        log,
+        end_on_fault,
     })
 }
 
@@ -401,10 +434,12 @@ fn job_with<'a>(
         JobName::Survey => Ok(survey_job(given)),
         JobName::Check => Ok(check_job(given)),
         JobName::At => Ok(at_job(given)),
+        JobName::Where => Ok(where_job(given)),
         JobName::Translate => Ok(translate_job(given)),
         JobName::Strip => strip_job(alloc, given),
         JobName::Diagram => diagram_job(alloc, given),
         JobName::Totals => Ok(totals_job(given)),
+        JobName::Lengths => Ok(lengths_job(given)),
         JobName::Find => Ok(find_job(given)),
         JobName::List => Ok(list_job(given)),
         JobName::Rows => Ok(rows_job(given)),

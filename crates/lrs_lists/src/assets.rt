@@ -9,8 +9,8 @@ ghost use Rattle.lrs_lists.specs.Lines.{asset_numbered};
 use lrs_events::Asset;
 use lrs_ordered::Chunked;
 
-/// The asset of a number.
-pub(crate) fn asset_numbered(assets: &Chunked<Asset>, number: u64) -> Option<&Asset>
+/// The asset of a number, by search.
+pub fn asset_numbered(assets: &Chunked<Asset>, number: u64) -> Option<&Asset>
     requires order { each_two asset_before assets.now.rows ≡ true }
     ensures { option_map (λ a. a.now) result ≡ asset_numbered assets.now.rows number }
 {

@@ -19,13 +19,15 @@ use lrs_ordered::Chunked;
 use std::io;
 use std::io::Write;
 
-fn reason_text(abandoned: bool) -> &'static str
+/// Why a part is gone: `abandoned`, or else `retired`.
+pub fn reason_text(abandoned: bool) -> &'static str
     ensures { result.now ≡ reason_text abandoned }
 {
     if abandoned { "abandoned" } else { "retired" }
 }
 
-fn link_side_text(side: LinkSide) -> &'static str
+/// A side of a link, seen along the link: `L` or `R`.
+pub fn link_side_text(side: LinkSide) -> &'static str
     ensures { result.now ≡ link_side_text side }
 {
     match side {

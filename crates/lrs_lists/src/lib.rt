@@ -14,12 +14,13 @@ mod route_list;
 mod row_list;
 mod wanted;
 
+pub use assets::asset_numbered;
 pub use classes::write_classes;
-pub use ledger::write_gone;
+pub use ledger::{link_side_text, reason_text, write_gone};
 pub use links::write_links;
 pub use measures::measure_on;
 pub use presence::{knows_asset, knows_class, knows_edit, knows_route};
 pub use referents::write_refs;
 pub use route_list::write_routes;
 pub use row_list::write_rows;
-pub use wanted::RowsWanted;
+pub use wanted::{RowsWanted, is_of_edit, is_wanted};

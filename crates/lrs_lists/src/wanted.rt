@@ -60,7 +60,7 @@ fn is_number(asked: Option<u64>, number: u64) -> bool
 }
 
 /// Whether a row is asked for, on whichever route it lies.
-pub(crate) fn is_wanted(wanted: &RowsWanted, row: &Span) -> bool
+pub fn is_wanted(wanted: &RowsWanted, row: &Span) -> bool
     ensures { result ≡ is_wanted wanted.now row.now }
 {
     has_between(wanted.from, wanted.to, row)
@@ -69,7 +69,7 @@ pub(crate) fn is_wanted(wanted: &RowsWanted, row: &Span) -> bool
 }
 
 /// Whether a part was taken away by the edit that is asked for.
-pub(crate) fn is_of_edit(edit: Option<u64>, gone: &Gone) -> bool
+pub fn is_of_edit(edit: Option<u64>, gone: &Gone) -> bool
     ensures { result ≡ is_of_edit edit gone.now }
 {
     is_number(edit, gone.part.edit)

@@ -8,7 +8,7 @@ use Rattle.lrs_desk.specs.DeskView.{DeskView}
 use Rattle.lrs_sheet_records.specs.declared.sheet.Sheet.{Sheet}
 use Rattle.lrs_sheet_records.specs.declared.sheet.Sheet.TheVariants.{Edits, Survey}
 use Rattle.lrs_web_requests.specs.declared.paths.Resource.{Resource}
-use Rattle.lrs_web_requests.specs.declared.paths.Resource.TheVariants as resource
+use Rattle.lrs_web_requests.specs.declared.paths.Resource.TheVariants as path
 use Rattle.lrs_web_requests.specs.declared.response.Verb.{Verb}
 use Rattle.lrs_web_requests.specs.Request.{Asked, Asks, refused, not_allowed, query, sheet}
 use Rattle.lrs_web_requests.specs.Text.{Answer, answer_text, empty_answer}
@@ -17,19 +17,20 @@ use Rattle.lrs_web.specs.Sheets.{DoesSheet}
 
 -- the kind of sheet that a resource does
 abbrev pub sheet_at : Resource → Sheet
-sheet_at resource.Surveys = Survey
+sheet_at path.Surveys = Survey
 sheet_at _ = Edits
 
 -- another method is wanted
 abbrev pub allowed_answer : Verb → Answer
 allowed_answer verb = record { status = 405; content_type = None; allow = Some verb; body = [] }
 
--- What is asked for is done at the desk, and answered. A query leaves the desk as it is. It has an empty 503 where memory runs out, and once a commit of several commands has failed: the image may be ahead of what is kept then.
+-- What is asked for is done at the desk, and answered. A query leaves the desk as it is. It has an empty 503 where memory runs out, and once a commit of several commands has failed: the image may be ahead of what is kept then. The health has an empty 503 once any commit has failed: no command is done then.
 abbrev pub Does : {K : Type 0} → (K → Result Image Table → Type 0) → Asked → DeskView K → Answer → DeskView K → Type 0
 Does holds (refused status) old answer new = (new ≡ old) × (answer ≡ empty_answer status)
 Does holds (not_allowed verb) old answer new = (new ≡ old) × (answer ≡ allowed_answer verb)
 Does holds (query resource argument) old answer new =
     (new ≡ old) × (AnswersAsked old.image resource argument answer ⊎ (answer ≡ empty_answer 503)) × (old.is_ahead ≡ true → answer ≡ empty_answer 503)
+    × (resource ≡ path.Health → old.must_reopen ≡ true → answer ≡ empty_answer 503)
 Does holds (sheet resource resumes bytes) old answer new = DoesSheet holds (sheet_at resource) resumes bytes old answer new
 
 -- What is asked for is done; the answer, or for want of memory an empty 503, is given.

@@ -4,7 +4,9 @@ ghost use Rattle.std.specs.Prelude.{◌≡◌, ◌⊎◌, IfOk, IfSome, Err, tru
 ghost use Rattle.lrs_web_requests.specs.Request.{Asked, IsServed, asked_by};
 ghost use Rattle.lrs_web_requests.specs.Text.{Answer, answer_of, empty_answer};
 ghost use Rattle.lrs_web_replies.specs.Answered.{AnswersAsked};
+ghost use Rattle.lrs_web_replies.specs.Questions.{is_reported};
 ghost use Rattle.lrs_web_replies.specs.Replies.{log_answer};
+ghost use Rattle.lrs_web_replies.specs.Reported.{report_answer};
 ghost use Rattle.lrs_web_requests.specs.declared.paths.Resource.TheVariants as path;
 ghost use Rattle.lrs_web_requests.specs.Request.{verb_of};
 ghost use Rattle.lrs_web_requests.specs.declared.response.Verb.TheVariants.{Get};
@@ -14,7 +16,10 @@ use crate::sheet::do_sheet;
 use http::StatusCode;
 use lrs_desk::{Desk, Keeper};
 use lrs_sheet::Sheet;
-use lrs_web_replies::{log_from, log_reply, question_of, reply_to, unasked};
+use lrs_web_replies::{
+    Report, is_reported, log_from, log_reply, question_of, reply_to, report_of, report_reply,
+    unasked,
+};
 use lrs_web_requests::{
     BodyFault, Request, Resource, Response, Verb, receive, routes, write_reply, write_unavailable,
 };
@@ -44,6 +49,12 @@ fn sheet_of(resource: Resource) -> Sheet
         | Resource::Routes
         | Resource::Find
         | Resource::Log
+        | Resource::Health
+        | Resource::Links
+        | Resource::Classes
+        | Resource::Refs
+        | Resource::Rows
+        | Resource::Gone
         | Resource::Edits => Sheet::Edits,
     }
 }
@@ -67,6 +78,7 @@ fn question_reply<K: Keeper>(
 ) -> Result<Response, AllocError>
     requires verb { verb_of resource ≡ Get }
     requires question { resource ≡ path.Log → ⊥ }
+    requires told { is_reported resource ≡ false }
     requires behind { desk.now.is_ahead ≡ false }
     ensures { IfOk result (λ reply. AnswersAsked desk.now.image resource argument.now
         (answer_of reply)) }
@@ -102,7 +114,53 @@ fn log_query_reply<K: Keeper>(
     }
 }
 
+fn desk_report_reply<K: Keeper>(
+    alloc: Global,
+    report: &Report,
+    desk: &Desk<K>,
+) -> Result<Response, AllocError>
+    ensures { IfOk result (λ reply. answer_of reply ≡ report_answer report.now desk.now.image) }
+{
+    report_reply(alloc, desk.inventory().kept(), report)
+}
+
+#[tactic(auto, using(crate::proofs::Asking::reported, crate::proofs::Asking::refused))]
+fn report_query_reply<K: Keeper>(
+    alloc: Global,
+    resource: Resource,
+    argument: &[u8],
+    desk: &Desk<K>,
+) -> Result<Response, AllocError>
+    requires report { is_reported resource ≡ true }
+    ensures { IfOk result (λ reply. AnswersAsked desk.now.image resource argument.now
+        (answer_of reply)) }
+{
+    match report_of(alloc, resource, argument) {
+        Ok(report) => desk_report_reply(alloc, &report, desk),
+        Err(fault) => unasked(alloc, fault),
+    }
+}
+
 /// The reply to a question, or with the log.
+fn told_reply<K: Keeper>(
+    alloc: Global,
+    resource: Resource,
+    argument: &[u8],
+    desk: &Desk<K>,
+) -> Result<Response, AllocError>
+    requires verb { verb_of resource ≡ Get }
+    requires told { is_reported resource ≡ false }
+    requires behind { desk.now.is_ahead ≡ false }
+    ensures { IfOk result (λ reply. AnswersAsked desk.now.image resource argument.now
+        (answer_of reply)) }
+{
+    match resource {
+        Resource::Log => log_query_reply(alloc, argument, desk),
+        _ => question_reply(alloc, resource, argument, desk),
+    }
+}
+
+/// The reply to a question, or with the log or a report.
 fn asked_reply<K: Keeper>(
     alloc: Global,
     resource: Resource,
@@ -114,13 +172,14 @@ fn asked_reply<K: Keeper>(
     ensures { IfOk result (λ reply. AnswersAsked desk.now.image resource argument.now
         (answer_of reply)) }
 {
-    match resource {
-        Resource::Log => log_query_reply(alloc, argument, desk),
-        _ => question_reply(alloc, resource, argument, desk),
+    if is_reported(resource) {
+        return report_query_reply(alloc, resource, argument, desk);
     }
+    told_reply(alloc, resource, argument, desk)
 }
 
-// Once a commit of several commands has failed, nothing is answered: not even that a parameter cannot be read.
+// Once a commit of several commands has failed, nothing is answered: not even that a parameter cannot be read. The
+// health is not told either once a commit of one command has failed.
 fn query_reply<K: Keeper>(
     alloc: Global,
     resource: Resource,
@@ -131,8 +190,13 @@ fn query_reply<K: Keeper>(
     ensures answered { AnswersAsked desk.now.image resource argument.now (answer_of result)
         ⊎ (answer_of result ≡ empty_answer 503) }
     ensures broken { desk.now.is_ahead ≡ true → answer_of result ≡ empty_answer 503 }
+    ensures unhealthy { resource ≡ path.Health → desk.now.must_reopen ≡ true
+        → answer_of result ≡ empty_answer 503 }
 {
     if desk.is_ahead() {
+        return Response::empty(StatusCode::SERVICE_UNAVAILABLE);
+    }
+    if resource == Resource::Health && desk.must_reopen() {
         return Response::empty(StatusCode::SERVICE_UNAVAILABLE);
     }
     match asked_reply(alloc, resource, argument, desk) {

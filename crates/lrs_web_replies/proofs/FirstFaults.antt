@@ -6,11 +6,11 @@ use Rattle.lrs_position.specs.declared.expression.Expr.{Expr}
 use Rattle.lrs_events.specs.declared.side.Side.{Side as HandSide}
 use Rattle.lrs_web_requests.specs.declared.paths.Resource.TheVariants as path
 use Rattle.lrs_web_replies.specs.declared.question.Parameter.{Parameter}
-use Rattle.lrs_web_replies.specs.declared.question.Parameter.TheVariants.{Route, Method, Position, To, Side, Class, ClassesOrAll, From, UpTo, Asset, FirstEdit}
+use Rattle.lrs_web_replies.specs.declared.question.Parameter.TheVariants.{Route, RouteOrAll, Method, Position, To, Side, Class, ClassOrAll, ClassesOrAll, From, UpTo, Asset, AssetOrAll, FirstEdit, EditOrAll}
 use Rattle.lrs_web_replies.specs.declared.question.QueryFault.{QueryFault}
 use Rattle.lrs_web_replies.specs.declared.question.QueryFault.TheVariants.{Malformed, NoRoute, Memory}
 use Rattle.lrs_web_replies.specs.Faults.{Lacks, LacksPosition}
-use Rattle.lrs_web_replies.specs.Questions.{Text, CannotAsk, GivesClassesOrAll, GivesFrom, GivesPosition, GivesRoute, GivesSide, IsFirstMalformed, IsGiven}
+use Rattle.lrs_web_replies.specs.Questions.{Text, CannotAsk, GivesClassOrAll, GivesClassesOrAll, GivesFrom, GivesPosition, GivesRoute, GivesRouteOrAll, GivesSide, GivesUpTo, IsFirstMalformed, IsGiven}
 
 -- the fault is the first of these, or memory ran out
 abbrev FaultAmong : Text → List Parameter → QueryFault → Type 0
@@ -118,3 +118,49 @@ find_asset query e lacks = find query e (first query Asset [] e lacks)
 pub log_edit : (query : Text) (from : Result ℕ QueryFault) → IfErr from (Lacks FirstEdit query) → IfErr from (CannotAsk path.Log query)
 log_edit query (Ok number) lacks = tt
 log_edit query (Err e) lacks = log query e (first query FirstEdit [] e lacks)
+
+-- ---- reports
+
+rows : (query : Text) (e : QueryFault) → FaultAmong query (RouteOrAll ∷ From ∷ UpTo ∷ ClassOrAll ∷ AssetOrAll ∷ []) e → CannotAsk path.Rows query e
+rows query (Malformed p) among = among
+rows query NoRoute among = among
+rows query Memory among = tt
+
+gone : (query : Text) (e : QueryFault) → FaultAmong query (EditOrAll ∷ []) e → CannotAsk path.Gone query e
+gone query (Malformed p) among = among
+gone query NoRoute among = among
+gone query Memory among = tt
+
+pub gone_edit : (query : Text) (e : QueryFault) → Lacks EditOrAll query e → CannotAsk path.Gone query e
+gone_edit query e lacks = gone query e (first query EditOrAll [] e lacks)
+
+pub rows_route : (query : Text) (e : QueryFault) → Lacks RouteOrAll query e → CannotAsk path.Rows query e
+rows_route query e lacks = rows query e (first query RouteOrAll (From ∷ UpTo ∷ ClassOrAll ∷ AssetOrAll ∷ []) e lacks)
+
+-- behind a route, or none, that is given
+rows_behind_route : (query : Text) (e : QueryFault) (route : Option Name) → GivesRouteOrAll query route → FaultAmong query (From ∷ UpTo ∷ ClassOrAll ∷ AssetOrAll ∷ []) e → CannotAsk path.Rows query e
+rows_behind_route query e route given among = rows query e (later query RouteOrAll (From ∷ UpTo ∷ ClassOrAll ∷ AssetOrAll ∷ []) e (route, given) among)
+
+-- behind a start, or none, that is given
+rows_behind_from : (query : Text) (e : QueryFault) (route : Option Name) (from : Option ℕ) → GivesRouteOrAll query route → GivesFrom query from → FaultAmong query (UpTo ∷ ClassOrAll ∷ AssetOrAll ∷ []) e → CannotAsk path.Rows query e
+rows_behind_from query e route from given began among = rows_behind_route query e route given (later query From (UpTo ∷ ClassOrAll ∷ AssetOrAll ∷ []) e (from, began) among)
+
+-- behind an end, or none, that is given
+rows_behind_to : (query : Text) (e : QueryFault) (route : Option Name) (from to : Option ℕ) → GivesRouteOrAll query route → GivesFrom query from → GivesUpTo query to
+    → FaultAmong query (ClassOrAll ∷ AssetOrAll ∷ []) e → CannotAsk path.Rows query e
+rows_behind_to query e route from to given began ended among = rows_behind_from query e route from given began (later query UpTo (ClassOrAll ∷ AssetOrAll ∷ []) e (to, ended) among)
+
+pub rows_from : (query : Text) (e : QueryFault) (route : Option Name) → GivesRouteOrAll query route → Lacks From query e → CannotAsk path.Rows query e
+rows_from query e route given lacks = rows_behind_route query e route given (first query From (UpTo ∷ ClassOrAll ∷ AssetOrAll ∷ []) e lacks)
+
+pub rows_to : (query : Text) (e : QueryFault) (route : Option Name) (from : Option ℕ) → GivesRouteOrAll query route → GivesFrom query from → Lacks UpTo query e → CannotAsk path.Rows query e
+rows_to query e route from given began lacks = rows_behind_from query e route from given began (first query UpTo (ClassOrAll ∷ AssetOrAll ∷ []) e lacks)
+
+pub rows_class : (query : Text) (e : QueryFault) (route : Option Name) (from to : Option ℕ) → GivesRouteOrAll query route → GivesFrom query from → GivesUpTo query to
+    → Lacks ClassOrAll query e → CannotAsk path.Rows query e
+rows_class query e route from to given began ended lacks = rows_behind_to query e route from to given began ended (first query ClassOrAll (AssetOrAll ∷ []) e lacks)
+
+pub rows_asset : (query : Text) (e : QueryFault) (route : Option Name) (from to : Option ℕ) (class : Option Name) → GivesRouteOrAll query route → GivesFrom query from → GivesUpTo query to
+    → GivesClassOrAll query class → Lacks AssetOrAll query e → CannotAsk path.Rows query e
+rows_asset query e route from to class given began ended named lacks =
+    rows_behind_to query e route from to given began ended (later query ClassOrAll (AssetOrAll ∷ []) e (class, named) (first query AssetOrAll [] e lacks))

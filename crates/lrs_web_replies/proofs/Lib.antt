@@ -1,3 +1,4 @@
 pub mod Whole
 pub mod FirstFaults
 pub mod ClassNames
+pub mod Listing

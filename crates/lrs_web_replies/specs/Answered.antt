@@ -1,4 +1,4 @@
--- What a question or a request for the log is answered over HTTP, for the image that is kept.
+-- What a question, or a request for the log or for a report, is answered over HTTP, for the image that is kept.
 use Rattle.std.specs.Prelude.{◌≡◌, ◌⊎◌, ℕ, Result, Ok, Err}
 use Rattle.serde_json.specs.Data.{Data}
 use Rattle.lrs_machine.specs.declared.image.Image.{Image}
@@ -12,9 +12,11 @@ use Rattle.lrs_diagram.specs.Drawing.{diagram_text}
 use Rattle.lrs_web_requests.specs.Text.{Answer}
 use Rattle.lrs_web_requests.specs.declared.paths.Resource.{Resource}
 use Rattle.lrs_web_replies.specs.Answers.{at_data, ShowsRoute, segments_data, translated_data, on_link_data, routes_data, totals_data, found_data}
-use Rattle.lrs_web_replies.specs.Questions.{AsksLog, AsksOf, CannotAsk}
+use Rattle.lrs_web_replies.specs.Questions.{AsksLog, AsksOf, AsksReport, CannotAsk}
 use Rattle.lrs_web_replies.specs.declared.question.QueryFault.{QueryFault}
+use Rattle.lrs_web_replies.specs.declared.report.Report.{Report}
 use Rattle.lrs_web_replies.specs.Replies.{json_answer, log_answer, svg_answer, refusal, unasked}
+use Rattle.lrs_web_replies.specs.Reported.{report_answer}
 
 -- The table: the reply to each answer. A diagram is a picture, and any other answer is JSON.
 abbrev pub ShowsTold : Told → Answer → Type 0
@@ -37,9 +39,10 @@ IsReplyTo (Err fault) answer = answer ≡ refusal fault
 abbrev pub AnswersQuestion : Image → Question → Answer → Type 0
 AnswersQuestion i q answer = (said : Result Told AskFault) × IsTold i q said × IsReplyTo said answer
 
--- What a resource answers to an argument: the question that it asks, or the log, or why it asks for nothing.
+-- What a resource answers to an argument: the question that it asks, or the log, or a report, or why it asks for nothing.
 abbrev pub AnswersAsked : Image → Resource → Text → Answer → Type 0
 AnswersAsked i resource argument answer =
     ((q : Question) × AsksOf resource argument q × AnswersQuestion i q answer)
     ⊎ ((from : ℕ) × AsksLog resource argument from × (answer ≡ log_answer from i))
+    ⊎ ((r : Report) × AsksReport resource argument r × (answer ≡ report_answer r i))
     ⊎ ((fault : QueryFault) × CannotAsk resource argument fault × (answer ≡ unasked fault))

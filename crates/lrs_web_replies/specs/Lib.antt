@@ -3,4 +3,7 @@ pub mod Answers
 pub mod Questions
 pub mod Faults
 pub mod Replies
+pub mod Reports
+pub mod Reported
+pub mod Parts
 pub mod Answered

@@ -1,5 +1,5 @@
 -- What the parameters of a query ask of an inventory.
-use Rattle.std.specs.Prelude.{◌≡◌, ⊤, ◌⊎◌, ℕ, ◌≤◌, IsTrue, Bool, false, List, [], ◌∷◌, codes, Option, None, Some}
+use Rattle.std.specs.Prelude.{◌≡◌, ⊤, ◌⊎◌, ℕ, ◌≤◌, IsTrue, Bool, true, false, List, [], ◌∷◌, codes, Option, None, Some}
 use Rattle.std.specs.List.{list_all}
 use Rattle.std.specs.Str.Parse.{IsNumeral, digits_value}
 use Rattle.lrs_measure.specs.Limits.{greatest_asset, longest_route, most_edits}
@@ -10,15 +10,18 @@ use Rattle.lrs_position.specs.Names.{is_route_name}
 use Rattle.lrs_position.specs.Readings.{IsNamed, States, method_text, target_text}
 use Rattle.lrs_events.specs.declared.side.Side.{Side}
 use Rattle.lrs_events.specs.Names.{is_class_name, side_text}
+use Rattle.lrs_lists.specs.declared.wanted.RowsWanted.{RowsWanted}
 use Rattle.lrs_web_requests.specs.Query.{parameter, parameters}
 use Rattle.lrs_web_requests.specs.declared.paths.Resource.{Resource}
 use Rattle.lrs_web_requests.specs.declared.paths.Resource.TheVariants as path
 use Rattle.lrs_machine.specs.declared.question.Destination.{Destination}
 use Rattle.lrs_machine.specs.declared.question.Destination.TheVariants as destination
 use Rattle.lrs_web_replies.specs.declared.question.Parameter.{Parameter}
-use Rattle.lrs_web_replies.specs.declared.question.Parameter.TheVariants.{Route, Method as Way, Position, To, Side as Hand, Class, ClassesOrAll, From, UpTo, Asset, FirstEdit}
+use Rattle.lrs_web_replies.specs.declared.question.Parameter.TheVariants.{Route, RouteOrAll, Method as Way, Position, To, Side as Hand, Class, ClassOrAll, ClassesOrAll, From, UpTo, Asset, AssetOrAll, FirstEdit, EditOrAll}
 use Rattle.lrs_machine.specs.declared.question.Question.{Question}
 use Rattle.lrs_machine.specs.declared.question.Question.TheVariants as question
+use Rattle.lrs_web_replies.specs.declared.report.Report.{Report}
+use Rattle.lrs_web_replies.specs.declared.report.Report.TheVariants as report
 use Rattle.lrs_web_replies.specs.declared.question.QueryFault.{QueryFault}
 use Rattle.lrs_web_replies.specs.declared.question.QueryFault.TheVariants.{Malformed, NoRoute, Memory}
 
@@ -29,6 +32,9 @@ Text = Name
 
 abbrev pub SaysRoute : Text → Name → Type 0
 SaysRoute text route = (route ≡ text) × IsTrue (is_route_name text)
+
+abbrev pub SaysClass : Text → Name → Type 0
+SaysClass text class = (class ≡ text) × IsTrue (is_class_name text)
 
 abbrev pub SaysMethod : Text → Method → Type 0
 SaysMethod text m = text ≡ method_text m
@@ -99,15 +105,15 @@ GivesClasses query classes = (classes ≡ parameters (codes "class") query) × I
 abbrev pub GivesClassesOrAll : Text → List Name → Type 0
 GivesClassesOrAll query classes = (classes ≡ parameters (codes "class") query) × IsTrue (list_all is_class_name (parameters (codes "class") query))
 
--- the text says the chainage, and where there is no text there is no chainage
-abbrev pub SaidIfGiven : Option Text → Option ℕ → Type 0
-SaidIfGiven None None = ⊤
-SaidIfGiven (Some text) (Some chainage) = SaysChainage text chainage
-SaidIfGiven _ _ = ⊥
+-- the text says this, and where there is no text nothing is said
+abbrev pub SaidIfGiven : {A : Type 0} → (Text → A → Type 0) → Option Text → Option A → Type 0
+SaidIfGiven Says None None = ⊤
+SaidIfGiven Says (Some text) (Some x) = Says text x
+SaidIfGiven Says _ _ = ⊥
 
 -- by the parameter of this name
 abbrev pub GivesChainage : Text → Text → Option ℕ → Type 0
-GivesChainage name query = SaidIfGiven (parameter name query)
+GivesChainage name query = SaidIfGiven SaysChainage (parameter name query)
 
 abbrev pub GivesFrom : Text → Option ℕ → Type 0
 GivesFrom = GivesChainage (codes "from")
@@ -117,6 +123,24 @@ GivesUpTo = GivesChainage (codes "to")
 
 abbrev pub GivesAsset : Text → ℕ → Type 0
 GivesAsset query = Said SaysAsset (parameter (codes "asset") query)
+
+-- none is given where all routes, classes, assets or edits are meant
+abbrev pub GivesRouteOrAll : Text → Option Name → Type 0
+GivesRouteOrAll query = SaidIfGiven SaysRoute (parameter (codes "route") query)
+
+abbrev pub GivesClassOrAll : Text → Option Name → Type 0
+GivesClassOrAll query = SaidIfGiven SaysClass (parameter (codes "class") query)
+
+abbrev pub GivesAssetOrAll : Text → Option ℕ → Type 0
+GivesAssetOrAll query = SaidIfGiven SaysAsset (parameter (codes "asset") query)
+
+abbrev pub GivesEditOrAll : Text → Option ℕ → Type 0
+GivesEditOrAll query = SaidIfGiven SaysEdit (parameter (codes "edit") query)
+
+-- which rows are asked for
+abbrev pub GivesRows : Text → RowsWanted → Type 0
+GivesRows query w =
+    GivesRouteOrAll query w.route × GivesFrom query w.from × GivesUpTo query w.to × GivesClassOrAll query w.class × GivesAssetOrAll query w.asset
 
 -- the text says the number of the edit, and where there is no text it is the first
 abbrev pub SaidOrFirst : Option Text → ℕ → Type 0
@@ -146,6 +170,26 @@ abbrev pub AsksLog : Resource → Text → ℕ → Type 0
 AsksLog path.Log query from = GivesFirstEdit query from
 AsksLog _ argument from = ⊥
 
+-- What is reported where a resource is asked by this argument.
+abbrev pub AsksReport : Resource → Text → Report → Type 0
+AsksReport path.Health query report.Health = ⊤
+AsksReport path.Links query report.Links = ⊤
+AsksReport path.Classes query report.Classes = ⊤
+AsksReport path.Refs query report.Refs = ⊤
+AsksReport path.Rows query (report.Rows wanted) = GivesRows query wanted
+AsksReport path.Gone query (report.Gone edit) = GivesEditOrAll query edit
+AsksReport _ argument r = ⊥
+
+-- a resource is answered by a report
+abbrev pub is_reported : Resource → Bool
+is_reported path.Health = true
+is_reported path.Links = true
+is_reported path.Classes = true
+is_reported path.Refs = true
+is_reported path.Rows = true
+is_reported path.Gone = true
+is_reported _ = false
+
 -- ---- what cannot be asked
 
 -- the parameters of each path, in the order in which they are read
@@ -156,34 +200,44 @@ parameters_of path.Translate = Route ∷ Way ∷ Position ∷ To ∷ []
 parameters_of path.Diagram = Route ∷ ClassesOrAll ∷ From ∷ UpTo ∷ []
 parameters_of path.Find = Asset ∷ []
 parameters_of path.Log = FirstEdit ∷ []
+parameters_of path.Rows = RouteOrAll ∷ From ∷ UpTo ∷ ClassOrAll ∷ AssetOrAll ∷ []
+parameters_of path.Gone = EditOrAll ∷ []
 parameters_of _ = []
 
 abbrev pub parameter_text : Parameter → Text
 parameter_text Route = codes "route"
+parameter_text RouteOrAll = codes "route"
 parameter_text Way = codes "method"
 parameter_text Position = codes "pos"
 parameter_text To = codes "to"
 parameter_text Hand = codes "side"
 parameter_text Class = codes "class"
+parameter_text ClassOrAll = codes "class"
 parameter_text ClassesOrAll = codes "class"
 parameter_text From = codes "from"
 parameter_text UpTo = codes "to"
 parameter_text Asset = codes "asset"
+parameter_text AssetOrAll = codes "asset"
 parameter_text FirstEdit = codes "from"
+parameter_text EditOrAll = codes "edit"
 
 -- the parameter is there, or may be left out, and can be read
 abbrev pub IsGiven : Text → Parameter → Type 0
 IsGiven query Route = (route : Name) × GivesRoute query route
+IsGiven query RouteOrAll = (route : Option Name) × GivesRouteOrAll query route
 IsGiven query Way = (m : Method) × GivesMethod query m
 IsGiven query Position = (e : Expr) × GivesPosition query e
 IsGiven query To = (to : Destination) × GivesDestination query to
 IsGiven query Hand = (side : Side) × GivesSide query side
 IsGiven query Class = (classes : List Name) × GivesClasses query classes
+IsGiven query ClassOrAll = (class : Option Name) × GivesClassOrAll query class
 IsGiven query ClassesOrAll = (classes : List Name) × GivesClassesOrAll query classes
 IsGiven query From = (from : Option ℕ) × GivesFrom query from
 IsGiven query UpTo = (to : Option ℕ) × GivesUpTo query to
 IsGiven query Asset = (asset : ℕ) × GivesAsset query asset
+IsGiven query AssetOrAll = (asset : Option ℕ) × GivesAssetOrAll query asset
 IsGiven query FirstEdit = (from : ℕ) × GivesFirstEdit query from
+IsGiven query EditOrAll = (edit : Option ℕ) × GivesEditOrAll query edit
 
 -- the first of these that is not
 abbrev pub IsFirstMalformed : Text → List Parameter → Parameter → Type 0

@@ -19,7 +19,7 @@ use serde_json::{Value, json};
 use std::alloc::{AllocError, Global};
 
 /// The text of a value without space.
-fn bytes_of(alloc: Global, value: &Value) -> Result<Vec<u8>, AllocError>
+pub(crate) fn bytes_of(alloc: Global, value: &Value) -> Result<Vec<u8>, AllocError>
     requires { has_float (view value.now) ≡ false }
     ensures { IfOk result (λ bytes. bytes.items ≡ compact_text (view value.now)) }
 {

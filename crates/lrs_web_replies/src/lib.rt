@@ -1,14 +1,22 @@
-//! Questions over HTTP, asked by the parameters of a query and answered as JSON (RFC 8259) or SVG; and the log, as CSV.
+//! Questions over HTTP, asked by the parameters of a query and answered as JSON (RFC 8259) or SVG; reports, as JSON; and the
+//! log, as CSV.
 #![tactic(auto)]
 
+mod absence;
 mod answers;
+mod entries;
 mod list;
+mod list_text;
 mod parameters;
 mod parts;
 mod question;
 mod replies;
 mod reply;
+mod report;
+mod reports;
 
 pub use question::{Parameter, QueryFault, log_from, question_of};
 pub use replies::{log_reply, reply_to};
 pub use reply::unasked;
+pub use report::{Report, is_reported, report_of};
+pub use reports::report_reply;

@@ -5,7 +5,7 @@ ghost use Rattle.std.specs.List.{list_all};
 ghost use Rattle.std.specs.Cow.{cow_str_bytes};
 ghost use Rattle.lrs_events.specs.Names.{is_class_name};
 ghost use Rattle.lrs_position.specs.declared.expression.Expr.{Expr as Expression};
-ghost use Rattle.lrs_web_replies.specs.Questions.{SaysDestination, SaysNumber, GivesAsset, GivesChainage, GivesClasses, GivesClassesOrAll, GivesDestination, GivesFirstEdit, GivesFrom, GivesMethod, GivesPosition, GivesPositionBy, GivesRoute, GivesSide, GivesUpTo};
+ghost use Rattle.lrs_web_replies.specs.Questions.{SaysDestination, SaysNumber, GivesAsset, GivesAssetOrAll, GivesChainage, GivesClassOrAll, GivesClasses, GivesClassesOrAll, GivesDestination, GivesEditOrAll, GivesFirstEdit, GivesFrom, GivesMethod, GivesPosition, GivesPositionBy, GivesRoute, GivesRouteOrAll, GivesSide, GivesUpTo};
 ghost use Rattle.lrs_web_replies.specs.Faults.{Lacks, LacksPosition};
 
 use crate::question::{Parameter, QueryFault};
@@ -38,7 +38,15 @@ const NO_UP_TO: QueryFault = QueryFault::Malformed(Parameter::UpTo);
 
 const NO_ASSET: QueryFault = QueryFault::Malformed(Parameter::Asset);
 
-const NO_EDIT: QueryFault = QueryFault::Malformed(Parameter::FirstEdit);
+const NO_FIRST_EDIT: QueryFault = QueryFault::Malformed(Parameter::FirstEdit);
+
+const NO_ROUTE_OR_ALL: QueryFault = QueryFault::Malformed(Parameter::RouteOrAll);
+
+const NO_CLASS_OR_ALL: QueryFault = QueryFault::Malformed(Parameter::ClassOrAll);
+
+const NO_ASSET_OR_ALL: QueryFault = QueryFault::Malformed(Parameter::AssetOrAll);
+
+const NO_EDIT_OR_ALL: QueryFault = QueryFault::Malformed(Parameter::EditOrAll);
 
 pub(crate) fn route_in(alloc: Global, query: &[u8]) -> Result<RouteName, QueryFault>
     ensures read { IfOk result (GivesRoute query.now) }
@@ -202,7 +210,7 @@ pub(crate) fn first_edit_in(alloc: Global, query: &[u8]) -> Result<u64, QueryFau
     match value_of(alloc, query, "from")? {
         Some(text) => match read_number(text.as_str(), 1, MOST_EDITS as u64) {
             Some(number) => Ok(number),
-            None => Err(NO_EDIT),
+            None => Err(NO_FIRST_EDIT),
         },
         None => Ok(1),
     }
@@ -241,4 +249,60 @@ pub(crate) fn to_in(alloc: Global, query: &[u8]) -> Result<Option<u64>, QueryFau
     ensures unread { IfErr result (Lacks Parameter.UpTo query.now) }
 {
     chainage_in(alloc, query, "to", NO_UP_TO)
+}
+
+/// The route whose rows are asked for, if one is named.
+pub(crate) fn route_or_all_in(alloc: Global, query: &[u8]) -> Result<Option<RouteName>, QueryFault>
+    ensures read { IfOk result (GivesRouteOrAll query.now) }
+    ensures unread { IfErr result (Lacks Parameter.RouteOrAll query.now) }
+{
+    match value_of(alloc, query, "route")? {
+        Some(text) => match RouteName::new(text.as_str().as_bytes()) {
+            Some(route) => Ok(Some(route)),
+            None => Err(NO_ROUTE_OR_ALL),
+        },
+        None => Ok(None),
+    }
+}
+
+/// The class whose rows are asked for, if one is named.
+pub(crate) fn class_or_all_in(alloc: Global, query: &[u8]) -> Result<Option<ClassName>, QueryFault>
+    ensures read { IfOk result (GivesClassOrAll query.now) }
+    ensures unread { IfErr result (Lacks Parameter.ClassOrAll query.now) }
+{
+    match value_of(alloc, query, "class")? {
+        Some(text) => match ClassName::new(text.as_str().as_bytes()) {
+            Some(class) => Ok(Some(class)),
+            None => Err(NO_CLASS_OR_ALL),
+        },
+        None => Ok(None),
+    }
+}
+
+/// The asset whose rows are asked for, if one is named.
+pub(crate) fn asset_or_all_in(alloc: Global, query: &[u8]) -> Result<Option<u64>, QueryFault>
+    ensures read { IfOk result (GivesAssetOrAll query.now) }
+    ensures unread { IfErr result (Lacks Parameter.AssetOrAll query.now) }
+{
+    match value_of(alloc, query, "asset")? {
+        Some(text) => match read_number(text.as_str(), 1, GREATEST_ASSET) {
+            Some(asset) => Ok(Some(asset)),
+            None => Err(NO_ASSET_OR_ALL),
+        },
+        None => Ok(None),
+    }
+}
+
+/// The edit whose parts that are gone are asked for, if one is named.
+pub(crate) fn edit_or_all_in(alloc: Global, query: &[u8]) -> Result<Option<u64>, QueryFault>
+    ensures read { IfOk result (GivesEditOrAll query.now) }
+    ensures unread { IfErr result (Lacks Parameter.EditOrAll query.now) }
+{
+    match value_of(alloc, query, "edit")? {
+        Some(text) => match read_number(text.as_str(), 1, MOST_EDITS as u64) {
+            Some(edit) => Ok(Some(edit)),
+            None => Err(NO_EDIT_OR_ALL),
+        },
+        None => Ok(None),
+    }
 }

@@ -1,10 +1,10 @@
 //! How questions, and the log, are asked for by the parameters of a query.
 
-ghost use Rattle.std.specs.Prelude.{◌≡◌, IfOk, IfErr};
+ghost use Rattle.std.specs.Prelude.{◌≡◌, IfOk, IfErr, false};
 ghost use Rattle.lrs_web_requests.specs.declared.response.Verb.TheVariants as verb;
 ghost use Rattle.lrs_web_requests.specs.declared.paths.Resource.TheVariants as path;
 ghost use Rattle.lrs_web_requests.specs.Request.{verb_of};
-ghost use Rattle.lrs_web_replies.specs.Questions.{AsksLog, AsksOf, CannotAsk, parameter_text};
+ghost use Rattle.lrs_web_replies.specs.Questions.{AsksLog, AsksOf, CannotAsk, is_reported, parameter_text};
 
 use crate::parameters::{
     asset_in, classes_in, classes_or_all_in, destination_in, first_edit_in, from_in, position_in,
@@ -19,21 +19,29 @@ use std::alloc::{AllocError, AllocFailed, Global};
 #[derive(Clone, Copy, Debug, PartialEq, Eq)]
 pub enum Parameter {
     Route,
+    /// The route of rows, which may be left out for all.
+    RouteOrAll,
     Method,
     Position,
     /// The destination of a translation.
     To,
     Side,
     Class,
+    /// The class of rows, which may be left out for all.
+    ClassOrAll,
     /// The classes of a diagram, which may be left out for all. Its name is `class`, too.
     ClassesOrAll,
-    /// Where a diagram begins.
+    /// Where a diagram, or a stretch whose rows are listed, begins.
     From,
-    /// Where a diagram ends. Its name is `to`, as that of `To`.
+    /// Where it ends. Its name is `to`, as that of `To`.
     UpTo,
     Asset,
+    /// The asset of rows, which may be left out for all.
+    AssetOrAll,
     /// The first edit of the log, which may be left out for the very first. Its name is `from`, as that of `From`.
     FirstEdit,
+    /// The edit that took parts away, which may be left out for all.
+    EditOrAll,
 }
 
 impl Parameter {
@@ -42,14 +50,15 @@ impl Parameter {
         ensures { result.now ≡ parameter_text self }
     {
         match self {
-            Parameter::Route => "route",
+            Parameter::Route | Parameter::RouteOrAll => "route",
             Parameter::Method => "method",
             Parameter::Position => "pos",
             Parameter::To | Parameter::UpTo => "to",
             Parameter::Side => "side",
-            Parameter::Class | Parameter::ClassesOrAll => "class",
+            Parameter::Class | Parameter::ClassOrAll | Parameter::ClassesOrAll => "class",
             Parameter::From | Parameter::FirstEdit => "from",
-            Parameter::Asset => "asset",
+            Parameter::Asset | Parameter::AssetOrAll => "asset",
+            Parameter::EditOrAll => "edit",
         }
     }
 }
@@ -174,6 +183,7 @@ pub fn question_of(
 ) -> Result<Question, QueryFault>
     requires verb { verb_of resource ≡ verb.Get }
     requires question { resource ≡ path.Log → ⊥ }
+    requires told { is_reported resource ≡ false }
     ensures asked { IfOk result (AsksOf resource argument.now) }
     ensures unasked { IfErr result (CannotAsk resource argument.now) }
 {
@@ -186,7 +196,15 @@ pub fn question_of(
         Resource::Diagram => diagram_question(alloc, argument),
         Resource::Routes => Ok(Question::Routes),
         Resource::Find => find_question(alloc, argument),
-        Resource::Log | Resource::Edits | Resource::Surveys => unreachable!(),
+        Resource::Log
+        | Resource::Health
+        | Resource::Links
+        | Resource::Classes
+        | Resource::Refs
+        | Resource::Rows
+        | Resource::Gone
+        | Resource::Edits
+        | Resource::Surveys => unreachable!(),
     }
 }
 

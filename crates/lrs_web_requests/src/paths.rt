@@ -18,6 +18,12 @@ pub enum Resource {
     Routes,
     Find,
     Log,
+    Health,
+    Links,
+    Classes,
+    Refs,
+    Rows,
+    Gone,
     Edits,
     Surveys,
 }
@@ -36,6 +42,12 @@ pub fn routes(alloc: Global) -> Result<Router<Resource>, InsertError>
     router.insert("/v1/routes", Resource::Routes)?;
     router.insert("/v1/find", Resource::Find)?;
     router.insert("/v1/log", Resource::Log)?;
+    router.insert("/health", Resource::Health)?;
+    router.insert("/v1/links", Resource::Links)?;
+    router.insert("/v1/classes", Resource::Classes)?;
+    router.insert("/v1/refs", Resource::Refs)?;
+    router.insert("/v1/rows", Resource::Rows)?;
+    router.insert("/v1/gone", Resource::Gone)?;
     router.insert("/v1/edits", Resource::Edits)?;
     router.insert("/v1/surveys", Resource::Surveys)?;
     Ok(router)

@@ -52,7 +52,13 @@ fn verb_for(resource: Resource) -> Verb
         | Resource::Diagram
         | Resource::Routes
         | Resource::Find
-        | Resource::Log => Verb::Get,
+        | Resource::Log
+        | Resource::Health
+        | Resource::Links
+        | Resource::Classes
+        | Resource::Refs
+        | Resource::Rows
+        | Resource::Gone => Verb::Get,
         Resource::Edits | Resource::Surveys => Verb::Post,
     }
 }
@@ -94,6 +100,12 @@ fn argument(resource: Resource, target: &str) -> &[u8]
         | Resource::Routes
         | Resource::Find
         | Resource::Log
+        | Resource::Health
+        | Resource::Links
+        | Resource::Classes
+        | Resource::Refs
+        | Resource::Rows
+        | Resource::Gone
         | Resource::Edits
         | Resource::Surveys => query.as_bytes(),
     }

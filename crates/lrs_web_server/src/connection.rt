@@ -1,118 +1,162 @@
-//! A connection whose client may keep the server waiting only so long.
+//! A connection whose request has come, so that serving it waits for nobody.
 
-ghost use Rattle.std.specs.Io.{ReadsAtMost};
+ghost use Rattle.std.specs.Prelude.{◌≤◌, length, IfOk};
 
-use crate::deadlines::Patience;
+use crate::arrival::{Arrival, Behind};
+use crate::departure::{Departure, Returns, Stage, give_back};
+use crate::journal::Entry;
+use crate::judge::copy_from;
+use mio::Token;
+use std::alloc::Global;
 use std::io;
 use std::io::{ErrorKind, Read, Write};
-use std::net::{OpenStream, Shutdown};
-use std::rt::Clock;
+use std::net::TcpStream;
+use std::time::{Duration, Instant};
 
-// How long a client may take to send its request, to take the reply, and to end its side: ten seconds in all.
-const SENDING_MILLIS: u64 = 5_000;
-
+// Where memory for a reply is wanting, its client is waited for so long, and others wait.
 const TAKING_MILLIS: u64 = 4_000;
 
-const ENDING_MILLIS: u64 = 1_000;
-
-// So often a signal may interrupt a read or a write before the connection is given up.
-const MOST_INTERRUPTIONS: u32 = 1_000;
-
-// What a client sent beyond its request is read in at most this many pieces, and let go.
-const MOST_PIECES: u32 = 1_024;
-
-const PIECE: usize = 4_096;
-
-/// A connection to a client. Reading fails once five seconds have passed since it began, writing once four have; where
-/// it is dropped, the reply is ended, and for at most a second what the client still sends is read and let go.
-pub struct Connection<'a, S: Read + Write + OpenStream + Drop, C: Clock> {
-    stream: S,
-    clock: &'a C,
-    sending: Patience,
-    taking: Patience,
+/// A connection to a client whose request has come. The request is read from memory, and of the reply the socket takes
+/// what it takes at once; the rest is kept, and sent by the door once the connection is dropped.
+pub struct Connection<'a> {
+    stream: TcpStream,
+    token: Token,
+    request: Vec<u8>,
+    read: usize,
+    behind: Behind,
+    since: Instant,
+    rest: Vec<u8>,
+    has_waited: bool,
+    entry: Option<Entry>,
+    returns: &'a Returns,
 }
 
-impl<'a, S: Read + Write + OpenStream + Drop, C: Clock> Connection<'a, S, C> {
-    /// The connection over this stream.
-    pub fn new(stream: S, clock: &'a C) -> Connection<'a, S, C> {
+impl<'a> Connection<'a> {
+    /// The connection of an arrival, which the door has back through `returns`.
+    pub(crate) fn new(
+        alloc: Global,
+        arrival: Arrival,
+        behind: Behind,
+        since: Instant,
+        entry: Option<Entry>,
+        returns: &'a Returns,
+    ) -> Connection<'a> {
         Connection {
-            stream,
-            clock,
-            sending: Patience::of_millis(SENDING_MILLIS),
-            taking: Patience::of_millis(TAKING_MILLIS),
+            stream: arrival.stream,
+            token: arrival.token,
+            request: arrival.bytes,
+            read: 0,
+            behind,
+            since,
+            rest: Vec::new(alloc),
+            has_waited: false,
+            entry,
+            returns,
         }
+    }
+
+    // Writes while the client is waited for, as there is no memory to do that later. This is done once.
+    fn write_waiting(&mut self, buf: &[u8]) -> io::Result<usize>
+        ensures { IfOk result (λ count. count ≤ length buf.now) }
+    {
+        if self.has_waited || !self.rest.is_empty() {
+            return Err(io::Error::from(ErrorKind::OutOfMemory));
+        }
+        self.has_waited = true;
+        self.stream.set_nonblocking(false)?;
+        self.stream
+            .set_write_timeout(Some(Duration::from_millis(TAKING_MILLIS)))?;
+        self.stream.write(buf)
+    }
+
+    // What the socket takes at once of bytes behind which nothing is kept.
+    fn write_at_once(&mut self, buf: &[u8]) -> io::Result<usize>
+        ensures { IfOk result (λ count. count ≤ length buf.now) }
+    {
+        if !self.rest.is_empty() {
+            return Ok(0);
+        }
+        match self.stream.write(buf) {
+            Err(error) if is_later(error.kind()) => Ok(0),
+            outcome => outcome,
+        }
+    }
+
+    fn write_or_keep(&mut self, buf: &[u8]) -> io::Result<usize>
+        ensures { IfOk result (λ count. count ≤ length buf.now) }
+    {
+        let taken = self.write_at_once(buf)?;
+        let left = &buf[taken..];
+        if left.is_empty() || self.rest.extend_from_slice(left).is_ok() {
+            return Ok(buf.len());
+        }
+        if taken > 0 {
+            return Ok(taken);
+        }
+        self.write_waiting(buf)
     }
 }
 
-// Reads what comes while there is patience.
-fn read_in_time<S: Read + OpenStream, C: Clock>(
-    stream: &mut S,
-    patience: &mut Patience,
-    clock: &C,
-    buf: &mut [u8],
-) -> io::Result<usize>
-    ensures { ReadsAtMost result buf.new }
-{
-    for _turn in 0..MOST_INTERRUPTIONS {
-        let left = patience.left(clock)?;
-        stream.set_read_timeout(Some(left))?;
-        match stream.read(buf) {
-            Err(error) if error.kind() == ErrorKind::Interrupted => {}
-            outcome => return outcome,
-        }
-    }
-    Err(io::Error::from(ErrorKind::Interrupted))
+// Whether a socket takes nothing now, and may later.
+fn is_later(kind: ErrorKind) -> bool {
+    matches!(kind, ErrorKind::WouldBlock | ErrorKind::Interrupted)
 }
 
-impl<'a, S: Read + Write + OpenStream + Drop, C: Clock> Read for Connection<'a, S, C> {
+impl<'a> Read for Connection<'a> {
     fn read(&mut self, buf: &mut [u8]) -> io::Result<usize> {
-        read_in_time(&mut self.stream, &mut self.sending, self.clock, buf)
+        let count = copy_from(self.request.as_slice(), self.read, buf);
+        self.read = self.read.saturating_add(count);
+        if count > 0 {
+            return Ok(count);
+        }
+        match self.behind {
+            Behind::End => Ok(0),
+            Behind::Nothing => Err(io::Error::from(ErrorKind::WouldBlock)),
+            Behind::Late => Err(io::Error::from(ErrorKind::TimedOut)),
+            Behind::Failure => Err(io::Error::from(ErrorKind::ConnectionReset)),
+        }
     }
 }
 
-impl<'a, S: Read + Write + OpenStream + Drop, C: Clock> Write for Connection<'a, S, C> {
+impl<'a> Write for Connection<'a> {
     fn write(&mut self, buf: &[u8]) -> io::Result<usize> {
-        for _turn in 0..MOST_INTERRUPTIONS {
-            let left = self.taking.left(self.clock)?;
-            self.stream.set_write_timeout(Some(left))?;
-            match self.stream.write(buf) {
-                Err(error) if error.kind() == ErrorKind::Interrupted => {}
-                outcome => return outcome,
-            }
+        let count = self.write_or_keep(buf)?;
+        if let Some(entry) = &mut self.entry {
+            entry.note(&buf[..count]);
         }
-        Err(io::Error::from(ErrorKind::Interrupted))
+        Ok(count)
     }
 
     fn flush(&mut self) -> io::Result<()> {
-        self.stream.flush()
+        Ok(())
     }
 }
 
-// Ends the reply. A stream that is closed with bytes unread may take the reply back from a client that has not read it
-// yet, so they are read first.
-fn end<S: Read + OpenStream, C: Clock>(stream: &mut S, clock: &C) {
-    if stream.shutdown(Shutdown::Write).is_err() {
-        return;
-    }
-    let mut ending = Patience::of_millis(ENDING_MILLIS);
-    let mut piece = [0u8; PIECE];
-    for _turn in 0..MOST_PIECES {
-        match read_in_time(stream, &mut ending, clock, &mut piece) {
-            Ok(0) | Err(_) => return,
-            Ok(_) => {}
-        }
-    }
-}
-
-impl<'a, S: Read + Write + OpenStream + Drop, C: Clock> Drop for Connection<'a, S, C> {
-    fn drop(mut self) {
-        let clock = self.clock;
-        end(&mut self.stream, clock);
+impl<'a> Drop for Connection<'a> {
+    fn drop(self) {
         let Self {
-            stream: _,
-            clock: _,
-            sending: _,
-            taking: _,
+            stream,
+            token,
+            request: _,
+            read: _,
+            behind: _,
+            since,
+            rest,
+            has_waited: _,
+            entry,
+            returns,
         } = self;
+        let departure = Departure {
+            stream,
+            token,
+            rest,
+            sent: 0,
+            stage: Stage::Sending,
+            until: since,
+            is_stirred: true,
+            pieces: 0,
+            entry,
+        };
+        give_back(returns, departure);
     }
 }

@@ -1,11 +1,16 @@
 //! Serves a desk on a port of this machine.
 #![tactic(auto)]
 
+mod arrival;
 mod connection;
 mod deadlines;
+mod departure;
+mod hall;
+mod journal;
+mod judge;
 mod listener;
 mod service;
 
 pub use connection::Connection;
 pub use listener::Listening;
-pub use service::{ServiceFault, serve};
+pub use service::{Manner, ServiceFault, serve};

@@ -1,16 +1,27 @@
 //! A desk, served on a port.
 
-ghost use Rattle.std.specs.Prelude.{ℕ, ◌≡◌, ◌+◌, IfOk, OnErr};
+ghost use Rattle.std.specs.Prelude.{ℕ, ◌≡◌, ◌+◌, IfOk, OnErr, IsTrue, true, false, Err, Result};
 ghost use Rattle.lrs_web.specs.Visits.{HasVisited};
 
+use crate::hall::Hall;
 use crate::listener::Listening;
 use lrs_desk::{Desk, Keeper};
-use lrs_web::{DoorFault, Served, serve_all};
+use lrs_web::{Door, DoorFault, Served, serve_all};
 use std::alloc::Global;
+use std::cell::RefCell;
 use std::io;
 use std::io::Write;
 use std::net::{Ipv4Addr, Net, SocketAddr, SocketAddrV4};
 use std::rt::Runtime;
+
+/// How a desk is served.
+#[derive(Debug, Clone, Copy, PartialEq, Eq)]
+pub struct Manner {
+    /// A line on standard error tells of each request.
+    pub logs: bool,
+    /// The service ends once a commit has failed, so that the desk is opened anew.
+    pub ends_on_fault: bool,
+}
 
 /// Why a service ended before its last connection.
 #[derive(Debug, Clone, Copy, PartialEq, Eq)]
@@ -19,6 +30,8 @@ pub enum ServiceFault {
     Door,
     /// It was not said that it listens, and nobody is served.
     Write,
+    /// A commit has failed, and the desk has to be opened anew.
+    Desk,
 }
 
 fn say<R: Runtime<A = Global>>(rt: &R, port: u16) -> io::Result<()> {
@@ -27,16 +40,70 @@ fn say<R: Runtime<A = Global>>(rt: &R, port: u16) -> io::Result<()> {
     output.flush()
 }
 
+// Whether the service ends at this desk.
+fn is_at_fault<K: Keeper>(desk: &Desk<K>, ends_on_fault: bool) -> bool
+    ensures ends { IsTrue result → (desk.now.must_reopen ≡ true) }
+    ensures goes_on { result ≡ false → ends_on_fault ≡ true → desk.now.must_reopen ≡ false }
+    ensures never { ends_on_fault ≡ false → result ≡ false }
+{
+    ends_on_fault && desk.must_reopen()
+}
+
+/// Serves a number of connections of a door, one after another, or as many as come before a commit fails, where the
+/// service is to end then.
+///
+/// # Errors
+/// `Door` where the door gave no connection; `Desk` where the desk has to be opened anew. Those before are served.
+fn serve_each<D: Door, K: Keeper>(
+    alloc: Global,
+    door: &mut D,
+    desk: &mut Desk<K>,
+    max: u32,
+    ends_on_fault: bool,
+) -> Result<Served, ServiceFault>
+    ensures count { IfOk result (λ served. served.full + served.cut ≡ max) }
+    ensures visited { IfOk result (λ served.
+        HasVisited K.may_hold served.full served.cut desk.old desk.new) }
+    ensures stopped { OnErr result ((full : ℕ) × (cut : ℕ)
+        × HasVisited K.may_hold full cut desk.old desk.new) }
+    ensures desk { result ≡ Err ServiceFault.Desk → desk.new.must_reopen ≡ true }
+    ensures open { IfOk result (λ _. ends_on_fault ≡ true → desk.new.must_reopen ≡ false) }
+    ensures never { ends_on_fault ≡ false → result ≡ Err ServiceFault.Desk → ⊥ }
+    ensures other { result ≡ Err ServiceFault.Write → ⊥ }
+{
+    let mut full = 0;
+    let mut cut = 0;
+    for _turn in 0..max {
+        if is_at_fault(desk, ends_on_fault) {
+            return Err(ServiceFault::Desk);
+        }
+        match serve_all(alloc, door, desk, 1) {
+            Ok(served) => {
+                full += served.full;
+                cut += served.cut;
+            }
+            Err(DoorFault) => return Err(ServiceFault::Door),
+        }
+    }
+    if is_at_fault(desk, ends_on_fault) {
+        return Err(ServiceFault::Desk);
+    }
+    Ok(Served { full, cut })
+}
+
 /// Listens on a port of 127.0.0.1, says so on standard output, and serves a number of connections at a desk, one after
-/// another.
+/// another as their requests are whole. Before it ends, the replies that are left are sent as far as their clients take
+/// them in time.
 ///
 /// # Errors
 /// `Door` where the port cannot be listened on, and then nothing is said; or where it fails later, when the connections
-/// before are served. `Write` where standard output takes nothing.
+/// before are served. `Write` where standard output takes nothing. `Desk` once a commit has failed, where the service is
+/// to end then.
 pub fn serve<R: Runtime<A = Global> + Net, K: Keeper>(
     rt: &R,
     port: u16,
     max: u32,
+    manner: Manner,
     desk: &mut Desk<K>,
 ) -> Result<Served, ServiceFault>
     ensures count { IfOk result (λ served. served.full + served.cut ≡ max) }
@@ -44,17 +111,23 @@ pub fn serve<R: Runtime<A = Global> + Net, K: Keeper>(
         HasVisited K.may_hold served.full served.cut desk.old desk.new) }
     ensures stopped { OnErr result ((full : ℕ) × (cut : ℕ)
         × HasVisited K.may_hold full cut desk.old desk.new) }
+    ensures desk { result ≡ Err ServiceFault.Desk → desk.new.must_reopen ≡ true }
+    ensures open { IfOk result (λ _. manner.ends_on_fault ≡ true → desk.new.must_reopen ≡ false) }
+    ensures never { manner.ends_on_fault ≡ false → result ≡ Err ServiceFault.Desk → ⊥ }
 {
     let address = SocketAddr::V4(SocketAddrV4::new(Ipv4Addr::LOCALHOST, port));
-    let Ok(listener) = rt.bind(address) else {
+    let Ok(room) = Vec::with_capacity(rt.alloc(), 1) else {
+        return Err(ServiceFault::Door);
+    };
+    let returns = RefCell::new(room);
+    let Ok(hall) = Hall::open(rt, rt.alloc(), address, max, manner.logs, &returns) else {
         return Err(ServiceFault::Door);
     };
     if say(rt, port).is_err() {
         return Err(ServiceFault::Write);
     }
-    let mut door = Listening::new(listener, rt);
-    match serve_all(rt.alloc(), &mut door, desk, max) {
-        Ok(served) => Ok(served),
-        Err(DoorFault) => Err(ServiceFault::Door),
-    }
+    let mut door = Listening::new(hall, rt);
+    let outcome = serve_each(rt.alloc(), &mut door, desk, max, manner.ends_on_fault);
+    door.finish();
+    outcome
 }

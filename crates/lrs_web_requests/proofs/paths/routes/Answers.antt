@@ -5,15 +5,21 @@ use Rattle.lrs_web_requests.proofs.paths.routes.Goals as goal
 pub returns : goal.returns
 unfolding matchit_on_literals rows
 returns c =
-    let a = c.in_ok-insert.ensures in
-    let b = c.in_ok-insert-2.ensures in
-    let d = c.in_ok-insert-3.ensures in
-    let e = c.in_ok-insert-4.ensures in
-    let f = c.in_ok-insert-5.ensures in
-    let g = c.in_ok-insert-6.ensures in
-    let h = c.in_ok-insert-7.ensures in
-    let i = c.in_ok-insert-8.ensures in
-    let j = c.in_ok-insert-9.ensures in
-    let k = c.in_ok-insert-10.ensures in
-    let l = c.in_ok-insert-11.ensures in
-    rw (l.1, k.1, j.1, i.1, h.1, g.1, f.1, e.1, d.1, b.1, a.1, c.new-router.ensures)
+    let i1 = c.in_ok-insert.ensures in
+    let i2 = c.in_ok-insert-2.ensures in
+    let i3 = c.in_ok-insert-3.ensures in
+    let i4 = c.in_ok-insert-4.ensures in
+    let i5 = c.in_ok-insert-5.ensures in
+    let i6 = c.in_ok-insert-6.ensures in
+    let i7 = c.in_ok-insert-7.ensures in
+    let i8 = c.in_ok-insert-8.ensures in
+    let i9 = c.in_ok-insert-9.ensures in
+    let i10 = c.in_ok-insert-10.ensures in
+    let i11 = c.in_ok-insert-11.ensures in
+    let i12 = c.in_ok-insert-12.ensures in
+    let i13 = c.in_ok-insert-13.ensures in
+    let i14 = c.in_ok-insert-14.ensures in
+    let i15 = c.in_ok-insert-15.ensures in
+    let i16 = c.in_ok-insert-16.ensures in
+    let i17 = c.in_ok-insert-17.ensures in
+    rw (i17.1, i16.1, i15.1, i14.1, i13.1, i12.1, i11.1, i10.1, i9.1, i8.1, i7.1, i6.1, i5.1, i4.1, i3.1, i2.1, i1.1, c.new-router.ensures)

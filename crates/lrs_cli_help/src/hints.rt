@@ -1,0 +1,53 @@
+//! Hints on words that cannot be read: the word as it was given, and what is wanted.
+
+use crate::job_texts::{given, method_given};
+use lrs_cli_words::{BadWord, Job};
+use std::alloc::Global;
+use std::rt::Runtime;
+
+// What a position is, by the method that is named.
+fn position_wanted(method: Option<&str>) -> &'static str {
+    match method {
+        Some("abs") => "no position by abs; a whole number, as 3000",
+        Some("rel") => "no position by rel; a referent and millimetres, as KM2+500 or KM2-20",
+        Some("int") => "no position by int; a proportion of the route, as 1/3",
+        _ => "no position; as 3000 by abs, KM2+500 by rel, 1/3 by int",
+    }
+}
+
+// What the word should be.
+fn wanted(word: BadWord, method: Option<&str>) -> &'static str {
+    match word {
+        BadWord::Route => "no route name; 1 to 12 of A-Z 0-9 -, the first not -, as A38",
+        BadWord::Method => "no method; abs is a measure, rel a distance, int a proportion",
+        BadWord::Position => position_wanted(method),
+        BadWord::Destination => "no way to say a position; abs, int, rel:KM2 or link",
+        BadWord::Side => "no side of an answer; L or R, seen along the route",
+        BadWord::Class => "no class name; 1 to 8 of A-Z 0-9, as SPEED",
+        BadWord::From | BadWord::To | BadWord::Chainage => {
+            "no chainage; a whole number of millimetres from the route's start, as 3000"
+        }
+        BadWord::Asset => "no asset number; a whole number from 1, as 1001",
+        BadWord::What => "no list; routes, links, classes or refs",
+        BadWord::Edit | BadWord::Number => {
+            "no number of an edit; a whole number from 1, as 8 in the reply KEY,done,8"
+        }
+        BadWord::Key => "no key; 1 to 40 of A-Z a-z 0-9 . : _ -, not - alone",
+        BadWord::NotLink => "not link; either ROUTE CHAINAGE, or link LINK MM",
+        BadWord::Link => "no link number; a whole number from 1 to 999999, as 101",
+        BadWord::Millimetre => {
+            "no millimetre of a link; a whole number from the link's start, as 3000"
+        }
+        BadWord::Port => "no port; a whole number from 1 to 65535, as 8080",
+        BadWord::Max => "no number of connections; a whole number from 0 to 1000000",
+    }
+}
+
+/// Says on standard error what was given for a word that cannot be read, and what is wanted. Where standard error takes
+/// nothing, the status alone tells.
+pub fn hint_at<R: Runtime<A = Global>>(rt: &R, job: &Job<'_>, word: BadWord) {
+    if let Some(text) = given(job, word) {
+        let what = wanted(word, method_given(job));
+        let _ = eprintln!(rt; "hint: \"{text}\" is {what}");
+    }
+}

@@ -1,0 +1,103 @@
+//! What is found at the path of an inventory that cannot be opened.
+
+use sqlite::{Connection, FileFrom, FileStore, Unknown};
+use sqlite_std_file::open as open_pair;
+use std::io::ErrorKind;
+use std::rt::HostRuntime;
+use std::{fs, io};
+
+/// What is found at a path.
+#[derive(Drop)]
+pub(crate) enum Found {
+    /// Neither a file nor the log of one.
+    Nothing,
+    /// No file, or an empty one, beside a log.
+    LogAlone,
+    Folder,
+    /// The system does not say, or does not open it: why.
+    Refused(String),
+    /// Another program has it open.
+    InUse,
+    /// No database, or one that is damaged: what the kit's `sqlite` says.
+    NoDatabase(String),
+    /// A database with these tables.
+    Tables(String),
+}
+
+// The fewest bytes of a log that has a commit: its header, and one frame with its header and the smallest page.
+const SHORTEST_LOG: u64 = 32 + 24 + 512;
+
+// Whether there is a log with commits beside a path.
+fn has_log(rt: &HostRuntime, path: &str) -> bool {
+    let Ok(log) = format!(in rt.alloc(); "{path}-wal") else {
+        return false;
+    };
+    match fs::metadata(rt, log.as_str()) {
+        Ok(found) => found.len() >= SHORTEST_LOG,
+        Err(_) => false,
+    }
+}
+
+fn refused(rt: &HostRuntime, error: &io::Error) -> Found {
+    match format!(in rt.alloc(); "{error}") {
+        Ok(text) => Found::Refused(text),
+        Err(_) => Found::Nothing,
+    }
+}
+
+// The names of a database's tables, with a space between two.
+fn table_names(rt: &HostRuntime, conn: &Connection<FileStore<FileFrom<Unknown>>>) -> Found {
+    let mut names = String::new(rt.alloc());
+    for table in conn.schema().tables.as_slice() {
+        let Ok(name) = str::from_utf8(table.name.as_slice()) else {
+            return Found::Nothing;
+        };
+        if names.push_str(" ").is_err() || names.push_str(name).is_err() {
+            return Found::Nothing;
+        }
+    }
+    Found::Tables(names)
+}
+
+// What the kit's `sqlite` finds in the file.
+fn inside(rt: &HostRuntime, path: &str) -> Found {
+    match Connection::open_from(rt, path, false, Unknown) {
+        Ok(conn) => table_names(rt, &conn),
+        Err((error, _)) => match format!(in rt.alloc(); "{error}") {
+            Ok(text) => Found::NoDatabase(text),
+            Err(_) => Found::Nothing,
+        },
+    }
+}
+
+// What opening the files of an inventory says.
+fn opened(rt: &HostRuntime, path: &str) -> Found {
+    match open_pair(rt, path, Unknown) {
+        Ok(files) => {
+            drop(files);
+            inside(rt, path)
+        }
+        Err(error) => match format!(in rt.alloc(); "{error}") {
+            Ok(text) if text.as_str() == "the database is in use" => Found::InUse,
+            Ok(text) => Found::Refused(text),
+            Err(_) => Found::Nothing,
+        },
+    }
+}
+
+/// Looks at a path. A file that is there is opened once more; none is made, and nothing is written.
+pub(crate) fn inspect(rt: &HostRuntime, path: &str) -> Found {
+    match fs::metadata(rt, path) {
+        Ok(found) if found.is_dir() => Found::Folder,
+        Ok(found) if found.len() == 0 && has_log(rt, path) => Found::LogAlone,
+        Ok(_) => opened(rt, path),
+        Err(error) if error.kind() == ErrorKind::NotFound => {
+            if has_log(rt, path) {
+                Found::LogAlone
+            } else {
+                Found::Nothing
+            }
+        }
+        Err(error) => refused(rt, &error),
+    }
+}

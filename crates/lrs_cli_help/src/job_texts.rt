@@ -1,0 +1,162 @@
+//! The words of a job that readers of words look at.
+
+use lrs_cli_words::{BadWord, Job};
+use lrs_events::ClassName;
+
+fn route_in<'a>(job: &Job<'a>) -> Option<&'a str> {
+    match job {
+        Job::At { route, .. }
+        | Job::Where { route, .. }
+        | Job::Translate { route, .. }
+        | Job::Strip { route, .. }
+        | Job::Diagram { route, .. } => Some(route),
+        Job::Rows { route, .. } | Job::Lengths { route, .. } => *route,
+        _ => None,
+    }
+}
+
+// The position, and the method by which it is read.
+fn position_in<'a>(job: &Job<'a>) -> Option<(&'a str, &'a str)> {
+    match job {
+        Job::At {
+            method,
+            position,
+            ..
+        }
+        | Job::Translate {
+            method,
+            position,
+            ..
+        } => Some((method, position)),
+        _ => None,
+    }
+}
+
+// The first of these words that is no name of a class.
+fn unreadable_class<'a>(classes: &[&'a str]) -> Option<&'a str> {
+    for class in classes {
+        if ClassName::new(class.as_bytes()).is_none() {
+            return Some(*class);
+        }
+    }
+    None
+}
+
+fn class_in<'a>(job: &Job<'a>) -> Option<&'a str> {
+    match job {
+        Job::Strip { classes, .. } | Job::Diagram { classes, .. } => {
+            unreadable_class(classes.as_slice())
+        }
+        Job::Rows { class, .. } => *class,
+        _ => None,
+    }
+}
+
+// Where a stretch begins and where it ends.
+fn stretch_in<'a>(job: &Job<'a>) -> (Option<&'a str>, Option<&'a str>) {
+    match job {
+        Job::Diagram { from, to, .. } | Job::Rows { from, to, .. } => (*from, *to),
+        _ => (None, None),
+    }
+}
+
+fn asset_in<'a>(job: &Job<'a>) -> Option<&'a str> {
+    match job {
+        Job::Find { asset, .. } => Some(asset),
+        Job::Rows { asset, .. } => *asset,
+        _ => None,
+    }
+}
+
+// The chainage, or behind the word `link` the link; and the millimetre of the link.
+fn place_in<'a>(job: &Job<'a>) -> (Option<&'a str>, Option<&'a str>) {
+    match job {
+        Job::Where { chainage, mm, .. } => (Some(chainage), *mm),
+        _ => (None, None),
+    }
+}
+
+// Words that only one kind of job has.
+fn other_in<'a>(job: &Job<'a>, word: BadWord) -> Option<&'a str> {
+    match (job, word) {
+        (Job::Translate { to, .. }, BadWord::Destination) => Some(to),
+        (Job::Strip { side, .. }, BadWord::Side) => Some(side),
+        (Job::List { what, .. }, BadWord::What) => Some(what),
+        (Job::Gone { edit, .. }, BadWord::Edit) => *edit,
+        (Job::Log { from, .. }, BadWord::Number) => *from,
+        (Job::Log { key, .. }, BadWord::Key) => *key,
+        (Job::Serve { port, .. }, BadWord::Port) => Some(port),
+        (Job::Serve { max, .. }, BadWord::Max) => Some(max),
+        _ => None,
+    }
+}
+
+/// The text that a job has for a word that cannot be read.
+pub(crate) fn given<'a>(job: &Job<'a>, word: BadWord) -> Option<&'a str> {
+    match word {
+        BadWord::Route | BadWord::NotLink => route_in(job),
+        BadWord::Method => Some(position_in(job)?.0),
+        BadWord::Position => Some(position_in(job)?.1),
+        BadWord::Class => class_in(job),
+        BadWord::From => stretch_in(job).0,
+        BadWord::To => stretch_in(job).1,
+        BadWord::Asset => asset_in(job),
+        BadWord::Chainage | BadWord::Link => place_in(job).0,
+        BadWord::Millimetre => place_in(job).1,
+        BadWord::Destination
+        | BadWord::Side
+        | BadWord::What
+        | BadWord::Edit
+        | BadWord::Number
+        | BadWord::Key
+        | BadWord::Port
+        | BadWord::Max => other_in(job, word),
+    }
+}
+
+/// The method by which a job's position is read: none where it has no position.
+pub(crate) fn method_given<'a>(job: &Job<'a>) -> Option<&'a str> {
+    Some(position_in(job)?.0)
+}
+
+/// The inventory of a job: none for the page.
+pub(crate) fn inventory_of<'a>(job: &Job<'a>) -> Option<&'a str> {
+    match job {
+        Job::Edit { db, .. }
+        | Job::Survey { db, .. }
+        | Job::Check { db, .. }
+        | Job::At { db, .. }
+        | Job::Where { db, .. }
+        | Job::Translate { db, .. }
+        | Job::Strip { db, .. }
+        | Job::Diagram { db, .. }
+        | Job::Totals { db }
+        | Job::Lengths { db, .. }
+        | Job::Find { db, .. }
+        | Job::List { db, .. }
+        | Job::Rows { db, .. }
+        | Job::Gone { db, .. }
+        | Job::Log { db, .. }
+        | Job::Audit { db }
+        | Job::Serve { db, .. } => Some(db),
+        Job::Page { .. } => None,
+    }
+}
+
+/// The sheet of a job, if it has one.
+pub(crate) fn sheet_of<'a>(job: &Job<'a>) -> Option<&'a str> {
+    match job {
+        Job::Edit { sheet, .. } | Job::Survey { sheet, .. } | Job::Check { sheet, .. } => {
+            Some(sheet)
+        }
+        _ => None,
+    }
+}
+
+/// The port of a job, if it serves.
+pub(crate) fn port_of<'a>(job: &Job<'a>) -> Option<&'a str> {
+    match job {
+        Job::Serve { port, .. } => Some(port),
+        _ => None,
+    }
+}

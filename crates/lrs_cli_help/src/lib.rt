@@ -1,0 +1,16 @@
+//! What the program says beside its answers: help on verbs, hints on words that cannot be read, explanations of faults.
+#![tactic(auto)]
+
+mod explanation;
+mod hints;
+mod inspection;
+mod job_texts;
+mod options;
+mod outlet;
+mod verbs;
+
+pub use explanation::explain;
+pub use hints::hint_at;
+pub use options::{Options, keep_job_words, options_of};
+pub use outlet::is_reader_gone;
+pub use verbs::verb_help;

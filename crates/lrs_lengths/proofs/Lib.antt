@@ -1,0 +1,10 @@
+pub mod Pushed
+pub mod Counts
+pub mod Tests
+pub mod Ranks
+pub mod Swept
+pub mod Groups
+pub mod Axis
+pub mod Whole
+pub mod Sides
+pub mod Unique

@@ -1,0 +1,4 @@
+pub mod Lengths
+pub mod Lines
+pub mod Parts
+pub mod Laws

@@ -1,0 +1,57 @@
+-- The text of a list that is written item by item.
+use Rattle.std.proofs.Common.{◌≡◌, ℕ, List, [], ◌∷◌, ◌++◌, length, map, filter, append_assoc, refl, sym, ap, ◌∙◌, Bool, true, if◌then◌else◌, Result, Ok, Err, IfOk, Vec, Global}
+use Rattle.std.specs.List.{flat_map}
+use Rattle.std.proofs.lemmas.List.Concat.{flat_map-append}
+use Rattle.serde_json.specs.Data.{Data, string}
+use Rattle.serde_json.specs.View.{items_of}
+use Rattle.serde_json.specs.Written.{compact_text, items_text}
+use Rattle.lrs_lists.proofs.Chosen.{texts_of_chosen}
+use Rattle.lrs_machine.specs.Lines.{Text}
+use Rattle.lrs_web_replies.specs.Parts.{front_text, item_text, opened_text}
+use Rattle.lrs_web_replies.specs.Reports.{named_list}
+use Rattle.lrs_web_replies.specs.Shown.{list}
+
+-- what follows the first item
+tail_text : (ds : List Data) → items_text true (items_of ds) ≡ flat_map item_text ds ++ 93 ∷ []
+tail_text [] = refl
+tail_text (d ∷ ds) = ap (λ t. 44 ∷ (compact_text d ++ t)) (tail_text ds) ∙ ap (λ t. 44 ∷ t) (sym (append_assoc (compact_text d) (flat_map item_text ds) (93 ∷ [])))
+
+-- with its closing bracket
+closed_text : (ds : List Data) → opened_text ds ++ 93 ∷ [] ≡ compact_text (list ds)
+closed_text [] = refl
+closed_text (d ∷ ds) = ap (λ t. 91 ∷ t) (append_assoc (compact_text d) (flat_map item_text ds) (93 ∷ []) ∙ ap (λ t. compact_text d ++ t) (sym (tail_text ds)))
+
+pub ended : (front : List ℕ) (ds : List Data) (bytes more whole : List ℕ) → bytes ≡ front ++ opened_text ds → more ≡ bytes ++ 93 ∷ [] → whole ≡ more ++ 125 ∷ []
+    → whole ≡ front ++ (compact_text (list ds) ++ 125 ∷ [])
+ended front ds bytes more whole is pushed ends =
+    ends ∙ ap (λ t. t ++ 125 ∷ []) (pushed ∙ ap (λ t. t ++ 93 ∷ []) is ∙ append_assoc front (opened_text ds) (93 ∷ []) ∙ ap (λ t. front ++ t) (closed_text ds))
+    ∙ append_assoc front (compact_text (list ds)) (125 ∷ [])
+
+-- the object whose one member is the list
+pub object_text : (name : Text) (ds : List Data) → front_text name ++ (compact_text (list ds) ++ 125 ∷ []) ≡ compact_text (named_list name ds)
+object_text name ds = ap (λ t. 123 ∷ t) (append_assoc (compact_text (string name)) (58 ∷ []) (compact_text (list ds) ++ 125 ∷ []))
+
+-- what an ended list is, as the object whose one member it is
+pub named : {E : Type 0} (r : Result (Vec ℕ Global) E) (filled : List ℕ) (start : ℕ) (name : Text) (ds : List Data)
+    → IfOk r (λ whole. (front : Text) (items : List Data) → length front ≡ start → filled ≡ front ++ flat_map item_text items → whole.items ≡ front ++ (compact_text (list items) ++ 125 ∷ []))
+    → length (front_text name) ≡ start → filled ≡ front_text name ++ flat_map item_text ds → IfOk r (λ whole. whole.items ≡ compact_text (named_list name ds))
+named (Ok whole) filled start name ds told at is = told (front_text name) ds at is ∙ object_text name ds
+named (Err e) filled start name ds told at is = tt
+
+-- items behind a front
+pub behind : (front before after part all : List ℕ) → before ≡ front → after ≡ before ++ part → part ≡ all → after ≡ front ++ all
+behind front before after part all is added same = added ∙ ap (λ t. t ++ part) is ∙ ap (λ t. front ++ t) same
+
+-- ---- items, one behind the other
+
+pub of_each : {A : Type 0} (shown : A → Data) (xs : List A) → flat_map (λ x. item_text (shown x)) xs ≡ flat_map item_text (map shown xs)
+of_each shown [] = refl
+of_each shown (x ∷ xs) = ap (λ t. item_text (shown x) ++ t) (of_each shown xs)
+
+pub of_all : {A : Type 0} (items : A → List Data) (xs : List A) → flat_map (λ x. flat_map item_text (items x)) xs ≡ flat_map item_text (flat_map items xs)
+of_all items [] = refl
+of_all items (x ∷ xs) = ap (λ t. flat_map item_text (items x) ++ t) (of_all items xs) ∙ sym (flat_map-append item_text (items x) (flat_map items xs))
+
+-- of those that are asked for
+pub of_chosen : {A : Type 0} (asked : A → Bool) (shown : A → Data) (xs : List A) → flat_map (λ x. if asked x then item_text (shown x) else []) xs ≡ flat_map item_text (map shown (filter asked xs))
+of_chosen asked shown xs = texts_of_chosen asked (λ x. item_text (shown x)) xs ∙ of_each shown (filter asked xs)

@@ -1,0 +1,8 @@
+use Rattle.lrs_web_replies.specs.Parts.{gone_part}
+use Rattle.std.proofs.Common.{Some}
+use Rattle.lrs_lists.proofs.Writing.{appends_at}
+use Rattle.lrs_web_replies.proofs.reports.add_parts.Goals as goal
+
+pub loop-gone-preserved : goal.loop-gone-preserved
+loop-gone-preserved c =
+    appends_at (gone_part c.args.edit c.args.assets.now.rows) c.loop-gone.gone-index c.args.ledger.now _ (Some c.args.bytes.now.items) (Some c.loop-gone.bytes.items) (Some c.add_asked_part.new.bytes.items) c.loop-gone-test.true c.loop-gone.invariant c.in_ok-add_asked_part.ensures

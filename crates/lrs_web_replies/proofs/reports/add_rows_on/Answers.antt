@@ -1,0 +1,8 @@
+use Rattle.lrs_web_replies.specs.Parts.{row_part}
+use Rattle.std.proofs.Common.{Some}
+use Rattle.lrs_lists.proofs.Writing.{appends_next}
+use Rattle.lrs_web_replies.proofs.reports.add_rows_on.Goals as goal
+
+pub loop-row-preserved : goal.loop-row-preserved
+loop-row-preserved c =
+    appends_next (row_part c.args.wanted.now c.args.assets.now.rows c.args.route.now) c.loop-row.row-index c.args.rows.now c.row-item.result (Some c.args.bytes.now.items) (Some c.loop-row.bytes.items) (Some c.add_wanted_row.new.bytes.items) c.loop-row-test.true c.row-item.is c.loop-row.invariant c.in_ok-add_wanted_row.ensures

@@ -1,0 +1,48 @@
+-- Parts of the text of a report, as they are written one behind the other.
+use Rattle.std.specs.Prelude.{ℕ, if◌then◌else◌, List, [], ◌∷◌, ◌++◌, Option}
+use Rattle.std.specs.List.{flat_map}
+use Rattle.serde_json.specs.Data.{Data, string}
+use Rattle.serde_json.specs.Written.{compact_text}
+use Rattle.lrs_position.specs.declared.route.Referent.{Referent}
+use Rattle.lrs_position.specs.declared.route.Route.{Route}
+use Rattle.lrs_events.specs.declared.class.Asset.{Asset}
+use Rattle.lrs_events.specs.declared.part.Gone.{Gone}
+use Rattle.lrs_events.specs.declared.span.Span.{Span}
+use Rattle.lrs_machine.specs.declared.image.RouteRow.{RouteRow}
+use Rattle.lrs_machine.specs.Lines.{Text}
+use Rattle.lrs_lists.specs.declared.wanted.RowsWanted.{RowsWanted}
+use Rattle.lrs_lists.specs.Wanted.{is_of_edit, is_wanted}
+use Rattle.lrs_web_replies.specs.Reports.{gone_data, ref_data, refs_of, row_data, rows_of}
+
+-- an object up to the value of its first member
+abbrev pub front_text : Text → Text
+front_text name = 123 ∷ (compact_text (string name) ++ 58 ∷ [])
+
+-- an item of a list, with a comma before it
+abbrev pub item_text : Data → Text
+item_text d = 44 ∷ compact_text d
+
+-- the items of a list with its opening bracket in the place of the first comma
+abbrev pub opened_text : List Data → Text
+opened_text [] = 91 ∷ []
+opened_text (d ∷ ds) = 91 ∷ (compact_text d ++ flat_map item_text ds)
+
+-- a referent
+abbrev pub ref_part : Route → Referent → Text
+ref_part route r = item_text (ref_data route r)
+
+-- the referents of a route
+abbrev pub refs_part : RouteRow → Text
+refs_part e = flat_map item_text (refs_of e)
+
+-- a row, where it is asked for
+abbrev pub row_part : RowsWanted → List Asset → Route → Span → Text
+row_part w assets route r = if is_wanted w r then item_text (row_data assets route r) else []
+
+-- the rows of a route that are asked for
+abbrev pub rows_part : RowsWanted → List Asset → RouteRow → Text
+rows_part w assets e = flat_map item_text (rows_of w assets e)
+
+-- a part that is gone, where it is asked for
+abbrev pub gone_part : Option ℕ → List Asset → Gone → Text
+gone_part edit assets g = if is_of_edit edit g then item_text (gone_data assets g) else []

@@ -1,0 +1,89 @@
+//! The text of an object whose one member is a list, written item by item: no more than one item is in memory as a value.
+
+ghost use Rattle.std.specs.Prelude.{◌≡◌, ◌∷◌, ◌++◌, [], List, length, false, IfOk, OnOk};
+ghost use Rattle.std.specs.List.{flat_map};
+ghost use Rattle.serde_json.specs.Data.{Data};
+ghost use Rattle.serde_json.specs.View.{view};
+ghost use Rattle.serde_json.specs.Written.{compact_text, has_float};
+ghost use Rattle.lrs_machine.specs.Lines.{Text};
+ghost use Rattle.lrs_web_replies.specs.Parts.{front_text, item_text, opened_text};
+ghost use Rattle.lrs_web_replies.specs.Shown.{list as list_data};
+
+use crate::answers::bytes_of;
+use crate::list::Shown;
+use lrs_ordered::Chunked;
+use serde_json::Value;
+use std::alloc::{AllocError, Global};
+
+/// An object up to the value of its first member, which has this name.
+pub(crate) fn begin(alloc: Global, name: &str) -> Result<Vec<u8>, AllocError>
+    ensures { IfOk result (λ bytes. bytes.items ≡ front_text name.now) }
+{
+    let name = Value::try_from_str(alloc, name)?;
+    let name = bytes_of(alloc, &name)?;
+    let mut bytes = Vec::new(alloc);
+    bytes.push(b'{')?;
+    bytes.extend_from_slice(name.as_slice())?;
+    bytes.push(b':')?;
+    Ok(bytes)
+}
+
+/// Adds an item, with a comma before it.
+pub(crate) fn add_item(alloc: Global, bytes: &mut Vec<u8>, item: &Value) -> Result<(), AllocError>
+    requires { has_float (view item.now) ≡ false }
+    ensures { OnOk result (bytes.new.items ≡ bytes.old.items ++ item_text (view item.now)) }
+{
+    let text = bytes_of(alloc, item)?;
+    bytes.push(b',')?;
+    bytes.extend_from_slice(text.as_slice())
+}
+
+fn add_one<T: Shown>(alloc: Global, bytes: &mut Vec<u8>, one: &T) -> Result<(), AllocError>
+    requires whole { has_float (T.shown one.now) ≡ false }
+    ensures { OnOk result (bytes.new.items ≡ bytes.old.items ++ item_text (T.shown one.now)) }
+{
+    let value = one.value(alloc)?;
+    add_item(alloc, bytes, &value)
+}
+
+/// Adds each of a list, with a comma before it.
+pub(crate) fn add_each<T: Shown>(
+    alloc: Global,
+    bytes: &mut Vec<u8>,
+    list: &Chunked<T>,
+) -> Result<(), AllocError>
+    requires whole { (one : T) → has_float (T.shown one) ≡ false }
+    ensures { OnOk result (bytes.new.items
+        ≡ bytes.old.items ++ flat_map (λ one. item_text (T.shown one)) list.now.rows) }
+{
+    for one in list.iter() {
+        add_one(alloc, bytes, one)?;
+    }
+    Ok(())
+}
+
+/// Puts the opening bracket in the place of the first comma; where there are no items, behind what there is.
+fn open_list(bytes: &mut Vec<u8>, start: usize) -> Result<(), AllocError>
+    ensures { OnOk result ((front : Text) (items : List Data) → length front ≡ start
+        → bytes.old.items ≡ front ++ flat_map item_text items
+        → bytes.new.items ≡ front ++ opened_text items) }
+{
+    if start < bytes.len() {
+        bytes[start] = b'[';
+        return Ok(());
+    }
+    bytes.push(b'[')?;
+    Ok(())
+}
+
+/// Ends the list, whose items begin behind so many bytes, and the object.
+pub(crate) fn end(mut bytes: Vec<u8>, start: usize) -> Result<Vec<u8>, AllocError>
+    ensures { IfOk result (λ whole. (front : Text) (items : List Data) → length front ≡ start
+        → bytes.items ≡ front ++ flat_map item_text items
+        → whole.items ≡ front ++ (compact_text (list_data items) ++ 125 ∷ [])) }
+{
+    open_list(&mut bytes, start)?;
+    bytes.push(b']')?;
+    bytes.push(b'}')?;
+    Ok(bytes)
+}

@@ -1,0 +1,359 @@
+//! Reports as replies.
+
+ghost use Rattle.std.specs.Prelude.{◌≡◌, ◌++◌, [], IfOk, OnOk, filter, map, true};
+ghost use Rattle.std.specs.List.{flat_map};
+ghost use Rattle.std.specs.Option.{option_map, option_map_or};
+ghost use Rattle.serde_json.specs.View.{view};
+ghost use Rattle.serde_json.specs.Written.{compact_text};
+ghost use Rattle.lrs_measure.specs.Lists.{each_two};
+ghost use Rattle.lrs_machine.specs.Sound.{IsSound, asset_before, route_before};
+ghost use Rattle.lrs_image.specs.Kept.{image_of};
+ghost use Rattle.lrs_lists.specs.Wanted.{is_of_route};
+ghost use Rattle.lrs_web_requests.specs.Text.{answer_of};
+ghost use Rattle.lrs_web_replies.specs.Parts.{gone_part, item_text, ref_part, refs_part, row_part, rows_part};
+ghost use Rattle.lrs_web_replies.specs.Reported.{report_answer};
+ghost use Rattle.lrs_web_replies.specs.Reports.{all_gone_data, classes_data, gone_data, health_data, links_data, refs_data, report_data, row_data, rows_data};
+
+use crate::absence::{cause_without, missing_of, status_without};
+use crate::answers::bytes_of;
+use crate::entries::{gone_value, ref_value, row_value};
+use crate::list_text::{add_each, add_item, begin, end};
+use crate::reply::{error_reply, json_reply};
+use crate::report::Report;
+use http::StatusCode;
+use lrs_events::{Asset, Gone, Span};
+use lrs_image::KeptImage;
+use lrs_lists::{RowsWanted, asset_numbered, is_of_edit, is_wanted};
+use lrs_machine::RouteRow;
+use lrs_ordered::Chunked;
+use lrs_position::{Referent, Route};
+use lrs_web_requests::Response;
+use serde_json::{Value, json};
+use std::alloc::{AllocError, Global};
+
+fn health_value(alloc: Global, kept: &KeptImage) -> Result<Value, AllocError>
+    ensures { IfOk result (λ value. view value ≡ health_data (image_of kept.now)) }
+{
+    let edits = kept.edits.len() as u64;
+    json!(in alloc; {"edits": edits})
+}
+
+fn health_json(alloc: Global, kept: &KeptImage) -> Result<Vec<u8>, AllocError>
+    ensures { IfOk result (λ bytes. bytes.items ≡ compact_text (health_data (image_of kept.now))) }
+{
+    let value = health_value(alloc, kept)?;
+    bytes_of(alloc, &value)
+}
+
+fn links_json(alloc: Global, kept: &KeptImage) -> Result<Vec<u8>, AllocError>
+    ensures { IfOk result (λ bytes. bytes.items ≡ compact_text (links_data (image_of kept.now))) }
+{
+    let mut bytes = begin(alloc, "links")?;
+    let start = bytes.len();
+    add_each(alloc, &mut bytes, &kept.links)?;
+    end(bytes, start)
+}
+
+fn classes_json(alloc: Global, kept: &KeptImage) -> Result<Vec<u8>, AllocError>
+    ensures { IfOk result (λ bytes. bytes.items ≡ compact_text (classes_data (image_of kept.now))) }
+{
+    let mut bytes = begin(alloc, "classes")?;
+    let start = bytes.len();
+    add_each(alloc, &mut bytes, &kept.classes)?;
+    end(bytes, start)
+}
+
+// ---- referents
+
+fn add_ref(
+    alloc: Global,
+    bytes: &mut Vec<u8>,
+    route: &Route,
+    referent: &Referent,
+) -> Result<(), AllocError>
+    ensures { OnOk result (bytes.new.items ≡ bytes.old.items ++ ref_part route.now referent.now) }
+{
+    let value = ref_value(alloc, route, referent)?;
+    add_item(alloc, bytes, &value)
+}
+
+fn add_refs_on(
+    alloc: Global,
+    bytes: &mut Vec<u8>,
+    route: &Route,
+    refs: &[Referent],
+) -> Result<(), AllocError>
+    ensures { OnOk result (bytes.new.items
+        ≡ bytes.old.items ++ flat_map (ref_part route.now) refs.now) }
+{
+    for referent in refs {
+        add_ref(alloc, bytes, route, referent)?;
+    }
+    Ok(())
+}
+
+fn add_refs_of(alloc: Global, bytes: &mut Vec<u8>, route_row: &RouteRow) -> Result<(), AllocError>
+    ensures { OnOk result (bytes.new.items ≡ bytes.old.items ++ refs_part route_row.now) }
+{
+    let route = &route_row.route;
+    add_refs_on(alloc, bytes, route, route.refs.as_slice())
+}
+
+fn add_each_ref(
+    alloc: Global,
+    bytes: &mut Vec<u8>,
+    routes: &Chunked<RouteRow>,
+) -> Result<(), AllocError>
+    ensures { OnOk result (bytes.new.items
+        ≡ bytes.old.items ++ flat_map refs_part routes.now.rows) }
+{
+    for route_row in routes.iter() {
+        add_refs_of(alloc, bytes, route_row)?;
+    }
+    Ok(())
+}
+
+fn refs_json(alloc: Global, kept: &KeptImage) -> Result<Vec<u8>, AllocError>
+    ensures { IfOk result (λ bytes. bytes.items ≡ compact_text (refs_data (image_of kept.now))) }
+{
+    let mut bytes = begin(alloc, "refs")?;
+    let start = bytes.len();
+    add_each_ref(alloc, &mut bytes, &kept.routes)?;
+    end(bytes, start)
+}
+
+// ---- rows
+
+fn add_row(
+    alloc: Global,
+    bytes: &mut Vec<u8>,
+    assets: &Chunked<Asset>,
+    route: &Route,
+    row: &Span,
+) -> Result<(), AllocError>
+    requires order { each_two asset_before assets.now.rows ≡ true }
+    ensures { OnOk result (bytes.new.items
+        ≡ bytes.old.items ++ item_text (row_data assets.now.rows route.now row.now)) }
+{
+    let value = row_value(alloc, asset_numbered(assets, row.asset), route, row)?;
+    add_item(alloc, bytes, &value)
+}
+
+/// Adds a row where it is asked for.
+fn add_wanted_row(
+    alloc: Global,
+    bytes: &mut Vec<u8>,
+    wanted: &RowsWanted,
+    assets: &Chunked<Asset>,
+    route: &Route,
+    row: &Span,
+) -> Result<(), AllocError>
+    requires order { each_two asset_before assets.now.rows ≡ true }
+    ensures { OnOk result (bytes.new.items
+        ≡ bytes.old.items ++ row_part wanted.now assets.now.rows route.now row.now) }
+{
+    if is_wanted(wanted, row) {
+        return add_row(alloc, bytes, assets, route, row);
+    }
+    Ok(())
+}
+
+fn add_rows_on(
+    alloc: Global,
+    bytes: &mut Vec<u8>,
+    wanted: &RowsWanted,
+    assets: &Chunked<Asset>,
+    route: &Route,
+    rows: &[Span],
+) -> Result<(), AllocError>
+    requires order { each_two asset_before assets.now.rows ≡ true }
+    ensures { OnOk result (bytes.new.items
+        ≡ bytes.old.items ++ flat_map (row_part wanted.now assets.now.rows route.now) rows.now) }
+{
+    for row in rows {
+        add_wanted_row(alloc, bytes, wanted, assets, route, row)?;
+    }
+    Ok(())
+}
+
+/// Adds the rows of a route that are asked for.
+fn add_rows_of(
+    alloc: Global,
+    bytes: &mut Vec<u8>,
+    wanted: &RowsWanted,
+    assets: &Chunked<Asset>,
+    route_row: &RouteRow,
+) -> Result<(), AllocError>
+    requires order { each_two asset_before assets.now.rows ≡ true }
+    ensures { OnOk result (bytes.new.items
+        ≡ bytes.old.items ++ rows_part wanted.now assets.now.rows route_row.now) }
+{
+    let route = &route_row.route;
+    add_rows_on(alloc, bytes, wanted, assets, route, route_row.spans.rows())
+}
+
+fn add_each_row(
+    alloc: Global,
+    bytes: &mut Vec<u8>,
+    wanted: &RowsWanted,
+    assets: &Chunked<Asset>,
+    routes: &Chunked<RouteRow>,
+) -> Result<(), AllocError>
+    requires order { each_two asset_before assets.now.rows ≡ true }
+    ensures { OnOk result (bytes.new.items
+        ≡ bytes.old.items ++ flat_map (rows_part wanted.now assets.now.rows) routes.now.rows) }
+{
+    for route_row in routes.iter() {
+        add_rows_of(alloc, bytes, wanted, assets, route_row)?;
+    }
+    Ok(())
+}
+
+/// Adds the rows that are asked for of one route, if there is one.
+fn add_rows_of_some(
+    alloc: Global,
+    bytes: &mut Vec<u8>,
+    wanted: &RowsWanted,
+    assets: &Chunked<Asset>,
+    route_row: Option<&RouteRow>,
+) -> Result<(), AllocError>
+    requires order { each_two asset_before assets.now.rows ≡ true }
+    ensures { OnOk result (bytes.new.items ≡ bytes.old.items
+        ++ option_map_or (rows_part wanted.now assets.now.rows)
+        (option_map (λ e. e.now) route_row.entry) []) }
+{
+    match route_row {
+        Some(route_row) => add_rows_of(alloc, bytes, wanted, assets, route_row),
+        None => Ok(()),
+    }
+}
+
+/// Adds the rows that are asked for. A route that is named is found by search.
+fn add_asked_rows(
+    alloc: Global,
+    bytes: &mut Vec<u8>,
+    wanted: &RowsWanted,
+    assets: &Chunked<Asset>,
+    routes: &Chunked<RouteRow>,
+) -> Result<(), AllocError>
+    requires assets_order { each_two asset_before assets.now.rows ≡ true }
+    requires routes_order { each_two route_before routes.now.rows ≡ true }
+    ensures { OnOk result (bytes.new.items ≡ bytes.old.items
+        ++ flat_map (rows_part wanted.now assets.now.rows)
+        (filter (is_of_route wanted.now.route) routes.now.rows)) }
+{
+    match &wanted.route {
+        Some(name) => add_rows_of_some(alloc, bytes, wanted, assets, routes.find(name)),
+        None => add_each_row(alloc, bytes, wanted, assets, routes),
+    }
+}
+
+fn rows_json(alloc: Global, kept: &KeptImage, wanted: &RowsWanted) -> Result<Vec<u8>, AllocError>
+    requires sound { IsSound (image_of kept.now) }
+    ensures { IfOk result (λ bytes. bytes.items
+        ≡ compact_text (rows_data wanted.now (image_of kept.now))) }
+{
+    let mut bytes = begin(alloc, "rows")?;
+    let start = bytes.len();
+    add_asked_rows(alloc, &mut bytes, wanted, &kept.assets, &kept.routes)?;
+    end(bytes, start)
+}
+
+// ---- what is gone
+
+fn add_part(
+    alloc: Global,
+    bytes: &mut Vec<u8>,
+    assets: &Chunked<Asset>,
+    gone: &Gone,
+) -> Result<(), AllocError>
+    requires order { each_two asset_before assets.now.rows ≡ true }
+    ensures { OnOk result (bytes.new.items
+        ≡ bytes.old.items ++ item_text (gone_data assets.now.rows gone.now)) }
+{
+    let value = gone_value(alloc, asset_numbered(assets, gone.part.asset), gone)?;
+    add_item(alloc, bytes, &value)
+}
+
+/// Adds a part where it is asked for.
+fn add_asked_part(
+    alloc: Global,
+    bytes: &mut Vec<u8>,
+    edit: Option<u64>,
+    assets: &Chunked<Asset>,
+    gone: &Gone,
+) -> Result<(), AllocError>
+    requires order { each_two asset_before assets.now.rows ≡ true }
+    ensures { OnOk result (bytes.new.items
+        ≡ bytes.old.items ++ gone_part edit assets.now.rows gone.now) }
+{
+    if is_of_edit(edit, gone) {
+        return add_part(alloc, bytes, assets, gone);
+    }
+    Ok(())
+}
+
+fn add_parts(
+    alloc: Global,
+    bytes: &mut Vec<u8>,
+    edit: Option<u64>,
+    assets: &Chunked<Asset>,
+    ledger: &[Gone],
+) -> Result<(), AllocError>
+    requires order { each_two asset_before assets.now.rows ≡ true }
+    ensures { OnOk result (bytes.new.items
+        ≡ bytes.old.items ++ flat_map (gone_part edit assets.now.rows) ledger.now) }
+{
+    for gone in ledger {
+        add_asked_part(alloc, bytes, edit, assets, gone)?;
+    }
+    Ok(())
+}
+
+fn gone_json(alloc: Global, kept: &KeptImage, edit: Option<u64>) -> Result<Vec<u8>, AllocError>
+    requires sound { IsSound (image_of kept.now) }
+    ensures { IfOk result (λ bytes. bytes.items
+        ≡ compact_text (all_gone_data edit (image_of kept.now))) }
+{
+    let mut bytes = begin(alloc, "gone")?;
+    let start = bytes.len();
+    add_parts(alloc, &mut bytes, edit, &kept.assets, kept.gone.as_slice())?;
+    end(bytes, start)
+}
+
+// ---- the reply
+
+fn report_json(alloc: Global, kept: &KeptImage, report: &Report) -> Result<Vec<u8>, AllocError>
+    requires sound { IsSound (image_of kept.now) }
+    ensures { IfOk result (λ bytes. bytes.items
+        ≡ compact_text (report_data (image_of kept.now) report.now)) }
+{
+    match report {
+        Report::Health => health_json(alloc, kept),
+        Report::Links => links_json(alloc, kept),
+        Report::Classes => classes_json(alloc, kept),
+        Report::Refs => refs_json(alloc, kept),
+        Report::Rows(wanted) => rows_json(alloc, kept, wanted),
+        Report::Gone(edit) => gone_json(alloc, kept, *edit),
+    }
+}
+
+/// The reply with a report of an inventory, or with the first of the things that it names and the inventory does not
+/// have: 404 of a route, and 422 of anything else.
+///
+/// # Errors
+/// When memory runs out.
+pub fn report_reply(
+    alloc: Global,
+    kept: &KeptImage,
+    report: &Report,
+) -> Result<Response, AllocError>
+    requires sound { IsSound (image_of kept.now) }
+    ensures { IfOk result (λ reply. answer_of reply
+        ≡ report_answer report.now (image_of kept.now)) }
+{
+    match missing_of(kept, report) {
+        Some(missing) => error_reply(alloc, status_without(missing), cause_without(missing)),
+        None => Ok(json_reply(StatusCode::OK, report_json(alloc, kept, report)?)),
+    }
+}

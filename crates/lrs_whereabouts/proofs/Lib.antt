@@ -1,0 +1,6 @@
+pub mod Halves
+pub mod Names
+pub mod Spots
+pub mod Targets
+pub mod Ways
+pub mod Links

@@ -1,0 +1,5 @@
+pub mod Places
+pub mod Answers
+pub mod Lines
+pub mod Middles
+pub mod Laws
