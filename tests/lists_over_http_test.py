@@ -1,4 +1,4 @@
-"""Lists and reports over HTTP, as JSON: the same as the CSV that the program prints of the same file; and the health of the service."""
+"""Lists, reports and places over HTTP, as JSON: the same as what the program prints of the same file; and the health of the service."""
 
 import csv
 import io
@@ -14,7 +14,7 @@ from serving import by_curl, by_http_client, by_socket, answer, error, reply, re
 from stores import MORE, edit, is_whole, make, rows_of
 
 # the fields that are numbers as JSON, of whichever list; all others are texts
-NUMBERS = {"length", "link", "chainage", "asset", "from", "to", "offset", "entered_by", "edit"}
+NUMBERS = {"length", "left", "right", "link", "chainage", "asset", "from", "to", "offset", "entered_by", "edit"}
 
 # what is asked for over HTTP, and the words for it on the command line
 ASKED = {
@@ -31,6 +31,8 @@ ASKED = {
     "/v1/rows?to=0": ("rows", "--to", "0"),
     "/v1/rows?class=RAIL&asset=12": ("rows", "--class", "RAIL", "--asset", "12"),
     "/v1/rows?asset=10&class=SPEED&to=8000&from=0&route=A1": ("rows", "--route", "A1", "--from", "0", "--to", "8000", "--class", "SPEED", "--asset", "10"),
+    "/v1/lengths": ("lengths",),
+    "/v1/lengths?route=A2": ("lengths", "--route", "A2"),
     "/v1/gone": ("gone",),
     "/v1/gone?edit=12": ("gone", "--edit", "12"),
     "/v1/gone?edit=11": ("gone", "--edit", "11"),
@@ -42,11 +44,16 @@ def name_of(target):
     return target.partition("?")[0].rpartition("/")[2]
 
 
+def number(text):
+    """Metres are printed with three decimals, and are millimetres over HTTP."""
+    return int(text.replace(".", ""))
+
+
 def as_json(target, ended):
     """The reply with what a run printed: compact, the members of each entry in the order of their names."""
     assert (ended.stderr, ended.status) == (b"", 0), ended
     rows = csv.DictReader(io.StringIO(ended.stdout.decode()))
-    shown = [{field: int(text) if field in NUMBERS else text for field, text in row.items()} for row in rows]
+    shown = [{field: number(text) if field in NUMBERS else text for field, text in row.items()} for row in rows]
     return reply(200, json.dumps({name_of(target): shown}, separators=(",", ":"), sort_keys=True).encode())
 
 
@@ -77,7 +84,7 @@ def test_it_is_what_the_program_prints(desk, target):
     gets(server, target, due[target])
 
 
-@pytest.mark.parametrize("target", ["/v1/links", "/v1/classes", "/v1/refs", "/v1/rows", "/v1/gone"])
+@pytest.mark.parametrize("target", ["/v1/links", "/v1/classes", "/v1/refs", "/v1/rows", "/v1/lengths", "/v1/gone"])
 def test_none_of_them_is_empty(desk, target):
     assert b":[]" not in desk[1][target] and desk[1][target].count(b'"') > 4
 
@@ -102,8 +109,8 @@ def test_measures_may_be_fractions(desk):
 
 
 def test_an_empty_inventory():
-    with serving(6) as server:
-        for name in ["links", "classes", "refs", "rows", "gone"]:
+    with serving(7) as server:
+        for name in ["links", "classes", "refs", "rows", "lengths", "gone"]:
             gets(server, f"/v1/{name}", reply(200, b'{"%s":[]}' % name.encode()))
         gets(server, "/health", reply(200, b'{"edits":0}'))
 
@@ -143,6 +150,9 @@ REFUSED = {
     "/v1/rows?asset=99&route=B9": (404, "NoRoute"),
     "/v1/rows?class=NONE&route=B9": (404, "NoRoute"),
     "/v1/rows?asset=99&class=NONE": (422, "NoClass"),
+    "/v1/lengths?route=B9": (404, "NoRoute"),
+    "/v1/lengths?route=": (400, "Malformed:route"),
+    "/v1/lengths?route=a1&route=A1": (400, "Malformed:route"),
     "/v1/gone?edit=14": (422, "NoEdit"),
     "/v1/gone?edit=10000000": (422, "NoEdit"),
     "/v1/rows?route=": (400, "Malformed:route"),
@@ -171,21 +181,109 @@ def test_what_is_refused(desk, target):
     gets(desk[0], target, error(*REFUSED[target]))
 
 
-@pytest.mark.parametrize("target", ["/v1/links?link=x", "/v1/classes?class=x", "/v1/refs?route=x", "/v1/rows?edit=x&side=x", "/v1/gone?asset=x", "/v1/rows?class=RAIL&class=x"])
+@pytest.mark.parametrize("target", ["/v1/links?link=x", "/v1/classes?class=x", "/v1/refs?route=x", "/v1/lengths?class=x&from=x", "/v1/rows?edit=x&side=x", "/v1/gone?asset=x", "/v1/rows?class=RAIL&class=x"])
 def test_other_parameters_are_passed_over(desk, target):
     server, due = desk
     gets(server, target, due["/v1/rows?class=RAIL" if "RAIL" in target else target.partition("?")[0]])
 
 
-@pytest.mark.parametrize("path", ["/v1/links", "/v1/classes", "/v1/refs", "/v1/rows", "/v1/gone", "/health"])
+@pytest.mark.parametrize("path", ["/v1/links", "/v1/classes", "/v1/refs", "/v1/rows", "/v1/lengths", "/v1/gone", "/v1/where", "/health"])
 def test_another_method(desk, path):
     for method in ["POST", "HEAD", "PUT", "DELETE"]:
         desk[0].answers(request(f"{method} {path}"), reply(405, allow="GET"))
 
 
-@pytest.mark.parametrize("path", ["/v1/links/", "/v1/link", "/v1/row", "/v1/Rows", "/v1/rows/A1", "/v1/health", "/health/", "/healthz", "/", "/v1/gone/12"])
+@pytest.mark.parametrize("path", ["/v1/links/", "/v1/link", "/v1/length", "/v1/where/A1", "/v1/row", "/v1/Rows", "/v1/rows/A1", "/v1/health", "/health/", "/healthz", "/", "/v1/gone/12"])
 def test_another_path(desk, path):
     gets(desk[0], path, reply(404))
+
+
+# ---- places
+
+# what is asked for over HTTP, and the words for it on the command line; of a link, its route is of no account
+PLACES = {
+    "route=A1&chainage=0": ("A1", "0"),
+    "route=A1&chainage=2500": ("A1", "2500"),
+    "route=A1&chainage=5000": ("A1", "5000"),
+    "chainage=700&route=A2": ("A2", "700"),
+    "link=1&mm=0": ("link", "1", "0"),
+    "link=1&mm=4999": ("link", "1", "4999"),
+    "link=1&mm=5000": ("link", "1", "5000"),
+    "mm=100&link=2&route=x&chainage=x": ("link", "2", "100"),
+}
+
+
+def place_as_json(ended):
+    """The reply with what a run of `where` printed."""
+    assert (ended.stderr, ended.status) == (b"", 0), ended
+    first, *rest = ended.stdout.decode().splitlines()
+    route, at, link, mm, direction = first.split()
+    hits = [line.split() for line in rest if len(line.split()) == 6]
+    places = [line.split() for line in rest if len(line.split()) == 2]
+    assert len(hits) + len(places) == len(rest)
+    shown = {
+        "at": int(at),
+        "dir": direction,
+        "hits": [
+            {"asset": int(asset), "class": name, "entry": int(entry), "offset": int(offset), "side": side, "value": value}
+            for asset, name, side, offset, value, entry in hits
+        ],
+        "link": int(link),
+        "mm": int(mm),
+        "positions": [{"method": method, "pos": position} for method, position in places],
+        "route": route,
+    }
+    return reply(200, json.dumps(shown, separators=(",", ":")).encode())
+
+
+@pytest.mark.parametrize("query", PLACES)
+def test_a_place_is_what_the_program_prints(places, query):
+    server, due = places
+    gets(server, f"/v1/where?{query}", due[query])
+
+
+@pytest.fixture(scope="module")
+def places(tmp_path_factory):
+    path = tmp_path_factory.mktemp("places") / "roads.db"
+    make(path, *MORE)
+    due = {query: place_as_json(printed(path, ("where", *words))) for query, words in PLACES.items()}
+    assert any(b'"hits":[{' in shown for shown in due.values()) and any(b'"rel"' in shown for shown in due.values())
+    with started(db=path) as server:
+        yield server, due
+
+
+NOWHERE = {
+    "route=B9&chainage=0": (404, "NoRoute"),
+    "route=A1&chainage=5001": (422, "OffRoute"),
+    "route=A1&chainage=10000000000": (422, "OffRoute"),
+    "link=9&mm=0": (422, "NoLink"),
+    "link=1&mm=5001": (422, "OffRoute"),
+    "": (400, "Malformed:route"),
+    "route=A1": (400, "Malformed:chainage"),
+    "chainage=1": (400, "Malformed:route"),
+    "route=a&chainage=1": (400, "Malformed:route"),
+    "route=A1&chainage=": (400, "Malformed:chainage"),
+    "route=A1&chainage=-1": (400, "Malformed:chainage"),
+    "route=A1&chainage=2.5": (400, "Malformed:chainage"),
+    "route=A1&chainage=10000000001": (400, "Malformed:chainage"),
+    "link=&route=A1&chainage=1": (400, "Malformed:link"),
+    "link=0&mm=1": (400, "Malformed:link"),
+    "link=1000000&mm=1": (400, "Malformed:link"),
+    "link=1": (400, "Malformed:mm"),
+    "link=1&mm=x&route=A1&chainage=1": (400, "Malformed:mm"),
+    "link=1&mm=1000000001": (400, "Malformed:mm"),
+}
+
+
+@pytest.mark.parametrize("query", NOWHERE)
+def test_a_place_that_is_not_there(places, query):
+    gets(places[0], f"/v1/where?{query}", error(*NOWHERE[query]))
+
+
+def test_a_millimetre_that_no_route_runs_over():
+    with serving(2) as server:
+        server.does("edits", sheet_of("w1,link,4,1000", "w2,route,L1,4:0:400:+,0:0 400:400"), b"w1,done,1\nw2,done,2\n")
+        gets(server, "/v1/where?link=4&mm=400", error(422, "OffRoute"))
 
 
 # ---- the health

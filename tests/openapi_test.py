@@ -78,13 +78,15 @@ def test_what_is_missing_or_malformed_is_named(port, path, said):
             continue
         wrong = ["a b"] + ([None] if parameter["required"] else [])
         for value in wrong:
-            status, kind, body = got(port, "GET " + target(path, said["parameters"], **{parameter["name"]: value}))
+            # a millimetre counts where a link is named
+            beside = {"link": 1} if parameter["name"] == "mm" else {}
+            status, kind, body = got(port, "GET " + target(path, said["parameters"], **beside, **{parameter["name"]: value}))
             assert (status, kind, body) == ("400", "application/json", b'{"error":"Malformed:%s"}' % parameter["name"].encode()), (path, parameter["name"], value)
             assert "400" in said["responses"]
 
 
 # what the inventory does not have, and the status that says so
-ABSENT = {"route": ("Z9", "404"), "name": ("Z9", "404"), "class": ("NONE", "422"), "asset": (99, "422"), "edit": (999_999, "422")}
+ABSENT = {"route": ("Z9", "404"), "name": ("Z9", "404"), "class": ("NONE", "422"), "asset": (99, "422"), "edit": (999_999, "422"), "chainage": (8_001, "422")}
 
 
 @pytest.mark.parametrize("path, said", QUESTIONS, ids=lambda x: x if isinstance(x, str) else "")

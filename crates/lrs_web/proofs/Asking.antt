@@ -15,7 +15,7 @@ use Rattle.lrs_web_replies.specs.declared.question.QueryFault.{QueryFault}
 use Rattle.lrs_web_replies.specs.Answered.{AnswersAsked, IsReplyTo}
 use Rattle.lrs_web_replies.specs.declared.report.Report.{Report}
 use Rattle.lrs_web_replies.specs.Replies.{log_answer, unasked}
-use Rattle.lrs_web_replies.specs.Reported.{report_answer}
+use Rattle.lrs_web_replies.specs.Reported.{AnswersReport}
 
 pub answered : {E : Type 0} (i : Image) (resource : Resource) (argument : Text) (asked : Result Question QueryFault) (q : Question) (said : Result Told AskFault) (r : Result Response E)
     → asked ≡ Ok q → IfOk asked (AsksOf resource argument) → IsTold i q said → IfOk r (λ reply. IsReplyTo said (answer_of reply))
@@ -36,7 +36,7 @@ logged i argument asked from (Ok reply) is asks answers = inr (inl (from, subst 
 logged i argument asked from (Err e) is asks answers = tt
 
 pub reported : {E : Type 0} (i : Image) (resource : Resource) (argument : Text) (asked : Result Report QueryFault) (report : Report) (r : Result Response E)
-    → asked ≡ Ok report → IfOk asked (AsksReport resource argument) → IfOk r (λ reply. answer_of reply ≡ report_answer report i)
+    → asked ≡ Ok report → IfOk asked (AsksReport resource argument) → IfOk r (λ reply. AnswersReport i report (answer_of reply))
     → IfOk r (λ reply. AnswersAsked i resource argument (answer_of reply))
 reported i resource argument asked report (Ok reply) is asks answers = inr (inr (inl (report, subst (λ a. IfOk a (AsksReport resource argument)) is asks, answers)))
 reported i resource argument asked report (Err e) is asks answers = tt

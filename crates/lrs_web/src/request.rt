@@ -6,7 +6,7 @@ ghost use Rattle.lrs_web_requests.specs.Text.{Answer, answer_of, empty_answer};
 ghost use Rattle.lrs_web_replies.specs.Answered.{AnswersAsked};
 ghost use Rattle.lrs_web_replies.specs.Questions.{is_reported};
 ghost use Rattle.lrs_web_replies.specs.Replies.{log_answer};
-ghost use Rattle.lrs_web_replies.specs.Reported.{report_answer};
+ghost use Rattle.lrs_web_replies.specs.Reported.{AnswersReport};
 ghost use Rattle.lrs_web_requests.specs.declared.paths.Resource.TheVariants as path;
 ghost use Rattle.lrs_web_requests.specs.Request.{verb_of};
 ghost use Rattle.lrs_web_requests.specs.declared.response.Verb.TheVariants.{Get};
@@ -54,7 +54,9 @@ fn sheet_of(resource: Resource) -> Sheet
         | Resource::Classes
         | Resource::Refs
         | Resource::Rows
+        | Resource::Lengths
         | Resource::Gone
+        | Resource::Where
         | Resource::Edits => Sheet::Edits,
     }
 }
@@ -119,9 +121,9 @@ fn desk_report_reply<K: Keeper>(
     report: &Report,
     desk: &Desk<K>,
 ) -> Result<Response, AllocError>
-    ensures { IfOk result (λ reply. answer_of reply ≡ report_answer report.now desk.now.image) }
+    ensures { IfOk result (λ reply. AnswersReport desk.now.image report.now (answer_of reply)) }
 {
-    report_reply(alloc, desk.inventory().kept(), report)
+    report_reply(alloc, desk.inventory(), report)
 }
 
 #[tactic(auto, using(crate::proofs::Asking::reported, crate::proofs::Asking::refused))]

@@ -1,16 +1,16 @@
 -- Which parameter is the first malformed one.
-use Rattle.std.proofs.Common.{ℕ, List, [], ◌∷◌, Option, Result, Ok, Err, IfErr, refl, sym, subst, inl, inr}
+use Rattle.std.proofs.Common.{◌≡◌, ℕ, Bool, true, false, if◌then◌else◌, List, [], ◌∷◌, Option, Result, Ok, Err, IfErr, refl, sym, ap, subst, inl, inr}
 use Rattle.std.specs.Prelude.{⊤}
 use Rattle.lrs_measure.specs.Texts.{Name}
 use Rattle.lrs_position.specs.declared.expression.Expr.{Expr}
 use Rattle.lrs_events.specs.declared.side.Side.{Side as HandSide}
 use Rattle.lrs_web_requests.specs.declared.paths.Resource.TheVariants as path
 use Rattle.lrs_web_replies.specs.declared.question.Parameter.{Parameter}
-use Rattle.lrs_web_replies.specs.declared.question.Parameter.TheVariants.{Route, RouteOrAll, Method, Position, To, Side, Class, ClassOrAll, ClassesOrAll, From, UpTo, Asset, AssetOrAll, FirstEdit, EditOrAll}
+use Rattle.lrs_web_replies.specs.declared.question.Parameter.TheVariants.{Route, RouteOrAll, Method, Position, To, Side, Class, ClassOrAll, ClassesOrAll, From, UpTo, Asset, AssetOrAll, FirstEdit, EditOrAll, Chainage, OnLink, Millimetre}
 use Rattle.lrs_web_replies.specs.declared.question.QueryFault.{QueryFault}
 use Rattle.lrs_web_replies.specs.declared.question.QueryFault.TheVariants.{Malformed, NoRoute, Memory}
 use Rattle.lrs_web_replies.specs.Faults.{Lacks, LacksPosition}
-use Rattle.lrs_web_replies.specs.Questions.{Text, CannotAsk, GivesClassOrAll, GivesClassesOrAll, GivesFrom, GivesPosition, GivesRoute, GivesRouteOrAll, GivesSide, GivesUpTo, IsFirstMalformed, IsGiven}
+use Rattle.lrs_web_replies.specs.Questions.{Text, CannotAsk, GivesClassOrAll, GivesClassesOrAll, GivesFrom, GivesLink, GivesPosition, GivesRoute, GivesRouteOrAll, GivesSide, GivesUpTo, IsFirstMalformed, IsGiven, is_on_link, parameters_of}
 
 -- the fault is the first of these, or memory ran out
 abbrev FaultAmong : Text → List Parameter → QueryFault → Type 0
@@ -164,3 +164,36 @@ pub rows_asset : (query : Text) (e : QueryFault) (route : Option Name) (from to 
     → GivesClassOrAll query class → Lacks AssetOrAll query e → CannotAsk path.Rows query e
 rows_asset query e route from to class given began ended named lacks =
     rows_behind_to query e route from to given began ended (later query ClassOrAll (AssetOrAll ∷ []) e (class, named) (first query AssetOrAll [] e lacks))
+
+lengths : (query : Text) (e : QueryFault) → FaultAmong query (RouteOrAll ∷ []) e → CannotAsk path.Lengths query e
+lengths query (Malformed p) among = among
+lengths query NoRoute among = among
+lengths query Memory among = tt
+
+pub lengths_route : (query : Text) (e : QueryFault) → Lacks RouteOrAll query e → CannotAsk path.Lengths query e
+lengths_route query e lacks = lengths query e (first query RouteOrAll [] e lacks)
+
+-- ---- places
+
+-- the parameters are by the way in which a place is asked for
+place : (query : Text) (ps : List Parameter) (e : QueryFault) → parameters_of path.Where query ≡ ps → FaultAmong query ps e → CannotAsk path.Where query e
+place query ps (Malformed p) is among = subst (λ qs. IsFirstMalformed query qs p) (sym is) among
+place query ps NoRoute is among = among
+place query ps Memory is among = tt
+
+by_way : (query : Text) (by : Bool) → is_on_link query ≡ by → parameters_of path.Where query ≡ (if by then OnLink ∷ Millimetre ∷ [] else Route ∷ Chainage ∷ [])
+by_way query by is = ap (λ b. if b then OnLink ∷ Millimetre ∷ [] else Route ∷ Chainage ∷ []) is
+
+pub where_link : (query : Text) (e : QueryFault) → is_on_link query ≡ true → Lacks OnLink query e → CannotAsk path.Where query e
+where_link query e on lacks = place query (OnLink ∷ Millimetre ∷ []) e (by_way query true on) (first query OnLink (Millimetre ∷ []) e lacks)
+
+pub where_mm : (query : Text) (e : QueryFault) (link : ℕ) → is_on_link query ≡ true → GivesLink query link → Lacks Millimetre query e → CannotAsk path.Where query e
+where_mm query e link on given lacks =
+    place query (OnLink ∷ Millimetre ∷ []) e (by_way query true on) (later query OnLink (Millimetre ∷ []) e (link, given) (first query Millimetre [] e lacks))
+
+pub where_route : (query : Text) (e : QueryFault) → is_on_link query ≡ false → Lacks Route query e → CannotAsk path.Where query e
+where_route query e on lacks = place query (Route ∷ Chainage ∷ []) e (by_way query false on) (first query Route (Chainage ∷ []) e lacks)
+
+pub where_chainage : (query : Text) (e : QueryFault) (route : Name) → is_on_link query ≡ false → GivesRoute query route → Lacks Chainage query e → CannotAsk path.Where query e
+where_chainage query e route on given lacks =
+    place query (Route ∷ Chainage ∷ []) e (by_way query false on) (later query Route (Chainage ∷ []) e (route, given) (first query Chainage [] e lacks))

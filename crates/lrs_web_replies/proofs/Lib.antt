@@ -2,3 +2,4 @@ pub mod Whole
 pub mod FirstFaults
 pub mod ClassNames
 pub mod Listing
+pub mod Replying

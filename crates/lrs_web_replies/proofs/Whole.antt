@@ -12,6 +12,9 @@ use Rattle.lrs_machine.specs.declared.total.Total.{Total}
 use Rattle.lrs_machine.specs.declared.hit.Hit.{Hit}
 use Rattle.lrs_answers.specs.declared.rows.FoundRow.{FoundRow}
 use Rattle.lrs_answers.specs.declared.route_list.RouteLength.{RouteLength}
+use Rattle.lrs_lengths.specs.declared.table.ValueLength.{ValueLength}
+use Rattle.lrs_whereabouts.specs.declared.answer.Whereabouts.{Whereabouts}
+use Rattle.lrs_web_replies.specs.Reports.{length_data, lengths_data, place_data, whereabouts_data}
 use Rattle.lrs_web_replies.specs.Shown.{each}
 use Rattle.lrs_web_replies.specs.Answers.{at_data, hit_data, mark_data, piece_data, referent_data, route_data, ShowsRoute, value_data, segment_data, segments_data, route_length_data, routes_data, total_data, totals_data, row_data, found_data}
 
@@ -58,3 +61,12 @@ totals_whole d totals is =
 pub found_whole : (d : Data) (rows : List FoundRow) → d ≡ found_data rows → has_float d ≡ false
 found_whole d rows is =
     ap has_float is ∙ neither (has_float (each row_data rows)) false (each_whole row_data (λ r. refl) rows) refl
+
+pub lengths_whole : (d : Data) (lengths : List ValueLength) → d ≡ lengths_data lengths → has_float d ≡ false
+lengths_whole d lengths is =
+    ap has_float is ∙ neither (has_float (each length_data lengths)) false (each_whole length_data (λ l. refl) lengths) refl
+
+pub whereabouts_whole : (d : Data) (w : Whereabouts) → d ≡ whereabouts_data w → has_float d ≡ false
+whereabouts_whole d w is =
+    let positions = neither (has_float (each place_data w.positions)) false (each_whole place_data (λ e. refl) w.positions) refl in
+    ap has_float is ∙ neither (has_float (each hit_data w.found.hits)) (has_float (each place_data w.positions) || false) (each_whole hit_data (λ h. refl) w.found.hits) positions

@@ -16,7 +16,7 @@ use Rattle.lrs_web_replies.specs.Questions.{AsksLog, AsksOf, AsksReport, CannotA
 use Rattle.lrs_web_replies.specs.declared.question.QueryFault.{QueryFault}
 use Rattle.lrs_web_replies.specs.declared.report.Report.{Report}
 use Rattle.lrs_web_replies.specs.Replies.{json_answer, log_answer, svg_answer, refusal, unasked}
-use Rattle.lrs_web_replies.specs.Reported.{report_answer}
+use Rattle.lrs_web_replies.specs.Reported.{AnswersReport}
 
 -- The table: the reply to each answer. A diagram is a picture, and any other answer is JSON.
 abbrev pub ShowsTold : Told → Answer → Type 0
@@ -44,5 +44,5 @@ abbrev pub AnswersAsked : Image → Resource → Text → Answer → Type 0
 AnswersAsked i resource argument answer =
     ((q : Question) × AsksOf resource argument q × AnswersQuestion i q answer)
     ⊎ ((from : ℕ) × AsksLog resource argument from × (answer ≡ log_answer from i))
-    ⊎ ((r : Report) × AsksReport resource argument r × (answer ≡ report_answer r i))
+    ⊎ ((r : Report) × AsksReport resource argument r × AnswersReport i r answer)
     ⊎ ((fault : QueryFault) × CannotAsk resource argument fault × (answer ≡ unasked fault))

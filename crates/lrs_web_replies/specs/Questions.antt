@@ -1,8 +1,9 @@
 -- What the parameters of a query ask of an inventory.
-use Rattle.std.specs.Prelude.{◌≡◌, ⊤, ◌⊎◌, ℕ, ◌≤◌, IsTrue, Bool, true, false, List, [], ◌∷◌, codes, Option, None, Some}
+use Rattle.std.specs.Prelude.{◌≡◌, ⊤, ◌⊎◌, ℕ, ◌≤◌, IsTrue, Bool, true, false, if◌then◌else◌, List, [], ◌∷◌, codes, Option, None, Some}
 use Rattle.std.specs.List.{list_all}
+use Rattle.std.specs.Option.{option_map_or}
 use Rattle.std.specs.Str.Parse.{IsNumeral, digits_value}
-use Rattle.lrs_measure.specs.Limits.{greatest_asset, longest_route, most_edits}
+use Rattle.lrs_measure.specs.Limits.{greatest_asset, greatest_link, longest_link, longest_route, most_edits}
 use Rattle.lrs_measure.specs.Texts.{Name}
 use Rattle.lrs_position.specs.declared.expression.Expr.{Expr}
 use Rattle.lrs_position.specs.declared.expression.Method.{Method}
@@ -11,13 +12,15 @@ use Rattle.lrs_position.specs.Readings.{IsNamed, States, method_text, target_tex
 use Rattle.lrs_events.specs.declared.side.Side.{Side}
 use Rattle.lrs_events.specs.Names.{is_class_name, side_text}
 use Rattle.lrs_lists.specs.declared.wanted.RowsWanted.{RowsWanted}
+use Rattle.lrs_whereabouts.specs.declared.spot.Spot.{Spot}
+use Rattle.lrs_whereabouts.specs.declared.spot.Spot.TheVariants as spot
 use Rattle.lrs_web_requests.specs.Query.{parameter, parameters}
 use Rattle.lrs_web_requests.specs.declared.paths.Resource.{Resource}
 use Rattle.lrs_web_requests.specs.declared.paths.Resource.TheVariants as path
 use Rattle.lrs_machine.specs.declared.question.Destination.{Destination}
 use Rattle.lrs_machine.specs.declared.question.Destination.TheVariants as destination
 use Rattle.lrs_web_replies.specs.declared.question.Parameter.{Parameter}
-use Rattle.lrs_web_replies.specs.declared.question.Parameter.TheVariants.{Route, RouteOrAll, Method as Way, Position, To, Side as Hand, Class, ClassOrAll, ClassesOrAll, From, UpTo, Asset, AssetOrAll, FirstEdit, EditOrAll}
+use Rattle.lrs_web_replies.specs.declared.question.Parameter.TheVariants.{Route, RouteOrAll, Method as Way, Position, To, Side as Hand, Class, ClassOrAll, ClassesOrAll, From, UpTo, Asset, AssetOrAll, FirstEdit, EditOrAll, Chainage, OnLink, Millimetre}
 use Rattle.lrs_machine.specs.declared.question.Question.{Question}
 use Rattle.lrs_machine.specs.declared.question.Question.TheVariants as question
 use Rattle.lrs_web_replies.specs.declared.report.Report.{Report}
@@ -60,6 +63,14 @@ SaysAsset = SaysNumber 1 greatest_asset
 -- whole millimetres along a route
 abbrev pub SaysChainage : Text → ℕ → Type 0
 SaysChainage = SaysNumber 0 longest_route
+
+-- the number of a link
+abbrev pub SaysLink : Text → ℕ → Type 0
+SaysLink = SaysNumber 1 greatest_link
+
+-- whole millimetres along a link
+abbrev pub SaysMillimetre : Text → ℕ → Type 0
+SaysMillimetre = SaysNumber 0 longest_link
 
 -- the number of an edit
 abbrev pub SaysEdit : Text → ℕ → Type 0
@@ -150,6 +161,23 @@ SaidOrFirst (Some text) number = SaysEdit text number
 abbrev pub GivesFirstEdit : Text → ℕ → Type 0
 GivesFirstEdit query = SaidOrFirst (parameter (codes "from") query)
 
+abbrev pub GivesPlaceOnRoute : Text → ℕ → Type 0
+GivesPlaceOnRoute query = Said SaysChainage (parameter (codes "chainage") query)
+
+abbrev pub GivesLink : Text → ℕ → Type 0
+GivesLink query = Said SaysLink (parameter (codes "link") query)
+
+abbrev pub GivesMillimetre : Text → ℕ → Type 0
+GivesMillimetre query = Said SaysMillimetre (parameter (codes "mm") query)
+
+-- a place is asked for on a link where a link is named, and else on a route
+abbrev pub is_on_link : Text → Bool
+is_on_link query = option_map_or (λ text. true) (parameter (codes "link") query) false
+
+abbrev pub GivesSpot : Text → Spot → Type 0
+GivesSpot query (spot.OnLink link mm) = (is_on_link query ≡ true) × GivesLink query link × GivesMillimetre query mm
+GivesSpot query (spot.OnRoute route chainage) = (is_on_link query ≡ false) × GivesRoute query route × GivesPlaceOnRoute query chainage
+
 -- ---- what is asked
 
 -- What a resource is asked by this argument: a route by its name, any other by the parameters of its query.
@@ -177,7 +205,9 @@ AsksReport path.Links query report.Links = ⊤
 AsksReport path.Classes query report.Classes = ⊤
 AsksReport path.Refs query report.Refs = ⊤
 AsksReport path.Rows query (report.Rows wanted) = GivesRows query wanted
+AsksReport path.Lengths query (report.Lengths route) = GivesRouteOrAll query route
 AsksReport path.Gone query (report.Gone edit) = GivesEditOrAll query edit
+AsksReport path.Where query (report.Where spot) = GivesSpot query spot
 AsksReport _ argument r = ⊥
 
 -- a resource is answered by a report
@@ -187,22 +217,26 @@ is_reported path.Links = true
 is_reported path.Classes = true
 is_reported path.Refs = true
 is_reported path.Rows = true
+is_reported path.Lengths = true
 is_reported path.Gone = true
+is_reported path.Where = true
 is_reported _ = false
 
 -- ---- what cannot be asked
 
--- the parameters of each path, in the order in which they are read
-abbrev pub parameters_of : Resource → List Parameter
-parameters_of path.At = Route ∷ Way ∷ Position ∷ []
-parameters_of path.Segments = Route ∷ Hand ∷ Class ∷ []
-parameters_of path.Translate = Route ∷ Way ∷ Position ∷ To ∷ []
-parameters_of path.Diagram = Route ∷ ClassesOrAll ∷ From ∷ UpTo ∷ []
-parameters_of path.Find = Asset ∷ []
-parameters_of path.Log = FirstEdit ∷ []
-parameters_of path.Rows = RouteOrAll ∷ From ∷ UpTo ∷ ClassOrAll ∷ AssetOrAll ∷ []
-parameters_of path.Gone = EditOrAll ∷ []
-parameters_of _ = []
+-- the parameters of each path, in the order in which they are read; those of a place are by the way in which it is asked for
+abbrev pub parameters_of : Resource → Text → List Parameter
+parameters_of path.At query = Route ∷ Way ∷ Position ∷ []
+parameters_of path.Segments query = Route ∷ Hand ∷ Class ∷ []
+parameters_of path.Translate query = Route ∷ Way ∷ Position ∷ To ∷ []
+parameters_of path.Diagram query = Route ∷ ClassesOrAll ∷ From ∷ UpTo ∷ []
+parameters_of path.Find query = Asset ∷ []
+parameters_of path.Log query = FirstEdit ∷ []
+parameters_of path.Rows query = RouteOrAll ∷ From ∷ UpTo ∷ ClassOrAll ∷ AssetOrAll ∷ []
+parameters_of path.Lengths query = RouteOrAll ∷ []
+parameters_of path.Gone query = EditOrAll ∷ []
+parameters_of path.Where query = if is_on_link query then OnLink ∷ Millimetre ∷ [] else Route ∷ Chainage ∷ []
+parameters_of _ query = []
 
 abbrev pub parameter_text : Parameter → Text
 parameter_text Route = codes "route"
@@ -220,6 +254,9 @@ parameter_text Asset = codes "asset"
 parameter_text AssetOrAll = codes "asset"
 parameter_text FirstEdit = codes "from"
 parameter_text EditOrAll = codes "edit"
+parameter_text Chainage = codes "chainage"
+parameter_text OnLink = codes "link"
+parameter_text Millimetre = codes "mm"
 
 -- the parameter is there, or may be left out, and can be read
 abbrev pub IsGiven : Text → Parameter → Type 0
@@ -238,6 +275,9 @@ IsGiven query Asset = (asset : ℕ) × GivesAsset query asset
 IsGiven query AssetOrAll = (asset : Option ℕ) × GivesAssetOrAll query asset
 IsGiven query FirstEdit = (from : ℕ) × GivesFirstEdit query from
 IsGiven query EditOrAll = (edit : Option ℕ) × GivesEditOrAll query edit
+IsGiven query Chainage = (chainage : ℕ) × GivesPlaceOnRoute query chainage
+IsGiven query OnLink = (link : ℕ) × GivesLink query link
+IsGiven query Millimetre = (mm : ℕ) × GivesMillimetre query mm
 
 -- the first of these that is not
 abbrev pub IsFirstMalformed : Text → List Parameter → Parameter → Type 0
@@ -246,7 +286,7 @@ IsFirstMalformed query (q ∷ qs) p = ((p ≡ q) × (IsGiven query q → ⊥)) �
 
 -- why a resource is asked nothing by this argument
 abbrev pub CannotAsk : Resource → Text → QueryFault → Type 0
-CannotAsk resource query (Malformed p) = IsFirstMalformed query (parameters_of resource) p
+CannotAsk resource query (Malformed p) = IsFirstMalformed query (parameters_of resource query) p
 CannotAsk path.Route name NoRoute = IsTrue (is_route_name name) → ⊥
 CannotAsk resource argument NoRoute = ⊥
 CannotAsk resource argument Memory = ⊤

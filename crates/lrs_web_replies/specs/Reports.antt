@@ -1,12 +1,14 @@
--- Reports as JSON: lists, each the one member of an object, with the columns of the lists that are CSV as the members of each entry
+-- Reports as JSON: lists, each the one member of an object, with the columns of the lists that are CSV as the members of each entry; and what is at a place.
 
 -- An object has its members in the order of their names, and a list its entries in the order in which the image keeps them.
 use Rattle.std.specs.Prelude.{ℕ, List, [], ◌∷◌, codes, filter, length, map, Option, Some, None}
 use Rattle.std.specs.List.{flat_map}
 use Rattle.serde_json.specs.Data.{Data, null, string}
 use Rattle.lrs_element.specs.declared.link.Link.{Link}
+use Rattle.lrs_position.specs.declared.expression.Expr.{Expr}
 use Rattle.lrs_position.specs.declared.route.Referent.{Referent}
 use Rattle.lrs_position.specs.declared.route.Route.{Route}
+use Rattle.lrs_position.specs.Readings.{expression_text}
 use Rattle.lrs_events.specs.declared.class.Asset.{Asset}
 use Rattle.lrs_events.specs.declared.class.Class.{Class}
 use Rattle.lrs_events.specs.declared.part.Gone.{Gone}
@@ -14,14 +16,15 @@ use Rattle.lrs_events.specs.declared.span.Span.{Span}
 use Rattle.lrs_events.specs.Names.{kind_text, side_text}
 use Rattle.lrs_machine.specs.declared.image.Image.{Image}
 use Rattle.lrs_machine.specs.declared.image.RouteRow.{RouteRow}
-use Rattle.lrs_machine.specs.Lines.{Text}
+use Rattle.lrs_machine.specs.Lines.{Text, method_text}
 use Rattle.lrs_lists.specs.declared.wanted.RowsWanted.{RowsWanted}
 use Rattle.lrs_lists.specs.Lines.{asset_numbered, link_side_text, reason_text}
 use Rattle.lrs_lists.specs.Measures.{measure_text}
 use Rattle.lrs_lists.specs.Wanted.{is_of_edit, is_of_route, is_wanted}
+use Rattle.lrs_lengths.specs.declared.table.ValueLength.{ValueLength}
+use Rattle.lrs_whereabouts.specs.declared.answer.Whereabouts.{Whereabouts}
+use Rattle.lrs_web_replies.specs.Answers.{direction_text, hit_data}
 use Rattle.lrs_web_replies.specs.Shown.{each, list, whole, with}
-use Rattle.lrs_web_replies.specs.declared.report.Report.{Report}
-use Rattle.lrs_web_replies.specs.declared.report.Report.TheVariants as report
 
 -- a list under its name
 abbrev pub named_list : Text → List Data → Data
@@ -110,11 +113,28 @@ rows_data w i = named_list (codes "rows") (flat_map (rows_of w i.assets) (filter
 abbrev pub all_gone_data : Option ℕ → Image → Data
 all_gone_data edit i = named_list (codes "gone") (map (gone_data i.assets) (filter (is_of_edit edit) i.gone))
 
--- What a report tells of an image.
-abbrev pub report_data : Image → Report → Data
-report_data i report.Health = health_data i
-report_data i report.Links = links_data i
-report_data i report.Classes = classes_data i
-report_data i report.Refs = refs_data i
-report_data i (report.Rows wanted) = rows_data wanted i
-report_data i (report.Gone edit) = all_gone_data edit i
+-- ---- lengths
+
+-- a value of a class: how many millimetres of the routes it holds on the left, on either side, and on the right
+abbrev pub length_data : ValueLength → Data
+length_data l = with (
+    (codes "class", string l.class) ∷ (codes "left", whole l.left) ∷ (codes "length", whole l.length) ∷ (codes "right", whole l.right)
+    ∷ (codes "value", string l.value) ∷ []
+    )
+
+abbrev pub lengths_data : List ValueLength → Data
+lengths_data lengths = with ((codes "lengths", each length_data lengths) ∷ [])
+
+-- ---- what is at a place
+
+-- the place by a method
+abbrev pub place_data : Expr → Data
+place_data e = with ((codes "method", string (method_text e)) ∷ (codes "pos", string (expression_text e)) ∷ [])
+
+-- the members that a position has, and the place by each method and from each referent
+abbrev pub whereabouts_data : Whereabouts → Data
+whereabouts_data w = with (
+    (codes "at", whole w.found.at) ∷ (codes "dir", string (direction_text w.found.ground.forward)) ∷ (codes "hits", each hit_data w.found.hits)
+    ∷ (codes "link", whole w.found.ground.link) ∷ (codes "mm", whole w.found.ground.mm) ∷ (codes "positions", each place_data w.positions)
+    ∷ (codes "route", string w.route) ∷ []
+    )

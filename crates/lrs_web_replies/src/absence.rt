@@ -1,10 +1,10 @@
 //! What a report names, and an inventory does not have.
 
-ghost use Rattle.std.specs.Prelude.{◌≡◌};
+ghost use Rattle.std.specs.Prelude.{◌≡◌, true};
 ghost use Rattle.lrs_machine.specs.Sound.{IsSound};
 ghost use Rattle.lrs_image.specs.Kept.{image_of};
 ghost use Rattle.lrs_web_replies.specs.Reported as spec;
-ghost use Rattle.lrs_web_replies.specs.Reported.{has_asset, has_class, has_edit, has_route, lacks};
+ghost use Rattle.lrs_web_replies.specs.Reported.{has_asset, has_class, has_edit, has_route, is_listed, lacks};
 
 use crate::report::Report;
 use http::StatusCode;
@@ -12,6 +12,7 @@ use lrs_events::ClassName;
 use lrs_image::KeptImage;
 use lrs_lists::{RowsWanted, knows_asset, knows_class, knows_edit, knows_route};
 use lrs_position::RouteName;
+use lrs_whereabouts::WhereFault;
 
 /// What a report names, and an inventory does not have.
 #[derive(Clone, Copy, Debug, PartialEq, Eq)]
@@ -20,6 +21,9 @@ pub enum Missing {
     Class,
     Asset,
     Edit,
+    Link,
+    /// It is behind the end of the route or of the link, or no route runs over the millimetre.
+    Place,
 }
 
 fn lacks_route(kept: &KeptImage, route: Option<RouteName>) -> bool
@@ -76,15 +80,35 @@ fn missing_row(kept: &KeptImage, wanted: &RowsWanted) -> Option<Missing>
     }
 }
 
-/// What a report names first that the inventory does not have.
+/// What a report, but one of a place, names first that the inventory does not have.
 pub(crate) fn missing_of(kept: &KeptImage, report: &Report) -> Option<Missing>
     requires sound { IsSound (image_of kept.now) }
+    requires listed { is_listed report.now ≡ true }
     ensures { result ≡ spec.missing_of (image_of kept.now) report.now }
 {
     match report {
         Report::Rows(wanted) => missing_row(kept, wanted),
+        Report::Lengths(route) if lacks_route(kept, *route) => Some(Missing::Route),
         Report::Gone(edit) if lacks_edit(kept, *edit) => Some(Missing::Edit),
-        Report::Gone(_) | Report::Health | Report::Links | Report::Classes | Report::Refs => None,
+        Report::Lengths(_)
+        | Report::Gone(_)
+        | Report::Health
+        | Report::Links
+        | Report::Classes
+        | Report::Refs => None,
+        Report::Where(_) => unreachable!(),
+    }
+}
+
+/// Why there is no such place; none where memory ran out.
+pub(crate) fn missing_for(fault: WhereFault) -> Option<Missing>
+    ensures { result ≡ spec.missing_for fault }
+{
+    match fault {
+        WhereFault::NoRoute => Some(Missing::Route),
+        WhereFault::NoLink => Some(Missing::Link),
+        WhereFault::OffRoute => Some(Missing::Place),
+        WhereFault::Memory => None,
     }
 }
 
@@ -94,7 +118,9 @@ pub(crate) fn status_without(missing: Missing) -> StatusCode
 {
     match missing {
         Missing::Route => StatusCode::NOT_FOUND,
-        Missing::Class | Missing::Asset | Missing::Edit => StatusCode::UNPROCESSABLE_ENTITY,
+        Missing::Class | Missing::Asset | Missing::Edit | Missing::Link | Missing::Place => {
+            StatusCode::UNPROCESSABLE_ENTITY
+        }
     }
 }
 
@@ -106,5 +132,7 @@ pub(crate) fn cause_without(missing: Missing) -> &'static str
         Missing::Class => "NoClass",
         Missing::Asset => "NoAsset",
         Missing::Edit => "NoEdit",
+        Missing::Link => "NoLink",
+        Missing::Place => "OffRoute",
     }
 }

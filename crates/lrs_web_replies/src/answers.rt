@@ -5,6 +5,7 @@ ghost use Rattle.std.specs.Str.{IsAscii};
 ghost use Rattle.serde_json.specs.Data.{Data};
 ghost use Rattle.serde_json.specs.View.{view};
 ghost use Rattle.serde_json.specs.Written.{compact_text, has_float};
+ghost use Rattle.lrs_web_replies.specs.Reports.{lengths_data, whereabouts_data};
 ghost use Rattle.lrs_web_replies.specs.Answers.{at_data, ShowsRoute, segments_data, translated_data, on_link_data, routes_data, totals_data, found_data, error_data};
 ghost use Rattle.lrs_machine.specs.Lines.{method_text};
 
@@ -12,9 +13,11 @@ use crate::list::{Shown, list_value};
 use lrs_answers::{FoundRow, RouteLength};
 use lrs_element::Ground;
 use lrs_events::Side;
+use lrs_lengths::ValueLength;
 use lrs_machine::{Hit, Segment, Total};
 use lrs_measure::Frac;
 use lrs_position::{Expr, Route, RouteName};
+use lrs_whereabouts::Whereabouts;
 use serde_json::{Value, json};
 use std::alloc::{AllocError, Global};
 
@@ -127,7 +130,7 @@ pub fn segments_json(
     bytes_of(alloc, &value)
 }
 
-fn method_of(expression: Expr) -> &'static str
+pub(crate) fn method_of(expression: Expr) -> &'static str
     ensures { result.now ≡ method_text expression }
 {
     match expression {
@@ -246,6 +249,56 @@ pub fn found_json(alloc: Global, rows: &[FoundRow]) -> Result<Vec<u8>, AllocErro
     ensures { IfOk result (λ bytes. bytes.items ≡ compact_text (found_data rows.now)) }
 {
     let value = found_value(alloc, rows)?;
+    bytes_of(alloc, &value)
+}
+
+fn lengths_value(alloc: Global, lengths: &[ValueLength]) -> Result<Value, AllocError>
+    ensures { IfOk result (λ value. view value ≡ lengths_data lengths.now) }
+{
+    let lengths = list_value(alloc, lengths)?;
+    json!(in alloc; {"lengths": lengths})
+}
+
+/// How long each value of each class is, in millimetres.
+///
+/// # Errors
+/// When memory runs out.
+#[tactic(auto, using(crate::proofs::Whole::lengths_whole))]
+pub fn lengths_json(alloc: Global, lengths: &[ValueLength]) -> Result<Vec<u8>, AllocError>
+    ensures { IfOk result (λ bytes. bytes.items ≡ compact_text (lengths_data lengths.now)) }
+{
+    let value = lengths_value(alloc, lengths)?;
+    bytes_of(alloc, &value)
+}
+
+fn whereabouts_value(alloc: Global, found: &Whereabouts) -> Result<Value, AllocError>
+    ensures { IfOk result (λ value. view value ≡ whereabouts_data found.now) }
+{
+    let hits = list_value(alloc, found.found.hits.as_slice())?;
+    let positions = list_value(alloc, found.positions.as_slice())?;
+    let ground = found.found.ground;
+    let direction = if ground.forward { "+" } else { "-" };
+    let route = name_of(&found.route);
+    json!(in alloc; {
+        "at": found.found.at,
+        "dir": direction,
+        "hits": hits,
+        "link": ground.link,
+        "mm": ground.mm,
+        "positions": positions,
+        "route": route
+    })
+}
+
+/// What is at a place: the millimetre there, who holds it, and the place by each method.
+///
+/// # Errors
+/// When memory runs out.
+#[tactic(auto, using(crate::proofs::Whole::whereabouts_whole))]
+pub fn whereabouts_json(alloc: Global, found: &Whereabouts) -> Result<Vec<u8>, AllocError>
+    ensures { IfOk result (λ bytes. bytes.items ≡ compact_text (whereabouts_data found.now)) }
+{
+    let value = whereabouts_value(alloc, found)?;
     bytes_of(alloc, &value)
 }
 

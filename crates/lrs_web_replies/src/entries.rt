@@ -8,12 +8,13 @@ ghost use Rattle.lrs_lists.specs.Measures.{measure_text};
 ghost use Rattle.lrs_web_replies.specs.Reports.{gone_data_with, ref_data, row_data_with, said_of};
 ghost use Rattle.lrs_web_replies.specs.Shown.{whole};
 
-use crate::answers::name_of;
+use crate::answers::{method_of, name_of};
 use crate::list::Shown;
 use lrs_element::Link;
 use lrs_events::{Asset, Class, Gone, Span};
+use lrs_lengths::ValueLength;
 use lrs_lists::{link_side_text, measure_on, reason_text};
-use lrs_position::{Referent, Route};
+use lrs_position::{Expr, Referent, Route};
 use serde_json::{Value, json};
 use std::alloc::{AllocError, Global};
 
@@ -38,6 +39,33 @@ impl Shown for Class {
         let name = format!(in alloc; "{name}")?;
         let kind = format!(in alloc; "{kind}")?;
         json!(in alloc; {"class": name, "kind": kind})
+    }
+}
+
+impl Shown for ValueLength {
+    ghost use Rattle.lrs_web_replies.specs.Reports.{length_data};
+
+    ghost shown = { length_data };
+
+    fn value(&self, alloc: Global) -> Result<Value, AllocError> {
+        let class = self.class;
+        let value = self.value;
+        let class = format!(in alloc; "{class}")?;
+        let value = format!(in alloc; "{value}")?;
+        json!(in alloc; {"class": class, "left": self.left, "length": self.length, "right": self.right, "value": value})
+    }
+}
+
+impl Shown for Expr {
+    ghost use Rattle.lrs_web_replies.specs.Reports.{place_data};
+
+    ghost shown = { place_data };
+
+    fn value(&self, alloc: Global) -> Result<Value, AllocError> {
+        let method = method_of(*self);
+        let position = *self;
+        let position = format!(in alloc; "{position}")?;
+        json!(in alloc; {"method": method, "pos": position})
     }
 }
 

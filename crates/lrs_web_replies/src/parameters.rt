@@ -5,17 +5,17 @@ ghost use Rattle.std.specs.List.{list_all};
 ghost use Rattle.std.specs.Cow.{cow_str_bytes};
 ghost use Rattle.lrs_events.specs.Names.{is_class_name};
 ghost use Rattle.lrs_position.specs.declared.expression.Expr.{Expr as Expression};
-ghost use Rattle.lrs_web_replies.specs.Questions.{SaysDestination, SaysNumber, GivesAsset, GivesAssetOrAll, GivesChainage, GivesClassOrAll, GivesClasses, GivesClassesOrAll, GivesDestination, GivesEditOrAll, GivesFirstEdit, GivesFrom, GivesMethod, GivesPosition, GivesPositionBy, GivesRoute, GivesRouteOrAll, GivesSide, GivesUpTo};
+ghost use Rattle.lrs_web_replies.specs.Questions.{SaysDestination, SaysNumber, GivesAsset, GivesAssetOrAll, GivesChainage, GivesClassOrAll, GivesClasses, GivesClassesOrAll, GivesDestination, GivesEditOrAll, GivesFirstEdit, GivesFrom, GivesLink, GivesMethod, GivesMillimetre, GivesPlaceOnRoute, GivesPosition, GivesPositionBy, GivesRoute, GivesRouteOrAll, GivesSide, GivesUpTo, is_on_link};
 ghost use Rattle.lrs_web_replies.specs.Faults.{Lacks, LacksPosition};
 
 use crate::question::{Parameter, QueryFault};
 use lrs_events::{ClassName, Side, read_side};
 use lrs_machine::Destination;
-use lrs_measure::limits::{GREATEST_ASSET, LONGEST_ROUTE, MOST_EDITS};
+use lrs_measure::limits::{GREATEST_ASSET, GREATEST_LINK, LONGEST_LINK, LONGEST_ROUTE, MOST_EDITS};
 use lrs_measure::{Rows, read_digits};
 use lrs_position::{Expr, Method, RouteName, read_expr, read_method, read_target};
 use lrs_web_requests::{value_of, values_of};
-use std::alloc::Global;
+use std::alloc::{AllocError, Global};
 use std::borrow::CowStr;
 
 const NO_ROUTE: QueryFault = QueryFault::Malformed(Parameter::Route);
@@ -47,6 +47,12 @@ const NO_CLASS_OR_ALL: QueryFault = QueryFault::Malformed(Parameter::ClassOrAll)
 const NO_ASSET_OR_ALL: QueryFault = QueryFault::Malformed(Parameter::AssetOrAll);
 
 const NO_EDIT_OR_ALL: QueryFault = QueryFault::Malformed(Parameter::EditOrAll);
+
+const NO_CHAINAGE: QueryFault = QueryFault::Malformed(Parameter::Chainage);
+
+const NO_LINK: QueryFault = QueryFault::Malformed(Parameter::OnLink);
+
+const NO_MILLIMETRE: QueryFault = QueryFault::Malformed(Parameter::Millimetre);
 
 pub(crate) fn route_in(alloc: Global, query: &[u8]) -> Result<RouteName, QueryFault>
     ensures read { IfOk result (GivesRoute query.now) }
@@ -304,5 +310,57 @@ pub(crate) fn edit_or_all_in(alloc: Global, query: &[u8]) -> Result<Option<u64>,
             None => Err(NO_EDIT_OR_ALL),
         },
         None => Ok(None),
+    }
+}
+
+/// Whether a place is asked for on a link.
+pub(crate) fn is_on_link(alloc: Global, query: &[u8]) -> Result<bool, AllocError>
+    ensures { IfOk result (λ on_link. on_link ≡ is_on_link query.now) }
+{
+    match value_of(alloc, query, "link")? {
+        Some(_) => Ok(true),
+        None => Ok(false),
+    }
+}
+
+/// Where on a route a place is asked for.
+pub(crate) fn chainage_of_place_in(alloc: Global, query: &[u8]) -> Result<u64, QueryFault>
+    ensures read { IfOk result (GivesPlaceOnRoute query.now) }
+    ensures unread { IfErr result (Lacks Parameter.Chainage query.now) }
+{
+    match value_of(alloc, query, "chainage")? {
+        Some(text) => match read_number(text.as_str(), 0, LONGEST_ROUTE) {
+            Some(chainage) => Ok(chainage),
+            None => Err(NO_CHAINAGE),
+        },
+        None => Err(NO_CHAINAGE),
+    }
+}
+
+/// The link on which a place is asked for.
+pub(crate) fn link_in(alloc: Global, query: &[u8]) -> Result<u32, QueryFault>
+    ensures read { IfOk result (GivesLink query.now) }
+    ensures unread { IfErr result (Lacks Parameter.OnLink query.now) }
+{
+    match value_of(alloc, query, "link")? {
+        Some(text) => match read_number(text.as_str(), 1, u64::from(GREATEST_LINK)) {
+            Some(link) => Ok(link as u32),
+            None => Err(NO_LINK),
+        },
+        None => Err(NO_LINK),
+    }
+}
+
+/// Where on a link a place is asked for.
+pub(crate) fn millimetre_in(alloc: Global, query: &[u8]) -> Result<u64, QueryFault>
+    ensures read { IfOk result (GivesMillimetre query.now) }
+    ensures unread { IfErr result (Lacks Parameter.Millimetre query.now) }
+{
+    match value_of(alloc, query, "mm")? {
+        Some(text) => match read_number(text.as_str(), 0, u64::from(LONGEST_LINK)) {
+            Some(mm) => Ok(mm),
+            None => Err(NO_MILLIMETRE),
+        },
+        None => Err(NO_MILLIMETRE),
     }
 }

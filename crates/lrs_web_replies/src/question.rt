@@ -42,6 +42,12 @@ pub enum Parameter {
     FirstEdit,
     /// The edit that took parts away, which may be left out for all.
     EditOrAll,
+    /// Where on a route a place is.
+    Chainage,
+    /// The link on which a place is.
+    OnLink,
+    /// Where on that link it is.
+    Millimetre,
 }
 
 impl Parameter {
@@ -59,6 +65,9 @@ impl Parameter {
             Parameter::From | Parameter::FirstEdit => "from",
             Parameter::Asset | Parameter::AssetOrAll => "asset",
             Parameter::EditOrAll => "edit",
+            Parameter::Chainage => "chainage",
+            Parameter::OnLink => "link",
+            Parameter::Millimetre => "mm",
         }
     }
 }
@@ -202,7 +211,9 @@ pub fn question_of(
         | Resource::Classes
         | Resource::Refs
         | Resource::Rows
+        | Resource::Lengths
         | Resource::Gone
+        | Resource::Where
         | Resource::Edits
         | Resource::Surveys => unreachable!(),
     }

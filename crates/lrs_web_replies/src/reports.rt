@@ -11,11 +11,14 @@ ghost use Rattle.lrs_image.specs.Kept.{image_of};
 ghost use Rattle.lrs_lists.specs.Wanted.{is_of_route};
 ghost use Rattle.lrs_web_requests.specs.Text.{answer_of};
 ghost use Rattle.lrs_web_replies.specs.Parts.{gone_part, item_text, ref_part, refs_part, row_part, rows_part};
-ghost use Rattle.lrs_web_replies.specs.Reported.{report_answer};
-ghost use Rattle.lrs_web_replies.specs.Reports.{all_gone_data, classes_data, gone_data, health_data, links_data, refs_data, report_data, row_data, rows_data};
+ghost use Rattle.lrs_web_replies.specs.Replies.{error_answer, json_answer, json_bytes};
+ghost use Rattle.lrs_web_replies.specs.Reported as spec;
+ghost use Rattle.lrs_web_replies.specs.Reported.{AnswersReport, ShowsReport, is_listed};
+ghost use Rattle.lrs_web_replies.specs.Reports.{all_gone_data, classes_data, gone_data, health_data, links_data, refs_data, row_data, rows_data, whereabouts_data};
+ghost use Rattle.lrs_web_replies.specs.declared.report.Report.TheVariants as report;
 
-use crate::absence::{cause_without, missing_of, status_without};
-use crate::answers::bytes_of;
+use crate::absence::{Missing, cause_without, missing_for, missing_of, status_without};
+use crate::answers::{bytes_of, lengths_json, whereabouts_json};
 use crate::entries::{gone_value, ref_value, row_value};
 use crate::list_text::{add_each, add_item, begin, end};
 use crate::reply::{error_reply, json_reply};
@@ -23,11 +26,14 @@ use crate::report::Report;
 use http::StatusCode;
 use lrs_events::{Asset, Gone, Span};
 use lrs_image::KeptImage;
+use lrs_inventory::Inventory;
+use lrs_lengths::lengths;
 use lrs_lists::{RowsWanted, asset_numbered, is_of_edit, is_wanted};
 use lrs_machine::RouteRow;
 use lrs_ordered::Chunked;
-use lrs_position::{Referent, Route};
+use lrs_position::{Referent, Route, RouteName};
 use lrs_web_requests::Response;
+use lrs_whereabouts::{Spot, Whereabouts, whereabouts};
 use serde_json::{Value, json};
 use std::alloc::{AllocError, Global};
 
@@ -321,20 +327,89 @@ fn gone_json(alloc: Global, kept: &KeptImage, edit: Option<u64>) -> Result<Vec<u
     end(bytes, start)
 }
 
-// ---- the reply
+// ---- replies
 
-fn report_json(alloc: Global, kept: &KeptImage, report: &Report) -> Result<Vec<u8>, AllocError>
+/// The reply with a report that was made, as these bytes of JSON.
+fn made_reply(bytes: Vec<u8>) -> Response
+    ensures { answer_of result ≡ json_bytes 200 bytes.items }
+{
+    json_reply(StatusCode::OK, bytes)
+}
+
+/// The reply with the lengths on a route, or on all.
+fn lengths_reply(
+    alloc: Global,
+    kept: &KeptImage,
+    route: Option<&RouteName>,
+) -> Result<Response, AllocError>
     requires sound { IsSound (image_of kept.now) }
-    ensures { IfOk result (λ bytes. bytes.items
-        ≡ compact_text (report_data (image_of kept.now) report.now)) }
+    ensures { IfOk result (λ reply. ShowsReport (image_of kept.now)
+        (report.Lengths (option_map (λ r. r.now) route.entry)) (answer_of reply)) }
+{
+    let rows = lengths(alloc, kept, route)?;
+    Ok(made_reply(lengths_json(alloc, rows.as_slice())?))
+}
+
+/// The reply with a report, but one of a place.
+fn shown_reply(alloc: Global, kept: &KeptImage, report: &Report) -> Result<Response, AllocError>
+    requires sound { IsSound (image_of kept.now) }
+    requires listed { is_listed report.now ≡ true }
+    ensures { IfOk result (λ reply. ShowsReport (image_of kept.now) report.now (answer_of reply)) }
 {
     match report {
-        Report::Health => health_json(alloc, kept),
-        Report::Links => links_json(alloc, kept),
-        Report::Classes => classes_json(alloc, kept),
-        Report::Refs => refs_json(alloc, kept),
-        Report::Rows(wanted) => rows_json(alloc, kept, wanted),
-        Report::Gone(edit) => gone_json(alloc, kept, *edit),
+        Report::Health => Ok(made_reply(health_json(alloc, kept)?)),
+        Report::Links => Ok(made_reply(links_json(alloc, kept)?)),
+        Report::Classes => Ok(made_reply(classes_json(alloc, kept)?)),
+        Report::Refs => Ok(made_reply(refs_json(alloc, kept)?)),
+        Report::Rows(wanted) => Ok(made_reply(rows_json(alloc, kept, wanted)?)),
+        Report::Lengths(route) => lengths_reply(alloc, kept, route.as_ref()),
+        Report::Gone(edit) => Ok(made_reply(gone_json(alloc, kept, *edit)?)),
+        Report::Where(_) => unreachable!(),
+    }
+}
+
+/// The reply that names what is not there.
+fn missing_reply(alloc: Global, missing: Missing) -> Result<Response, AllocError>
+    ensures { IfOk result (λ reply. answer_of reply
+        ≡ error_answer (spec.status_without missing) (spec.cause_without missing)) }
+{
+    error_reply(alloc, status_without(missing), cause_without(missing))
+}
+
+/// The reply with a report, but one of a place, or with the first of the things that are not there.
+#[tactic(auto, using(crate::proofs::Replying::listed, crate::proofs::Replying::lacking))]
+fn listed_reply(alloc: Global, kept: &KeptImage, report: &Report) -> Result<Response, AllocError>
+    requires sound { IsSound (image_of kept.now) }
+    requires listed { is_listed report.now ≡ true }
+    ensures { IfOk result (λ reply. AnswersReport (image_of kept.now) report.now
+        (answer_of reply)) }
+{
+    match missing_of(kept, report) {
+        Some(missing) => missing_reply(alloc, missing),
+        None => shown_reply(alloc, kept, report),
+    }
+}
+
+/// The reply with what was found at a place.
+fn found_reply(alloc: Global, found: &Whereabouts) -> Result<Response, AllocError>
+    ensures { IfOk result (λ reply. answer_of reply
+        ≡ json_answer 200 (whereabouts_data found.now)) }
+{
+    Ok(made_reply(whereabouts_json(alloc, found)?))
+}
+
+/// The reply with what is at a place, or why there is no such place.
+#[tactic(auto, using(crate::proofs::Replying::there, crate::proofs::Replying::nowhere))]
+fn place_reply(alloc: Global, inventory: &Inventory, spot: Spot) -> Result<Response, AllocError>
+    ensures { IfOk result (λ reply. AnswersReport inventory.now (report.Where spot)
+        (answer_of reply)) }
+{
+    match whereabouts(alloc, inventory, spot) {
+        Ok(found) => found_reply(alloc, &found),
+        Err(fault) => match missing_for(fault) {
+            Some(missing) => missing_reply(alloc, missing),
+            None => Err(AllocError),
+        },
     }
 }
 
@@ -345,15 +420,19 @@ fn report_json(alloc: Global, kept: &KeptImage, report: &Report) -> Result<Vec<u
 /// When memory runs out.
 pub fn report_reply(
     alloc: Global,
-    kept: &KeptImage,
+    inventory: &Inventory,
     report: &Report,
 ) -> Result<Response, AllocError>
-    requires sound { IsSound (image_of kept.now) }
-    ensures { IfOk result (λ reply. answer_of reply
-        ≡ report_answer report.now (image_of kept.now)) }
+    ensures { IfOk result (λ reply. AnswersReport inventory.now report.now (answer_of reply)) }
 {
-    match missing_of(kept, report) {
-        Some(missing) => error_reply(alloc, status_without(missing), cause_without(missing)),
-        None => Ok(json_reply(StatusCode::OK, report_json(alloc, kept, report)?)),
+    match report {
+        Report::Where(spot) => place_reply(alloc, inventory, *spot),
+        Report::Health
+        | Report::Links
+        | Report::Classes
+        | Report::Refs
+        | Report::Rows(_)
+        | Report::Lengths(_)
+        | Report::Gone(_) => listed_reply(alloc, inventory.kept(), report),
     }
 }

@@ -23,7 +23,9 @@ pub enum Resource {
     Classes,
     Refs,
     Rows,
+    Lengths,
     Gone,
+    Where,
     Edits,
     Surveys,
 }
@@ -47,7 +49,9 @@ pub fn routes(alloc: Global) -> Result<Router<Resource>, InsertError>
     router.insert("/v1/classes", Resource::Classes)?;
     router.insert("/v1/refs", Resource::Refs)?;
     router.insert("/v1/rows", Resource::Rows)?;
+    router.insert("/v1/lengths", Resource::Lengths)?;
     router.insert("/v1/gone", Resource::Gone)?;
+    router.insert("/v1/where", Resource::Where)?;
     router.insert("/v1/edits", Resource::Edits)?;
     router.insert("/v1/surveys", Resource::Surveys)?;
     Ok(router)

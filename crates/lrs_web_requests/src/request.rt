@@ -58,7 +58,9 @@ fn verb_for(resource: Resource) -> Verb
         | Resource::Classes
         | Resource::Refs
         | Resource::Rows
-        | Resource::Gone => Verb::Get,
+        | Resource::Lengths
+        | Resource::Gone
+        | Resource::Where => Verb::Get,
         Resource::Edits | Resource::Surveys => Verb::Post,
     }
 }
@@ -105,7 +107,9 @@ fn argument(resource: Resource, target: &str) -> &[u8]
         | Resource::Classes
         | Resource::Refs
         | Resource::Rows
+        | Resource::Lengths
         | Resource::Gone
+        | Resource::Where
         | Resource::Edits
         | Resource::Surveys => query.as_bytes(),
     }
