@@ -34,7 +34,8 @@ pub fn do_first<K: Keeper>(
     requires some { 1 ≤ length commands.now }
     requires staged { K.staged keeper.old ≡ [] }
     requires counted { IsCounted inventory.old counts.old }
-    ensures does { IfOk result (λ given. IsGroup limits.now (records_of commands.now) inventory.old inventory.new given.items (K.staged keeper.new)) }
+    ensures does { IfOk result (λ given. IsGroup limits.now (records_of commands.now)
+        inventory.old inventory.new given.items (K.staged keeper.new)) }
     ensures memory { OnErr result (inventory.new ≡ inventory.old) }
     ensures not_staged { OnErr result (K.staged keeper.new ≡ []) }
     ensures content { (c : Result ImageRows Table) → K.may_hold keeper.new c → K.may_hold keeper.old c }
@@ -76,7 +77,9 @@ fn do_next<K: Keeper>(
     given: &mut Vec<Answer>,
 ) -> Result<bool, AllocError>
     requires counted { IsCounted inventory.old counts.old }
-    ensures does { IfOk result (DoesNext limits.now key.now command.now inventory.old inventory.new given.old.items given.new.items (K.staged keeper.old) (K.staged keeper.new)) }
+    ensures does { IfOk result (DoesNext limits.now key.now command.now
+        inventory.old inventory.new given.old.items given.new.items
+        (K.staged keeper.old) (K.staged keeper.new)) }
     ensures memory { OnErr result (inventory.new ≡ inventory.old) }
     ensures given { OnErr result (given.new.items ≡ given.old.items) }
     ensures not_staged { OnErr result (K.staged keeper.new ≡ K.staged keeper.old) }
