@@ -464,14 +464,29 @@ def test_a_file_that_is_no_sheet_is_not_sent(page):
     assert not [name for name in names if "edits" in name or "surveys" in name]
 
 
-def test_what_the_disk_does_not_take_is_told(browser, tmp_path):
-    ends(edit(tmp_path / "roads.db", FIRST), FIRST_REPLIES, 0)
+def test_what_the_disk_does_not_take_is_told_and_gone_on_with(browser, tmp_path):
+    db = tmp_path / "roads.db"
+    ends(edit(db, FIRST), FIRST_REPLIES, 0)
+    sheet, _ = long_sheet(30_000)
     with service(browser, tmp_path, **with_files_up_to(400_000)) as page:
         page.opens()
-        browser.types("#file", page.file("long.csv", long_sheet(30_000)[0]))
+        browser.types("#file", page.file("long.csv", sheet))
         browser.shows("#sheet-said", "Error: The program has too little memory, or could not write to its disk.")
-        assert "(Status 503.) It is not known how far the sheet was done." in browser.text("#sheet-said")
+        assert "(Status 503.) It is not known how far the sheet was done. Go on with it" in browser.text("#sheet-said")
         page.pictured("a_full_disk")
+        page.server.stop()
+        # while no program runs it is told again
+        browser.clicks("#resume")
+        browser.shows("#sheet-said", "Error: The program does not run. (Status 502.) It is not known how far the sheet was done.")
+        with started(db=db, port=page.server.port):
+            browser.clicks("#resume")
+            browser.shows("#sheet-said", "long.csv was sent to its end, in one part.")
+            assert browser.runs("return document.querySelector('#resume').hidden")
+            done, again, refused, *_ = (int(word) for word in re.findall(r"\d+", browser.text("#counts")))
+            # what was decided before has no line: the first three links were known
+            assert 0 < done < 29_997 and (again, refused) == (0, 0)
+            status, lines = posted(page.port, "edits", sheet)
+            assert status == 200 and (lines.count(b",again,"), lines.count(b",refused,LinkKnown")) == (29_997, 3)
 
 
 def test_a_program_that_has_ended_is_told(page):

@@ -56,7 +56,7 @@ tr.refused td.word, tr.fault td.word { background: #fdeaea; color: #7a1414; bord
 <section id="replies" aria-labelledby="replies-title" hidden><h2 id="replies-title">Replies to the sheet</h2>
 <p id="sheet-said" class="note" role="status"></p>
 <p id="counts" class="note" role="status"></p>
-<p><a id="save" download="replies.csv" hidden>Save all reply lines</a></p>
+<p><button id="resume" type="button" hidden>Go on with the sheet</button> <a id="save" download="replies.csv" hidden>Save all reply lines</a></p>
 <div id="lines" class="table" tabindex="0" aria-label="Reply lines"></div>
 </section>
 <section aria-labelledby="route-title"><h2 id="route-title">No route is chosen</h2>
@@ -113,7 +113,7 @@ const STATUSES = {
   504: "The program took too long to reply.",
 };
 const LOST = "No reply came: the connection broke, or the web server does not run.";
-const SEND_AGAIN = " It is not known how far the sheet was done. A record acts once. If none of the records can be refused, send the same sheet again. If one can be, send the header and the records behind the last one that was done.";
+const GO_ON = " It is not known how far the sheet was done. Go on with it once the program runs: what was done is passed over, and nothing is done twice.";
 
 function sentence(cause) {
   const [name, argument] = cause.split(":"), known = CAUSES[name];
@@ -475,7 +475,8 @@ function startReplies() {
   replied = [], notShown = 0;
   $("lines").replaceChildren(tableOf(["Key", "Reply", "Edit, or cause"], []));
   $("replies").hidden = false;
-  $("lines").hidden = $("save").hidden = true;
+  $("lines").hidden = $("save").hidden = $("resume").hidden = true;
+  stopped = undefined;
   say("counts", "");
 }
 
@@ -508,13 +509,23 @@ async function sendSheet(file) {
   startReplies();
   say("sheet-said", `${file.name} is being read.`);
   $("replies").scrollIntoView({ block: "nearest" });
-  const bytes = new Uint8Array(await file.arrayBuffer()), path = pathOf(bytes), bodies = bodiesOf(bytes);
+  const bytes = new Uint8Array(await file.arrayBuffer());
+  await sendParts({ name: file.name, path: pathOf(bytes), bodies: bodiesOf(bytes), at: 0, resumes: false });
+}
+
+// Sends the parts of a sheet from one on. The program goes on by itself with a part whose reply was lost.
+async function sendParts(sheet) {
+  const { name, path, bodies } = sheet;
+  (stopped = undefined), ($("resume").hidden = true);
   try {
-    for (const [at, body] of bodies.entries()) {
-      say("sheet-said", `${file.name}: part ${at + 1} of ${bodies.length} is being sent.`);
-      await sendPart(path, body);
+    for (; sheet.at < bodies.length; sheet.at++, sheet.resumes = false) {
+      say("sheet-said", `${name}: part ${sheet.at + 1} of ${bodies.length} is being sent.`);
+      await sendPart(path + (sheet.resumes ? "?resume=1" : ""), bodies[sheet.at]);
     }
-    say("sheet-said", `${file.name} was sent to its end, in ${bodies.length === 1 ? "one part" : `${bodies.length} parts`}. Look at the lines: a record that is refused changes nothing.`);
+    say("sheet-said", `${name} was sent to its end, in ${bodies.length === 1 ? "one part" : `${bodies.length} parts`}. Look at the lines: a record that is refused changes nothing.`);
+  } catch (error) {
+    if (error.message.endsWith(GO_ON)) (stopped = { ...sheet, resumes: true }), ($("resume").hidden = false);
+    throw error;
   } finally {
     await refresh();
   }
@@ -522,10 +533,10 @@ async function sendSheet(file) {
 
 async function sendPart(path, body) {
   const settings = { method: "POST", headers: { "Content-Type": "text/csv" }, body };
-  const { status, text } = await send(path, settings).catch(error => { throw new Error(error.message + SEND_AGAIN); });
+  const { status, text } = await send(path, settings).catch(error => { throw new Error(error.message + GO_ON); });
   if (status === 200 || status === 422) showReplies(text);
   if (status === 422) throw new Error(`${STATUSES[422]} The last line says why. The records before it are done. Mend the sheet, and send the header and the records behind the last one that was done.`);
-  if (status !== 200) throw new Error(reason(status, text) + ([500, 502, 503, 504].includes(status) ? SEND_AGAIN : " The sheet was not sent on."));
+  if (status !== 200) throw new Error(reason(status, text) + ([500, 502, 503, 504].includes(status) ? GO_ON : " The sheet was not sent on."));
 }
 
 async function refresh() {
@@ -536,12 +547,13 @@ async function refresh() {
 }
 
 // One sheet after the other. Who leaves the page before they are sent is asked.
-let sheets = Promise.resolve(), waiting = 0;
+let sheets = Promise.resolve(), waiting = 0, stopped;
+function enqueue(work) {
+  waiting++;
+  sheets = sheets.then(() => attempt("sheet-said", work)).then(() => waiting--);
+}
 function sendSheets(files) {
-  for (const file of [...files]) {
-    waiting++;
-    sheets = sheets.then(() => attempt("sheet-said", () => sendSheet(file))).then(() => waiting--);
-  }
+  for (const file of [...files]) enqueue(() => sendSheet(file));
 }
 
 // ---- what the hand does
@@ -563,6 +575,7 @@ $("diagram").onkeydown = event => {
   const button = { ArrowLeft: "back", ArrowRight: "on", "+": "in", "-": "out" }[event.key];
   if (button && !event.ctrlKey && !event.altKey && !event.metaKey) event.preventDefault(), $(button).click();
 };
+$("resume").onclick = () => enqueue(async () => stopped && sendParts(stopped));
 $("file").onchange = () => (sendSheets($("file").files), ($("file").value = ""));
 document.ondragover = event => {
   if (!event.dataTransfer.types.includes("Files")) return;
