@@ -9,6 +9,7 @@ import select
 import socket
 import statistics
 import subprocess
+import sys
 import threading
 import time
 
@@ -21,8 +22,11 @@ from stores import edit, folder
 
 SILENT, TRICKLING, NEVER_READING = 90, 90, 20
 
-# What a good client may wait: in the middle, and nineteen of twenty on a machine with much beside it.
-MEDIAN, MOST = 0.050, 1.0
+# What a good client may wait, at the most. The crowd comes round in less than SECONDS.
+MOST, SECONDS = 0.050, 12
+
+# A machine with much beside it pauses for longer now and then: some twelve seconds have to go by without. Where it pauses in each of them, nineteen of twenty are held to a second.
+ROUNDS, MOST_BESIDE_MUCH = 4, 1.0
 
 # Nothing of a reply goes through without being read but what two sockets keep.
 LITTLE = 4_096
@@ -131,8 +135,33 @@ def timed(server, sent, expected):
     return time.monotonic() - since
 
 
+PAUSES = """
+import sys, time
+worst, last = 0, time.monotonic()
+until = last + float(sys.argv[1])
+while last < until:
+    time.sleep(0.001)
+    now = time.monotonic()
+    worst, last = max(worst, now - last), now
+print(worst)
+"""
+
+
+@contextlib.contextmanager
+def pauses(seconds):
+    """The longest time for which the machine does not run a program that asks for little, once the block has ended."""
+    child = subprocess.Popen([sys.executable, "-c", PAUSES, str(seconds)], stdout=subprocess.PIPE)
+    found = []
+    yield found
+    found.append(float(child.communicate()[0]))
+
+
 def is_quick(times):
-    return statistics.median(times) <= MEDIAN and statistics.quantiles(times, n=20)[-1] <= MOST
+    return max(times) <= MOST
+
+
+def is_quick_beside_much(times):
+    return statistics.median(times) <= MOST and statistics.quantiles(times, n=20)[-1] <= MOST_BESIDE_MUCH
 
 
 def shown(times):
@@ -163,10 +192,10 @@ def class_total(name):
     return b'{"abandoned":0,"class":"%s","entered":0,"present":0,"retired":0}' % name
 
 
-def test_good_clients_are_served_at_once(busy):
+def waits(busy, known):
+    """How long good clients wait, who ask and send sheets for some seconds."""
     questions, sheets = [], []
-    known = []
-    until = time.monotonic() + 12
+    until = time.monotonic() + SECONDS
     while time.monotonic() < until:
         totals = totals_of(*map(class_total, sorted(known)), V_TOTAL)
         questions.append(timed(busy, ASK, reply(200, totals)))
@@ -174,10 +203,22 @@ def test_good_clients_are_served_at_once(busy):
         sheets.append(timed(busy, request("POST /v1/edits", sheet_of(f"g{len(known)},class,G{len(known)},point")), sheet_reply(b"g%d,done,%d\n" % (len(known), 604 + LINKS + len(known)))))
         known.append(name)
         time.sleep(0.05)
-    print("\nquestions:", shown(questions), "\nsheets:", shown(sheets))
     assert len(questions) > 20
-    assert is_quick(questions), shown(questions)
-    assert is_quick(sheets), shown(sheets)
+    return questions, sheets
+
+
+def test_good_clients_wait_at_most_50_ms(busy):
+    known, told, paused = [], [], []
+    for _ in range(ROUNDS):
+        with pauses(SECONDS) as found:
+            questions, sheets = waits(busy, known)
+        paused += found
+        told.append(f"questions: {shown(questions)}; sheets: {shown(sheets)}; the machine pauses for {found[0]:.4f} s")
+        print("\n" + told[-1])
+        if is_quick(questions) and is_quick(sheets):
+            return
+        assert is_quick_beside_much(questions) and is_quick_beside_much(sheets), told
+    assert min(paused) > MOST / 2, told
 
 
 FAULTS = [
