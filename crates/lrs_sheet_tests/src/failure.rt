@@ -52,32 +52,27 @@ fn broken(rt: &impl Abort, alloc: Global, leaves: Leaves) -> Desk<Failing> {
 }
 
 /// The image is as before the command whose commit failed, and questions go on.
-#[test]
-fn after_a_failed_commit_of_one_questions_go_on(rt: HostRuntime) {
-    let mut desk = broken(&rt, rt.alloc(), Leaves::Old);
-    assert_eq!(rt; act(&rt, &mut desk, "s3", THIRD), Err(Fault::MustReopen));
+fn after_a_failed_commit_of_one_questions_go_on(rt: &impl Abort, alloc: Global) {
+    let mut desk = broken(rt, alloc, Leaves::Old);
+    assert_eq!(rt; act(rt, &mut desk, "s3", THIRD), Err(Fault::MustReopen));
     assert!(rt; desk.totals().is_ok());
     assert_eq!(rt; desk.inventory().links(), 1);
 }
 
 /// The device failed, and the command was kept: an opening finds it.
-#[test]
-fn a_command_that_was_kept_is_done_no_second_time(rt: HostRuntime) {
-    let alloc = rt.alloc();
-    let keeper = broken(&rt, alloc, Leaves::New).into_keeper();
+fn a_command_that_was_kept_is_done_no_second_time(rt: &impl Abort, alloc: Global) {
+    let keeper = broken(rt, alloc, Leaves::New).into_keeper();
     match Desk::open(keeper, Limits::full(), alloc) {
-        Ok(mut desk) => assert_eq!(rt; act(&rt, &mut desk, "s2", SECOND), Ok(Answer::Again(2))),
+        Ok(mut desk) => assert_eq!(rt; act(rt, &mut desk, "s2", SECOND), Ok(Answer::Again(2))),
         Err((fault, _)) => panic!(rt; "{fault:?}"),
     }
 }
 
 /// Two links are in flight together: the image is ahead, so that no question is answered.
-#[test]
-fn after_a_failed_commit_of_two_questions_ask_for_a_reopening(rt: HostRuntime) {
-    let alloc = rt.alloc();
-    let mut desk = open(&rt, alloc, Leaves::Old);
-    assert_eq!(rt; act(&rt, &mut desk, "s1", FIRST), Ok(Answer::Done(1)));
-    let both = [command(&rt, "s2", SECOND), command(&rt, "s3", THIRD)];
+fn after_a_failed_commit_of_two_questions_ask_for_a_reopening(rt: &impl Abort, alloc: Global) {
+    let mut desk = open(rt, alloc, Leaves::Old);
+    assert_eq!(rt; act(rt, &mut desk, "s1", FIRST), Ok(Answer::Done(1)));
+    let both = [command(rt, "s2", SECOND), command(rt, "s3", THIRD)];
     assert!(rt;
         desk.act_on_first(&both)
             .is_err_and(|fault| fault == Fault::Keep)
@@ -92,12 +87,19 @@ fn after_a_failed_commit_of_two_questions_ask_for_a_reopening(rt: HostRuntime) {
     }
 }
 
-#[test]
-fn a_keeper_that_is_not_loaded_is_no_desk(rt: HostRuntime) {
-    let alloc = rt.alloc();
+fn a_keeper_that_is_not_loaded_is_no_desk(rt: &impl Abort, alloc: Global) {
     let keeper = Failing::over(Plain::empty(alloc), 0, 0, Leaves::Old);
     match Desk::open(keeper, Limits::full(), alloc) {
         Ok(_) => panic!(rt; "opened"),
         Err((fault, _)) => assert_eq!(rt; fault, OpenFault::Keep),
     }
+}
+
+#[test]
+fn a_keeper_fails(rt: HostRuntime) {
+    let alloc = rt.alloc();
+    after_a_failed_commit_of_one_questions_go_on(&rt, alloc);
+    a_command_that_was_kept_is_done_no_second_time(&rt, alloc);
+    after_a_failed_commit_of_two_questions_ask_for_a_reopening(&rt, alloc);
+    a_keeper_that_is_not_loaded_is_no_desk(&rt, alloc);
 }

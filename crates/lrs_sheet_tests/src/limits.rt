@@ -72,13 +72,9 @@ fn no_more_is_taken(rt: &(impl Abort + Print + AllocGlobal), together: usize) ->
     Ok(())
 }
 
+// One record at a time, and together, where groups end at refusals.
 #[test]
 fn a_full_inventory_takes_no_more(rt: HostRuntime) -> Result<(), Fail> {
-    no_more_is_taken(&rt, 1)
-}
-
-// Groups end at refusals.
-#[test]
-fn a_full_inventory_takes_no_more_together(rt: HostRuntime) -> Result<(), Fail> {
+    no_more_is_taken(&rt, 1)?;
     no_more_is_taken(&rt, 10)
 }
