@@ -1,5 +1,6 @@
 pub mod ClassesRead
 pub mod CommandLine
+pub mod Folded
 pub mod JobNames
 pub mod JobThere
 pub mod JobValues

@@ -5,7 +5,7 @@ ghost use Rattle.lrs_cli_words.specs.declared.job.JobName.{JobName as DeclaredNa
 ghost use Rattle.lrs_cli_words.specs.Words.{has_new_sums, name_text};
 
 /// What the program can be asked for.
-#[derive(Clone, Copy, Debug, PartialEq, Eq)]
+#[derive(Clone, Copy)]
 pub enum JobName {
     Edit,
     Survey,
@@ -30,7 +30,7 @@ pub enum JobName {
 /// A job, with its words as they were given. `db` is the inventory; with `sums` a new file of it
 /// gets sums of its pages. With `resume` a sheet goes on behind its last record that is an edit, and
 /// with `all` it is done only if no record is refused.
-#[derive(Debug, Drop)]
+#[derive(Drop)]
 pub enum Job<'a> {
     /// Does the edit sheet `sheet`.
     Edit {

@@ -3,6 +3,7 @@
 
 mod command_line;
 mod job;
+mod parts;
 mod question;
 mod report;
 mod words;

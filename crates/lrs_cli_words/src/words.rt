@@ -75,6 +75,28 @@ fn words_in<'g, 'a>(given: &'g ArgMatches<'a>, id: &str) -> Option<&'g [&'a str]
     given.get_strs(id)
 }
 
+// The word of this id, where one was given.
+fn given_word<'a>(given: &ArgMatches<'a>, id: &str) -> &'a str
+    requires { is_some (first_of id.now (rows_of (found_of given.now))) ≡ true }
+    ensures { first_of id.now (rows_of (found_of given.now)) ≡ Some result.now }
+{
+    match word_in(given, id) {
+        Some(word) => word,
+        None => unreachable!(),
+    }
+}
+
+// All words of this id, where one was given.
+fn given_words<'g, 'a>(given: &'g ArgMatches<'a>, id: &str) -> &'g [&'a str]
+    requires { is_some (first_of id.now (rows_of (found_of given.now))) ≡ true }
+    ensures { all_of id.now (rows_of (found_of given.now)) ≡ Some (map (λ w. w.now) result.now) }
+{
+    match words_in(given, id) {
+        Some(words) => words,
+        None => unreachable!(),
+    }
+}
+
 // The option of this id was given.
 fn is_set(given: &ArgMatches<'_>, id: &str) -> bool
     ensures { IsTrue result ↔ IsSet id.now (rows_of (found_of given.now)) }
@@ -85,154 +107,124 @@ fn is_set(given: &ArgMatches<'_>, id: &str) -> bool
     }
 }
 
-fn edit_job<'a>(given: &ArgMatches<'a>) -> Option<Job<'a>>
-    ensures job { IfSome result (λ job. (job_name job ≡ JobName.Edit)
-        × HasWords job (rows_of (found_of given.now))) }
-    ensures there { AreGiven (rules_of JobName.Edit) (rows_of (found_of given.now))
-        → IsSome result }
+fn edit_job<'a>(given: &ArgMatches<'a>) -> Job<'a>
+    requires { AreGiven (rules_of JobName.Edit) (rows_of (found_of given.now)) }
+    ensures name { job_name result ≡ JobName.Edit }
+    ensures words { HasWords result (rows_of (found_of given.now)) }
 {
-    let db = word_in(given, "DB")?;
-    let sheet = word_in(given, "SHEET")?;
+    let db = given_word(given, "DB");
+    let sheet = given_word(given, "SHEET");
     let sums = is_set(given, "sums");
     let resume = is_set(given, "resume");
     let all = is_set(given, "all");
-    Some(Job::Edit {
+    Job::Edit {
         db,
         sheet,
         sums,
         resume,
         all,
-    })
+    }
 }
 
-fn survey_job<'a>(given: &ArgMatches<'a>) -> Option<Job<'a>>
-    ensures job { IfSome result (λ job. (job_name job ≡ JobName.Survey)
-        × HasWords job (rows_of (found_of given.now))) }
-    ensures there { AreGiven (rules_of JobName.Survey) (rows_of (found_of given.now))
-        → IsSome result }
+fn survey_job<'a>(given: &ArgMatches<'a>) -> Job<'a>
+    requires { AreGiven (rules_of JobName.Survey) (rows_of (found_of given.now)) }
+    ensures name { job_name result ≡ JobName.Survey }
+    ensures words { HasWords result (rows_of (found_of given.now)) }
 {
-    let db = word_in(given, "DB")?;
-    let sheet = word_in(given, "SHEET")?;
+    let db = given_word(given, "DB");
+    let sheet = given_word(given, "SHEET");
     let sums = is_set(given, "sums");
     let resume = is_set(given, "resume");
     let all = is_set(given, "all");
-    Some(Job::Survey {
+    Job::Survey {
         db,
         sheet,
         sums,
         resume,
         all,
-    })
+    }
 }
 
-fn check_job<'a>(given: &ArgMatches<'a>) -> Option<Job<'a>>
-    ensures job { IfSome result (λ job. (job_name job ≡ JobName.Check)
-        × HasWords job (rows_of (found_of given.now))) }
-    ensures there { AreGiven (rules_of JobName.Check) (rows_of (found_of given.now))
-        → IsSome result }
+fn check_job<'a>(given: &ArgMatches<'a>) -> Job<'a>
+    requires { AreGiven (rules_of JobName.Check) (rows_of (found_of given.now)) }
+    ensures name { job_name result ≡ JobName.Check }
+    ensures words { HasWords result (rows_of (found_of given.now)) }
 {
-    let db = word_in(given, "DB")?;
-    let sheet = word_in(given, "SHEET")?;
+    let db = given_word(given, "DB");
+    let sheet = given_word(given, "SHEET");
     let survey = is_set(given, "survey");
-    Some(Job::Check { db, sheet, survey })
+    Job::Check { db, sheet, survey }
 }
 
-fn at_job<'a>(given: &ArgMatches<'a>) -> Option<Job<'a>>
-    ensures job { IfSome result (λ job. (job_name job ≡ JobName.At)
-        × HasWords job (rows_of (found_of given.now))) }
-    ensures there { AreGiven (rules_of JobName.At) (rows_of (found_of given.now)) → IsSome result }
+fn at_job<'a>(given: &ArgMatches<'a>) -> Job<'a>
+    requires { AreGiven (rules_of JobName.At) (rows_of (found_of given.now)) }
+    ensures name { job_name result ≡ JobName.At }
+    ensures words { HasWords result (rows_of (found_of given.now)) }
 {
-    let db = word_in(given, "DB")?;
-    let route = word_in(given, "ROUTE")?;
-    let method = word_in(given, "METHOD")?;
-    let position = word_in(given, "POS")?;
-    Some(Job::At {
+    let db = given_word(given, "DB");
+    let route = given_word(given, "ROUTE");
+    let method = given_word(given, "METHOD");
+    let position = given_word(given, "POS");
+    Job::At {
         db,
         route,
         method,
         position,
-    })
+    }
 }
 
-fn where_job<'a>(given: &ArgMatches<'a>) -> Option<Job<'a>>
-    ensures job { IfSome result (λ job. (job_name job ≡ JobName.Where)
-        × HasWords job (rows_of (found_of given.now))) }
-    ensures there { AreGiven (rules_of JobName.Where) (rows_of (found_of given.now))
-        → IsSome result }
+fn where_job<'a>(given: &ArgMatches<'a>) -> Job<'a>
+    requires { AreGiven (rules_of JobName.Where) (rows_of (found_of given.now)) }
+    ensures name { job_name result ≡ JobName.Where }
+    ensures words { HasWords result (rows_of (found_of given.now)) }
 {
-    let db = word_in(given, "DB")?;
-    let route = word_in(given, "ROUTE")?;
-    let chainage = word_in(given, "CHAINAGE")?;
+    let db = given_word(given, "DB");
+    let route = given_word(given, "ROUTE");
+    let chainage = given_word(given, "CHAINAGE");
     let mm = word_in(given, "MM");
-    Some(Job::Where {
+    Job::Where {
         db,
         route,
         chainage,
         mm,
-    })
+    }
 }
 
-fn translate_job<'a>(given: &ArgMatches<'a>) -> Option<Job<'a>>
-    ensures job { IfSome result (λ job. (job_name job ≡ JobName.Translate)
-        × HasWords job (rows_of (found_of given.now))) }
-    ensures there { AreGiven (rules_of JobName.Translate) (rows_of (found_of given.now))
-        → IsSome result }
+fn translate_job<'a>(given: &ArgMatches<'a>) -> Job<'a>
+    requires { AreGiven (rules_of JobName.Translate) (rows_of (found_of given.now)) }
+    ensures name { job_name result ≡ JobName.Translate }
+    ensures words { HasWords result (rows_of (found_of given.now)) }
 {
-    let db = word_in(given, "DB")?;
-    let route = word_in(given, "ROUTE")?;
-    let method = word_in(given, "METHOD")?;
-    let position = word_in(given, "POS")?;
-    let to = word_in(given, "TO")?;
-    Some(Job::Translate {
+    let db = given_word(given, "DB");
+    let route = given_word(given, "ROUTE");
+    let method = given_word(given, "METHOD");
+    let position = given_word(given, "POS");
+    let to = given_word(given, "TO");
+    Job::Translate {
         db,
         route,
         method,
         position,
         to,
-    })
-}
-
-// The inventory, route, side and classes that a strip is given.
-fn strip_words<'g, 'a>(
-    given: &'g ArgMatches<'a>,
-) -> Option<(&'a str, &'a str, &'a str, &'g [&'a str])>
-    ensures db { IfSome result (λ words. first_of (codes "DB") (rows_of (found_of given.now))
-        ≡ Some words.0.now) }
-    ensures route { IfSome result (λ words. first_of (codes "ROUTE") (rows_of (found_of given.now))
-        ≡ Some words.1.now) }
-    ensures side { IfSome result (λ words. first_of (codes "SIDE") (rows_of (found_of given.now))
-        ≡ Some words.2.now) }
-    ensures classes { IfSome result (λ words. all_of (codes "CLASS") (rows_of (found_of given.now))
-        ≡ Some (map (λ w. w.now) words.3.now)) }
-    ensures there { AreGiven (rules_of JobName.Strip) (rows_of (found_of given.now))
-        → IsSome result }
-{
-    let db = word_in(given, "DB")?;
-    let route = word_in(given, "ROUTE")?;
-    let side = word_in(given, "SIDE")?;
-    let classes = words_in(given, "CLASS")?;
-    Some((db, route, side, classes))
-}
-
-fn strip_job<'a>(alloc: Global, given: &ArgMatches<'a>) -> Result<Option<Job<'a>>, AllocError>
-    ensures job { IfOk result (λ found. IfSome found (λ job.
-        (job_name job ≡ JobName.Strip) × HasWords job (rows_of (found_of given.now)))) }
-    ensures there { AreGiven (rules_of JobName.Strip) (rows_of (found_of given.now))
-        → IfOk result (λ found. IsSome found) }
-{
-    match strip_words(given) {
-        Some((db, route, side, named)) => {
-            let mut classes = Vec::new(alloc);
-            classes.extend_from_slice(named)?;
-            Ok(Some(Job::Strip {
-                db,
-                route,
-                side,
-                classes,
-            }))
-        }
-        None => Ok(None),
     }
+}
+
+fn strip_job<'a>(alloc: Global, given: &ArgMatches<'a>) -> Result<Job<'a>, AllocError>
+    requires { AreGiven (rules_of JobName.Strip) (rows_of (found_of given.now)) }
+    ensures name { IfOk result (λ job. job_name job ≡ JobName.Strip) }
+    ensures words { IfOk result (λ job. HasWords job (rows_of (found_of given.now))) }
+{
+    let db = given_word(given, "DB");
+    let route = given_word(given, "ROUTE");
+    let side = given_word(given, "SIDE");
+    let mut classes = Vec::new(alloc);
+    classes.extend_from_slice(given_words(given, "CLASS"))?;
+    Ok(Job::Strip {
+        db,
+        route,
+        side,
+        classes,
+    })
 }
 
 // A copy of the words that were given for this id: of none where it was not given.
@@ -251,183 +243,148 @@ fn copied_words<'a>(
     Ok(words)
 }
 
-// The inventory and the route that a diagram is given.
-fn diagram_words<'a>(given: &ArgMatches<'a>) -> Option<(&'a str, &'a str)>
-    ensures db { IfSome result (λ words. first_of (codes "DB") (rows_of (found_of given.now))
-        ≡ Some words.0.now) }
-    ensures route { IfSome result (λ words. first_of (codes "ROUTE") (rows_of (found_of given.now))
-        ≡ Some words.1.now) }
-    ensures there { AreGiven (rules_of JobName.Diagram) (rows_of (found_of given.now))
-        → IsSome result }
+fn diagram_job<'a>(alloc: Global, given: &ArgMatches<'a>) -> Result<Job<'a>, AllocError>
+    requires { AreGiven (rules_of JobName.Diagram) (rows_of (found_of given.now)) }
+    ensures name { IfOk result (λ job. job_name job ≡ JobName.Diagram) }
+    ensures words { IfOk result (λ job. HasWords job (rows_of (found_of given.now))) }
 {
-    let db = word_in(given, "DB")?;
-    let route = word_in(given, "ROUTE")?;
-    Some((db, route))
+    let db = given_word(given, "DB");
+    let route = given_word(given, "ROUTE");
+    let classes = copied_words(alloc, given, "CLASS")?;
+    Ok(Job::Diagram {
+        db,
+        route,
+        classes,
+        from: word_in(given, "from"),
+        to: word_in(given, "to"),
+    })
 }
 
-fn diagram_job<'a>(alloc: Global, given: &ArgMatches<'a>) -> Result<Option<Job<'a>>, AllocError>
-    ensures job { IfOk result (λ found. IfSome found (λ job.
-        (job_name job ≡ JobName.Diagram) × HasWords job (rows_of (found_of given.now)))) }
-    ensures there { AreGiven (rules_of JobName.Diagram) (rows_of (found_of given.now))
-        → IfOk result (λ found. IsSome found) }
+fn totals_job<'a>(given: &ArgMatches<'a>) -> Job<'a>
+    requires { AreGiven (rules_of JobName.Totals) (rows_of (found_of given.now)) }
+    ensures name { job_name result ≡ JobName.Totals }
+    ensures words { HasWords result (rows_of (found_of given.now)) }
 {
-    match diagram_words(given) {
-        Some((db, route)) => {
-            let classes = copied_words(alloc, given, "CLASS")?;
-            let from = word_in(given, "from");
-            let to = word_in(given, "to");
-            Ok(Some(Job::Diagram {
-                db,
-                route,
-                classes,
-                from,
-                to,
-            }))
-        }
-        None => Ok(None),
-    }
+    let db = given_word(given, "DB");
+    Job::Totals { db }
 }
 
-fn totals_job<'a>(given: &ArgMatches<'a>) -> Option<Job<'a>>
-    ensures job { IfSome result (λ job. (job_name job ≡ JobName.Totals)
-        × HasWords job (rows_of (found_of given.now))) }
-    ensures there { AreGiven (rules_of JobName.Totals) (rows_of (found_of given.now))
-        → IsSome result }
+fn lengths_job<'a>(given: &ArgMatches<'a>) -> Job<'a>
+    requires { AreGiven (rules_of JobName.Lengths) (rows_of (found_of given.now)) }
+    ensures name { job_name result ≡ JobName.Lengths }
+    ensures words { HasWords result (rows_of (found_of given.now)) }
 {
-    let db = word_in(given, "DB")?;
-    Some(Job::Totals { db })
-}
-
-fn lengths_job<'a>(given: &ArgMatches<'a>) -> Option<Job<'a>>
-    ensures job { IfSome result (λ job. (job_name job ≡ JobName.Lengths)
-        × HasWords job (rows_of (found_of given.now))) }
-    ensures there { AreGiven (rules_of JobName.Lengths) (rows_of (found_of given.now))
-        → IsSome result }
-{
-    let db = word_in(given, "DB")?;
+    let db = given_word(given, "DB");
     let route = word_in(given, "route");
-    Some(Job::Lengths { db, route })
+    Job::Lengths { db, route }
 }
 
-fn find_job<'a>(given: &ArgMatches<'a>) -> Option<Job<'a>>
-    ensures job { IfSome result (λ job. (job_name job ≡ JobName.Find)
-        × HasWords job (rows_of (found_of given.now))) }
-    ensures there { AreGiven (rules_of JobName.Find) (rows_of (found_of given.now))
-        → IsSome result }
+fn find_job<'a>(given: &ArgMatches<'a>) -> Job<'a>
+    requires { AreGiven (rules_of JobName.Find) (rows_of (found_of given.now)) }
+    ensures name { job_name result ≡ JobName.Find }
+    ensures words { HasWords result (rows_of (found_of given.now)) }
 {
-    let db = word_in(given, "DB")?;
-    let asset = word_in(given, "ASSET")?;
-    Some(Job::Find { db, asset })
+    let db = given_word(given, "DB");
+    let asset = given_word(given, "ASSET");
+    Job::Find { db, asset }
 }
 
-fn list_job<'a>(given: &ArgMatches<'a>) -> Option<Job<'a>>
-    ensures job { IfSome result (λ job. (job_name job ≡ JobName.List)
-        × HasWords job (rows_of (found_of given.now))) }
-    ensures there { AreGiven (rules_of JobName.List) (rows_of (found_of given.now))
-        → IsSome result }
+fn list_job<'a>(given: &ArgMatches<'a>) -> Job<'a>
+    requires { AreGiven (rules_of JobName.List) (rows_of (found_of given.now)) }
+    ensures name { job_name result ≡ JobName.List }
+    ensures words { HasWords result (rows_of (found_of given.now)) }
 {
-    let db = word_in(given, "DB")?;
-    let what = word_in(given, "WHAT")?;
-    Some(Job::List { db, what })
+    let db = given_word(given, "DB");
+    let what = given_word(given, "WHAT");
+    Job::List { db, what }
 }
 
-fn rows_job<'a>(given: &ArgMatches<'a>) -> Option<Job<'a>>
-    ensures job { IfSome result (λ job. (job_name job ≡ JobName.Rows)
-        × HasWords job (rows_of (found_of given.now))) }
-    ensures there { AreGiven (rules_of JobName.Rows) (rows_of (found_of given.now))
-        → IsSome result }
+fn rows_job<'a>(given: &ArgMatches<'a>) -> Job<'a>
+    requires { AreGiven (rules_of JobName.Rows) (rows_of (found_of given.now)) }
+    ensures name { job_name result ≡ JobName.Rows }
+    ensures words { HasWords result (rows_of (found_of given.now)) }
 {
-    let db = word_in(given, "DB")?;
+    let db = given_word(given, "DB");
     let route = word_in(given, "route");
     let from = word_in(given, "from");
     let to = word_in(given, "to");
     let class = word_in(given, "class");
     let asset = word_in(given, "asset");
-    Some(Job::Rows {
+    Job::Rows {
         db,
         route,
         from,
         to,
         class,
         asset,
-    })
+    }
 }
 
-fn gone_job<'a>(given: &ArgMatches<'a>) -> Option<Job<'a>>
-    ensures job { IfSome result (λ job. (job_name job ≡ JobName.Gone)
-        × HasWords job (rows_of (found_of given.now))) }
-    ensures there { AreGiven (rules_of JobName.Gone) (rows_of (found_of given.now))
-        → IsSome result }
+fn gone_job<'a>(given: &ArgMatches<'a>) -> Job<'a>
+    requires { AreGiven (rules_of JobName.Gone) (rows_of (found_of given.now)) }
+    ensures name { job_name result ≡ JobName.Gone }
+    ensures words { HasWords result (rows_of (found_of given.now)) }
 {
-    let db = word_in(given, "DB")?;
+    let db = given_word(given, "DB");
     let edit = word_in(given, "edit");
-    Some(Job::Gone { db, edit })
+    Job::Gone { db, edit }
 }
 
-fn log_job<'a>(given: &ArgMatches<'a>) -> Option<Job<'a>>
-    ensures job { IfSome result (λ job. (job_name job ≡ JobName.Log)
-        × HasWords job (rows_of (found_of given.now))) }
-    ensures there { AreGiven (rules_of JobName.Log) (rows_of (found_of given.now))
-        → IsSome result }
+fn log_job<'a>(given: &ArgMatches<'a>) -> Job<'a>
+    requires { AreGiven (rules_of JobName.Log) (rows_of (found_of given.now)) }
+    ensures name { job_name result ≡ JobName.Log }
+    ensures words { HasWords result (rows_of (found_of given.now)) }
 {
-    let db = word_in(given, "DB")?;
+    let db = given_word(given, "DB");
     let from = word_in(given, "FROM");
     let key = word_in(given, "key");
-    Some(Job::Log { db, from, key })
+    Job::Log { db, from, key }
 }
 
-fn audit_job<'a>(given: &ArgMatches<'a>) -> Option<Job<'a>>
-    ensures job { IfSome result (λ job. (job_name job ≡ JobName.Audit)
-        × HasWords job (rows_of (found_of given.now))) }
-    ensures there { AreGiven (rules_of JobName.Audit) (rows_of (found_of given.now))
-        → IsSome result }
+fn audit_job<'a>(given: &ArgMatches<'a>) -> Job<'a>
+    requires { AreGiven (rules_of JobName.Audit) (rows_of (found_of given.now)) }
+    ensures name { job_name result ≡ JobName.Audit }
+    ensures words { HasWords result (rows_of (found_of given.now)) }
 {
-    let db = word_in(given, "DB")?;
-    Some(Job::Audit { db })
+    let db = given_word(given, "DB");
+    Job::Audit { db }
 }
 
-fn serve_job<'a>(given: &ArgMatches<'a>) -> Option<Job<'a>>
-    ensures job { IfSome result (λ job. (job_name job ≡ JobName.Serve)
-        × HasWords job (rows_of (found_of given.now))) }
-    ensures there { AreGiven (rules_of JobName.Serve) (rows_of (found_of given.now))
-        → IsSome result }
+fn serve_job<'a>(given: &ArgMatches<'a>) -> Job<'a>
+    requires { AreGiven (rules_of JobName.Serve) (rows_of (found_of given.now)) }
+    ensures name { job_name result ≡ JobName.Serve }
+    ensures words { HasWords result (rows_of (found_of given.now)) }
 {
-    let db = word_in(given, "DB")?;
-    let port = word_in(given, "PORT")?;
-    let max = word_in(given, "MAX")?;
+    let db = given_word(given, "DB");
+    let port = given_word(given, "PORT");
+    let max = given_word(given, "MAX");
     let sums = is_set(given, "sums");
     let log = is_set(given, "log");
     let end_on_fault = is_set(given, "end-on-fault");
-    Some(Job::Serve {
+    Job::Serve {
         db,
         port,
         max,
         sums,
         log,
         end_on_fault,
-    })
+    }
 }
 
-fn page_job<'a>(given: &ArgMatches<'a>) -> Option<Job<'a>>
-    ensures job { IfSome result (λ job. (job_name job ≡ JobName.Page)
-        × HasWords job (rows_of (found_of given.now))) }
-    ensures there { AreGiven (rules_of JobName.Page) (rows_of (found_of given.now))
-        → IsSome result }
+fn page_job<'a>(given: &ArgMatches<'a>) -> Job<'a>
+    requires { AreGiven (rules_of JobName.Page) (rows_of (found_of given.now)) }
+    ensures name { job_name result ≡ JobName.Page }
+    ensures words { HasWords result (rows_of (found_of given.now)) }
 {
-    let dir = word_in(given, "DIR")?;
-    Some(Job::Page { dir })
+    let dir = given_word(given, "DIR");
+    Job::Page { dir }
 }
 
 // The job of this name, with its words.
-fn job_with<'a>(
-    alloc: Global,
-    name: JobName,
-    given: &ArgMatches<'a>,
-) -> Result<Option<Job<'a>>, AllocError>
-    ensures job { IfOk result (λ found. IfSome found (λ job.
-        (job_name job ≡ name) × HasWords job (rows_of (found_of given.now)))) }
-    ensures there { AreGiven (rules_of name) (rows_of (found_of given.now))
-        → IfOk result (λ found. IsSome found) }
+fn job_with<'a>(alloc: Global, name: JobName, given: &ArgMatches<'a>) -> Result<Job<'a>, AllocError>
+    requires { AreGiven (rules_of name) (rows_of (found_of given.now)) }
+    ensures name { IfOk result (λ job. job_name job ≡ name) }
+    ensures words { IfOk result (λ job. HasWords job (rows_of (found_of given.now))) }
 {
     match name {
         JobName::Edit => Ok(edit_job(given)),
@@ -451,18 +408,17 @@ fn job_with<'a>(
     }
 }
 
-fn job_in<'a>(alloc: Global, matches: &ArgMatches<'a>) -> Result<Option<Job<'a>>, AllocError>
-    ensures job { IfOk result (λ found. IfSome found (λ job.
-        IsMet job (subcommand_rows_of matches.now))) }
-    ensures there { HasJobWords (subcommand_rows_of matches.now)
-        → IfOk result (λ found. IsSome found) }
+// The job that was met, with its words, which were given.
+fn job_in<'a>(alloc: Global, matches: &ArgMatches<'a>) -> Result<Job<'a>, AllocError>
+    requires { HasJobWords (subcommand_rows_of matches.now) }
+    ensures { IfOk result (λ job. IsMet job (subcommand_rows_of matches.now)) }
 {
     match matches.subcommand() {
         Some((name, given)) => match read_job(name) {
             Some(job) => job_with(alloc, job, given),
-            None => Ok(None),
+            None => unreachable!(),
         },
-        None => Ok(None),
+        None => unreachable!(),
     }
 }
 
@@ -484,8 +440,6 @@ pub fn job_of<'a>(alloc: Global, words: &'a [&'a str]) -> Result<Job<'a>, WordsF
         Ok(matches) => matches,
         Err(error) => return Err(fault_of(alloc, &error)),
     };
-    match job_in(alloc, &matches)? {
-        Some(job) => Ok(job),
-        None => unreachable!(),
-    }
+    let job = job_in(alloc, &matches)?;
+    Ok(job)
 }

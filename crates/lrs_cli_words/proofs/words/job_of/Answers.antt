@@ -1,16 +1,15 @@
-use Rattle.std.proofs.Common.{◌∙◌, IfSome, Option, rules, ap, inl, inr, is_some, map, subst, sym, true≢false}
-use Rattle.clap.specs.Words.{fault_of, kind_of, subcommand_rows_of}
-use Rattle.lrs_cli_words.specs.declared.job.Job.{Job}
+use Rattle.std.proofs.Common.{rules, inl, inr, map, subst}
+use Rattle.clap.specs.Words.{fault_of, kind_of}
 use Rattle.lrs_cli_words.specs.Words.{IsMet, line_of_program}
 use Rattle.lrs_cli_words.proofs.CommandLine.{among, kind_at}
 use Rattle.lrs_cli_words.proofs.JobThere.{met_rows, met_words}
 use Rattle.lrs_cli_words.proofs.words.job_of.Goals as goal
 
+pub job_in-requires : goal.job_in-requires
+job_in-requires c = met_words _ _ c.in-Ok.matches c.in_ok-command.ensures c.in-Ok.ensures.kinds c.in-Ok.ensures.matches
+
 pub returns-clause-job : goal.returns-clause-job
-returns-clause-job c =
-    let rows = subcommand_rows_of c.in-Ok.matches in
-    let met : IsMet c.in-Some.job rows = subst (λ (o : Option Job). IfSome o (λ j. IsMet j rows)) c.in-Some.is c.in_ok-job.ensures.job in
-    subst (IsMet c.in-Some.job) (met_rows _ _ c.in-Ok.matches c.in_ok-command.ensures c.in-Ok.ensures.matches) met
+returns-clause-job c = subst (IsMet c.in_ok-job.job) (met_rows _ _ c.in-Ok.matches c.in_ok-command.ensures c.in-Ok.ensures.matches) c.in_ok-job.ensures
 
 pub returns-in-Err-clause-help : goal.returns-in-Err-clause-help
 returns-in-Err-clause-help c text e =
@@ -32,8 +31,3 @@ returns-in-Err-clause-usage c text e =
       | inl h ↦ search (rules, c.fault_of.ensures.memory h)
       | inr h ↦ (kind_of c.in-Err.error, c.fault_of.ensures.other_than_help text (search rules), c.fault_of.ensures.other_than_version text (search rules), h)
     ]
-
-pub unreachable-requires : goal.unreachable-requires
-unreachable-requires c =
-    let there = c.in_ok-job.ensures.there (met_words _ _ c.in-Ok.matches c.in_ok-command.ensures c.in-Ok.ensures.kinds c.in-Ok.ensures.matches) in
-    true≢false (sym there ∙ ap is_some c.in-None.is)
