@@ -12,10 +12,11 @@ use Rattle.lrs_web_requests.specs.declared.paths.Resource.TheVariants as path
 use Rattle.lrs_web_requests.specs.declared.response.Response.{Response}
 use Rattle.lrs_web_replies.specs.Questions.{AsksLog, AsksOf, AsksReport, CannotAsk}
 use Rattle.lrs_web_replies.specs.declared.question.QueryFault.{QueryFault}
-use Rattle.lrs_web_replies.specs.Answered.{AnswersAsked, IsReplyTo}
+use Rattle.lrs_web_replies.specs.Answered.{IsReplyTo}
 use Rattle.lrs_web_replies.specs.declared.report.Report.{Report}
-use Rattle.lrs_web_replies.specs.Replies.{log_answer, unasked}
+use Rattle.lrs_web_replies.specs.Replies.{unasked}
 use Rattle.lrs_web_replies.specs.Reported.{AnswersReport}
+use Rattle.lrs_web.specs.Asked.{AnswersAsked, log_answer}
 
 pub answered : {E : Type 0} (i : Image) (resource : Resource) (argument : Text) (asked : Result Question QueryFault) (q : Question) (said : Result Told AskFault) (r : Result Response E)
     → asked ≡ Ok q → IfOk asked (AsksOf resource argument) → IsTold i q said → IfOk r (λ reply. IsReplyTo said (answer_of reply))

@@ -12,7 +12,7 @@ use Rattle.lrs_web_requests.specs.declared.paths.Resource.TheVariants as path
 use Rattle.lrs_web_requests.specs.declared.response.Verb.{Verb}
 use Rattle.lrs_web_requests.specs.Request.{Asked, Asks, refused, not_allowed, query, sheet}
 use Rattle.lrs_web_requests.specs.Text.{Answer, answer_text, empty_answer}
-use Rattle.lrs_web_replies.specs.Answered.{AnswersAsked}
+use Rattle.lrs_web.specs.Asked.{AnswersAsked}
 use Rattle.lrs_web.specs.Sheets.{DoesSheet}
 
 -- the kind of sheet that a resource does

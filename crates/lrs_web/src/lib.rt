@@ -2,6 +2,7 @@
 #![tactic(auto)]
 
 mod door;
+mod log;
 mod request;
 mod sheet;
 

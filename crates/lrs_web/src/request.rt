@@ -3,22 +3,21 @@
 ghost use Rattle.std.specs.Prelude.{◌≡◌, ◌⊎◌, IfOk, IfSome, Err, true, false};
 ghost use Rattle.lrs_web_requests.specs.Request.{Asked, IsServed, asked_by};
 ghost use Rattle.lrs_web_requests.specs.Text.{Answer, answer_of, empty_answer};
-ghost use Rattle.lrs_web_replies.specs.Answered.{AnswersAsked};
 ghost use Rattle.lrs_web_replies.specs.Questions.{is_reported};
-ghost use Rattle.lrs_web_replies.specs.Replies.{log_answer};
 ghost use Rattle.lrs_web_replies.specs.Reported.{AnswersReport};
 ghost use Rattle.lrs_web_requests.specs.declared.paths.Resource.TheVariants as path;
 ghost use Rattle.lrs_web_requests.specs.Request.{verb_of};
 ghost use Rattle.lrs_web_requests.specs.declared.response.Verb.TheVariants.{Get};
+ghost use Rattle.lrs_web.specs.Asked.{AnswersAsked, log_answer};
 ghost use Rattle.lrs_web.specs.Serving.{Does, Responds, Serves, Writes, allowed_answer, sheet_at};
 
+use crate::log::log_reply;
 use crate::sheet::do_sheet;
 use http::StatusCode;
 use lrs_desk::{Desk, Keeper};
 use lrs_sheet::Sheet;
 use lrs_web_replies::{
-    Report, is_reported, log_from, log_reply, question_of, reply_to, report_of, report_reply,
-    unasked,
+    Report, is_reported, log_from, question_of, reply_to, report_of, report_reply, unasked,
 };
 use lrs_web_requests::{
     BodyFault, Request, Resource, Response, Verb, receive, routes, write_reply, write_unavailable,

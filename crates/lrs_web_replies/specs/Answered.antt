@@ -1,22 +1,16 @@
--- What a question, or a request for the log or for a report, is answered over HTTP, for the image that is kept.
-use Rattle.std.specs.Prelude.{◌≡◌, ◌⊎◌, ℕ, Result, Ok, Err}
+-- What a question is answered over HTTP, for the image that is kept.
+use Rattle.std.specs.Prelude.{◌≡◌, Result, Ok, Err}
 use Rattle.serde_json.specs.Data.{Data}
 use Rattle.lrs_machine.specs.declared.image.Image.{Image}
 use Rattle.lrs_machine.specs.declared.question.Question.{Question}
-use Rattle.lrs_machine.specs.Lines.{Text}
 use Rattle.lrs_answers.specs.declared.fault.AskFault.{AskFault}
 use Rattle.lrs_answers.specs.declared.told.Told.{Told}
 use Rattle.lrs_answers.specs.declared.told.Told.TheVariants as told
 use Rattle.lrs_answers.specs.Told.{IsTold}
 use Rattle.lrs_diagram.specs.Drawing.{diagram_text}
 use Rattle.lrs_web_requests.specs.Text.{Answer}
-use Rattle.lrs_web_requests.specs.declared.paths.Resource.{Resource}
 use Rattle.lrs_web_replies.specs.Answers.{at_data, ShowsRoute, segments_data, translated_data, on_link_data, routes_data, totals_data, found_data}
-use Rattle.lrs_web_replies.specs.Questions.{AsksLog, AsksOf, AsksReport, CannotAsk}
-use Rattle.lrs_web_replies.specs.declared.question.QueryFault.{QueryFault}
-use Rattle.lrs_web_replies.specs.declared.report.Report.{Report}
-use Rattle.lrs_web_replies.specs.Replies.{json_answer, log_answer, svg_answer, refusal, unasked}
-use Rattle.lrs_web_replies.specs.Reported.{AnswersReport}
+use Rattle.lrs_web_replies.specs.Replies.{json_answer, svg_answer, refusal}
 
 -- The table: the reply to each answer. A diagram is a picture, and any other answer is JSON.
 abbrev pub ShowsTold : Told → Answer → Type 0
@@ -38,11 +32,3 @@ IsReplyTo (Err fault) answer = answer ≡ refusal fault
 -- What the inventory of this image tells to a question is the reply.
 abbrev pub AnswersQuestion : Image → Question → Answer → Type 0
 AnswersQuestion i q answer = (said : Result Told AskFault) × IsTold i q said × IsReplyTo said answer
-
--- What a resource answers to an argument: the question that it asks, or the log, or a report, or why it asks for nothing.
-abbrev pub AnswersAsked : Image → Resource → Text → Answer → Type 0
-AnswersAsked i resource argument answer =
-    ((q : Question) × AsksOf resource argument q × AnswersQuestion i q answer)
-    ⊎ ((from : ℕ) × AsksLog resource argument from × (answer ≡ log_answer from i))
-    ⊎ ((r : Report) × AsksReport resource argument r × AnswersReport i r answer)
-    ⊎ ((fault : QueryFault) × CannotAsk resource argument fault × (answer ≡ unasked fault))

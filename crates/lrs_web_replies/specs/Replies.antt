@@ -1,17 +1,14 @@
--- Replies with a body: JSON, a picture or the log, and why there is no answer.
+-- Replies with a body: JSON or a picture, and why there is no answer.
 use Rattle.std.specs.Prelude.{ℕ, ◌++◌, Option, None, Some, Result, Ok, Err, codes}
 use Rattle.serde_json.specs.Data.{Data}
 use Rattle.serde_json.specs.Written.{compact_text}
-use Rattle.lrs_machine.specs.Image.{state_of}
 use Rattle.lrs_machine.specs.Lines.{Text}
-use Rattle.lrs_machine.specs.declared.image.Image.{Image}
-use Rattle.lrs_log.specs.Log.{edits_from, log_text}
 use Rattle.lrs_answers.specs.declared.fault.AskFault.{AskFault}
 use Rattle.lrs_answers.specs.declared.cause.AskCause.{AskCause}
 use Rattle.lrs_answers.specs.declared.cause.AskCause.TheVariants as cause
 use Rattle.lrs_answers.specs.Causes.{cause_of, cause_text}
 use Rattle.lrs_web_requests.specs.declared.response.ContentType.{ContentType}
-use Rattle.lrs_web_requests.specs.declared.response.ContentType.TheVariants.{Json, Csv, Svg}
+use Rattle.lrs_web_requests.specs.declared.response.ContentType.TheVariants.{Json, Svg}
 use Rattle.lrs_web_requests.specs.Text.{Answer, empty_answer}
 use Rattle.lrs_web_replies.specs.Answers.{error_data}
 use Rattle.lrs_web_replies.specs.Questions.{parameter_text}
@@ -32,10 +29,6 @@ json_answer status d = json_bytes status (compact_text d)
 -- these bytes are a picture
 abbrev pub svg_answer : Text → Answer
 svg_answer = answer_with 200 Svg
-
--- the edits of an image from this one on, as an edit sheet
-abbrev pub log_answer : ℕ → Image → Answer
-log_answer from i = answer_with 200 Csv (log_text (edits_from from (state_of i).done))
 
 abbrev pub error_answer : ℕ → Text → Answer
 error_answer status cause = json_answer status (error_data cause)

@@ -1,5 +1,4 @@
-//! Questions over HTTP, asked by the parameters of a query and answered as JSON (RFC 8259) or SVG; reports, as JSON; and the
-//! log, as CSV.
+//! Questions over HTTP, asked by the parameters of a query and answered as JSON (RFC 8259) or SVG; and reports, as JSON.
 #![tactic(auto)]
 
 mod absence;
@@ -16,7 +15,7 @@ mod report;
 mod reports;
 
 pub use question::{Parameter, QueryFault, log_from, question_of};
-pub use replies::{log_reply, reply_to};
+pub use replies::reply_to;
 pub use reply::unasked;
 pub use report::{Report, is_reported, report_of};
 pub use reports::report_reply;

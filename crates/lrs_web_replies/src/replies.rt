@@ -1,24 +1,19 @@
-//! Replies to questions, and the log as a reply.
+//! Replies to questions.
 
 ghost use Rattle.std.specs.Prelude.{◌≡◌, IfOk};
-ghost use Rattle.lrs_machine.specs.Image.{state_of};
-ghost use Rattle.lrs_image.specs.Kept.{image_of};
 ghost use Rattle.lrs_diagram.specs.Drawing.{diagram_text};
-ghost use Rattle.lrs_log.specs.Log.{edits_from, log_text};
 ghost use Rattle.lrs_web_requests.specs.Text.{answer_of};
 ghost use Rattle.lrs_web_replies.specs.Answered.{IsReplyTo, ShowsTold};
-ghost use Rattle.lrs_web_replies.specs.Replies.{json_bytes, log_answer};
+ghost use Rattle.lrs_web_replies.specs.Replies.{json_bytes};
 
 use crate::answers::{
     at_json, found_json, link_json, route_json, routes_json, segments_json, totals_json,
     translated_json,
 };
-use crate::reply::{csv_reply, json_reply, refusal, svg_reply};
+use crate::reply::{json_reply, refusal, svg_reply};
 use http::StatusCode;
 use lrs_answers::{AskFault, Told};
 use lrs_diagram::{Diagram, write_diagram};
-use lrs_image::KeptImage;
-use lrs_log::write_log;
 use lrs_web_requests::Response;
 use std::alloc::{AllocError, Global};
 
@@ -82,26 +77,4 @@ pub fn reply_to(alloc: Global, told: Result<Told, AskFault>) -> Result<Response,
         Ok(told) => told_reply(alloc, &told),
         Err(fault) => refusal(alloc, fault),
     }
-}
-
-// A vector takes every byte that it is given, unless memory runs out.
-fn log_bytes(alloc: Global, kept: &KeptImage, from: u64) -> Result<Vec<u8>, AllocError>
-    ensures { IfOk result (λ bytes. bytes.items
-        ≡ log_text (edits_from from (state_of (image_of kept.now)).done)) }
-{
-    let mut bytes = Vec::new(alloc);
-    match write_log(&mut bytes, kept, from) {
-        Ok(()) => Ok(bytes),
-        Err(_) => Err(AllocError),
-    }
-}
-
-/// The reply with the edits of an inventory from a number on, as an edit sheet.
-///
-/// # Errors
-/// When memory runs out.
-pub fn log_reply(alloc: Global, kept: &KeptImage, from: u64) -> Result<Response, AllocError>
-    ensures { IfOk result (λ reply. answer_of reply ≡ log_answer from (image_of kept.now)) }
-{
-    Ok(csv_reply(log_bytes(alloc, kept, from)?))
 }

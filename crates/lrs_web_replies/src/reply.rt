@@ -1,4 +1,4 @@
-//! Replies that are JSON, a picture or a sheet.
+//! Replies that are JSON or a picture.
 
 ghost use Rattle.std.specs.Prelude.{◌≡◌, IfOk};
 ghost use Rattle.lrs_web_requests.specs.Text.{answer_of};
@@ -33,13 +33,6 @@ pub(crate) fn svg_reply(bytes: Vec<u8>) -> Response
     ensures { answer_of result ≡ spec.svg_answer bytes.items }
 {
     reply_with(StatusCode::OK, ContentType::Svg, bytes)
-}
-
-/// A reply with a sheet, as these bytes of CSV.
-pub(crate) fn csv_reply(bytes: Vec<u8>) -> Response
-    ensures { answer_of result ≡ spec.answer_with 200 ContentType.Csv bytes.items }
-{
-    reply_with(StatusCode::OK, ContentType::Csv, bytes)
 }
 
 /// A reply that names why there is no answer.
