@@ -51,11 +51,19 @@ fn broken(rt: &impl Abort, alloc: Global, leaves: Leaves) -> Desk<Failing> {
     desk
 }
 
+/// Whether totals are told.
+fn told(desk: &Desk<Failing>) -> Result<(), AskFault> {
+    match desk.totals() {
+        Ok(_) => Ok(()),
+        Err(fault) => Err(fault),
+    }
+}
+
 /// The image is as before the command whose commit failed, and questions go on.
 fn after_a_failed_commit_of_one_questions_go_on(rt: &impl Abort, alloc: Global) {
     let mut desk = broken(rt, alloc, Leaves::Old);
     assert_eq!(rt; act(rt, &mut desk, "s3", THIRD), Err(Fault::MustReopen));
-    assert!(rt; desk.totals().is_ok());
+    assert_eq!(rt; told(&desk), Ok(()));
     assert_eq!(rt; desk.inventory().links(), 1);
 }
 
@@ -68,23 +76,30 @@ fn a_command_that_was_kept_is_done_no_second_time(rt: &impl Abort, alloc: Global
     }
 }
 
+/// Why two commands are not done by one commit.
+fn fault_of_two(rt: &impl Abort, desk: &mut Desk<Failing>) -> Option<Fault> {
+    let both = [command(rt, "s2", SECOND), command(rt, "s3", THIRD)];
+    match desk.act_on_first(&both) {
+        Ok(_) => None,
+        Err(fault) => Some(fault),
+    }
+}
+
+/// How many links an opening finds.
+fn links_found(keeper: Failing, alloc: Global) -> Option<u64> {
+    match Desk::open(keeper, Limits::full(), alloc) {
+        Ok(desk) => Some(desk.inventory().links()),
+        Err(_) => None,
+    }
+}
+
 /// Two links are in flight together: the image is ahead, so that no question is answered.
 fn after_a_failed_commit_of_two_questions_ask_for_a_reopening(rt: &impl Abort, alloc: Global) {
     let mut desk = open(rt, alloc, Leaves::Old);
     assert_eq!(rt; act(rt, &mut desk, "s1", FIRST), Ok(Answer::Done(1)));
-    let both = [command(rt, "s2", SECOND), command(rt, "s3", THIRD)];
-    assert!(rt;
-        desk.act_on_first(&both)
-            .is_err_and(|fault| fault == Fault::Keep)
-    );
-    assert!(rt;
-        desk.totals()
-            .is_err_and(|fault| fault == AskFault::MustReopen)
-    );
-    match Desk::open(desk.into_keeper(), Limits::full(), alloc) {
-        Ok(desk) => assert_eq!(rt; desk.inventory().links(), 1),
-        Err((fault, _)) => panic!(rt; "{fault:?}"),
-    }
+    assert_eq!(rt; fault_of_two(rt, &mut desk), Some(Fault::Keep));
+    assert_eq!(rt; told(&desk), Err(AskFault::MustReopen));
+    assert_eq!(rt; links_found(desk.into_keeper(), alloc), Some(1));
 }
 
 fn a_keeper_that_is_not_loaded_is_no_desk(rt: &impl Abort, alloc: Global) {

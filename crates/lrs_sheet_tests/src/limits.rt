@@ -1,7 +1,5 @@
 //! A sheet over an inventory that may hold few edits and routes: the program's own limits are beyond a test's time.
 
-ghost use Rattle.std.specs.Prelude.{◌≤◌};
-
 use lrs_desk::{Desk, Plain};
 use lrs_machine::Limits;
 use lrs_sheet::{Sheet, SheetFault, Tally, run_edits, run_sheet, run_survey};
@@ -27,32 +25,39 @@ const SURVEY: &str =
 
 const SURVEY_REPLY: &str = "t9,refused,TooMany:edits\n";
 
-/// Does the sheet, this many records together; where that is one, as `run_edits` does it.
-fn done(
+/// Does a sheet record by record: how that ends, and what is written.
+fn done_one_by_one(
     alloc: Global,
-    together: usize,
-    written: &mut Vec<u8>,
+    sheet: &[u8],
     desk: &mut Desk<Plain>,
-) -> Result<Tally, SheetFault>
-    requires { 1 ≤ together }
-{
-    let sheet = SHEET.as_bytes();
-    if together == 1 {
-        return run_edits(alloc, sheet, written, desk);
-    }
-    run_sheet(alloc, Sheet::Edits, together, sheet, written, desk)
+) -> (Result<Tally, SheetFault>, Vec<u8>) {
+    let mut written = Vec::new(alloc);
+    let ended = run_edits(alloc, sheet, &mut written, desk);
+    (ended, written)
 }
 
-/// Does the sheet, this many records together, and then the survey.
-fn no_more_is_taken(rt: &(impl Abort + Print + AllocGlobal), together: usize) -> Result<(), Fail>
-    requires { 1 ≤ together }
-{
+/// Does a sheet, ten records together: how that ends, and what is written.
+fn done_together(
+    alloc: Global,
+    sheet: &[u8],
+    desk: &mut Desk<Plain>,
+) -> (Result<Tally, SheetFault>, Vec<u8>) {
+    let mut written = Vec::new(alloc);
+    let ended = run_sheet(alloc, Sheet::Edits, 10, sheet, &mut written, desk);
+    (ended, written)
+}
+
+/// Does the sheet, and then the survey.
+fn no_more_is_taken(rt: &(impl Abort + Print + AllocGlobal), together: bool) -> Result<(), Fail> {
     let alloc = rt.alloc();
     let Ok(mut desk) = Desk::open(Plain::empty(alloc), FEW, alloc) else {
         return Err(Fail::from("no desk"));
     };
-    let mut written = Vec::new(alloc);
-    let result = done(alloc, together, &mut written, &mut desk);
+    let (result, written) = if together {
+        done_together(alloc, SHEET.as_bytes(), &mut desk)
+    } else {
+        done_one_by_one(alloc, SHEET.as_bytes(), &mut desk)
+    };
     assert_eq!(rt; written.as_slice(), REPLIES.as_bytes());
     let tally = Tally {
         done: 6,
@@ -75,6 +80,6 @@ fn no_more_is_taken(rt: &(impl Abort + Print + AllocGlobal), together: usize) ->
 // One record at a time, and together, where groups end at refusals.
 #[test]
 fn a_full_inventory_takes_no_more(rt: HostRuntime) -> Result<(), Fail> {
-    no_more_is_taken(&rt, 1)?;
-    no_more_is_taken(&rt, 10)
+    no_more_is_taken(&rt, false)?;
+    no_more_is_taken(&rt, true)
 }

@@ -8,35 +8,12 @@ ghost use Rattle.std.specs.Prelude.{◌≤◌};
 use lrs_desk::{Desk, Plain};
 use lrs_machine::Limits;
 use lrs_sheet::{Sheet, SheetFault, Tally, run_sheet};
-use std::alloc::{AllocError, Global};
+use std::alloc::Global;
 use std::process::Abort;
 
-const LINES: [&str; 24] = [
-    "key,verb,a,b,c,d,e,f,g,h,i",
-    "s1,link,1,5000,,,,,,,",
-    "s2,link,2,3000,,,,,,,",
-    "s3,link,3,2000,,,,,,,",
-    "s4,class,SPEED,exclusive,,,,,,,",
-    "s5,class,RAIL,stretch,,,,,,,",
-    "s6,class,SIGN,point,,,,,,,",
-    "s7,route,A1,1:0:5000:+ 2:0:3000:-,0:0 5000:6000 8000:9000,,,,,,",
-    "e1,enter,10,SPEED,A1,B,abs,3000,9000,80,0",
-    "p1,enter,20,SIGN,A1,L,abs,9000,,STOP,0",
-    "t1,enter,30,RAIL,A1,R,int,1/3,2/3,STEEL,0",
-    "r1,ref,KM2,A1,abs,3,,,,,",
-    "r2,ref,KM6,A1,abs,6003,,,,,",
-    "m1,retire,10,A1,abs,5000,6000,,,,",
-    "j1,supersede,12,SPEED,A1,L,abs,3000,4000,50,0",
-    "e4,split,A1,5000,A2,,,,,,",
-    "e5,join,A1,A2,,,,,,,",
-    "j2,turn,A1,,,,,,,,",
-    "j3,turn,A1,,,,,,,,",
-    "e6,recalibrate,A1,0:0 8000:8000,,,,,,,",
-    "e8,realign,A1,4000,6000,3:0:2000:+,0:0 8000:8000,,,,",
-    "n1,renumber,A1,B1,,,,,,,",
-    "u1,unref,KM2,,,,,,,,",
-    "c1,close,B1,,,,,,,,",
-];
+/// The sheet.
+const SHEET: &str =
+    "key,verb,a,b,c,d,e,f,g,h,i\ns1,link,1,5000,,,,,,,\ns2,link,2,3000,,,,,,,\ns3,link,3,2000,,,,,,,\ns4,class,SPEED,exclusive,,,,,,,\ns5,class,RAIL,stretch,,,,,,,\ns6,class,SIGN,point,,,,,,,\ns7,route,A1,1:0:5000:+ 2:0:3000:-,0:0 5000:6000 8000:9000,,,,,,\ne1,enter,10,SPEED,A1,B,abs,3000,9000,80,0\np1,enter,20,SIGN,A1,L,abs,9000,,STOP,0\nt1,enter,30,RAIL,A1,R,int,1/3,2/3,STEEL,0\nr1,ref,KM2,A1,abs,3,,,,,\nr2,ref,KM6,A1,abs,6003,,,,,\nm1,retire,10,A1,abs,5000,6000,,,,\nj1,supersede,12,SPEED,A1,L,abs,3000,4000,50,0\ne4,split,A1,5000,A2,,,,,,\ne5,join,A1,A2,,,,,,,\nj2,turn,A1,,,,,,,,\nj3,turn,A1,,,,,,,,\ne6,recalibrate,A1,0:0 8000:8000,,,,,,,\ne8,realign,A1,4000,6000,3:0:2000:+,0:0 8000:8000,,,,\nn1,renumber,A1,B1,,,,,,,\nu1,unref,KM2,,,,,,,,\nc1,close,B1,,,,,,,,\n";
 
 const RECORDS: u64 = 23;
 
@@ -56,16 +33,6 @@ fn open(rt: &(impl Abort + Print + AllocGlobal)) -> Desk<Plain> {
         Ok(desk) => desk,
         Err((fault, _)) => panic!(rt; "{fault:?}"),
     }
-}
-
-/// The sheet.
-fn sheet(alloc: Global) -> Result<String, AllocError> {
-    let mut sheet = String::new(alloc);
-    for line in LINES {
-        sheet.push_str(line)?;
-        sheet.push('\n')?;
-    }
-    Ok(sheet)
 }
 
 /// Runs a sheet at a desk, this many records together.
@@ -93,18 +60,11 @@ fn all_verbs_are_done(rt: &(impl Abort + Print + AllocGlobal), together: usize)
     requires { 1 ≤ together }
 {
     let alloc = rt.alloc();
-    let text = match sheet(alloc) {
-        Ok(text) => text,
-        Err(_) => {
-            refused(rt, "sheet");
-            sheet(alloc).expect(rt, "memory")
-        }
-    };
     let mut desk = open(rt);
-    let mut ended = run(alloc, text.as_str(), together, &mut desk);
+    let mut ended = run(alloc, SHEET, together, &mut desk);
     if ended.is_err() {
         refused(rt, "run_sheet");
-        ended = run(alloc, text.as_str(), together, &mut desk);
+        ended = run(alloc, SHEET, together, &mut desk);
     }
     match ended {
         Ok(tally) => {
