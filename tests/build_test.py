@@ -8,7 +8,7 @@ import tempfile
 import time
 
 from program import BUILT, FIRST, FIRST_REPLIES, ends
-from trees import OTHER_COMMANDS, in_tree
+from trees import BASIC, in_tree, only
 
 # What rt finds where it is called: what a check of the program's crates reads, and what the program is run on.
 COPIED = [
@@ -112,18 +112,16 @@ def test_nothing_is_left_of_a_build():
         for refused in ["low", ""]:
             tree.run(refused=refused, env={"TMPDIR": str(rooms)})
             assert not list(rooms.iterdir())
-            assert not list((tree.top / "out" / "release").iterdir())
+            # what it notes of sources that are some seconds old is for the next run
+            assert {path.name for path in (tree.top / "out" / "release").iterdir()} in (set(), {"names", "states"})
 
     in_tree(test)
 
 
 def test_the_toolchain_is_not_there():
     def test(tree):
-        if shutil.which("rt", path=OTHER_COMMANDS):
-            return
-        tree.forget_rt()
         said = b"roadlrs: there is no release, and the toolchain's command rt is not on the path to build the program\n"
-        ends(tree.run(), b"", 70, said)
+        ends(tree.run(env=only(tree.folder / "few", *BASIC)), b"", 70, said)
 
     in_tree(test)
 

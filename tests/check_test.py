@@ -6,7 +6,7 @@ import tempfile
 
 import pytest
 
-from program import FIRST, FIRST_REPLIES, HEADER, ends, faults, record, run, sheet_of
+from program import FIRST, FIRST_REPLIES, HEADER, ends, faults, lines, record, run, sheet_of
 from resume_test import REPLIES, ROWS, SHEET
 from stores import MORE, digest, edit, make, rows_of, settle
 
@@ -71,9 +71,9 @@ def test_a_check_of_a_survey(top):
 @pytest.mark.parametrize("sheet", [b"a,b\n", FIRST + b"of one field\n", b""])
 def test_a_check_of_a_broken_sheet(top, sheet):
     db = top / "roads.db"
-    edit(db, sheet_of("z1,link,9,9"))
+    ends(edit(db, sheet_of("z1,link,9,9")), b"z1,done,1\n", 0)
     said = checked(db, "stdin", given=sheet)
-    edit(top / "copy.db", sheet_of("z1,link,9,9"))
+    ends(edit(top / "copy.db", sheet_of("z1,link,9,9")), b"z1,done,1\n", 0)
     done = edit(top / "copy.db", sheet)
     assert (said.stdout, said.status) == (done.stdout, done.status) and said.stderr.endswith(done.stderr), (said, done)
 
@@ -140,7 +140,7 @@ def test_all_of_a_survey(top):
 def test_all_of_the_rest(top):
     """With --resume it is the rest that must be accepted: x1 and x2 before it were refused, and are decided."""
     db = top / "roads.db"
-    edit(db, sheet_of(*(text for text, _ in ROWS[:4])))
+    ends(edit(db, sheet_of(*(text for text, _ in ROWS[:4]))), lines(*(reply for _, reply in ROWS[:4])), 1)
     rest = sheet_of(*(text for text, _ in ROWS[:4]), "k4,link,2,7")
     ends(run("edit", db, "stdin", "--all", "--resume", given=rest), b"k4,done,4\n", 0, b"resumes behind record 4, key k3\n")
 

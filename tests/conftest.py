@@ -4,7 +4,7 @@ import subprocess
 
 import pytest
 
-pytest.register_assert_rewrite("program")
+pytest.register_assert_rewrite("program", "worked_example")
 
 from program import PROGRAM
 

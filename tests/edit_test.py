@@ -5,7 +5,7 @@ import tempfile
 
 import pytest
 
-from program import FIRST, FIRST_REPLIES, HEADER, after_first, ends, faults, lines, record, replies, run, run_sheet, sheet_of
+from program import FIRST, FIRST_REPLIES, HEADER, after_first, ends, faults, lines, record, replies, run, run_sheet
 
 MARK = b"\xef\xbb\xbf"
 

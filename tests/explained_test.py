@@ -162,7 +162,7 @@ def test_an_inventory_that_has_to_be_there(top, words):
 
 
 def test_an_inventory_that_is_there(top):
-    edit(top / "roads.db", sheet_of("z1,link,9,9"))
+    ends(edit(top / "roads.db", sheet_of("z1,link,9,9")), b"z1,done,1\n", 0)
     ends(run("edit", str(top / "roads.db"), "stdin", "--existing", given=FIRST), FIRST_REPLIES.replace(b"done,7", b"done,8").replace(b"done,6", b"done,7").replace(b"done,5", b"done,6").replace(b"done,4", b"done,5").replace(b"done,3", b"done,4").replace(b"done,2", b"done,3").replace(b"done,1", b"done,2"), 0)
     ends(run("totals", ":memory:", "--existing"), b"", 0)
 
@@ -182,9 +182,9 @@ def ends_quietly(words, given=b""):
 
 
 def test_a_reader_that_goes(top):
-    sheet, _ = long_sheet(500)
+    sheet, replies = long_sheet(500)
     ends_quietly(["edit", ":memory:", "stdin"], sheet)
-    edit(top / "roads.db", sheet)
+    ends(edit(top / "roads.db", sheet), replies, 0)
     for words in (["list", top / "roads.db", "links"], ["log", top / "roads.db"], ["--help"], ["help", "enter"]):
         ends_quietly(words)
 

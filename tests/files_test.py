@@ -7,10 +7,11 @@ import shutil
 import sqlite3
 import subprocess
 
-from program import FIRST, FIRST_REPLIES, HEADER, PATIENCE, PROGRAM, Ended, ends, faults, lines, record, run, sheet_of
+from program import BUILT, FIRST, FIRST_REPLIES, HEADER, PATIENCE, PROGRAM, Ended, ends, faults, lines, record, run, sheet_of
 from stores import (
     MORE,
     MORE_REPLIES,
+    MORE_ROWS,
     TABLES,
     TEXTS,
     as_first,
@@ -37,21 +38,32 @@ SURVEY_HEADER = b"key,asset,class,route,side,method,from,to,value,offset\n"
 def test_a_sheet_over_a_file_is_answered_as_in_memory():
     with folder() as path:
         sheet = FIRST + more_sheet(*MORE)[len(HEADER) :]
-        in_memory = edit(":memory:", sheet)
-        ends(edit(path, sheet), in_memory.stdout, in_memory.status)
+        for db in (":memory:", path):
+            ends(edit(db, sheet), FIRST_REPLIES + MORE_REPLIES, 0)
         is_whole(path)
+
+
+def test_the_rows_of_the_sheet_of_all_tables():
+    """Each row of each table, whether the sheet comes at once or record by record."""
+    assert list(MORE_ROWS) == list(TABLES) and all(MORE_ROWS.values())
+    with folder() as path:
+        make_full(path)
+        assert rows_of(path) == MORE_ROWS
+    with folder() as path:
+        make(path)
+        for number, text in enumerate(MORE, 8):
+            ends(edit(path, more_sheet(text)), lines(f"{text[:2]},done,{number}"), 0)
+        assert rows_of(path) == MORE_ROWS
 
 
 def test_an_inventory_is_there_again():
     with folder() as path:
         make_full(path)
-        before = rows_of(path)
         ends(edit(path, FIRST), AGAIN, 0)
         ends(edit(path, more_sheet(*MORE)), MORE_REPLIES.replace(b"done", b"again"), 0)
+        assert rows_of(path) == MORE_ROWS
         ends(edit(path, more_sheet("e7,enter,10,RAIL,A1,L,abs,0,10,x,0", "e8,link,9,5")), lines("e7,refused,AssetKnown", "e8,done,14"), 1)
-        after = rows_of(path)
-        assert after["edit"][:13] == before["edit"] and len(after["edit"]) == 14
-        assert after["span"] == before["span"]
+        assert rows_of(path) == {**MORE_ROWS, "link": [*MORE_ROWS["link"], (9, 5)], "edit": [*MORE_ROWS["edit"], (14, "e8", "link,9,5")]}
 
 
 def size_of_a_page(path, *first):
@@ -135,16 +147,19 @@ def test_a_file_with_sums_tells_a_changed_bit():
     drawn = random.Random(7)
     with folder() as path, folder() as other:
         ends(run("edit", "--sums", str(path), "stdin", given=FIRST), FIRST_REPLIES, 0)
-        assert edit(path, more_sheet(*MORE)).status == 0
-        kept = rows_of(path)
+        ends(edit(path, more_sheet(*MORE)), MORE_REPLIES, 0)
+        assert rows_of(path) == MORE_ROWS
+        told = 0
         for _ in range(60):
             other.write_bytes(flipped(path, drawn.randrange(8 * path.stat().st_size)))
             log_of(other).unlink(missing_ok=True)
             ended = edit(other, HEADER)
             if ended.status == 0:
-                assert rows_of(other) == kept
+                assert rows_of(other) == MORE_ROWS
             else:
                 faults(ended, "Open")
+                told += 1
+        assert told > 40, told
 
 
 def test_a_file_goes_on_as_it_was_made():
@@ -186,29 +201,39 @@ def test_the_shell_opens_the_file():
     with folder() as path:
         make_full(path)
         told = shell(path, "PRAGMA integrity_check; PRAGMA foreign_key_check; SELECT v FROM version; SELECT max(number) FROM edit")
-        assert told in (None, b"ok\n2\n13\n"), told
+        assert told == b"ok\n2\n13\n"
 
 
 def test_the_rows_of_the_first_sheet():
     with folder() as path:
         make(path, "e1,enter,10,SPEED,A1,B,abs,3000,9000,80,0")
         found = rows_of(path)
-        assert found["link"] == [(1, 5000), (2, 3000), (3, 2000)]
-        assert found["class"] == [("RAIL", 1), ("SIGN", 0), ("SPEED", 2)]
+        assert (found["link"], found["class"]) == (MORE_ROWS["link"], MORE_ROWS["class"])
         assert found["piece"] == [("A1", 0, 1, 0, 5000, 0), ("A1", 1, 2, 0, 3000, 1)]
         assert found["mark"] == [("A1", 0, 0, 0), ("A1", 1, 5000, 6000), ("A1", 2, 8000, 9000)]
         assert found["asset"] == [(10, "SPEED", "80", 0)] and found["origin"] == [(10, 8)]
         assert found["span"] == [(10, "A1", 2500, 8000, 2)]
         assert sorted(found["entered"]) == [(8, 10, 1, 2500, 5000, 0), (8, 10, 1, 2500, 5000, 1), (8, 10, 2, 0, 3000, 0), (8, 10, 2, 0, 3000, 1)]
-        assert found["edit"][0] == (1, "s1", "link,1,5000") and len(found["edit"]) == 8
+        assert found["edit"] == MORE_ROWS["edit"][:8]
+        assert found["version"] == [(2,)] and found["ref"] == found["gone"] == []
+
+
+# what comes after the sheet of all tables, and the replies
+COMMANDS = [
+    ("e7,turn,A2", "e7,done,14"),
+    ("e8,join,A1,A2", "e8,done,15"),
+    ("e9,renumber,A1,B1", "e9,done,16"),
+    ("f1,supersede,30,SPEED,B1,L,abs,3000,4000,100,0", "f1,done,17"),
+    ("f2,close,B1", "f2,done,18"),
+    ("f3,unref,KM2", "f3,refused,NoRef"),
+]
 
 
 def test_each_command_leaves_a_whole_file():
     with folder() as path:
         ends(edit(path, FIRST), FIRST_REPLIES, 0)
-        for text in (*MORE, "e7,turn,A2", "e8,join,A1,A2", "e9,renumber,A1,B1", "f1,supersede,30,SPEED,B1,L,abs,3000,4000,100,0", "f2,close,B1", "f3,unref,KM2"):
-            ended = edit(path, more_sheet(text))
-            assert ended.status in (0, 1) and ended.stderr == b"", (text, ended)
+        for text, reply in [*zip(MORE, MORE_REPLIES.decode().splitlines()), *COMMANDS]:
+            ends(edit(path, more_sheet(text)), lines(reply), 1 if "refused" in reply else 0)
             is_whole(path)
 
 
@@ -218,20 +243,18 @@ def test_each_command_leaves_a_whole_file():
 def test_a_store_of_the_first_version_is_brought_up():
     with folder() as path:
         make_full(path)
-        before = rows_of(path)
         as_first(path)
         ends(edit(path, more_sheet(*MORE)), MORE_REPLIES.replace(b"done", b"again"), 0)
         is_whole(path)
-        assert rows_of(path) == before
+        assert rows_of(path) == MORE_ROWS
 
 
 def test_a_store_of_the_first_version_with_its_last_table_is_brought_up():
     with folder() as path:
         make_full(path)
-        before = rows_of(path)
         change(path, "DELETE FROM origin", "UPDATE version SET v = 1")
         ends(edit(path, FIRST), AGAIN, 0)
-        assert rows_of(path) == before
+        assert rows_of(path) == MORE_ROWS
 
 
 def test_a_store_that_is_up_is_not_written_to():
@@ -425,12 +448,12 @@ def test_a_folder_and_a_path_in_no_folder():
 
 
 def as_nobody(path, sheet):
-    """A run as a user who owns nothing; None where that user cannot start the program."""
-    how = {"input": sheet, "stdout": subprocess.PIPE, "stderr": subprocess.PIPE, "timeout": PATIENCE}
-    try:
-        return Ended(subprocess.run([PROGRAM, "edit", str(path), "stdin"], user=65534, group=65534, extra_groups=[], **how))
-    except PermissionError:
-        return None
+    """A run as a user who owns nothing, of a copy of the program that everybody may start."""
+    program = path.with_name("program")
+    shutil.copy(BUILT, program)
+    program.chmod(0o755)
+    how = {"input": sheet, "capture_output": True, "timeout": PATIENCE}
+    return Ended(subprocess.run([program, "edit", str(path), "stdin"], user=65534, group=65534, extra_groups=[], **how))
 
 
 def test_a_store_that_may_not_be_written():
@@ -439,9 +462,7 @@ def test_a_store_that_may_not_be_written():
         path.chmod(0o444)
         path.parent.chmod(0o755)
         before = digest(path)
-        ended = as_nobody(path, FIRST) if os.geteuid() == 0 else edit(path, FIRST)
-        if ended is not None:
-            faults(ended, "Open")
+        faults(as_nobody(path, FIRST) if os.geteuid() == 0 else edit(path, FIRST), "Open")
         assert digest(path) == before
         path.chmod(0o644)
         ends(edit(path, FIRST), AGAIN, 0)
@@ -470,5 +491,5 @@ def test_a_store_copied_after_its_run_is_the_store():
         make_full(path)
         copy = path.with_name("copy.db")
         shutil.copy(path, copy)
-        assert rows_of(copy) == rows_of(path)
         ends(edit(copy, FIRST), AGAIN, 0)
+        assert rows_of(copy) == MORE_ROWS

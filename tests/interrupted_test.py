@@ -12,8 +12,11 @@ import tempfile
 import threading
 import time
 
+import pytest
+
 from program import FIRST, FIRST_REPLIES, HEADER, PATIENCE, PROGRAM, ends, faults, record
-from stores import edit, folder, is_whole, look, make, more_sheet, rows_of
+from refusing import library
+from stores import edit, folder, is_whole, look, make, rows_of
 
 ROUTES = 20
 STRETCH = 1_000_000
@@ -210,30 +213,36 @@ def test_a_file_that_may_not_grow():
             goes_on(path, records, running.answered, told, status)
 
 
+def is_mounted(folder, options):
+    """Whether this user may mount a disk, and has done so."""
+    return subprocess.run(["mount", "-t", "tmpfs", "-o", options, "tmpfs", folder], capture_output=True, check=False).returncode == 0
+
+
 @contextlib.contextmanager
-def small_disk(size):
-    """A folder on a disk of so many bytes; None where this user may not mount one."""
+def small_disk(size, may_mount):
+    """A folder on a disk of so many bytes, and the settings of a run there; where none may be mounted, a library (filling.c) refuses
+    a run what such a disk would."""
     with tempfile.TemporaryDirectory() as name:
-        mounted = subprocess.run(["mount", "-t", "tmpfs", "-o", f"size={size}", "tmpfs", name], capture_output=True, check=False)
-        if mounted.returncode != 0:
-            yield None
-            return
-        try:
-            yield pathlib.Path(name)
-        finally:
-            subprocess.run(["umount", name], check=True)
+        if may_mount and is_mounted(name, f"size={size}"):
+            try:
+                yield pathlib.Path(name), {}
+            finally:
+                subprocess.run(["umount", name], check=True)
+        else:
+            yield pathlib.Path(name), {"env": {**os.environ, "LD_PRELOAD": str(library("filling")[0]), "FILLED_AFTER": str(size)}}
 
 
-def test_a_full_disk():
+@pytest.mark.parametrize("may_mount", [True, False], ids=["mounted", "stood in for"])
+def test_a_full_disk(may_mount):
     records = long_records(2_000)
-    with small_disk(400_000) as disk:
-        if disk is None:
-            return
+    with small_disk(400_000, may_mount) as (disk, settings):
         path = disk / "roads.db"
-        running = Running(path)
+        running = Running(path, **settings)
         running.feed([HEADER, *records])
         status, told = running.end()
-        subprocess.run(["mount", "-o", "remount,size=40m", str(disk)], check=True)
+        assert running.answered, "the disk was full before the first record"
+        if not settings:
+            subprocess.run(["mount", "-o", "remount,size=40m", str(disk)], check=True)
         goes_on(path, records, running.answered, told, status)
 
 

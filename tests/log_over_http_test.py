@@ -5,7 +5,7 @@ import pytest
 from interrupted_test import with_files_up_to
 from program import FIRST, FIRST_REPLIES, HEADER, ends, record, run, sheet_of
 from serving import FIRST_AGAIN, SURVEY, TABLE, answer, by_curl, by_http_client, by_socket, error, reply, request, serving, sheet_reply, started
-from stores import MORE, edit, is_whole, make, rows_of
+from stores import MORE, MORE_REPLIES, edit, is_whole, make, rows_of
 
 # what the requests of TABLE leave: the first sheet, an asset by a survey, a referent and a class
 ACCEPTED = [
@@ -174,7 +174,7 @@ def test_the_log_makes_the_inventory_again(tmp_path):
     make(path, *MORE)
     with serving(1, path) as server:
         sheet = log_over(server)
-    assert edit(copy, sheet).status == 0
+    ends(edit(copy, sheet), FIRST_REPLIES + MORE_REPLIES, 0)
     assert rows_of(copy) == rows_of(path)
 
 
@@ -200,7 +200,7 @@ def test_a_long_log(tmp_path):
     count = 20_000
     rows = [b"k%d,link,%d,5,,,,,,,\n" % (n, n) for n in range(1, count + 1)]
     path = tmp_path / "roads.db"
-    edit(path, HEADER + b"".join(rows))
+    ends(edit(path, HEADER + b"".join(rows)), b"".join(b"k%d,done,%d\n" % (n, n) for n in range(1, count + 1)), 0)
     with serving(2, path) as server:
         assert log_over(server) == HEADER + b"".join(rows)
         assert log_over(server, f"?from={count - 9}") == HEADER + b"".join(rows[-10:])

@@ -7,7 +7,7 @@ import signal
 import subprocess
 import time
 
-from program import PATIENCE, TOP, run
+from program import PATIENCE, TOP
 from serving import HOST, connect, free_port
 
 NGINX = "/usr/sbin/nginx"
@@ -17,11 +17,6 @@ HAPROXY = "/usr/sbin/haproxy"
 def blocks_of_the_document(language):
     """The blocks of docs/SERVICE.md in this language, in their order."""
     return re.findall(rf"^```{language}\n(.*?)^```$", (TOP / "docs" / "SERVICE.md").read_text(), re.M | re.S)
-
-
-def serves_with(option):
-    """Whether this program can be served with an option. What came with --log came at once: --end-on-fault, and /health."""
-    return option.encode() in run("serve", "--help").stdout + run("--help").stdout
 
 
 def put(text, old, new):
@@ -54,13 +49,13 @@ def nginx_configuration(folder, *settings):
 
 
 def haproxy_configuration(folder, port, program_port, health):
-    """All that HAProxy is told. A program without `/health` is not asked for it, and none is where that is not wanted."""
+    """All that HAProxy is told. The program is asked for `/health` only where that is wanted."""
     (lines,) = blocks_of_the_document("haproxy")
     lines = put(lines, "bind :80\n", f"bind {HOST}:{port}\n")
     lines = put(lines, " 127.0.0.1:8080 ", f" {HOST}:{program_port} ")
     lines = put(lines, "/srv/roads/page/", f"{folder}/")
     lines = put(lines, "    user haproxy\n    group haproxy\n", "")
-    return lines if health and serves_with("--log") else put(lines, " check inter 10s downinter 1s rise 1", "")
+    return lines if health else put(lines, " check inter 10s downinter 1s rise 1", "")
 
 
 def listens(port):

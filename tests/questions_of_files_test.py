@@ -246,7 +246,9 @@ def test_totals_are_the_sums_of_the_tables(name):
     """After each worked row, beside what sqlite3 sums up of the ledgers and of the rows of routes; and sqlite3 finds nothing wrong with the file."""
     with tempfile.TemporaryDirectory() as folder:
         db = pathlib.Path(folder) / "roads.db"
-        run("edit", str(db), "stdin", given=FIRST + b"".join(record(text) for text, _ in WORKED_ROWS[name]))
+        replied = lines(*(reply for _, reply in WORKED_ROWS[name]))
+        ended = run("edit", str(db), "stdin", given=FIRST + b"".join(record(text) for text, _ in WORKED_ROWS[name]))
+        ends(ended, FIRST_REPLIES + replied, 1 if b",refused," in replied else 0)
         ended = run("totals", str(db))
         is_whole(db)
         classes, *sums = look(db, "SELECT name FROM class ORDER BY name", *SUMS.values())

@@ -14,23 +14,24 @@ QUESTIONS = {
     "find": ["10"],
 }
 
+# the example of each command, with its status over an inventory without entries, and the cause or the fault that it names there
 EXAMPLES = {
-    "edit": "edit roads.db first.csv",
-    "survey": "survey roads.db found.csv",
-    "check": "check roads.db first.csv",
-    "at": "at roads.db A1 abs 3000",
-    "where": "where roads.db A1 3000",
-    "translate": "translate roads.db A1 int 1/3 abs",
-    "strip": "strip roads.db A1 R SPEED WIDTH",
-    "diagram": "diagram roads.db A1 SPEED > a1.svg",
-    "totals": "totals roads.db",
-    "lengths": "lengths roads.db --route A1",
-    "find": "find roads.db 10",
-    "list": "list roads.db routes",
-    "rows": "rows roads.db --route A1 --class SPEED",
-    "gone": "gone roads.db --edit 17",
-    "log": "log roads.db > log.csv",
-    "audit": "audit roads.db",
+    "edit": ("edit roads.db first.csv", 3, "fault Read"),
+    "survey": ("survey roads.db found.csv", 3, "fault Read"),
+    "check": ("check roads.db first.csv", 3, "fault Read"),
+    "at": ("at roads.db A1 abs 3000", 1, "NoRoute"),
+    "where": ("where roads.db A1 3000", 1, "NoRoute"),
+    "translate": ("translate roads.db A1 int 1/3 abs", 1, "NoRoute"),
+    "strip": ("strip roads.db A1 R SPEED WIDTH", 1, "NoRoute"),
+    "diagram": ("diagram roads.db A1 SPEED > a1.svg", 1, "NoRoute"),
+    "totals": ("totals roads.db", 0, None),
+    "lengths": ("lengths roads.db --route A1", 1, "NoRoute"),
+    "find": ("find roads.db 10", 1, "NoAsset"),
+    "list": ("list roads.db routes", 0, None),
+    "rows": ("rows roads.db --route A1 --class SPEED", 1, "NoRoute"),
+    "gone": ("gone roads.db --edit 17", 1, "NoEdit"),
+    "log": ("log roads.db > log.csv", 0, None),
+    "audit": ("audit roads.db", 0, None),
 }
 
 
@@ -137,13 +138,14 @@ def test_words_that_are_too_few_or_too_many():
 
 
 def test_each_command_shows_an_example_that_is_understood():
-    for name, example in EXAMPLES.items():
+    for name, (example, status, named) in EXAMPLES.items():
         for words in [[name, "--help"], ["help", name]]:
             ended = run(*words)
             assert (ended.stderr, ended.status) == (b"", 0), ended
             assert re.search(rf"^Examples?: roadlrs {re.escape(example)}$", ended.stdout.decode(), re.M), ended
         words = example.partition(" > ")[0].replace("roads.db", ":memory:").split()
-        assert run(*words).status in (0, 1, 3), example
+        ended = run(*words)
+        assert (ended.stderr, ended.status) == (f"roadlrs: {named}\n".encode() if named else b"", status), (example, ended)
 
 
 def test_help_names_each_command():

@@ -1,5 +1,5 @@
 """Runs of a proved program in which one call of the system's is refused: an allocation, a read or a write (refusing.c);
-or before one of which, a change of a file, the program stops, or the power goes (stopping.c)."""
+or before one of which, a change of a file, the program stops, or the power goes (stopping.c). They need a C compiler."""
 
 import concurrent.futures
 import contextlib

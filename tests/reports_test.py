@@ -68,8 +68,9 @@ def test_a_part_of_the_log_continues_a_copy(db, top):
     for number in range(1, 14):
         copy = top / f"copy-{number}.db"
         log = log_of(db).splitlines(keepends=True)
-        edit(copy, b"".join(log[:number]))
-        assert edit(copy, log_of(db, str(number))).status == 0
+        for sheet in [b"".join(log[:number]), log_of(db, str(number))]:
+            ended = edit(copy, sheet)
+            assert (ended.stdout.count(b",done,"), ended.status) == (sheet.count(b"\n") - 1, 0), (number, ended)
         assert rows_of(copy) == rows_of(db), number
 
 
@@ -199,7 +200,7 @@ def test_what_is_gone(db):
 
 
 def test_what_a_closed_route_abandons(db):
-    edit(db, sheet_of("f1,close,A2"))
+    ends(edit(db, sheet_of("f1,close,A2")), b"f1,done,14\n", 0)
     found = table(run("gone", db, "--edit", "14"))[1]
     held = look(db, "SELECT COUNT(*) FROM gone WHERE edit = 14")[0][0][0]
     assert len(found) == held and {row[1] for row in found} == {"abandoned"}
@@ -298,7 +299,8 @@ def test_no_single_bit_passes_that_changes_a_row(db, top):
             assert without_keys(rows_of(path)) == whole, (at, bit)
         else:
             *_, last = ended.stderr.splitlines()
-            assert ended.stdout == b"" and last.startswith((b"roadlrs: Differs:", b"roadlrs: fault ")), (at, bit, ended)
+            status = 1 if last.startswith(b"roadlrs: Differs:") else 3
+            assert (ended.stdout, ended.status) == (b"", status) and (status == 1 or last.startswith(b"roadlrs: fault ")), (at, bit, ended)
     assert passed < 300
 
 

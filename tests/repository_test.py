@@ -140,60 +140,123 @@ def black_box_tests(folder, **files):
 
 NOTHING_BUILT = {"ROADLRS": "/bin/true"}
 
+# what ./test calls beside rt and Python
+BASIC = "bash dirname mktemp rm tail tee".split()
+TWO_TESTS = "def test_a(): pass\ndef test_b(): pass\n"
 
-def run_test_script(folder_of_commands):
-    """Runs a copy of ./test over two black-box tests, with these commands alone on the path."""
+
+def command(path, body):
+    path.write_text(f"#!/bin/sh\n{body}\n")
+    path.chmod(0o755)
+
+
+def run_gate(rt, tests=TWO_TESTS, **environment):
+    """The last line and the status of a copy of ./test, over these black-box tests and with an rt that does this or is not there."""
     with tempfile.TemporaryDirectory() as folder:
-        copy = pathlib.Path(folder)
-        (copy / "test").write_text((TOP / "test").read_text())
-        black_box_tests(copy, a="def test_a(): pass\ndef test_b(): pass\n")
-        python = pathlib.Path(sys.executable).parent
-        env = {"PATH": f"{folder_of_commands}:{python}:/usr/bin:/bin", "HOME": folder, **NOTHING_BUILT}
-        return subprocess.run(["bash", str(copy / "test")], env=env, capture_output=True, text=True, timeout=600)
+        copy, commands = pathlib.Path(folder), pathlib.Path(folder) / "commands"
+        commands.mkdir()
+        for name in BASIC:
+            (commands / name).symlink_to(shutil.which(name))
+        command(commands / "python3", f'exec {sys.executable} "$@"')
+        if rt is not None:
+            command(commands / "rt", rt)
+        command(copy / "roadlrs", "exit 0")
+        shutil.copy(TOP / "test", copy)
+        black_box_tests(copy, a=tests)
+        env = {"PATH": str(commands), "HOME": folder, **environment}
+        done = subprocess.run(["bash", str(copy / "test")], env=env, capture_output=True, text=True, timeout=600)
+        return done.stdout.splitlines()[-1], done.returncode
 
 
-def with_rt(body):
-    with tempfile.TemporaryDirectory() as folder:
-        if body is not None:
-            rt = pathlib.Path(folder) / "rt"
-            rt.write_text(f"#!/bin/sh\n{body}\n")
-            rt.chmod(0o755)
-        return run_test_script(folder)
+# what rt does, and what the gate then counts, with the two black-box tests that pass
+GATES = {
+    "all passed": ("echo '5 passed, 0 failed'", "7 passed, 0 failed"),
+    "a proof failed": ("echo '4 passed, 1 failed'; exit 1", "6 passed, 1 failed"),
+    "a failure is counted, and the status is good": ("echo '4 passed, 1 failed'", "6 passed, 1 failed"),
+    "no failure is counted, and the status is bad": ("echo '5 passed, 0 failed'; exit 2", "7 passed, 1 failed"),
+    "the prover stops without a count": ("echo 'out of memory'; exit 2", "2 passed, 1 failed"),
+    "the prover says nothing": ("exit 0", "2 passed, 1 failed"),
+    "another line comes after the count": ("echo '5 passed, 0 failed'; echo 'out of memory'", "2 passed, 1 failed"),
+    "an empty line comes after the count": ("echo '5 passed, 0 failed'; echo", "2 passed, 1 failed"),
+    "the count is of a part": ("echo '5 passed, 0 failed (lrs_web alone: not the gate)'", "2 passed, 1 failed"),
+    "the count stands behind other words": ("echo 'so far 5 passed, 0 failed'", "2 passed, 1 failed"),
+    "nothing was counted": ("echo '0 passed, 0 failed'", "2 passed, 1 failed"),
+    "the prover is not there": (None, "2 passed, 1 failed"),
+}
 
 
-def test_the_gate_counts_all_runs():
-    done = with_rt("echo '5 passed, 0 failed'")
-    assert done.stdout.splitlines()[-1] == "7 passed, 0 failed", done.stdout
-    assert done.returncode == 0
+@pytest.mark.parametrize("rt, counted", GATES.values(), ids=GATES)
+def test_the_gate_counts_what_was_proved(rt, counted):
+    assert run_gate(rt) == (counted, 0 if counted.endswith(" 0 failed") else 1)
 
 
-def test_the_gate_fails_where_a_proof_fails():
-    done = with_rt("echo '4 passed, 1 failed'; exit 1")
-    assert done.stdout.splitlines()[-1] == "6 passed, 1 failed", done.stdout
-    assert done.returncode != 0
+@pytest.mark.parametrize(
+    "tests, counted",
+    [
+        (TWO_TESTS + "def test_c(): assert False\n", "7 passed, 1 failed"),
+        ("def other(): pass\n", "5 passed, 1 failed"),
+        ("no Python\n", "5 passed, 1 failed"),
+        (TWO_TESTS + "import atexit\natexit.register(print, 'more')\n", "5 passed, 1 failed"),
+        (TWO_TESTS + "import os\ndef test_c(): os._exit(0)\n", "5 passed, 1 failed"),
+    ],
+    ids=["one fails", "there is none", "they cannot be loaded", "another line comes after the count", "they end before the count"],
+)
+def test_the_gate_counts_the_black_box_tests(tests, counted):
+    assert run_gate("echo '5 passed, 0 failed'", tests) == (counted, 1)
 
 
-def test_the_gate_fails_where_the_prover_stops_without_a_count():
-    done = with_rt("echo 'out of memory'; exit 2")
-    assert done.stdout.splitlines()[-1] == "2 passed, 1 failed", done.stdout
-    assert done.returncode != 0
+def test_the_gate_tests_no_other_program():
+    """Whatever the environment names: here a program that always fails."""
+    tests = "from program import PROGRAM, TOP\ndef test_a(): assert PROGRAM == str(TOP / 'roadlrs')\n"
+    assert run_gate("echo '5 passed, 0 failed'", tests, ROADLRS="/bin/false") == ("6 passed, 0 failed", 0)
 
 
-def test_the_gate_fails_where_the_prover_is_not_there():
-    if shutil.which("rt", path=f"{pathlib.Path(sys.executable).parent}:/usr/bin:/bin"):
-        return
-    done = with_rt(None)
-    assert done.stdout.splitlines()[-1] == "2 passed, 1 failed", done.stdout
-    assert done.returncode != 0
+# what .ci/run looks for, and the packages that have it; it finds nginx and HAProxy by their paths
+INSTALLED = {"cc": "gcc libc6-dev", "sqlite3": "sqlite3", "curl": "curl", "xz": "xz-utils", "chromium": "chromium fonts-dejavu-core", "chromedriver": "chromium-driver"}
+
+
+def installs(folder, without):
+    """What .ci/run asks apt-get to install where this command is there and does not work, or is not there; and then it runs ./test."""
+    copy, commands, asked = folder / without, folder / without / "commands", folder / without / "asked"
+    (copy / ".ci").mkdir(parents=True)
+    commands.mkdir()
+    shutil.copy(TOP / ".ci" / "run", copy / ".ci")
+    for name in ["bash", "dirname"]:
+        (commands / name).symlink_to(shutil.which(name))
+    for name in ["python3", *INSTALLED]:
+        command(commands / name, "exit 0")
+    command(commands / "apt-get", f'echo "$@" >>"{asked}"')
+    command(copy / "test", "echo tested")
+    if without == "cc":
+        command(commands / "cc", "exit 1")
+    else:
+        (commands / without).unlink()
+    done = subprocess.run(["bash", copy / ".ci" / "run"], env={"PATH": str(commands)}, capture_output=True, text=True, timeout=60)
+    assert (done.stdout, done.returncode) == ("tested\n", 0), done
+    return asked.read_text()
+
+
+@pytest.mark.parametrize("without, packages", INSTALLED.items())
+def test_what_the_tests_need_is_installed_where_it_is_missing(tmp_path, without, packages):
+    asked = installs(tmp_path, without).splitlines()
+    assert asked[0].split()[0] == "update" and asked[1].startswith("install ") and len(asked) == 2, asked
+    assert [name for name in asked[1].split()[1:] if name not in ("nginx-light", "haproxy") and not name.startswith("-")] == packages.split()
+
+
+def test_the_readme_and_the_page_of_the_gate_name_what_the_tests_need():
+    for page in [TOP / "README.md", TOP / "docs" / "GATE.md"]:
+        for packages in [*INSTALLED.values(), "python3-pytest", "nginx-light", "haproxy"]:
+            for package in set(packages.split()) - {"chromium", "fonts-dejavu-core"}:
+                assert package in page.read_text(), (page.name, package)
 
 
 def run_black_box_tests(*words, **files):
     """The last line and the status of a run of these files of tests."""
     with tempfile.TemporaryDirectory() as folder:
         black_box_tests(pathlib.Path(folder), **files)
-        command = [sys.executable, "-B", "-m", "pytest", *words]
+        called = [sys.executable, "-B", "-m", "pytest", *words]
         settings = {"capture_output": True, "text": True, "timeout": 600, "env": {**os.environ, **NOTHING_BUILT}}
-        done = subprocess.run(command, cwd=folder, **settings)
+        done = subprocess.run(called, cwd=folder, **settings)
         return done.stdout.splitlines()[-1], done.returncode
 
 
@@ -204,34 +267,33 @@ def test_the_black_box_tests_are_counted():
 
 
 @pytest.mark.parametrize(
-    "bad",
+    "bad, left_out",
     [
-        "def test_b(): assert False\n",
-        "def test_b(missing): pass\n",
-        "import pytest\ndef test_b(): pytest.skip()\n",
-        "import pytest\n@pytest.mark.xfail\ndef test_b(): pass\n",
+        ("def test_b(): assert False\n", False),
+        ("def test_b(missing): pass\n", False),
+        ("import pytest\ndef test_b(): pytest.skip()\n", True),
+        ("import pytest\n@pytest.mark.xfail\ndef test_b(): pass\n", True),
     ],
 )
-def test_a_black_box_test_that_fails_or_is_left_out_fails_the_run(bad):
+def test_a_black_box_test_that_fails_or_is_left_out_fails_the_run(bad, left_out):
+    """What was left out has no bad status of its own, so that the line alone tells of it."""
     line, status = run_black_box_tests(a="def test_a(): pass\n", b=bad + "def test_c(): pass\n")
-    assert line == "2 passed, 1 failed"
-    assert status == 1 or "assert False" not in bad
+    assert (line, status) == ("2 passed, 1 failed", 0 if left_out else 1)
 
 
 @pytest.mark.parametrize("text", ["no Python\n", "import no_such_module\n"])
 def test_black_box_tests_that_cannot_be_loaded_fail_the_run(text):
     line, status = run_black_box_tests(a="def test_a(): pass\n", b=text)
-    assert line == "0 passed, 1 failed" and status != 0
+    assert (line, status) == ("0 passed, 1 failed", 2)
 
 
 def test_a_run_of_no_black_box_test_fails():
-    line, status = run_black_box_tests(a="def other(): pass\n")
-    assert line == "0 passed, 0 failed" and status != 0
+    assert run_black_box_tests(a="def other(): pass\n") == ("0 passed, 0 failed", 5)
 
 
 def test_no_black_box_test_passes_where_the_program_cannot_be_built():
     with tempfile.TemporaryDirectory() as folder:
         black_box_tests(pathlib.Path(folder), a="def test_a(): pass\ndef test_b(): pass\n")
-        command = [sys.executable, "-B", "-m", "pytest"]
-        done = subprocess.run(command, cwd=folder, capture_output=True, text=True, timeout=600, env={**os.environ, "ROADLRS": "/bin/false"})
+        called = [sys.executable, "-B", "-m", "pytest"]
+        done = subprocess.run(called, cwd=folder, capture_output=True, text=True, timeout=600, env={**os.environ, "ROADLRS": "/bin/false"})
         assert done.stdout.splitlines()[-1] == "0 passed, 2 failed" and done.returncode == 1, done

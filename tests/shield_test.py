@@ -3,6 +3,7 @@
 A client that says nothing, or little at a time, or takes no reply, costs the proxy a connection, and the next client nothing.
 """
 
+import configparser
 import contextlib
 import http.client
 import json
@@ -21,7 +22,7 @@ import pytest
 
 from interrupted_test import with_files_up_to
 from program import FIRST, FIRST_REPLIES, HEADER, PATIENCE, PROGRAM, ends, lines, long_sheet, record, run, sheet_of
-from proxies import HAPROXY, balancer, blocks_of_the_document, put, serves_with, web_server
+from proxies import balancer, blocks_of_the_document, put, web_server
 from serving import HOST, LONG_QUESTION, SURVEY, TABLE, connect, free_port, long_question, request, started
 from stores import edit, rows_of
 
@@ -32,16 +33,9 @@ WAIT = 1.0
 LONGEST = 1_048_576
 
 
-def needs(option):
-    if not serves_with(option):
-        pytest.skip(f"this program has no {option}")
-
-
 @pytest.fixture(params=[web_server, balancer], ids=["nginx", "HAProxy"])
 def proxy(request, tmp_path):
-    """What puts a proxy before the program. A machine without nginx fails; one without HAProxy leaves HAProxy's half out."""
-    if request.param is balancer and not os.path.exists(HAPROXY):
-        pytest.skip(f"there is no {HAPROXY}")
+    """What puts a proxy before the program: nginx, and then HAProxy. The half of one that is not on the machine fails."""
     (tmp_path / "index.html").write_text("<p>\n")
     return lambda program_port, **settings: request.param(tmp_path, program_port, **settings)
 
@@ -265,8 +259,6 @@ def test_nginx_tells_that_the_program_does_not_run(tmp_path):
 
 
 def test_clients_of_haproxy_do_not_notice_a_start(tmp_path):
-    if not os.path.exists(HAPROXY):
-        pytest.skip(f"there is no {HAPROXY}")
     (tmp_path / "index.html").write_text("<p>\n")
     with started() as server, balancer(tmp_path, server.port) as port:
         assert posted(port, FIRST) == (200, FIRST_REPLIES)
@@ -286,16 +278,12 @@ def unit():
     return dict(line.split("=", 1) for line in text.splitlines() if "=" in line)
 
 
-# Options that version 0.3.0 does not have: words that it does not have are left out there.
-NEW = ["--log", "--end-on-fault", "--existing", "--explain"]
-
-
 def words_of_the_unit(db, port, most):
-    """What the unit runs, with the file, the port and the number of connections of a test; and without what this program does not have."""
+    """What the unit runs, with the file, the port and the number of connections of a test."""
     told = put(put(unit()["ExecStart"], "/srv/roads/roads.db", str(db)), " 8080 1000000", f" {port} {most}")
     program, *words = told.split()
     assert program == "/usr/bin/roadlrs"
-    return [PROGRAM, *(word for word in words if word not in NEW or serves_with(word))]
+    return [PROGRAM, *words]
 
 
 @contextlib.contextmanager
@@ -330,7 +318,6 @@ def test_it_comes_back_after_its_last_connection(tmp_path):
 
 
 def test_it_comes_back_after_a_commit_that_failed(tmp_path):
-    needs("--end-on-fault")
     program_port, db = free_port(), tmp_path / "roads.db"
     sheet, done = long_sheet(30_000)
     ends(edit(db, sheet_of("k0,class,LAST,point")), b"k0,done,1\n", 0)
@@ -341,10 +328,36 @@ def test_it_comes_back_after_a_commit_that_failed(tmp_path):
     assert len(rows_of(db)["link"]) == len(done.splitlines())
 
 
-def test_systemd_reads_the_unit(tmp_path):
-    """Where systemd is there. Its words are those that the program understands, which the tests above run."""
+# The settings of the unit, by section, with the form of each value (the manual pages systemd.unit, systemd.service and systemd.exec).
+SWITCH = "yes|no|true|false|on|off|1|0"
+SETTINGS = {
+    "Unit": {"Description": r"\S.*", "StartLimitIntervalSec": r"\d+"},
+    "Service": {
+        "ExecStart": r"/\S+( \S+)*",
+        "User": r"[a-z_][a-z0-9_-]*",
+        "Restart": "no|on-success|on-failure|on-abnormal|on-watchdog|on-abort|always",
+        "RestartSec": r"\d+",
+        "NoNewPrivileges": SWITCH,
+        "PrivateTmp": SWITCH,
+        "ProtectSystem": f"{SWITCH}|full|strict",
+        "ProtectHome": f"{SWITCH}|read-only|tmpfs",
+        "ReadWritePaths": r"/\S+( /\S+)*",
+    },
+    "Install": {"WantedBy": r"\S+\.target"},
+}
+
+
+def test_the_unit_is_one_that_systemd_reads(tmp_path):
+    """Each setting is one of its section, once, and has a value of its form; where systemd is there, it says so too."""
     (text,) = blocks_of_the_document("ini")
-    assert re.findall(r"^\[(\w+)\]$", text, re.M) == ["Unit", "Service", "Install"]
+    read = configparser.RawConfigParser(delimiters="=", empty_lines_in_values=False)
+    read.optionxform = str
+    read.read_string(text)
+    assert read.sections() == list(SETTINGS)
+    for section, settings in SETTINGS.items():
+        assert set(read[section]) == set(settings), section
+        for name, value in read[section].items():
+            assert re.fullmatch(settings[name], value), (section, name, value)
     path = tmp_path / "roadlrs.service"
     path.write_text(put(text, "/usr/bin/roadlrs", str(pathlib.Path(PROGRAM).resolve())))
     if shutil.which("systemd-analyze"):
@@ -356,7 +369,6 @@ def test_systemd_reads_the_unit(tmp_path):
 
 
 def test_health_is_told_through_a_proxy(proxy):
-    needs("--log")
     with started() as server, proxy(server.port) as port:
         for edits in [0, 7]:
             status, _, body = asked(port, "GET", "/health")
@@ -365,7 +377,6 @@ def test_health_is_told_through_a_proxy(proxy):
 
 
 def test_health_is_bad_after_a_commit_that_failed(tmp_path):
-    needs("--log")
     db = tmp_path / "roads.db"
     with started(db=db, **with_files_up_to(300_000)) as server, web_server(tmp_path, server.port) as port:
         assert posted(port, long_sheet(30_000)[0])[0] == 503
@@ -373,7 +384,6 @@ def test_health_is_bad_after_a_commit_that_failed(tmp_path):
 
 
 def test_each_request_has_a_line(tmp_path):
-    needs("--log")
     port, log = free_port(), tmp_path / "log"
     with log.open("wb") as errors, subprocess.Popen([PROGRAM, "serve", ":memory:", str(port), "2", "--log"], stdout=subprocess.PIPE, stderr=errors) as child:
         assert child.stdout.readline() == b"listening %d\n" % port

@@ -8,7 +8,7 @@ import tempfile
 
 import pytest
 
-from program import BUILT, FIRST, FIRST_REPLIES, lines, record
+from program import BUILT, FIRST, FIRST_REPLIES, ends, lines, record
 from refusing import Stop, with_each_refused
 from stores import as_first, edit, is_whole, make, rows_of
 
@@ -40,7 +40,8 @@ def goes_on(path, sheet, answered, expected, stop, in_flight):
     """The sheet is sent again: what was answered is answered `again`, the first of those in flight may be, and the rest is done."""
     assert answered == expected[: len(answered)], (stop, answered)
     ended = edit(path, sheet)
-    assert ended.stderr == b"" and ended.status in (0, 1), (stop, ended)
+    refused = any(b",refused," in line for line in expected)
+    assert (ended.stderr, ended.status) == (b"", 1 if refused else 0), (stop, ended)
     said = ended.stdout.splitlines(keepends=True)
     assert len(said) == len(expected), (stop, ended)
     kept = True
@@ -63,7 +64,7 @@ def test_a_sheet_is_stopped_at_each_change(by):
     with tempfile.TemporaryDirectory() as folder:
         top = pathlib.Path(folder)
         expected = REPLIES.splitlines(keepends=True)
-        assert edit(top / "whole.db", SHEET).stdout == REPLIES
+        ends(edit(top / "whole.db", SHEET), REPLIES, 0)
         wanted = rows_of(top / "whole.db")
 
         def test(stop):
@@ -86,7 +87,7 @@ def test_a_sheet_in_a_file_is_stopped_at_each_change(by):
         (top / "sheet.csv").write_bytes(sheet)
         replies = FIRST_REPLIES + lines("e1,done,8", "x1,refused,LinkKnown", "e4,done,9", "e5,done,10")
         expected = replies.splitlines(keepends=True)
-        assert edit(top / "whole.db", sheet).stdout == replies
+        ends(edit(top / "whole.db", sheet), replies, 1)
         wanted = rows_of(top / "whole.db")
 
         def test(stop):
@@ -115,7 +116,7 @@ def test_bringing_up_a_store_is_stopped_at_each_change(by):
             path = copied(top / "first.db", top / f"{stop.number}.db")
             ended = stop.run(BUILT, "edit", path, "stdin", given=SHEET)
             assert ended.status == (137 if stop.was_reached else 0), (stop.number, ended)
-            assert edit(path, SHEET).stdout == again, stop.number
+            ends(edit(path, SHEET), again, 0)
             assert rows_of(path) == wanted, stop.number
             is_whole(path)
 

@@ -8,7 +8,7 @@ import sqlite3
 import subprocess
 import tempfile
 
-from program import FIRST, FIRST_REPLIES, HEADER, ends, faults, record, run
+from program import FIRST, FIRST_REPLIES, HEADER, ends, faults, lines, record, run
 
 # The columns of each table, with its key, its references and its unique columns: the order is that in which an unsound table is named.
 TABLES = {
@@ -38,6 +38,44 @@ MORE = (
 )
 MORE_REPLIES = b"".join(b"e%d,done,%d\n" % (n, 7 + n) for n in range(1, 7))
 
+# Its rows. Kinds of classes: 0 point, 1 stretch, 2 exclusive. Sides: 0 L, 1 R, 2 both; those of spans are seen along the route, those of
+# ledgers along the link. Directions of pieces: 0 forwards, 1 backwards. Causes in `gone`: 0 retired, 1 abandoned.
+MORE_ROWS = {
+    "version": [(2,)],
+    "link": [(1, 5000), (2, 3000), (3, 2000)],
+    "class": [("RAIL", 1), ("SIGN", 0), ("SPEED", 2)],
+    "asset": [(10, "SPEED", "80", 0), (11, "RAIL", "steel", 150), (12, "SIGN", "STOP", 0)],
+    "piece": [("A1", 0, 1, 0, 5000, 0), ("A2", 0, 2, 0, 3000, 1)],
+    "mark": [("A1", 0, 0, 0), ("A1", 1, 5000, 6000), ("A2", 0, 0, 6000), ("A2", 1, 3000, 9000)],
+    "ref": [("KM2", "A1", 1666)],
+    "span": [(10, "A1", 2500, 5000, 2), (10, "A2", 0, 3000, 2), (11, "A1", 0, 833, 0), (11, "A1", 1667, 5000, 0), (12, "A2", 2999, 3000, 1)],
+    "entered": [
+        (8, 10, 1, 2500, 5000, 0),
+        (8, 10, 1, 2500, 5000, 1),
+        (8, 10, 2, 0, 3000, 0),
+        (8, 10, 2, 0, 3000, 1),
+        (9, 11, 1, 0, 5000, 0),
+        (10, 12, 2, 0, 1, 0),
+    ],
+    "gone": [(12, 0, 11, 1, 833, 1667, 0)],
+    "edit": [
+        (1, "s1", "link,1,5000"),
+        (2, "s2", "link,2,3000"),
+        (3, "s3", "link,3,2000"),
+        (4, "s4", "class,SPEED,exclusive"),
+        (5, "s5", "class,RAIL,stretch"),
+        (6, "s6", "class,SIGN,point"),
+        (7, "s7", "route,A1,1:0:5000:+ 2:0:3000:-,0:0 5000:6000 8000:9000"),
+        (8, "e1", "enter,10,SPEED,A1,B,abs,3000,9000,80,0"),
+        (9, "e2", "enter,11,RAIL,A1,L,abs,0,6000,steel,150"),
+        (10, "e3", "enter,12,SIGN,A1,R,abs,9000,,STOP,0"),
+        (11, "e4", "ref,KM2,A1,abs,2000"),
+        (12, "e5", "retire,11,A1,abs,1000,2000"),
+        (13, "e6", "split,A1,5000,A2"),
+    ],
+    "origin": [(10, 8), (11, 9), (12, 10)],
+}
+
 
 @contextlib.contextmanager
 def folder():
@@ -58,8 +96,7 @@ def make(path, *texts):
     """A store of the first sheet, and of these records after it."""
     ends(edit(path, FIRST), FIRST_REPLIES, 0)
     if texts:
-        ended = edit(path, more_sheet(*texts))
-        assert ended.status == 0, ended
+        ends(edit(path, more_sheet(*texts)), lines(*(f"{text.partition(',')[0]},done,{n}" for n, text in enumerate(texts, 8))), 0)
 
 
 def make_full(path):
@@ -126,7 +163,5 @@ def refuses(path, name):
 
 
 def shell(path, text):
-    """What the sqlite3 shell answers, where there is one."""
-    if shutil.which("sqlite3") is None:
-        return None
+    """What the sqlite3 shell answers."""
     return subprocess.run(["sqlite3", str(path), text], capture_output=True, check=True, timeout=60).stdout

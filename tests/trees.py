@@ -146,6 +146,17 @@ class Tree:
         self.forget_rt()
 
 
+def only(folder, *commands):
+    """A folder with these commands alone."""
+    folder.mkdir()
+    for command in commands:
+        (folder / command).symlink_to(shutil.which(command, path=OTHER_COMMANDS))
+    return {"PATH": str(folder)}
+
+
+BASIC = "bash sh cat readlink find xargs stat cmp mktemp mkdir rm mv chmod touch awk sed sort sha256sum cut".split()
+
+
 def in_tree(test, name="tree"):
     with tempfile.TemporaryDirectory() as folder:
         test(Tree(folder, name))
