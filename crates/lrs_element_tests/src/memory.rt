@@ -4,9 +4,9 @@
 //! With ample memory nothing here is refused. `tests/refused_growths_test.py` runs these tests with one
 //! allocation refused, each in turn, and reads which calls they print.
 
-ghost use Rattle.std.specs.Prelude.{◌≡◌};
+ghost use Rattle.std.specs.Prelude.{◌≡◌, length};
 
-use super::courses::{LINKS, ahead};
+use super::courses::{LINKS, ahead, has_pieces};
 use lrs_element::{Course, CourseFault, JoinFault, Mark, Marks, Piece};
 use std::process::Abort;
 
@@ -38,14 +38,23 @@ fn course_of(rt: &(impl Abort + Print + AllocGlobal), pieces: &[Piece]) -> Cours
 }
 
 /// The road.
-fn road(rt: &(impl Abort + Print + AllocGlobal)) -> Course {
-    course_of(rt, &pieces_of_road())
+fn road(rt: &(impl Abort + Print + AllocGlobal)) -> Course
+    ensures { length result ≡ 35 }
+{
+    let course = course_of(rt, &pieces_of_road());
+    assert!(rt; course.len() == 35);
+    course
+}
+
+/// The course has this length.
+fn has_len(rt: &impl Abort, course: &Course, len: u64) {
+    assert_eq!(rt; course.len(), len);
 }
 
 /// The course is the road.
 fn is_the_road(rt: &impl Abort, course: &Course) {
-    assert_eq!(rt; course.pieces(), pieces_of_road().as_slice());
-    assert_eq!(rt; course.len(), 35);
+    has_pieces(rt, course, &pieces_of_road());
+    has_len(rt, course, 35);
 }
 
 /// One piece beside the road.
@@ -72,7 +81,6 @@ fn a_course_is_copied(rt: &(impl Abort + Print + AllocGlobal)) {
 
 fn a_course_is_cut(rt: &(impl Abort + Print + AllocGlobal)) {
     let course = road(rt);
-    assert_eq!(rt; course.len(), 35);
     let (before, after) = match course.cut(30) {
         Ok(parts) => parts,
         Err(_) => {
@@ -81,7 +89,8 @@ fn a_course_is_cut(rt: &(impl Abort + Print + AllocGlobal)) {
             course.cut(30).expect(rt, "memory")
         }
     };
-    assert_eq!(rt; (before.len(), after.len()), (30, 5));
+    has_len(rt, &before, 30);
+    has_len(rt, &after, 5);
 }
 
 fn a_course_is_turned(rt: &(impl Abort + Print + AllocGlobal)) {
@@ -94,33 +103,32 @@ fn a_course_is_turned(rt: &(impl Abort + Print + AllocGlobal)) {
             course.turned().expect(rt, "memory")
         }
     };
-    assert_eq!(rt; turned.len(), 35);
+    has_len(rt, &turned, 35);
 }
 
 fn a_course_is_added(rt: &(impl Abort + Print + AllocGlobal)) {
     let mut course = road(rt);
     let other = bypass(rt);
     if let Err(fault) = course.concat(&other) {
-        assert_eq!(rt; fault, JoinFault::Memory);
+        assert!(rt; fault == JoinFault::Memory);
         refused(rt, "Course::concat");
         is_the_road(rt, &course);
         course.concat(&other).expect(rt, "memory");
     }
-    assert_eq!(rt; course.len(), 38);
+    has_len(rt, &course, 38);
 }
 
 fn a_course_is_put_in_place(rt: &(impl Abort + Print + AllocGlobal)) {
     let mut course = road(rt);
     let other = bypass(rt);
-    assert_eq!(rt; course.len(), 35);
     if let Err(fault) = course.replace(4, 20, &other) {
-        assert_eq!(rt; fault, JoinFault::Memory);
+        assert!(rt; fault == JoinFault::Memory);
         refused(rt, "Course::replace");
         is_the_road(rt, &course);
-        assert_eq!(rt; course.len(), 35);
+        assert!(rt; course.len() == 35);
         course.replace(4, 20, &other).expect(rt, "memory");
     }
-    assert_eq!(rt; course.len(), 22);
+    has_len(rt, &course, 22);
 }
 
 /// The marks of the road.
