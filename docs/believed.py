@@ -21,6 +21,12 @@ MAP = TOP / "docs" / "MAP.md"
 
 # The calls: a letter, the crate, the module, the function, and what it does.
 CALLS = [
+    ("P", "lrs_promises", "call_list", "headline", "does a list of sheets, surveys and requests, mixed"),
+    ("D", "lrs_promises", "safe", "act", "does a command, and says what each answer leaves"),
+    ("R", "lrs_promises", "canonical_rows", "rows", "says what the rows of an inventory are"),
+    ("B", "lrs_promises", "translation", "round_trip", "translates a position, and back"),
+    ("K", "lrs_promises", "restart", "stops", "says what runs that stop leave"),
+    ("Z", "lrs_promises", "restart", "close_and_open", "closes files and opens them again"),
     ("E", "lrs_sheet", "run", "run_edits", "runs an edit sheet"),
     ("S", "lrs_sheet", "run", "run_survey", "runs a survey"),
     ("H", "lrs_web", "request", "serve_one", "serves one HTTP request"),
@@ -372,7 +378,7 @@ def headlines():
     laws = []
     for crate in crates():
         for path in modules(crate):
-            if "laws" in path or crate in ("lrs_machine_stops", "lrs_desk_laws"):
+            if "laws" in path or path == "determinism" or crate in ("lrs_machine_stops", "lrs_desk_laws"):
                 names = re.findall(r"^pub fn (\w+)", module_of(crate, path).free.text, re.M)
                 laws += [Headline(group_of(crate, path), crate, path, name) for name in names]
     return calls + sorted(laws, key=lambda law: [group[0] for group in GROUPS].index(law.letter))

@@ -1,0 +1,192 @@
+-- Which commands calls give, and that they make the state.
+use Rattle.std.proofs.Common.{◌≡◌, inl, inr, ℕ, ◌+◌, ◌<◌, true, false, List, [], ◌∷◌, ◌++◌, length, take, get_or, Option, Some, Result, Ok, Err, refl, sym, ap, subst, ◌∙◌}
+use Rattle.std.proofs.lemmas.Bool.{false≢true}
+use Rattle.std.proofs.lemmas.List.{take_more}
+use Rattle.lrs_machine.specs.Image.{state_of}
+use Rattle.lrs_machine.specs.Lines.{Text}
+use Rattle.lrs_machine.specs.Machine.{Record, state_after, step_record}
+use Rattle.lrs_machine.specs.State.{State}
+use Rattle.lrs_machine.specs.declared.answer.Limits.{Limits}
+use Rattle.lrs_machine.specs.declared.image.Image.{Image}
+use Rattle.lrs_machine.specs.declared.table.Table.{Table}
+use Rattle.lrs_desk.specs.DeskView.{DeskView}
+use Rattle.lrs_sheet_records.specs.declared.sheet.Sheet.{Sheet}
+use Rattle.lrs_sheet_records.specs.declared.sheet.Sheet.TheVariants as sheet
+use Rattle.lrs_sheet.specs.Laws.{Say}
+use Rattle.lrs_sheet.specs.Replies.{Replied}
+use Rattle.lrs_sheet.specs.Resuming.{IsNotBegun, Resumes}
+use Rattle.lrs_sheet.specs.Sheets.{GoesAlong, LeavesDesk, RunsBehind, records_together}
+use Rattle.lrs_sheet.specs.declared.fault.SheetFault.{SheetFault}
+use Rattle.lrs_sheet.specs.declared.fault.SheetFault.TheVariants as fault
+use Rattle.lrs_sheet.specs.declared.reply.Reply.{Reply}
+use Rattle.lrs_sheet.specs.declared.reply.Tally.{Tally}
+use Rattle.lrs_sheet.proofs.Done.{stays, along}
+use Rattle.lrs_web_requests.specs.Request.{Asked, refused, not_allowed, query, sheet as posted}
+use Rattle.lrs_web_requests.specs.Text.{Answer}
+use Rattle.lrs_web.specs.Serving.{Does, sheet_at}
+use Rattle.lrs_web.specs.Sheets.{IsAnswerAfter}
+use Rattle.lrs_promises.specs.Calls.{AllGive, Did, DidAll, Gives, GivesAsked, GivesBehind, GivesRest, is_decided}
+use Rattle.lrs_promises.specs.declared.calls.Call.{Call}
+use Rattle.lrs_promises.specs.declared.calls.Call.TheVariants as call
+
+-- ---- what the records of a sheet say
+
+-- records that are answered say commands, and leave the state after these
+pub record Answered (sheet : Sheet) (limits : Limits) (before after : State) (records : List (List Text)) : Type 0 where
+  pub said : List Record
+  pub say : Say sheet records said
+  pub state : after ≡ state_after limits said before
+
+pub answered : (sheet : Sheet) (limits : Limits) (before after : State) (records : List (List Text)) (replies : List Reply) → Replied sheet limits before records replies after → Answered sheet limits before after records
+unfolding Replied
+answered sheet limits before after [] [] h = record { said = []; say = refl; state = h }
+answered sheet limits before after [] (reply ∷ replies) h = absurd h
+answered sheet limits before after (fields ∷ records) [] h = absurd h
+answered sheet limits before after (fields ∷ records) (reply ∷ replies) (middle, (key, inl (k, command, says, answer, state)), more) =
+    let rest = answered sheet limits middle after records replies more in
+    let r : Record = record { key = k; command = command } in
+    record { said = r ∷ rest.said; say = inr (r, rest.said, refl, says, rest.say); state = rest.state ∙ ap (state_after limits rest.said) state }
+answered sheet limits before after (fields ∷ records) (reply ∷ replies) (middle, (key, inr (field, first, answer, state)), more) =
+    let rest = answered sheet limits middle after records replies more in
+    record { said = rest.said; say = inl ((field, first), rest.say); state = rest.state ∙ ap (state_after limits rest.said) state }
+
+-- commands, that something gives, which make the state
+pub record Gave (limits : Limits) (G : List Record → Type 0) (before after : State) : Type 0 where
+  pub commands : List Record
+  pub gives : G commands
+  pub state : after ≡ state_after limits commands before
+
+none_given : (limits : Limits) (G : List Record → Type 0) (before after : State) → G [] → after ≡ before → Gave limits G before after
+none_given limits G before after g e = record { commands = []; gives = g; state = e }
+
+sheet_gave : (passed : List (List Text)) (sheet : Sheet) (together : ℕ) (limits : Limits) (input : Text) (before after : State) (old new : Option Text) (ended : Result Tally SheetFault)
+    → is_decided ended ≡ true → RunsBehind passed sheet together limits input before after old new ended → Gave limits (GivesBehind passed sheet input) before after
+sheet_gave passed sheet together limits input before after old new (Ok tally) d (inl (all, same, keeps, count)) =
+    none_given limits (GivesBehind passed sheet input) before after ([], inl (refl, inl all), refl) same
+sheet_gave passed sheet together limits input before after old new (Ok tally) d (inr (header, records, replies, is, all, done, count, few)) =
+    let a = answered sheet limits before after records replies done.replied in
+    record { commands = a.said; gives = (records, inr (header, is, inl all), a.say); state = a.state }
+sheet_gave passed sheet together limits input before after old new (Err fault.BadHeader) d (header, begins, other, same, keeps) =
+    none_given limits (GivesBehind passed sheet input) before after ([], inl (refl, inr (header, begins, other)), refl) same
+sheet_gave passed sheet together limits input before after old new (Err fault.BadCsv) d (header, records, fields, replies, is, begins, other, done) =
+    let a = answered sheet limits before after records replies done.replied in
+    record { commands = a.said; gives = (records, inr (header, is, inr (fields, begins, other)), a.say); state = a.state }
+sheet_gave passed sheet together limits input before after old new (Err fault.Read) d h = absurd (false≢true d)
+sheet_gave passed sheet together limits input before after old new (Err fault.Write) d h = absurd (false≢true d)
+sheet_gave passed sheet together limits input before after old new (Err fault.Memory) d h = absurd (false≢true d)
+sheet_gave passed sheet together limits input before after old new (Err (fault.Desk e)) d h = absurd (false≢true d)
+
+pub not_begun : (before after : State) (old new : Option Text) (ended : Result Tally SheetFault) → IsNotBegun before after old new ended → after ≡ before
+not_begun before after old new (Ok tally) h = absurd h
+not_begun before after old new (Err e) h = h.0
+
+rest_gave : (sheet : Sheet) (together : ℕ) (limits : Limits) (input : Text) (before after : State) (old new : Option Text) (ended : Result Tally SheetFault)
+    → is_decided ended ≡ true → Resumes sheet together limits input before after old new ended → Gave limits (GivesRest sheet input before) before after
+rest_gave sheet together limits input before after old new ended d (inl h) = none_given limits (GivesRest sheet input before) before after (inl refl) (not_begun before after old new ended h)
+rest_gave sheet together limits input before after old new ended d (inr (decided, passed, is, runs)) =
+    let g = sheet_gave passed sheet together limits input before after old new ended d runs in
+    record { commands = g.commands; gives = inr (decided, passed, is, g.gives); state = g.state }
+
+-- commands, and others behind them
+pub state_both : (limits : Limits) (xs ys : List Record) (s : State) → state_after limits (xs ++ ys) s ≡ state_after limits ys (state_after limits xs s)
+state_both limits [] ys s = refl
+state_both limits (r ∷ xs) ys s = state_both limits xs ys (step_record limits r s).state
+
+-- ---- what a call gives
+
+-- an answer that is no 503 is to a sheet that was decided
+pub answer_decided : (ended : Result Tally SheetFault) (lines : Text) (answer : Answer) → IsAnswerAfter ended lines answer → (answer.status ≡ 503 → ⊥) → is_decided ended ≡ true
+answer_decided ended lines answer (inr e) served = absurd (served (ap (λ (a : Answer). a.status) e))
+answer_decided (Ok tally) lines answer (inl e) served = refl
+answer_decided (Err fault.BadHeader) lines answer (inl e) served = refl
+answer_decided (Err fault.BadCsv) lines answer (inl e) served = refl
+answer_decided (Err fault.Read) lines answer (inl e) served = absurd (served (ap (λ (a : Answer). a.status) e))
+answer_decided (Err fault.Write) lines answer (inl e) served = absurd (served (ap (λ (a : Answer). a.status) e))
+answer_decided (Err fault.Memory) lines answer (inl e) served = absurd (served (ap (λ (a : Answer). a.status) e))
+answer_decided (Err (fault.Desk e')) lines answer (inl e) served = absurd (served (ap (λ (a : Answer). a.status) e))
+
+module _ {K : Type 0} (holds : K → Result Image Table → Type 0) where
+  pub decided_goes : (old new : DeskView K) (ended : Result Tally SheetFault) → is_decided ended ≡ true → LeavesDesk holds old new ended → GoesAlong holds old new
+  decided_goes old new (Ok tally) d h = h
+  decided_goes old new (Err fault.BadHeader) d h = h.0
+  decided_goes old new (Err fault.BadCsv) d h = h
+  decided_goes old new (Err fault.Read) d h = absurd (false≢true d)
+  decided_goes old new (Err fault.Write) d h = absurd (false≢true d)
+  decided_goes old new (Err fault.Memory) d h = absurd (false≢true d)
+  decided_goes old new (Err (fault.Desk e)) d h = absurd (false≢true d)
+
+  -- commands that were given, and a desk that goes along with its keeper
+  pub record DeskGave (G : List Record → Type 0) (old new : DeskView K) : Type 0 where
+    pub gave : Gave old.limits G (state_of old.image) (state_of new.image)
+    pub along : GoesAlong holds old new
+
+  desk_stays : (G : List Record → Type 0) (old new : DeskView K) → G [] → new ≡ old → DeskGave G old new
+  desk_stays G old new g e = record {
+    gave = none_given old.limits G (state_of old.image) (state_of new.image) g (ap (λ (d : DeskView K). state_of d.image) e);
+    along = subst (GoesAlong holds old) (sym e) (stays old);
+  }
+
+  asked_gave : (asked : Asked) (answer : Answer) (old new : DeskView K) → Does holds asked old answer new → (answer.status ≡ 503 → ⊥) → DeskGave (GivesAsked asked (state_of old.image)) old new
+  asked_gave (refused status) answer old new does served = desk_stays (GivesAsked (refused status) (state_of old.image)) old new refl does.0
+  asked_gave (not_allowed verb) answer old new does served = desk_stays (GivesAsked (not_allowed verb) (state_of old.image)) old new refl does.0
+  asked_gave (query resource argument) answer old new does served = desk_stays (GivesAsked (query resource argument) (state_of old.image)) old new refl does.0
+  asked_gave (posted resource false body) answer old new (ended, lines, run, after) served =
+      let d = answer_decided ended lines answer after served in
+      record {
+        gave = sheet_gave [] (sheet_at resource) records_together old.limits body (state_of old.image) (state_of new.image) (Some []) (Some lines) ended d run.runs;
+        along = decided_goes old new ended d run.desk;
+      }
+  asked_gave (posted resource true body) answer old new (ended, lines, run, after) served =
+      let d = answer_decided ended lines answer after served in
+      record {
+        gave = rest_gave (sheet_at resource) records_together old.limits body (state_of old.image) (state_of new.image) (Some []) (Some lines) ended d run.runs;
+        along = decided_goes old new ended d run.desk;
+      }
+
+  pub call_gave : (next : Call) (text : Text) (old new : DeskView K) → Did holds next text old new → DeskGave (Gives next (state_of old.image)) old new
+  call_gave (call.Edits bytes) text old new did = record {
+    gave = sheet_gave [] sheet.Edits 1 old.limits bytes.items (state_of old.image) (state_of new.image) (Some []) (Some text) did.ended did.decided did.replied;
+    along = decided_goes old new did.ended did.decided did.desk;
+  }
+  call_gave (call.Survey bytes) text old new did = record {
+    gave = sheet_gave [] sheet.Survey 1 old.limits bytes.items (state_of old.image) (state_of new.image) (Some []) (Some text) did.ended did.decided did.replied;
+    along = decided_goes old new did.ended did.decided did.desk;
+  }
+  call_gave (call.Request bytes) text old new did =
+      let g = asked_gave did.asked did.answer old new did.does did.served in
+      record { gave = record { commands = g.gave.commands; gives = (did.asked, did.asks, g.gave.gives); state = g.gave.state }; along = g.along }
+
+  -- ---- what a list of calls gives
+
+  pub all_gave : (calls : List Call) (texts : List Text) (old new : DeskView K) → DidAll holds calls texts old new → DeskGave (AllGive old.limits (state_of old.image) calls) old new
+  all_gave [] [] old new did = desk_stays (AllGive old.limits (state_of old.image) []) old new refl did
+  all_gave [] (text ∷ texts) old new did = absurd did
+  all_gave (next ∷ calls) [] old new did = absurd did
+  all_gave (next ∷ calls) (text ∷ texts) old new (mid, one, others) =
+      let f = call_gave next text old mid one in
+      let g = all_gave calls texts mid new others in
+      let limits = f.along.limits in
+      let further = g.gave.commands in
+      record {
+        gave = record {
+          commands = f.gave.commands ++ further;
+          gives = (f.gave.commands, further, refl, f.gave.gives, coe 0 1 (k. AllGive (limits k) (f.gave.state k) calls further) g.gave.gives);
+          state = g.gave.state ∙ (λ i. state_after (limits i) further (f.gave.state i)) ∙ sym (state_both old.limits f.gave.commands further (state_of old.image));
+        };
+        along = along old mid new f.along g.along;
+      }
+
+  -- ---- one more call
+
+  pub did_more : (calls : List Call) (texts : List Text) (next : Call) (text : Text) (old mid new : DeskView K) → DidAll holds calls texts old mid → Did holds next text mid new
+      → DidAll holds (calls ++ next ∷ []) (texts ++ text ∷ []) old new
+  did_more [] [] next text old mid new did one = (new, subst (λ d. Did holds next text d new) did one, refl)
+  did_more [] (t ∷ texts) next text old mid new did one = absurd did
+  did_more (c ∷ calls) [] next text old mid new did one = absurd did
+  did_more (c ∷ calls) (t ∷ texts) next text old mid new (d, first, others) one = (d, first, did_more calls texts next text d mid new others one)
+
+  pub did_next : (calls : List Call) (i : ℕ) (texts : List Text) (next : Call) (text : Text) (old mid new : DeskView K) → i < length calls → next ≡ get_or calls i next
+      → DidAll holds (take i calls) texts old mid → Did holds next text mid new → DidAll holds (take (i + 1) calls) (texts ++ text ∷ []) old new
+  did_next calls i texts next text old mid new low is did one =
+      let more = take_more calls i next low ∙ ap (λ c. take i calls ++ c ∷ []) (sym is) in
+      subst (λ cs. DidAll holds cs (texts ++ text ∷ []) old new) (sym more) (did_more (take i calls) texts next text old mid new did one)

@@ -1,0 +1,9 @@
+pub mod Given
+pub mod Laws
+pub mod After
+pub mod Served
+pub mod Ends
+pub mod Fewest
+pub mod Trips
+pub mod Reopened
+pub mod Leaving

@@ -1,0 +1,101 @@
+-- A list of calls, of edit sheets, surveys and requests, mixed: what each reads, writes and leaves of a desk, and which commands it gives.
+use Rattle.std.specs.Prelude.{◌≡◌, ◌⊎◌, Bool, true, false, List, [], ◌∷◌, ◌++◌, length, Some, Result, Ok, Err}
+use Rattle.lrs_machine.specs.Image.{state_of}
+use Rattle.lrs_machine.specs.Lines.{Text}
+use Rattle.lrs_machine.specs.Machine.{Record, state_after}
+use Rattle.lrs_machine.specs.State.{State}
+use Rattle.lrs_machine.specs.declared.answer.Limits.{Limits}
+use Rattle.lrs_machine.specs.declared.image.Image.{Image}
+use Rattle.lrs_machine.specs.declared.table.Table.{Table}
+use Rattle.lrs_desk.specs.DeskView.{DeskView}
+use Rattle.lrs_sheet_records.specs.Kinds.{IsHeader, width_of}
+use Rattle.lrs_sheet_records.specs.declared.sheet.Sheet.{Sheet}
+use Rattle.lrs_sheet_records.specs.declared.sheet.Sheet.TheVariants as sheet
+use Rattle.lrs_sheet.specs.Laws.{Say}
+use Rattle.lrs_sheet.specs.Resuming.{IsDecidedBy}
+use Rattle.lrs_sheet.specs.Sheets.{AreAll, BeginsWith, LeavesDesk, Runs}
+use Rattle.lrs_sheet.specs.declared.fault.SheetFault.{SheetFault}
+use Rattle.lrs_sheet.specs.declared.fault.SheetFault.TheVariants as fault
+use Rattle.lrs_sheet.specs.declared.reply.Tally.{Tally}
+use Rattle.lrs_sheet.specs.declared.resumption.Decided.{Decided}
+use Rattle.lrs_web_requests.specs.Request.{Asked, Asks, refused, not_allowed, query, sheet as posted}
+use Rattle.lrs_web_requests.specs.Text.{Answer, answer_text}
+use Rattle.lrs_web.specs.Serving.{Does, sheet_at}
+use Rattle.lrs_promises.specs.declared.calls.Call.{Call}
+use Rattle.lrs_promises.specs.declared.calls.Call.TheVariants as call
+
+-- ---- what a call does, where it ends neither in a fault nor with a 503
+
+-- a sheet was done as far as it is one: to its end, or to a header or a record that is none of it
+abbrev pub is_decided : Result Tally SheetFault → Bool
+is_decided (Ok tally) = true
+is_decided (Err fault.BadHeader) = true
+is_decided (Err fault.BadCsv) = true
+is_decided _ = false
+
+-- What was written is the reply to the bytes of a sheet, and the desk goes along with its keeper.
+pub record DidSheet {K : Type 0} (holds : K → Result Image Table → Type 0) (sheet : Sheet) (input written : Text) (old new : DeskView K) : Type 0 where
+  pub ended : Result Tally SheetFault
+  pub decided : is_decided ended ≡ true
+  pub replied : Runs sheet 1 old.limits input (state_of old.image) (state_of new.image) (Some []) (Some written) ended
+  pub desk : LeavesDesk holds old new ended
+
+-- What was written is the answer to what the bytes of a request ask for.
+pub record DidRequest {K : Type 0} (holds : K → Result Image Table → Type 0) (input written : Text) (old new : DeskView K) : Type 0 where
+  pub asked : Asked
+  pub answer : Answer
+  pub asks : Asks input asked
+  pub does : Does holds asked old answer new
+  pub served : answer.status ≡ 503 → ⊥
+  pub replied : written ≡ answer_text answer
+
+-- What a call wrote, from the bytes that it read, and what it left of the desk.
+abbrev pub Did : {K : Type 0} → (K → Result Image Table → Type 0) → Call → Text → DeskView K → DeskView K → Type 0
+Did holds (call.Edits bytes) = DidSheet holds sheet.Edits bytes.items
+Did holds (call.Survey bytes) = DidSheet holds sheet.Survey bytes.items
+Did holds (call.Request bytes) = DidRequest holds bytes.items
+
+-- These calls were done one after another, and wrote these texts.
+abbrev pub DidAll : {K : Type 0} → (K → Result Image Table → Type 0) → List Call → List Text → DeskView K → DeskView K → Type 0
+DidAll holds [] [] old new = new ≡ old
+DidAll {K} holds (next ∷ calls) (text ∷ texts) old new = (mid : DeskView K) × Did holds next text old mid × DidAll holds calls texts mid new
+DidAll holds [] (text ∷ texts) old new = ⊥
+DidAll holds (next ∷ calls) [] old new = ⊥
+
+-- ---- which commands a call gives
+
+-- The records of a sheet under its header, behind these first ones: all, or those before the first that has not as many fields. There are none in an empty sheet, and under another header.
+abbrev pub HasRecords : List (List Text) → Sheet → Text → List (List Text) → Type 0
+HasRecords passed sheet input records =
+    ((records ≡ []) × (AreAll input [] ⊎ ((header : List Text) × BeginsWith input (header ∷ []) × (IsHeader sheet header → ⊥))))
+    ⊎ ((header : List Text) × IsHeader sheet header
+    × (AreAll input (header ∷ (passed ++ records)) ⊎ ((fields : List Text) × BeginsWith input (header ∷ ((passed ++ records) ++ fields ∷ [])) × (length fields ≡ width_of sheet → ⊥))))
+
+-- Behind these first records a sheet gives the commands that its well-formed records say.
+abbrev pub GivesBehind : List (List Text) → Sheet → Text → List Record → Type 0
+GivesBehind passed sheet input commands = (records : List (List Text)) × HasRecords passed sheet input records × Say sheet records commands
+
+-- A sheet that goes on gives those behind its last record that is an edit, or none.
+abbrev pub GivesRest : Sheet → Text → State → List Record → Type 0
+GivesRest sheet input s commands =
+    (commands ≡ []) ⊎ ((d : Decided) × (passed : List (List Text)) × IsDecidedBy sheet s input d passed × GivesBehind passed sheet input commands)
+
+-- A request gives the commands of the sheet that it posts, and any other one gives none.
+abbrev pub GivesAsked : Asked → State → List Record → Type 0
+GivesAsked (refused status) s commands = commands ≡ []
+GivesAsked (not_allowed verb) s commands = commands ≡ []
+GivesAsked (query resource argument) s commands = commands ≡ []
+GivesAsked (posted resource false body) s commands = GivesBehind [] (sheet_at resource) body commands
+GivesAsked (posted resource true body) s commands = GivesRest (sheet_at resource) body s commands
+
+-- The commands that a call gives, in a state.
+abbrev pub Gives : Call → State → List Record → Type 0
+Gives (call.Edits bytes) s commands = GivesBehind [] sheet.Edits bytes.items commands
+Gives (call.Survey bytes) s commands = GivesBehind [] sheet.Survey bytes.items commands
+Gives (call.Request bytes) s commands = (asked : Asked) × Asks bytes.items asked × GivesAsked asked s commands
+
+-- The commands that a list of calls gives, each call in the state after those before it.
+abbrev pub AllGive : Limits → State → List Call → List Record → Type 0
+AllGive limits s [] commands = commands ≡ []
+AllGive limits s (next ∷ calls) commands =
+    (first : List Record) × (others : List Record) × (commands ≡ first ++ others) × Gives next s first × AllGive limits (state_after limits first s) calls others

@@ -1,0 +1,7 @@
+pub mod Calls
+pub mod Headline
+pub mod Determined
+pub mod Rows
+pub mod RoundTrip
+pub mod Stops
+pub mod Safe

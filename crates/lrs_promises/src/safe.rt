@@ -1,0 +1,57 @@
+//! What each call leaves, by what it answers.
+
+ghost use Rattle.std.specs.Prelude.{◌≤◌};
+ghost use Rattle.lrs_promises.specs.Safe.{ActLeaves, RequestLeaves, SheetLeaves};
+
+use lrs_desk::{Answer, Command, Desk, Fault, Keeper, Key};
+use lrs_sheet::{Sheet, SheetFault, Tally, run_sheet};
+use lrs_web::{WebFault, serve_one};
+use std::alloc::Global;
+use std::io::{Read, Write};
+
+/// Does a command, as `Desk::act` does. Only one that is accepted changes the state; after each fault the desk is as the
+/// table of this call says.
+///
+/// # Errors
+/// Those of `Desk::act`.
+pub fn act<K: Keeper>(desk: &mut Desk<K>, key: Key, command: &Command) -> Result<Answer, Fault>
+    ensures { ActLeaves K.may_hold K.failures (record { key = key; command = command.now })
+        desk.old desk.new result }
+{
+    desk.act(key, command)
+}
+
+/// Runs a sheet, as `run_sheet` does. Whatever ends it, over any reader and writer, commands were done in order; after
+/// each fault the desk is as the table of this call says.
+///
+/// # Errors
+/// Those of `run_sheet`.
+pub fn sheet<R: Read + Drop, W: Write, K: Keeper>(
+    alloc: Global,
+    sheet: Sheet,
+    together: usize,
+    reader: R,
+    writer: &mut W,
+    desk: &mut Desk<K>,
+) -> Result<Tally, SheetFault>
+    requires together { 1 ≤ together }
+    ensures { SheetLeaves K.may_hold desk.old desk.new result }
+{
+    run_sheet(alloc, sheet, together, reader, writer, desk)
+}
+
+/// Serves a request, as `serve_one` does. Whatever ends it, over any reader and writer, commands were done in order; a
+/// request that was not read has changed nothing.
+///
+/// # Errors
+/// Those of `serve_one`.
+pub fn request<R: Read, W: Write, K: Keeper>(
+    alloc: Global,
+    reader: &mut R,
+    writer: &mut W,
+    desk: &mut Desk<K>,
+) -> Result<u16, WebFault>
+    ensures { RequestLeaves desk.old desk.new result }
+{
+    serve_one(alloc, reader, writer, desk)
+}

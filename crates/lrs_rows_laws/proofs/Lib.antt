@@ -1,0 +1,10 @@
+pub mod Owned
+pub mod Routes
+pub mod Runs
+pub mod Maximal
+pub mod Under
+pub mod Fewest
+pub mod Apart
+pub mod Left
+pub mod Witness
+pub mod Overlapping
