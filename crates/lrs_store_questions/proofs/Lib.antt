@@ -1,3 +1,0 @@
-pub mod FileLemmas
-pub mod PlainLemmas
-pub mod ReadLemmas
