@@ -182,7 +182,7 @@ OPTIONS = {
     b"--resume": (b"Goes on after the last record of the sheet that was accepted before", ["edit", "survey"]),
     b"--all": (b"Does the sheet only if no record of it is refused", ["edit", "survey"]),
     b"--survey": (b"The sheet is a survey", ["check"]),
-    b"--log": (b"Writes a line for each request on standard error", ["serve"]),
+    b"--log": (b"Writes a line for each request on standard error, and a count at the end", ["serve"]),
     b"--end-on-fault": (b"Ends with status 3 once the inventory was not written", ["serve"]),
 }
 

@@ -11,7 +11,7 @@ use clap::Command;
 use std::alloc::{AllocError, Global};
 
 /// The version of the program, and the kit that proved it.
-static VERSION: &str = "0.5.0, proved by rattle-kit-13f logic dac8208d650f15bf";
+static VERSION: &str = "0.6.0, proved by rattle-kit-13f logic dac8208d650f15bf";
 
 // What help says of the words.
 const DB: &str = "The inventory's file, or :memory: for a fresh one in memory";
@@ -77,7 +77,7 @@ const CHAINAGE: &str = "A chainage of the route, in millimetres";
 
 const MM: &str = "After the word link and a link's number: a millimetre of the link";
 
-const TELLING: &str = "Writes a line for each request on standard error";
+const TELLING: &str = "Writes a line for each request on standard error, and a count at the end";
 
 const END_ON_FAULT: &str = "Ends with status 3 once the inventory was not written";
 

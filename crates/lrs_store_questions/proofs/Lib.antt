@@ -1,0 +1,3 @@
+pub mod FileLemmas
+pub mod PlainLemmas
+pub mod ReadLemmas

@@ -1,0 +1,5 @@
+pub mod Looks
+pub mod Plain
+pub mod Opened
+pub mod Reading
+pub mod Asked

@@ -1,0 +1,136 @@
+//! The files of an inventory, opened for questions.
+
+ghost use Rattle.std.specs.Prelude.{◌≡◌, ◌≢◌, true, false, None, IfOk, IfErr, IfSome, IsTrue, Result};
+ghost use Rattle.sqlite_store.specs.FileStore.{view, recovers};
+ghost use Rattle.sqlite_std_file.specs.File.{IsFresh, file_is_usable};
+ghost use Rattle.sqlite_wal.specs.Files.{image_at};
+ghost use Rattle.sqlite.specs.Files.{image_of, IsCleanLeft, LeavesFiles};
+ghost use Rattle.lrs_machine.specs.declared.image.Image.{Image as ImageRows};
+ghost use Rattle.lrs_machine.specs.declared.table.Table.{Table as DeclaredTable};
+ghost use Rattle.lrs_store_questions.specs.Reading.{MayTell};
+ghost use Rattle.lrs_store_questions.specs.Asked.{HasRead, IsLeftAt};
+
+use crate::files::open_store;
+use crate::keeper::Questions;
+use lrs_store_keeper::ReadImage;
+use lrs_store_tables::StoreFault;
+use sqlite::{FileFrom, FileStore, Files, Leftover, Options, Start};
+use sqlite_disk::Disk;
+use sqlite_std_file::OpenError;
+use sqlite_trees::error::StoreError;
+use std::alloc::Global;
+use std::hash::{BuildHasher, RandomState};
+use std::rt::HostRuntime;
+
+/// Why files are not opened for questions, and what is left of them, if the system opened them.
+#[derive(Drop)]
+pub struct NotOpened<D: Disk> {
+    pub fault: StoreFault,
+    pub left: Option<Leftover<D>>,
+}
+
+/// Why files are not opened, by why they are no store.
+fn fault_of(error: StoreError) -> StoreFault {
+    match error {
+        StoreError::OutOfMemory => StoreFault::Memory,
+        _ => StoreFault::Store,
+    }
+}
+
+/// The inventory in these files, kept for questions. Nothing is loaded yet, and nothing is made where they hold none.
+///
+/// # Errors
+/// `Store` where the files hold no sound store of plain tables and indexes, a file fails, or the log of a file that
+/// keeps sums has pages; `Memory` if memory runs out. What is left of the files holds what they held.
+pub fn files_for_questions<D: Disk + Drop, R: ReadImage + Drop>(
+    alloc: Global,
+    files: Files<D>,
+    options: Options,
+    reader: R,
+) -> Result<Questions<FileStore<D>, R>, NotOpened<D>>
+    requires log { IsTrue (D.Disk.is_usable files.log) }
+    requires db { IsTrue (D.Disk.is_usable files.db) }
+    ensures unloaded { IfOk result (λ k. k.is_loaded ≡ false) }
+    ensures open { IfOk result (λ k. IsTrue (view k.store).is_clean
+        → IsTrue (view k.store).is_open) }
+    ensures held { IfOk result (λ k. (c : Result ImageRows DeclaredTable)
+        → MayTell view recovers c k.store → HasRead (image_of D.Disk files) c) }
+    ensures still { IfOk result (λ k. IsTrue (view k.store).is_clean
+        → LeavesFiles files (Leftover.Store k.store)) }
+    ensures unharmed { IfErr result (λ e. IfSome e.left (λ left. IsCleanLeft left
+        → LeavesFiles files left)) }
+    ensures left { IfErr result (λ e. e.left ≢ None) }
+{
+    match open_store(alloc, files, options) {
+        Ok(store) => Ok(Questions {
+            store,
+            reader,
+            is_loaded: false,
+            failures: 0,
+        }),
+        Err((error, left)) => Err(NotOpened {
+            fault: fault_of(error),
+            left: Some(left),
+        }),
+    }
+}
+
+/// The files at a path.
+fn pair_at<S: Start>(
+    rt: &HostRuntime,
+    path: &str,
+    start: S,
+) -> Result<Files<FileFrom<S>>, StoreFault>
+    ensures usable { IfOk result (λ files. IsTrue (file_is_usable S.Start files.log)
+        × IsTrue (file_is_usable S.Start files.db)) }
+    ensures fresh { IfOk result (λ files. IsFresh true files.log × IsFresh false files.db) }
+{
+    if path == ":memory:" || path.starts_with("file:") {
+        return Err(StoreFault::Store);
+    }
+    match sqlite_std_file::open(rt, path, start) {
+        Ok(files) => Ok(files),
+        Err(OpenError::OutOfMemory) => Err(StoreFault::Memory),
+        Err(_) => Err(StoreFault::Store),
+    }
+}
+
+/// How a store is kept, with a number of its own for the sums of its log.
+fn options(rt: &HostRuntime) -> Result<Options, StoreFault> {
+    match RandomState::new(rt) {
+        Ok(state) => Ok(Options::new(state.hash_one(&0u8))),
+        Err(_) => Err(StoreFault::Store),
+    }
+}
+
+/// The inventory in the files at a path, kept for questions. `start` stands for what the files hold. Nothing is loaded
+/// yet.
+///
+/// # Errors
+/// As `files_for_questions`, and `Store` where the system does not open the files, or another program has them.
+pub fn open_for_questions<S: Start, R: ReadImage + Drop>(
+    rt: &HostRuntime,
+    path: &str,
+    start: S,
+    reader: R,
+) -> Result<Questions<FileStore<FileFrom<S>>, R>, NotOpened<FileFrom<S>>>
+    ensures unloaded { IfOk result (λ k. k.is_loaded ≡ false) }
+    ensures open { IfOk result (λ k. IsTrue (view k.store).is_clean
+        → IsTrue (view k.store).is_open) }
+    ensures held { IfOk result (λ k. (c : Result ImageRows DeclaredTable)
+        → MayTell view recovers c k.store → HasRead (image_at S.Start) c) }
+    ensures still { IfOk result (λ k. IsTrue (view k.store).is_clean
+        → IsLeftAt (image_at S.Start) (Leftover.Store k.store)) }
+    ensures unharmed { IfErr result (λ e. IfSome e.left (λ left. IsCleanLeft left
+        → IsLeftAt (image_at S.Start) left)) }
+{
+    let files = match pair_at(rt, path, start) {
+        Ok(files) => files,
+        Err(fault) => return Err(NotOpened { fault, left: None }),
+    };
+    let options = match options(rt) {
+        Ok(options) => options,
+        Err(fault) => return Err(NotOpened { fault, left: None }),
+    };
+    files_for_questions(rt.alloc(), files, options, reader)
+}
