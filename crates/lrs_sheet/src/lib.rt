@@ -2,6 +2,7 @@
 //! after the other or some together, so that nothing grows with the number of records.
 #![tactic(auto)]
 
+mod arrival;
 mod fault;
 pub mod laws;
 mod queue;
@@ -14,4 +15,4 @@ pub use fault::SheetFault;
 pub use lrs_sheet_records::{ReadFault, Sheet, command_of, survey_of};
 pub use reply::{Reply, Tally};
 pub use resumption::{Decided, last_edit, resume_sheet};
-pub use run::{RECORDS_TOGETHER, run_behind, run_edits, run_sheet, run_survey};
+pub use run::{RECORDS_TOGETHER, run_arriving, run_behind, run_edits, run_sheet, run_survey};

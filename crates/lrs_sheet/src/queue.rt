@@ -223,12 +223,13 @@ fn refuse<W: Write, K: Keeper>(
     Ok(())
 }
 
-/// Lets the command of a record wait. The waiting commands are done once they are so many, and before a malformed
-/// record is refused.
+/// Lets the command of a record wait. The waiting commands are done once they are so many, before a malformed record
+/// is refused, and where no other record has come.
 pub(crate) fn take_row<W: Write, K: Keeper>(
     alloc: Global,
     row: &SheetRecord<'_>,
     together: usize,
+    has_next: bool,
     queue: &mut Queue,
     writer: &mut W,
     desk: &mut Desk<K>,
@@ -258,7 +259,7 @@ pub(crate) fn take_row<W: Write, K: Keeper>(
         settle(queue, writer, desk)?;
         return Err(SheetFault::Memory);
     }
-    if queue.waiting.len() < together {
+    if has_next && queue.waiting.len() < together {
         return Ok(());
     }
     settle(queue, writer, desk)

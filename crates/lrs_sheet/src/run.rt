@@ -12,6 +12,7 @@ ghost use Rattle.lrs_sheet.specs.Sheets.{Runs, RunsBehind, RunsEdits, RunsSurvey
 ghost use Rattle.lrs_sheet.specs.Rows.{IsPlain, DoesRows, BreaksAfter};
 ghost use Rattle.lrs_sheet.specs.Waiting.{HasTaken};
 
+use crate::arrival::{Arrival, Arriving, Whole};
 use crate::fault::SheetFault;
 use crate::queue::{Queue, settle, take_row};
 use crate::reply::Tally;
@@ -34,7 +35,7 @@ pub const RECORDS_TOGETHER: usize = 256;
 /// # Errors
 ///
 /// Those of doing the records: `Write`, `Desk`, `Memory`.
-fn take_rows<R: Read, W: Write, K: Keeper>(
+fn take_rows<R: Read + Arrival, W: Write, K: Keeper>(
     alloc: Global,
     sheet: Sheet,
     together: usize,
@@ -70,7 +71,8 @@ fn take_rows<R: Read, W: Write, K: Keeper>(
             Err(fault) => return Ok(Some(fault)),
         }
         let read = SheetRecord { fields: row, sheet };
-        take_row(alloc, &read, together, queue, writer, desk)?;
+        let has_next = rows.get_ref().has_record_behind(rows.position().byte());
+        take_row(alloc, &read, together, has_next, queue, writer, desk)?;
     }
     match next_row(rows, row) {
         Ok(true) => Ok(Some(SheetFault::Read)),
@@ -80,7 +82,7 @@ fn take_rows<R: Read, W: Write, K: Keeper>(
 }
 
 /// Does the records under the header.
-fn do_rows<R: Read, W: Write, K: Keeper>(
+fn do_rows<R: Read + Arrival, W: Write, K: Keeper>(
     alloc: Global,
     sheet: Sheet,
     together: usize,
@@ -115,14 +117,8 @@ fn do_rows<R: Read, W: Write, K: Keeper>(
     }
 }
 
-/// Does the records of a sheet behind the first `passed` ones in order, at most this many together: they are kept
-/// together, and then each has its line. The first ones have been done or decided before; they are read, and no more.
-/// The writer is not flushed.
-///
-/// # Errors
-///
-/// Those of `run_sheet`. `Read` also where the sheet has not so many records.
-pub fn run_behind<R: Read + Drop, W: Write, K: Keeper>(
+/// Does the records behind the first `passed` ones, in groups that end where no other record has come.
+fn run_groups<R: Read + Arrival + Drop, W: Write, K: Keeper>(
     alloc: Global,
     sheet: Sheet,
     together: usize,
@@ -157,6 +153,92 @@ pub fn run_behind<R: Read + Drop, W: Write, K: Keeper>(
     }
     skip_rows(&mut rows, &mut row, passed)?;
     do_rows(alloc, sheet, together, &mut rows, &mut row, writer, desk)
+}
+
+/// Does the records of a sheet behind the first `passed` ones in order, at most this many together: they are kept
+/// together, and then each has its line. The first ones have been done or decided before; they are read, and no more.
+/// The writer is not flushed.
+///
+/// # Errors
+///
+/// Those of `run_sheet`. `Read` also where the sheet has not so many records.
+pub fn run_behind<R: Read + Drop, W: Write, K: Keeper>(
+    alloc: Global,
+    sheet: Sheet,
+    together: usize,
+    passed: u32,
+    reader: R,
+    writer: &mut W,
+    desk: &mut Desk<K>,
+) -> Result<Tally, SheetFault>
+    requires together { 1 ≤ together }
+    ensures runs { IfSome (R.remaining reader) (λ input. (front : List (List Text))
+        → StandAtFront input front → length front ≡ passed
+        → RunsBehind front sheet together desk.old.limits input (state_of desk.old.image)
+        (state_of desk.new.image) (W.contents writer.old) (W.contents writer.new) result) }
+    ensures desk { LeavesDesk K.may_hold desk.old desk.new result }
+    ensures broken { result ≡ Err (SheetFault.Desk Fault.Keep) → (c : Result ImageRows Table)
+        → K.may_hold desk.new.keeper c → IfSome (R.remaining reader) (λ input.
+        (front : List (List Text)) → StandAtFront input front → length front ≡ passed
+        → BreaksOffBehind front sheet together desk.old.limits input (state_of desk.old.image)
+        (state_of desk.new.image) (W.contents writer.old) (W.contents writer.new) c) }
+    ensures still { result ≡ Err (SheetFault.Desk Fault.Keep) → together ≡ 1
+        → desk.new.is_ahead ≡ false }
+    ensures left { IsAfterCommands desk.old.limits (state_of desk.old.image)
+        (state_of desk.new.image) }
+{
+    run_groups(
+        alloc,
+        sheet,
+        together,
+        passed,
+        Whole { reader },
+        writer,
+        desk,
+    )
+}
+
+/// Does the records of a sheet that is sent piece by piece, behind the first `passed` ones: at most this many together,
+/// and no more than have arrived. So no line of a reply waits for bytes that are still to come. The writer is not
+/// flushed.
+///
+/// # Errors
+///
+/// Those of `run_behind`.
+pub fn run_arriving<R: Read + Drop, W: Write, K: Keeper>(
+    alloc: Global,
+    sheet: Sheet,
+    together: usize,
+    passed: u32,
+    reader: R,
+    writer: &mut W,
+    desk: &mut Desk<K>,
+) -> Result<Tally, SheetFault>
+    requires together { 1 ≤ together }
+    ensures runs { IfSome (R.remaining reader) (λ input. (front : List (List Text))
+        → StandAtFront input front → length front ≡ passed
+        → RunsBehind front sheet together desk.old.limits input (state_of desk.old.image)
+        (state_of desk.new.image) (W.contents writer.old) (W.contents writer.new) result) }
+    ensures desk { LeavesDesk K.may_hold desk.old desk.new result }
+    ensures broken { result ≡ Err (SheetFault.Desk Fault.Keep) → (c : Result ImageRows Table)
+        → K.may_hold desk.new.keeper c → IfSome (R.remaining reader) (λ input.
+        (front : List (List Text)) → StandAtFront input front → length front ≡ passed
+        → BreaksOffBehind front sheet together desk.old.limits input (state_of desk.old.image)
+        (state_of desk.new.image) (W.contents writer.old) (W.contents writer.new) c) }
+    ensures still { result ≡ Err (SheetFault.Desk Fault.Keep) → together ≡ 1
+        → desk.new.is_ahead ≡ false }
+    ensures left { IsAfterCommands desk.old.limits (state_of desk.old.image)
+        (state_of desk.new.image) }
+{
+    run_groups(
+        alloc,
+        sheet,
+        together,
+        passed,
+        Arriving::new(reader),
+        writer,
+        desk,
+    )
 }
 
 /// Does the records of a sheet in order, at most this many together: they are kept together, and then each has its

@@ -3,7 +3,7 @@ use Rattle.csv.specs.Records.{fields_of}
 use Rattle.lrs_machine.specs.Image.{state_of}
 use Rattle.lrs_sheet.proofs.Left.{done_rows}
 use Rattle.lrs_sheet.proofs.Whole.{bad-header, broke-under, empty-sheet, under-header}
-use Rattle.lrs_sheet.proofs.run.run_behind.Goals as goal
+use Rattle.lrs_sheet.proofs.run.run_groups.Goals as goal
 
 pub returns-then-not-branch-clause-runs : goal.returns-then-not-branch-clause-runs
 returns-then-not-branch-clause-runs g c = empty-sheet c.args.sheet c.args.together g.R.Read.remaining c.open-rows.result (g.R.Read.remaining c.args.reader) c.args.desk.now.limits (state_of c.args.desk.now.image) (g.W.Write.contents c.args.writer.now) c.default.result c.args.passed
