@@ -1,5 +1,5 @@
 -- What is shown has no float.
-use Rattle.std.proofs.Common.{◌≡◌, ℕ, List, [], ◌∷◌, Bool, false, ◌||◌, refl, ap, ◌∙◌, Option, None, Some}
+use Rattle.std.proofs.Common.{◌≡◌, ℕ, List, [], ◌∷◌, Bool, false, ◌||◌, map, refl, ap, ◌∙◌, Option, None, Some}
 use Rattle.serde_json.specs.Data.{Data}
 use Rattle.serde_json.specs.Written.{has_float}
 use Rattle.lrs_measure.specs.Texts.{Name}
@@ -8,15 +8,11 @@ use Rattle.lrs_element.specs.declared.link.Piece.{Piece}
 use Rattle.lrs_position.specs.declared.route.Route.{Route}
 use Rattle.lrs_events.specs.declared.side.Side.{Side}
 use Rattle.lrs_machine.specs.declared.segment.Segment.{Segment}
-use Rattle.lrs_machine.specs.declared.total.Total.{Total}
 use Rattle.lrs_machine.specs.declared.hit.Hit.{Hit}
-use Rattle.lrs_answers.specs.declared.rows.FoundRow.{FoundRow}
-use Rattle.lrs_answers.specs.declared.route_list.RouteLength.{RouteLength}
-use Rattle.lrs_lengths.specs.declared.table.ValueLength.{ValueLength}
 use Rattle.lrs_whereabouts.specs.declared.answer.Whereabouts.{Whereabouts}
-use Rattle.lrs_web_replies.specs.Reports.{length_data, lengths_data, place_data, whereabouts_data}
+use Rattle.lrs_web_replies.specs.Reports.{named_list, place_data, whereabouts_data}
 use Rattle.lrs_web_replies.specs.Shown.{each}
-use Rattle.lrs_web_replies.specs.Answers.{at_data, hit_data, mark_data, piece_data, referent_data, route_data, ShowsRoute, value_data, segment_data, segments_data, route_length_data, routes_data, total_data, totals_data, row_data, found_data}
+use Rattle.lrs_web_replies.specs.Answers.{at_data, hit_data, mark_data, piece_data, referent_data, route_data, ShowsRoute, value_data, segment_data, segments_data}
 
 neither : (a b : Bool) → a ≡ false → b ≡ false → (a || b) ≡ false
 neither a b p q = ap (λ x. x || b) p ∙ q
@@ -50,21 +46,8 @@ pub segments_whole : (d : Data) (route : Name) (side : Side) (segments : List Se
 segments_whole d route side segments is =
     ap has_float is ∙ neither (has_float (each segment_data segments)) false (each_whole segment_data segment_whole segments) refl
 
-pub routes_whole : (d : Data) (routes : List RouteLength) → d ≡ routes_data routes → has_float d ≡ false
-routes_whole d routes is =
-    ap has_float is ∙ neither (has_float (each route_length_data routes)) false (each_whole route_length_data (λ r. refl) routes) refl
-
-pub totals_whole : (d : Data) (totals : List Total) → d ≡ totals_data totals → has_float d ≡ false
-totals_whole d totals is =
-    ap has_float is ∙ neither (has_float (each total_data totals)) false (each_whole total_data (λ t. refl) totals) refl
-
-pub found_whole : (d : Data) (rows : List FoundRow) → d ≡ found_data rows → has_float d ≡ false
-found_whole d rows is =
-    ap has_float is ∙ neither (has_float (each row_data rows)) false (each_whole row_data (λ r. refl) rows) refl
-
-pub lengths_whole : (d : Data) (lengths : List ValueLength) → d ≡ lengths_data lengths → has_float d ≡ false
-lengths_whole d lengths is =
-    ap has_float is ∙ neither (has_float (each length_data lengths)) false (each_whole length_data (λ l. refl) lengths) refl
+pub list_whole : {A : Type 0} (d : Data) (name : List ℕ) (shown : A → Data) (xs : List A) → ((x : A) → has_float (shown x) ≡ false) → d ≡ named_list name (map shown xs) → has_float d ≡ false
+list_whole d name shown xs whole is = ap has_float is ∙ neither (has_float (each shown xs)) false (each_whole shown whole xs) refl
 
 pub whereabouts_whole : (d : Data) (w : Whereabouts) → d ≡ whereabouts_data w → has_float d ≡ false
 whereabouts_whole d w is =

@@ -1,4 +1,5 @@
 pub mod Shown
+pub mod Members
 pub mod Answers
 pub mod Questions
 pub mod Faults

@@ -1,15 +1,16 @@
 //! Answers as the bytes of JSON texts.
 
-ghost use Rattle.std.specs.Prelude.{◌≡◌, false, IfOk};
+ghost use Rattle.std.specs.Prelude.{◌≡◌, false, map, IfOk};
 ghost use Rattle.std.specs.Str.{IsAscii};
 ghost use Rattle.serde_json.specs.Data.{Data};
 ghost use Rattle.serde_json.specs.View.{view};
 ghost use Rattle.serde_json.specs.Written.{compact_text, has_float};
-ghost use Rattle.lrs_web_replies.specs.Reports.{lengths_data, whereabouts_data};
-ghost use Rattle.lrs_web_replies.specs.Answers.{at_data, ShowsRoute, segments_data, translated_data, on_link_data, routes_data, totals_data, found_data, error_data};
+ghost use Rattle.lrs_web_replies.specs.Reports.{lengths_data, named_list, whereabouts_data};
+ghost use Rattle.lrs_web_replies.specs.Answers.{at_data, direction_text, ShowsRoute, segments_data, translated_data, on_link_data, routes_data, totals_data, found_data, error_data};
 ghost use Rattle.lrs_machine.specs.Lines.{method_text};
 
-use crate::list::{Shown, list_value};
+use crate::list::Shown;
+use crate::members::{Member, Scalar, members_of, object_of, put_list};
 use lrs_answers::{FoundRow, RouteLength};
 use lrs_element::Ground;
 use lrs_events::Side;
@@ -18,7 +19,7 @@ use lrs_machine::{Hit, Segment, Total};
 use lrs_measure::Frac;
 use lrs_position::{Expr, Route, RouteName};
 use lrs_whereabouts::Whereabouts;
-use serde_json::{Value, json};
+use serde_json::{Map, Value, json};
 use std::alloc::{AllocError, Global};
 
 /// The text of a value without space.
@@ -40,6 +41,13 @@ pub(crate) fn name_of(route: &RouteName) -> &str
     }
 }
 
+/// Whether a route runs along a link or against it.
+fn direction_of(forward: bool) -> &'static str
+    ensures { result.now ≡ direction_text forward }
+{
+    if forward { "+" } else { "-" }
+}
+
 fn at_value(
     alloc: Global,
     route: &RouteName,
@@ -49,10 +57,18 @@ fn at_value(
 ) -> Result<Value, AllocError>
     ensures { IfOk result (λ value. view value ≡ at_data route.now at here hits.now) }
 {
-    let hits = list_value(alloc, hits)?;
-    let direction = if here.forward { "+" } else { "-" };
-    let route = name_of(route);
-    json!(in alloc; {"at": at, "dir": direction, "hits": hits, "link": here.link, "mm": here.mm, "route": route})
+    let mut members = members_of(
+        alloc,
+        &[
+            Member("at", Scalar::Whole(at)),
+            Member("dir", Scalar::Word(direction_of(here.forward))),
+            Member("link", Scalar::Whole(u64::from(here.link))),
+            Member("mm", Scalar::Whole(u64::from(here.mm))),
+            Member("route", Scalar::Route(*route)),
+        ],
+    )?;
+    put_list(alloc, &mut members, "hits", hits)?;
+    Ok(Value::Object(members))
 }
 
 /// The millimetre of a route in which a position stands, the millimetre of a link that it is, and who holds it.
@@ -77,12 +93,17 @@ pub fn at_json(
 fn route_value(alloc: Global, route: &Route) -> Result<Value, AllocError>
     ensures { IfOk result (λ value. ShowsRoute route.now (view value)) }
 {
-    let marks = list_value(alloc, route.marks.list())?;
-    let pieces = list_value(alloc, route.course.pieces())?;
-    let refs = list_value(alloc, route.refs.as_slice())?;
-    let length = route.length();
-    let name = name_of(&route.name);
-    json!(in alloc; {"length": length, "marks": marks, "name": name, "pieces": pieces, "refs": refs})
+    let mut members = members_of(
+        alloc,
+        &[
+            Member("length", Scalar::Whole(route.length())),
+            Member("name", Scalar::Route(route.name)),
+        ],
+    )?;
+    put_list(alloc, &mut members, "marks", route.marks.list())?;
+    put_list(alloc, &mut members, "pieces", route.course.pieces())?;
+    put_list(alloc, &mut members, "refs", route.refs.as_slice())?;
+    Ok(Value::Object(members))
 }
 
 /// A route: its length, its marks, the fewest pieces that it runs over, and its referents by name.
@@ -106,10 +127,15 @@ fn segments_value(
 ) -> Result<Value, AllocError>
     ensures { IfOk result (λ value. view value ≡ segments_data route.now side segments.now) }
 {
-    let segments = list_value(alloc, segments)?;
-    let side = format!(in alloc; "{side}")?;
-    let route = name_of(route);
-    json!(in alloc; {"route": route, "segments": segments, "side": side})
+    let mut members = members_of(
+        alloc,
+        &[
+            Member("route", Scalar::Route(*route)),
+            Member("side", Scalar::Side(side)),
+        ],
+    )?;
+    put_list(alloc, &mut members, "segments", segments)?;
+    Ok(Value::Object(members))
 }
 
 /// The segments of a side of a route; a value that is missing is `-`.
@@ -140,13 +166,21 @@ pub(crate) fn method_of(expression: Expr) -> &'static str
     }
 }
 
-fn translated_value(alloc: Global, route: &RouteName, expression: Expr) -> Result<Value, AllocError>
-    ensures { IfOk result (λ value. view value ≡ translated_data route.now expression) }
+fn translated_value(
+    alloc: Global,
+    route: &RouteName,
+    expression: &Expr,
+) -> Result<Value, AllocError>
+    ensures { IfOk result (λ value. view value ≡ translated_data route.now expression.now) }
 {
-    let position = format!(in alloc; "{expression}")?;
-    let method = method_of(expression);
-    let route = name_of(route);
-    json!(in alloc; {"method": method, "pos": position, "route": route})
+    object_of(
+        alloc,
+        &[
+            Member("method", Scalar::Word(method_of(*expression))),
+            Member("pos", Scalar::Position(*expression)),
+            Member("route", Scalar::Route(*route)),
+        ],
+    )
 }
 
 /// A position on a route, with its method.
@@ -161,7 +195,7 @@ pub fn translated_json(
     ensures { IfOk result (λ bytes. bytes.items ≡ compact_text
         (translated_data route.now expression)) }
 {
-    let value = translated_value(alloc, route, expression)?;
+    let value = translated_value(alloc, route, &expression)?;
     bytes_of(alloc, &value)
 }
 
@@ -173,9 +207,14 @@ fn link_value(
 ) -> Result<Value, AllocError>
     ensures { IfOk result (λ value. view value ≡ on_link_data route.now (link, distance)) }
 {
-    let position = format!(in alloc; "{link}:{distance}")?;
-    let route = name_of(route);
-    json!(in alloc; {"method": "link", "pos": position, "route": route})
+    object_of(
+        alloc,
+        &[
+            Member("method", Scalar::Word("link")),
+            Member("pos", Scalar::OnLink(link, distance)),
+            Member("route", Scalar::Route(*route)),
+        ],
+    )
 }
 
 /// A position on the link under a route: the link, and the distance in millimetres from its start.
@@ -195,99 +234,81 @@ pub fn link_json(
     bytes_of(alloc, &value)
 }
 
-fn totals_value(alloc: Global, totals: &[Total]) -> Result<Value, AllocError>
-    ensures { IfOk result (λ value. view value ≡ totals_data totals.now) }
+fn list_value_under<T: Shown>(alloc: Global, name: &str, list: &[T]) -> Result<Value, AllocError>
+    ensures { IfOk result (λ value. view value ≡ named_list name.now (map T.shown list.now)) }
 {
-    let totals = list_value(alloc, totals)?;
-    json!(in alloc; {"totals": totals})
+    let mut members = Map::new(alloc);
+    put_list(alloc, &mut members, name, list)?;
+    Ok(Value::Object(members))
+}
+
+/// An object whose one member is a list.
+fn list_json<T: Shown>(alloc: Global, name: &str, list: &[T]) -> Result<Vec<u8>, AllocError>
+    requires whole { (one : T) → has_float (T.shown one) ≡ false }
+    ensures { IfOk result (λ bytes. bytes.items
+        ≡ compact_text (named_list name.now (map T.shown list.now))) }
+{
+    let value = list_value_under(alloc, name, list)?;
+    bytes_of(alloc, &value)
 }
 
 /// The totals of classes, in side millimetres.
 ///
 /// # Errors
 /// When memory runs out.
-#[tactic(auto, using(crate::proofs::Whole::totals_whole))]
 pub fn totals_json(alloc: Global, totals: &[Total]) -> Result<Vec<u8>, AllocError>
     ensures { IfOk result (λ bytes. bytes.items ≡ compact_text (totals_data totals.now)) }
 {
-    let value = totals_value(alloc, totals)?;
-    bytes_of(alloc, &value)
-}
-
-fn routes_value(alloc: Global, routes: &[RouteLength]) -> Result<Value, AllocError>
-    ensures { IfOk result (λ value. view value ≡ routes_data routes.now) }
-{
-    let routes = list_value(alloc, routes)?;
-    json!(in alloc; {"routes": routes})
+    list_json(alloc, "totals", totals)
 }
 
 /// The routes, and how long each is.
 ///
 /// # Errors
 /// When memory runs out.
-#[tactic(auto, using(crate::proofs::Whole::routes_whole))]
 pub fn routes_json(alloc: Global, routes: &[RouteLength]) -> Result<Vec<u8>, AllocError>
     ensures { IfOk result (λ bytes. bytes.items ≡ compact_text (routes_data routes.now)) }
 {
-    let value = routes_value(alloc, routes)?;
-    bytes_of(alloc, &value)
-}
-
-fn found_value(alloc: Global, rows: &[FoundRow]) -> Result<Value, AllocError>
-    ensures { IfOk result (λ value. view value ≡ found_data rows.now) }
-{
-    let rows = list_value(alloc, rows)?;
-    json!(in alloc; {"rows": rows})
+    list_json(alloc, "routes", routes)
 }
 
 /// The stretches that an asset holds.
 ///
 /// # Errors
 /// When memory runs out.
-#[tactic(auto, using(crate::proofs::Whole::found_whole))]
 pub fn found_json(alloc: Global, rows: &[FoundRow]) -> Result<Vec<u8>, AllocError>
     ensures { IfOk result (λ bytes. bytes.items ≡ compact_text (found_data rows.now)) }
 {
-    let value = found_value(alloc, rows)?;
-    bytes_of(alloc, &value)
-}
-
-fn lengths_value(alloc: Global, lengths: &[ValueLength]) -> Result<Value, AllocError>
-    ensures { IfOk result (λ value. view value ≡ lengths_data lengths.now) }
-{
-    let lengths = list_value(alloc, lengths)?;
-    json!(in alloc; {"lengths": lengths})
+    list_json(alloc, "rows", rows)
 }
 
 /// How long each value of each class is, in millimetres.
 ///
 /// # Errors
 /// When memory runs out.
-#[tactic(auto, using(crate::proofs::Whole::lengths_whole))]
 pub fn lengths_json(alloc: Global, lengths: &[ValueLength]) -> Result<Vec<u8>, AllocError>
     ensures { IfOk result (λ bytes. bytes.items ≡ compact_text (lengths_data lengths.now)) }
 {
-    let value = lengths_value(alloc, lengths)?;
-    bytes_of(alloc, &value)
+    list_json(alloc, "lengths", lengths)
 }
 
 fn whereabouts_value(alloc: Global, found: &Whereabouts) -> Result<Value, AllocError>
     ensures { IfOk result (λ value. view value ≡ whereabouts_data found.now) }
 {
-    let hits = list_value(alloc, found.found.hits.as_slice())?;
-    let positions = list_value(alloc, found.positions.as_slice())?;
     let ground = found.found.ground;
-    let direction = if ground.forward { "+" } else { "-" };
-    let route = name_of(&found.route);
-    json!(in alloc; {
-        "at": found.found.at,
-        "dir": direction,
-        "hits": hits,
-        "link": ground.link,
-        "mm": ground.mm,
-        "positions": positions,
-        "route": route
-    })
+    let mut members = members_of(
+        alloc,
+        &[
+            Member("at", Scalar::Whole(found.found.at)),
+            Member("dir", Scalar::Word(direction_of(ground.forward))),
+            Member("link", Scalar::Whole(u64::from(ground.link))),
+            Member("mm", Scalar::Whole(u64::from(ground.mm))),
+            Member("route", Scalar::Route(found.route)),
+        ],
+    )?;
+    put_list(alloc, &mut members, "hits", found.found.hits.as_slice())?;
+    put_list(alloc, &mut members, "positions", found.positions.as_slice())?;
+    Ok(Value::Object(members))
 }
 
 /// What is at a place: the millimetre there, who holds it, and the place by each method.

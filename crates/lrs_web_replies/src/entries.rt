@@ -1,21 +1,23 @@
 //! The entries of reports, as JSON.
 
-ghost use Rattle.std.specs.Prelude.{◌≡◌, IfOk, string_bytes};
+ghost use Rattle.std.specs.Prelude.{◌≡◌, IfOk};
 ghost use Rattle.std.specs.Option.{option_map};
 ghost use Rattle.serde_json.specs.Data.{string};
 ghost use Rattle.serde_json.specs.View.{view};
 ghost use Rattle.lrs_lists.specs.Measures.{measure_text};
+ghost use Rattle.lrs_web_replies.specs.Members.{scalar_data};
 ghost use Rattle.lrs_web_replies.specs.Reports.{gone_data_with, ref_data, row_data_with, said_of};
 ghost use Rattle.lrs_web_replies.specs.Shown.{whole};
 
-use crate::answers::{method_of, name_of};
+use crate::answers::method_of;
 use crate::list::Shown;
+use crate::members::{Member, Scalar, object_of};
 use lrs_element::Link;
 use lrs_events::{Asset, Class, Gone, Span};
 use lrs_lengths::ValueLength;
 use lrs_lists::{link_side_text, measure_on, reason_text};
 use lrs_position::{Expr, Referent, Route};
-use serde_json::{Value, json};
+use serde_json::Value;
 use std::alloc::{AllocError, Global};
 
 impl Shown for Link {
@@ -24,7 +26,13 @@ impl Shown for Link {
     ghost shown = { link_data };
 
     fn value(&self, alloc: Global) -> Result<Value, AllocError> {
-        json!(in alloc; {"length": self.length, "link": self.number})
+        object_of(
+            alloc,
+            &[
+                Member("length", Scalar::Whole(u64::from(self.length))),
+                Member("link", Scalar::Whole(u64::from(self.number))),
+            ],
+        )
     }
 }
 
@@ -34,11 +42,13 @@ impl Shown for Class {
     ghost shown = { class_data };
 
     fn value(&self, alloc: Global) -> Result<Value, AllocError> {
-        let name = self.name;
-        let kind = self.kind;
-        let name = format!(in alloc; "{name}")?;
-        let kind = format!(in alloc; "{kind}")?;
-        json!(in alloc; {"class": name, "kind": kind})
+        object_of(
+            alloc,
+            &[
+                Member("class", Scalar::Class(self.name)),
+                Member("kind", Scalar::Kind(self.kind)),
+            ],
+        )
     }
 }
 
@@ -48,11 +58,16 @@ impl Shown for ValueLength {
     ghost shown = { length_data };
 
     fn value(&self, alloc: Global) -> Result<Value, AllocError> {
-        let class = self.class;
-        let value = self.value;
-        let class = format!(in alloc; "{class}")?;
-        let value = format!(in alloc; "{value}")?;
-        json!(in alloc; {"class": class, "left": self.left, "length": self.length, "right": self.right, "value": value})
+        object_of(
+            alloc,
+            &[
+                Member("class", Scalar::Class(self.class)),
+                Member("left", Scalar::Whole(self.left)),
+                Member("length", Scalar::Whole(self.length)),
+                Member("right", Scalar::Whole(self.right)),
+                Member("value", Scalar::Held(self.value)),
+            ],
+        )
     }
 }
 
@@ -62,21 +77,21 @@ impl Shown for Expr {
     ghost shown = { place_data };
 
     fn value(&self, alloc: Global) -> Result<Value, AllocError> {
-        let method = method_of(*self);
-        let position = *self;
-        let position = format!(in alloc; "{position}")?;
-        json!(in alloc; {"method": method, "pos": position})
+        object_of(
+            alloc,
+            &[
+                Member("method", Scalar::Word(method_of(*self))),
+                Member("pos", Scalar::Position(*self)),
+            ],
+        )
     }
 }
 
 /// The measure at a chainage; no text behind the route.
-fn measure_at(alloc: Global, route: &Route, chainage: u64) -> Result<String, AllocError>
-    ensures { IfOk result (λ text. string_bytes text ≡ measure_text route.now.marks chainage) }
+fn measure_at(route: &Route, chainage: u64) -> Scalar
+    ensures { scalar_data result ≡ string (measure_text route.now.marks chainage) }
 {
-    match measure_on(route, chainage) {
-        Some(measure) => format!(in alloc; "{measure}"),
-        None => Ok(String::new(alloc)),
-    }
+    Scalar::Measure(measure_on(route, chainage))
 }
 
 /// A referent of a route.
@@ -87,58 +102,54 @@ pub(crate) fn ref_value(
 ) -> Result<Value, AllocError>
     ensures { IfOk result (λ value. view value ≡ ref_data route.now referent.now) }
 {
-    let name = referent.name;
-    let name = format!(in alloc; "{name}")?;
-    let measure = measure_at(alloc, route, referent.at)?;
-    let route = name_of(&route.name);
-    json!(in alloc; {"chainage": referent.at, "measure": measure, "ref": name, "route": route})
+    object_of(
+        alloc,
+        &[
+            Member("chainage", Scalar::Whole(referent.at)),
+            Member("measure", measure_at(route, referent.at)),
+            Member("ref", Scalar::Referent(referent.name)),
+            Member("route", Scalar::Route(route.name)),
+        ],
+    )
 }
 
-fn entry_of(asset: Option<&Asset>) -> Value
-    ensures { view result
+fn entry_of(asset: Option<&Asset>) -> Scalar
+    ensures { scalar_data result
         ≡ said_of (λ x. whole x.entered_by) (option_map (λ a. a.now) asset.entry) }
 {
     match asset {
-        Some(asset) => Value::from(asset.entered_by),
-        None => Value::Null,
+        Some(asset) => Scalar::Whole(asset.entered_by),
+        None => Scalar::Null,
     }
 }
 
-fn offset_of(asset: Option<&Asset>) -> Value
-    ensures { view result
+fn offset_of(asset: Option<&Asset>) -> Scalar
+    ensures { scalar_data result
         ≡ said_of (λ x. whole x.lateral) (option_map (λ a. a.now) asset.entry) }
 {
     match asset {
-        Some(asset) => Value::from(asset.lateral),
-        None => Value::Null,
+        Some(asset) => Scalar::Whole(u64::from(asset.lateral)),
+        None => Scalar::Null,
     }
 }
 
-fn class_of(alloc: Global, asset: Option<&Asset>) -> Result<Value, AllocError>
-    ensures { IfOk result (λ value. view value
-        ≡ said_of (λ x. string x.class) (option_map (λ a. a.now) asset.entry)) }
+fn class_of(asset: Option<&Asset>) -> Scalar
+    ensures { scalar_data result
+        ≡ said_of (λ x. string x.class) (option_map (λ a. a.now) asset.entry) }
 {
     match asset {
-        Some(asset) => {
-            let class = asset.class;
-            let text = format!(in alloc; "{class}")?;
-            Ok(Value::from(text))
-        }
-        None => Ok(Value::Null),
+        Some(asset) => Scalar::Class(asset.class),
+        None => Scalar::Null,
     }
 }
 
-fn value_of(alloc: Global, asset: Option<&Asset>) -> Result<Value, AllocError>
-    ensures { IfOk result (λ value. view value
-        ≡ said_of (λ x. string x.value) (option_map (λ a. a.now) asset.entry)) }
+fn value_of(asset: Option<&Asset>) -> Scalar
+    ensures { scalar_data result
+        ≡ said_of (λ x. string x.value) (option_map (λ a. a.now) asset.entry) }
 {
     match asset {
-        Some(asset) => {
-            let value = asset.value;
-            let text = format!(in alloc; "{value}")?;
-            Ok(Value::from(text))
-        }
-        None => Ok(Value::Null),
+        Some(asset) => Scalar::Held(asset.value),
+        None => Scalar::Null,
     }
 }
 
@@ -152,29 +163,22 @@ pub(crate) fn row_value(
     ensures { IfOk result (λ value. view value
         ≡ row_data_with (option_map (λ a. a.now) asset.entry) route.now row.now) }
 {
-    let class = row.class;
-    let class = format!(in alloc; "{class}")?;
-    let side = row.side;
-    let side = format!(in alloc; "{side}")?;
-    let entry = entry_of(asset);
-    let offset = offset_of(asset);
-    let value = value_of(alloc, asset)?;
-    let from_measure = measure_at(alloc, route, row.from)?;
-    let to_measure = measure_at(alloc, route, row.to)?;
-    let route = name_of(&route.name);
-    json!(in alloc; {
-        "asset": row.asset,
-        "class": class,
-        "entered_by": entry,
-        "from": row.from,
-        "from_measure": from_measure,
-        "offset": offset,
-        "route": route,
-        "side": side,
-        "to": row.to,
-        "to_measure": to_measure,
-        "value": value
-    })
+    object_of(
+        alloc,
+        &[
+            Member("asset", Scalar::Whole(row.asset)),
+            Member("class", Scalar::Class(row.class)),
+            Member("entered_by", entry_of(asset)),
+            Member("from", Scalar::Whole(row.from)),
+            Member("from_measure", measure_at(route, row.from)),
+            Member("offset", offset_of(asset)),
+            Member("route", Scalar::Route(route.name)),
+            Member("side", Scalar::Side(row.side)),
+            Member("to", Scalar::Whole(row.to)),
+            Member("to_measure", measure_at(route, row.to)),
+            Member("value", value_of(asset)),
+        ],
+    )
 }
 
 /// A part that is gone, of a known asset or of none.
@@ -186,19 +190,18 @@ pub(crate) fn gone_value(
     ensures { IfOk result (λ value. view value
         ≡ gone_data_with (option_map (λ a. a.now) asset.entry) gone.now) }
 {
-    let class = class_of(alloc, asset)?;
-    let value = value_of(alloc, asset)?;
-    let reason = reason_text(gone.abandoned);
-    let side = link_side_text(gone.part.side);
-    json!(in alloc; {
-        "asset": gone.part.asset,
-        "class": class,
-        "edit": gone.part.edit,
-        "from": gone.part.from,
-        "link": gone.part.link,
-        "reason": reason,
-        "side": side,
-        "to": gone.part.to,
-        "value": value
-    })
+    object_of(
+        alloc,
+        &[
+            Member("asset", Scalar::Whole(gone.part.asset)),
+            Member("class", class_of(asset)),
+            Member("edit", Scalar::Whole(gone.part.edit)),
+            Member("from", Scalar::Whole(u64::from(gone.part.from))),
+            Member("link", Scalar::Whole(u64::from(gone.part.link))),
+            Member("reason", Scalar::Word(reason_text(gone.abandoned))),
+            Member("side", Scalar::Word(link_side_text(gone.part.side))),
+            Member("to", Scalar::Whole(u64::from(gone.part.to))),
+            Member("value", value_of(asset)),
+        ],
+    )
 }

@@ -6,6 +6,7 @@ mod answers;
 mod entries;
 mod list;
 mod list_text;
+mod members;
 mod parameters;
 mod parts;
 mod question;

@@ -1,11 +1,12 @@
 //! The parameters of a query, each read by the reader of its text.
 
-ghost use Rattle.std.specs.Prelude.{◌≡◌, ◌⊎◌, ℕ, Option, IfOk, IfErr, IfSome, IfNone, IsTrue, map};
+ghost use Rattle.std.specs.Prelude.{◌≡◌, ◌≤◌, ◌⊎◌, ℕ, Option, IfOk, IfErr, IfSome, IfNone, IsTrue, map};
 ghost use Rattle.std.specs.List.{list_all};
 ghost use Rattle.std.specs.Cow.{cow_str_bytes};
 ghost use Rattle.lrs_events.specs.Names.{is_class_name};
 ghost use Rattle.lrs_position.specs.declared.expression.Expr.{Expr as Expression};
-ghost use Rattle.lrs_web_replies.specs.Questions.{SaysDestination, SaysNumber, GivesAsset, GivesAssetOrAll, GivesChainage, GivesClassOrAll, GivesClasses, GivesClassesOrAll, GivesDestination, GivesEditOrAll, GivesFirstEdit, GivesFrom, GivesLink, GivesMethod, GivesMillimetre, GivesPlaceOnRoute, GivesPosition, GivesPositionBy, GivesRoute, GivesRouteOrAll, GivesSide, GivesUpTo, is_on_link};
+ghost use Rattle.lrs_web_replies.specs.Questions.{Said, SaidIfGiven, SaysDestination, SaysNumber, GivesAsset, GivesAssetOrAll, GivesClassOrAll, GivesClasses, GivesClassesOrAll, GivesDestination, GivesEditOrAll, GivesFirstEdit, GivesFrom, GivesLink, GivesMethod, GivesMillimetre, GivesPlaceOnRoute, GivesPosition, GivesPositionBy, GivesRoute, GivesRouteOrAll, GivesSide, GivesUpTo, is_on_link};
+ghost use Rattle.lrs_web_requests.specs.Query.{parameter};
 ghost use Rattle.lrs_web_replies.specs.Faults.{Lacks, LacksPosition};
 
 use crate::question::{Parameter, QueryFault};
@@ -195,17 +196,61 @@ fn read_number(text: &str, least: u64, greatest: u64) -> Option<u64>
     }
 }
 
+/// The number between bounds that a parameter says; the fault where it says none.
+fn number_in(
+    alloc: Global,
+    query: &[u8],
+    name: &str,
+    least: u64,
+    greatest: u64,
+    fault: QueryFault,
+) -> Result<u64, QueryFault>
+    ensures read { IfOk result (Said (SaysNumber least greatest) (parameter name.now query.now)) }
+    ensures below { IfOk result (λ number. number ≤ greatest) }
+    ensures unread { IfErr result (λ e. (e ≡ QueryFault.Memory)
+        ⊎ ((e ≡ fault)
+        × ((number : ℕ) → Said (SaysNumber least greatest) (parameter name.now query.now) number
+        → ⊥))) }
+{
+    match value_of(alloc, query, name)? {
+        Some(text) => match read_number(text.as_str(), least, greatest) {
+            Some(number) => Ok(number),
+            None => Err(fault),
+        },
+        None => Err(fault),
+    }
+}
+
+/// The number between bounds that a parameter says, if it is given; the fault where it says none.
+fn number_if_given(
+    alloc: Global,
+    query: &[u8],
+    name: &str,
+    least: u64,
+    greatest: u64,
+    fault: QueryFault,
+) -> Result<Option<u64>, QueryFault>
+    ensures read { IfOk result (SaidIfGiven (SaysNumber least greatest)
+        (parameter name.now query.now)) }
+    ensures unread { IfErr result (λ e. (e ≡ QueryFault.Memory)
+        ⊎ ((e ≡ fault)
+        × ((number : Option ℕ) → SaidIfGiven (SaysNumber least greatest)
+        (parameter name.now query.now) number → ⊥))) }
+{
+    match value_of(alloc, query, name)? {
+        Some(text) => match read_number(text.as_str(), least, greatest) {
+            Some(number) => Ok(Some(number)),
+            None => Err(fault),
+        },
+        None => Ok(None),
+    }
+}
+
 pub(crate) fn asset_in(alloc: Global, query: &[u8]) -> Result<u64, QueryFault>
     ensures read { IfOk result (GivesAsset query.now) }
     ensures unread { IfErr result (Lacks Parameter.Asset query.now) }
 {
-    match value_of(alloc, query, "asset")? {
-        Some(text) => match read_number(text.as_str(), 1, GREATEST_ASSET) {
-            Some(asset) => Ok(asset),
-            None => Err(NO_ASSET),
-        },
-        None => Err(NO_ASSET),
-    }
+    number_in(alloc, query, "asset", 1, GREATEST_ASSET, NO_ASSET)
 }
 
 /// The first edit of the log that is asked for.
@@ -222,39 +267,18 @@ pub(crate) fn first_edit_in(alloc: Global, query: &[u8]) -> Result<u64, QueryFau
     }
 }
 
-/// The chainage that a parameter says, if it is given; the fault where it says none.
-fn chainage_in(
-    alloc: Global,
-    query: &[u8],
-    name: &str,
-    fault: QueryFault,
-) -> Result<Option<u64>, QueryFault>
-    ensures read { IfOk result (GivesChainage name.now query.now) }
-    ensures unread { IfErr result (λ e. (e ≡ QueryFault.Memory)
-        ⊎ ((e ≡ fault)
-        × ((chainage : Option ℕ) → GivesChainage name.now query.now chainage → ⊥))) }
-{
-    match value_of(alloc, query, name)? {
-        Some(text) => match read_number(text.as_str(), 0, LONGEST_ROUTE) {
-            Some(chainage) => Ok(Some(chainage)),
-            None => Err(fault),
-        },
-        None => Ok(None),
-    }
-}
-
 pub(crate) fn from_in(alloc: Global, query: &[u8]) -> Result<Option<u64>, QueryFault>
     ensures read { IfOk result (GivesFrom query.now) }
     ensures unread { IfErr result (Lacks Parameter.From query.now) }
 {
-    chainage_in(alloc, query, "from", NO_FROM)
+    number_if_given(alloc, query, "from", 0, LONGEST_ROUTE, NO_FROM)
 }
 
 pub(crate) fn to_in(alloc: Global, query: &[u8]) -> Result<Option<u64>, QueryFault>
     ensures read { IfOk result (GivesUpTo query.now) }
     ensures unread { IfErr result (Lacks Parameter.UpTo query.now) }
 {
-    chainage_in(alloc, query, "to", NO_UP_TO)
+    number_if_given(alloc, query, "to", 0, LONGEST_ROUTE, NO_UP_TO)
 }
 
 /// The route whose rows are asked for, if one is named.
@@ -290,13 +314,7 @@ pub(crate) fn asset_or_all_in(alloc: Global, query: &[u8]) -> Result<Option<u64>
     ensures read { IfOk result (GivesAssetOrAll query.now) }
     ensures unread { IfErr result (Lacks Parameter.AssetOrAll query.now) }
 {
-    match value_of(alloc, query, "asset")? {
-        Some(text) => match read_number(text.as_str(), 1, GREATEST_ASSET) {
-            Some(asset) => Ok(Some(asset)),
-            None => Err(NO_ASSET_OR_ALL),
-        },
-        None => Ok(None),
-    }
+    number_if_given(alloc, query, "asset", 1, GREATEST_ASSET, NO_ASSET_OR_ALL)
 }
 
 /// The edit whose parts that are gone are asked for, if one is named.
@@ -304,13 +322,7 @@ pub(crate) fn edit_or_all_in(alloc: Global, query: &[u8]) -> Result<Option<u64>,
     ensures read { IfOk result (GivesEditOrAll query.now) }
     ensures unread { IfErr result (Lacks Parameter.EditOrAll query.now) }
 {
-    match value_of(alloc, query, "edit")? {
-        Some(text) => match read_number(text.as_str(), 1, MOST_EDITS as u64) {
-            Some(edit) => Ok(Some(edit)),
-            None => Err(NO_EDIT_OR_ALL),
-        },
-        None => Ok(None),
-    }
+    number_if_given(alloc, query, "edit", 1, MOST_EDITS as u64, NO_EDIT_OR_ALL)
 }
 
 /// Whether a place is asked for on a link.
@@ -328,13 +340,7 @@ pub(crate) fn chainage_of_place_in(alloc: Global, query: &[u8]) -> Result<u64, Q
     ensures read { IfOk result (GivesPlaceOnRoute query.now) }
     ensures unread { IfErr result (Lacks Parameter.Chainage query.now) }
 {
-    match value_of(alloc, query, "chainage")? {
-        Some(text) => match read_number(text.as_str(), 0, LONGEST_ROUTE) {
-            Some(chainage) => Ok(chainage),
-            None => Err(NO_CHAINAGE),
-        },
-        None => Err(NO_CHAINAGE),
-    }
+    number_in(alloc, query, "chainage", 0, LONGEST_ROUTE, NO_CHAINAGE)
 }
 
 /// The link on which a place is asked for.
@@ -342,13 +348,8 @@ pub(crate) fn link_in(alloc: Global, query: &[u8]) -> Result<u32, QueryFault>
     ensures read { IfOk result (GivesLink query.now) }
     ensures unread { IfErr result (Lacks Parameter.OnLink query.now) }
 {
-    match value_of(alloc, query, "link")? {
-        Some(text) => match read_number(text.as_str(), 1, u64::from(GREATEST_LINK)) {
-            Some(link) => Ok(link as u32),
-            None => Err(NO_LINK),
-        },
-        None => Err(NO_LINK),
-    }
+    let link = number_in(alloc, query, "link", 1, u64::from(GREATEST_LINK), NO_LINK)?;
+    Ok(link as u32)
 }
 
 /// Where on a link a place is asked for.
@@ -356,11 +357,12 @@ pub(crate) fn millimetre_in(alloc: Global, query: &[u8]) -> Result<u64, QueryFau
     ensures read { IfOk result (GivesMillimetre query.now) }
     ensures unread { IfErr result (Lacks Parameter.Millimetre query.now) }
 {
-    match value_of(alloc, query, "mm")? {
-        Some(text) => match read_number(text.as_str(), 0, u64::from(LONGEST_LINK)) {
-            Some(mm) => Ok(mm),
-            None => Err(NO_MILLIMETRE),
-        },
-        None => Err(NO_MILLIMETRE),
-    }
+    number_in(
+        alloc,
+        query,
+        "mm",
+        0,
+        u64::from(LONGEST_LINK),
+        NO_MILLIMETRE,
+    )
 }

@@ -1,17 +1,17 @@
 //! What the lists of answers are of, as JSON.
 
-ghost use Rattle.std.specs.Prelude.{◌≡◌, IfOk, string_bytes};
-ghost use Rattle.std.specs.Str.{IsAscii};
-ghost use Rattle.serde_json.specs.View.{view};
+ghost use Rattle.std.specs.Prelude.{◌≡◌};
+ghost use Rattle.lrs_web_replies.specs.Answers.{value_data};
+ghost use Rattle.lrs_web_replies.specs.Members.{scalar_data};
 
-use crate::answers::name_of;
 use crate::list::{Shown, list_value};
+use crate::members::{Member, Scalar, members_of, object_of, put_list, scalar_value};
 use lrs_answers::{FoundRow, RouteLength};
 use lrs_element::{Mark, Piece};
 use lrs_events::Value as AssetValue;
 use lrs_machine::{Hit, Segment, Total, piece_text};
 use lrs_position::Referent;
-use serde_json::{Value, json};
+use serde_json::Value;
 use std::alloc::{AllocError, Global};
 
 impl Shown for Hit {
@@ -20,13 +20,27 @@ impl Shown for Hit {
     ghost shown = { hit_data };
 
     fn value(&self, alloc: Global) -> Result<Value, AllocError> {
-        let class = self.asset.class;
-        let side = self.side;
-        let value = self.asset.value;
-        let class = format!(in alloc; "{class}")?;
-        let side = format!(in alloc; "{side}")?;
-        let value = format!(in alloc; "{value}")?;
-        json!(in alloc; {"asset": self.asset.number, "class": class, "entry": self.asset.entered_by, "offset": self.asset.lateral, "side": side, "value": value})
+        object_of(
+            alloc,
+            &[
+                Member("asset", Scalar::Whole(self.asset.number)),
+                Member("class", Scalar::Class(self.asset.class)),
+                Member("entry", Scalar::Whole(self.asset.entered_by)),
+                Member("offset", Scalar::Whole(u64::from(self.asset.lateral))),
+                Member("side", Scalar::Side(self.side)),
+                Member("value", Scalar::Held(self.asset.value)),
+            ],
+        )
+    }
+}
+
+impl Shown for u64 {
+    ghost use Rattle.lrs_web_replies.specs.Shown.{whole};
+
+    ghost shown = { whole };
+
+    fn value(&self, _alloc: Global) -> Result<Value, AllocError> {
+        Ok(Value::from(*self))
     }
 }
 
@@ -36,7 +50,7 @@ impl Shown for Mark {
     ghost shown = { mark_data };
 
     fn value(&self, alloc: Global) -> Result<Value, AllocError> {
-        json!(in alloc; [self.chainage, self.measure])
+        list_value(alloc, &[self.chainage, self.measure])
     }
 }
 
@@ -57,9 +71,23 @@ impl Shown for Referent {
     ghost shown = { referent_data };
 
     fn value(&self, alloc: Global) -> Result<Value, AllocError> {
-        let name = self.name;
-        let name = format!(in alloc; "{name}")?;
-        json!(in alloc; {"at": self.at, "name": name})
+        object_of(
+            alloc,
+            &[
+                Member("at", Scalar::Whole(self.at)),
+                Member("name", Scalar::Referent(self.name)),
+            ],
+        )
+    }
+}
+
+/// A value, or a dash where there is none.
+fn held_or_dash(value: Option<AssetValue>) -> Scalar
+    ensures { scalar_data result ≡ value_data value }
+{
+    match value {
+        Some(value) => Scalar::Held(value),
+        None => Scalar::Word("-"),
     }
 }
 
@@ -69,13 +97,7 @@ impl Shown for Option<AssetValue> {
     ghost shown = { value_data };
 
     fn value(&self, alloc: Global) -> Result<Value, AllocError> {
-        match self {
-            Some(value) => {
-                let text = format!(in alloc; "{value}")?;
-                Ok(Value::from(text))
-            }
-            None => Value::try_from_str(alloc, "-"),
-        }
+        scalar_value(alloc, &held_or_dash(*self))
     }
 }
 
@@ -85,8 +107,15 @@ impl Shown for Segment {
     ghost shown = { segment_data };
 
     fn value(&self, alloc: Global) -> Result<Value, AllocError> {
-        let values = list_value(alloc, self.values.as_slice())?;
-        json!(in alloc; {"from": self.from, "to": self.to, "values": values})
+        let mut members = members_of(
+            alloc,
+            &[
+                Member("from", Scalar::Whole(self.from)),
+                Member("to", Scalar::Whole(self.to)),
+            ],
+        )?;
+        put_list(alloc, &mut members, "values", self.values.as_slice())?;
+        Ok(Value::Object(members))
     }
 }
 
@@ -96,9 +125,16 @@ impl Shown for Total {
     ghost shown = { total_data };
 
     fn value(&self, alloc: Global) -> Result<Value, AllocError> {
-        let class = self.class;
-        let class = format!(in alloc; "{class}")?;
-        json!(in alloc; {"abandoned": self.abandoned, "class": class, "entered": self.entered, "present": self.present, "retired": self.retired})
+        object_of(
+            alloc,
+            &[
+                Member("abandoned", Scalar::Whole(self.abandoned)),
+                Member("class", Scalar::Class(self.class)),
+                Member("entered", Scalar::Whole(self.entered)),
+                Member("present", Scalar::Whole(self.present)),
+                Member("retired", Scalar::Whole(self.retired)),
+            ],
+        )
     }
 }
 
@@ -108,8 +144,13 @@ impl Shown for RouteLength {
     ghost shown = { route_length_data };
 
     fn value(&self, alloc: Global) -> Result<Value, AllocError> {
-        let name = name_of(&self.route);
-        json!(in alloc; {"length": self.length, "name": name})
+        object_of(
+            alloc,
+            &[
+                Member("length", Scalar::Whole(self.length)),
+                Member("name", Scalar::Route(self.route)),
+            ],
+        )
     }
 }
 
@@ -119,9 +160,14 @@ impl Shown for FoundRow {
     ghost shown = { row_data };
 
     fn value(&self, alloc: Global) -> Result<Value, AllocError> {
-        let side = self.side;
-        let side = format!(in alloc; "{side}")?;
-        let route = name_of(&self.route);
-        json!(in alloc; {"from": self.from, "route": route, "side": side, "to": self.to})
+        object_of(
+            alloc,
+            &[
+                Member("from", Scalar::Whole(self.from)),
+                Member("route", Scalar::Route(self.route)),
+                Member("side", Scalar::Side(self.side)),
+                Member("to", Scalar::Whole(self.to)),
+            ],
+        )
     }
 }

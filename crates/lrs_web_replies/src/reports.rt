@@ -21,6 +21,7 @@ use crate::absence::{Missing, cause_without, missing_for, missing_of, status_wit
 use crate::answers::{bytes_of, lengths_json, whereabouts_json};
 use crate::entries::{gone_value, ref_value, row_value};
 use crate::list_text::{add_each, add_item, begin, end};
+use crate::members::{Member, Scalar, object_of};
 use crate::reply::{error_reply, json_reply};
 use crate::report::Report;
 use http::StatusCode;
@@ -34,14 +35,16 @@ use lrs_ordered::Chunked;
 use lrs_position::{Referent, Route, RouteName};
 use lrs_web_requests::Response;
 use lrs_whereabouts::{Spot, Whereabouts, whereabouts};
-use serde_json::{Value, json};
+use serde_json::Value;
 use std::alloc::{AllocError, Global};
 
 fn health_value(alloc: Global, kept: &KeptImage) -> Result<Value, AllocError>
     ensures { IfOk result (λ value. view value ≡ health_data (image_of kept.now)) }
 {
-    let edits = kept.edits.len() as u64;
-    json!(in alloc; {"edits": edits})
+    object_of(
+        alloc,
+        &[Member("edits", Scalar::Whole(kept.edits.len() as u64))],
+    )
 }
 
 fn health_json(alloc: Global, kept: &KeptImage) -> Result<Vec<u8>, AllocError>
