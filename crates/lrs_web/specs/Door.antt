@@ -1,5 +1,5 @@
--- The connections that a door has still to give, where it tells them.
-use Rattle.std.specs.Prelude.{◌≡◌, ℕ, ◌+◌, ◌^◌, ◌<◌, ◌≤◌, ◌⊎◌, List, [], ◌∷◌, Option, None, Some}
+-- The connections that a door has still to give, and those that it has back, where it tells them.
+use Rattle.std.specs.Prelude.{◌≡◌, ℕ, ◌+◌, ◌^◌, ◌<◌, ◌≤◌, ◌⊎◌, List, [], ◌∷◌, ◌++◌, Option, None, Some}
 
 module _ {C : Type 0} where
   -- the first connection came, and the others are left; none comes where none is left
@@ -9,7 +9,13 @@ module _ {C : Type 0} where
   Gives (Some (c ∷ cs)) connection None = ⊥
   Gives (Some (c ∷ cs)) connection (Some left) = (c ≡ connection) × (left ≡ cs)
 
-  -- the connections that are left stay so
+  -- one is back, behind those that were
+  abbrev pub TakesBack : Option (List C) → C → Option (List C) → Type 0
+  TakesBack None c new = Unit {0}
+  TakesBack (Some cs) c None = ⊥
+  TakesBack (Some cs) c (Some all) = all ≡ cs ++ c ∷ []
+
+  -- those that are told stay so
   abbrev pub KeepsAll : Option (List C) → Option (List C) → Type 0
   KeepsAll None new = Unit {0}
   KeepsAll (Some cs) None = ⊥

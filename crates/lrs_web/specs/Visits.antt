@@ -6,7 +6,32 @@ use Rattle.lrs_machine.specs.declared.table.Table.{Table}
 use Rattle.lrs_desk.specs.DeskView.{DeskView}
 use Rattle.lrs_web_requests.specs.Request.{Asked, Asks}
 use Rattle.lrs_web_requests.specs.Text.{Answer}
-use Rattle.lrs_web.specs.Serving.{Does}
+use Rattle.lrs_web.specs.Serving.{Does, Writes}
+
+-- What a connection tells: the bytes that its client sent, and those that were written to it, before it was served and after.
+pub record Exchange : Type 0 where
+  pub input : Option Text
+  pub before : Option Text
+  pub after : Option Text
+
+-- A connection, as the door gave it, and its writer as the door has it back.
+pub record Connection (R W : Type 0) : Type 0 where
+  pub reader : R
+  pub writer : W
+  pub returned : W
+
+module _ {R W : Type 0} where
+  -- as the door gave it
+  abbrev pub given_as : Connection R W → R × W
+  given_as c = (c.reader, c.writer)
+
+  -- as the door has it back
+  abbrev pub back_as : Connection R W → W
+  back_as c = c.returned
+
+  -- what it tells
+  abbrev pub exchange_of : (R → Option Text) → (W → Option Text) → Connection R W → Exchange
+  exchange_of remaining contents c = record { input = remaining c.reader; before = contents c.writer; after = contents c.returned }
 
 module _ {K : Type 0} (holds : K → Result Image Table → Type 0) where
   -- What the request asks for is done at the desk, and this answer is due. Where the bytes of a connection are not told, it is some request.
@@ -14,29 +39,31 @@ module _ {K : Type 0} (holds : K → Result Image Table → Type 0) where
     pub asks : IfSome bytes (λ input. Asks input asked)
     pub does : Does holds asked old due new
 
-  -- all that the request asks for is done: a 503 would say that it is not
-  abbrev pub IsFull : Option Text → DeskView K → DeskView K → Type 0
-  IsFull bytes old new = (asked : Asked) × (due : Answer) × IsDone bytes asked due old new × (due.status ≡ 503 → ⊥)
+  -- All that the request asks for is done, and the answer that is due is written, and nothing else: a 503 would say that it is not done.
+  abbrev pub IsFull : Exchange → DeskView K → DeskView K → Type 0
+  IsFull x old new =
+      (asked : Asked) × (due : Answer) × (status : ℕ) × IsDone x.input asked due old new × Writes x.before x.after status due × (status ≡ 503 → ⊥)
 
-  -- some of what the request asks for is done, or nothing
+  -- Some of what the request asks for is done, or nothing. What is written is not known, as the writer may have failed.
   abbrev pub IsCut : Option Text → DeskView K → DeskView K → Type 0
   IsCut bytes old new = (new ≡ old) ⊎ ((asked : Asked) × (due : Answer) × IsDone bytes asked due old new)
 
-  -- Of requests with these bytes, where they are told, this many are served in full, in their order, and this many are cut off.
-  pub data Visits : List (Option Text) → ℕ → ℕ → DeskView K → DeskView K → Type 0 where
+  -- Of these exchanges this many are full, in their order, and this many are cut off.
+  pub data Visits : List Exchange → ℕ → ℕ → DeskView K → DeskView K → Type 0 where
     nobody : (desk : DeskView K) → Visits [] 0 0 desk desk
-    full_visit : (inputs : List (Option Text)) (input : Option Text) (full cut : ℕ) (old mid new : DeskView K) → Visits inputs full cut old mid
-        → IsFull input mid new → Visits (inputs ++ input ∷ []) (full + 1) cut old new
-    cut_visit : (inputs : List (Option Text)) (input : Option Text) (full cut : ℕ) (old mid new : DeskView K) → Visits inputs full cut old mid
-        → IsCut input mid new → Visits (inputs ++ input ∷ []) full (cut + 1) old new
+    full_visit : (earlier : List Exchange) (x : Exchange) (full cut : ℕ) (old mid new : DeskView K) → Visits earlier full cut old mid
+        → IsFull x mid new → Visits (earlier ++ x ∷ []) (full + 1) cut old new
+    cut_visit : (earlier : List Exchange) (x : Exchange) (full cut : ℕ) (old mid new : DeskView K) → Visits earlier full cut old mid
+        → IsCut x.input mid new → Visits (earlier ++ x ∷ []) full (cut + 1) old new
 
-  -- some requests are visited so
+  -- some exchanges are so
   abbrev pub HasVisited : ℕ → ℕ → DeskView K → DeskView K → Type 0
-  HasVisited full cut old new = (inputs : List (Option Text)) × (length inputs ≡ full + cut) × Visits inputs full cut old new
+  HasVisited full cut old new = (exchanges : List Exchange) × (length exchanges ≡ full + cut) × Visits exchanges full cut old new
 
-  -- The connections that were taken off the list are visited so; where a door tells no list, some.
-  pub record Visited {C : Type 0} (bytes : C → Option Text) (waiting left : Option (List C)) (full cut : ℕ) (old new : DeskView K) : Type 0 where
-    pub given : List C
-    pub taken : IfSome waiting (λ all. (rest : List C) × (all ≡ given ++ rest) × (left ≡ Some rest))
-    pub number : length given ≡ full + cut
-    pub visits : Visits (map bytes given) full cut old new
+  -- The connections that were taken off the list are visited so, and their writers are back; where a door tells no list, some.
+  pub record Visited {R W : Type 0} (remaining : R → Option Text) (contents : W → Option Text) (waiting left : Option (List (R × W))) (ended back : Option (List W)) (full cut : ℕ) (old new : DeskView K) : Type 0 where
+    pub served : List (Connection R W)
+    pub taken : IfSome waiting (λ all. (rest : List (R × W)) × (all ≡ map given_as served ++ rest) × (left ≡ Some rest))
+    pub returned : IfSome ended (λ earlier. back ≡ Some (earlier ++ map back_as served))
+    pub number : length served ≡ full + cut
+    pub visits : Visits (map (exchange_of remaining contents) served) full cut old new

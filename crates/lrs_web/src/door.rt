@@ -1,12 +1,12 @@
 //! Connections are served one after another.
 
-ghost use Rattle.std.specs.Prelude.{ℕ, ◌≡◌, ◌+◌, IfOk, IfErr, OnErr, IsTrue};
+ghost use Rattle.std.specs.Prelude.{ℕ, ◌≡◌, ◌+◌, IfOk, IfErr, IsOkAnd, OnErr, IsTrue};
 ghost use Rattle.lrs_web_requests.specs.Routes.{rows};
 ghost use Rattle.lrs_web_requests.specs.Request.{Asked};
 ghost use Rattle.lrs_web.specs.Door.{HasRisen};
 ghost use Rattle.lrs_web.specs.Visits.{IsCut, IsFull, Visited};
 
-use crate::request::{refuse, respond};
+use crate::request::{WebFault, refuse, respond};
 use lrs_desk::{Desk, Keeper};
 use lrs_web_requests::{BodyFault, Resource, receive, routes};
 use matchit::Router;
@@ -19,25 +19,43 @@ pub struct DoorFault;
 
 /// Where connections come from.
 pub trait Door {
-    ghost use Rattle.std.specs.Prelude.{ℕ, List, Option, None, ◌≡◌, IfOk, OnOk, OnErr};
-    ghost use Rattle.lrs_web.specs.Door.{Gives, KeepsAll, HasRisen};
+    ghost use Rattle.std.specs.Prelude.{ℕ, List, Option, None, ◌≡◌, ⊤, IfOk, OnOk, OnErr};
+    ghost use Rattle.lrs_web.specs.Door.{Gives, KeepsAll, TakesBack, HasRisen};
 
-    /// A connection: the request is read from it, and the reply is written to it. It ends where it is dropped.
-    type Connection: Read + Write + Drop;
+    /// The part of a connection from which its request is read.
+    type Reader: Read + Drop;
+
+    /// The part of a connection to which the reply is written. The door has it back.
+    type Writer: Write;
 
     /// The connections that it has still to give, where it tells them.
-    ghost waiting: { Self → Option (List Self.Connection) } = { λ _. None };
+    ghost waiting: { Self → Option (List (Self.Reader × Self.Writer)) } = { λ _. None };
+
+    /// The writers that it has back, the last one last, where it tells them.
+    ghost ended: { Self → Option (List Self.Writer) } = { λ _. None };
+
+    /// Whether it has room to take one back.
+    ghost has_room: { Self → Type 0 } = { λ _. ⊤ };
 
     /// How often it has failed.
     ghost failures: { Self → ℕ };
 
     /// The next connection.
-    fn next(&mut self) -> Result<Self::Connection, DoorFault>
+    fn next(&mut self) -> Result<(Self::Reader, Self::Writer), DoorFault>
         ensures gives { IfOk result (λ connection.
             Gives (waiting self.old) connection (waiting self.new)) }
         ensures keeps { OnErr result (KeepsAll (waiting self.old) (waiting self.new)) }
+        ensures ended { KeepsAll (ended self.old) (ended self.new) }
+        ensures room { OnOk result (has_room self.new) }
         ensures steady { OnOk result (failures self.new ≡ failures self.old) }
         ensures failed { OnErr result (HasRisen (failures self.old) (failures self.new)) };
+
+    /// Takes the writer of a connection back, whose reply is written, or is not to be. So the connection ends.
+    fn take_back(&mut self, writer: Self::Writer)
+        requires { has_room self.old }
+        ensures takes { TakesBack (ended self.old) writer (ended self.new) }
+        ensures keeps { KeepsAll (waiting self.old) (waiting self.new) }
+        ensures steady { failures self.new ≡ failures self.old };
 }
 
 /// How many connections were served in full, and how many were cut off: their request or its reply did not go through,
@@ -48,41 +66,56 @@ pub struct Served {
     pub cut: u32,
 }
 
+// Whether a reply was written that does not say that nothing, or not all, was done.
+fn is_full(written: Result<u16, WebFault>) -> bool
+    ensures { IsTrue result → IsOkAnd written (λ status. status ≡ 503 → ⊥) }
+{
+    matches!(written, Ok(status) if status != 503)
+}
+
 /// Serves the request of a connection, and answers whether it was served in full.
-fn serve_by<C: Read + Write, K: Keeper>(
+fn serve_by<R: Read, W: Write, K: Keeper>(
     alloc: Global,
     router: &Router<Resource>,
-    connection: &mut C,
+    reader: &mut R,
+    writer: &mut W,
     desk: &mut Desk<K>,
 ) -> bool
     requires { router.now ≡ rows }
-    ensures full { IsTrue result → IsFull K.may_hold
-        (C.remaining connection.old) desk.old desk.new }
-    ensures cut { IsCut K.may_hold (C.remaining connection.old) desk.old desk.new }
+    ensures full { IsTrue result → IsFull K.may_hold (record {
+      input = R.remaining reader.old;
+      before = W.contents writer.old;
+      after = W.contents writer.new;
+    }) desk.old desk.new }
+    ensures cut { IsCut K.may_hold (R.remaining reader.old) desk.old desk.new }
 {
-    match receive(alloc, router, connection) {
-        Ok(task) => matches!(respond(alloc, &task, connection, desk), Ok(status) if status != 503),
+    match receive(alloc, router, reader) {
+        Ok(task) => is_full(respond(alloc, &task, writer, desk)),
         Err(BodyFault::Memory) => {
-            let _ = refuse(connection);
+            let _ = refuse(writer);
             false
         }
         Err(BodyFault::Read(_)) => false,
     }
 }
 
-fn serve_connection<C: Read + Write, K: Keeper>(
+fn serve_connection<R: Read, W: Write, K: Keeper>(
     alloc: Global,
-    connection: &mut C,
+    reader: &mut R,
+    writer: &mut W,
     desk: &mut Desk<K>,
 ) -> bool
-    ensures full { IsTrue result → IsFull K.may_hold
-        (C.remaining connection.old) desk.old desk.new }
-    ensures cut { IsCut K.may_hold (C.remaining connection.old) desk.old desk.new }
+    ensures full { IsTrue result → IsFull K.may_hold (record {
+      input = R.remaining reader.old;
+      before = W.contents writer.old;
+      after = W.contents writer.new;
+    }) desk.old desk.new }
+    ensures cut { IsCut K.may_hold (R.remaining reader.old) desk.old desk.new }
 {
     match routes(alloc) {
-        Ok(router) => serve_by(alloc, &router, connection, desk),
+        Ok(router) => serve_by(alloc, &router, reader, writer, desk),
         Err(_) => {
-            let _ = refuse(connection);
+            let _ = refuse(writer);
             false
         }
     }
@@ -100,20 +133,23 @@ pub fn serve_all<D: Door, K: Keeper>(
     max: u32,
 ) -> Result<Served, DoorFault>
     ensures count { IfOk result (λ served. served.full + served.cut ≡ max) }
-    ensures visited { IfOk result (λ served. Visited K.may_hold D.Connection.remaining
-        (D.waiting door.old) (D.waiting door.new) served.full served.cut desk.old desk.new) }
+    ensures visited { IfOk result (λ served. Visited K.may_hold D.Reader.remaining
+        D.Writer.contents (D.waiting door.old) (D.waiting door.new) (D.ended door.old)
+        (D.ended door.new) served.full served.cut desk.old desk.new) }
     ensures failed { OnErr result (HasRisen (D.failures door.old) (D.failures door.new)) }
     ensures stopped { OnErr result ((full : ℕ) × (cut : ℕ)
-        × Visited K.may_hold D.Connection.remaining (D.waiting door.old)
-        (D.waiting door.new) full cut desk.old desk.new) }
+        × Visited K.may_hold D.Reader.remaining D.Writer.contents (D.waiting door.old)
+        (D.waiting door.new) (D.ended door.old) (D.ended door.new) full cut desk.old desk.new) }
 {
     let mut full = 0;
     let mut cut = 0;
     for _turn in 0..max {
-        let Ok(mut connection) = door.next() else {
+        let Ok((mut reader, mut writer)) = door.next() else {
             return Err(DoorFault);
         };
-        if serve_connection(alloc, &mut connection, desk) {
+        let is_full = serve_connection(alloc, &mut reader, &mut writer, desk);
+        door.take_back(writer);
+        if is_full {
             full += 1;
         } else {
             cut += 1;

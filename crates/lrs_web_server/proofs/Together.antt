@@ -1,18 +1,17 @@
 -- Visits, and others after them.
-use Rattle.std.proofs.Common.{◌≡◌, ℕ, ◌+◌, List, [], ◌∷◌, ◌++◌, Option, Result, refl, sym, subst, append_assoc, append-nil, length, length-append, arith}
-use Rattle.lrs_machine.specs.Lines.{Text}
+use Rattle.std.proofs.Common.{◌≡◌, ℕ, ◌+◌, List, [], ◌∷◌, ◌++◌, Result, refl, sym, subst, append_assoc, append-nil, length-append, arith}
 use Rattle.lrs_machine.specs.declared.image.Image.{Image}
 use Rattle.lrs_machine.specs.declared.table.Table.{Table}
 use Rattle.lrs_desk.specs.DeskView.{DeskView}
-use Rattle.lrs_web.specs.Visits.{HasVisited, Visits, nobody, full_visit, cut_visit}
+use Rattle.lrs_web.specs.Visits.{Exchange, HasVisited, Visits, nobody, full_visit, cut_visit}
 
 module _ {K : Type 0} (holds : K → Result Image Table → Type 0) where
-  moved : {xs ys : List (Option Text)} {f g c d : ℕ} {old new : DeskView K} → xs ≡ ys → f ≡ g → c ≡ d → Visits holds xs f c old new → Visits holds ys g d old new
+  moved : {xs ys : List Exchange} {f g c d : ℕ} {old new : DeskView K} → xs ≡ ys → f ≡ g → c ≡ d → Visits holds xs f c old new → Visits holds ys g d old new
   moved {xs} {ys} {f} {g} {c} {d} {old} {new} inputs full cut visits =
       subst (λ x. Visits holds x g d old new) inputs (subst (λ x. Visits holds xs x d old new) full (subst (λ x. Visits holds xs f x old new) cut visits))
 
-  together : {inputs : List (Option Text)} {more_full more_cut : ℕ} {mid new : DeskView K} → Visits holds inputs more_full more_cut mid new
-      → (before : List (Option Text)) (full cut : ℕ) (old : DeskView K) → Visits holds before full cut old mid
+  together : {inputs : List Exchange} {more_full more_cut : ℕ} {mid new : DeskView K} → Visits holds inputs more_full more_cut mid new
+      → (before : List Exchange) (full cut : ℕ) (old : DeskView K) → Visits holds before full cut old mid
       → Visits holds (before ++ inputs) (full + more_full) (cut + more_cut) old new
   together (nobody desk) before full cut old first =
       let same_full : full ≡ full + 0 = omega arith in

@@ -1,8 +1,8 @@
-//! A connection whose request has come, so that serving it waits for nobody.
+//! A connection whose request has come, so that serving it waits for nobody: what is read of it, and what is written to it.
 
 ghost use Rattle.std.specs.Prelude.{◌≤◌, length, IfOk};
 
-use crate::arrival::{Arrival, Behind};
+use crate::arrival::Behind;
 use crate::departure::{Departure, Returns, Stage, give_back};
 use crate::journal::Entry;
 use crate::judge::copy_from;
@@ -16,14 +16,46 @@ use std::time::{Duration, Instant};
 // Where memory for a reply is wanting, its client is waited for so long, and others wait.
 const TAKING_MILLIS: u64 = 4_000;
 
-/// A connection to a client whose request has come. The request is read from memory, and of the reply the socket takes
-/// what it takes at once; the rest is kept, and sent by the door once the connection is dropped.
-pub struct Connection<'a> {
-    stream: TcpStream,
-    token: Token,
+/// The request of a connection, which has come, so that it is read from memory.
+#[derive(Drop)]
+pub struct RequestReader {
     request: Vec<u8>,
     read: usize,
     behind: Behind,
+}
+
+impl RequestReader {
+    /// Reads these bytes, and then what stands behind them.
+    pub(crate) fn new(request: Vec<u8>, behind: Behind) -> RequestReader {
+        RequestReader {
+            request,
+            read: 0,
+            behind,
+        }
+    }
+}
+
+impl Read for RequestReader {
+    fn read(&mut self, buf: &mut [u8]) -> io::Result<usize> {
+        let count = copy_from(self.request.as_slice(), self.read, buf);
+        self.read = self.read.saturating_add(count);
+        if count > 0 {
+            return Ok(count);
+        }
+        match self.behind {
+            Behind::End => Ok(0),
+            Behind::Nothing => Err(io::Error::from(ErrorKind::WouldBlock)),
+            Behind::Late => Err(io::Error::from(ErrorKind::TimedOut)),
+            Behind::Failure => Err(io::Error::from(ErrorKind::ConnectionReset)),
+        }
+    }
+}
+
+/// Where the reply of a connection is written: the socket takes what it takes at once; the rest is kept, and sent by the
+/// door once it has the writer back.
+pub struct ReplyWriter<'a> {
+    stream: TcpStream,
+    token: Token,
     since: Instant,
     rest: Vec<u8>,
     has_waited: bool,
@@ -31,22 +63,19 @@ pub struct Connection<'a> {
     returns: &'a Returns,
 }
 
-impl<'a> Connection<'a> {
-    /// The connection of an arrival, which the door has back through `returns`.
+impl<'a> ReplyWriter<'a> {
+    /// Writes to this stream, which the door has back through `returns`.
     pub(crate) fn new(
         alloc: Global,
-        arrival: Arrival,
-        behind: Behind,
+        stream: TcpStream,
+        token: Token,
         since: Instant,
         entry: Option<Entry>,
         returns: &'a Returns,
-    ) -> Connection<'a> {
-        Connection {
-            stream: arrival.stream,
-            token: arrival.token,
-            request: arrival.bytes,
-            read: 0,
-            behind,
+    ) -> ReplyWriter<'a> {
+        ReplyWriter {
+            stream,
+            token,
             since,
             rest: Vec::new(alloc),
             has_waited: false,
@@ -102,23 +131,7 @@ fn is_later(kind: ErrorKind) -> bool {
     matches!(kind, ErrorKind::WouldBlock | ErrorKind::Interrupted)
 }
 
-impl<'a> Read for Connection<'a> {
-    fn read(&mut self, buf: &mut [u8]) -> io::Result<usize> {
-        let count = copy_from(self.request.as_slice(), self.read, buf);
-        self.read = self.read.saturating_add(count);
-        if count > 0 {
-            return Ok(count);
-        }
-        match self.behind {
-            Behind::End => Ok(0),
-            Behind::Nothing => Err(io::Error::from(ErrorKind::WouldBlock)),
-            Behind::Late => Err(io::Error::from(ErrorKind::TimedOut)),
-            Behind::Failure => Err(io::Error::from(ErrorKind::ConnectionReset)),
-        }
-    }
-}
-
-impl<'a> Write for Connection<'a> {
+impl<'a> Write for ReplyWriter<'a> {
     fn write(&mut self, buf: &[u8]) -> io::Result<usize> {
         let count = self.write_or_keep(buf)?;
         if let Some(entry) = &mut self.entry {
@@ -132,14 +145,11 @@ impl<'a> Write for Connection<'a> {
     }
 }
 
-impl<'a> Drop for Connection<'a> {
+impl<'a> Drop for ReplyWriter<'a> {
     fn drop(self) {
         let Self {
             stream,
             token,
-            request: _,
-            read: _,
-            behind: _,
             since,
             rest,
             has_waited: _,

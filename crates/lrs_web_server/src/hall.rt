@@ -4,7 +4,7 @@ ghost use Rattle.std.specs.Prelude.{◌<◌, ◌≤◌, length, vec_len, IfSome,
 ghost use Rattle.lrs_web_server.specs.Room.{most_arrivals};
 
 use crate::arrival::{Arrival, Behind, Whole};
-use crate::connection::Connection;
+use crate::connection::{ReplyWriter, RequestReader};
 use crate::deadlines::later;
 use crate::departure::{Departure, Returns, Stage, returned};
 use crate::journal::Entry;
@@ -377,7 +377,7 @@ impl<'a> Hall<'a> {
     }
 
     // The connection whose request has been whole for longest.
-    fn hand_on(&mut self) -> Option<Connection<'a>> {
+    fn hand_on(&mut self) -> Option<(RequestReader, ReplyWriter<'a>)> {
         let index = first_whole(self.arrivals.as_slice())?;
         let arrival = self.arrivals.remove(index);
         let whole = arrival.whole.unwrap_or(Whole {
@@ -389,14 +389,16 @@ impl<'a> Hall<'a> {
         } else {
             None
         };
-        Some(Connection::new(
+        let reader = RequestReader::new(arrival.bytes, whole.behind);
+        let writer = ReplyWriter::new(
             self.alloc,
-            arrival,
-            whole.behind,
+            arrival.stream,
+            arrival.token,
             whole.since,
             entry,
             self.returns,
-        ))
+        );
+        Some((reader, writer))
     }
 
     // Goes once round: what was served is sent, and what waits is looked at.
@@ -412,7 +414,10 @@ impl<'a> Hall<'a> {
     ///
     /// # Errors
     /// What the listener, the poll or the clock answers; `NotFound` where no connection is left.
-    pub(crate) fn next<R: Clock + Eprint>(&mut self, rt: &R) -> io::Result<Connection<'a>> {
+    pub(crate) fn next<R: Clock + Eprint>(
+        &mut self,
+        rt: &R,
+    ) -> io::Result<(RequestReader, ReplyWriter<'a>)> {
         for _turn in 0..u64::MAX {
             if self.left == 0 && self.arrivals.is_empty() {
                 return Err(io::Error::from(ErrorKind::NotFound));

@@ -11,6 +11,6 @@ mod judge;
 mod listener;
 mod service;
 
-pub use connection::Connection;
+pub use connection::{ReplyWriter, RequestReader};
 pub use listener::Listening;
 pub use service::{Manner, ServiceFault, serve};

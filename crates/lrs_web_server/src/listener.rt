@@ -2,7 +2,7 @@
 
 ghost use Rattle.std.specs.Prelude.{◌≡◌};
 
-use crate::connection::Connection;
+use crate::connection::{ReplyWriter, RequestReader};
 use crate::hall::Hall;
 use lrs_web::{Door, DoorFault};
 use std::io::Eprint;
@@ -33,11 +33,13 @@ impl<'a, R: Clock + Eprint> Listening<'a, R> {
 }
 
 impl<'a, R: Clock + Eprint> Door for Listening<'a, R> {
-    type Connection = Connection<'a>;
+    type Reader = RequestReader;
+
+    type Writer = ReplyWriter<'a>;
 
     ghost failures = { λ door. door.failures };
 
-    fn next(&mut self) -> Result<Connection<'a>, DoorFault> {
+    fn next(&mut self) -> Result<(RequestReader, ReplyWriter<'a>), DoorFault> {
         match self.hall.next(self.rt) {
             Ok(connection) => Ok(connection),
             Err(_) => {
@@ -45,5 +47,10 @@ impl<'a, R: Clock + Eprint> Door for Listening<'a, R> {
                 Err(DoorFault)
             }
         }
+    }
+
+    // The hall has it back as it is dropped.
+    fn take_back(&mut self, writer: ReplyWriter<'a>) {
+        drop(writer);
     }
 }
