@@ -6,11 +6,14 @@ use Rattle.lrs_measure.specs.Texts.{Name}
 use Rattle.lrs_element.specs.declared.link.Ground.{Ground}
 use Rattle.lrs_element.specs.declared.link.Piece.{Piece}
 use Rattle.lrs_position.specs.declared.route.Route.{Route}
+use Rattle.lrs_events.specs.declared.class.Asset.{Asset}
+use Rattle.lrs_events.specs.declared.part.Gone.{Gone}
 use Rattle.lrs_events.specs.declared.side.Side.{Side}
+use Rattle.lrs_events.specs.declared.span.Span.{Span}
 use Rattle.lrs_machine.specs.declared.segment.Segment.{Segment}
 use Rattle.lrs_machine.specs.declared.hit.Hit.{Hit}
 use Rattle.lrs_whereabouts.specs.declared.answer.Whereabouts.{Whereabouts}
-use Rattle.lrs_web_replies.specs.Reports.{named_list, place_data, whereabouts_data}
+use Rattle.lrs_web_replies.specs.Reports.{gone_data_with, named_list, place_data, row_data_with, whereabouts_data}
 use Rattle.lrs_web_replies.specs.Shown.{each}
 use Rattle.lrs_web_replies.specs.Answers.{at_data, hit_data, mark_data, piece_data, referent_data, route_data, ShowsRoute, value_data, segment_data, segments_data}
 
@@ -53,3 +56,13 @@ pub whereabouts_whole : (d : Data) (w : Whereabouts) → d ≡ whereabouts_data 
 whereabouts_whole d w is =
     let positions = neither (has_float (each place_data w.positions)) false (each_whole place_data (λ e. refl) w.positions) refl in
     ap has_float is ∙ neither (has_float (each hit_data w.found.hits)) (has_float (each place_data w.positions) || false) (each_whole hit_data (λ h. refl) w.found.hits) positions
+
+-- ---- entries of reports, of a known asset or of none
+
+pub row_whole : (a : Option Asset) (route : Route) (r : Span) → has_float (row_data_with a route r) ≡ false
+row_whole None route r = refl
+row_whole (Some a) route r = refl
+
+pub gone_whole : (a : Option Asset) (g : Gone) → has_float (gone_data_with a g) ≡ false
+gone_whole None g = refl
+gone_whole (Some a) g = refl

@@ -1,8 +1,13 @@
 use Rattle.std.proofs.Common.{Some, ap, ◌∙◌}
+use Rattle.serde_json.specs.Written.{has_float}
 use Rattle.lrs_lists.proofs.Writing.{as_text}
 use Rattle.lrs_web_replies.specs.Parts.{item_text}
 use Rattle.lrs_web_replies.specs.Reports.{row_data, row_data_with}
+use Rattle.lrs_web_replies.proofs.Whole.{row_whole}
 use Rattle.lrs_web_replies.proofs.reports.add_row.Goals as goal
+
+pub add_item-requires : goal.add_item-requires
+add_item-requires c = ap has_float c.in_ok-value.ensures ∙ row_whole _ c.args.route.now c.args.row.now
 
 pub returns : goal.returns
 returns c =
