@@ -4,13 +4,14 @@ ghost use Rattle.std.specs.Prelude.{◌≡◌};
 
 use crate::drawings::class_name;
 use crate::layout;
-use crate::samples::{self, edit};
+use crate::samples::{self, add, edit};
 use lrs_element::{Link, Piece};
 use lrs_events::{Asset, Class, Gone, Kind, LinkSide, Part, Side, Span};
-use lrs_machine::{Image, RouteRow};
-use lrs_position::{RefName, Referent, RouteName};
+use lrs_machine::{Edit, Image, RouteRow};
+use lrs_measure::Rows;
+use lrs_position::{RefName, Referent, Route, RouteName};
 use lrs_report_tests::draws::Draws;
-use std::alloc::AllocGlobal;
+use std::alloc::{AllocGlobal, Global};
 use std::process::Abort;
 
 /// A row of which one field can be changed a little.
@@ -63,24 +64,14 @@ impl Change for Class {
 
 impl Change for Asset {
     fn changed<R: Abort>(&self, rt: &R, draws: &mut Draws) -> Asset {
+        let mut asset = *self;
         match draws.below(4) {
-            0 => Asset {
-                number: nudged(draws, self.number),
-                ..*self
-            },
-            1 => Asset {
-                class: class_name(rt, draws),
-                ..*self
-            },
-            2 => Asset {
-                lateral: nudged_32(draws, 100_000),
-                ..*self
-            },
-            _ => Asset {
-                entered_by: nudged(draws, self.entered_by),
-                ..*self
-            },
+            0 => asset.number = nudged(draws, asset.number),
+            1 => asset.class = class_name(rt, draws),
+            2 => asset.lateral = nudged_32(draws, 100_000),
+            _ => asset.entered_by = nudged(draws, asset.entered_by),
         }
+        asset
     }
 }
 
@@ -134,6 +125,13 @@ impl Change for Piece {
     }
 }
 
+fn side_beside(side: Side) -> Side {
+    match side {
+        Side::L => Side::R,
+        _ => Side::L,
+    }
+}
+
 impl Change for Span {
     fn changed<R: Abort>(&self, rt: &R, draws: &mut Draws) -> Span {
         let mut row = *self;
@@ -142,91 +140,144 @@ impl Change for Span {
             1 => row.class = class_name(rt, draws),
             2 => row.from = nudged(draws, row.from),
             3 => row.to = nudged(draws, row.to),
-            _ => row.side = if row.side == Side::L {
-                Side::R
-            } else {
-                Side::L
-            },
+            _ => row.side = side_beside(row.side),
         }
         row
     }
 }
 
+/// Puts the row of this place there once more.
+fn repeat<T: Change>(rt: &impl Abort, rows: &mut Vec<T>, at: usize) {
+    if at < rows.len() {
+        let row = rows[at];
+        rows.insert(at, row).expect(rt, "memory");
+    }
+}
+
+/// Changes the row of this place.
+fn alter<T: Change>(rt: &impl Abort, draws: &mut Draws, rows: &mut Vec<T>, at: usize) {
+    if at < rows.len() {
+        rows[at] = rows[at].changed(rt, draws);
+    }
+}
+
 /// Damages one row of a list.
-fn damage_list<T: Change, R: Abort>(rt: &R, draws: &mut Draws, rows: &mut Vec<T>) {
+fn damage_list<T: Change>(rt: &impl Abort, draws: &mut Draws, rows: &mut Vec<T>) {
     if rows.is_empty() {
         return;
     }
     let at = draws.below(rows.len() as u64) as usize;
-    let row = rows[at];
     match draws.below(6) {
         0 => {
             let _ = rows.remove(at);
         }
-        1 => rows.insert(at, row).expect(rt, "memory"),
+        1 => repeat(rt, rows, at),
         2 => {
             let other = draws.below(rows.len() as u64) as usize;
             rows.swap(at, other);
         }
-        _ => rows[at] = row.changed(rt, draws),
+        _ => alter(rt, draws, rows, at),
     }
 }
 
-/// The route with a piece or a row damaged, or with another name or referent; none where there is no such route.
-fn damaged(
-    rt: &(impl Abort + AllocGlobal),
-    draws: &mut Draws,
-    route_row: &RouteRow,
-) -> Option<RouteRow> {
-    let alloc = rt.alloc();
-    let mut pieces = Vec::from_slice(alloc, route_row.route.course.pieces()).expect(rt, "memory");
-    let mut rows = Vec::from_slice(alloc, route_row.spans.rows()).expect(rt, "memory");
-    let mut name = route_row.route.name;
-    let mut referent = route_row.route.refs.as_slice().first().copied();
-    match draws.below(6) {
-        0 => name = RouteName::new(&[b'R', b'0' + draws.below(3) as u8]).unwrap_or(name),
-        1 => {
-            let name = RefName::new(&[b'K', b'0' + draws.below(3) as u8]).expect(rt, "a name");
-            referent = Some(Referent { name, at: 0 });
-        }
-        2 | 3 => damage_list(rt, draws, &mut pieces),
-        _ => damage_list(rt, draws, &mut rows),
+/// What a route with at most one referent is made of.
+#[derive(Drop)]
+struct Sketch {
+    name: RouteName,
+    referent: Option<Referent>,
+    pieces: Vec<Piece>,
+    rows: Vec<Span>,
+}
+
+fn sketch_of(rt: &impl Abort, alloc: Global, route_row: &RouteRow) -> Sketch {
+    let route = &route_row.route;
+    Sketch {
+        name: route.name,
+        referent: route.refs.as_slice().first().copied(),
+        pieces: Vec::from_slice(alloc, route.course.pieces()).expect(rt, "memory"),
+        rows: Vec::from_slice(alloc, route_row.spans.rows()).expect(rt, "memory"),
     }
-    let course = layout::course(alloc, &samples::long_links(rt), &pieces)?;
-    let route = layout::route(alloc, name.bytes(), course, referent)?;
-    layout::route_row(alloc, route, &rows)
+}
+
+/// Another name of a route, or the same.
+fn drawn_name(rt: &impl Abort, draws: &mut Draws) -> RouteName {
+    RouteName::new(&[b'R', b'0' + draws.below(3) as u8]).expect(rt, "a name")
+}
+
+/// A referent in the first millimetre.
+fn drawn_referent(rt: &impl Abort, draws: &mut Draws) -> Referent {
+    Referent {
+        name: RefName::new(&[b'K', b'0' + draws.below(3) as u8]).expect(rt, "a name"),
+        at: 0,
+    }
+}
+
+/// Damages a piece or a row, or gives another name or referent.
+fn damage_sketch(rt: &impl Abort, draws: &mut Draws, sketch: &mut Sketch) {
+    match draws.below(6) {
+        0 => sketch.name = drawn_name(rt, draws),
+        1 => sketch.referent = Some(drawn_referent(rt, draws)),
+        2 | 3 => damage_list(rt, draws, &mut sketch.pieces),
+        _ => damage_list(rt, draws, &mut sketch.rows),
+    }
+}
+
+/// The route of the sketch, none where there is no such route.
+fn route_of(rt: &(impl Abort + AllocGlobal), sketch: &Sketch) -> Option<Route> {
+    let links = samples::long_links(rt);
+    let course = layout::course(rt.alloc(), links.as_slice(), &sketch.pieces)?;
+    layout::route(rt.alloc(), sketch.name.bytes(), course, sketch.referent)
+}
+
+/// The route of the sketch with its rows, none where there is no such route.
+fn laid(rt: &(impl Abort + AllocGlobal), sketch: &Sketch) -> Option<RouteRow> {
+    layout::route_row(rt.alloc(), route_of(rt, sketch)?, &sketch.rows)
+}
+
+/// Takes the last route out, and answers what it was made of.
+fn last_sketch(rt: &(impl Abort + AllocGlobal), routes: &mut Vec<RouteRow>) -> Option<Sketch> {
+    let route_row = routes.pop()?;
+    Some(sketch_of(rt, rt.alloc(), &route_row))
 }
 
 /// Damages the last route, or lets it go where it cannot be what was drawn.
-fn damage_route(rt: &(impl Abort + AllocGlobal), draws: &mut Draws, image: &mut Image) {
-    let Some(route_row) = image.routes.items.pop() else {
+fn damage_route(rt: &(impl Abort + AllocGlobal), draws: &mut Draws, routes: &mut Rows<RouteRow>) {
+    let Some(mut sketch) = last_sketch(rt, &mut routes.items) else {
         return;
     };
-    if let Some(route_row) = damaged(rt, draws, &route_row) {
-        image.routes.items.push(route_row).expect(rt, "memory");
+    damage_sketch(rt, draws, &mut sketch);
+    if let Some(route_row) = laid(rt, &sketch) {
+        add(rt, routes, route_row);
     }
 }
 
 /// Lets the last edit go, or gives one more a key that may be taken.
-fn damage_edits(rt: &(impl Abort + AllocGlobal), draws: &mut Draws, image: &mut Image) {
+fn damage_edits(rt: &(impl Abort + AllocGlobal), draws: &mut Draws, edits: &mut Rows<Edit>) {
     if draws.below(2) == 0 {
-        image.edits.items.pop();
+        edits.items.pop();
     } else {
         let more = edit(rt, &[b'K', b'A' + draws.below(8) as u8]);
-        image.edits.items.push(more).expect(rt, "memory");
+        add(rt, edits, more);
+    }
+}
+
+/// Damages a table of what is on no route.
+fn damage_table(rt: &impl Abort, draws: &mut Draws, image: &mut Image, number: u64) {
+    match number {
+        2 => damage_list(rt, draws, &mut image.links.items),
+        3 => damage_list(rt, draws, &mut image.classes.items),
+        4 => damage_list(rt, draws, &mut image.assets.items),
+        8 => damage_list(rt, draws, &mut image.entered.items),
+        9 => damage_list(rt, draws, &mut image.gone.items),
+        _ => {}
     }
 }
 
 /// Damages an image in one place, or not at all.
 pub fn damage(rt: &(impl Abort + AllocGlobal), draws: &mut Draws, image: &mut Image) {
     match draws.below(11) {
-        0 | 1 => {}
-        2 => damage_list(rt, draws, &mut image.links.items),
-        3 => damage_list(rt, draws, &mut image.classes.items),
-        4 => damage_list(rt, draws, &mut image.assets.items),
-        5..=7 => damage_route(rt, draws, image),
-        8 => damage_list(rt, draws, &mut image.entered.items),
-        9 => damage_list(rt, draws, &mut image.gone.items),
-        _ => damage_edits(rt, draws, image),
+        5..=7 => damage_route(rt, draws, &mut image.routes),
+        10 => damage_edits(rt, draws, &mut image.edits),
+        number => damage_table(rt, draws, image, number),
     }
 }

@@ -4,13 +4,14 @@
 ghost use Rattle.std.specs.Prelude.{◌<◌};
 
 use crate::layout;
-use crate::plain::{self, Place};
-use crate::samples::{self, class, edits, link};
+use crate::plain::{self, Place, Row};
+use crate::samples::{self, add, add_edits, class, link};
 use lrs_element::{Link, Piece};
 use lrs_events::{Asset, Class, ClassName, Gone, Kind, LinkSide, Part, Side, Span, Value};
 use lrs_events_spans::Spans;
 use lrs_machine::{Image, RouteRow};
-use lrs_position::{RefName, Referent};
+use lrs_measure::Rows;
+use lrs_position::{RefName, Referent, Route};
 use lrs_report_tests::draws::Draws;
 use std::alloc::AllocGlobal;
 use std::process::Abort;
@@ -26,11 +27,7 @@ const CLASSES: [&[u8]; 3] = [b"A", b"B", b"C"];
 
 /// The name of a class.
 pub fn class_name(rt: &impl Abort, draws: &mut Draws) -> ClassName {
-    let name = match draws.below(3) {
-        0 => CLASSES[0],
-        1 => CLASSES[1],
-        _ => CLASSES[2],
-    };
+    let name = CLASSES[draws.below(3) as usize];
     ClassName::new(name).expect(rt, "a class name")
 }
 
@@ -50,35 +47,36 @@ fn side(draws: &mut Draws) -> Side {
     }
 }
 
-fn add_links(rt: &impl Abort, draws: &mut Draws, links: &mut Vec<Link>) {
+fn add_links(rt: &impl Abort, draws: &mut Draws, links: &mut Rows<Link>) {
     let mut number = 0u32;
     for _ in 0..2 + draws.below(2) {
         number = number.saturating_add(1 + draws.below(2) as u32);
-        let length = 2 + draws.below(6) as u32;
-        links.push(link(rt, number, length)).expect(rt, "memory");
+        add(rt, links, link(rt, number, 2 + draws.below(6) as u32));
     }
 }
 
-fn add_classes(rt: &impl Abort, draws: &mut Draws, classes: &mut Vec<Class>) {
-    for name in CLASSES {
-        classes
-            .push(class(rt, name, kind(draws)))
-            .expect(rt, "memory");
+fn add_classes(rt: &impl Abort, draws: &mut Draws, classes: &mut Rows<Class>) {
+    for at in 0..3 {
+        add(rt, classes, class(rt, CLASSES[at], kind(draws)));
     }
 }
 
-fn add_assets(rt: &impl Abort, draws: &mut Draws, assets: &mut Vec<Asset>) {
+/// An asset of this number.
+fn drawn_asset(rt: &impl Abort, draws: &mut Draws, number: u64) -> Asset {
+    Asset {
+        number,
+        class: class_name(rt, draws),
+        value: Value::new(b"x").expect(rt, "a value"),
+        lateral: 0,
+        entered_by: 1 + draws.below(EDITS),
+    }
+}
+
+fn add_assets(rt: &impl Abort, draws: &mut Draws, assets: &mut Rows<Asset>) {
     let mut number = 0u64;
     for _ in 0..1 + draws.below(4) {
         number = number.saturating_add(1 + draws.below(2));
-        let asset = Asset {
-            number,
-            class: class_name(rt, draws),
-            value: Value::new(b"x").expect(rt, "a value"),
-            lateral: 0,
-            entered_by: 1 + draws.below(EDITS),
-        };
-        assets.push(asset).expect(rt, "memory");
+        add(rt, assets, drawn_asset(rt, draws, number));
     }
 }
 
@@ -89,27 +87,37 @@ struct Cut {
     piece: Piece,
 }
 
+/// A piece of the link from there on, which may be empty, and its route.
+fn drawn_cut(draws: &mut Draws, link: &Link, from: u32) -> Cut {
+    let to = from.saturating_add(1 + draws.below(5) as u32);
+    Cut {
+        piece: Piece {
+            link: link.number,
+            from,
+            to: to.min(link.length),
+            forward: draws.below(2) == 0,
+        },
+        route: draws.below(ROUTES + 1),
+    }
+}
+
+/// Cuts the link into pieces.
+fn cut_link(rt: &impl Abort, draws: &mut Draws, link: &Link, cuts: &mut Vec<Cut>) {
+    let mut from = 0u32;
+    for _ in 0..link.length {
+        let cut = drawn_cut(draws, link, from);
+        from = cut.piece.to;
+        if cut.piece.from < from {
+            cuts.push(cut).expect(rt, "memory");
+        }
+    }
+}
+
 /// The links, cut into pieces.
 fn cuts(rt: &(impl Abort + AllocGlobal), draws: &mut Draws, links: &[Link]) -> Vec<Cut> {
     let mut cuts = Vec::new(rt.alloc());
     for link in links {
-        let mut from = 0u32;
-        for _ in 0..link.length {
-            let to = link
-                .length
-                .min(from.saturating_add(1 + draws.below(5) as u32));
-            let piece = Piece {
-                link: link.number,
-                from,
-                to,
-                forward: draws.below(2) == 0,
-            };
-            let route = draws.below(ROUTES + 1);
-            if from < to {
-                cuts.push(Cut { route, piece }).expect(rt, "memory");
-            }
-            from = to;
-        }
+        cut_link(rt, draws, link, &mut cuts);
     }
     cuts
 }
@@ -133,7 +141,12 @@ fn pieces_of(
 
 /// Whether the class of this name is exclusive.
 fn is_exclusive(classes: &[Class], name: ClassName) -> bool {
-    classes.iter().any(|class| class.name == name && class.kind == Kind::Exclusive)
+    for class in classes {
+        if class.name == name && class.kind == Kind::Exclusive {
+            return true;
+        }
+    }
+    false
 }
 
 /// Adds a row where its asset holds none of it, and, where its class is exclusive, no other of the class does.
@@ -147,19 +160,24 @@ fn add_row(rt: &(impl Abort + AllocGlobal), classes: &[Class], spans: &mut Spans
     }
 }
 
+/// A row of the asset on a route of this length.
+fn drawn_row(draws: &mut Draws, asset: &Asset, length: u64) -> Span {
+    let from = draws.below(8).min(length);
+    Span {
+        asset: asset.number,
+        class: asset.class,
+        from,
+        to: from.saturating_add(1 + draws.below(6)).min(length),
+        side: side(draws),
+    }
+}
+
 /// Rows on a route of this length.
 fn spans(rt: &(impl Abort + AllocGlobal), draws: &mut Draws, image: &Image, length: u64) -> Spans {
     let mut spans = Spans::empty(rt.alloc());
     for asset in image.assets.as_slice() {
         for _ in 0..draws.below(3) {
-            let from = draws.below(8).min(length);
-            let row = Span {
-                asset: asset.number,
-                class: asset.class,
-                from,
-                to: from.saturating_add(1 + draws.below(6)).min(length),
-                side: side(draws),
-            };
+            let row = drawn_row(draws, asset, length);
             add_row(rt, image.classes.as_slice(), &mut spans, row);
         }
     }
@@ -177,6 +195,18 @@ fn referent(rt: &impl Abort, draws: &mut Draws, number: u8, length: u64) -> Opti
     })
 }
 
+/// The route of this number over these pieces.
+fn route_over(
+    rt: &(impl Abort + AllocGlobal),
+    draws: &mut Draws,
+    number: u8,
+    pieces: &[Piece],
+) -> Route {
+    let course = samples::course(rt, pieces);
+    let referent = referent(rt, draws, number, course.len());
+    layout::route(rt.alloc(), &[b'R', number], course, referent).expect(rt, "a route")
+}
+
 /// Adds the route of this number over these pieces, where there are any.
 fn add_route(
     rt: &(impl Abort + AllocGlobal),
@@ -188,18 +218,9 @@ fn add_route(
     if pieces.is_empty() {
         return;
     }
-    let course = layout::course(rt.alloc(), &samples::long_links(rt), pieces).expect(
-        rt, "a course",
-    );
-    let length = course.len();
-    let referent = referent(rt, draws, number, length);
-    let route = layout::route(rt.alloc(), &[b'R', number], course, referent).expect(rt, "a route");
-    let spans = spans(rt, draws, image, length);
-    image
-        .routes
-        .items
-        .push(RouteRow { route, spans })
-        .expect(rt, "memory");
+    let route = route_over(rt, draws, number, pieces);
+    let spans = spans(rt, draws, image, route.course.len());
+    add(rt, &mut image.routes, RouteRow { route, spans });
 }
 
 fn add_routes(rt: &(impl Abort + AllocGlobal), draws: &mut Draws, image: &mut Image) {
@@ -211,7 +232,7 @@ fn add_routes(rt: &(impl Abort + AllocGlobal), draws: &mut Draws, image: &mut Im
 }
 
 /// What became of a millimetre.
-#[derive(Clone, Copy, PartialEq, Eq)]
+#[derive(Clone, Copy)]
 enum Fate {
     Free,
     Held,
@@ -270,6 +291,18 @@ fn enter(rt: &impl Abort, draws: &mut Draws, image: &mut Image, part: Part, fate
     }
 }
 
+/// The part of the asset that lies on the place.
+fn part_at(asset: &Asset, place: Place) -> Part {
+    Part {
+        edit: asset.entered_by,
+        asset: asset.number,
+        link: place.link,
+        from: place.mm,
+        to: place.mm.saturating_add(1),
+        side: place.side,
+    }
+}
+
 /// Draws what became of each millimetre of one side of a link for an asset, and enters it.
 fn enter_line(
     rt: &impl Abort,
@@ -284,21 +317,11 @@ fn enter_line(
         if draws.below(3) == 0 {
             gone = drawn_fate(draws);
         }
-        let place = Place {
-            link: link.number,
-            mm,
-            side,
-        };
+        let link = link.number;
+        let place = Place { link, mm, side };
         let held = plain::holds(image.routes.as_slice(), asset.number, place);
-        let part = Part {
-            edit: asset.entered_by,
-            asset: asset.number,
-            link: link.number,
-            from: mm,
-            to: mm.saturating_add(1),
-            side,
-        };
-        enter(rt, draws, image, part, if held { Fate::Held } else { gone });
+        let fate = if held { Fate::Held } else { gone };
+        enter(rt, draws, image, part_at(asset, place), fate);
     }
 }
 
@@ -317,12 +340,10 @@ fn enter_asset(
 }
 
 /// Puts the row of this place among those before it, which are in their order.
-fn settle<T, F: Fn(&T, &T) -> bool>(rows: &mut Vec<T>, place: usize, before: F)
-    requires { F.IsAlwaysCallable before }
-{
+fn settle<T: Row>(rows: &mut Vec<T>, place: usize) {
     for step in 0..place {
         let at = place - step;
-        if at < rows.len() && before(&rows[at], &rows[at - 1]) {
+        if at < rows.len() && rows[at].may_precede(&rows[at - 1]) {
             rows.swap(at, at - 1);
         }
     }
@@ -330,29 +351,30 @@ fn settle<T, F: Fn(&T, &T) -> bool>(rows: &mut Vec<T>, place: usize, before: F)
 
 fn sort_ledgers(image: &mut Image) {
     for place in 0..image.entered.len() {
-        settle(&mut image.entered.items, place, |x, y| {
-            plain::is_entered_before(x, y)
-        });
+        settle(&mut image.entered.items, place);
     }
     for place in 0..image.gone.len() {
-        settle(&mut image.gone.items, place, |x, y| {
-            plain::is_gone_before(x, y)
-        });
+        settle(&mut image.gone.items, place);
+    }
+}
+
+/// Enters what the assets hold, and more that is gone.
+fn enter_assets(rt: &(impl Abort + AllocGlobal), draws: &mut Draws, image: &mut Image) {
+    let assets = image.assets.copy(rt.alloc()).expect(rt, "memory");
+    for asset in assets.as_slice() {
+        enter_asset(rt, draws, image, asset);
     }
 }
 
 /// An image. It is sound, but for assets that hold nothing and never did.
 pub fn image(rt: &(impl Abort + AllocGlobal), draws: &mut Draws) -> Image {
     let mut image = Image::empty(rt.alloc());
-    add_links(rt, draws, &mut image.links.items);
-    add_classes(rt, draws, &mut image.classes.items);
-    add_assets(rt, draws, &mut image.assets.items);
+    add_links(rt, draws, &mut image.links);
+    add_classes(rt, draws, &mut image.classes);
+    add_assets(rt, draws, &mut image.assets);
     add_routes(rt, draws, &mut image);
-    let assets = image.assets.copy(rt.alloc()).expect(rt, "memory");
-    for asset in assets.as_slice() {
-        enter_asset(rt, draws, &mut image, asset);
-    }
+    enter_assets(rt, draws, &mut image);
     sort_ledgers(&mut image);
-    image.edits = edits(rt, EDITS as u8);
+    add_edits(rt, &mut image.edits, EDITS as u8);
     image
 }

@@ -26,14 +26,21 @@ pub fn link(number: u32, length: u32) -> Option<Link> {
     }
 }
 
+/// Lets the course go on over the piece.
+fn go_on(course: &mut Course, alloc: Global, links: &[Link], piece: Piece) -> Option<()>
+    requires { IsTrue (are_in_order links.now) }
+{
+    let next = Course::new(alloc, &[piece], &links).ok()?;
+    course.concat(&next).ok()
+}
+
 /// The course over these pieces of links, which may run over a millimetre twice.
 fn course_by_pieces(alloc: Global, links: &[Link], pieces: &[Piece]) -> Option<Course>
     requires { IsTrue (are_in_order links.now) }
 {
     let mut course = Course::new(alloc, &[], &links).ok()?;
     for piece in pieces {
-        let next = Course::new(alloc, &[*piece], &links).ok()?;
-        course.concat(&next).ok()?;
+        go_on(&mut course, alloc, links, *piece)?;
     }
     Some(course)
 }
@@ -122,13 +129,19 @@ pub fn add(spans: &mut Spans, alloc: Global, span: Span) -> Result<bool, AllocEr
     Ok(true)
 }
 
-/// A route with these rows on it, none where one of them can't be added.
-pub fn route_row(alloc: Global, route: Route, rows: &[Span]) -> Option<RouteRow> {
+/// These rows, none where one of them can't be added.
+fn spans_of(alloc: Global, rows: &[Span]) -> Option<Spans> {
     let mut spans = Spans::empty(alloc);
     for row in rows {
         if !add(&mut spans, alloc, *row).ok()? {
             return None;
         }
     }
+    Some(spans)
+}
+
+/// A route with these rows on it, none where one of them can't be added.
+pub fn route_row(alloc: Global, route: Route, rows: &[Span]) -> Option<RouteRow> {
+    let spans = spans_of(alloc, rows)?;
     Some(RouteRow { route, spans })
 }

@@ -6,7 +6,8 @@
 mod damage;
 #[cfg(test)]
 mod drawings;
-pub mod layout;
+#[cfg(test)]
+mod layout;
 #[cfg(test)]
 mod long;
 #[cfg(test)]

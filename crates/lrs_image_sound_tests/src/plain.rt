@@ -2,9 +2,10 @@
 //! turn, and nothing is sorted or searched.
 
 use lrs_element::{Link, Piece};
-use lrs_events::{Asset, Class, Gone, Kind, LinkSide, Part, Side, Span};
-use lrs_machine::{Image, RouteRow, Table};
-use std::alloc::AllocGlobal;
+use lrs_events::{Asset, Class, ClassName, Gone, Kind, LinkSide, Part, Side, Span};
+use lrs_machine::{Edit, Image, RouteRow, Table};
+use lrs_position::RefName;
+use std::alloc::Global;
 use std::process::Abort;
 
 /// A millimetre of a link, on one side of it.
@@ -15,13 +16,86 @@ pub struct Place {
     pub side: LinkSide,
 }
 
-/// Whether each two rows pass the test, in their order.
-fn each_two<T, F: Fn(&T, &T) -> bool>(rows: &[T], test: F) -> bool
-    requires { F.IsAlwaysCallable test }
-{
+/// A row of a table.
+pub trait Row {
+    /// Whether the other row may stand behind it in the table.
+    fn may_precede(&self, other: &Self) -> bool;
+}
+
+impl Row for Link {
+    fn may_precede(&self, other: &Link) -> bool {
+        self.number < other.number
+    }
+}
+
+impl Row for Class {
+    fn may_precede(&self, other: &Class) -> bool {
+        self.name < other.name
+    }
+}
+
+impl Row for Asset {
+    fn may_precede(&self, other: &Asset) -> bool {
+        self.number < other.number
+    }
+}
+
+impl Row for RouteRow {
+    fn may_precede(&self, other: &RouteRow) -> bool {
+        self.route.name < other.route.name
+    }
+}
+
+fn side_number(side: LinkSide) -> u8 {
+    match side {
+        LinkSide::Left => 0,
+        LinkSide::Right => 1,
+    }
+}
+
+/// Whether the first comes before the second, by asset, link, start and side.
+fn lies_before(x: &Part, y: &Part) -> bool {
+    if x.asset != y.asset {
+        return x.asset < y.asset;
+    }
+    if x.link != y.link {
+        return x.link < y.link;
+    }
+    x.from < y.from || (x.from == y.from && side_number(x.side) < side_number(y.side))
+}
+
+/// By edit, and then by where they lie.
+impl Row for Part {
+    fn may_precede(&self, other: &Part) -> bool {
+        self.edit < other.edit || (self.edit == other.edit && lies_before(self, other))
+    }
+}
+
+/// By edit, then what is retired, and then by where they lie.
+impl Row for Gone {
+    fn may_precede(&self, other: &Gone) -> bool {
+        if self.part.edit != other.part.edit {
+            return self.part.edit < other.part.edit;
+        }
+        if self.abandoned != other.abandoned {
+            return other.abandoned;
+        }
+        lies_before(&self.part, &other.part)
+    }
+}
+
+/// In any order, but each with a key of its own.
+impl Row for Edit {
+    fn may_precede(&self, other: &Edit) -> bool {
+        self.key != other.key
+    }
+}
+
+/// Whether of each two rows the second may stand behind the first.
+fn each_two<T: Row>(rows: &[T]) -> bool {
     for i in 0..rows.len() {
         for k in i + 1..rows.len() {
-            if !test(&rows[i], &rows[k]) {
+            if !rows[i].may_precede(&rows[k]) {
                 return false;
             }
         }
@@ -29,21 +103,19 @@ fn each_two<T, F: Fn(&T, &T) -> bool>(rows: &[T], test: F) -> bool
     true
 }
 
-/// Whether each place of the links passes the test.
-fn at_each_place<F: Fn(Place) -> bool>(links: &[Link], test: F) -> bool
-    requires { F.IsAlwaysCallable test }
-{
+/// Each place of the links.
+fn places_of(rt: &impl Abort, alloc: Global, links: &[Link]) -> Vec<Place> {
+    let mut places = Vec::new(alloc);
     for row in links {
+        let link = row.number;
         for mm in 0..row.length {
-            for side in [LinkSide::Left, LinkSide::Right] {
-                let link = row.number;
-                if !test(Place { link, mm, side }) {
-                    return false;
-                }
-            }
+            let side = LinkSide::Left;
+            places.push(Place { link, mm, side }).expect(rt, "memory");
+            let side = LinkSide::Right;
+            places.push(Place { link, mm, side }).expect(rt, "memory");
         }
     }
-    true
+    places
 }
 
 /// The link, millimetre and direction of the pieces' millimetre at a chainage.
@@ -97,19 +169,49 @@ fn entry_holds(route_row: &RouteRow, asset: u64, place: Place) -> bool {
 
 /// Whether a row of some route holds the place for the asset.
 pub fn holds(routes: &[RouteRow], asset: u64, place: Place) -> bool {
-    routes
-        .iter()
-        .any(|route_row| entry_holds(route_row, asset, place))
+    for route_row in routes {
+        if entry_holds(route_row, asset, place) {
+            return true;
+        }
+    }
+    false
 }
 
 fn has_link(links: &[Link], number: u32, mm: u32) -> bool {
-    links
-        .iter()
-        .any(|link| link.number == number && mm < link.length)
+    for link in links {
+        if link.number == number && mm < link.length {
+            return true;
+        }
+    }
+    false
+}
+
+fn has_class(classes: &[Class], name: ClassName) -> bool {
+    for class in classes {
+        if class.name == name {
+            return true;
+        }
+    }
+    false
 }
 
 fn has_asset(assets: &[Asset], number: u64) -> bool {
-    assets.iter().any(|asset| asset.number == number)
+    for asset in assets {
+        if asset.number == number {
+            return true;
+        }
+    }
+    false
+}
+
+/// Whether there is an asset of this number and class.
+fn has_asset_of(assets: &[Asset], number: u64, class: ClassName) -> bool {
+    for asset in assets {
+        if asset.number == number && asset.class == class {
+            return true;
+        }
+    }
+    false
 }
 
 fn has_place(part: &Part, asset: u64, place: Place) -> bool {
@@ -119,17 +221,16 @@ fn has_place(part: &Part, asset: u64, place: Place) -> bool {
 
 fn is_asset(classes: &[Class], asset: &Asset) -> bool {
     let numbered = 1 <= asset.number && asset.number <= 1_000_000_000_000;
-    let near = asset.lateral <= 100_000;
-    numbered && near && classes.iter().any(|class| class.name == asset.class)
+    numbered && asset.lateral <= 100_000 && has_class(classes, asset.class)
 }
 
-fn are_assets(image: &Image) -> bool {
-    let assets = image.assets.as_slice();
-    each_two(assets, |a, b| a.number < b.number)
-        && assets
-            .iter()
-            .all(|asset| is_asset(image.classes.as_slice(), asset))
-        && assets.len() <= 1_000_000
+fn are_assets(classes: &[Class], assets: &[Asset]) -> bool {
+    for asset in assets {
+        if !is_asset(classes, asset) {
+            return false;
+        }
+    }
+    each_two(assets) && assets.len() <= 1_000_000
 }
 
 fn lies_on_links(links: &[Link], route_row: &RouteRow) -> bool {
@@ -143,47 +244,84 @@ fn lies_on_links(links: &[Link], route_row: &RouteRow) -> bool {
     true
 }
 
-/// How often the courses run over the millimetre.
-fn runs(routes: &[RouteRow], place: Place) -> u64 {
+/// How often the course runs over the millimetre.
+fn runs_of(pieces: &[Piece], place: Place) -> u64 {
     let mut count = 0u64;
-    for route_row in routes {
-        for piece in route_row.route.course.pieces() {
-            if piece.link == place.link && piece.from <= place.mm && place.mm < piece.to {
-                count = count.saturating_add(1);
-            }
+    for piece in pieces {
+        if piece.link == place.link && piece.from <= place.mm && place.mm < piece.to {
+            count = count.saturating_add(1);
         }
     }
     count
 }
 
-fn are_courses(image: &Image) -> bool {
-    let links = image.links.as_slice();
-    let routes = image.routes.as_slice();
-    each_two(routes, |a, b| a.route.name < b.route.name)
-        && routes
-            .iter()
-            .all(|route_row| lies_on_links(links, route_row))
-        && at_each_place(links, |place| runs(routes, place) <= 1)
-        && routes.len() <= 10_000
+/// How often the courses run over the millimetre.
+fn runs(routes: &[RouteRow], place: Place) -> u64 {
+    let mut count = 0u64;
+    for route_row in routes {
+        count = count.saturating_add(runs_of(route_row.route.course.pieces(), place));
+    }
+    count
+}
+
+/// Whether no millimetre is run over twice.
+fn share_no_ground(routes: &[RouteRow], places: &[Place]) -> bool {
+    for place in places {
+        if runs(routes, *place) > 1 {
+            return false;
+        }
+    }
+    true
+}
+
+fn are_courses(links: &[Link], routes: &[RouteRow], places: &[Place]) -> bool {
+    for route_row in routes {
+        if !lies_on_links(links, route_row) {
+            return false;
+        }
+    }
+    each_two(routes) && share_no_ground(routes, places) && routes.len() <= 10_000
+}
+
+fn has_referent(route_row: &RouteRow, name: RefName) -> bool {
+    for referent in route_row.route.refs.as_slice() {
+        if referent.name == name {
+            return true;
+        }
+    }
+    false
 }
 
 /// Whether no referent of the one route has the name of one of the other.
 fn share_no_name(a: &RouteRow, b: &RouteRow) -> bool {
-    let others = b.route.refs.as_slice();
-    a.route.refs.as_slice().iter().all(|referent| !others
-        .iter()
-        .any(|other| other.name == referent.name))
+    for referent in a.route.refs.as_slice() {
+        if has_referent(b, referent.name) {
+            return false;
+        }
+    }
+    true
 }
 
-fn is_span(assets: &[Asset], length: u64, row: &Span) -> bool {
-    row.to <= length
-        && assets.iter().any(|asset| asset.number == row.asset && asset.class == row.class)
+/// Whether no two routes have referents of one name.
+fn are_referents(routes: &[RouteRow]) -> bool {
+    for i in 0..routes.len() {
+        for k in i + 1..routes.len() {
+            if !share_no_name(&routes[i], &routes[k]) {
+                return false;
+            }
+        }
+    }
+    true
 }
 
 fn are_spans_of(assets: &[Asset], route_row: &RouteRow) -> bool {
     let length = route_row.route.course.len();
-    let rows = route_row.spans.rows();
-    rows.iter().all(|row| is_span(assets, length, row))
+    for row in route_row.spans.rows() {
+        if row.to > length || !has_asset_of(assets, row.asset, row.class) {
+            return false;
+        }
+    }
+    true
 }
 
 /// How many assets of the class hold the place.
@@ -197,21 +335,31 @@ fn holders(image: &Image, class: &Class, place: Place) -> u64 {
     count
 }
 
-fn keeps_exclusive(image: &Image, class: &Class) -> bool {
-    class.kind != Kind::Exclusive
-        || at_each_place(image.links.as_slice(), |place| {
-            holders(image, class, place) <= 1
-        })
+fn keeps_exclusive(image: &Image, class: &Class, places: &[Place]) -> bool {
+    for place in places {
+        if class.kind == Kind::Exclusive && holders(image, class, *place) > 1 {
+            return false;
+        }
+    }
+    true
 }
 
-fn are_spans(image: &Image) -> bool {
-    let assets = image.assets.as_slice();
-    let routes = image.routes.as_slice();
-    let classes = image.classes.as_slice();
-    routes
-        .iter()
-        .all(|route_row| are_spans_of(assets, route_row))
-        && classes.iter().all(|class| keeps_exclusive(image, class))
+fn keep_exclusive(image: &Image, places: &[Place]) -> bool {
+    for class in image.classes.as_slice() {
+        if !keeps_exclusive(image, class, places) {
+            return false;
+        }
+    }
+    true
+}
+
+fn are_spans(image: &Image, places: &[Place]) -> bool {
+    for route_row in image.routes.as_slice() {
+        if !are_spans_of(image.assets.as_slice(), route_row) {
+            return false;
+        }
+    }
+    keep_exclusive(image, places)
 }
 
 /// How many of the parts have the asset's place.
@@ -225,19 +373,13 @@ fn count_parts(parts: &[Part], asset: u64, place: Place) -> u64 {
     count
 }
 
-/// Whether some part has the asset's place.
-fn any_part(parts: &[Part], asset: u64, place: Place) -> bool {
-    0 < count_parts(parts, asset, place)
-}
-
-/// Whether the test is passed for each asset at each place.
-fn for_each_asset<F: Fn(u64, Place) -> bool>(image: &Image, test: F) -> bool
-    requires { F.IsAlwaysCallable test }
-{
-    for asset in image.assets.as_slice() {
-        let number = asset.number;
-        if !at_each_place(image.links.as_slice(), |place| test(number, place)) {
-            return false;
+/// Whether no asset has a place in two of the parts.
+fn share_no_place(assets: &[Asset], places: &[Place], parts: &[Part]) -> bool {
+    for asset in assets {
+        for place in places {
+            if count_parts(parts, asset.number, *place) > 1 {
+                return false;
+            }
         }
     }
     true
@@ -251,133 +393,137 @@ fn is_part(image: &Image, part: &Part) -> bool {
 
 /// Whether the parts are within links, of assets, and have no asset's place twice. Nothing here is long enough for
 /// the most places of an asset.
-fn are_parts(image: &Image, parts: &[Part]) -> bool {
-    parts.iter().all(|part| is_part(image, part))
-        && for_each_asset(image, |asset, place| count_parts(parts, asset, place) <= 1)
+fn are_parts(image: &Image, places: &[Place], parts: &[Part]) -> bool {
+    for part in parts {
+        if !is_part(image, part) {
+            return false;
+        }
+    }
+    share_no_place(image.assets.as_slice(), places, parts)
 }
 
-fn side_number(side: LinkSide) -> u8 {
-    match side {
-        LinkSide::Left => 0,
-        LinkSide::Right => 1,
-    }
-}
-
-/// Whether the first comes before the second, by asset, link, start and side.
-fn lies_before(x: &Part, y: &Part) -> bool {
-    if x.asset != y.asset {
-        return x.asset < y.asset;
-    }
-    if x.link != y.link {
-        return x.link < y.link;
-    }
-    x.from < y.from || (x.from == y.from && side_number(x.side) < side_number(y.side))
-}
-
-/// Whether the first comes before the second, by edit and then by where they lie.
-pub fn is_entered_before(x: &Part, y: &Part) -> bool {
-    x.edit < y.edit || (x.edit == y.edit && lies_before(x, y))
-}
-
-/// Whether the first comes before the second, by edit, then what is retired, and then by where they lie.
-pub fn is_gone_before(x: &Gone, y: &Gone) -> bool {
-    if x.part.edit != y.part.edit {
-        return x.part.edit < y.part.edit;
-    }
-    if x.abandoned != y.abandoned {
-        return y.abandoned;
-    }
-    lies_before(&x.part, &y.part)
-}
-
-fn are_entered(image: &Image) -> bool {
+fn are_entered(image: &Image, places: &[Place]) -> bool {
     let entered = image.entered.as_slice();
-    each_two(entered, |x, y| is_entered_before(x, y)) && are_parts(image, entered)
+    each_two(entered) && are_parts(image, places, entered)
 }
 
 /// Whether held is what was entered and is not gone, and nothing is gone that was not entered.
 fn is_balanced(image: &Image, gone: &[Part], asset: u64, place: Place) -> bool {
     let held = holds(image.routes.as_slice(), asset, place);
-    let was_entered = any_part(image.entered.as_slice(), asset, place);
-    let is_gone = any_part(gone, asset, place);
+    let was_entered = 0 < count_parts(image.entered.as_slice(), asset, place);
+    let is_gone = 0 < count_parts(gone, asset, place);
     held == (was_entered && !is_gone) && (was_entered || !is_gone)
 }
 
+fn are_balanced(image: &Image, places: &[Place], gone: &[Part]) -> bool {
+    for asset in image.assets.as_slice() {
+        for place in places {
+            if !is_balanced(image, gone, asset.number, *place) {
+                return false;
+            }
+        }
+    }
+    true
+}
+
 /// The parts that are gone, whatever became of them.
-fn parts_of(rt: &(impl Abort + AllocGlobal), gone: &[Gone]) -> Vec<Part> {
-    let mut parts = Vec::new(rt.alloc());
+fn parts_of(rt: &impl Abort, alloc: Global, gone: &[Gone]) -> Vec<Part> {
+    let mut parts = Vec::new(alloc);
     for row in gone {
         parts.push(row.part).expect(rt, "memory");
     }
     parts
 }
 
-fn are_gone(image: &Image, parts: &[Part]) -> bool {
-    each_two(image.gone.as_slice(), |x, y| is_gone_before(x, y))
-        && are_parts(image, parts)
-        && for_each_asset(
-            image,
-            |asset, place| is_balanced(image, parts, asset, place),
-        )
+fn are_gone(image: &Image, places: &[Place], gone: &[Part]) -> bool {
+    each_two(image.gone.as_slice())
+        && are_parts(image, places, gone)
+        && are_balanced(image, places, gone)
 }
 
-fn is_named(image: &Image, part: &Part) -> bool {
-    1 <= part.edit && part.edit <= image.edits.len() as u64
+/// Whether each part names an edit.
+fn are_named(parts: &[Part], edits: u64) -> bool {
+    for part in parts {
+        if part.edit < 1 || edits < part.edit {
+            return false;
+        }
+    }
+    true
 }
 
-fn are_edits(image: &Image) -> bool {
-    each_two(image.edits.as_slice(), |d, e| d.key != e.key)
-        && image
-            .entered
-            .as_slice()
-            .iter()
-            .all(|part| is_named(image, part))
-        && image
-            .gone
-            .as_slice()
-            .iter()
-            .all(|row| is_named(image, &row.part))
-        && image.edits.len() <= 10_000_000
+fn are_edits(image: &Image, gone: &[Part]) -> bool {
+    let edits = image.edits.len() as u64;
+    each_two(image.edits.as_slice())
+        && are_named(image.entered.as_slice(), edits)
+        && are_named(gone, edits)
+        && edits <= 10_000_000
 }
 
-fn is_origin(image: &Image, asset: &Asset) -> bool {
-    let entered = image.entered.as_slice();
-    entered.iter().any(|part| part.asset == asset.number)
-        && entered.iter().all(|part| part.asset != asset.number || part.edit == asset.entered_by)
+/// Whether the asset was entered, and by the edit that it names alone.
+fn is_origin(entered: &[Part], asset: &Asset) -> bool {
+    let mut was_entered = false;
+    for part in entered {
+        if part.asset == asset.number {
+            if part.edit != asset.entered_by {
+                return false;
+            }
+            was_entered = true;
+        }
+    }
+    was_entered
+}
+
+fn are_origins(entered: &[Part], assets: &[Asset]) -> bool {
+    for asset in assets {
+        if !is_origin(entered, asset) {
+            return false;
+        }
+    }
+    true
+}
+
+/// The first unsound table of those behind the routes.
+fn first_behind_routes(image: &Image, places: &[Place], gone: &[Part]) -> Option<Table> {
+    if !are_spans(image, places) {
+        return Some(Table::Span);
+    }
+    if !are_entered(image, places) {
+        return Some(Table::Entered);
+    }
+    if !are_gone(image, places, gone) {
+        return Some(Table::Gone);
+    }
+    if !are_edits(image, gone) {
+        return Some(Table::Edit);
+    }
+    if !are_origins(image.entered.as_slice(), image.assets.as_slice()) {
+        return Some(Table::Origin);
+    }
+    None
+}
+
+fn first_of(image: &Image, places: &[Place], gone: &[Part]) -> Option<Table> {
+    if !each_two(image.links.as_slice()) {
+        return Some(Table::Link);
+    }
+    if !each_two(image.classes.as_slice()) {
+        return Some(Table::Class);
+    }
+    if !are_assets(image.classes.as_slice(), image.assets.as_slice()) {
+        return Some(Table::Asset);
+    }
+    if !are_courses(image.links.as_slice(), image.routes.as_slice(), places) {
+        return Some(Table::Piece);
+    }
+    if !are_referents(image.routes.as_slice()) {
+        return Some(Table::Ref);
+    }
+    first_behind_routes(image, places, gone)
 }
 
 /// The first unsound table.
-pub fn first_unsound(rt: &(impl Abort + AllocGlobal), image: &Image) -> Option<Table> {
-    let assets = image.assets.as_slice();
-    let parts = parts_of(rt, image.gone.as_slice());
-    let tests = [
-        (
-            Table::Link,
-            each_two(image.links.as_slice(), |a, b| a.number < b.number),
-        ),
-        (
-            Table::Class,
-            each_two(image.classes.as_slice(), |a, b| a.name < b.name),
-        ),
-        (Table::Asset, are_assets(image)),
-        (Table::Piece, are_courses(image)),
-        (
-            Table::Ref,
-            each_two(image.routes.as_slice(), |a, b| share_no_name(a, b)),
-        ),
-        (Table::Span, are_spans(image)),
-        (Table::Entered, are_entered(image)),
-        (Table::Gone, are_gone(image, &parts)),
-        (Table::Edit, are_edits(image)),
-        (
-            Table::Origin,
-            assets.iter().all(|asset| is_origin(image, asset)),
-        ),
-    ];
-    for (table, passes) in tests {
-        if !passes {
-            return Some(table);
-        }
-    }
-    None
+pub fn first_unsound(rt: &impl Abort, alloc: Global, image: &Image) -> Option<Table> {
+    let places = places_of(rt, alloc, image.links.as_slice());
+    let gone = parts_of(rt, alloc, image.gone.as_slice());
+    first_of(image, &places, &gone)
 }

@@ -1,10 +1,10 @@
 //! Rows and routes for tests, and the one call that each test makes.
 
 use crate::layout;
-use lrs_element::{Link, Piece};
+use lrs_element::{Course, Link, Piece};
 use lrs_events::{Asset, Class, ClassName, Kind, Span, Value};
 use lrs_image_sound::first_unsound;
-use lrs_machine::{Command, Edit, Image, Key, RouteRow, Table};
+use lrs_machine::{Command, Edit, Image, Key, Line, RouteRow, Table};
 use lrs_measure::Rows;
 use lrs_measure::limits::LONGEST_LINK;
 use lrs_position::{RefName, Referent};
@@ -16,19 +16,24 @@ pub fn unsound(rt: &(impl Abort + AllocGlobal), image: &Image) -> Option<Table> 
     first_unsound(rt.alloc(), image).expect(rt, "memory")
 }
 
+/// The answer to an image is this.
+fn is_answer(rt: &impl Abort, answer: Option<Table>, expected: Option<Table>) {
+    assert_eq!(rt; answer, expected);
+}
+
 /// The image is sound.
 pub fn is_sound(rt: &(impl Abort + AllocGlobal), image: Image) {
-    assert_eq!(rt; unsound(rt, &image), None);
+    is_answer(rt, unsound(rt, &image), None);
 }
 
 /// The first unsound table of the image is this one.
 pub fn names(rt: &(impl Abort + AllocGlobal), table: Table, image: Image) {
-    assert_eq!(rt; unsound(rt, &image), Some(table));
+    is_answer(rt, unsound(rt, &image), Some(table));
 }
 
-/// A list of these rows.
-pub fn rows<T, const N: usize>(rt: &(impl Abort + AllocGlobal), rows: [T; N]) -> Rows<T> {
-    Rows::from_vec(Vec::from_array(rt.alloc(), rows).expect(rt, "memory"))
+/// Adds a row to the list.
+pub fn add<T: Drop>(rt: &impl Abort, rows: &mut Rows<T>, row: T) {
+    rows.items.push(row).expect(rt, "memory");
 }
 
 /// The link of this number and length.
@@ -37,14 +42,18 @@ pub fn link(rt: &impl Abort, number: u32, length: u32) -> Link {
 }
 
 /// Links 1 to 11, each as long as can be.
-pub fn long_links(rt: &(impl Abort + AllocGlobal)) -> Vec<Link> {
-    let mut links = Vec::new(rt.alloc());
+pub fn long_links(rt: &(impl Abort + AllocGlobal)) -> Rows<Link> {
+    let mut links = Rows::new(rt.alloc());
     for number in 1..12 {
-        links
-            .push(link(rt, number, LONGEST_LINK))
-            .expect(rt, "memory");
+        add(rt, &mut links, link(rt, number, LONGEST_LINK));
     }
     links
+}
+
+/// The course over these pieces of the long links.
+pub fn course(rt: &(impl Abort + AllocGlobal), pieces: &[Piece]) -> Course {
+    let links = long_links(rt);
+    layout::course(rt.alloc(), links.as_slice(), pieces).expect(rt, "a course")
 }
 
 /// The class of this name and kind.
@@ -84,6 +93,17 @@ pub fn back(link: u32, from: u32, to: u32) -> Piece {
     }
 }
 
+/// A referent of this name in the first millimetre.
+fn first_referent(rt: &impl Abort, name: Option<&[u8]>) -> Option<Referent> {
+    match name {
+        Some(name) => Some(Referent {
+            name: RefName::new(name).expect(rt, "a referent name"),
+            at: 0,
+        }),
+        None => None,
+    }
+}
+
 /// A route of this name with rows on it; its referent stands in its first millimetre.
 pub fn route_row(
     rt: &(impl Abort + AllocGlobal),
@@ -92,31 +112,29 @@ pub fn route_row(
     pieces: &[Piece],
     rows: &[Span],
 ) -> RouteRow {
-    let referent = referent.map(|name| Referent {
-        name: RefName::new(name).expect(rt, "a referent name"),
-        at: 0,
-    });
-    let course = layout::course(rt.alloc(), &long_links(rt), pieces).expect(rt, "a course");
+    let referent = first_referent(rt, referent);
+    let course = course(rt, pieces);
     let route = layout::route(rt.alloc(), name, course, referent).expect(rt, "a route");
     layout::route_row(rt.alloc(), route, rows).expect(rt, "rows of spans")
 }
 
+/// The line of a command.
+fn line(rt: &(impl Abort + AllocGlobal)) -> Line {
+    let command = Command::Class(class(rt, b"SIGN", Kind::Point));
+    command.line(rt.alloc()).expect(rt, "memory")
+}
+
 /// An edit with this key.
 pub fn edit(rt: &(impl Abort + AllocGlobal), key: &[u8]) -> Edit {
-    let command = Command::Class(class(rt, b"SIGN", Kind::Point));
     Edit {
         key: Key::new(key).expect(rt, "a key"),
-        line: command.line(rt.alloc()).expect(rt, "memory"),
+        line: line(rt),
     }
 }
 
-/// So many edits, each with a key of its own.
-pub fn edits(rt: &(impl Abort + AllocGlobal), count: u8) -> Rows<Edit> {
-    let mut edits = Vec::new(rt.alloc());
+/// Adds so many edits, each with a key of its own.
+pub fn add_edits(rt: &(impl Abort + AllocGlobal), edits: &mut Rows<Edit>, count: u8) {
     for number in 0..count {
-        edits
-            .push(edit(rt, &[b'K', b'A' + number % 26]))
-            .expect(rt, "memory");
+        add(rt, edits, edit(rt, &[b'K', b'A' + number % 26]));
     }
-    Rows::from_vec(edits)
 }

@@ -4,7 +4,6 @@ ghost use Rattle.std.specs.Prelude.{◌≡◌, ◌+◌, nat_le};
 ghost use Rattle.std.specs.List.{list_all};
 ghost use Rattle.lrs_events.specs.Spans.{is_row};
 ghost use Rattle.lrs_events_rows.specs.Joins.{end_by, have_room, is_of_one_class, are_of_one_class};
-ghost use Rattle.lrs_events_rows.specs.Members.{leaves_free, is_free};
 
 use lrs_events::{Span, SpanChange};
 use lrs_events_rows::removals::Removal;
@@ -16,20 +15,6 @@ fn is_row(span: &Span) -> bool
     ensures { result ≡ is_row span.now }
 {
     span.from < span.to && span.to <= LONGEST_ROUTE
-}
-
-fn leaves_free(row: &Span, span: &Span) -> bool
-    ensures { result ≡ leaves_free span.now row.now }
-{
-    row.asset != span.asset
-        || (row.class == span.class && (row.to <= span.from || span.to <= row.from))
-}
-
-/// Whether the span's asset has no other class and nothing of its millimetres.
-pub fn is_free(rows: &[Span], span: &Span) -> bool
-    ensures { result ≡ is_free rows.now span.now }
-{
-    rows.iter().all(|row| leaves_free(row, span))
 }
 
 fn end_by(rows: &[Span], at: u64) -> bool
@@ -70,7 +55,7 @@ fn are_of_one_class(rows: &[Span], others: &[Span]) -> bool
 
 /// Adds the span where it is free, and answers whether it was.
 pub fn add(spans: &mut Spans, alloc: Global, span: &Span) -> Result<bool, AllocError> {
-    if !is_row(span) || !is_free(spans.rows(), span) {
+    if !is_row(span) || !spans.is_free(span) {
         return Ok(false);
     }
     spans.add(alloc, *span)?;
@@ -79,7 +64,7 @@ pub fn add(spans: &mut Spans, alloc: Global, span: &Span) -> Result<bool, AllocE
 
 /// Plans to add the span and makes that change, where it is free.
 pub fn apply_add(spans: &mut Spans, alloc: Global, span: &Span) -> Result<bool, AllocError> {
-    if !is_row(span) || !is_free(spans.rows(), span) {
+    if !is_row(span) || !spans.is_free(span) {
         return Ok(false);
     }
     let change = spans.plan_add(alloc, *span)?;

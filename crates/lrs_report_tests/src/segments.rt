@@ -15,6 +15,17 @@ use std::process::Abort;
 const RIGHT: &str =
     "STRIP A1 R 8.000\n        FROM           TO        SPEED\n       0.000        2.500            -\n       2.500        4.000           80\n       4.000        6.000            -\n       6.000        8.000           80\n";
 
+/// The strip of the left side, as that of a route without assets.
+const LEFT: &str =
+    "STRIP A1 L 8.000\n        FROM           TO        SPEED\n       0.000        8.000            -\n";
+
+/// The strip of the right side with its class twice.
+const TWICE: &str =
+    "STRIP A1 R 8.000\n        FROM           TO        SPEED        SPEED\n       0.000        2.500            -            -\n       2.500        4.000           80           80\n       4.000        6.000            -            -\n       6.000        8.000           80           80\n";
+
+/// The strip of the right side with no class.
+const NO_CLASS: &str = "STRIP A1 R 8.000\n        FROM           TO\n       0.000        8.000\n";
+
 /// A stretch of asset 10 on the right.
 fn stretch(class: ClassName, from: u64, to: u64) -> Span
     ensures { result ≡ record { asset = 10; class = class; from = from; to = to; side = Side.R } }
@@ -145,86 +156,119 @@ fn strip_of(
     written
 }
 
-fn each_side_has_its_strip(rt: &(impl Abort + Print + AllocGlobal)) {
-    let wanted = [name(rt, b"SPEED")];
-    let left =
-        "STRIP A1 L 8.000\n        FROM           TO        SPEED\n       0.000        8.000            -\n";
-    for (side, text) in [(Side::R, RIGHT), (Side::L, left)] {
-        let found = segments_of(rt, Kind::Exclusive, &wanted, side).expect(rt, "segments");
-        let written = strip_of(rt, &found, &wanted, side);
-        assert_eq!(rt; written.as_slice(), text.as_bytes());
-    }
+/// What was written is this text.
+fn is_text(rt: &impl Abort, written: &[u8], text: &str) {
+    assert_eq!(rt; written, text.as_bytes());
 }
 
-fn a_class_can_be_asked_for_twice_or_not_at_all(rt: &(impl Abort + Print + AllocGlobal)) {
-    let speed = name(rt, b"SPEED");
-    let twice = [speed, speed];
-    let found = segments_of(rt, Kind::Exclusive, &twice, Side::R).expect(rt, "segments");
-    let written = strip_of(rt, &found, &twice, Side::R);
-    let text =
-        "STRIP A1 R 8.000\n        FROM           TO        SPEED        SPEED\n       0.000        2.500            -            -\n       2.500        4.000           80           80\n       4.000        6.000            -            -\n       6.000        8.000           80           80\n";
-    assert_eq!(rt; written.as_slice(), text.as_bytes());
-    let found = segments_of(rt, Kind::Exclusive, &[], Side::R).expect(rt, "segments");
-    let written = strip_of(rt, &found, &[], Side::R);
-    let text = "STRIP A1 R 8.000\n        FROM           TO\n       0.000        8.000\n";
-    assert_eq!(rt; written.as_slice(), text.as_bytes());
+/// The strip of such segments is this text.
+fn has_strip(
+    rt: &(impl Abort + AllocGlobal),
+    found: &[Segment],
+    wanted: &[ClassName],
+    side: Side,
+    text: &str,
+) {
+    let written = strip_of(rt, found, wanted, side);
+    is_text(rt, &written, text);
 }
 
-fn a_route_without_assets_has_one_segment(rt: &(impl Abort + Print + AllocGlobal)) {
+/// The strip of the segments of the route along which a speed holds on two stretches is this text.
+fn route_has_strip(rt: &(impl Abort + AllocGlobal), wanted: &[ClassName], side: Side, text: &str) {
+    let found = segments_of(rt, Kind::Exclusive, wanted, side).expect(rt, "segments");
+    has_strip(rt, &found, wanted, side, text);
+}
+
+fn right_has_its_strip(rt: &(impl Abort + AllocGlobal)) {
+    route_has_strip(rt, &[name(rt, b"SPEED")], Side::R, RIGHT);
+}
+
+fn left_has_its_strip(rt: &(impl Abort + AllocGlobal)) {
+    route_has_strip(rt, &[name(rt, b"SPEED")], Side::L, LEFT);
+}
+
+fn a_class_can_be_asked_for_twice(rt: &(impl Abort + AllocGlobal)) {
     let speed = name(rt, b"SPEED");
+    route_has_strip(rt, &[speed, speed], Side::R, TWICE);
+}
+
+fn no_class_need_be_asked_for(rt: &(impl Abort + AllocGlobal)) {
+    route_has_strip(rt, &[], Side::R, NO_CLASS);
+}
+
+/// The segments of a route without assets.
+fn segments_without_assets(
+    rt: &(impl Abort + AllocGlobal),
+    speed: ClassName,
+) -> Result<Vec<Segment>, SegFault> {
+    let alloc = rt.alloc();
+    let route = route(rt);
+    let spans = Spans::empty(alloc);
+    let assets = Chunked::new(alloc);
     let classes = classes_of(rt, speed, Kind::Exclusive);
-    let spans = Spans::empty(rt.alloc());
-    let assets = Chunked::new(rt.alloc());
-    let found = segments(
-        rt.alloc(),
-        &route(rt),
-        &spans,
-        &assets,
-        &classes,
-        &[speed],
-        Side::L,
-    )
-    .expect(rt, "segments");
-    let written = strip_of(rt, &found, &[speed], Side::L);
-    let text =
-        "STRIP A1 L 8.000\n        FROM           TO        SPEED\n       0.000        8.000            -\n";
-    assert_eq!(rt; written.as_slice(), text.as_bytes());
+    segments(alloc, &route, &spans, &assets, &classes, &[speed], Side::L)
 }
 
-fn tables_can_be_slices(rt: &(impl Abort + Print + AllocGlobal)) {
+fn a_route_without_assets_has_one_segment(rt: &(impl Abort + AllocGlobal)) {
     let speed = name(rt, b"SPEED");
+    let found = segments_without_assets(rt, speed).expect(rt, "segments");
+    has_strip(rt, &found, &[speed], Side::L, LEFT);
+}
+
+/// The segments on the right, with assets and classes in slices.
+fn segments_in_slices(
+    rt: &(impl Abort + AllocGlobal),
+    class: ClassName,
+) -> Result<Vec<Segment>, SegFault> {
     let value = Value::new(b"80").expect(rt, "a value");
     let classes = [Class {
-        name: speed,
+        name: class,
         kind: Kind::Exclusive,
     }];
     let assets = [Asset {
         number: 10,
-        class: speed,
+        class,
         value,
         lateral: 0,
         entered_by: 1,
     }];
-    let found = segments_by_slices(rt, speed, value, &assets, &classes).expect(rt, "segments");
-    let written = strip_of(rt, &found, &[speed], Side::R);
-    assert_eq!(rt; written.as_slice(), RIGHT.as_bytes());
+    segments_by_slices(rt, class, value, &assets, &classes)
 }
 
-fn faults_come_in_their_order(rt: &(impl Abort + Print + AllocGlobal)) {
+fn tables_can_be_slices(rt: &(impl Abort + AllocGlobal)) {
     let speed = name(rt, b"SPEED");
-    let width = name(rt, b"WIDTH");
-    let unknown = segments_of(rt, Kind::Stretch, &[speed, width], Side::B);
-    assert_eq!(rt; unknown.err(), Some(SegFault::NoClass(1)));
-    let shared = segments_of(rt, Kind::Stretch, &[speed], Side::B);
-    assert_eq!(rt; shared.err(), Some(SegFault::NotExclusive(0)));
-    let both = segments_of(rt, Kind::Exclusive, &[speed], Side::B);
-    assert_eq!(rt; both.err(), Some(SegFault::SideB));
+    let found = segments_in_slices(rt, speed).expect(rt, "segments");
+    has_strip(rt, &found, &[speed], Side::R, RIGHT);
+}
+
+/// The fault with which segments of these classes on both sides end.
+fn fault_of(rt: &(impl Abort + AllocGlobal), kind: Kind, wanted: &[ClassName]) -> Option<SegFault> {
+    segments_of(rt, kind, wanted, Side::B).err()
+}
+
+fn is_fault(rt: &impl Abort, found: Option<SegFault>, expected: SegFault) {
+    assert_eq!(rt; found, Some(expected));
+}
+
+fn faults_come_in_their_order(rt: &(impl Abort + AllocGlobal)) {
+    let speed = name(rt, b"SPEED");
+    let both = [speed, name(rt, b"WIDTH")];
+    is_fault(rt, fault_of(rt, Kind::Stretch, &both), SegFault::NoClass(1));
+    let one = [speed];
+    is_fault(
+        rt,
+        fault_of(rt, Kind::Stretch, &one),
+        SegFault::NotExclusive(0),
+    );
+    is_fault(rt, fault_of(rt, Kind::Exclusive, &one), SegFault::SideB);
 }
 
 #[test]
 fn segments_and_strips(rt: HostRuntime) {
-    each_side_has_its_strip(&rt);
-    a_class_can_be_asked_for_twice_or_not_at_all(&rt);
+    right_has_its_strip(&rt);
+    left_has_its_strip(&rt);
+    a_class_can_be_asked_for_twice(&rt);
+    no_class_need_be_asked_for(&rt);
     a_route_without_assets_has_one_segment(&rt);
     tables_can_be_slices(&rt);
     faults_come_in_their_order(&rt);

@@ -2,7 +2,7 @@
 
 ghost use Rattle.std.specs.Prelude.{◌<◌};
 
-use crate::draws::Draws;
+use crate::spans::is_count;
 use crate::table::{ASSETS, Classes, LENGTH, Table};
 use lrs_events::{ClassName, LinkSide, Side, Span};
 use lrs_events_spans::Spans;
@@ -28,6 +28,11 @@ pub fn over_agrees(
     }
 }
 
+/// The row of this place is this.
+fn is_row(rt: &impl Abort, found: &[Span], place: usize, row: &Span) {
+    assert!(rt; found.get(place) == Some(row));
+}
+
 /// Whether a span is free.
 pub fn is_free_agrees(rt: &impl Abort, spans: &Spans, table: &Table, span: &Span) {
     if span.from < span.to {
@@ -35,7 +40,19 @@ pub fn is_free_agrees(rt: &impl Abort, spans: &Spans, table: &Table, span: &Span
     }
 }
 
-/// The rows over a millimetre: one of each asset that holds it, by asset.
+/// The rows over a millimetre are one of each asset that holds it, by asset.
+fn are_over(rt: &impl Abort, found: &[Span], table: &Table, classes: &Classes, at: u64) {
+    let mut count = 0usize;
+    for asset in 0..ASSETS {
+        if let Some(row) = table.row_over(classes, asset, at) {
+            is_row(rt, found, count, &row);
+            count = count.saturating_add(1);
+        }
+    }
+    is_count(rt, found.len(), count);
+}
+
+/// The rows over a millimetre.
 pub fn at_agrees(
     rt: &(impl Abort + AllocGlobal),
     spans: &Spans,
@@ -44,14 +61,7 @@ pub fn at_agrees(
     at: u64,
 ) -> Result<(), AllocError> {
     let found = spans.at(rt.alloc(), at)?;
-    let mut count = 0usize;
-    for asset in 0..ASSETS {
-        if let Some(row) = table.row_over(classes, asset, at) {
-            assert!(rt; found.get(count) == Some(&row));
-            count = count.saturating_add(1);
-        }
-    }
-    assert_eq!(rt; found.len(), count);
+    are_over(rt, &found, table, classes, at);
     Ok(())
 }
 
@@ -69,13 +79,13 @@ fn side_agrees(
         for asset in 0..ASSETS {
             if let Some(row) = table.row_from(classes, asset, from) {
                 if row.class == class && (row.side == side || row.side == Side::B) {
-                    assert!(rt; found.get(count) == Some(&row));
+                    is_row(rt, found, count, &row);
                     count = count.saturating_add(1);
                 }
             }
         }
     }
-    assert_eq!(rt; found.len(), count);
+    is_count(rt, found.len(), count);
 }
 
 /// The rows of the lanes of an asset's class.
@@ -101,9 +111,9 @@ pub fn asset_rows_agree(
     let mut count = 0usize;
     for from in 0..LENGTH {
         if let Some(row) = table.row_from(classes, asset, from) {
-            assert!(rt; found.get(count) == Some(&row));
+            is_row(rt, found, count, &row);
             count = count.saturating_add(1);
         }
     }
-    assert_eq!(rt; found.len(), count);
+    is_count(rt, found.len(), count);
 }

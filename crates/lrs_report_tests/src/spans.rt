@@ -17,6 +17,11 @@ const SEQUENCES: u32 = 10_000;
 
 const CALLS: u32 = 8;
 
+/// So many are there.
+pub fn is_count(rt: &impl Abort, found: usize, expected: usize) {
+    assert_eq!(rt; found, expected);
+}
+
 /// The class with this name.
 pub fn class(rt: &impl Abort, name: &[u8]) -> ClassName {
     ClassName::new(name).expect(rt, "a name of a class")
@@ -59,11 +64,31 @@ fn are_in_order(rows: &[Span]) -> bool {
     true
 }
 
+/// The rows stand for what the table says.
+fn say(rt: &impl Abort, rows: &[Span], table: &Table, classes: &Classes) {
+    assert!(rt; Table::of_rows(rows, classes) == Some(*table));
+}
+
+/// The rows are in order.
+fn stand_in_order(rt: &impl Abort, rows: &[Span]) {
+    assert!(rt; are_in_order(rows));
+}
+
 /// The rows stand for what the table says, are in order, and as few as that takes.
 fn agree(rt: &impl Abort, rows: &[Span], table: &Table, classes: &Classes) {
-    assert!(rt; Table::of_rows(rows, classes) == Some(*table));
-    assert!(rt; are_in_order(rows));
-    assert_eq!(rt; rows.len(), table.fewest_rows());
+    say(rt, rows, table, classes);
+    stand_in_order(rt, rows);
+    is_count(rt, rows.len(), table.fewest_rows());
+}
+
+/// A route went on as another.
+fn is_joined(rt: &impl Abort, joined: bool) {
+    assert!(rt; joined);
+}
+
+/// The rows are these.
+fn are_rows(rt: &impl Abort, rows: &[Span], expected: &[Span]) {
+    assert_eq!(rt; rows, expected);
 }
 
 /// The spans of a small route and the table of the same.
@@ -79,22 +104,27 @@ impl Trial {
         agree(rt, self.spans.rows(), &self.table, &self.classes);
     }
 
+    /// The span was added where the table has it free.
+    fn agree_on_addition(&mut self, rt: &impl Abort, span: &Span, added: bool) {
+        let free = span.from < span.to && self.table.is_free(span);
+        assert_eq!(rt; added, free);
+        if free {
+            self.table.add(span);
+        }
+    }
+
     fn add(
         &mut self,
         rt: &(impl Abort + AllocGlobal),
         span: &Span,
         planned: bool,
     ) -> Result<(), AllocError> {
-        let free = span.from < span.to && self.table.is_free(span);
         let added = if planned {
             calls::apply_add(&mut self.spans, rt.alloc(), span)?
         } else {
             calls::add(&mut self.spans, rt.alloc(), span)?
         };
-        assert_eq!(rt; added, free);
-        if free {
-            self.table.add(span);
-        }
+        self.agree_on_addition(rt, span, added);
         Ok(())
     }
 
@@ -175,9 +205,17 @@ impl Trial {
         requires { at ≤ 24 }
     {
         let before = self.spans.copy(rt.alloc())?;
+        self.cut_and_join(rt, at)?;
+        are_rows(rt, self.spans.rows(), before.rows());
+        Ok(())
+    }
+
+    /// Cuts the route and joins it at the same place.
+    fn cut_and_join(&mut self, rt: &(impl Abort + AllocGlobal), at: u64) -> Result<(), AllocError>
+        requires { at ≤ 24 }
+    {
         let rear = self.cut(rt, at)?;
-        assert!(rt; calls::concat(&mut self.spans, rt.alloc(), &rear, at)?);
-        assert_eq!(rt; self.spans.rows(), before.rows());
+        is_joined(rt, calls::concat(&mut self.spans, rt.alloc(), &rear, at)?);
         Ok(())
     }
 
@@ -186,7 +224,10 @@ impl Trial {
         requires { at ≤ 24 }
     {
         let mut rear = self.cut(rt, at)?;
-        assert!(rt; calls::concat(&mut rear, rt.alloc(), &self.spans, LENGTH - at)?);
+        is_joined(
+            rt,
+            calls::concat(&mut rear, rt.alloc(), &self.spans, LENGTH - at)?,
+        );
         self.spans = rear;
         self.table = self.table.rotated(at);
         Ok(())
@@ -252,6 +293,17 @@ fn answers_agree(
     span_queries::at_agrees(rt, &trial.spans, &trial.table, &trial.classes, at)
 }
 
+/// A call, after which the spans and the table agree.
+fn step(
+    rt: &(impl Abort + AllocGlobal),
+    draws: &mut Draws,
+    trial: &mut Trial,
+) -> Result<(), AllocError> {
+    trial.call(rt, draws)?;
+    trial.agree(rt);
+    answers_agree(rt, draws, trial)
+}
+
 /// One sequence of calls on an empty route.
 fn sequence(
     rt: &(impl Abort + AllocGlobal),
@@ -264,9 +316,7 @@ fn sequence(
         classes: *classes,
     };
     for _ in 0..CALLS {
-        trial.call(rt, draws)?;
-        trial.agree(rt);
-        answers_agree(rt, draws, &trial)?;
+        step(rt, draws, &mut trial)?;
     }
     Ok(())
 }

@@ -11,7 +11,7 @@ use crate::calls;
 use crate::spans::class;
 use lrs_events::{Side, Span};
 use lrs_events_spans::Spans;
-use std::alloc::AllocGlobal;
+use std::alloc::{AllocError, AllocGlobal, Global};
 use std::process::Abort;
 
 /// A row of a sign.
@@ -47,8 +47,9 @@ fn add(rt: &(impl Abort + Print + AllocGlobal), spans: &mut Spans, row: &Span) {
 /// The spans of the route.
 fn route(rt: &(impl Abort + Print + AllocGlobal)) -> Spans {
     let mut spans = Spans::empty(rt.alloc());
-    for row in rows(rt) {
-        add(rt, &mut spans, &row);
+    let rows = rows(rt);
+    for row in &rows {
+        add(rt, &mut spans, row);
     }
     spans
 }
@@ -68,154 +69,194 @@ fn list_of(rt: &(impl Abort + AllocGlobal), spans: &Spans) -> Vec<Span>
     }
 }
 
-fn a_span_is_added(rt: &(impl Abort + Print + AllocGlobal)) {
-    let mut spans = route(rt);
-    are_the_rows(rt, &spans);
-    let gap = row(rt, 3, 4, 6);
-    if calls::add(&mut spans, rt.alloc(), &gap).is_err() {
-        refused(rt, "Spans::add");
-        are_the_rows(rt, &spans);
-        let added = calls::add(&mut spans, rt.alloc(), &gap).expect(rt, "memory");
-        assert!(rt; added);
-    }
-    assert_eq!(rt; spans.rows().len(), 2);
+/// The calls. One that answers other spans leaves them in the place of the first.
+#[derive(Clone, Copy)]
+enum Call {
+    Add,
+    RemoveWithin,
+    RemoveAssetWithin,
+    RemoveClassPlaces,
+    Cut,
+    Concat,
+    Turned,
+    Copy,
+    OfRows,
+    At,
+    Met,
 }
 
-fn a_stretch_is_cleared(rt: &(impl Abort + Print + AllocGlobal)) {
-    let mut spans = route(rt);
-    if calls::remove_within(&mut spans, rt.alloc(), 3, 8).is_err() {
-        refused(rt, "Spans::remove_within");
-        are_the_rows(rt, &spans);
-        let removal = calls::remove_within(&mut spans, rt.alloc(), 3, 8).expect(rt, "memory");
-        assert!(rt; removal.is_some());
-    }
-    assert_eq!(rt; spans.rows().len(), 4);
+fn fill_gap(rt: &impl Abort, alloc: Global, spans: &mut Spans) -> Result<usize, AllocError> {
+    let added = calls::add(spans, alloc, &row(rt, 3, 4, 6))?;
+    Ok(usize::from(added))
 }
 
-fn spans_are_cut(rt: &(impl Abort + Print + AllocGlobal)) {
-    let mut spans = route(rt);
-    let (rear, _) = match spans.cut(rt.alloc(), 7) {
-        Ok(cut) => cut,
-        Err(_) => {
-            refused(rt, "Spans::cut");
-            are_the_rows(rt, &spans);
-            spans.cut(rt.alloc(), 7).expect(rt, "memory")
-        }
-    };
-    assert_eq!(rt; (spans.rows().len(), rear.rows().len()), (3, 2));
+fn clear(spans: &mut Spans, alloc: Global) -> Result<usize, AllocError> {
+    let removal = calls::remove_within(spans, alloc, 3, 8)?;
+    Ok(usize::from(removal.is_some()))
 }
 
-fn spans_are_joined(rt: &(impl Abort + Print + AllocGlobal)) {
-    let mut spans = route(rt);
+fn clear_asset(rt: &impl Abort, alloc: Global, spans: &mut Spans) -> Result<usize, AllocError> {
+    spans.remove_asset_within(alloc, class(rt, b"SIGN"), 3, 1, 8)?;
+    Ok(1)
+}
+
+fn clear_side(rt: &impl Abort, alloc: Global, spans: &mut Spans) -> Result<usize, AllocError> {
+    spans.remove_class_places(alloc, class(rt, b"SIGN"), 1, 8, Side::L)?;
+    Ok(1)
+}
+
+fn cut(spans: &mut Spans, alloc: Global) -> Result<usize, AllocError> {
+    let (rear, _) = spans.cut(alloc, 7)?;
+    Ok(rear.rows().len())
+}
+
+fn concat(
+    rt: &(impl Abort + Print + AllocGlobal),
+    alloc: Global,
+    spans: &mut Spans,
+) -> Result<usize, AllocError> {
     let other = route(rt);
-    if calls::concat(&mut spans, rt.alloc(), &other, 20).is_err() {
-        refused(rt, "Spans::concat");
-        are_the_rows(rt, &spans);
-        let joined = calls::concat(&mut spans, rt.alloc(), &other, 20).expect(rt, "memory");
-        assert!(rt; joined);
+    let joined = calls::concat(spans, alloc, &other, 20)?;
+    Ok(usize::from(joined))
+}
+
+fn turn(spans: &mut Spans, alloc: Global) -> Result<usize, AllocError> {
+    match calls::turned(spans, alloc, 20)? {
+        Some(turned) => Ok(turned.rows().len()),
+        None => Ok(0),
     }
-    assert_eq!(rt; spans.rows().len(), 5);
 }
 
-fn spans_are_turned(rt: &(impl Abort + Print + AllocGlobal)) {
-    let spans = route(rt);
-    let turned = match calls::turned(&spans, rt.alloc(), 20) {
-        Ok(turned) => turned,
-        Err(_) => {
-            refused(rt, "Spans::turned");
-            are_the_rows(rt, &spans);
-            calls::turned(&spans, rt.alloc(), 20).expect(rt, "memory")
-        }
-    };
-    let turned = turned.expect(rt, "no row ends behind the route");
-    assert_eq!(rt; turned.rows().len(), 3);
+fn take_copy(spans: &mut Spans, alloc: Global) -> Result<usize, AllocError> {
+    *spans = spans.copy(alloc)?;
+    Ok(1)
 }
 
-fn spans_are_copied(rt: &(impl Abort + Print + AllocGlobal)) {
-    let spans = route(rt);
-    let copy = match spans.copy(rt.alloc()) {
-        Ok(copy) => copy,
-        Err(_) => {
-            refused(rt, "Spans::copy");
-            are_the_rows(rt, &spans);
-            spans.copy(rt.alloc()).expect(rt, "memory")
-        }
-    };
-    are_the_rows(rt, &copy);
+fn make_again(
+    rt: &(impl Abort + AllocGlobal),
+    alloc: Global,
+    spans: &mut Spans,
+) -> Result<usize, AllocError> {
+    let list = list_of(rt, spans);
+    *spans = Spans::of_rows(alloc, list)?;
+    Ok(1)
 }
 
-fn spans_are_made_of_rows(rt: &(impl Abort + Print + AllocGlobal)) {
-    let spans = route(rt);
-    let list = list_of(rt, &spans);
-    let made = match Spans::of_rows(rt.alloc(), list) {
-        Ok(made) => made,
-        Err(_) => {
-            refused(rt, "Spans::of_rows");
-            calls::again(&spans, rt.alloc()).expect(rt, "memory")
-        }
-    };
-    are_the_rows(rt, &made);
+fn find_at(spans: &mut Spans, alloc: Global) -> Result<usize, AllocError> {
+    let found = spans.at(alloc, 3)?;
+    Ok(found.len())
 }
 
-fn a_stretch_of_an_asset_is_cleared(rt: &(impl Abort + Print + AllocGlobal)) {
-    let mut spans = route(rt);
-    let class = class(rt, b"SIGN");
-    if let Err(_) = spans.remove_asset_within(rt.alloc(), class, 3, 1, 8) {
-        refused(rt, "Spans::remove_asset_within");
-        are_the_rows(rt, &spans);
-        let again = spans.remove_asset_within(rt.alloc(), class, 3, 1, 8);
-        assert!(rt; again.is_ok());
+fn find_met(spans: &mut Spans, alloc: Global) -> Result<usize, AllocError> {
+    let found = spans.met(alloc, 3, 7)?;
+    Ok(found.len())
+}
+
+/// Does the call, and answers how many rows it found or whether it did its work.
+fn done(
+    rt: &(impl Abort + Print + AllocGlobal),
+    spans: &mut Spans,
+    call: Call,
+) -> Result<usize, AllocError> {
+    let alloc = rt.alloc();
+    match call {
+        Call::Add => fill_gap(rt, alloc, spans),
+        Call::RemoveWithin => clear(spans, alloc),
+        Call::RemoveAssetWithin => clear_asset(rt, alloc, spans),
+        Call::RemoveClassPlaces => clear_side(rt, alloc, spans),
+        Call::Cut => cut(spans, alloc),
+        Call::Concat => concat(rt, alloc, spans),
+        Call::Turned => turn(spans, alloc),
+        Call::Copy => take_copy(spans, alloc),
+        Call::OfRows => make_again(rt, alloc, spans),
+        Call::At => find_at(spans, alloc),
+        Call::Met => find_met(spans, alloc),
     }
-    assert_eq!(rt; spans.rows().len(), 3);
 }
 
-fn a_side_of_a_class_is_cleared(rt: &(impl Abort + Print + AllocGlobal)) {
-    let mut spans = route(rt);
-    let class = class(rt, b"SIGN");
-    if let Err(_) = spans.remove_class_places(rt.alloc(), class, 1, 8, Side::L) {
-        refused(rt, "Spans::remove_class_places");
-        are_the_rows(rt, &spans);
-        let again = spans.remove_class_places(rt.alloc(), class, 1, 8, Side::L);
-        assert!(rt; again.is_ok());
-    }
-    assert_eq!(rt; spans.rows().len(), 6);
-}
-
-fn rows_over_a_millimetre_are_found(rt: &(impl Abort + Print + AllocGlobal)) {
-    let spans = route(rt);
-    let found = match spans.at(rt.alloc(), 3) {
+/// Does the call on the route, once more where that was refused: the spans are then as they were.
+fn tried(
+    rt: &(impl Abort + Print + AllocGlobal),
+    spans: &mut Spans,
+    call: Call,
+    name: &str,
+) -> usize {
+    are_the_rows(rt, spans);
+    match done(rt, spans, call) {
         Ok(found) => found,
         Err(_) => {
-            refused(rt, "Spans::at");
-            spans.at(rt.alloc(), 3).expect(rt, "memory")
+            refused(rt, name);
+            are_the_rows(rt, spans);
+            done(rt, spans, call).expect(rt, "memory")
         }
-    };
-    assert_eq!(rt; found.len(), 2);
+    }
 }
 
-fn rows_of_a_stretch_are_found(rt: &(impl Abort + Print + AllocGlobal)) {
-    let spans = route(rt);
-    let found = match spans.met(rt.alloc(), 3, 7) {
-        Ok(found) => found,
-        Err(_) => {
-            refused(rt, "Spans::met");
-            spans.met(rt.alloc(), 3, 7).expect(rt, "memory")
-        }
-    };
-    assert_eq!(rt; found.len(), 3);
+/// The call's count is this.
+fn is_count(rt: &impl Abort, name: &str, found: usize, expected: usize) {
+    assert_eq!(rt; found, expected, "{name}");
+}
+
+/// The call leaves so many rows, and its answer is this.
+fn leaves(
+    rt: &(impl Abort + Print + AllocGlobal),
+    call: Call,
+    name: &str,
+    rows: usize,
+    answer: usize,
+) {
+    let mut spans = route(rt);
+    let found = tried(rt, &mut spans, call, name);
+    is_count(rt, name, spans.rows().len(), rows);
+    is_count(rt, name, found, answer);
+}
+
+/// The call leaves spans of the same rows.
+fn leaves_the_rows(rt: &(impl Abort + Print + AllocGlobal), call: Call, name: &str) {
+    let mut spans = route(rt);
+    let _ = tried(rt, &mut spans, call, name);
+    are_the_rows(rt, &spans);
+}
+
+fn spans_are_changed(rt: &(impl Abort + Print + AllocGlobal)) {
+    leaves(rt, Call::Add, "Spans::add", 2, 1);
+    leaves(rt, Call::RemoveWithin, "Spans::remove_within", 4, 1);
+    leaves(
+        rt,
+        Call::RemoveAssetWithin,
+        "Spans::remove_asset_within",
+        3,
+        1,
+    );
+    leaves(
+        rt,
+        Call::RemoveClassPlaces,
+        "Spans::remove_class_places",
+        6,
+        1,
+    );
+}
+
+fn routes_are_cut_and_joined(rt: &(impl Abort + Print + AllocGlobal)) {
+    leaves(rt, Call::Cut, "Spans::cut", 3, 2);
+    leaves(rt, Call::Concat, "Spans::concat", 5, 1);
+    leaves(rt, Call::Turned, "Spans::turned", 3, 3);
+}
+
+fn spans_are_made_of_others(rt: &(impl Abort + Print + AllocGlobal)) {
+    leaves_the_rows(rt, Call::Copy, "Spans::copy");
+    leaves_the_rows(rt, Call::OfRows, "Spans::of_rows");
+}
+
+fn rows_are_found(rt: &(impl Abort + Print + AllocGlobal)) {
+    leaves(rt, Call::At, "Spans::at", 3, 2);
+    leaves(rt, Call::Met, "Spans::met", 3, 3);
 }
 
 #[test]
 fn each_call_bears_a_refused_growth(rt: HostRuntime) {
-    a_span_is_added(&rt);
-    a_stretch_is_cleared(&rt);
-    spans_are_cut(&rt);
-    spans_are_joined(&rt);
-    spans_are_turned(&rt);
-    spans_are_copied(&rt);
-    spans_are_made_of_rows(&rt);
-    a_stretch_of_an_asset_is_cleared(&rt);
-    a_side_of_a_class_is_cleared(&rt);
-    rows_over_a_millimetre_are_found(&rt);
-    rows_of_a_stretch_are_found(&rt);
+    spans_are_changed(&rt);
+    routes_are_cut_and_joined(&rt);
+    spans_are_made_of_others(&rt);
+    rows_are_found(&rt);
 }

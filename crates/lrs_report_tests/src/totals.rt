@@ -84,12 +84,25 @@ fn class(name: ClassName) -> Class
     }
 }
 
-#[test]
-fn each_class_has_its_total(rt: HostRuntime) {
-    let speed = name(&rt, b"SPEED");
-    let width = name(&rt, b"WIDTH");
-    let value = Value::new(b"80").expect(&rt, "a value");
-    let spans = route(&rt, speed);
+/// A part of asset 10 that is gone.
+fn gone(from: u32, to: u32, side: LinkSide, abandoned: bool) -> Gone
+    ensures { result ≡ record {
+      part = record { edit = 1; asset = 10; link = 1; from = from; to = to; side = side };
+      abandoned = abandoned;
+    } }
+{
+    Gone {
+        part: part(10, from, to, side),
+        abandoned,
+    }
+}
+
+/// The totals of two classes, of which the first has asset 10; asset 11 is not there.
+fn found(rt: &(impl Abort + AllocGlobal)) -> Result<Vec<Total>, AllocError> {
+    let speed = name(rt, b"SPEED");
+    let width = name(rt, b"WIDTH");
+    let value = Value::new(b"80").expect(rt, "a value");
+    let spans = route(rt, speed);
     let assets = [asset(10, speed, value)];
     let entered = [
         part(10, 0, 4500, LinkSide::Left),
@@ -97,20 +110,11 @@ fn each_class_has_its_total(rt: HostRuntime) {
         part(11, 0, 70, LinkSide::Right),
     ];
     let gone = [
-        Gone {
-            part: part(10, 3000, 4000, LinkSide::Left),
-            abandoned: false,
-        },
-        Gone {
-            part: part(10, 4000, 4500, LinkSide::Left),
-            abandoned: true,
-        },
-        Gone {
-            part: part(10, 4000, 4500, LinkSide::Right),
-            abandoned: true,
-        },
+        gone(3000, 4000, LinkSide::Left, false),
+        gone(4000, 4500, LinkSide::Left, true),
+        gone(4000, 4500, LinkSide::Right, true),
     ];
-    let found = totals(
+    totals(
         rt.alloc(),
         &[class(speed), class(width)],
         &assets,
@@ -118,7 +122,10 @@ fn each_class_has_its_total(rt: HostRuntime) {
         &entered,
         &gone,
     )
-    .expect(&rt, "memory");
+}
+
+/// The totals that are expected.
+fn expected(speed: ClassName, width: ClassName) -> [Total; 2] {
     let of_speed = Total {
         class: speed,
         entered: 9000,
@@ -133,5 +140,16 @@ fn each_class_has_its_total(rt: HostRuntime) {
         abandoned: 0,
         present: 0,
     };
-    assert_eq!(rt; found.as_slice(), [of_speed, of_width].as_slice());
+    [of_speed, of_width]
+}
+
+fn are_totals(rt: &impl Abort, found: &[Total], expected: &[Total]) {
+    assert_eq!(rt; found, expected);
+}
+
+#[test]
+fn each_class_has_its_total(rt: HostRuntime) {
+    let found = found(&rt).expect(&rt, "memory");
+    let expected = expected(name(&rt, b"SPEED"), name(&rt, b"WIDTH"));
+    are_totals(&rt, &found, &expected);
 }
