@@ -1,7 +1,8 @@
 //! What is found at the path of an inventory that cannot be opened.
 
-use sqlite::{Connection, FileFrom, FileStore, Unknown};
+use sqlite::{Alter, Connection, Error, Unknown};
 use sqlite_std_file::open as open_pair;
+use std::alloc::Global;
 use std::io::ErrorKind;
 use std::rt::HostRuntime;
 use std::{fs, io};
@@ -46,8 +47,8 @@ fn refused(rt: &HostRuntime, error: &io::Error) -> Found {
 }
 
 // The names of a database's tables, with a space between two.
-fn table_names(rt: &HostRuntime, conn: &Connection<FileStore<FileFrom<Unknown>>>) -> Found {
-    let mut names = String::new(rt.alloc());
+fn table_names<S: Alter>(alloc: Global, conn: &Connection<S>) -> Found {
+    let mut names = String::new(alloc);
     for table in conn.schema().tables.as_slice() {
         let Ok(name) = str::from_utf8(table.name.as_slice()) else {
             return Found::Nothing;
@@ -59,15 +60,21 @@ fn table_names(rt: &HostRuntime, conn: &Connection<FileStore<FileFrom<Unknown>>>
     Found::Tables(names)
 }
 
-// What the kit's `sqlite` finds in the file.
-fn inside(rt: &HostRuntime, path: &str) -> Found {
-    match Connection::open_from(rt, path, false, Unknown) {
-        Ok(conn) => table_names(rt, &conn),
-        Err((error, _)) => match format!(in rt.alloc(); "{error}") {
+// What is found where the kit's `sqlite` was to open a file. Over any store, since a function over one that is in files
+// is dear to prove.
+fn found_in<S: Alter + Drop>(alloc: Global, conn: Result<Connection<S>, Error>) -> Found {
+    match conn {
+        Ok(conn) => table_names(alloc, &conn),
+        Err(error) => match format!(in alloc; "{error}") {
             Ok(text) => Found::NoDatabase(text),
             Err(_) => Found::Nothing,
         },
     }
+}
+
+// What the kit's `sqlite` finds in the file.
+fn inside(rt: &HostRuntime, path: &str) -> Found {
+    found_in(rt.alloc(), Connection::open(rt, path))
 }
 
 // What opening the files of an inventory says.

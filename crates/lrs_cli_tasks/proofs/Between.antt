@@ -1,5 +1,5 @@
 -- A run of a sheet over a writer that is put before another and taken away again.
-use Rattle.std.proofs.Common.{◌≡◌, ◌∙◌, ℕ, List, ◌++◌, ◌∷◌, length, Option, Some, None, [], Result, Ok, Err, refl, ap, inl, inr, arith}
+use Rattle.std.proofs.Common.{◌≡◌, ◌∙◌, ℕ, List, ◌++◌, ◌∷◌, length, Option, Some, None, [], Result, Ok, Err, refl, ap, inl, inr, subst, sym}
 use Rattle.std.specs.Prelude.{IfSome}
 use Rattle.std.specs.Io.KnownBytes.{Appends, Keeps}
 use Rattle.lrs_machine.specs.State.{State}
@@ -13,7 +13,7 @@ use Rattle.lrs_sheet_records.specs.declared.sheet.Sheet.{Sheet}
 use Rattle.lrs_machine.specs.declared.image.Image.{Image}
 use Rattle.lrs_machine.specs.declared.table.Table.{Table}
 use Rattle.lrs_desk.specs.DeskView.{DeskView}
-use Rattle.lrs_sheet.specs.Sheets.{AreAnswered, HasFailedToKeep, HasStopped, IsAfterCommands, LeavesDesk, Runs, RunsBehind, StandAtFront}
+use Rattle.lrs_sheet.specs.Sheets.{AreAnswered, HasFailedToKeep, HasStopped, IsAfterCommands, LeavesDesk, RunsBehind, StandAtFront}
 use Rattle.lrs_machine.specs.Image.{state_of}
 use Rattle.lrs_cli_tasks.specs.declared.sheets.Way.{Way}
 use Rattle.lrs_cli_tasks.specs.Sheets.{GoesOnOrBreaks, HasRun, together_at}
@@ -25,6 +25,14 @@ appends-between (Some xs) None new last bytes kept keeps appends = absurd kept
 appends-between (Some xs) (Some ys) None last bytes kept keeps appends = absurd appends
 appends-between (Some xs) (Some ys) (Some zs) None bytes kept keeps appends = absurd keeps
 appends-between (Some xs) (Some ys) (Some zs) (Some rest) bytes kept keeps appends = keeps ∙ appends ∙ ap (λ (text : List ℕ). text ++ bytes) kept
+
+keeps-itself : (x : Option (List ℕ)) → Keeps x x
+keeps-itself None = tt
+keeps-itself (Some xs) = refl
+
+-- a writer that has what another has
+pub keeps-same : (first old : Option (List ℕ)) → old ≡ first → Keeps first old
+keeps-same first old same = subst (λ (o : Option (List ℕ)). Keeps first o) (sym same) (keeps-itself first)
 
 keeps-between : (first old new last : Option (List ℕ)) → Keeps first old → Keeps new last → Keeps old new → Keeps first last
 keeps-between None old new last kept keeps same = tt
@@ -86,16 +94,6 @@ ran-between holds way known before after first old new last outcome kept keeps r
   runs = known-between known way.passed way.kind (together_at way.pace) before.limits (state_of before.image) (state_of after.image) first old new last outcome kept keeps ran.runs;
   desk = ran.desk;
 }
-
--- a run of the whole sheet passes over no record
-pub whole-run : {K : Type 0} (holds : K → Result Image Table → Type 0) (way : Way) (known : Option (List ℕ)) (before after : DeskView K) (old new : Option (List ℕ)) (outcome : Result Tally SheetFault)
-    → way.passed ≡ 0 → IfSome known (λ input. Runs way.kind (together_at way.pace) before.limits input (state_of before.image) (state_of after.image) old new outcome) → LeavesDesk holds before after outcome → HasRun holds way known before after old new outcome
-whole-run holds way None before after old new outcome none runs desk = record { runs = tt; desk = desk }
-whole-run holds way (Some input) before after old new outcome none runs desk = record { runs = λ front at count. by front (count ∙ none); desk = desk }
-  where
-    by : (front : List (List (List ℕ))) → length front ≡ 0 → RunsBehind front way.kind (together_at way.pace) before.limits input (state_of before.image) (state_of after.image) old new outcome
-    by [] e = runs
-    by (r ∷ rs) e = absurd (omega (arith, e))
 
 -- what a run leaves of a desk: it goes along with its keeper, or a commit failed
 pub either_left : {K : Type 0} (holds : K → Result Image Table → Type 0) (old new : DeskView K) (result : Result Tally SheetFault) → LeavesDesk holds old new result → GoesOnOrBreaks holds old new

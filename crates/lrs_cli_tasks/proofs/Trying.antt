@@ -19,13 +19,6 @@ use Rattle.lrs_cli_tasks.specs.Auditing.{IsAudited, IsMadeBy, log_of}
 use Rattle.lrs_cli_tasks.specs.Sheets.{HasRun, IsUnwritten}
 use Rattle.lrs_cli_tasks.specs.Trials.{IsFull, IsTried}
 
--- a desk that is opened over a sound image has that image
-pub same_image : (kept content : Result Image Table) (copy image : Image) → kept ≡ content → kept ≡ Ok copy → content ≡ content_of image → IsSound image → copy ≡ image
-same_image kept content copy image found holds is sound =
-    let P : Result Image Table → Type 0 = λ r. IfOk r (λ i. i ≡ image) in
-    let has : content_of image ≡ Ok image = ap (content_by image) sound in
-    subst P (sym has ∙ sym is ∙ sym found ∙ holds) refl
-
 -- what is run in pieces at a desk with full limits over this image is tried
 tried : {K : Type 0} (holds : K → Result Image Table → Type 0) (kind : Sheet) (passed : ℕ) (text : List ℕ) (image : Image) (before after : DeskView K) (old new : Option (List ℕ)) (outcome : Result Tally SheetFault)
     → before.image ≡ image → IsFull before.limits → HasRun holds (record { kind = kind; pace = InPieces; passed = passed }) (Some text) before after old new outcome

@@ -16,13 +16,14 @@ use Rattle.lrs_cli_tasks.specs.declared.endings.Ending.TheVariants.{Done, Record
 use Rattle.lrs_cli_tasks.specs.declared.fault.ProgramFault.{ProgramFault}
 use Rattle.lrs_cli_tasks.specs.declared.fault.ProgramFault.TheVariants.{Memory, Read, Write}
 use Rattle.lrs_cli_tasks.specs.declared.sheets.Pace.{Pace}
-use Rattle.lrs_cli_tasks.specs.declared.sheets.Pace.TheVariants.{LineByLine, InGroups, InPieces}
+use Rattle.lrs_cli_tasks.specs.declared.sheets.Pace.TheVariants.{LineByLine, AsTheyArrive, InGroups, InPieces}
 use Rattle.lrs_cli_tasks.specs.declared.sheets.Way.{Way}
 use Rattle.lrs_cli_tasks.specs.Faults.{fault_of_sheet}
 
 -- how many records are done together at a pace
 abbrev pub together_at : Pace → ℕ
 together_at LineByLine = 1
+together_at AsTheyArrive = records_together
 together_at InGroups = records_together
 together_at InPieces = 1
 

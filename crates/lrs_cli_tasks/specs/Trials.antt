@@ -18,6 +18,7 @@ use Rattle.lrs_cli_tasks.specs.declared.endings.Ending.{Ending}
 use Rattle.lrs_cli_tasks.specs.declared.endings.Ending.TheVariants.{Stopped}
 use Rattle.lrs_cli_tasks.specs.declared.fault.ProgramFault.TheVariants.{Memory, Read, Write}
 use Rattle.lrs_cli_tasks.specs.declared.sheets.Pace.{Pace}
+use Rattle.lrs_cli_tasks.specs.declared.sheets.Way.{Way}
 use Rattle.lrs_cli_tasks.specs.Faults.{fault_of_sheet}
 use Rattle.lrs_cli_tasks.specs.Sheets.{EndsRun, EndsSheet, ending_of_sheet}
 
@@ -80,6 +81,12 @@ module _ {K : Type 0} (holds : K → Result Image Table → Type 0) where
     pub refused : IsAccepted outcome → ⊥
     pub same : after ≡ before
     pub ends : ending ≡ ending_of_sheet outcome
+
+  -- a sheet that was tried so is run, if no record of it was refused, and else nothing is done
+  abbrev pub EndsTried : Way → Text → Result Tally SheetFault → DeskView K → DeskView K → Ending → Type 0
+  EndsTried way text outcome before after ending =
+      (IsAccepted outcome × EndsRun holds way (Some text) before after ending)
+      ⊎ ((IsAccepted outcome → ⊥) × (after ≡ before) × (ending ≡ ending_of_sheet outcome))
 
   -- a sheet was not tried: there was no memory, it was not read, or its replies had no room; or where it goes on, it is not known behind which record
   abbrev pub IsUntried : Bool → Ending → Type 0

@@ -1,6 +1,8 @@
 //! Whether an inventory is what its log makes.
 
 ghost use Rattle.std.specs.Prelude.{◌≡◌, ◌⊎◌, IfOk, IfErr};
+ghost use Rattle.lrs_measure.specs.Limits.{most_assets, most_edits, most_routes};
+ghost use Rattle.lrs_machine.specs.Image.{nothing};
 ghost use Rattle.lrs_image.specs.Kept.{image_of};
 ghost use Rattle.lrs_log.specs.Differences.{IsFirstDifference};
 ghost use Rattle.lrs_cli_tasks.specs.Auditing.{EndsAudit, IsAudited, IsMadeBy, log_of};
@@ -9,12 +11,13 @@ use crate::desk::open_in_memory;
 use crate::difference::tell_row;
 use crate::endings::Ending;
 use crate::fault::ProgramFault;
-use lrs_desk::{Desk, Keeper, Plain};
+use crate::sheets::{Pace, Way, run};
+use lrs_desk::{Desk, Keeper};
 use lrs_image::KeptImage;
 use lrs_inventory::Inventory;
 use lrs_log::{first_difference, write_log};
 use lrs_machine::Table;
-use lrs_sheet::{SheetFault, run_edits};
+use lrs_sheet::{Sheet, SheetFault};
 use std::alloc::Global;
 use std::io;
 use std::rt::Runtime;
@@ -31,16 +34,24 @@ fn log_of(alloc: Global, inventory: &Inventory) -> Result<Vec<u8>, ProgramFault>
     }
 }
 
-// A desk over what an edit sheet makes of the empty inventory, in memory.
-fn desk_made_by(alloc: Global, sheet: &[u8]) -> Result<Desk<Plain>, ProgramFault>
-    ensures made { IfOk result (λ desk. IsMadeBy sheet.now desk.image) }
+// Does an edit sheet at a desk with full limits over the empty inventory. The desk is of any keeper, here and below: a
+// function that has one over an image in memory is dear to prove.
+fn run_log<K: Keeper>(alloc: Global, sheet: &[u8], desk: &mut Desk<K>) -> Result<(), ProgramFault>
+    requires fresh { desk.old.image ≡ nothing }
+    requires limits { (desk.old.limits.routes ≡ most_routes)
+        × (desk.old.limits.assets ≡ most_assets) × (desk.old.limits.edits ≡ most_edits) }
+    ensures made { IfOk result (λ _. IsMadeBy sheet.now desk.new.image) }
     ensures memory { IfErr result (λ e. e ≡ ProgramFault.Memory) }
 {
-    let mut desk = open_in_memory(alloc)?;
     let mut replies = io::sink();
-    match run_edits(alloc, sheet, &mut replies, &mut desk) {
+    let way = Way {
+        kind: Sheet::Edits,
+        pace: Pace::InPieces,
+        passed: 0,
+    };
+    match run(alloc, way, sheet, &mut replies, desk) {
         Err(SheetFault::Memory | SheetFault::Desk(_)) => Err(ProgramFault::Memory),
-        _ => Ok(desk),
+        _ => Ok(()),
     }
 }
 
@@ -59,6 +70,51 @@ fn told_difference<R: Runtime<A = Global>>(
     differs
 }
 
+fn difference_from<R: Runtime<A = Global>, K: Keeper>(
+    rt: &R,
+    inventory: &Inventory,
+    made: &Desk<K>,
+) -> Option<Table>
+    ensures { IsFirstDifference inventory.now made.now.image result }
+{
+    told_difference(rt, inventory.kept(), made.inventory().kept())
+}
+
+// The first table in which an inventory is not what this log of it makes at such a desk, if there is one.
+fn audit_at<R: Runtime<A = Global>, K: Keeper + Drop>(
+    rt: &R,
+    inventory: &Inventory,
+    log: &[u8],
+    desk: Desk<K>,
+) -> Result<Option<Table>, ProgramFault>
+    requires whole { log.now ≡ log_of inventory.now }
+    requires fresh { desk.image ≡ nothing }
+    requires limits { (desk.limits.routes ≡ most_routes) × (desk.limits.assets ≡ most_assets)
+        × (desk.limits.edits ≡ most_edits) }
+    ensures audited { IfOk result (IsAudited inventory.now) }
+    ensures memory { IfErr result (λ e. e ≡ ProgramFault.Memory) }
+{
+    let mut made = desk;
+    run_log(rt.alloc(), log, &mut made)?;
+    Ok(difference_from(rt, inventory, &made))
+}
+
+// The same, at a desk in memory.
+fn audit_log<R: Runtime<A = Global>>(
+    rt: &R,
+    inventory: &Inventory,
+    log: &[u8],
+) -> Result<Option<Table>, ProgramFault>
+    requires whole { log.now ≡ log_of inventory.now }
+    ensures audited { IfOk result (IsAudited inventory.now) }
+    ensures memory { IfErr result (λ e. e ≡ ProgramFault.Memory) }
+{
+    match open_in_memory(rt.alloc()) {
+        Ok(desk) => audit_at(rt, inventory, log, desk),
+        Err(fault) => Err(fault),
+    }
+}
+
 // The first table in which an inventory is not what its log makes, if there is one.
 fn audit<R: Runtime<A = Global>>(
     rt: &R,
@@ -68,8 +124,7 @@ fn audit<R: Runtime<A = Global>>(
     ensures memory { IfErr result (λ e. e ≡ ProgramFault.Memory) }
 {
     let log = log_of(rt.alloc(), inventory)?;
-    let made = desk_made_by(rt.alloc(), log.as_slice())?;
-    Ok(told_difference(rt, inventory.kept(), made.inventory().kept()))
+    audit_log(rt, inventory, log.as_slice())
 }
 
 /// Does the log of a desk's inventory again on the empty inventory in memory, and compares what it makes with the

@@ -1,8 +1,10 @@
 //! The desk of the inventory that the words name.
 
-ghost use Rattle.std.specs.Prelude.{◌≡◌, ◌↔◌, IfOk, IfErr, IsTrue, codes, false};
+ghost use Rattle.std.specs.Prelude.{◌≡◌, ◌↔◌, IfOk, IfErr, IsTrue, Result, codes, false};
 ghost use Rattle.lrs_measure.specs.Limits.{most_assets, most_edits, most_routes};
 ghost use Rattle.lrs_machine.specs.Image.{nothing};
+ghost use Rattle.lrs_machine.specs.declared.image.Image.{Image};
+ghost use Rattle.lrs_machine.specs.declared.table.Table.{Table};
 ghost use Rattle.lrs_image.specs.Keeping.{HoldsOnly};
 ghost use Rattle.lrs_cli_tasks.specs.Faults.{HasNoDesk};
 
@@ -18,6 +20,23 @@ pub fn is_in_memory(db: &str) -> bool
     db == ":memory:"
 }
 
+/// Opens a desk with full limits over a keeper.
+pub(crate) fn open_full<K: Keeper + Drop>(keeper: K, alloc: Global) -> Result<Desk<K>, ProgramFault>
+    ensures kept { IfOk result (λ desk. HoldsOnly (K.may_hold desk.keeper) desk.image) }
+    ensures content { IfOk result (λ desk. (c : Result Image Table)
+        → K.may_hold desk.keeper c → K.may_hold keeper c) }
+    ensures open { IfOk result (λ desk. desk.must_reopen ≡ false) }
+    ensures behind { IfOk result (λ desk. desk.is_ahead ≡ false) }
+    ensures limits { IfOk result (λ desk. (desk.limits.routes ≡ most_routes)
+        × (desk.limits.assets ≡ most_assets) × (desk.limits.edits ≡ most_edits)) }
+    ensures fault { IfErr result (HasNoDesk K.failures K.may_hold keeper) }
+{
+    match Desk::open(keeper, Limits::full(), alloc) {
+        Ok(desk) => Ok(desk),
+        Err((fault, _)) => Err(ProgramFault::from(fault)),
+    }
+}
+
 /// Opens a fresh inventory in memory, which ends with the program.
 pub fn open_in_memory(alloc: Global) -> Result<Desk<Plain>, ProgramFault>
     ensures fresh { IfOk result (λ desk. (desk.image ≡ nothing) × (desk.must_reopen ≡ false)) }
@@ -28,7 +47,7 @@ pub fn open_in_memory(alloc: Global) -> Result<Desk<Plain>, ProgramFault>
         × (desk.limits.assets ≡ most_assets) × (desk.limits.edits ≡ most_edits)) }
     ensures memory { IfErr result (λ e. e ≡ ProgramFault.Memory) }
 {
-    match Desk::open(Plain::empty(alloc), Limits::full(), alloc) {
+    match open_full(Plain::empty(alloc), alloc) {
         Ok(desk) => Ok(desk),
         Err(_) => Err(ProgramFault::Memory),
     }
@@ -46,8 +65,5 @@ pub fn open_desk<K: Keeper + Drop>(keeper: K, alloc: Global) -> Result<Desk<K>, 
         × (desk.limits.assets ≡ most_assets) × (desk.limits.edits ≡ most_edits)) }
     ensures fault { IfErr result (HasNoDesk K.failures K.may_hold keeper) }
 {
-    match Desk::open(keeper, Limits::full(), alloc) {
-        Ok(desk) => Ok(desk),
-        Err((fault, _)) => Err(ProgramFault::from(fault)),
-    }
+    open_full(keeper, alloc)
 }

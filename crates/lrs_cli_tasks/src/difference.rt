@@ -1,59 +1,47 @@
 //! The first row of a table in which an inventory is not what its log makes, as text.
 
-use lrs_element::Link;
-use lrs_events::{Asset, Class, Gone, LinkSide, Part};
+use lrs_element::{Link, Mark, Piece};
+use lrs_events::{Asset, Class, Gone, LinkSide, Part, Span};
 use lrs_image::KeptImage;
 use lrs_machine::{Edit, RouteRow, Table};
-use lrs_position::RouteName;
+use lrs_ordered::Chunked;
+use lrs_position::{Referent, RouteName};
 use std::alloc::{AllocError, Global};
 use std::rt::Runtime;
 
 // The rows of a table as texts, in the order in which an image has them.
 type Texts = Vec<String>;
 
-fn links_of(alloc: Global, kept: &KeptImage) -> Result<Texts, AllocError> {
-    let mut texts = Vec::new(alloc);
-    for link in kept.links.iter() {
-        texts.push(link_text(alloc, link)?)?;
+// A row as text. What lies on a route has the route's name in it.
+trait Row {
+    fn text(&self, alloc: Global, route: &str) -> Result<String, AllocError>;
+}
+
+impl Row for Link {
+    fn text(&self, alloc: Global, _route: &str) -> Result<String, AllocError> {
+        let number = self.number;
+        let length = self.length;
+        format!(in alloc; "{number},{length}")
     }
-    Ok(texts)
 }
 
-fn link_text(alloc: Global, link: &Link) -> Result<String, AllocError> {
-    let number = link.number;
-    let length = link.length;
-    format!(in alloc; "{number},{length}")
-}
-
-fn class_text(alloc: Global, class: &Class) -> Result<String, AllocError> {
-    let name = class.name;
-    let kind = class.kind;
-    format!(in alloc; "{name},{kind}")
-}
-
-fn classes_of(alloc: Global, kept: &KeptImage) -> Result<Texts, AllocError> {
-    let mut texts = Vec::new(alloc);
-    for class in kept.classes.iter() {
-        texts.push(class_text(alloc, class)?)?;
+impl Row for Class {
+    fn text(&self, alloc: Global, _route: &str) -> Result<String, AllocError> {
+        let name = self.name;
+        let kind = self.kind;
+        format!(in alloc; "{name},{kind}")
     }
-    Ok(texts)
 }
 
-fn asset_text(alloc: Global, asset: &Asset) -> Result<String, AllocError> {
-    let number = asset.number;
-    let class = asset.class;
-    let value = asset.value;
-    let offset = asset.lateral;
-    let edit = asset.entered_by;
-    format!(in alloc; "{number},{class},{value},{offset},{edit}")
-}
-
-fn assets_of(alloc: Global, kept: &KeptImage) -> Result<Texts, AllocError> {
-    let mut texts = Vec::new(alloc);
-    for asset in kept.assets.iter() {
-        texts.push(asset_text(alloc, asset)?)?;
+impl Row for Asset {
+    fn text(&self, alloc: Global, _route: &str) -> Result<String, AllocError> {
+        let number = self.number;
+        let class = self.class;
+        let value = self.value;
+        let offset = self.lateral;
+        let edit = self.entered_by;
+        format!(in alloc; "{number},{class},{value},{offset},{edit}")
     }
-    Ok(texts)
 }
 
 fn part_text(alloc: Global, part: &Part, behind: &str) -> Result<String, AllocError> {
@@ -69,43 +57,99 @@ fn part_text(alloc: Global, part: &Part, behind: &str) -> Result<String, AllocEr
     format!(in alloc; "{edit},{asset},{link},{from},{to},{side}{behind}")
 }
 
-fn entered_of(alloc: Global, kept: &KeptImage) -> Result<Texts, AllocError> {
-    let mut texts = Vec::new(alloc);
-    for part in kept.entered.as_slice() {
-        texts.push(part_text(alloc, part, "")?)?;
+impl Row for Part {
+    fn text(&self, alloc: Global, _route: &str) -> Result<String, AllocError> {
+        part_text(alloc, self, "")
     }
-    Ok(texts)
 }
 
-fn gone_text(alloc: Global, gone: &Gone) -> Result<String, AllocError> {
-    let reason = if gone.abandoned {
-        ",abandoned"
-    } else {
-        ",retired"
-    };
-    part_text(alloc, &gone.part, reason)
-}
-
-fn gone_of(alloc: Global, kept: &KeptImage) -> Result<Texts, AllocError> {
-    let mut texts = Vec::new(alloc);
-    for gone in kept.gone.as_slice() {
-        texts.push(gone_text(alloc, gone)?)?;
+impl Row for Gone {
+    fn text(&self, alloc: Global, _route: &str) -> Result<String, AllocError> {
+        let reason = if self.abandoned {
+            ",abandoned"
+        } else {
+            ",retired"
+        };
+        part_text(alloc, &self.part, reason)
     }
-    Ok(texts)
 }
 
-fn edit_text(alloc: Global, edit: &Edit) -> Result<String, AllocError> {
-    let key = edit.key;
-    let line = edit.line.as_str();
-    format!(in alloc; "{key} {line}")
-}
-
-fn edits_of(alloc: Global, kept: &KeptImage) -> Result<Texts, AllocError> {
-    let mut texts = Vec::new(alloc);
-    for edit in kept.edits.as_slice() {
-        texts.push(edit_text(alloc, edit)?)?;
+impl Row for Edit {
+    fn text(&self, alloc: Global, _route: &str) -> Result<String, AllocError> {
+        let key = self.key;
+        let line = self.line.as_str();
+        format!(in alloc; "{key} {line}")
     }
-    Ok(texts)
+}
+
+impl Row for Piece {
+    fn text(&self, alloc: Global, route: &str) -> Result<String, AllocError> {
+        let link = self.link;
+        let from = self.from;
+        let to = self.to;
+        let direction = if self.forward { "+" } else { "-" };
+        format!(in alloc; "{route},{link}:{from}:{to}:{direction}")
+    }
+}
+
+impl Row for Mark {
+    fn text(&self, alloc: Global, route: &str) -> Result<String, AllocError> {
+        let chainage = self.chainage;
+        let measure = self.measure;
+        format!(in alloc; "{route},{chainage}:{measure}")
+    }
+}
+
+impl Row for Referent {
+    fn text(&self, alloc: Global, route: &str) -> Result<String, AllocError> {
+        let name = self.name;
+        let at = self.at;
+        format!(in alloc; "{name},{route},{at}")
+    }
+}
+
+impl Row for Span {
+    fn text(&self, alloc: Global, route: &str) -> Result<String, AllocError> {
+        let asset = self.asset;
+        let class = self.class;
+        let from = self.from;
+        let to = self.to;
+        let side = self.side;
+        format!(in alloc; "{route},{from},{to},{side},{asset},{class}")
+    }
+}
+
+fn push_row<T: Row>(
+    alloc: Global,
+    texts: &mut Texts,
+    route: &str,
+    row: &T,
+) -> Result<(), AllocError> {
+    texts.push(row.text(alloc, route)?)?;
+    Ok(())
+}
+
+fn push_rows<T: Row>(
+    alloc: Global,
+    texts: &mut Texts,
+    route: &str,
+    rows: &[T],
+) -> Result<(), AllocError> {
+    for row in rows {
+        push_row(alloc, texts, route, row)?;
+    }
+    Ok(())
+}
+
+fn push_chunked<T: Row>(
+    alloc: Global,
+    texts: &mut Texts,
+    rows: &Chunked<T>,
+) -> Result<(), AllocError> {
+    for row in rows.iter() {
+        push_row(alloc, texts, "", row)?;
+    }
+    Ok(())
 }
 
 fn route_text(name: &RouteName) -> &str {
@@ -115,74 +159,55 @@ fn route_text(name: &RouteName) -> &str {
     }
 }
 
-fn push_pieces(alloc: Global, texts: &mut Texts, row: &RouteRow) -> Result<(), AllocError> {
+// What lies on a route in a table, in its order.
+fn push_on_route(
+    alloc: Global,
+    texts: &mut Texts,
+    row: &RouteRow,
+    table: Table,
+) -> Result<(), AllocError> {
     let route = route_text(&row.route.name);
-    for piece in row.route.course.pieces() {
-        let link = piece.link;
-        let from = piece.from;
-        let to = piece.to;
-        let direction = if piece.forward { "+" } else { "-" };
-        texts.push(format!(in alloc; "{route},{link}:{from}:{to}:{direction}")?)?;
+    match table {
+        Table::Mark => push_rows(alloc, texts, route, row.route.marks.list()),
+        Table::Ref => push_rows(alloc, texts, route, row.route.refs.as_slice()),
+        Table::Span => push_rows(alloc, texts, route, row.spans.rows()),
+        _ => push_rows(alloc, texts, route, row.route.course.pieces()),
     }
-    Ok(())
 }
 
-fn push_marks(alloc: Global, texts: &mut Texts, row: &RouteRow) -> Result<(), AllocError> {
-    let route = route_text(&row.route.name);
-    for mark in row.route.marks.list() {
-        let chainage = mark.chainage;
-        let measure = mark.measure;
-        texts.push(format!(in alloc; "{route},{chainage}:{measure}")?)?;
-    }
-    Ok(())
-}
-
-fn push_referents(alloc: Global, texts: &mut Texts, row: &RouteRow) -> Result<(), AllocError> {
-    let route = route_text(&row.route.name);
-    for referent in row.route.refs.as_slice() {
-        let name = referent.name;
-        let at = referent.at;
-        texts.push(format!(in alloc; "{name},{route},{at}")?)?;
-    }
-    Ok(())
-}
-
-fn push_spans(alloc: Global, texts: &mut Texts, row: &RouteRow) -> Result<(), AllocError> {
-    let route = route_text(&row.route.name);
-    for span in row.spans.rows() {
-        let asset = span.asset;
-        let class = span.class;
-        let from = span.from;
-        let to = span.to;
-        let side = span.side;
-        texts.push(format!(in alloc; "{route},{from},{to},{side},{asset},{class}")?)?;
-    }
-    Ok(())
-}
-
-fn routes_of(alloc: Global, kept: &KeptImage, table: Table) -> Result<Texts, AllocError> {
-    let mut texts = Vec::new(alloc);
+fn push_routes(
+    alloc: Global,
+    texts: &mut Texts,
+    kept: &KeptImage,
+    table: Table,
+) -> Result<(), AllocError> {
     for row in kept.routes.iter() {
-        match table {
-            Table::Mark => push_marks(alloc, &mut texts, row)?,
-            Table::Ref => push_referents(alloc, &mut texts, row)?,
-            Table::Span => push_spans(alloc, &mut texts, row)?,
-            _ => push_pieces(alloc, &mut texts, row)?,
-        }
+        push_on_route(alloc, texts, row, table)?;
     }
-    Ok(texts)
+    Ok(())
+}
+
+fn push_table(
+    alloc: Global,
+    texts: &mut Texts,
+    kept: &KeptImage,
+    table: Table,
+) -> Result<(), AllocError> {
+    match table {
+        Table::Link => push_chunked(alloc, texts, &kept.links),
+        Table::Class => push_chunked(alloc, texts, &kept.classes),
+        Table::Asset => push_chunked(alloc, texts, &kept.assets),
+        Table::Entered => push_rows(alloc, texts, "", kept.entered.as_slice()),
+        Table::Gone => push_rows(alloc, texts, "", kept.gone.as_slice()),
+        Table::Edit => push_rows(alloc, texts, "", kept.edits.as_slice()),
+        _ => push_routes(alloc, texts, kept, table),
+    }
 }
 
 fn texts_of(alloc: Global, kept: &KeptImage, table: Table) -> Result<Texts, AllocError> {
-    match table {
-        Table::Link => links_of(alloc, kept),
-        Table::Class => classes_of(alloc, kept),
-        Table::Asset => assets_of(alloc, kept),
-        Table::Entered => entered_of(alloc, kept),
-        Table::Gone => gone_of(alloc, kept),
-        Table::Edit => edits_of(alloc, kept),
-        _ => routes_of(alloc, kept, table),
-    }
+    let mut texts = Vec::new(alloc);
+    push_table(alloc, &mut texts, kept, table)?;
+    Ok(texts)
 }
 
 // The text at a place; behind the last row there is none.
@@ -190,6 +215,18 @@ fn text_at(texts: &[String], place: usize) -> &str {
     match texts.get(place) {
         Some(text) => text.as_str(),
         None => "no row",
+    }
+}
+
+fn tell_first<R: Runtime<A = Global>>(rt: &R, kept: &[String], made: &[String]) {
+    let most = kept.len().max(made.len());
+    for place in 0..most {
+        let found = text_at(kept, place);
+        let due = text_at(made, place);
+        if found != due {
+            let _ = eprintln!(rt; "kept: {found}\nlog:  {due}");
+            return;
+        }
     }
 }
 
@@ -201,21 +238,10 @@ pub(crate) fn tell_row<R: Runtime<A = Global>>(
     made: &KeptImage,
     table: Table,
 ) {
-    let (Ok(kept), Ok(made)) = (
-        texts_of(rt.alloc(), kept, table),
-        texts_of(rt.alloc(), made, table),
-    ) else {
+    let Ok(kept) = texts_of(rt.alloc(), kept, table) else {
         return;
     };
-    let most = kept.len().max(made.len());
-    for place in 0..most {
-        let (found, due) = (
-            text_at(kept.as_slice(), place),
-            text_at(made.as_slice(), place),
-        );
-        if found != due {
-            let _ = eprintln!(rt; "kept: {found}\nlog:  {due}");
-            return;
-        }
+    if let Ok(made) = texts_of(rt.alloc(), made, table) {
+        tell_first(rt, kept.as_slice(), made.as_slice());
     }
 }

@@ -6,6 +6,7 @@ ghost use Rattle.lrs_lengths.specs.Lengths.{AreLengths};
 ghost use Rattle.lrs_lengths.specs.Lines.{lengths_text};
 ghost use Rattle.lrs_cli_tasks.specs.Lengths.{AreMeasured, ArePrinted, EndsLengths};
 
+use crate::buffer::{behind, buffered};
 use crate::endings::{Ending, Missing};
 use crate::fault::ProgramFault;
 use crate::listings::lacks_route;
@@ -16,11 +17,8 @@ use lrs_measure::Rows;
 use lrs_position::RouteName;
 use std::alloc::{AllocError, Global};
 use std::io;
-use std::io::{BufWriter, Write};
+use std::io::Write;
 use std::rt::Runtime;
-
-// What is printed goes out in pieces of this many bytes.
-const LENGTHS_BUFFER: usize = 65_536;
 
 // Writes lengths through a buffer in front of the writer, and gives the writer back with all of them.
 fn write_through<W: Write + Drop>(
@@ -32,16 +30,11 @@ fn write_through<W: Write + Drop>(
         (lengths_text rows.now)) }
     ensures faults { IfErr result (λ e. (e ≡ ProgramFault.Memory) ⊎ (e ≡ ProgramFault.Write)) }
 {
-    let Ok(mut writer) = BufWriter::with_capacity(alloc, LENGTHS_BUFFER, to) else {
-        return Err(ProgramFault::Memory);
-    };
+    let mut writer = buffered(alloc, to)?;
     if write_lengths(&mut writer, rows).is_err() {
         return Err(ProgramFault::Write);
     }
-    match writer.into_inner() {
-        Ok(to) => Ok(to),
-        Err(_) => Err(ProgramFault::Write),
-    }
+    behind(writer)
 }
 
 fn write_rows<W: Write + Drop>(

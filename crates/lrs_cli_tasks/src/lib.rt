@@ -3,6 +3,7 @@
 
 mod advice;
 mod audit;
+mod buffer;
 mod desk;
 mod difference;
 mod endings;

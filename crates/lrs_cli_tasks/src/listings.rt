@@ -6,6 +6,7 @@ ghost use Rattle.lrs_image.specs.Kept.{image_of};
 ghost use Rattle.lrs_machine.specs.Sound.{IsSound};
 ghost use Rattle.lrs_cli_tasks.specs.Listings.{EndsListing, IsListed, has_asset, has_class, has_edit, has_key, has_route, lacks, list_text, listing_text, missing_of, missing_row};
 
+use crate::buffer::{behind, buffered};
 use crate::endings::{Ending, Missing};
 use crate::fault::ProgramFault;
 use lrs_cli_words::{Listed, Listing};
@@ -22,11 +23,8 @@ use lrs_machine::Key;
 use lrs_position::RouteName;
 use std::alloc::Global;
 use std::io;
-use std::io::{BufWriter, Write};
+use std::io::Write;
 use std::rt::Runtime;
-
-// A listing goes out in pieces of this many bytes.
-const LISTING_BUFFER: usize = 65_536;
 
 pub(crate) fn lacks_route(kept: &KeptImage, route: Option<RouteName>) -> bool
     requires sound { IsSound (image_of kept.now) }
@@ -147,16 +145,11 @@ fn list_to<W: Write + Drop>(
     if let Some(missing) = missing_of(inventory, listing) {
         return Ok((to, Ending::NotFound(missing)));
     }
-    let Ok(mut writer) = BufWriter::with_capacity(alloc, LISTING_BUFFER, to) else {
-        return Err(ProgramFault::Memory);
-    };
+    let mut writer = buffered(alloc, to)?;
     if write_listing(&mut writer, inventory, listing).is_err() {
         return Err(ProgramFault::Write);
     }
-    match writer.into_inner() {
-        Ok(to) => Ok((to, Ending::Done)),
-        Err(_) => Err(ProgramFault::Write),
-    }
+    Ok((behind(writer)?, Ending::Done))
 }
 
 /// Prints a listing of a desk's inventory on standard output. It changes nothing.

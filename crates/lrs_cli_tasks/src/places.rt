@@ -5,6 +5,7 @@ ghost use Rattle.std.specs.Io.KnownBytes.{Appends};
 ghost use Rattle.lrs_whereabouts.specs.Lines.{whereabouts_text};
 ghost use Rattle.lrs_cli_tasks.specs.Places.{EndsPlace, IsPlaced, missing_at, spot_of};
 
+use crate::buffer::{behind, buffered};
 use crate::endings::{Ending, Missing};
 use crate::fault::ProgramFault;
 use lrs_cli_words::Place;
@@ -13,11 +14,8 @@ use lrs_inventory::Inventory;
 use lrs_whereabouts::{Spot, WhereFault, Whereabouts, whereabouts, write_whereabouts};
 use std::alloc::Global;
 use std::io;
-use std::io::{BufWriter, Write};
+use std::io::Write;
 use std::rt::Runtime;
-
-// What is printed goes out in pieces of this many bytes.
-const PLACE_BUFFER: usize = 65_536;
 
 fn spot_of(place: Place) -> Spot
     ensures { result ≡ spot_of place }
@@ -49,16 +47,11 @@ fn write_through<W: Write + Drop>(
         (whereabouts_text found)) }
     ensures faults { IfErr result (λ e. (e ≡ ProgramFault.Memory) ⊎ (e ≡ ProgramFault.Write)) }
 {
-    let Ok(mut writer) = BufWriter::with_capacity(alloc, PLACE_BUFFER, to) else {
-        return Err(ProgramFault::Memory);
-    };
+    let mut writer = buffered(alloc, to)?;
     if write_whereabouts(&mut writer, found).is_err() {
         return Err(ProgramFault::Write);
     }
-    match writer.into_inner() {
-        Ok(to) => Ok(to),
-        Err(_) => Err(ProgramFault::Write),
-    }
+    behind(writer)
 }
 
 /// Prints what is at a place, and gives the writer back.

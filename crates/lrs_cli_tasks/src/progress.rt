@@ -82,22 +82,6 @@ impl<'a, W: Write + Drop, R: Eprint + Clock> Progress<'a, W, R> {
             self.is_standing = false;
         }
     }
-
-    /// Gives the writer back.
-    pub fn into_writer(mut self) -> W
-        ensures { result ≡ self.entry.to }
-    {
-        self.clear();
-        let Progress {
-            to,
-            rt: _,
-            shown: _,
-            lines: _,
-            last: _,
-            is_standing: _,
-        } = self;
-        to
-    }
 }
 
 impl<'a, W: Write + Drop, R: Eprint + Clock> Drop for Progress<'a, W, R> {

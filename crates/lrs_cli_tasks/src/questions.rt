@@ -1,24 +1,23 @@
 //! Questions: asked of a desk, and their answers printed.
 
-ghost use Rattle.std.specs.Prelude.{◌≡◌, ◌⊎◌, IfOk, IfErr, Err, false};
+ghost use Rattle.std.specs.Prelude.{◌≡◌, ◌⊎◌, IfOk, IfErr, OnOk, Err, false};
+ghost use Rattle.std.specs.Io.KnownBytes.{Appends};
 ghost use Rattle.lrs_answers.specs.Lines.{told_text};
 ghost use Rattle.lrs_answers.specs.Told.{IsTold};
 ghost use Rattle.lrs_cli_tasks.specs.Asking.{EndsTold, HasAnswered, IsPrinted, ending_of, stop_of};
 
+use crate::buffer::{behind, buffered};
 use crate::endings::Ending;
 use crate::fault::ProgramFault;
 use lrs_answers::{cause_of, write_told};
-use lrs_desk::{AskFault, Desk, Keeper, Question};
+use lrs_desk::{AskFault, Desk, Keeper, Question, Told};
 use std::alloc::Global;
 use std::io;
-use std::io::{BufWriter, Write};
+use std::io::Write;
 use std::rt::Runtime;
 
-// An answer goes out in pieces of this many bytes.
-const ANSWER_BUFFER: usize = 65_536;
-
 /// Why no answer was printed.
-#[derive(Clone, Copy, Debug, PartialEq, Eq)]
+#[derive(Clone, Copy)]
 pub enum Unanswered {
     /// The desk answered by this fault.
     Asked(AskFault),
@@ -26,24 +25,11 @@ pub enum Unanswered {
     Write,
 }
 
-impl From<AskFault> for Unanswered {
-    ghost use Rattle.lrs_cli_tasks.specs.declared.questions.Unanswered.TheVariants.{Asked};
-
-    ghost from_gives = { λ fault e. e ≡ Asked fault };
-
-    fn from(fault: AskFault) -> Self {
-        Unanswered::Asked(fault)
-    }
-}
-
-impl From<io::Error> for Unanswered {
-    ghost use Rattle.lrs_cli_tasks.specs.declared.questions.Unanswered.TheVariants.{Write};
-
-    ghost from_gives = { λ _ e. e ≡ Write };
-
-    fn from(_: io::Error) -> Self {
-        Unanswered::Write
-    }
+fn write_owned<W: Write>(writer: &mut W, told: Told) -> io::Result<()>
+    ensures { OnOk result (Appends (W.contents writer.old) (W.contents writer.new)
+        (told_text told)) }
+{
+    write_told(writer, &told)
 }
 
 // The answer to a question.
@@ -56,9 +42,13 @@ fn print_answer<K: Keeper, W: Write>(
     ensures { IsPrinted (IsTold desk.now.image question) told_text (W.contents writer.old)
         (W.contents writer.new) result }
 {
-    let told = desk.ask(question)?;
-    write_told(writer, &told)?;
-    Ok(())
+    match desk.ask(question) {
+        Ok(told) => match write_owned(writer, told) {
+            Ok(()) => Ok(()),
+            Err(_) => Err(Unanswered::Write),
+        },
+        Err(fault) => Err(Unanswered::Asked(fault)),
+    }
 }
 
 // The fault that stops the program where a question was not refused.
@@ -101,18 +91,13 @@ pub fn answer<K: Keeper, W: Write + Drop>(
         (W.contents to) (W.contents done.0) done.1) }
     ensures faults { IfErr result (λ e. (e ≡ ProgramFault.Memory) ⊎ (e ≡ ProgramFault.Write)) }
 {
-    let Ok(mut writer) = BufWriter::with_capacity(alloc, ANSWER_BUFFER, to) else {
-        return Err(ProgramFault::Memory);
-    };
+    let mut writer = buffered(alloc, to)?;
     let ending = match print_answer(desk, question, &mut writer) {
         Ok(()) => Ending::Done,
         Err(Unanswered::Asked(fault)) => refusal(fault),
         Err(Unanswered::Write) => return Err(ProgramFault::Write),
     };
-    match writer.into_inner() {
-        Ok(to) => Ok((to, ending)),
-        Err(_) => Err(ProgramFault::Write),
-    }
+    Ok((behind(writer)?, ending))
 }
 
 /// Answers a question on standard output.

@@ -5,27 +5,27 @@ ghost use Rattle.lrs_machine.specs.Image.{state_of};
 ghost use Rattle.lrs_sheet.specs.Sheets.{IsAfterCommands, LeavesDesk, Runs};
 ghost use Rattle.lrs_cli_tasks.specs.Sheets.{EndsRun, EndsSheet, HasRun, IsUnwritten, ending_of_sheet, together_at};
 
+use crate::buffer::{behind, buffered};
 use crate::endings::Ending;
 use crate::fault::ProgramFault;
 use crate::progress::{Progress, Shown};
 use lrs_desk::{Desk, Keeper};
 use lrs_sheet::{
-    Decided, RECORDS_TOGETHER, Sheet, SheetFault, Tally, last_edit, run_behind, run_edits,
-    run_survey,
+    Decided, RECORDS_TOGETHER, Sheet, SheetFault, Tally, last_edit, run_arriving, run_behind,
+    run_edits, run_survey,
 };
 use std::alloc::Global;
-use std::io::{BufWriter, ErrorKind, LineWriter, Read, Write};
+use std::io::{ErrorKind, LineWriter, Read, Write};
 use std::rt::Runtime;
 use std::{fs, io};
-
-// The replies to a file go out in pieces of this many bytes.
-const REPLY_BUFFER: usize = 65_536;
 
 // How many records are done together, and when their reply lines are handed to the operating system.
 #[derive(Clone, Copy, Debug, PartialEq, Eq)]
 pub enum Pace {
     // One, and its line before the next record is read: whoever sends the records may wait for it.
     LineByLine,
+    // Those that have arrived, and their lines before more is read: so too he may wait for each of them.
+    AsTheyArrive,
     // Those of a group, and their lines before more are done.
     InGroups,
     // One, and the lines of many at once.
@@ -33,7 +33,7 @@ pub enum Pace {
 }
 
 // How a sheet is done: of which kind, at which pace, and behind how many of its records.
-#[derive(Clone, Copy, Debug, PartialEq, Eq)]
+#[derive(Clone, Copy)]
 pub struct Way {
     pub kind: Sheet,
     pub pace: Pace,
@@ -46,7 +46,7 @@ fn together_at(pace: Pace) -> usize
 {
     match pace {
         Pace::LineByLine | Pace::InPieces => 1,
-        Pace::InGroups => RECORDS_TOGETHER,
+        Pace::AsTheyArrive | Pace::InGroups => RECORDS_TOGETHER,
     }
 }
 
@@ -72,7 +72,7 @@ fn run_one_by_one<S: Read + Drop, W: Write, K: Keeper>(
 }
 
 // Runs a sheet's bytes in this way.
-fn run<S: Read + Drop, W: Write, K: Keeper>(
+pub(crate) fn run<S: Read + Drop, W: Write, K: Keeper>(
     alloc: Global,
     way: Way,
     sheet: S,
@@ -87,6 +87,9 @@ fn run<S: Read + Drop, W: Write, K: Keeper>(
     let together = together_at(way.pace);
     if together == 1 && way.passed == 0 {
         return run_one_by_one(alloc, way.kind, sheet, writer, desk);
+    }
+    if way.pace == Pace::AsTheyArrive {
+        return run_arriving(alloc, way.kind, together, way.passed, sheet, writer, desk);
     }
     run_behind(alloc, way.kind, together, way.passed, sheet, writer, desk)
 }
@@ -132,14 +135,9 @@ fn write_pieces<S: Read + Drop, W: Write + Drop, K: Keeper>(
     ensures left { IsAfterCommands desk.old.limits (state_of desk.old.image)
         (state_of desk.new.image) }
 {
-    let Ok(mut pieces) = BufWriter::with_capacity(alloc, REPLY_BUFFER, to) else {
-        return Err(ProgramFault::Memory);
-    };
+    let mut pieces = buffered(alloc, to)?;
     let outcome = run(alloc, way, sheet, &mut pieces, desk);
-    match pieces.into_inner() {
-        Ok(to) => Ok((to, outcome)),
-        Err(_) => Err(ProgramFault::Write),
-    }
+    Ok((behind(pieces)?, outcome))
 }
 
 // The same, with the lines as they go out at this pace.
@@ -157,29 +155,11 @@ pub(crate) fn write_replies<S: Read + Drop, W: Write + Drop, K: Keeper>(
         (state_of desk.new.image) }
 {
     match way.pace {
-        Pace::LineByLine | Pace::InGroups => write_lines(alloc, way, sheet, to, desk),
+        Pace::LineByLine | Pace::AsTheyArrive | Pace::InGroups => write_lines(
+            alloc, way, sheet, to, desk,
+        ),
         Pace::InPieces => write_pieces(alloc, way, sheet, to, desk),
     }
-}
-
-// The same, with the progress shown meanwhile.
-fn reply_to<R: Runtime<A = Global>, S: Read + Drop, W: Write + Drop, K: Keeper>(
-    rt: &R,
-    way: Way,
-    sheet: S,
-    to: W,
-    desk: &mut Desk<K>,
-    shown: Shown,
-) -> Result<(W, Result<Tally, SheetFault>), ProgramFault>
-    ensures ran { IfOk result (λ done. HasRun K.may_hold way (S.remaining sheet)
-        desk.old desk.new (W.contents to) (W.contents done.0) done.1) }
-    ensures unwritten { IfErr result (IsUnwritten K.may_hold desk.old desk.new) }
-    ensures left { IsAfterCommands desk.old.limits (state_of desk.old.image)
-        (state_of desk.new.image) }
-{
-    let progress = Progress::new(to, rt, shown);
-    let (progress, outcome) = write_replies(rt.alloc(), way, sheet, progress, desk)?;
-    Ok((progress.into_writer(), outcome))
 }
 
 // How the program ends where a sheet ended so.
@@ -205,9 +185,18 @@ pub(crate) fn print_replies<R: Runtime<A = Global>, S: Read + Drop, K: Keeper>(
     ensures left { IsAfterCommands desk.old.limits (state_of desk.old.image)
         (state_of desk.new.image) }
 {
-    match reply_to(rt, way, sheet, io::writer(rt), desk, shown) {
+    let progress = Progress::new(io::writer(rt), rt, shown);
+    match write_replies(rt.alloc(), way, sheet, progress, desk) {
         Ok((_, outcome)) => ending_of(outcome),
         Err(fault) => Ending::Stopped(fault),
+    }
+}
+
+// The pace of a sheet that is sent bit by bit. Over a file, those records are kept together that have arrived.
+fn pace_of_sent(of_file: Pace) -> Pace {
+    match of_file {
+        Pace::InGroups => Pace::AsTheyArrive,
+        _ => Pace::LineByLine,
     }
 }
 
@@ -215,7 +204,7 @@ pub(crate) fn print_replies<R: Runtime<A = Global>, S: Read + Drop, K: Keeper>(
 fn pace_of<R: Runtime<A = Global>>(rt: &R, sheet: &str, of_file: Pace) -> Pace {
     match fs::metadata(rt, sheet) {
         Ok(metadata) if metadata.is_file() => of_file,
-        _ => Pace::LineByLine,
+        _ => pace_of_sent(of_file),
     }
 }
 
@@ -250,7 +239,7 @@ fn do_whole<R: Runtime<A = Global>, K: Keeper>(
 {
     let passed = 0;
     if sheet == "stdin" {
-        let pace = Pace::LineByLine;
+        let pace = pace_of_sent(of_file);
         return print_replies(rt, Way { kind, pace, passed }, rt.reader(), desk, shown);
     }
     match fs::open(rt, sheet) {

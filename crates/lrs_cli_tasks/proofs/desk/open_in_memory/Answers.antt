@@ -9,6 +9,6 @@ use Rattle.lrs_cli_tasks.proofs.desk.open_in_memory.Goals as goal
 pub returns-in-Ok-clause-fresh : goal.returns-in-Ok-clause-fresh
 returns-in-Ok-clause-fresh c =
     let kept : Result Image Table = c.in-Ok.desk.keeper.content in
-    let same = sym (c.in-Ok.ensures.content kept refl) ∙ c.in-Ok.ensures.image kept refl in
+    let same = sym (c.in-Ok.ensures.content kept refl) ∙ c.in-Ok.ensures.kept kept refl in
     let P : Result Image Table → Type 0 = λ r. IfOk r (λ i. i ≡ nothing) in
     (subst P same (subst P (sym (ap (λ (v : PlainView). v.content) c.empty.ensures)) refl), search rules)

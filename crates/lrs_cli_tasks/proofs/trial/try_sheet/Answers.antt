@@ -1,10 +1,9 @@
-use Rattle.lrs_cli_tasks.proofs.Trying.{tried_to, two_faults}
+use Rattle.std.proofs.Common.{Some, [], IfOk, subst}
+use Rattle.lrs_machine.specs.declared.image.Image.{Image}
+use Rattle.lrs_cli_tasks.specs.Trials.{IsTried}
 use Rattle.lrs_cli_tasks.proofs.trial.try_sheet.Goals as goal
 
-pub returns-clause-tried : goal.returns-clause-tried
-returns-clause-tried g c =
-    tried_to _ g.W.Write.contents c.args.kind c.args.passed c.args.text.now c.args.desk.now.image _ _ (g.W.Write.contents c.args.to) c.write_replies.result
-    c.in_ok-copy.ensures.image c.in_ok-copy.ensures.limits c.write_replies.ensures.ran
-
-pub returns-clause-faults : goal.returns-clause-faults
-returns-clause-faults g c = two_faults _ _ _ c.write_replies.result c.write_replies.ensures.unwritten
+pub returns-in-Ok-clause-tried : goal.returns-in-Ok-clause-tried
+returns-in-Ok-clause-tried g c =
+    subst (λ (i : Image). IfOk c.try_at.result (λ done. IsTried c.args.kind c.args.passed c.args.text.now i (Some []) (Some done.0.items) done.1))
+    c.in-Ok.ensures.image c.try_at.ensures.tried
