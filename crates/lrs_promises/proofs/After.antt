@@ -23,13 +23,13 @@ use Rattle.lrs_web.specs.Serving.{Does, sheet_at}
 use Rattle.lrs_promises.proofs.Given.{answered, not_begun, state_both}
 
 -- nothing was done
-none_after : (limits : Limits) (before after : State) → after ≡ before → IsAfterCommands limits before after
+pub none_after : (limits : Limits) (before after : State) → after ≡ before → IsAfterCommands limits before after
 none_after limits before after same = ([], same)
 
 replied_after : (sheet : Sheet) (limits : Limits) (before after : State) (records : List (List Text)) (replies : List Reply) → Replied sheet limits before records replies after → IsAfterCommands limits before after
 replied_after sheet limits before after records replies replied = let a = answered sheet limits before after records replies replied in (a.said, a.state)
 
-both_after : (limits : Limits) (before middle after : State) → IsAfterCommands limits before middle → IsAfterCommands limits middle after → IsAfterCommands limits before after
+pub both_after : (limits : Limits) (before middle after : State) → IsAfterCommands limits before middle → IsAfterCommands limits middle after → IsAfterCommands limits before after
 both_after limits before middle after (xs, first) (ys, second) = (xs ++ ys, second ∙ ap (state_after limits ys) first ∙ sym (state_both limits xs ys before))
 
 failed_after : (passed : List (List Text)) (sheet : Sheet) (together : ℕ) (limits : Limits) (input : Text) (before after : State) (old new : Option Text) → HasFailedToKeep passed sheet together limits input before after old new

@@ -26,13 +26,15 @@ use Rattle.lrs_sheet.specs.declared.reply.Tally.{Tally}
 use Rattle.lrs_sheet.proofs.Determined.{all-one, one-run}
 use Rattle.lrs_sheet.proofs.Resuming.{no_first, one_first}
 use Rattle.lrs_web_requests.specs.Request.{Asked, refused, not_allowed, query, sheet as posted}
-use Rattle.lrs_web_requests.specs.Text.{Answer, answer_text}
+use Rattle.lrs_web_requests.specs.Text.{Answer, answer_text, empty_answer}
+use Rattle.lrs_web.specs.Asked.{AnswersAsked}
 use Rattle.lrs_web.specs.Serving.{Does, sheet_at}
 use Rattle.lrs_web.specs.Sheets.{IsAnswerAfter, answer_after}
 use Rattle.lrs_promises.specs.Calls.{Did, is_decided}
-use Rattle.lrs_promises.specs.Determined.{CallsEndAlike, EndAlike, OnlyChanges, OnlyPosts, SheetsEndAlike, StandAlike}
+use Rattle.lrs_promises.specs.Determined.{CallsEndAlike, EndAlike, IsCallOfState, IsOfImage, IsOfState, IsQuestion, QuestionsEndAlike, SheetsEndAlike, StandAlike}
 use Rattle.lrs_promises.specs.declared.calls.Call.{Call}
 use Rattle.lrs_promises.specs.declared.calls.Call.TheVariants as call
+use Rattle.lrs_promises.proofs.Asked.{image_alike, state_alike}
 use Rattle.lrs_promises.proofs.Given.{answer_decided, call_gave}
 
 -- ---- lists
@@ -220,8 +222,13 @@ answer_of_end : (ended : Result Tally SheetFault) (lines : Text) (answer : Answe
 answer_of_end ended lines answer (inl is) served = is
 answer_of_end ended lines answer (inr is) served = absurd (served (ap (λ (a : Answer). a.status) is))
 
+-- an answer that is no 503 is the answer
+answered_so : (P : Type 0) (answer : Answer) → (answer.status ≡ 503 → ⊥) → P ⊎ (answer ≡ empty_answer 503) → P
+answered_so P answer served (inl told) = told
+answered_so P answer served (inr none) = absurd (served (ap (λ (a : Answer). a.status) none))
+
 module _ {K J : Type 0} (holds : K → Result Image Table → Type 0) (has : J → Result Image Table → Type 0) where
-  asked_alike : (asked : Asked) (one two : Answer) (old new : DeskView K) (before after : DeskView J) → OnlyPosts asked → StandAlike old before
+  asked_alike : (asked : Asked) (one two : Answer) (old new : DeskView K) (before after : DeskView J) → IsOfState asked → StandAlike old before
       → Does holds asked old one new → (one.status ≡ 503 → ⊥) → Does has asked before two after → (two.status ≡ 503 → ⊥) → Alike (answer_text one) (answer_text two) (state_of new.image) (state_of after.image)
   asked_alike (refused status) one two old new before after posts stand did served done also = record {
     wrote = ap answer_text (did.1 ∙ sym done.1);
@@ -231,7 +238,10 @@ module _ {K J : Type 0} (holds : K → Result Image Table → Type 0) (has : J �
     wrote = ap answer_text (did.1 ∙ sym done.1);
     state = ap (λ (d : DeskView K). state_of d.image) did.0 ∙ stand.state ∙ sym (ap (λ (d : DeskView J). state_of d.image) done.0);
   }
-  asked_alike (query resource argument) one two old new before after posts stand did served done also = absurd posts
+  asked_alike (query resource argument) one two old new before after read stand did served done also = record {
+    wrote = ap answer_text (state_alike argument one two served also old.image before.image stand.state resource read (answered_so _ one served did.1) (answered_so _ two also done.1));
+    state = ap (λ (d : DeskView K). state_of d.image) did.0 ∙ stand.state ∙ sym (ap (λ (d : DeskView J). state_of d.image) done.0);
+  }
   asked_alike (posted resource true body) one two old new before after posts stand did served done also = absurd (false≢true (sym posts))
   asked_alike (posted resource false body) one two old new before after posts stand (ended, lines, run, is) served (end, more, running, too) also =
       let d = answer_decided ended lines one is served in
@@ -252,14 +262,14 @@ module _ {K J : Type 0} (holds : K → Result Image Table → Type 0) (has : J �
       of_end text other (state_of new.image) (state_of after.image) ended end
       (sheets_end_alike sheet 1 1 before.limits input (state_of before.image) (state_of new.image) (state_of after.image) [] text [] other ended end d e run running)
 
-  call_alike : (next : Call) (text other : Text) (old new : DeskView K) (before after : DeskView J) → OnlyChanges next → StandAlike old before → Did holds next text old new → Did has next other before after
+  call_alike : (next : Call) (text other : Text) (old new : DeskView K) (before after : DeskView J) → IsCallOfState next → StandAlike old before → Did holds next text old new → Did has next other before after
       → Alike text other (state_of new.image) (state_of after.image)
   call_alike (call.Edits bytes) text other old new before after only stand did done = sheet_alike sheet.Edits bytes.items text other old new before after did.ended done.ended stand did.decided done.decided did.replied done.replied
   call_alike (call.Survey bytes) text other old new before after only stand did done = sheet_alike sheet.Survey bytes.items text other old new before after did.ended done.ended stand did.decided done.decided did.replied done.replied
   call_alike (call.Request bytes) text other old new before after only stand did done =
       let one = subst (λ a. Does holds a old did.answer new) (only.one did.asked did.asks) did.does in
       let two = subst (λ a. Does has a before done.answer after) (only.one done.asked done.asks) done.does in
-      let h = asked_alike only.asked did.answer done.answer old new before after only.posts stand one did.served two done.served in
+      let h = asked_alike only.asked did.answer done.answer old new before after only.passes stand one did.served two done.served in
       record { wrote = did.replied ∙ h.wrote ∙ sym done.replied; state = h.state }
 
   pub calls_end_alike : CallsEndAlike holds has
@@ -279,3 +289,39 @@ module _ {K J : Type 0} (holds : K → Result Image Table → Type 0) (has : J �
       let limits = (call_gave holds next t old mid first).along.limits ∙ stand.limits ∙ sym (call_gave has next o before midway one).along.limits in
       let (texts_are, end) = calls_end_alike calls texts others mid new midway after only.1 (record { state = h.state; limits = limits }) rest more in
       ((λ i. h.wrote i ∷ texts_are i), end)
+
+  -- ---- questions
+
+  question_alike : (asked : Asked) (one two : Answer) (old new : DeskView K) (before after : DeskView J) → IsOfImage asked → old.image ≡ before.image
+      → Does holds asked old one new → (one.status ≡ 503 → ⊥) → Does has asked before two after → (two.status ≡ 503 → ⊥) → (one ≡ two) × (new ≡ old) × (after ≡ before)
+  question_alike (refused status) one two old new before after read same did served done also = (did.1 ∙ sym done.1, did.0, done.0)
+  question_alike (not_allowed verb) one two old new before after read same did served done also = (did.1 ∙ sym done.1, did.0, done.0)
+  question_alike (query resource argument) one two old new before after read same did served done also = (
+    image_alike argument one two served also old.image resource read (answered_so _ one served did.1)
+        (subst (λ i. AnswersAsked i resource argument two) (sym same) (answered_so _ two also done.1)),
+    did.0,
+    done.0,
+  )
+  question_alike (posted resource resumes body) one two old new before after read same did served done also = absurd read
+
+  one_question : (next : Call) (text other : Text) (old new : DeskView K) (before after : DeskView J) → IsQuestion next → old.image ≡ before.image → Did holds next text old new → Did has next other before after
+      → (text ≡ other) × (new ≡ old) × (after ≡ before)
+  one_question (call.Edits bytes) text other old new before after asks same did done = absurd asks
+  one_question (call.Survey bytes) text other old new before after asks same did done = absurd asks
+  one_question (call.Request bytes) text other old new before after asks same did done =
+      let one = subst (λ a. Does holds a old did.answer new) (asks.one did.asked did.asks) did.does in
+      let two = subst (λ a. Does has a before done.answer after) (asks.one done.asked done.asks) done.does in
+      let (answers, stays, remains) = question_alike asks.asked did.answer done.answer old new before after asks.passes same one did.served two done.served in
+      (did.replied ∙ ap answer_text answers ∙ sym done.replied, stays, remains)
+
+  pub questions_end_alike : QuestionsEndAlike holds has
+  questions_end_alike [] [] [] old new before after asks same did done = (refl, did, done)
+  questions_end_alike [] (t ∷ texts) others old new before after asks same did done = absurd did
+  questions_end_alike [] [] (t ∷ others) old new before after asks same did done = absurd done
+  questions_end_alike (next ∷ calls) [] others old new before after asks same did done = absurd did
+  questions_end_alike (next ∷ calls) (t ∷ texts) [] old new before after asks same did done = absurd done
+  questions_end_alike (next ∷ calls) (t ∷ texts) (o ∷ others) old new before after asks same (mid, first, rest) (midway, one, more) =
+      let (text, stays, remains) = one_question next t o old mid before midway asks.0 same first one in
+      let images = ap (λ (d : DeskView K). d.image) stays ∙ same ∙ sym (ap (λ (d : DeskView J). d.image) remains) in
+      let (texts_are, end, last) = questions_end_alike calls texts others mid new midway after asks.1 images rest more in
+      ((λ i. text i ∷ texts_are i), end ∙ stays, last ∙ remains)

@@ -1,7 +1,14 @@
 pub mod Given
 pub mod Laws
 pub mod After
+pub mod Amid
+pub mod Stopped
 pub mod Served
+pub mod Parameters
+pub mod Once
+pub mod Places
+pub mod Translated
+pub mod Asked
 pub mod Ends
 pub mod Fewest
 pub mod Trips

@@ -1,5 +1,5 @@
 -- The headline: over every list of sheets, surveys and requests, tables and answers are those of the ground machine.
-use Rattle.std.specs.Prelude.{◌≡◌, ◌⊎◌, ℕ, ◌+◌, false, true, List, ◌∷◌, ◌++◌, length, map, Some, None, Result, Err}
+use Rattle.std.specs.Prelude.{◌≡◌, ◌⊎◌, ℕ, ◌+◌, false, true, List, [], ◌∷◌, ◌++◌, length, map, Some, None, Result, Ok, Err}
 use Rattle.lrs_measure.specs.Maximal.{HaveValues, IsChain, neighbours_differ}
 use Rattle.lrs_measure.specs.Runs.{Run}
 use Rattle.lrs_measure.specs.Texts.{Name, same_name}
@@ -23,8 +23,17 @@ use Rattle.lrs_machine.specs.declared.image.Image.{Image}
 use Rattle.lrs_machine.specs.declared.table.Table.{Table}
 use Rattle.lrs_image.specs.Keeping.{HoldsOnly}
 use Rattle.lrs_desk.specs.DeskView.{DeskView}
+use Rattle.lrs_sheet_records.specs.declared.sheet.Sheet.{Sheet}
+use Rattle.lrs_sheet_records.specs.declared.sheet.Sheet.TheVariants as sheet
+use Rattle.lrs_sheet.specs.Sheets.{IsAfterCommands}
+use Rattle.lrs_sheet.specs.declared.fault.SheetFault.{SheetFault}
+use Rattle.lrs_web.specs.declared.request.WebFault.{WebFault}
 use Rattle.lrs_promises.specs.declared.calls.Call.{Call}
-use Rattle.lrs_promises.specs.Calls.{AllGive, DidAll}
+use Rattle.lrs_promises.specs.declared.calls.Call.TheVariants as call
+use Rattle.lrs_promises.specs.declared.calls.CallFault.{CallFault}
+use Rattle.lrs_promises.specs.declared.calls.CallFault.TheVariants as why
+use Rattle.lrs_promises.specs.Calls.{AllGive, Did, DidAll}
+use Rattle.lrs_promises.specs.Safe.{RequestLeaves, SheetLeaves}
 
 -- This is so of the state before the first of the commands, and after each.
 abbrev pub Throughout : (State → Type 0) → Limits → List Record → State → Type 0
@@ -86,3 +95,38 @@ pub record IsTheGroundMachines {K : Type 0} (holds : K → Result Image Table �
   -- and the tables hold this image alone
   pub tables : HoldsOnly (holds old.keeper) old.image → HoldsOnly (holds new.keeper) new.image
   pub laws : KeepsTheLaws old.limits commands (state_of old.image)
+
+-- ---- a list that is not done to its end
+
+-- A sheet ended in this fault, its records done one after the other, and left what a sheet leaves. Its lines are lost.
+pub record SheetLeft {K : Type 0} (holds : K → Result Image Table → Type 0) (kind : Sheet) (input : Text) (fault : CallFault) (old new : DeskView K) : Type 0 where
+  pub ended : SheetFault
+  pub is : fault ≡ why.Sheet ended
+  pub lines : Text
+  pub left : SheetLeaves holds kind 1 (Some input) (Some []) (Some lines) old new (Err ended)
+
+-- A request ended in this fault, or with a 503, and left what a request leaves. Its reply is lost.
+pub record RequestLeft {K : Type 0} (holds : K → Result Image Table → Type 0) (input : Text) (fault : CallFault) (old new : DeskView K) : Type 0 where
+  pub ended : Result ℕ WebFault
+  pub is : ((ended ≡ Ok 503) × (fault ≡ why.Unavailable)) ⊎ ((e : WebFault) × (ended ≡ Err e) × (fault ≡ why.Web e))
+  pub left : RequestLeaves holds (Some input) old new ended
+
+-- What a call left of a desk that ended so.
+abbrev pub Left : {K : Type 0} → (K → Result Image Table → Type 0) → Call → CallFault → DeskView K → DeskView K → Type 0
+Left holds (call.Edits bytes) = SheetLeft holds sheet.Edits bytes.items
+Left holds (call.Survey bytes) = SheetLeft holds sheet.Survey bytes.items
+Left holds (call.Request bytes) = RequestLeft holds bytes.items
+
+-- A list of calls ended in a fault: those before one of them were done, and no other was begun behind that one.
+pub record HasStopped {K : Type 0} (holds : K → Result Image Table → Type 0) (calls : List Call) (fault : CallFault) (old new : DeskView K) : Type 0 where
+  pub before : List Call
+  pub last : Call
+  pub others : List Call
+  pub are : calls ≡ before ++ last ∷ others
+  pub texts : List Text
+  pub mid : DeskView K
+  pub replies : DidAll holds before texts old mid
+  -- it ended so; or it was done too, and memory ran out behind it
+  pub ended : Left holds last fault mid new ⊎ ((fault ≡ why.Memory) × (text : Text) × Did holds last text mid new)
+  -- so commands were done in order, from the first call on
+  pub commands : IsAfterCommands old.limits (state_of old.image) (state_of new.image)

@@ -1,45 +1,99 @@
 -- Safe and total: what each call leaves, by what it answers.
-use Rattle.std.specs.Prelude.{◌≡◌, ℕ, true, Result, Ok, Err}
+use Rattle.std.specs.Prelude.{◌≡◌, ◌⊎◌, ◌↔◌, ◌++◌, ℕ, true, false, List, Option, Result, Ok, Err, IfOk, IfSome}
 use Rattle.lrs_machine.specs.Image.{state_of}
-use Rattle.lrs_machine.specs.Machine.{Record, step_record}
+use Rattle.lrs_machine.specs.Lines.{Text}
+use Rattle.lrs_machine.specs.Machine.{Record, state_after, step_record}
+use Rattle.lrs_machine.specs.State.{State}
 use Rattle.lrs_machine.specs.declared.answer.Answer.{Answer}
-use Rattle.lrs_machine.specs.declared.answer.Answer.TheVariants.{Done, Again, Refused}
+use Rattle.lrs_machine.specs.declared.answer.Answer.TheVariants.{Done}
+use Rattle.lrs_machine.specs.declared.answer.Limits.{Limits}
 use Rattle.lrs_machine.specs.declared.image.Image.{Image}
 use Rattle.lrs_machine.specs.declared.table.Table.{Table}
 use Rattle.lrs_image.specs.Keeping.{HoldsOnly}
 use Rattle.lrs_desk.specs.Desk.{HasBroken, IsUnchanged}
 use Rattle.lrs_desk.specs.DeskView.{DeskView}
 use Rattle.lrs_desk.specs.declared.desk.Fault.{Fault}
-use Rattle.lrs_desk.specs.declared.desk.Fault.TheVariants.{Keep, Memory, MustReopen}
-use Rattle.lrs_sheet.specs.Sheets.{IsAfterCommands, LeavesDesk}
+use Rattle.lrs_desk.specs.declared.desk.Fault.TheVariants as stop
+use Rattle.lrs_sheet_records.specs.declared.sheet.Sheet.{Sheet}
+use Rattle.lrs_sheet.specs.Sheets.{BreaksOff, GoesAlong, IsAfterCommands, LeavesDesk, MustReopen, Runs, StandsForEither}
 use Rattle.lrs_sheet.specs.declared.fault.SheetFault.{SheetFault}
+use Rattle.lrs_sheet.specs.declared.fault.SheetFault.TheVariants as fault
+use Rattle.lrs_sheet.specs.declared.reply.Tally.{Tally}
+use Rattle.lrs_web_requests.specs.Text.{Answer as Reply}
+use Rattle.lrs_web.specs.Serving.{Serves}
 use Rattle.lrs_web.specs.declared.request.WebFault.{WebFault}
 use Rattle.lrs_web.specs.declared.request.WebFault.TheVariants as web
+
+-- ---- commands
 
 -- the state is as it was
 abbrev pub SameState : {K : Type 0} → DeskView K → DeskView K → Type 0
 SameState old new = state_of new.image ≡ state_of old.image
 
+-- What a command leaves of a desk that has answered it.
+pub record IsAnswered {K : Type 0} (holds : K → Result Image Table → Type 0) (clean : K → Type 0) (r : Record) (old new : DeskView K) (answer : Answer) : Type 0 where
+  -- the answer and the next state are the ground machine's
+  pub said : answer ≡ (step_record old.limits r (state_of old.image)).answer
+  pub state : state_of new.image ≡ (step_record old.limits r (state_of old.image)).state
+  -- only a command that is done changes the state, and neither one that is known nor one that is refused
+  pub only_done : ((number : ℕ) × (answer ≡ Done number)) ⊎ SameState old new
+  -- an opening finds this image and no other, and does find it where the device has given back what it was given
+  pub kept : HoldsOnly (holds new.keeper) new.image
+  pub found : clean new.keeper → holds new.keeper (Ok new.image)
+  -- the desk goes on
+  pub serves : new.must_reopen ≡ false
+  pub ahead : new.is_ahead ≡ old.is_ahead
+
 -- What a command leaves of a desk, by its answer.
-abbrev pub ActLeaves : {K : Type 0} → (K → Result Image Table → Type 0) → (K → ℕ) → Record → DeskView K → DeskView K → Result Answer Fault → Type 0
--- accepted: the next state, which is all that an opening finds
-ActLeaves holds failures r old new (Ok (Done n)) = (state_of new.image ≡ (step_record old.limits r (state_of old.image)).state) × HoldsOnly (holds new.keeper) new.image
--- known, or refused for its cause: the state as it was, which is all that an opening finds
-ActLeaves holds failures r old new (Ok (Again n)) = SameState old new × HoldsOnly (holds new.keeper) new.image
-ActLeaves holds failures r old new (Ok (Refused cause)) = SameState old new × HoldsOnly (holds new.keeper) new.image
--- too little memory: nothing has changed, and the desk goes on
-ActLeaves holds failures r old new (Err Memory) = IsUnchanged holds old new
--- the device failed: the image as it was; an opening finds this, or the command done
-ActLeaves holds failures r old new (Err Keep) = HasBroken holds failures r.key r.command old new
--- a commit failed before, and at no other time: nothing has changed
-ActLeaves holds failures r old new (Err MustReopen) = IsUnchanged holds old new × (old.must_reopen ≡ true)
+pub record ActLeaves {K : Type 0} (holds : K → Result Image Table → Type 0) (clean : K → Type 0) (failures : K → ℕ) (r : Record) (old new : DeskView K) (result : Result Answer Fault) : Type 0 where
+  pub answered : IfOk result (IsAnswered holds clean r old new)
+  -- too little memory: nothing has changed, and the desk goes on
+  pub memory : result ≡ Err stop.Memory → IsUnchanged holds old new
+  -- the device failed: the image is as it was, an opening finds this or the command done, and from then on the desk asks to be opened again
+  pub broken : result ≡ Err stop.Keep → HasBroken holds failures r.key r.command old new
+  -- it asks so exactly where a commit failed before, and nothing has changed
+  pub reopen : (result ≡ Err stop.MustReopen) ↔ (old.must_reopen ≡ true)
+  pub stays : result ≡ Err stop.MustReopen → IsUnchanged holds old new
+  pub limits : new.limits ≡ old.limits
 
--- What a sheet leaves of a desk, however it ends: the state after some of its commands in order, and what its keeper has, by its fault.
-pub record SheetLeaves {X K : Type 0} (holds : K → Result Image Table → Type 0) (old new : DeskView K) (result : Result X SheetFault) : Type 0 where
+-- ---- sheets
+
+-- What a sheet leaves of a desk, however it ends, from what the reader tells that it has and what the writer tells that it was given.
+pub record SheetLeaves {K : Type 0} (holds : K → Result Image Table → Type 0) (sheet : Sheet) (together : ℕ) (input written text : Option Text) (old new : DeskView K) (result : Result Tally SheetFault) : Type 0 where
+  -- some commands were done in order
   pub commands : IsAfterCommands old.limits (state_of old.image) (state_of new.image)
+  -- where the reader tells its bytes, these are commands of its first records, as far as this end allows
+  pub runs : IfSome input (λ bytes. Runs sheet together old.limits bytes (state_of old.image) (state_of new.image) written text result)
+  -- the keeper goes along, unless a commit failed: then the desk asks to be opened again
   pub desk : LeavesDesk holds old new result
+  -- an opening then finds the state of the records that have lines, or that after all in flight
+  pub broken : result ≡ Err (fault.Desk stop.Keep) → (c : Result Image Table) → holds new.keeper c
+      → IfSome input (λ bytes. BreaksOff sheet together old.limits bytes (state_of old.image) (state_of new.image) written text c)
+  -- if records are done one at a time, the image is not ahead of that, and questions are answered
+  pub alone : result ≡ Err (fault.Desk stop.Keep) → together ≡ 1 → new.is_ahead ≡ false
 
--- What a request leaves of a desk, however it ends: the state after some commands in order; where it was not read, the desk as it was.
-pub record RequestLeaves {K : Type 0} (old new : DeskView K) (result : Result ℕ WebFault) : Type 0 where
+-- ---- requests
+
+-- Some commands are kept, and others stand behind them in flight: what is found stands for the state before those in flight or for that after them, and so does the image.
+pub record StandsAmid (limits : Limits) (before image : State) (content : Result Image Table) : Type 0 where
+  pub kept : List Record
+  pub flying : List Record
+  pub known : (image ≡ state_after limits kept before) ⊎ (image ≡ state_after limits (kept ++ flying) before)
+  pub found : StandsForEither content (state_after limits kept before) (state_after limits (kept ++ flying) before)
+
+-- A commit failed: the desk asks to be opened again, and whatever an opening finds stands amid the commands that were done.
+pub record HasFailedAmid {K : Type 0} (holds : K → Result Image Table → Type 0) (old new : DeskView K) : Type 0 where
+  pub desk : MustReopen old new
+  pub found : (c : Result Image Table) → holds new.keeper c → StandsAmid old.limits (state_of old.image) (state_of new.image) c
+
+-- What a request leaves of a desk, however it ends, from what the reader tells that it has.
+pub record RequestLeaves {K : Type 0} (holds : K → Result Image Table → Type 0) (input : Option Text) (old new : DeskView K) (result : Result ℕ WebFault) : Type 0 where
+  -- some commands were done in order
   pub commands : IsAfterCommands old.limits (state_of old.image) (state_of new.image)
+  -- the keeper goes along, unless a commit failed
+  pub desk : GoesAlong holds old new ⊎ HasFailedAmid holds old new
+  -- of one that was not read nothing was done
   pub unread : result ≡ Err web.Read → new ≡ old
+  -- where the reader tells its bytes, what they ask for was done, or for want of memory nothing
+  pub served : IfOk result (λ status. IfSome input (λ bytes. (reply : Reply) × (status ≡ reply.status) × Serves holds bytes old reply new))
+  pub unwritten : result ≡ Err web.Write → IfSome input (λ bytes. (reply : Reply) × Serves holds bytes old reply new)

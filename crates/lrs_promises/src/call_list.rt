@@ -1,8 +1,8 @@
 //! A list of calls, mixed.
 
-ghost use Rattle.std.specs.Prelude.{IfOk, map};
+ghost use Rattle.std.specs.Prelude.{IfErr, IfOk, map};
 ghost use Rattle.lrs_promises.specs.Calls.{DidAll};
-ghost use Rattle.lrs_promises.specs.Headline.{IsTheGroundMachines};
+ghost use Rattle.lrs_promises.specs.Headline.{HasStopped, IsTheGroundMachines};
 
 use crate::calls::{Call, CallFault, do_call};
 use lrs_desk::{Desk, Keeper};
@@ -14,8 +14,10 @@ fn do_all<K: Keeper>(
     calls: &[Call],
     desk: &mut Desk<K>,
 ) -> Result<Vec<Vec<u8>>, CallFault>
-    ensures { IfOk result (λ written. DidAll K.may_hold calls.now
+    ensures done { IfOk result (λ written. DidAll K.may_hold calls.now
         (map (λ text. text.items) written.items) desk.old desk.new) }
+    ensures stopped { IfErr result (λ fault. HasStopped K.may_hold calls.now fault
+        desk.old desk.new) }
 {
     let mut written = Vec::new(alloc);
     for call in calls {
@@ -30,14 +32,17 @@ fn do_all<K: Keeper>(
 /// has; and of each of these commands, and of each state between them, the laws of the ground machine hold.
 ///
 /// # Errors
-/// A call ended in a fault of memory, keeper, reader or writer, or with a 503: those behind it are not done.
+/// A call ended in a fault of memory, keeper, reader or writer, or with a 503. Those before it are done, it left what such a
+/// call leaves, and those behind it are not done.
 pub fn headline<K: Keeper>(
     alloc: Global,
     calls: &[Call],
     desk: &mut Desk<K>,
 ) -> Result<Vec<Vec<u8>>, CallFault>
-    ensures { IfOk result (λ written. IsTheGroundMachines K.may_hold calls.now
+    ensures done { IfOk result (λ written. IsTheGroundMachines K.may_hold calls.now
         (map (λ text. text.items) written.items) desk.old desk.new) }
+    ensures stopped { IfErr result (λ fault. HasStopped K.may_hold calls.now fault
+        desk.old desk.new) }
 {
     desk.inventory().prove_sound();
     do_all(alloc, calls, desk)

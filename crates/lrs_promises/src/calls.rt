@@ -1,8 +1,9 @@
 //! Calls over bytes that are there as a whole.
 
-ghost use Rattle.std.specs.Prelude.{IfOk};
+ghost use Rattle.std.specs.Prelude.{IfErr, IfOk};
 ghost use Rattle.lrs_sheet_records.specs.declared.sheet.Sheet.TheVariants as kind;
 ghost use Rattle.lrs_promises.specs.Calls.{Did, DidRequest, DidSheet};
+ghost use Rattle.lrs_promises.specs.Headline.{Left, RequestLeft, SheetLeft};
 
 use lrs_desk::{Desk, Keeper};
 use lrs_sheet::{SheetFault, run_edits, run_survey};
@@ -50,7 +51,9 @@ fn do_edits<K: Keeper>(
     bytes: &[u8],
     desk: &mut Desk<K>,
 ) -> Result<Vec<u8>, CallFault>
-    ensures { IfOk result (λ lines. DidSheet K.may_hold kind.Edits bytes.now lines.items
+    ensures done { IfOk result (λ lines. DidSheet K.may_hold kind.Edits bytes.now lines.items
+        desk.old desk.new) }
+    ensures left { IfErr result (λ fault. SheetLeft K.may_hold kind.Edits bytes.now fault
         desk.old desk.new) }
 {
     let mut lines = Vec::new(alloc);
@@ -67,7 +70,9 @@ fn do_survey<K: Keeper>(
     bytes: &[u8],
     desk: &mut Desk<K>,
 ) -> Result<Vec<u8>, CallFault>
-    ensures { IfOk result (λ lines. DidSheet K.may_hold kind.Survey bytes.now lines.items
+    ensures done { IfOk result (λ lines. DidSheet K.may_hold kind.Survey bytes.now lines.items
+        desk.old desk.new) }
+    ensures left { IfErr result (λ fault. SheetLeft K.may_hold kind.Survey bytes.now fault
         desk.old desk.new) }
 {
     let mut lines = Vec::new(alloc);
@@ -84,7 +89,9 @@ fn do_request<K: Keeper>(
     bytes: &[u8],
     desk: &mut Desk<K>,
 ) -> Result<Vec<u8>, CallFault>
-    ensures { IfOk result (λ reply. DidRequest K.may_hold bytes.now reply.items
+    ensures done { IfOk result (λ reply. DidRequest K.may_hold bytes.now reply.items
+        desk.old desk.new) }
+    ensures left { IfErr result (λ fault. RequestLeft K.may_hold bytes.now fault
         desk.old desk.new) }
 {
     let mut input = bytes;
@@ -102,7 +109,8 @@ pub(crate) fn do_call<K: Keeper>(
     call: &Call,
     desk: &mut Desk<K>,
 ) -> Result<Vec<u8>, CallFault>
-    ensures { IfOk result (λ text. Did K.may_hold call.now text.items desk.old desk.new) }
+    ensures done { IfOk result (λ text. Did K.may_hold call.now text.items desk.old desk.new) }
+    ensures left { IfErr result (λ fault. Left K.may_hold call.now fault desk.old desk.new) }
 {
     match call {
         Call::Edits(bytes) => do_edits(alloc, bytes.as_slice(), desk),

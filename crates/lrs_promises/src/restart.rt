@@ -33,7 +33,7 @@ fn prove_found<S: Alter, R: ReadImage>(tables: &Tables<S, R>)
         (state S.Store tables.now.conn).committed.trees }
 {}
 
-/// Closes the files of an inventory, and opens them again: what was committed last is found.
+/// Closes the files of an inventory, and opens these files again: what was committed last is found.
 ///
 /// # Errors
 /// Those of `close_files`, and of `open_files`.
@@ -43,8 +43,7 @@ pub fn close_and_open<D: Disk + Drop, R: ReadImage + Drop>(
     options: Options,
     reader: R,
 ) -> Result<Tables<FileStore<D>, R>, NotReopened<D>>
-    ensures { IfOk result (λ opened. IsReopened D.Disk (file_state tables.conn)
-        (file_state opened.conn)) }
+    ensures { IfOk result (λ opened. IsReopened tables.conn (file_state opened.conn)) }
 {
     prove_found(&tables);
     let files = match close_files(tables) {

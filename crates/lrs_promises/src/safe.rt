@@ -9,20 +9,20 @@ use lrs_web::{WebFault, serve_one};
 use std::alloc::Global;
 use std::io::{Read, Write};
 
-/// Does a command, as `Desk::act` does. Only one that is accepted changes the state; after each fault the desk is as the
-/// table of this call says.
+/// Does a command, as `Desk::act` does. The answer is the ground machine's, and only a command that is accepted changes the
+/// state; once a commit has failed the desk asks to be opened again, and at no other time.
 ///
 /// # Errors
 /// Those of `Desk::act`.
 pub fn act<K: Keeper>(desk: &mut Desk<K>, key: Key, command: &Command) -> Result<Answer, Fault>
-    ensures { ActLeaves K.may_hold K.failures (record { key = key; command = command.now })
-        desk.old desk.new result }
+    ensures { ActLeaves K.may_hold K.is_clean K.failures
+        (record { key = key; command = command.now }) desk.old desk.new result }
 {
     desk.act(key, command)
 }
 
-/// Runs a sheet, as `run_sheet` does. Whatever ends it, over any reader and writer, commands were done in order; after
-/// each fault the desk is as the table of this call says.
+/// Runs a sheet, as `run_sheet` does. Whatever ends it, over any reader and writer, commands were done in order, and each
+/// fault says whether the keeper goes along; where the reader tells its bytes, the commands are those of its records.
 ///
 /// # Errors
 /// Those of `run_sheet`.
@@ -35,13 +35,14 @@ pub fn sheet<R: Read + Drop, W: Write, K: Keeper>(
     desk: &mut Desk<K>,
 ) -> Result<Tally, SheetFault>
     requires together { 1 ≤ together }
-    ensures { SheetLeaves K.may_hold desk.old desk.new result }
+    ensures { SheetLeaves K.may_hold sheet together (R.remaining reader) (W.contents writer.old)
+        (W.contents writer.new) desk.old desk.new result }
 {
     run_sheet(alloc, sheet, together, reader, writer, desk)
 }
 
-/// Serves a request, as `serve_one` does. Whatever ends it, over any reader and writer, commands were done in order; a
-/// request that was not read has changed nothing.
+/// Serves a request, as `serve_one` does. Whatever ends it, over any reader and writer, commands were done in order, and the
+/// keeper goes along unless a commit failed; a request that was not read has changed nothing.
 ///
 /// # Errors
 /// Those of `serve_one`.
@@ -51,7 +52,7 @@ pub fn request<R: Read, W: Write, K: Keeper>(
     writer: &mut W,
     desk: &mut Desk<K>,
 ) -> Result<u16, WebFault>
-    ensures { RequestLeaves desk.old desk.new result }
+    ensures { RequestLeaves K.may_hold (R.remaining reader.old) desk.old desk.new result }
 {
     serve_one(alloc, reader, writer, desk)
 }

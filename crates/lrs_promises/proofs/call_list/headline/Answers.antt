@@ -5,12 +5,12 @@ use Rattle.lrs_promises.specs.Headline.{IsTheGroundMachines}
 use Rattle.lrs_promises.proofs.Laws.{headline, if_ok}
 use Rattle.lrs_promises.proofs.call_list.headline.Goals as goal
 
-pub returns : goal.returns
-returns g c =
+pub returns-clause-done : goal.returns-clause-done
+returns-clause-done g c =
     let holds = g.K.Keeper.may_hold in
     let calls = c.args.calls.now in
     let old = c.args.desk.now in
     let new = c.do_all.new.desk in
     let sound = subst (λ i. IsSound i) c.inventory.ensures c.prove_sound.ensures in
     if_ok (λ w. DidAll holds calls (map (λ t. t.items) w.items) old new) (λ w. IsTheGroundMachines holds calls (map (λ t. t.items) w.items) old new)
-    c.do_all.result (λ w did. headline holds calls (map (λ t. t.items) w.items) old new sound did) c.do_all.ensures
+    c.do_all.result (λ w did. headline holds calls (map (λ t. t.items) w.items) old new sound did) c.do_all.ensures.done

@@ -1,9 +1,16 @@
 use Rattle.lrs_machine.specs.Machine.{Record}
-use Rattle.lrs_promises.proofs.Leaving.{act_leaves}
+use Rattle.lrs_promises.proofs.Leaving.{is_answered}
 use Rattle.lrs_promises.proofs.safe.act.Goals as goal
 
 pub returns : goal.returns
 returns g c =
     let r : Record = record { key = c.args.key; command = c.args.command.now } in
-    act_leaves g.K.Keeper.may_hold g.K.Keeper.failures r c.args.desk.now c.act.new.self c.act.result
-    c.act.ensures.answer c.act.ensures.image c.act.ensures.content c.act.ensures.memory c.act.ensures.keep c.act.ensures.reopen c.act.ensures.stays
+    let e = c.act.ensures in
+    record {
+      answered = is_answered g.K.Keeper.may_hold g.K.Keeper.is_clean r c.args.desk.now c.act.new.self c.act.result e.answer e.image e.content e.found e.open e.ahead;
+      memory = e.memory;
+      broken = e.keep;
+      reopen = e.reopen;
+      stays = e.stays;
+      limits = e.limits;
+    }

@@ -1,10 +1,8 @@
-use Rattle.lrs_promises.proofs.After.{does_after}
+use Rattle.lrs_promises.proofs.Amid.{request_leaves}
 use Rattle.lrs_promises.proofs.safe.request.Goals as goal
 
 pub returns : goal.returns
 returns g c =
-    let (asked, due, does) = c.serve_one.ensures.left in
-    record {
-      commands = does_after g.K.Keeper.may_hold c.args.desk.now c.serve_one.new.desk asked due does;
-      unread = c.serve_one.ensures.read;
-    }
+    let e = c.serve_one.ensures in
+    request_leaves g.K.Keeper.may_hold c.args.desk.now c.serve_one.new.desk (g.R.Read.remaining c.args.reader.now) (g.W.Write.contents c.args.writer.now) (g.W.Write.contents c.serve_one.new.writer)
+    c.serve_one.result e.served e.write e.read e.left

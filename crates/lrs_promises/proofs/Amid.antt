@@ -1,0 +1,113 @@
+-- What is left of a keeper, whatever ends a sheet or a request.
+use Rattle.std.proofs.Common.{◌≡◌, ◌⊎◌, inl, inr, ℕ, true, false, List, [], ◌++◌, take, Option, Some, None, Result, Ok, Err, IfOk, IfSome, refl, sym, ap, subst, ◌∙◌}
+use Rattle.lrs_machine.specs.Image.{state_of}
+use Rattle.lrs_machine.specs.Lines.{Text}
+use Rattle.lrs_machine.specs.Machine.{state_after}
+use Rattle.lrs_machine.specs.State.{State}
+use Rattle.lrs_machine.specs.declared.answer.Limits.{Limits}
+use Rattle.lrs_machine.specs.declared.image.Image.{Image}
+use Rattle.lrs_machine.specs.declared.table.Table.{Table}
+use Rattle.lrs_desk.specs.DeskView.{DeskView}
+use Rattle.lrs_desk.specs.declared.desk.Fault.TheVariants as stop
+use Rattle.lrs_sheet_records.specs.declared.sheet.Sheet.{Sheet}
+use Rattle.lrs_sheet.specs.Sheets.{BreaksOff, BreaksOffBehind, GoesAlong, IsAfterCommands, LeavesDesk, Runs, StandsForEither, records_together}
+use Rattle.lrs_sheet.specs.declared.fault.SheetFault.{SheetFault}
+use Rattle.lrs_sheet.specs.declared.fault.SheetFault.TheVariants as fault
+use Rattle.lrs_sheet.specs.declared.reply.Tally.{Tally}
+use Rattle.lrs_sheet.proofs.Done.{stays}
+use Rattle.lrs_web_requests.specs.Request.{Asked, refused, not_allowed, query, sheet as posted}
+use Rattle.lrs_web_requests.specs.Text.{Answer}
+use Rattle.lrs_web.specs.Serving.{Does, Serves, Writes, sheet_at}
+use Rattle.lrs_web.specs.declared.request.WebFault.{WebFault}
+use Rattle.lrs_web.specs.declared.request.WebFault.TheVariants as web
+use Rattle.lrs_promises.specs.Headline.{SheetLeft}
+use Rattle.lrs_promises.specs.Safe.{HasFailedAmid, RequestLeaves, StandsAmid}
+use Rattle.lrs_promises.specs.declared.calls.CallFault.TheVariants as why
+use Rattle.lrs_promises.proofs.After.{does_after}
+use Rattle.lrs_promises.proofs.Given.{answered, state_both}
+
+-- what is found once a commit of a sheet has failed stands amid its commands
+amid : (passed : List (List Text)) (sheet : Sheet) (together : ℕ) (limits : Limits) (input : Text) (before after : State) (old new : Option Text) (content : Result Image Table)
+    → BreaksOffBehind passed sheet together limits input before after old new content → StandsAmid limits before after content
+amid passed sheet together limits input before after old new content (h, stands) =
+    let done = answered sheet limits before h.settled h.records h.replies h.answered.replied in
+    let flying = answered sheet limits h.settled h.flight.next (take h.flight.flying h.further) h.flight.replies h.flight.replied in
+    let next : h.flight.next ≡ state_after limits (done.said ++ flying.said) before =
+    flying.state ∙ ap (state_after limits flying.said) done.state ∙ sym (state_both limits done.said flying.said before) in
+    record {
+      kept = done.said;
+      flying = flying.said;
+      known = by done.state next h.flight.image;
+      found = coe 0 1 (k. StandsForEither content (done.state k) (next k)) stands;
+    }
+  where
+    by : {one other settled next : State} {n : ℕ} → settled ≡ one → next ≡ other → ((n ≡ 1) × (after ≡ settled)) ⊎ (after ≡ next) → (after ≡ one) ⊎ (after ≡ other)
+    by s t (inl (alone, same)) = inl (same ∙ s)
+    by s t (inr same) = inr (same ∙ t)
+
+module _ {K : Type 0} (holds : K → Result Image Table → Type 0) (old new : DeskView K) where
+  abbrev Kept : Type 0
+  Kept = GoesAlong holds old new ⊎ HasFailedAmid holds old new
+
+  -- a desk that stays goes along
+  same_keeps : new ≡ old → Kept
+  same_keeps same = inl (subst (GoesAlong holds old) (sym same) (stays old))
+
+  sheet_keeps : (ended : Result Tally SheetFault) → LeavesDesk holds old new ended
+      → (ended ≡ Err (fault.Desk stop.Keep) → (c : Result Image Table) → holds new.keeper c → StandsAmid old.limits (state_of old.image) (state_of new.image) c) → Kept
+  sheet_keeps (Ok tally) desk found = inl desk
+  sheet_keeps (Err fault.BadHeader) desk found = inl desk.0
+  sheet_keeps (Err fault.BadCsv) desk found = inl desk
+  sheet_keeps (Err fault.Read) desk found = inl desk
+  sheet_keeps (Err fault.Write) desk found = inl desk
+  sheet_keeps (Err fault.Memory) desk found = inl desk
+  sheet_keeps (Err (fault.Desk stop.Memory)) desk found = inl desk
+  sheet_keeps (Err (fault.Desk stop.MustReopen)) desk found = inl desk.0
+  sheet_keeps (Err (fault.Desk stop.Keep)) desk found = inr (record { desk = desk; found = found refl })
+
+  does_keeps : (asked : Asked) (answer : Answer) → Does holds asked old answer new → Kept
+  does_keeps (refused status) answer does = same_keeps does.0
+  does_keeps (not_allowed verb) answer does = same_keeps does.0
+  does_keeps (query resource argument) answer does = same_keeps does.0
+  does_keeps (posted resource false body) answer (ended, lines, run, is) = sheet_keeps ended run.desk (λ e c may.
+      amid [] (sheet_at resource) records_together old.limits body (state_of old.image) (state_of new.image) (Some []) (Some lines) c (run.broken e c may))
+  does_keeps (posted resource true body) answer (ended, lines, run, is) = sheet_keeps ended run.desk (λ e c may.
+      let (d, passed, decided, breaks) = run.broken e c may in
+      amid passed (sheet_at resource) records_together old.limits body (state_of old.image) (state_of new.image) (Some []) (Some lines) c breaks)
+
+  served_so : (input before after : Option Text) (result : Result ℕ WebFault)
+      → IfOk result (λ status. (answer : Answer) × Writes before after status answer × IfSome input (λ bytes. Serves holds bytes old answer new))
+      → IfOk result (λ status. IfSome input (λ bytes. (answer : Answer) × (status ≡ answer.status) × Serves holds bytes old answer new))
+  served_so None before after (Ok status) served = tt
+  served_so (Some bytes) before after (Ok status) (answer, (is, writes), serves) = (answer, is, serves)
+  served_so input before after (Err e) served = tt
+
+  pub request_leaves : (input before after : Option Text) (result : Result ℕ WebFault)
+      → IfOk result (λ status. (answer : Answer) × Writes before after status answer × IfSome input (λ bytes. Serves holds bytes old answer new))
+      → (result ≡ Err web.Write → IfSome input (λ bytes. (answer : Answer) × Serves holds bytes old answer new)) → (result ≡ Err web.Read → new ≡ old)
+      → (asked : Asked) × (due : Answer) × Does holds asked old due new → RequestLeaves holds input old new result
+  request_leaves input before after result served write read (asked, due, does) = record {
+    commands = does_after holds old new asked due does;
+    desk = does_keeps asked due does;
+    unread = read;
+    served = served_so input before after result served;
+    unwritten = write;
+  }
+
+  -- a sheet that ended in a fault, by what its run says
+  pub sheet_left : (sheet : Sheet) (input none lines : Text) (ended : SheetFault) (result : Result Tally SheetFault) → result ≡ Err ended → none ≡ []
+      → IsAfterCommands old.limits (state_of old.image) (state_of new.image) → Runs sheet 1 old.limits input (state_of old.image) (state_of new.image) (Some none) (Some lines) result → LeavesDesk holds old new result
+      → (result ≡ Err (fault.Desk stop.Keep) → (c : Result Image Table) → holds new.keeper c → BreaksOff sheet 1 old.limits input (state_of old.image) (state_of new.image) (Some none) (Some lines) c)
+      → (result ≡ Err (fault.Desk stop.Keep) → new.is_ahead ≡ false) → SheetLeft holds sheet input (why.Sheet ended) old new
+  sheet_left sheet input none lines ended result is empty commands runs desk broken still = record {
+    ended = ended;
+    is = refl;
+    lines = lines;
+    left = record {
+      commands = commands;
+      runs = coe 0 1 (k. Runs sheet 1 old.limits input (state_of old.image) (state_of new.image) (Some (empty k)) (Some lines) (is k)) runs;
+      desk = subst (LeavesDesk holds old new) is desk;
+      broken = λ e c may. coe 0 1 (k. BreaksOff sheet 1 old.limits input (state_of old.image) (state_of new.image) (Some (empty k)) (Some lines) c) (broken (is ∙ e) c may);
+      alone = λ e one. still (is ∙ e);
+    };
+  }

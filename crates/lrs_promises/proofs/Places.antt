@@ -1,0 +1,51 @@
+-- What is at a place is one answer.
+use Rattle.std.proofs.Common.{◌≡◌, ℕ, pos, unsigned_abs, List, [], ◌∷◌, Option, Result, Ok, Err, refl, sym, ap, subst, ◌∙◌}
+use Rattle.std.specs.Prelude.{MatchResult}
+use Rattle.std.specs.List.{AllZip}
+use Rattle.lrs_measure.specs.Fraction.{Fraction}
+use Rattle.lrs_measure.specs.Texts.{Name}
+use Rattle.lrs_position.specs.Locating.{Alignment, Locates}
+use Rattle.lrs_position.specs.Readings.{whole}
+use Rattle.lrs_position.specs.Translating.{Expresses, alignment_of, referent_at}
+use Rattle.lrs_position.specs.declared.expression.Expr.{Expr}
+use Rattle.lrs_position.specs.declared.expression.Target.{Target}
+use Rattle.lrs_position.proofs.Answering.{IsSound-from_route}
+use Rattle.lrs_position.proofs.Located.{IsSound, same_expression}
+use Rattle.lrs_machine.specs.Image.{state_of}
+use Rattle.lrs_machine.specs.declared.image.Image.{Image}
+use Rattle.lrs_machine.specs.declared.image.RouteRow.{RouteRow}
+use Rattle.lrs_whereabouts.specs.Answers.{IsPosition, IsThere, UnlessMemory, targets_of}
+use Rattle.lrs_whereabouts.specs.Places.{Place}
+use Rattle.lrs_whereabouts.specs.declared.answer.Whereabouts.{Whereabouts}
+use Rattle.lrs_whereabouts.specs.declared.fault.WhereFault.{WhereFault}
+use Rattle.lrs_promises.proofs.Once.{ok_is_not_err, stands_once}
+
+-- a chainage of a sound route is expressed once by a target
+pub expressed_once : (a : Alignment) (on : Name → Option ℕ) (x : Fraction) (target : Target) (e f : Expr) → IsSound a → Expresses a on x target e → Expresses a on x target f → e ≡ f
+expressed_once a on x target e f sound h g =
+    let n = h.located in
+    let m = g.located in
+    let same : n.0 ≡ m.0 = ap unsigned_abs (sym n.1 ∙ m.1) in
+    same_expression a on e f (m.0, x.den) sound h.lowest g.lowest (h.method ∙ sym g.method) (subst (λ k. Locates a on e (k, x.den)) same n.2) m.2
+
+all_once : {A B : Type 0} (R : A → B → Type 0) → ((x : A) (y z : B) → R x y → R x z → y ≡ z) → (xs : List A) (ys zs : List B) → AllZip R xs ys → AllZip R xs zs → ys ≡ zs
+all_once R one [] [] [] h g = refl
+all_once R one [] [] (z ∷ zs) h g = absurd g
+all_once R one [] (y ∷ ys) zs h g = absurd h
+all_once R one (x ∷ xs) [] zs h g = absurd h
+all_once R one (x ∷ xs) (y ∷ ys) [] h g = absurd g
+all_once R one (x ∷ xs) (y ∷ ys) (z ∷ zs) h g = λ i. one x y z h.0 g.0 i ∷ all_once R one xs ys zs h.1 g.1 i
+
+there_once : (i : Image) (e : RouteRow) (chainage : ℕ) (v w : Whereabouts) → IsThere i e chainage v → IsThere i e chainage w → v ≡ w
+there_once i e chainage v w h g =
+    let route : v.route ≡ w.route = h.on ∙ sym g.on in
+    let found = stands_once (state_of i) (alignment_of e.route) (chainage, 1) v.found w.found h.stands g.stands in
+    let positions = all_once (IsPosition e.route chainage)
+    (λ target x y p q. expressed_once (alignment_of e.route) (referent_at e.route.refs) (whole (pos chainage)) target x y (IsSound-from_route e.route) p q)
+    (targets_of e.route.refs) v.positions w.positions h.by_targets g.by_targets in
+    λ k. record { route = route k; found = found k; positions = positions k }
+
+pub whereabouts_once : (i : Image) (place : Result Place WhereFault) (v w : Whereabouts) → MatchResult place (λ at. UnlessMemory (IsThere i at.0 at.1) (Ok v)) (λ fault. Ok v ≡ Err fault)
+    → MatchResult place (λ at. UnlessMemory (IsThere i at.0 at.1) (Ok w)) (λ fault. Ok w ≡ Err fault) → v ≡ w
+whereabouts_once i (Ok (e, chainage)) v w h g = there_once i e chainage v w h g
+whereabouts_once i (Err fault) v w h g = absurd (ok_is_not_err v fault h)
