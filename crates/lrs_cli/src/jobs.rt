@@ -1,17 +1,28 @@
-//! What is done with an inventory.
+//! What is done with an inventory, in memory or in a file.
 
-ghost use Rattle.std.specs.Prelude.{◌≡◌, false};
-ghost use Rattle.lrs_cli.specs.Jobs.{HasWorked};
+ghost use Rattle.std.specs.Prelude.{◌≡◌, ◌⊎◌, ◌↔◌, false, true, IsTrue};
+ghost use Rattle.sqlite_wal.specs.Files.{image_at};
+ghost use Rattle.lrs_desk.specs.DeskView.{DeskView};
+ghost use Rattle.lrs_cli.specs.Jobs.{EndsInFile, EndsInMemory, EndsJob, EndsTask, EndsWithLog, HasWorked, Looks};
 
+use crate::inventory::{FileKeeper, FileQuestions, NotSeen, open_file, open_to_look};
 use crate::server::do_service;
+use lrs_cli_help::hint_at;
 use lrs_cli_tasks::{
-    Ending, Pace, Shown, Work, do_audit, do_check, do_question, do_records, do_report,
-    open_in_memory,
+    Ending, Pace, ProgramFault, Shown, Task, Work, do_audit, do_check, do_page, do_question,
+    do_records, do_report, is_in_memory, open_in_memory, task_of,
 };
-use lrs_desk::{Desk, Keeper};
+use lrs_cli_words::{BadWord, Job, QuestionFault, new_has_sums};
+use lrs_desk::{Desk, Keeper, Plain};
+use lrs_store::close_files;
+use sqlite::{Start, Unknown};
 use std::alloc::Global;
+use std::fs;
 use std::net::Net;
 use std::rt::Runtime;
+
+// A file of so many bytes takes about a second to open.
+const LONG_BYTES: u64 = 4_000_000;
 
 /// Does what a job asks for at a desk, whatever keeps the inventory, and prints what is said to it. The replies to a
 /// sheet in a file go out at the pace `of_file`.
@@ -41,9 +52,182 @@ pub fn do_work<R: Runtime<A = Global> + Net, K: Keeper>(
 }
 
 /// Does work in a fresh inventory in memory.
-pub fn do_in_memory<R: Runtime<A = Global> + Net>(rt: &R, work: Work<'_>, shown: Shown) -> Ending {
+pub fn do_in_memory<R: Runtime<A = Global> + Net>(rt: &R, work: Work<'_>, shown: Shown) -> Ending
+    ensures { EndsInMemory ⟦<Plain as Keeper>⟧.may_hold work.entry result }
+{
     match open_in_memory(rt.alloc()) {
         Ok(mut desk) => do_work(rt, &mut desk, work, Pace::InPieces, shown),
         Err(fault) => Ending::Stopped(fault),
+    }
+}
+
+// Says on a terminal that a file is opened, where it is so long that this takes a while.
+fn tell_opening(rt: &HostRuntime, path: &str, shown: Shown) -> bool {
+    if shown == Shown::Nowhere {
+        return false;
+    }
+    match fs::metadata(rt, path) {
+        Ok(found) if LONG_BYTES <= found.len() => {
+            let megabytes = found.len() / 1_000_000;
+            let _ = eprint!(rt; "opening {path}, {megabytes} MB");
+            true
+        }
+        _ => false,
+    }
+}
+
+// Takes that line away, where it was said.
+fn clear_opening(rt: &HostRuntime, was_said: bool) {
+    if was_said {
+        let _ = eprint!(rt; "\r\x1b[K");
+    }
+}
+
+// Does work in the inventory of a file, which is closed afterwards. Where it cannot be closed, its log still has
+// what was committed. Each reply goes out once its record is committed.
+fn do_with_log(
+    rt: &HostRuntime,
+    path: &str,
+    new_has_sums: bool,
+    work: Work<'_>,
+    shown: Shown,
+) -> Ending
+    ensures { EndsWithLog ⟦<FileKeeper as Keeper>⟧.may_hold work.entry result }
+{
+    let was_said = tell_opening(rt, path, shown);
+    let opened = open_file(rt, path, new_has_sums);
+    clear_opening(rt, was_said);
+    let mut desk = match opened {
+        Ok(desk) => desk,
+        Err(fault) => return Ending::Stopped(fault),
+    };
+    let ending = do_work(rt, &mut desk, work, Pace::InGroups, shown);
+    drop(close_files(desk.into_keeper().into_inner()));
+    ending
+}
+
+// Does work at a desk, which is then let go with what it keeps.
+fn do_at<K: Keeper + Drop>(
+    rt: &HostRuntime,
+    mut desk: Desk<K>,
+    work: Work<'_>,
+    shown: Shown,
+) -> Ending
+    requires behind { desk.is_ahead ≡ false }
+    ensures { (after : DeskView K) × HasWorked K.may_hold work.entry desk after result }
+{
+    do_work(rt, &mut desk, work, Pace::InGroups, shown)
+}
+
+// Whether work is a question or a report.
+fn looks(work: &Work<'_>) -> bool
+    ensures { IsTrue result ↔ Looks work.now }
+{
+    matches!(work, Work::Question(_) | Work::Report(_))
+}
+
+// Does work in the inventory of a file. What only looks is answered without a connection, where that opening takes the
+// file.
+fn do_in_file(
+    rt: &HostRuntime,
+    path: &str,
+    new_has_sums: bool,
+    work: Work<'_>,
+    shown: Shown,
+) -> Ending
+    ensures { EndsInFile ⟦<Plain as Keeper>⟧.may_hold ⟦<FileKeeper as Keeper>⟧.may_hold
+        ⟦<FileQuestions as Keeper>⟧.may_hold (image_at ⟦<Unknown as Start>⟧) work.entry result }
+{
+    if !looks(&work) {
+        return do_with_log(rt, path, new_has_sums, work, shown);
+    }
+    let was_said = tell_opening(rt, path, shown);
+    let opened = open_to_look(rt, path);
+    clear_opening(rt, was_said);
+    match opened {
+        Ok(desk) => do_at(rt, desk, work, shown),
+        Err(NotSeen::Left) => do_with_log(rt, path, new_has_sums, work, shown),
+        Err(NotSeen::Stopped(fault)) => Ending::Stopped(fault),
+    }
+}
+
+// Whether something is at a path. Where that is not known, opening it tells why.
+fn is_there(rt: &HostRuntime, path: &str) -> bool {
+    match fs::exists(rt, path) {
+        Ok(exists) => exists,
+        Err(_) => true,
+    }
+}
+
+// Whether neither the file of an inventory nor its log is there.
+fn is_new(rt: &HostRuntime, path: &str) -> bool {
+    match format!(in rt.alloc(); "{path}-wal") {
+        Ok(log) => !is_there(rt, path) && !is_there(rt, log.as_str()),
+        Err(_) => false,
+    }
+}
+
+// Does work in the inventory of a file. What only looks makes no file: a check looks at a fresh inventory then, and a
+// report or an audit has none. Nor is one made where it has to be there.
+fn do_at_path(
+    rt: &HostRuntime,
+    path: &str,
+    new_has_sums: bool,
+    existing: bool,
+    work: Work<'_>,
+    shown: Shown,
+) -> Ending
+    ensures { EndsInFile ⟦<Plain as Keeper>⟧.may_hold ⟦<FileKeeper as Keeper>⟧.may_hold
+        ⟦<FileQuestions as Keeper>⟧.may_hold (image_at ⟦<Unknown as Start>⟧) work.entry result }
+{
+    let wants_file = existing || matches!(work, Work::Report(_) | Work::Audit);
+    if wants_file && is_new(rt, path) {
+        return Ending::Stopped(ProgramFault::Open);
+    }
+    if matches!(work, Work::Check { .. }) && is_new(rt, path) {
+        return do_in_memory(rt, work, shown);
+    }
+    do_in_file(rt, path, new_has_sums, work, shown)
+}
+
+// Does a task: writes the page, or works in the inventory that it names.
+fn do_task(
+    rt: &HostRuntime,
+    task: Task<'_>,
+    new_has_sums: bool,
+    existing: bool,
+    shown: Shown,
+) -> Ending
+    ensures { EndsTask ⟦<Plain as Keeper>⟧.may_hold ⟦<FileKeeper as Keeper>⟧.may_hold
+        ⟦<FileQuestions as Keeper>⟧.may_hold (image_at ⟦<Unknown as Start>⟧) task.entry result }
+{
+    match task {
+        Task::Page { dir } => do_page(rt, dir),
+        Task::Inventory { db, work } => {
+            if is_in_memory(db) {
+                return do_in_memory(rt, work, shown);
+            }
+            do_at_path(rt, db, new_has_sums, existing, work, shown)
+        }
+    }
+}
+
+// Says what was given for a word that cannot be read.
+fn refuse_word(rt: &HostRuntime, job: &Job<'_>, word: BadWord) -> Ending
+    ensures { result ≡ Ending.Unreadable word }
+{
+    hint_at(rt, job, word);
+    Ending::Unreadable(word)
+}
+
+/// Reads the words of a job, and then opens its inventory, if it has one. With `existing` no file is made.
+pub fn do_job(rt: &HostRuntime, job: &Job<'_>, existing: bool, shown: Shown) -> Ending
+    ensures { EndsJob ⟦<Plain as Keeper>⟧.may_hold ⟦<FileKeeper as Keeper>⟧.may_hold
+        ⟦<FileQuestions as Keeper>⟧.may_hold (image_at ⟦<Unknown as Start>⟧) job.now result }
+{
+    match task_of(rt.alloc(), job) {
+        Ok(task) => do_task(rt, task, new_has_sums(job), existing, shown),
+        Err(QuestionFault::Unreadable(word)) => refuse_word(rt, job, word),
+        Err(QuestionFault::Memory) => Ending::Stopped(ProgramFault::Memory),
     }
 }

@@ -2,6 +2,10 @@
 #![tactic(auto)]
 
 #[cfg(test)]
+mod calls;
+#[cfg(test)]
+mod equality;
+#[cfg(test)]
 mod failure;
 #[cfg(test)]
 mod limits;

@@ -1,11 +1,12 @@
 //! A sheet over an inventory that may hold few edits and routes: the program's own limits are beyond a test's time.
 
-use lrs_desk::{Desk, Plain};
+use crate::calls::{self, opened, shut};
+use crate::equality::{is_tally, is_text};
+use lrs_desk::{Desk, Keeper, Plain};
 use lrs_machine::Limits;
-use lrs_sheet::{Sheet, SheetFault, Tally, run_edits, run_sheet, run_survey};
-use std::alloc::Global;
+use lrs_sheet::{SheetFault, Tally, run_edits, run_survey};
+use std::alloc::{AllocGlobal, Global};
 use std::process::Abort;
-use std::test::Fail;
 
 const FEW: Limits = Limits {
     routes: 1,
@@ -25,61 +26,70 @@ const SURVEY: &str =
 
 const SURVEY_REPLY: &str = "t9,refused,TooMany:edits\n";
 
-/// Does a sheet record by record: how that ends, and what is written.
-fn done_one_by_one(
+/// Does the sheet, record by record or ten records together.
+fn sheet_done<K: Keeper>(
     alloc: Global,
-    sheet: &[u8],
-    desk: &mut Desk<Plain>,
-) -> (Result<Tally, SheetFault>, Vec<u8>) {
-    let mut written = Vec::new(alloc);
-    let ended = run_edits(alloc, sheet, &mut written, desk);
-    (ended, written)
+    together: bool,
+    written: &mut Vec<u8>,
+    desk: &mut Desk<K>,
+) -> Result<Tally, SheetFault> {
+    if together {
+        return calls::done(alloc, SHEET.as_bytes(), 10, written, desk);
+    }
+    run_edits(alloc, SHEET.as_bytes(), written, desk)
 }
 
-/// Does a sheet, ten records together: how that ends, and what is written.
-fn done_together(
-    alloc: Global,
-    sheet: &[u8],
-    desk: &mut Desk<Plain>,
-) -> (Result<Tally, SheetFault>, Vec<u8>) {
-    let mut written = Vec::new(alloc);
-    let ended = run_sheet(alloc, Sheet::Edits, 10, sheet, &mut written, desk);
-    (ended, written)
-}
-
-/// Does the sheet, and then the survey.
-fn no_more_is_taken(rt: &(impl Abort + Print + AllocGlobal), together: bool) -> Result<(), Fail> {
-    let alloc = rt.alloc();
-    let Ok(mut desk) = Desk::open(Plain::empty(alloc), FEW, alloc) else {
-        return Err(Fail::from("no desk"));
-    };
-    let (result, written) = if together {
-        done_together(alloc, SHEET.as_bytes(), &mut desk)
-    } else {
-        done_one_by_one(alloc, SHEET.as_bytes(), &mut desk)
-    };
-    assert_eq!(rt; written.as_slice(), REPLIES.as_bytes());
+/// The sheet has its replies.
+fn sheet_is_replied<K: Keeper>(
+    rt: &(impl Abort + AllocGlobal),
+    together: bool,
+    desk: &mut Desk<K>,
+) {
+    let mut written = Vec::new(rt.alloc());
+    let ended = sheet_done(rt.alloc(), together, &mut written, desk);
+    is_text(rt, &written, REPLIES);
     let tally = Tally {
         done: 6,
         again: 1,
         refused: 9,
     };
-    assert_eq!(rt; result, Ok(tally));
-    let mut replied = Vec::new(alloc);
-    let surveyed = run_survey(alloc, SURVEY.as_bytes(), &mut replied, &mut desk);
-    assert_eq!(rt; replied.as_slice(), SURVEY_REPLY.as_bytes());
-    let none_done = Tally {
+    is_tally(rt, ended, tally);
+}
+
+/// Does the survey.
+fn survey_done<K: Keeper>(
+    alloc: Global,
+    written: &mut Vec<u8>,
+    desk: &mut Desk<K>,
+) -> Result<Tally, SheetFault> {
+    run_survey(alloc, SURVEY.as_bytes(), written, desk)
+}
+
+/// The survey has its reply.
+fn survey_is_replied<K: Keeper>(rt: &(impl Abort + AllocGlobal), desk: &mut Desk<K>) {
+    let mut written = Vec::new(rt.alloc());
+    let ended = survey_done(rt.alloc(), &mut written, desk);
+    is_text(rt, &written, SURVEY_REPLY);
+    let tally = Tally {
         done: 0,
         again: 0,
         refused: 1,
     };
-    assert_eq!(rt; surveyed, Ok(none_done));
-    Ok(())
+    is_tally(rt, ended, tally);
+}
+
+/// Does the sheet, and then the survey.
+fn no_more_is_taken<K: Keeper + Drop>(rt: &(impl Abort + AllocGlobal), keeper: K, together: bool) {
+    let mut desk = opened(keeper, FEW, rt.alloc()).expect(rt, "a desk");
+    sheet_is_replied(rt, together, &mut desk);
+    survey_is_replied(rt, &mut desk);
+    shut(desk);
 }
 
 // One record at a time, and together, where groups end at refusals.
 #[test]
-fn a_full_inventory_takes_no_more(rt: HostRuntime) -> Result<(), Fail> {
-    no_more_is_taken(&rt, false)?;
-    no_more_is_taken(&rt, true)
+fn a_full_inventory_takes_no_more(rt: HostRuntime) {
+    let alloc = rt.alloc();
+    no_more_is_taken(&rt, Plain::empty(alloc), false);
+    no_more_is_taken(&rt, Plain::empty(alloc), true);
 }

@@ -5,10 +5,12 @@
 
 ghost use Rattle.std.specs.Prelude.{◌≤◌};
 
-use lrs_desk::{Desk, Plain};
+use crate::calls::{self, opened, shut};
+use crate::equality::is_number;
+use lrs_desk::{Desk, Keeper, Plain};
 use lrs_machine::Limits;
-use lrs_sheet::{Sheet, SheetFault, Tally, run_sheet};
-use std::alloc::Global;
+use lrs_sheet::{SheetFault, Tally};
+use std::alloc::{AllocGlobal, Global};
 use std::process::Abort;
 
 /// The sheet.
@@ -22,74 +24,86 @@ fn refused(rt: &impl Print, call: &str) {
     let _ = println!(rt; "refused: {call}");
 }
 
-/// A desk over an inventory without entries, which is asked for once more where that was refused.
-fn open(rt: &(impl Abort + Print + AllocGlobal)) -> Desk<Plain> {
-    let alloc = rt.alloc();
-    if let Ok(desk) = Desk::open(Plain::empty(alloc), Limits::full(), alloc) {
-        return desk;
-    }
-    refused(rt, "Desk::open");
-    match Desk::open(Plain::empty(alloc), Limits::full(), alloc) {
+/// A desk over the first keeper, or over the second where the opening of that was refused a growth.
+fn open<K: Keeper + Drop>(rt: &(impl Abort + Print + AllocGlobal), first: K, second: K) -> Desk<K> {
+    match opened(first, Limits::full(), rt.alloc()) {
         Ok(desk) => desk,
-        Err((fault, _)) => panic!(rt; "{fault:?}"),
+        Err(_) => {
+            refused(rt, "Desk::open");
+            opened(second, Limits::full(), rt.alloc()).expect(rt, "a desk")
+        }
     }
 }
 
-/// Runs a sheet at a desk, this many records together.
-fn run(
-    alloc: Global,
-    sheet: &str,
-    together: usize,
-    desk: &mut Desk<Plain>,
-) -> Result<Tally, SheetFault>
+/// Does the sheet at a desk, this many records together.
+fn run<K: Keeper>(alloc: Global, together: usize, desk: &mut Desk<K>) -> Result<Tally, SheetFault>
     requires { 1 ≤ together }
 {
     let mut written = Vec::new(alloc);
-    run_sheet(
-        alloc,
-        Sheet::Edits,
-        together,
-        sheet.as_bytes(),
-        &mut written,
-        desk,
-    )
+    calls::done(alloc, SHEET.as_bytes(), together, &mut written, desk)
 }
 
-/// Does the sheet of all verbs, this many records together.
-fn all_verbs_are_done(rt: &(impl Abort + Print + AllocGlobal), together: usize)
+/// Does the sheet, once more where that was refused a growth.
+fn ended<K: Keeper>(
+    rt: &(impl Abort + Print + AllocGlobal),
+    together: usize,
+    desk: &mut Desk<K>,
+) -> Result<Tally, SheetFault>
     requires { 1 ≤ together }
 {
-    let alloc = rt.alloc();
-    let mut desk = open(rt);
-    let mut ended = run(alloc, SHEET, together, &mut desk);
-    if ended.is_err() {
-        refused(rt, "run_sheet");
-        ended = run(alloc, SHEET, together, &mut desk);
+    match run(rt.alloc(), together, desk) {
+        Ok(tally) => Ok(tally),
+        Err(_) => {
+            refused(rt, "run_sheet");
+            run(rt.alloc(), together, desk)
+        }
     }
+}
+
+/// Each record was done, at the last or the first time, and none was refused.
+fn are_done(rt: &impl Abort, ended: Result<Tally, SheetFault>) {
     match ended {
         Ok(tally) => {
-            assert_eq!(rt; tally.refused, 0);
-            assert_eq!(rt; tally.done.saturating_add(tally.again), RECORDS);
+            is_number(rt, tally.refused, 0);
+            is_number(rt, tally.done.saturating_add(tally.again), RECORDS);
         }
         Err(_) => panic!(rt; "the sheet does not end"),
     }
+}
+
+/// The inventory has what the sheet leaves.
+fn has_counts<K: Keeper>(rt: &impl Abort, desk: &Desk<K>) {
     let inventory = desk.inventory();
-    let counts = (
-        inventory.links(),
-        inventory.classes(),
-        inventory.assets(),
-        inventory.routes(),
-        inventory.edits(),
-    );
-    assert_eq!(rt; counts, (3, 3, 4, 0, RECORDS));
+    is_number(rt, inventory.links(), 3);
+    is_number(rt, inventory.classes(), 3);
+    is_number(rt, inventory.assets(), 4);
+    is_number(rt, inventory.routes(), 0);
+    is_number(rt, inventory.edits(), RECORDS);
+}
+
+/// Does the sheet of all verbs, this many records together, at a desk over one of the keepers, which hold nothing.
+fn all_verbs_are_done<K: Keeper + Drop>(
+    rt: &(impl Abort + Print + AllocGlobal),
+    first: K,
+    second: K,
+    together: usize,
+)
+    requires { 1 ≤ together }
+{
+    let mut desk = open(rt, first, second);
+    are_done(rt, ended(rt, together, &mut desk));
+    has_counts(rt, &desk);
+    shut(desk);
 }
 
 #[test]
 fn a_sheet_of_all_verbs_is_done_one_by_one(rt: HostRuntime) {
-    all_verbs_are_done(&rt, 1);
+    let alloc = rt.alloc();
+    all_verbs_are_done(&rt, Plain::empty(alloc), Plain::empty(alloc), 1);
 }
 
 #[test]
 fn a_sheet_of_all_verbs_is_done_together(rt: HostRuntime) {
-    all_verbs_are_done(&rt, 10);
+    let alloc = rt.alloc();
+    all_verbs_are_done(&rt, Plain::empty(alloc), Plain::empty(alloc), 10);
 }
