@@ -2,8 +2,8 @@
 
     python3 bench/files.py [RECORDS] [--disk FOLDER] [--runs N] [--without-postgres] [--page BYTES]
 
-A sheet of 15,000 accepted records over 50 routes, each of which enters an asset, is done by the program over a file
-on tmpfs, over a file on a disk and in memory; by Python's sqlite3, which writes the same rows into the same tables in
+A sheet of 15,000 accepted records over 50 routes, each of which enters an asset, is done by the program over a file,
+from a file and through a pipe, on tmpfs, over a file on a disk and in memory; by Python's sqlite3, which writes the same rows into the same tables in
 one transaction a record, and in one for 256 records as the program does (WAL, synchronous FULL), and tests nothing; and by PostgreSQL 15 with an exclusion constraint,
 one call of a function and one commit a record. They take turns; a line has the seconds of the fastest of the
 runs, without those of a sheet that only makes the routes, and records a second. Before and after the runs on a disk
@@ -101,9 +101,9 @@ def make_empty(path, page):
 class Roadlrs:
     """The program over a file in a folder, or in memory."""
 
-    def __init__(self, program, sheets, folder=None, page=None):
-        self.program, self.sheets, self.folder, self.page = program, sheets, folder, page
-        self.name = "roadlrs"
+    def __init__(self, program, sheets, folder=None, page=None, through_pipe=False):
+        self.program, self.sheets, self.folder, self.page, self.through_pipe = program, sheets, folder, page, through_pipe
+        self.name = "roadlrs, through a pipe" if through_pipe else "roadlrs"
 
     def seconds(self, count, trace=None):
         """The seconds of a run over a new store."""
@@ -111,9 +111,12 @@ class Roadlrs:
             store = ":memory:" if self.folder is None else f"{name}/roads.db"
             if self.folder is not None:
                 make_empty(store, self.page)
-            words = [self.program, "edit", store, self.sheets[count]]
+            sheet = self.sheets[count]
+            words = [self.program, "edit", store, "stdin" if self.through_pipe else sheet]
             started = time.monotonic()
-            done = subprocess.run([*(trace or []), *words], stdout=subprocess.PIPE, check=False)
+            with subprocess.Popen(["cat", sheet], stdout=subprocess.PIPE) as cat:
+                done = subprocess.run([*(trace or []), *words], stdin=cat.stdout if self.through_pipe else subprocess.DEVNULL, stdout=subprocess.PIPE, check=False)
+                cat.stdout.close()
             spent = time.monotonic() - started
         accepted = done.stdout.count(b",done,")
         if done.returncode != 0 or accepted != 2 * ROUTES + 1 + count:
@@ -247,7 +250,7 @@ def measure(where, stores, count, runs):
 
 
 def over_folder(where, folder, program, sheets, given):
-    stores = [Roadlrs(program, sheets, folder, given.page), Sqlite(folder, given.page), Sqlite(folder, given.page, 256)]
+    stores = [Roadlrs(program, sheets, folder, given.page), Roadlrs(program, sheets, folder, given.page, through_pipe=True), Sqlite(folder, given.page), Sqlite(folder, given.page, 256)]
     postgres = None if given.without_postgres else Postgres(folder)
     try:
         measure(where, [*stores, *([postgres] if postgres else [])], given.records, given.runs)

@@ -15,7 +15,7 @@ import believed
 CRATES = TOP / "crates"
 README = TOP / "README.md"
 MAP = TOP / "docs" / "MAP.md"
-MOST_CRATES = 57
+MOST_CRATES = 60
 
 # Crates of laws, of examples and of tests: their functions state what holds, and most of them have no body.
 STATING = re.compile(r"lrs_\w+_laws|lrs_\w+_tests|lrs_machine_stops|lrs_examples")

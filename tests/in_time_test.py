@@ -1,4 +1,4 @@
-"""Each reply line goes out before the next record is read: whoever sends records one by one can wait for each reply."""
+"""Each reply line goes out before the program waits for more of the sheet: whoever sends records one by one can wait for each reply."""
 
 import os
 import pathlib
@@ -7,15 +7,18 @@ import select
 import subprocess
 import tempfile
 
+import pytest
+
 from program import HEADER, PATIENCE, PROGRAM
+from stores import folder, rows_of
 
 SURVEY_HEADER = b"key,asset,class,route,side,method,from,to,value,offset\n"
 
 
-def line_from(stream):
-    """The next line of a stream, of which nothing behind it has come yet."""
+def line_from(stream, count=1):
+    """The next lines of a stream, of which nothing behind them has come yet."""
     line = b""
-    while not line.endswith(b"\n"):
+    while line.count(b"\n") < count or not line.endswith(b"\n"):
         ready, _, _ = select.select([stream], [], [], PATIENCE)
         assert ready, f"no reply came after {line!r}"
         piece = os.read(stream, 65536)
@@ -35,7 +38,8 @@ def answers_each(words, header, exchanges, given, to, replies):
         os.write(to, header)
         for sent, expected in exchanges:
             os.write(to, sent)
-            assert line_from(replies[0]) == expected
+            if expected:
+                assert line_from(replies[0], expected.count(b"\n")) == expected
         os.close(to)
         return program.wait(PATIENCE)
     finally:
@@ -51,6 +55,31 @@ def links(count=10):
 def test_a_pipe_is_answered_record_by_record():
     given, to = os.pipe()
     assert answers_each(["edit", ":memory:", "stdin"], HEADER, links(), given, to, os.pipe()) == 0
+
+
+def done(*numbers):
+    return b"".join(b"k%d,done,%d\n" % (n, n) for n in numbers)
+
+
+# What is sent, and the lines that have to come before anything else is sent.
+PIECES = {
+    "each record": links(),
+    "records behind empty lines": [(b"\n\r\n" + sent + b"\n\n", line) for sent, line in links()],
+    "lines that end in two bytes": [(sent.replace(b"\n", b"\r\n"), line) for sent, line in links()],
+    "a quoted field": [(b'"k1",link,1,5,,,,,,,\nk2,link,2,5,,,,,,,\nk3,li', done(1, 2)), (b"nk,3,5,,,,,,,\n", done(3))],
+    "two records and a half": [(b"k1,link,1,5,,,,,,,\nk2,link,2,5,,,,,,,\nk3,link,3,", done(1, 2)), (b"5,,,,,,,\n", done(3))],
+    "half a record": [(b"k1,link", b""), (b",1,5,,,,,", b""), (b",,\n", done(1))],
+    "many records": [(b"".join(b"k%d,link,%d,5,,,,,,,\n" % (n, n) for n in range(1, 1_001)), done(*range(1, 1_001))), (b"x1,link,1,5,,,,,,,\n", b"x1,refused,LinkKnown\n")],
+}
+
+
+@pytest.mark.parametrize("name", PIECES)
+def test_a_pipe_into_a_file_is_answered_as_its_records_arrive(name):
+    with folder() as path:
+        given, to = os.pipe()
+        assert answers_each(["edit", str(path), "stdin"], HEADER, PIECES[name], given, to, os.pipe()) == (1 if name == "many records" else 0)
+        count = sum(line.count(b",done,") for _, line in PIECES[name])
+        assert rows_of(path)["link"] == [(n, 5) for n in range(1, count + 1)]
 
 
 def test_a_survey_through_a_pipe_is_answered_record_by_record():

@@ -93,8 +93,9 @@ class Running:
         self.end()
 
 
-def test_killed_at_random_moments():
-    """Each time every acknowledged record is answered `again` with its number, and the tables at the end are those of a run that nobody stopped."""
+@pytest.mark.parametrize("header, in_flight", [(HEADER, 256), (HEADER.replace(b"key", b'"key"'), 1)])
+def test_killed_at_random_moments(header, in_flight):
+    """Records that have arrived are kept together; behind a quote they are done one by one. Each time every acknowledged record is answered `again` with its number, and the tables at the end are those of a run that nobody stopped."""
     records = long_records(2_000)
     done, again = replies_of(records), replies_of(records, "again")
     drawn = random.Random(11)
@@ -103,7 +104,7 @@ def test_killed_at_random_moments():
         acknowledged = 0
         for stop in range(50):
             running = Running(path)
-            feeder = threading.Thread(target=running.feed, args=([HEADER, *records],))
+            feeder = threading.Thread(target=running.feed, args=([header, *records],))
             feeder.start()
             running.waits_for(min(acknowledged + drawn.randrange(0, 80), len(records)))
             time.sleep(drawn.random() * 0.003)
@@ -111,9 +112,11 @@ def test_killed_at_random_moments():
             feeder.join()
             answered = running.answered
             assert answered[:acknowledged] == again[: min(acknowledged, len(answered))], stop
-            # the one that was on its way may have been done
+            # those that were on their way may have been done, all of a group or none
             fresh = answered[acknowledged:]
-            assert all(line in (done[n], again[n] if n == acknowledged else None) for n, line in enumerate(fresh, acknowledged)), (stop, fresh[:2])
+            kept = sum(line == again[n] for n, line in enumerate(fresh, acknowledged))
+            assert kept <= in_flight, (stop, kept)
+            assert fresh == again[acknowledged : acknowledged + kept] + done[acknowledged + kept : len(answered)], (stop, fresh[:2])
             acknowledged = max(acknowledged, len(answered))
         assert acknowledged > 0
         ended = edit(path, HEADER + b"".join(records))

@@ -388,7 +388,8 @@ def test_each_request_has_a_line(tmp_path):
     with log.open("wb") as errors, subprocess.Popen([PROGRAM, "serve", ":memory:", str(port), "2", "--log"], stdout=subprocess.PIPE, stderr=errors) as child:
         assert child.stdout.readline() == b"listening %d\n" % port
         assert (totals(port)[0], asked(port, "POST", "/v1/edits", FIRST)[0]) == (200, 200)
-    first, second = log.read_text().splitlines()
+    first, second, end = log.read_text().splitlines()
+    assert end == "served 2 in full, 0 cut off"
     for line, words in [(first, ["GET", "/v1/totals", "200"]), (second, ["POST", "/v1/edits", "200"])]:
         assert set(words) <= set(line.split()), line
 

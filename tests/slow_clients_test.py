@@ -342,7 +342,9 @@ def test_each_request_has_a_line_where_that_is_asked_for():
             assert rest_of(stream) == b""
         written, logged, status = server.end()
     assert (written, status) == (b"", 0)
-    rows = [LINE.fullmatch(line).groups() for line in logged.splitlines(keepends=True)]
+    *logged, end = logged.splitlines(keepends=True)
+    assert end == b"served 5 in full, 1 cut off\n"
+    rows = [LINE.fullmatch(line).groups() for line in logged]
     now = time.time()
     for at, *_ in rows:
         assert abs(now - time.mktime(time.strptime(at.decode(), "%Y-%m-%dT%H:%M:%SZ")) + time.timezone) < 60

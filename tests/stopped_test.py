@@ -58,9 +58,16 @@ def in_group(answered, expected):
     return accepted.index(False) + 1 if False in accepted else len(rest)
 
 
+def quoted(sheet):
+    """The same sheet, with a quote in its header: its records are done one by one, since more of a quoted field may come."""
+    return sheet.replace(b"key,", b'"key",', 1)
+
+
 @pytest.mark.parametrize("by", ENDS)
-def test_a_sheet_is_stopped_at_each_change(by):
+@pytest.mark.parametrize("one_by_one", [True, False])
+def test_a_sheet_is_stopped_at_each_change(by, one_by_one):
     """From a new file on: links, classes, a route, a speed limit, a split and a join."""
+    given = quoted(SHEET) if one_by_one else SHEET
     with tempfile.TemporaryDirectory() as folder:
         top = pathlib.Path(folder)
         expected = REPLIES.splitlines(keepends=True)
@@ -69,13 +76,14 @@ def test_a_sheet_is_stopped_at_each_change(by):
 
         def test(stop):
             path = top / f"{stop.number}.db"
-            ended = stop.run(BUILT, "edit", path, "stdin", given=SHEET)
+            ended = stop.run(BUILT, "edit", path, "stdin", given=given)
             assert ended.status == (137 if stop.was_reached else 0), (stop.number, ended)
-            goes_on(path, SHEET, acknowledged(ended), expected, stop.number, 1)
+            answered = acknowledged(ended)
+            goes_on(path, SHEET, answered, expected, stop.number, 1 if one_by_one else in_group(answered, expected))
             assert rows_of(path) == wanted, stop.number
             is_whole(path)
 
-        assert with_each_refused(by, test, what=Stop) > 50
+        assert with_each_refused(by, test, what=Stop) > (50 if one_by_one else 10)
 
 
 @pytest.mark.parametrize("by", ENDS)
