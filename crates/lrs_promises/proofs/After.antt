@@ -1,5 +1,5 @@
 -- Whatever ends a sheet or a request, commands were done in order.
-use Rattle.std.proofs.Common.{◌≡◌, ◌⊎◌, inl, inr, ℕ, true, false, List, [], ◌++◌, take, Option, Some, Result, Ok, Err, sym, ap, subst, ◌∙◌}
+use Rattle.std.proofs.Common.{◌≡◌, ◌⊎◌, inl, inr, ℕ, Bool, true, false, List, [], ◌++◌, take, Option, Some, Result, Ok, Err, sym, ap, subst, ◌∙◌}
 use Rattle.lrs_machine.specs.Image.{state_of}
 use Rattle.lrs_machine.specs.Lines.{Text}
 use Rattle.lrs_machine.specs.Machine.{state_after}
@@ -55,10 +55,10 @@ runs_after passed sheet together limits input before after old new (Err (fault.D
 runs_after passed sheet together limits input before after old new (Err (fault.Desk stop.MustReopen)) (header, records, further, replies, is, begins, next, done) = replied_after sheet limits before after records replies done.replied
 runs_after passed sheet together limits input before after old new (Err (fault.Desk stop.Keep)) h = failed_after passed sheet together limits input before after old new h
 
-resumes_after : (sheet : Sheet) (together : ℕ) (limits : Limits) (input : Text) (before after : State) (old new : Option Text) (ended : Result Tally SheetFault)
-    → Resumes sheet together limits input before after old new ended → IsAfterCommands limits before after
-resumes_after sheet together limits input before after old new ended (inl h) = none_after limits before after (not_begun before after old new ended h)
-resumes_after sheet together limits input before after old new ended (inr (d, passed, is, runs)) = runs_after passed sheet together limits input before after old new ended runs
+resumes_after : (must_reopen : Bool) (sheet : Sheet) (together : ℕ) (limits : Limits) (input : Text) (before after : State) (old new : Option Text) (ended : Result Tally SheetFault)
+    → Resumes must_reopen sheet together limits input before after old new ended → IsAfterCommands limits before after
+resumes_after must_reopen sheet together limits input before after old new ended (inl h) = none_after limits before after (not_begun must_reopen before after old new ended h)
+resumes_after must_reopen sheet together limits input before after old new ended (inr (d, passed, is, runs)) = runs_after passed sheet together limits input before after old new ended runs
 
 module _ {K : Type 0} (holds : K → Result Image Table → Type 0) (old new : DeskView K) where
   same_after : new ≡ old → IsAfterCommands old.limits (state_of old.image) (state_of new.image)
@@ -72,4 +72,4 @@ module _ {K : Type 0} (holds : K → Result Image Table → Type 0) (old new : D
   does_after (posted resource false body) answer (ended, lines, run, is) =
       runs_after [] (sheet_at resource) records_together old.limits body (state_of old.image) (state_of new.image) (Some []) (Some lines) ended run.runs
   does_after (posted resource true body) answer (ended, lines, run, is) =
-      resumes_after (sheet_at resource) records_together old.limits body (state_of old.image) (state_of new.image) (Some []) (Some lines) ended run.runs
+      resumes_after old.must_reopen (sheet_at resource) records_together old.limits body (state_of old.image) (state_of new.image) (Some []) (Some lines) ended run.runs

@@ -1,5 +1,5 @@
 -- Which commands calls give, and that they make the state.
-use Rattle.std.proofs.Common.{◌≡◌, inl, inr, ℕ, ◌+◌, ◌<◌, true, false, List, [], ◌∷◌, ◌++◌, length, take, get_or, Option, Some, Result, Ok, Err, refl, sym, ap, subst, ◌∙◌}
+use Rattle.std.proofs.Common.{◌≡◌, inl, inr, ℕ, ◌+◌, ◌<◌, Bool, true, false, List, [], ◌∷◌, ◌++◌, length, take, get_or, Option, Some, Result, Ok, Err, refl, sym, ap, subst, ◌∙◌}
 use Rattle.std.proofs.lemmas.Bool.{false≢true}
 use Rattle.std.proofs.lemmas.List.{take_more}
 use Rattle.lrs_machine.specs.Image.{state_of}
@@ -76,16 +76,26 @@ sheet_gave passed sheet together limits input before after old new (Err fault.Wr
 sheet_gave passed sheet together limits input before after old new (Err fault.Memory) d h = absurd (false≢true d)
 sheet_gave passed sheet together limits input before after old new (Err (fault.Desk e)) d h = absurd (false≢true d)
 
-pub not_begun : (before after : State) (old new : Option Text) (ended : Result Tally SheetFault) → IsNotBegun before after old new ended → after ≡ before
-not_begun before after old new (Ok tally) h = absurd h
-not_begun before after old new (Err e) h = h.0
+pub not_begun : (must_reopen : Bool) (before after : State) (old new : Option Text) (ended : Result Tally SheetFault) → IsNotBegun must_reopen before after old new ended → after ≡ before
+not_begun must_reopen before after old new (Ok tally) h = absurd h
+not_begun must_reopen before after old new (Err e) h = h.1
 
-rest_gave : (sheet : Sheet) (together : ℕ) (limits : Limits) (input : Text) (before after : State) (old new : Option Text) (ended : Result Tally SheetFault)
-    → is_decided ended ≡ true → Resumes sheet together limits input before after old new ended → Gave limits (GivesRest sheet input before) before after
-rest_gave sheet together limits input before after old new ended d (inl h) = none_given limits (GivesRest sheet input before) before after (inl refl) (not_begun before after old new ended h)
-rest_gave sheet together limits input before after old new ended d (inr (decided, passed, is, runs)) =
+-- a sheet that is not begun is not decided
+undecided : (must_reopen : Bool) (before after : State) (old new : Option Text) (ended : Result Tally SheetFault) → is_decided ended ≡ true → IsNotBegun must_reopen before after old new ended → ⊥
+undecided must_reopen before after old new (Ok tally) d h = h
+undecided must_reopen before after old new (Err fault.BadHeader) d h = h.0
+undecided must_reopen before after old new (Err fault.BadCsv) d h = h.0
+undecided must_reopen before after old new (Err fault.Read) d h = false≢true d
+undecided must_reopen before after old new (Err fault.Write) d h = false≢true d
+undecided must_reopen before after old new (Err fault.Memory) d h = false≢true d
+undecided must_reopen before after old new (Err (fault.Desk e)) d h = false≢true d
+
+rest_gave : (must_reopen : Bool) (sheet : Sheet) (together : ℕ) (limits : Limits) (input : Text) (before after : State) (old new : Option Text) (ended : Result Tally SheetFault)
+    → is_decided ended ≡ true → Resumes must_reopen sheet together limits input before after old new ended → Gave limits (GivesRest sheet input before) before after
+rest_gave must_reopen sheet together limits input before after old new ended d (inl h) = absurd (undecided must_reopen before after old new ended d h)
+rest_gave must_reopen sheet together limits input before after old new ended d (inr (decided, passed, is, runs)) =
     let g = sheet_gave passed sheet together limits input before after old new ended d runs in
-    record { commands = g.commands; gives = inr (decided, passed, is, g.gives); state = g.state }
+    record { commands = g.commands; gives = (decided, passed, is, g.gives); state = g.state }
 
 -- commands, and others behind them
 pub state_both : (limits : Limits) (xs ys : List Record) (s : State) → state_after limits (xs ++ ys) s ≡ state_after limits ys (state_after limits xs s)
@@ -139,7 +149,7 @@ module _ {K : Type 0} (holds : K → Result Image Table → Type 0) where
   asked_gave (posted resource true body) answer old new (ended, lines, run, after) served =
       let d = answer_decided ended lines answer after served in
       record {
-        gave = rest_gave (sheet_at resource) records_together old.limits body (state_of old.image) (state_of new.image) (Some []) (Some lines) ended d run.runs;
+        gave = rest_gave old.must_reopen (sheet_at resource) records_together old.limits body (state_of old.image) (state_of new.image) (Some []) (Some lines) ended d run.runs;
         along = decided_goes old new ended d run.desk;
       }
 

@@ -75,10 +75,9 @@ HasRecords passed sheet input records =
 abbrev pub GivesBehind : List (List Text) → Sheet → Text → List Record → Type 0
 GivesBehind passed sheet input commands = (records : List (List Text)) × HasRecords passed sheet input records × Say sheet records commands
 
--- A sheet that goes on gives those behind its last record that is an edit, or none.
+-- A sheet that goes on gives those behind its last record that is an edit.
 abbrev pub GivesRest : Sheet → Text → State → List Record → Type 0
-GivesRest sheet input s commands =
-    (commands ≡ []) ⊎ ((d : Decided) × (passed : List (List Text)) × IsDecidedBy sheet s input d passed × GivesBehind passed sheet input commands)
+GivesRest sheet input s commands = (d : Decided) × (passed : List (List Text)) × IsDecidedBy sheet s input d passed × GivesBehind passed sheet input commands
 
 -- A request gives the commands of the sheet that it posts, and any other one gives none.
 abbrev pub GivesAsked : Asked → State → List Record → Type 0

@@ -56,7 +56,7 @@ fn print(rt: &HostRuntime, bytes: &[u8]) -> Option<()> {
 }
 
 /// Does the calls, and then the trips.
-fn run<K: Keeper>(rt: &HostRuntime, desk: &mut Desk<K>, words: &[String]) -> Option<()> {
+fn take<K: Keeper>(rt: &HostRuntime, desk: &mut Desk<K>, words: &[String]) -> Option<()> {
     let calls = calls_of(rt, words);
     let written = headline(rt.alloc(), calls.as_slice(), desk).ok()?;
     for text in written.iter() {
@@ -71,9 +71,15 @@ fn run<K: Keeper>(rt: &HostRuntime, desk: &mut Desk<K>, words: &[String]) -> Opt
     println!(rt; "{}", desk.inventory().edits()).ok()
 }
 
-/// A desk over a new inventory in memory.
-fn open(rt: &HostRuntime) -> Option<Desk<Plain>> {
-    Desk::open(Plain::empty(rt.alloc()), Limits::full(), rt.alloc()).ok()
+/// A desk over a keeper.
+fn open<K: Keeper + Drop>(rt: &HostRuntime, keeper: K) -> Option<Desk<K>> {
+    Desk::open(keeper, Limits::full(), rt.alloc()).ok()
+}
+
+/// Does what the words say at a desk over a keeper.
+fn run<K: Keeper + Drop>(rt: &HostRuntime, words: &[String], keeper: K) -> Option<()> {
+    let mut desk = open(rt, keeper)?;
+    take(rt, &mut desk, words)
 }
 
 fn main(rt: HostRuntime) -> ExitCode {
@@ -83,10 +89,7 @@ fn main(rt: HostRuntime) -> ExitCode {
     let Ok(words) = given.skip(1).collect::<Vec<String>>(rt.alloc()) else {
         return ExitCode::from(1);
     };
-    let Some(mut desk) = open(&rt) else {
-        return ExitCode::from(1);
-    };
-    match run(&rt, &mut desk, words.as_slice()) {
+    match run(&rt, words.as_slice(), Plain::empty(rt.alloc())) {
         Some(()) => ExitCode::from(0),
         None => ExitCode::from(1),
     }

@@ -238,12 +238,12 @@ module _ (sheet : Sheet) (limits : Limits) (input : Text) (start now : State) (h
       }
 
 pub resumed_is_unstopped : ResumedIsUnstopped
-resumed_is_unstopped sheet together others limits input start now old earlier whole rest keys begun_ runs (inl not_begun) = absurd not_begun
-resumed_is_unstopped sheet together others limits input start now old earlier whole rest keys begun_ (inl (none, same, kept, count)) (inr (d, front, is_decided, runs)) =
+resumed_is_unstopped must_reopen sheet together others limits input start now old earlier whole rest keys begun_ runs (inl not_begun) = absurd not_begun
+resumed_is_unstopped must_reopen sheet together others limits input start now old earlier whole rest keys begun_ (inl (none, same, kept, count)) (inr (d, front, is_decided, runs)) =
     absurd (no_first input begun_.header begun_.records begun_.begins none)
-resumed_is_unstopped sheet together others limits input start now old earlier whole rest keys begun_ (inr more) (inr (d, front, is_decided, inl (none, same, kept, count))) =
+resumed_is_unstopped must_reopen sheet together others limits input start now old earlier whole rest keys begun_ (inr more) (inr (d, front, is_decided, inl (none, same, kept, count))) =
     absurd (no_first input begun_.header begun_.records begun_.begins none)
-resumed_is_unstopped sheet together others limits input start now old earlier whole rest keys begun_ (inr (header, records, replies, is, all, answered_, counts, few)) (inr (d, front, is_decided, inr (header', behind, more, is', all', answered', counts', few'))) =
+resumed_is_unstopped must_reopen sheet together others limits input start now old earlier whole rest keys begun_ (inr (header, records, replies, is, all, answered_, counts, few)) (inr (d, front, is_decided, inr (header', behind, more, is', all', answered', counts', few'))) =
     let same : records ≡ front ++ behind = (let e = all-one input (header ∷ records) (header' ∷ (front ++ behind)) all all' in cc e) in
     rest_of sheet limits input start now header' front behind all' keys begun_ d.key is_decided.last (is_decided.others header' behind is' (begins_all _ all') answered'.width)
     old earlier whole rest replies more (rw same at answered_.replied) answered'.replied answered_.written answered'.written

@@ -1,5 +1,5 @@
 -- The laws of sheets: the bytes of a sheet and the state before it determine the bytes of the reply and the state after it; and a sheet whose replies were lost can go on.
-use Rattle.std.specs.Prelude.{◌≡◌, ◌⊎◌, ◌++◌, ◌∷◌, [], ℕ, List, drop, Some, Ok}
+use Rattle.std.specs.Prelude.{◌≡◌, ◌⊎◌, ◌++◌, ◌∷◌, [], ℕ, Bool, List, drop, Some, Ok}
 use Rattle.lrs_machine.specs.Lines.{Text}
 use Rattle.lrs_machine.specs.State.{State}
 use Rattle.lrs_machine.specs.Machine.{Record}
@@ -65,8 +65,8 @@ pub record IsRestOf (old : Text) (whole : Outcome) (earlier : Text) (rest : Outc
 
 -- A sheet of new keys that was begun and stopped goes on as if it had not: what is written then is what one run of it would have written behind the decided records, and the state is that after one run.
 abbrev pub ResumedIsUnstopped : Type 0
-ResumedIsUnstopped = (sheet : Sheet) (together others : ℕ) (limits : Limits) (input : Text) (start now : State) (old earlier : Text) (whole rest : Outcome)
+ResumedIsUnstopped = (must_reopen : Bool) (sheet : Sheet) (together others : ℕ) (limits : Limits) (input : Text) (start now : State) (old earlier : Text) (whole rest : Outcome)
     → HasNewKeys sheet start input → HasBegun sheet limits input start now
     → Runs sheet together limits input start whole.state (Some old) (Some whole.written) (Ok whole.tally)
-    → Resumes sheet others limits input now rest.state (Some earlier) (Some rest.written) (Ok rest.tally)
+    → Resumes must_reopen sheet others limits input now rest.state (Some earlier) (Some rest.written) (Ok rest.tally)
     → IsRestOf old whole earlier rest

@@ -43,24 +43,6 @@ pub record IsDecidedBy (sheet : Sheet) (s : State) (input : Text) (d : Decided) 
   -- whatever the sheet goes on with, none of it is an edit
   pub others : (header : List Text) (others : List (List Text)) → IsHeader sheet header → BeginsWith input (header ∷ (records ++ others)) → HaveWidth sheet others → AllByRecursion (IsNoEdit sheet s) others
 
--- nothing is done, for a fault
-abbrev pub IsNotBegun : State → State → Option Text → Option Text → Result Tally SheetFault → Type 0
-IsNotBegun before after old new (Ok tally) = ⊥
-IsNotBegun before after old new (Err e) = (after ≡ before) × Keeps old new
-
--- What resuming a sheet gives: it is run behind the records that are decided; or it is not begun.
-abbrev pub Resumes : Sheet → ℕ → Limits → Text → State → State → Option Text → Option Text → Result Tally SheetFault → Type 0
-Resumes sheet together limits input before after old new result =
-    IsNotBegun before after old new result
-    ⊎ ((d : Decided) × (records : List (List Text)) × IsDecidedBy sheet before input d records × RunsBehind records sheet together limits input before after old new result)
-
--- A commit failed behind them.
-abbrev pub BreaksOffResumed : Sheet → ℕ → Limits → Text → State → State → Option Text → Option Text → Result Image Table → Type 0
-BreaksOffResumed sheet together limits input before after old new content =
-    (d : Decided) × (records : List (List Text)) × IsDecidedBy sheet before input d records × BreaksOffBehind records sheet together limits input before after old new content
-
--- ---- the search
-
 -- why a search ends early: for the reader, for memory, or since a commit of the desk has failed
 abbrev pub IsSearchFault : Bool → SheetFault → Type 0
 IsSearchFault must_reopen fault.Read = ⊤
@@ -71,6 +53,24 @@ IsSearchFault must_reopen (fault.Desk stop.Keep) = ⊥
 IsSearchFault must_reopen fault.Write = ⊥
 IsSearchFault must_reopen fault.BadHeader = ⊥
 IsSearchFault must_reopen fault.BadCsv = ⊥
+
+-- nothing is done, for a fault of the search
+abbrev pub IsNotBegun : Bool → State → State → Option Text → Option Text → Result Tally SheetFault → Type 0
+IsNotBegun must_reopen before after old new (Ok tally) = ⊥
+IsNotBegun must_reopen before after old new (Err e) = IsSearchFault must_reopen e × (after ≡ before) × Keeps old new
+
+-- What resuming a sheet gives: it is run behind the records that are decided; or it is not begun.
+abbrev pub Resumes : Bool → Sheet → ℕ → Limits → Text → State → State → Option Text → Option Text → Result Tally SheetFault → Type 0
+Resumes must_reopen sheet together limits input before after old new result =
+    IsNotBegun must_reopen before after old new result
+    ⊎ ((d : Decided) × (records : List (List Text)) × IsDecidedBy sheet before input d records × RunsBehind records sheet together limits input before after old new result)
+
+-- A commit failed behind them.
+abbrev pub BreaksOffResumed : Sheet → ℕ → Limits → Text → State → State → Option Text → Option Text → Result Image Table → Type 0
+BreaksOffResumed sheet together limits input before after old new content =
+    (d : Decided) × (records : List (List Text)) × IsDecidedBy sheet before input d records × BreaksOffBehind records sheet together limits input before after old new content
+
+-- ---- the search
 
 -- what is decided once one more record was looked at behind some: up to that one, where it is an edit under a key
 abbrev pub decided_next : Decided → ℕ → Option Text → Decided

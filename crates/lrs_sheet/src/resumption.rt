@@ -152,8 +152,9 @@ pub fn resume_sheet<W: Write, K: Keeper>(
     desk: &mut Desk<K>,
 ) -> Result<Tally, SheetFault>
     requires together { 1 ≤ together }
-    ensures runs { Resumes sheet together desk.old.limits text.now (state_of desk.old.image)
-        (state_of desk.new.image) (W.contents writer.old) (W.contents writer.new) result }
+    ensures runs { Resumes desk.old.must_reopen sheet together desk.old.limits text.now
+        (state_of desk.old.image) (state_of desk.new.image) (W.contents writer.old)
+        (W.contents writer.new) result }
     ensures desk { LeavesDesk K.may_hold desk.old desk.new result }
     ensures broken { result ≡ Err (SheetFault.Desk Fault.Keep) → (c : Result ImageRows Table)
         → K.may_hold desk.new.keeper c → BreaksOffResumed sheet together desk.old.limits text.now

@@ -11,11 +11,11 @@ use Rattle.lrs_sheet.specs.Sheets.{BreaksOff, Runs}
 use Rattle.lrs_sheet_records.specs.declared.sheet.Sheet.{Sheet}
 use Rattle.lrs_web.specs.Sheets.{BreaksOffSo, RunsSo}
 
-pub runs_so : (resumes : Bool) (sheet : Sheet) (together : ℕ) (limits : Limits) (input : List ℕ) (before after : State) (old new : Option (List ℕ)) (result : Result Tally SheetFault)
-    → (resumes ≡ false → Runs sheet together limits input before after old new result) → (resumes ≡ true → Resumes sheet together limits input before after old new result)
-    → RunsSo resumes sheet together limits input before after old new result
-runs_so false sheet together limits input before after old new result whole behind = whole refl
-runs_so true sheet together limits input before after old new result whole behind = behind refl
+pub runs_so : (resumes must_reopen : Bool) (sheet : Sheet) (together : ℕ) (limits : Limits) (input : List ℕ) (before after : State) (old new : Option (List ℕ)) (result : Result Tally SheetFault)
+    → (resumes ≡ false → Runs sheet together limits input before after old new result) → (resumes ≡ true → Resumes must_reopen sheet together limits input before after old new result)
+    → RunsSo resumes must_reopen sheet together limits input before after old new result
+runs_so false must_reopen sheet together limits input before after old new result whole behind = whole refl
+runs_so true must_reopen sheet together limits input before after old new result whole behind = behind refl
 
 pub breaks_so : (resumes : Bool) (sheet : Sheet) (together : ℕ) (limits : Limits) (input : List ℕ) (before after : State) (old new : Option (List ℕ)) (content : Result Image Table)
     → (resumes ≡ false → BreaksOff sheet together limits input before after old new content) → (resumes ≡ true → BreaksOffResumed sheet together limits input before after old new content)

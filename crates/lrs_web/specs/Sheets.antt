@@ -42,9 +42,9 @@ answer_after (Err (fault.Desk e)) lines = empty_answer 503
 answer_after (Err fault.Memory) lines = empty_answer 503
 
 -- what a run gives, of the whole sheet, or behind its last record that is an edit
-abbrev pub RunsSo : Bool → Sheet → ℕ → Limits → Text → State → State → Option Text → Option Text → Result Tally SheetFault → Type 0
-RunsSo false = Runs
-RunsSo true = Resumes
+abbrev pub RunsSo : Bool → Bool → Sheet → ℕ → Limits → Text → State → State → Option Text → Option Text → Result Tally SheetFault → Type 0
+RunsSo false must_reopen = Runs
+RunsSo true must_reopen = Resumes must_reopen
 
 -- after a failed commit: the keeper has the state of the records that have lines, or that after all in flight
 abbrev pub BreaksOffSo : Bool → Sheet → ℕ → Limits → Text → State → State → Option Text → Option Text → Result Image Table → Type 0
@@ -53,7 +53,7 @@ BreaksOffSo true = BreaksOffResumed
 
 -- a sheet is run at a desk, ends so and writes these lines
 pub record IsRun {K : Type 0} (holds : K → Result Image Table → Type 0) (sheet : Sheet) (resumes : Bool) (input : Text) (old new : DeskView K) (ended : Result Tally SheetFault) (lines : Text) : Type 0 where
-  pub runs : RunsSo resumes sheet records_together old.limits input (state_of old.image) (state_of new.image) (Some []) (Some lines) ended
+  pub runs : RunsSo resumes old.must_reopen sheet records_together old.limits input (state_of old.image) (state_of new.image) (Some []) (Some lines) ended
   pub desk : LeavesDesk holds old new ended
   pub broken : ended ≡ Err (fault.Desk stop.Keep) → (c : Result Image Table) → holds new.keeper c
       → BreaksOffSo resumes sheet records_together old.limits input (state_of old.image) (state_of new.image) (Some []) (Some lines) c

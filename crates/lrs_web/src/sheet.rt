@@ -70,9 +70,9 @@ fn run<K: Keeper>(
     ensures whole { resumes ≡ false → Runs sheet records_together desk.old.limits bytes.now
         (state_of desk.old.image) (state_of desk.new.image) (Some lines.old.items)
         (Some lines.new.items) result }
-    ensures behind { resumes ≡ true → Resumes sheet records_together desk.old.limits bytes.now
-        (state_of desk.old.image) (state_of desk.new.image) (Some lines.old.items)
-        (Some lines.new.items) result }
+    ensures behind { resumes ≡ true → Resumes desk.old.must_reopen sheet records_together
+        desk.old.limits bytes.now (state_of desk.old.image) (state_of desk.new.image)
+        (Some lines.old.items) (Some lines.new.items) result }
     ensures desk { LeavesDesk K.may_hold desk.old desk.new result }
     ensures whole_broken { resumes ≡ false → result ≡ Err (SheetFault.Desk Fault.Keep)
         → (c : Result ImageRows Table) → K.may_hold desk.new.keeper c

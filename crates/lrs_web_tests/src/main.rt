@@ -65,7 +65,7 @@ fn step<'a, K: Keeper>(
 }
 
 /// Does what the words say, one after another.
-fn run<K: Keeper>(rt: &HostRuntime, words: &[String], desk: &mut Desk<K>) -> Option<()> {
+fn take<K: Keeper>(rt: &HostRuntime, words: &[String], desk: &mut Desk<K>) -> Option<()> {
     let mut door = MemoryDoor::new(rt, rt.alloc());
     for word in words {
         step(rt, word.as_str(), &mut door, desk)?;
@@ -73,9 +73,15 @@ fn run<K: Keeper>(rt: &HostRuntime, words: &[String], desk: &mut Desk<K>) -> Opt
     Some(())
 }
 
-/// A desk over a new inventory in memory.
-fn open(rt: &HostRuntime) -> Option<Desk<Plain>> {
-    Desk::open(Plain::empty(rt.alloc()), Limits::full(), rt.alloc()).ok()
+/// A desk over a keeper.
+fn open<K: Keeper + Drop>(rt: &HostRuntime, keeper: K) -> Option<Desk<K>> {
+    Desk::open(keeper, Limits::full(), rt.alloc()).ok()
+}
+
+/// Does what the words say at a desk over a keeper.
+fn run<K: Keeper + Drop>(rt: &HostRuntime, words: &[String], keeper: K) -> Option<()> {
+    let mut desk = open(rt, keeper)?;
+    take(rt, words, &mut desk)
 }
 
 fn main(rt: HostRuntime) -> ExitCode {
@@ -85,10 +91,7 @@ fn main(rt: HostRuntime) -> ExitCode {
     let Ok(words) = given.skip(1).collect::<Vec<String>>(rt.alloc()) else {
         return ExitCode::from(1);
     };
-    let Some(mut desk) = open(&rt) else {
-        return ExitCode::from(1);
-    };
-    match run(&rt, words.as_slice(), &mut desk) {
+    match run(&rt, words.as_slice(), Plain::empty(rt.alloc())) {
         Some(()) => ExitCode::from(0),
         None => ExitCode::from(1),
     }
