@@ -128,9 +128,10 @@ def test_a_log_with_commits_whose_database_is_lost_is_kept():
         for empty in (False, True):
             if empty:
                 lost.touch()
-            faults(edit(lost, FIRST), "Open")
-            assert digest(log_of(lost)) == log
-            assert lost.exists() == empty and (not empty or lost.stat().st_size == 0)
+            for ended in (edit(lost, FIRST), run("totals", str(lost)), run("rows", str(lost)), run("audit", str(lost))):
+                faults(ended, "Open")
+                assert digest(log_of(lost)) == log
+                assert lost.exists() == empty and (not empty or lost.stat().st_size == 0)
 
 
 # ---- sums of pages, where they are asked for

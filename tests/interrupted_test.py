@@ -204,12 +204,17 @@ def with_files_up_to(limit):
     return {"preexec_fn": prepare, "restore_signals": False}
 
 
-def test_a_file_that_may_not_grow():
+# Behind a quote in the header records are done one by one; else those are kept together that have arrived.
+ONE_BY_ONE = HEADER.replace(b"key", b'"key"')
+
+
+@pytest.mark.parametrize("header, limits", [(ONE_BY_ONE, (400_000, 1_000_000, 2_000_000)), (HEADER, (500_000, 600_000, 700_000))])
+def test_a_file_that_may_not_grow(header, limits):
     records = long_records(2_000)
-    for limit in (400_000, 1_000_000, 2_000_000):
+    for limit in limits:
         with folder() as path:
             running = Running(path, **with_files_up_to(limit))
-            feeder = threading.Thread(target=running.feed, args=([HEADER, *records],))
+            feeder = threading.Thread(target=running.feed, args=([header, *records],))
             feeder.start()
             feeder.join()
             status, told = running.end()
@@ -236,12 +241,13 @@ def small_disk(size, may_mount):
 
 
 @pytest.mark.parametrize("may_mount", [True, False], ids=["mounted", "stood in for"])
-def test_a_full_disk(may_mount):
+@pytest.mark.parametrize("header, size", [(ONE_BY_ONE, 400_000), (HEADER, 800_000)])
+def test_a_full_disk(may_mount, header, size):
     records = long_records(2_000)
-    with small_disk(400_000, may_mount) as (disk, settings):
+    with small_disk(size, may_mount) as (disk, settings):
         path = disk / "roads.db"
         running = Running(path, **settings)
-        running.feed([HEADER, *records])
+        running.feed([header, *records])
         status, told = running.end()
         assert running.answered, "the disk was full before the first record"
         if not settings:

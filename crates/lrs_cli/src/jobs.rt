@@ -119,6 +119,15 @@ fn do_at<K: Keeper + Drop>(
     do_work(rt, &mut desk, work, Pace::InGroups, shown)
 }
 
+// Whether a file with a byte is at a path. One that is missing or empty may stand beside a log with commits, which must
+// stay, so it is left to the opening that knows that.
+fn has_bytes(rt: &HostRuntime, path: &str) -> bool {
+    match fs::metadata(rt, path) {
+        Ok(found) => found.len() > 0,
+        Err(_) => false,
+    }
+}
+
 // Whether work is a question or a report.
 fn looks(work: &Work<'_>) -> bool
     ensures { IsTrue result ↔ Looks work.now }
@@ -139,6 +148,9 @@ fn do_in_file(
         ⟦<FileQuestions as Keeper>⟧.may_hold (image_at ⟦<Unknown as Start>⟧) work.entry result }
 {
     if !looks(&work) {
+        return do_with_log(rt, path, new_has_sums, work, shown);
+    }
+    if !has_bytes(rt, path) {
         return do_with_log(rt, path, new_has_sums, work, shown);
     }
     let was_said = tell_opening(rt, path, shown);
