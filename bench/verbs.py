@@ -1,23 +1,26 @@
 """What each verb costs beside few and beside many assets, and on a route with many rows.
 
-    python3 bench/verbs.py [MANY]
+    python3 bench/verbs.py [--file FOLDER] [MANY..]
 
-Routes of 1,000 mm with three assets each, which the measured commands edit, stand beside 1,000 other routes with 1,000 assets or
-with MANY (970,000) on them together. The sheet goes through a pipe: when the program waits for more, it has done all that it was
-sent, and its processor time then, less that before the commands of a verb, is what they cost. A figure is for one command, the
-least of three runs. Nothing but Python is needed; ROADLRS in the environment names the program.
+Routes of 1,000 mm with three assets each, which the measured commands edit, stand beside 1,000 other routes with 1,000 assets, and
+with MANY (30,000 and 1,000,000) on them together: over :memory:, or with --file over a database in FOLDER. The sheet goes through a
+pipe: when the program waits for more, it has done all that it was sent, and its processor time then, less that before the commands
+of a verb, is what they cost. A figure is for one command, the least of three rounds of 64 commands, which over a file are one
+transaction. Nothing but Python is needed; ROADLRS in the environment names the program.
 """
 
+import argparse
 import os
 import subprocess
 import sys
+import tempfile
 import time
 
 from sheets import BUILT, HEADER
 
-COMMANDS = 500
+COMMANDS = 64
 ROWS = 100_000
-RUNS = 3
+ROUNDS = 3
 
 
 def row(*fields):
@@ -27,8 +30,8 @@ def row(*fields):
 class Program:
     """The program over a pipe, with what it has used of a processor."""
 
-    def __init__(self, path):
-        words = [path, "edit", ":memory:", "stdin"]
+    def __init__(self, path, database):
+        words = [path, "edit", database, "stdin"]
         self.process = subprocess.Popen(words, stdin=subprocess.PIPE, stdout=subprocess.DEVNULL)
         self.send([HEADER])
 
@@ -66,8 +69,8 @@ class Program:
             sys.exit("a measured command was refused, or there was a fault")
 
 
-def edited(first, count):
-    """Routes that the commands of a verb edit: two links each, of which the route has half, and three assets."""
+def edited(first, count, is_cut):
+    """Routes that the commands of a verb edit: two links each, of which the route has half, and three assets. Where is_cut, each has been split."""
     for n in range(first, first + count):
         yield row(f"l{n}", "link", 10_000 + n, 1_000)
         yield row(f"m{n}", "link", 100_000 + n, 1_000)
@@ -75,6 +78,8 @@ def edited(first, count):
         yield row(f"k{n}", "ref", f"KM{n}", f"R{n}", "abs", 700)
         for k in range(3):
             yield row(f"e{n}x{k}", "enter", 1 + 3 * n + k, "SPEED", f"R{n}", "B", "abs", 300 * k, 300 * k + 200, 80, 0)
+        if is_cut:
+            yield row(f"s{n}", "split", f"R{n}", 500, f"T{n}")
 
 
 def others(count):
@@ -88,39 +93,44 @@ def others(count):
 
 
 def of_verb(verb, n):
-    """The commands of a verb on a route of their own."""
-    name, key = f"R{n}", f"t{n}"
-    return {
-        "enter": lambda: [row(key, "enter", 100_000 + n, "RAIL", name, "L", "abs", 10, 900, "STEEL", 0)],
-        "retire": lambda: [row(key, "retire", 1 + 3 * n, name, "abs", 50, 100)],
-        "supersede": lambda: [row(key, "supersede", 100_000 + n, "SPEED", name, "L", "abs", 10, 900, 50, 0)],
-        "ref": lambda: [row(key, "ref", f"N{n}", name, "abs", 10)],
-        "unref": lambda: [row(key, "unref", f"KM{n}")],
-        "split": lambda: [row(key, "split", name, 500, f"T{n}")],
-        "split and join": lambda: [row(key, "split", name, 500, f"T{n}"), row(f"u{n}", "join", name, f"T{n}")],
-        "renumber": lambda: [row(key, "renumber", name, f"T{n}")],
-        "recalibrate": lambda: [row(key, "recalibrate", name, "0:0 1000:2000")],
-        "realign": lambda: [row(key, "realign", name, 400, 600, f"{100_000 + n}:600:900:+", "0:0 1100:1100")],
-        "close": lambda: [row(key, "close", name)],
-        "turn": lambda: [row(key, "turn", name)],
-    }[verb]()
+    """The command of a verb on a route of its own."""
+    name = f"R{n}"
+    fields = {
+        "link": (300_000 + n, 1_000),
+        "class": (f"C{n}", "point"),
+        "route": (f"T{n}", f"{10_000 + n}:500:1000:+", "0:0 500:500"),
+        "ref": (f"N{n}", name, "abs", 10),
+        "unref": (f"KM{n}",),
+        "enter": (100_000 + n, "RAIL", name, "L", "abs", 10, 900, "STEEL", 0),
+        "supersede": (100_000 + n, "SPEED", name, "L", "abs", 10, 900, 50, 0),
+        "retire": (1 + 3 * n, name, "abs", 50, 100),
+        "split": (name, 500, f"T{n}"),
+        "join": (name, f"T{n}"),
+        "recalibrate": (name, "0:0 1000:2000"),
+        "renumber": (name, f"T{n}"),
+        "realign": (name, 400, 600, f"{100_000 + n}:600:900:+", "0:0 1100:1100"),
+        "turn": (name,),
+        "close": (name,),
+    }[verb]
+    return row(f"t{n}", verb, *fields)
 
 
-VERBS = ("enter", "retire", "supersede", "ref", "unref", "split", "split and join", "renumber", "recalibrate", "realign", "close", "turn")
+VERBS = ("link", "class", "route", "ref", "unref", "enter", "supersede", "retire", "split", "join", "recalibrate", "renumber", "realign", "turn", "close")
 CLASSES = [row("c1", "class", "SPEED", "exclusive"), row("c2", "class", "RAIL", "stretch")]
 
 
-def costs(path, count):
+def costs(path, database, count):
     """What one command of each verb costs beside so many other assets."""
-    program = Program(path)
+    program = Program(path, database)
     program.send(CLASSES)
-    for place in range(len(VERBS)):
-        program.send(edited(place * COMMANDS, COMMANDS))
+    batches = [(verb, (turn * len(VERBS) + place) * COMMANDS) for turn in range(ROUNDS) for place, verb in enumerate(VERBS)]
+    for verb, first in batches:
+        program.send(edited(first, COMMANDS, verb == "join"))
     program.send(others(count))
     found = {}
-    for place, verb in enumerate(VERBS):
-        rows = [it for n in range(COMMANDS) for it in of_verb(verb, place * COMMANDS + n)]
-        found[verb] = program.cost(rows, COMMANDS)
+    for verb, first in batches:
+        cost = program.cost([of_verb(verb, first + n) for n in range(COMMANDS)], COMMANDS)
+        found[verb] = min(cost, found.get(verb, cost))
     program.end()
     return found
 
@@ -148,9 +158,9 @@ def on_long_route():
     yield "close", 1, [row("x", "close", "A3")]
 
 
-def long_costs(path):
+def long_costs(path, database):
     """What one command of each verb costs on the long route."""
-    program = Program(path)
+    program = Program(path, database)
     program.send(CLASSES)
     program.send(long_route())
     found = {verb: program.cost(rows, count) for verb, count, rows in on_long_route()}
@@ -162,18 +172,31 @@ def least(measured):
     return {verb: min(found[verb] for found in measured) for verb in measured[0]}
 
 
+def measured(costs, folder, *given):
+    """What is found over :memory:, or over a new database in the folder."""
+    if folder is None:
+        return costs(":memory:", *given)
+    with tempfile.TemporaryDirectory(dir=folder) as it:
+        return costs(f"{it}/verbs.db", *given)
+
+
 def main():
-    many = int(sys.argv[1]) if len(sys.argv) > 1 else 970_000
+    words = argparse.ArgumentParser()
+    words.add_argument("--file", metavar="FOLDER")
+    words.add_argument("many", type=int, nargs="*", default=[30_000, 1_000_000])
+    words = words.parse_args()
     path = os.environ.get("ROADLRS", str(BUILT))
-    few_costs = least([costs(path, 1_000) for _ in range(RUNS)])
-    many_costs = least([costs(path, many) for _ in range(RUNS)])
-    print(f"one command, in microseconds     beside 1,000 assets   beside {many:,}    ratio")
+    counts = [1_000, *words.many]
+    found = [measured(lambda *it: costs(path, *it), words.file, count) for count in counts]
+    print("one command, in microseconds, beside so many assets, and the last beside the first")
+    print(f"{'':12}" + "".join(f"{count:12,}" for count in counts) + f"{'ratio':>12}")
     for verb in VERBS:
-        few, much = few_costs[verb], many_costs[verb]
-        print(f"{verb:30} {few:21.1f} {much:16.1f} {much / few:8.2f}")
+        figures = [it[verb] for it in found]
+        print(f"{verb:12}" + "".join(f"{it:12.1f}" for it in figures) + f"{figures[-1] / figures[0]:12.2f}")
     print(f"one command on a route of {ROWS:,} rows, in microseconds")
-    for verb, cost in least([long_costs(path) for _ in range(RUNS)]).items():
-        print(f"{verb:30} {cost:21.1f}")
+    runs = [measured(lambda *it: long_costs(path, *it), words.file) for _ in range(ROUNDS)]
+    for verb, cost in least(runs).items():
+        print(f"{verb:12}{cost:12.1f}")
 
 
 if __name__ == "__main__":

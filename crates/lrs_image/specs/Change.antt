@@ -1,5 +1,5 @@
 -- What a change makes of an image: removed rows and inserted rows, table by table.
-use Rattle.std.specs.Prelude.{◌≡◌, Bool, true, false, not, List, [], ◌∷◌, ◌++◌, filter, Option, Some, None, unwrap_or, ⊤}
+use Rattle.std.specs.Prelude.{◌≡◌, Bool, true, false, not, List, [], ◌∷◌, ◌++◌, map, filter, Option, Some, None, unwrap_or, ⊤}
 use Rattle.std.specs.List.{list_any, list_all, find}
 use Rattle.std.specs.Option.{option_map}
 use Rattle.lrs_measure.specs.Lists.{each_two}
@@ -19,8 +19,19 @@ use Rattle.lrs_machine.specs.declared.image.Image.{Image}
 use Rattle.lrs_machine.specs.Sound.{link_before, class_before, asset_before, route_before, IsSound}
 use Rattle.lrs_image.specs.declared.change.ReferentChange.{ReferentChange}
 use Rattle.lrs_image.specs.declared.change.RouteChange.{RouteChange}
+use Rattle.lrs_image.specs.declared.change.RouteKeys.{RouteKeys}
 use Rattle.lrs_image.specs.declared.change.Difference.{Difference}
 use Rattle.lrs_image.specs.declared.change.Change.{Change}
+
+-- what lies on a route
+
+-- what lies on no route
+abbrev pub no_keys : RouteKeys
+no_keys = record { refs = []; spans = [] }
+
+-- the names of these referents, and these rows
+abbrev pub keys_of : List Referent → List Span → RouteKeys
+keys_of refs spans = record { refs = map (λ r. r.name) refs; spans = spans }
 
 -- one route that stays
 
@@ -74,7 +85,7 @@ routes_after (Some c) routes = insert_some route_before (option_map (entry_after
 
 -- the difference that changes nothing
 abbrev pub no_difference : Difference
-no_difference = record { link = None; class = None; asset = None; changed = None; dropped = None; made = None; entered = []; gone = [] }
+no_difference = record { link = None; class = None; asset = None; changed = None; dropped = None; keys = no_keys; made = None; entered = []; gone = [] }
 
 -- The image with this difference: what is inserted is put in its order, and the ledgers grow at their end.
 abbrev pub with_difference : Difference → Image → Image
@@ -108,13 +119,18 @@ are_rows_of e gone = list_all (has_row e.spans) gone
 abbrev pub are_names_of : RouteRow → List Name → Bool
 are_names_of e gone = list_all (λ name. list_any (refers_to name) e.route.refs) gone
 
--- The removed rows are of the route and told apart, the removed referents are of the route, and course, marks, referents and rows after the change are those of a route.
+-- A route that gets another name has these referents and rows after the change.
+abbrev pub IsRenamedWhole : RouteChange → RouteRow → Type 0
+IsRenamedWhole c e = same_name c.route c.name ≡ false → c.keys ≡ keys_of (changed_refs c.refs e.route.refs) (spans_after c e.spans)
+
+-- The removed rows are of the route and told apart, the removed referents are of the route, and course, marks, referents and rows after the change are those of a route. Where the name changes, all that then lies on the route is named.
 pub record CanBecome (c : RouteChange) (e : RouteRow) : Type 0 where
   pub fits : fits_after c e.route ≡ true
   pub rows : are_rows (spans_after c e.spans) ≡ true
   pub gone : each_two span_before c.spans_gone ≡ true
   pub there : are_rows_of e c.spans_gone ≡ true
   pub named : are_names_of e c.refs.gone ≡ true
+  pub renamed : IsRenamedWhole c e
 
 -- The route that changes is there, and can become what the change says.
 pub record CanChange (c : RouteChange) (routes : List RouteRow) : Type 0 where
@@ -132,10 +148,21 @@ GoesApart None dropped = ⊤
 GoesApart (Some c) None = ⊤
 GoesApart (Some c) (Some name) = (same_name c.route name ≡ false) × (same_name c.name name ≡ false)
 
--- The difference can be made: what a route becomes is a route, another one goes, and the names of the routes stay in order.
+-- The route that goes is there, with these referents and rows.
+pub record GoesWhole (name : Name) (keys : RouteKeys) (routes : List RouteRow) : Type 0 where
+  pub row : RouteRow
+  pub found : find (is_named name) routes ≡ Some row
+  pub keys_are : keys ≡ keys_of row.route.refs row.spans
+
+abbrev pub GoesWholeIfAny : Option Name → RouteKeys → List RouteRow → Type 0
+GoesWholeIfAny None keys routes = ⊤
+GoesWholeIfAny (Some name) keys routes = GoesWhole name keys routes
+
+-- The difference can be made: what a route becomes is a route, another one goes with all that lies on it, and the names of the routes stay in order.
 pub record CanDiffer (d : Difference) (i : Image) : Type 0 where
   pub route : CanChangeRoute d.changed i.routes
   pub apart : GoesApart d.changed d.dropped
+  pub whole : GoesWholeIfAny d.dropped d.keys i.routes
   pub names : each_two route_before (routes_after d.changed i.routes) ≡ true
 
 -- The change can be made, and leaves the image sound.

@@ -26,6 +26,34 @@ impl TryCopy for ReferentChange {
     }
 }
 
+/// What lies on a route, by the keys under which a store has it: the names of its referents, and its rows.
+#[derive(Drop)]
+pub struct RouteKeys {
+    pub refs: Rows<RefName>,
+    pub spans: Rows<Span>,
+}
+
+impl RouteKeys {
+    /// Those of no route. They take no memory.
+    pub fn none(alloc: Global) -> RouteKeys
+        ensures { result ≡ change.no_keys }
+    {
+        RouteKeys {
+            refs: Rows::new(alloc),
+            spans: Rows::new(alloc),
+        }
+    }
+}
+
+impl TryCopy for RouteKeys {
+    fn copy(&self, alloc: Global) -> Result<RouteKeys, AllocError> {
+        Ok(RouteKeys {
+            refs: self.refs.copy(alloc)?,
+            spans: self.spans.copy(alloc)?,
+        })
+    }
+}
+
 /// What changes on one route that stays. What is not given stays as it is.
 #[derive(Drop)]
 pub struct RouteChange {
@@ -33,6 +61,8 @@ pub struct RouteChange {
     pub route: RouteName,
     /// Its name from now on.
     pub name: RouteName,
+    /// What lies on it after the change, where its name changes.
+    pub keys: RouteKeys,
     pub course: Option<Course>,
     pub marks: Option<Marks>,
     pub refs: ReferentChange,
@@ -45,6 +75,7 @@ impl TryCopy for RouteChange {
         Ok(RouteChange {
             route: self.route,
             name: self.name,
+            keys: self.keys.copy(alloc)?,
             course: copy_course(&self.course)?,
             marks: copy_marks(&self.marks)?,
             refs: self.refs.copy(alloc)?,
@@ -90,6 +121,8 @@ pub struct Difference {
     pub asset: Option<Asset>,
     pub changed: Option<RouteChange>,
     pub dropped: Option<RouteName>,
+    /// What lies on the route that goes.
+    pub keys: RouteKeys,
     pub made: Option<RouteRow>,
     pub entered: Rows<Part>,
     pub gone: Rows<Gone>,
@@ -106,6 +139,7 @@ impl Difference {
             asset: None,
             changed: None,
             dropped: None,
+            keys: RouteKeys::none(alloc),
             made: None,
             entered: Rows::new(alloc),
             gone: Rows::new(alloc),
@@ -119,11 +153,12 @@ impl TryCopy for Difference {
             link: self.link,
             class: self.class,
             asset: self.asset,
-            changed: copy_some(&self.changed, alloc)?,
             dropped: self.dropped,
-            made: copy_some(&self.made, alloc)?,
+            keys: self.keys.copy(alloc)?,
             entered: self.entered.copy(alloc)?,
             gone: self.gone.copy(alloc)?,
+            made: copy_some(&self.made, alloc)?,
+            changed: copy_some(&self.changed, alloc)?,
         })
     }
 }

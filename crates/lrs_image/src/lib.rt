@@ -12,7 +12,7 @@ mod routes;
 mod staged;
 
 pub use batches::Batches;
-pub use change::{Change, Difference, ReferentChange, RouteChange};
+pub use change::{Change, Difference, ReferentChange, RouteChange, RouteKeys};
 pub use commit::{CommitFault, make_change, stage_change};
 pub use keeper::{CommitFailed, Keeper, LoadFault};
 pub use kept_image::KeptImage;

@@ -8,12 +8,12 @@ use Rattle.lrs_machine.specs.declared.image.Image.{Image}
 use Rattle.lrs_machine.specs.Sound.{IsSound}
 use Rattle.lrs_image.specs.declared.change.RouteChange.{RouteChange}
 use Rattle.lrs_image.specs.declared.change.Difference.{Difference}
-use Rattle.lrs_image.specs.Change.{is_named, entry_after, no_difference, with_difference}
+use Rattle.lrs_image.specs.Change.{is_named, entry_after, no_difference, no_keys, with_difference}
 use Rattle.lrs_image_laws.specs.Rewriting.{rewritten}
 
 -- the change of a route that leaves it as it is
 abbrev pub no_change : Name → RouteChange
-no_change name = record { route = name; name = name; course = None; marks = None; refs = record { gone = []; come = [] }; spans_gone = []; spans_come = [] }
+no_change name = record { route = name; name = name; keys = no_keys; course = None; marks = None; refs = record { gone = []; come = [] }; spans_gone = []; spans_come = [] }
 
 -- the difference that changes routes alone: one that stays, one that is removed, and one that is inserted
 abbrev pub rerouting : Option RouteChange → Option Name → Option RouteRow → Difference

@@ -21,10 +21,11 @@ pub use Rattle.lrs_events.specs.declared.span.Span.{Span}
 pub use Rattle.lrs_image_laws.specs.Gone.{AreGone}
 pub use Rattle.lrs_position_index.specs.Ground.{is_run_once, Stretches}
 pub use Rattle.lrs_position_index.specs.Routes.{IsGroundOf}
-pub use Rattle.lrs_image.specs.Change.{is_named, with_difference, changed_refs, no_difference, CanDiffer, entry_after, fits_after, without, route_after, are_names_of, spans_after}
+pub use Rattle.lrs_image.specs.Change.{is_named, with_difference, changed_refs, no_difference, no_keys, keys_of, CanDiffer, entry_after, fits_after, without, route_after, are_names_of, spans_after}
 pub use Rattle.lrs_image.specs.Kept.{image_of}
 pub use Rattle.lrs_image.specs.declared.change.Difference.{Difference}
 pub use Rattle.lrs_image.specs.declared.change.RouteChange.{RouteChange}
+pub use Rattle.lrs_image.specs.declared.change.RouteKeys.{RouteKeys}
 unfoldable pub use Rattle.lrs_machine.specs.Image.{state_of}
 pub use Rattle.lrs_machine.specs.Image.{route_entry, referents_on, referent_entry, asset_entry, holds_on}
 unfoldable pub use Rattle.lrs_machine.specs.Machine.{attempt}

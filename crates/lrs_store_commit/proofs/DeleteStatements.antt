@@ -28,20 +28,6 @@ pub drop_mark_is : (command_of (understood it.inventory it.drop_mark) ≡ Delete
 unfolding understood everything
 drop_mark_is = (refl, (refl, refl))
 
-abbrev pub drop_ref_tests : List Term
-drop_ref_tests = eq (col 1 2) (col 0 0) ∷ []
-
-pub drop_ref_is : (command_of (understood it.inventory it.drop_ref) ≡ Delete 6 (finding 9 drop_ref_tests)) × IsPlain (understood it.inventory it.drop_ref)
-unfolding understood everything
-drop_ref_is = (refl, (refl, refl))
-
-abbrev pub drop_span_tests : List Term
-drop_span_tests = eq (col 1 2) (col 0 0) ∷ []
-
-pub drop_span_is : (command_of (understood it.inventory it.drop_span) ≡ Delete 7 (finding 11 drop_span_tests)) × IsPlain (understood it.inventory it.drop_span)
-unfolding understood everything
-drop_span_is = (refl, (refl, refl))
-
 abbrev pub take_ref_tests : List Term
 take_ref_tests = eq (col 1 1) (col 0 0) ∷ []
 

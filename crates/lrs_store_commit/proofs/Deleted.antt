@@ -21,11 +21,11 @@ use Rattle.lrs_store_commit.proofs.Deleting.{takes_rows, holds_eq}
 use Rattle.lrs_store_tables.proofs.Only.{same_rows}
 use Rattle.lrs_store_tables.proofs.Only as only
 
-and_true : (b : Bool) → (b && true) ≡ b
+pub and_true : (b : Bool) → (b && true) ≡ b
 and_true true = refl
 and_true false = refl
 
-or_false : (b : Bool) → (b || false) ≡ b
+pub or_false : (b : Bool) → (b || false) ≡ b
 or_false true = refl
 or_false false = refl
 
@@ -53,30 +53,6 @@ marks_dropped route old new count writing h =
     (mark_of_route route) old new count writing h in
     record { writing = it.writing; was_open = λ opened. it.was_open; rows = only.only_mark old.now.trees new.now.trees it.others (filter (λ r. not (same_name r.route route))) (same_rows (sym it.rows)) }
 
-pub ref_of_route : (route : Name) (r : Row) → are_typed None 0 ref_table.columns (drop 1 r) ≡ true → are_present None 0 ref_table.columns r ≡ true
-    → passes statement.drop_ref_tests (Text route ∷ []) r ≡ same_name (stored.ref_in (map (column r) stored.ref_places)).route route
-ref_of_route route r typed present =
-    and_true _ ∙ holds_eq (column r 2) (Text route) refl ∙ text_key (column r 2) route (text_column ref_table.columns r 1 (codes "route") typed present refl)
-
-pub refs_dropped : (route : Name) (old new : State) (count : ℕ) → IsWriting old → ExecutesInside 0 it.drop_ref (Text route ∷ []) old new (Ok count)
-    → Makes (λ t. record t { ref = filter (λ r. not (same_name r.route route)) t.ref }) old new
-refs_dropped route old new count writing h =
-    let it = takes_rows 6 (codes "ref") 9 None (1 ∷ []) ((1 ∷ []) ∷ []) (plain ∷ []) [] (words (codes "name") ∷ words (codes "route") ∷ whole (codes "place") ∷ []) refl refl it.drop_ref statement.drop_ref_tests statement.drop_ref_is stored.ref_in stored.ref_places (λ r. same_name r.route route) (Text route ∷ [])
-    (ref_of_route route) old new count writing h in
-    record { writing = it.writing; was_open = λ opened. it.was_open; rows = only.only_ref old.now.trees new.now.trees it.others (filter (λ r. not (same_name r.route route))) (same_rows (sym it.rows)) }
-
-pub span_of_route : (route : Name) (r : Row) → are_typed None 0 span_table.columns (drop 1 r) ≡ true → are_present None 0 span_table.columns r ≡ true
-    → passes statement.drop_span_tests (Text route ∷ []) r ≡ same_name (stored.span_in (map (column r) stored.span_places)).route route
-span_of_route route r typed present =
-    and_true _ ∙ holds_eq (column r 2) (Text route) refl ∙ text_key (column r 2) route (text_column span_table.columns r 1 (codes "route") typed present refl)
-
-pub spans_dropped : (route : Name) (old new : State) (count : ℕ) → IsWriting old → ExecutesInside 0 it.drop_span (Text route ∷ []) old new (Ok count)
-    → Makes (λ t. record t { span = filter (λ r. not (same_name r.route route)) t.span }) old new
-spans_dropped route old new count writing h =
-    let it = takes_rows 7 (codes "span") 11 None (1 ∷ 2 ∷ 3 ∷ []) ((1 ∷ 2 ∷ 3 ∷ []) ∷ []) (plain ∷ []) (refers 1 (codes "asset") ∷ []) (whole (codes "asset") ∷ words (codes "route") ∷ whole (codes "lo") ∷ whole (codes "hi") ∷ whole (codes "side") ∷ []) refl refl it.drop_span statement.drop_span_tests statement.drop_span_is stored.span_in stored.span_places (λ r. same_name r.route route) (Text route ∷ [])
-    (span_of_route route) old new count writing h in
-    record { writing = it.writing; was_open = λ opened. it.was_open; rows = only.only_span old.now.trees new.now.trees it.others (filter (λ r. not (same_name r.route route))) (same_rows (sym it.rows)) }
-
 ref_named : (name : Name) (r : Row) → are_typed None 0 ref_table.columns (drop 1 r) ≡ true → are_present None 0 ref_table.columns r ≡ true
     → passes statement.take_ref_tests (Text name ∷ []) r ≡ list_any (same_name (stored.ref_in (map (column r) stored.ref_places)).name) (name ∷ [])
 ref_named name r typed present =
@@ -95,22 +71,22 @@ and_shape true true false = refl
 and_shape true false c = refl
 and_shape false b c = refl
 
--- the parameters by which a span's row is found
-abbrev pub key_cells : Name → Span → Row
-key_cells route s = Int (pos s.asset) ∷ Text route ∷ Int (pos s.from) ∷ []
+-- the parameters by which a span's row is found, and others
+abbrev pub key_cells : Name → Span → Row → Row
+key_cells route s more = Int (pos s.asset) ∷ Text route ∷ Int (pos s.from) ∷ more
 
-span_keyed : (route : Name) (s : Span) (r : Row) → are_typed None 0 span_table.columns (drop 1 r) ≡ true → are_present None 0 span_table.columns r ≡ true
-    → passes statement.take_span_tests (key_cells route s) r ≡ list_any (λ x. has_key_of route x (stored.span_in (map (column r) stored.span_places))) (s ∷ [])
-span_keyed route s r typed present =
+pub span_keyed : (route : Name) (s : Span) (more : Row) (r : Row) → are_typed None 0 span_table.columns (drop 1 r) ≡ true → are_present None 0 span_table.columns r ≡ true
+    → passes statement.take_span_tests (key_cells route s more) r ≡ list_any (λ x. has_key_of route x (stored.span_in (map (column r) stored.span_places))) (s ∷ [])
+span_keyed route s more r typed present =
     let a = holds_eq (column r 1) (Int (pos s.asset)) refl ∙ whole_key (column r 1) s.asset (whole_column span_table.columns r 0 (codes "asset") typed present refl) in
     let b = holds_eq (column r 2) (Text route) refl ∙ text_key (column r 2) route (text_column span_table.columns r 1 (codes "route") typed present refl) in
     let c = holds_eq (column r 3) (Int (pos s.from)) refl ∙ whole_key (column r 3) s.from (whole_column span_table.columns r 2 (codes "lo") typed present refl) in
     ap₂ (λ x y. x && y) a (ap₂ (λ x y. x && y) b (ap (λ x. x && true) c))
     ∙ and_shape (is_number s.asset (whole_in (column r 1))) (same_name (text_in (column r 2)) route) (is_number s.from (whole_in (column r 3))) ∙ sym (or_false _)
 
-pub span_taken : (route : Name) (s : Span) (old new : State) (count : ℕ) → IsWriting old → ExecutesInside 0 it.take_span (key_cells route s) old new (Ok count)
+pub span_taken : (route : Name) (s : Span) (old new : State) (count : ℕ) → IsWriting old → ExecutesInside 0 it.take_span (key_cells route s []) old new (Ok count)
     → Makes (less_spans route (s ∷ [])) old new
 span_taken route s old new count writing h =
-    let it = takes_rows 7 (codes "span") 11 None (1 ∷ 2 ∷ 3 ∷ []) ((1 ∷ 2 ∷ 3 ∷ []) ∷ []) (plain ∷ []) (refers 1 (codes "asset") ∷ []) (whole (codes "asset") ∷ words (codes "route") ∷ whole (codes "lo") ∷ whole (codes "hi") ∷ whole (codes "side") ∷ []) refl refl it.take_span statement.take_span_tests statement.take_span_is stored.span_in stored.span_places (λ r. list_any (λ x. has_key_of route x r) (s ∷ [])) (key_cells route s)
-    (span_keyed route s) old new count writing h in
+    let it = takes_rows 7 (codes "span") 11 None (1 ∷ 2 ∷ 3 ∷ []) ((1 ∷ 2 ∷ 3 ∷ []) ∷ []) (plain ∷ []) (refers 1 (codes "asset") ∷ []) (whole (codes "asset") ∷ words (codes "route") ∷ whole (codes "lo") ∷ whole (codes "hi") ∷ whole (codes "side") ∷ []) refl refl it.take_span statement.take_span_tests statement.take_span_is stored.span_in stored.span_places (λ r. list_any (λ x. has_key_of route x r) (s ∷ [])) (key_cells route s [])
+    (span_keyed route s []) old new count writing h in
     record { writing = it.writing; was_open = λ opened. it.was_open; rows = only.only_span old.now.trees new.now.trees it.others (filter (λ r. not (list_any (λ x. has_key_of route x r) (s ∷ [])))) (same_rows (sym it.rows)) }

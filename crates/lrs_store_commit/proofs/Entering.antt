@@ -9,6 +9,7 @@ use Rattle.lrs_events.specs.declared.part.Part.{Part}
 use Rattle.lrs_machine.specs.declared.image.Edit.{Edit}
 use Rattle.lrs_image.specs.declared.change.Difference.{Difference}
 use Rattle.lrs_image.specs.declared.change.Change.{Change}
+use Rattle.lrs_image.specs.Change.{no_keys}
 use Rattle.lrs_store_rows.specs.Tables.{Tables, AreSame}
 use Rattle.lrs_store_rows.specs.Encoding.{span_row, edit_row, numbered}
 use Rattle.lrs_store_tables.specs.RowLaws.{same_refl, same_trans, none_less}
@@ -65,7 +66,7 @@ module _ (e : Edit) (a : Asset) (route : Name) (s : Span) (ps : List Part) where
 
   its_rows : (n : ℕ) (t : Tables) → AreSame (written n its None None t) (with_entry n its t)
   its_rows n t =
-      let named : AreSame (renamed_route route route (unnamed t)) (unnamed t) = renamed_itself route (unnamed t) in
+      let named : AreSame (renamed_route route route no_keys (unnamed t)) (unnamed t) = renamed_itself route no_keys (unnamed t) in
       same_trans _ (rest n (unnamed t)) _ (steady-with_edit n e _ _ (steady-with_gone [] _ _ (steady-with_entered ps _ _ named))) (settled n t)
 
   its_written : (n : ℕ) (before after : Tables) → AreSame (with_entry n its before) after → IsWritten n its before after

@@ -37,24 +37,24 @@ none_left [] is = refl
 none_left (x ∷ xs) is = absurd (omega (arith, is))
 
 -- a change of a route by its fields
-same_change : (route name : Name) (course : Option (List Ground)) (marks : Option (List Mark)) (gone : List Name) (come : List Referent) (spans_gone spans_come : List Span) (span : Span)
-    → name ≡ route → course ≡ None → marks ≡ None → gone ≡ [] → come ≡ [] → spans_gone ≡ [] → spans_come ≡ span ∷ []
-    → ◌≡◌ {A = RouteChange} (record { route = route; name = name; course = course; marks = marks; refs = record { gone = gone; come = come }; spans_gone = spans_gone; spans_come = spans_come }) (with_one_span route span)
-same_change route name course marks gone come spans_gone spans_come span a b c d e f g = rw (a, b, c, d, e, f, g)
+same_change : (route name : Name) (course : Option (List Ground)) (marks : Option (List Mark)) (refs : List Name) (spans : List Span) (gone : List Name) (come : List Referent) (spans_gone spans_come : List Span) (span : Span)
+    → name ≡ route → course ≡ None → marks ≡ None → refs ≡ [] → spans ≡ [] → gone ≡ [] → come ≡ [] → spans_gone ≡ [] → spans_come ≡ span ∷ []
+    → ◌≡◌ {A = RouteChange} (record { route = route; name = name; keys = record { refs = refs; spans = spans }; course = course; marks = marks; refs = record { gone = gone; come = come }; spans_gone = spans_gone; spans_come = spans_come }) (with_one_span route span)
+same_change route name course marks refs spans gone come spans_gone spans_come span a b c d e f g h k = rw (a, b, c, d, e, f, g, h, k)
 
-pub brings_span : (r : RouteChange) → r.name ≡ r.route → r.course ≡ None → r.marks ≡ None → length r.refs.gone ≡ 0 → length r.refs.come ≡ 0 → length r.spans_gone ≡ 0 → length r.spans_come ≡ 1 → BringsOneSpan r
-brings_span r name course marks gone come spans_gone spans_come =
+pub brings_span : (r : RouteChange) → r.name ≡ r.route → r.course ≡ None → r.marks ≡ None → length r.keys.refs ≡ 0 → length r.keys.spans ≡ 0 → length r.refs.gone ≡ 0 → length r.refs.come ≡ 0 → length r.spans_gone ≡ 0 → length r.spans_come ≡ 1 → BringsOneSpan r
+brings_span r name course marks refs spans gone come spans_gone spans_come =
     let one = alone r.spans_come spans_come in
-    record { span = one.one; is = same_change r.route r.name r.course r.marks r.refs.gone r.refs.come r.spans_gone r.spans_come one.one name course marks (none_left r.refs.gone gone) (none_left r.refs.come come) (none_left r.spans_gone spans_gone) one.is }
+    record { span = one.one; is = same_change r.route r.name r.course r.marks r.keys.refs r.keys.spans r.refs.gone r.refs.come r.spans_gone r.spans_come one.one name course marks (none_left r.keys.refs refs) (none_left r.keys.spans spans) (none_left r.refs.gone gone) (none_left r.refs.come come) (none_left r.spans_gone spans_gone) one.is }
 
-same_difference : (link : Option Link) (class : Option Class) (asset : Option Asset) (changed : Option RouteChange) (dropped : Option Name) (made : Option RouteRow) (entered : List Part) (gone : List Gone) (a : Asset)
-    → link ≡ None → class ≡ None → asset ≡ Some a → dropped ≡ None → made ≡ None → gone ≡ []
-    → ◌≡◌ {A = Difference} (record { link = link; class = class; asset = asset; changed = changed; dropped = dropped; made = made; entered = entered; gone = gone }) (record no_difference { asset = Some a; changed = changed; entered = entered })
-same_difference link class asset changed dropped made entered gone a h i j k l m = rw (h, i, j, k, l, m)
+same_difference : (link : Option Link) (class : Option Class) (asset : Option Asset) (changed : Option RouteChange) (dropped : Option Name) (refs : List Name) (spans : List Span) (made : Option RouteRow) (entered : List Part) (gone : List Gone) (a : Asset)
+    → link ≡ None → class ≡ None → asset ≡ Some a → dropped ≡ None → refs ≡ [] → spans ≡ [] → made ≡ None → gone ≡ []
+    → ◌≡◌ {A = Difference} (record { link = link; class = class; asset = asset; changed = changed; dropped = dropped; keys = record { refs = refs; spans = spans }; made = made; entered = entered; gone = gone }) (record no_difference { asset = Some a; changed = changed; entered = entered })
+same_difference link class asset changed dropped refs spans made entered gone a h i j k l m n o = rw (h, i, j, k, l, m, n, o)
 
-pub brings_asset : (d : Difference) (a : Asset) → d.link ≡ None → d.class ≡ None → d.asset ≡ Some a → d.dropped ≡ None → d.made ≡ None → length d.gone ≡ 0 → BringsOneAsset d
-brings_asset d a link class asset dropped made gone =
-    record { asset = a; is = same_difference d.link d.class d.asset d.changed d.dropped d.made d.entered d.gone a link class asset dropped made (none_left d.gone gone) }
+pub brings_asset : (d : Difference) (a : Asset) → d.link ≡ None → d.class ≡ None → d.asset ≡ Some a → d.dropped ≡ None → length d.keys.refs ≡ 0 → length d.keys.spans ≡ 0 → d.made ≡ None → length d.gone ≡ 0 → BringsOneAsset d
+brings_asset d a link class asset dropped refs spans made gone =
+    record { asset = a; is = same_difference d.link d.class d.asset d.changed d.dropped d.keys.refs d.keys.spans d.made d.entered d.gone a link class asset dropped (none_left d.keys.refs refs) (none_left d.keys.spans spans) made (none_left d.gone gone) }
 
 pub record IsSome {X : Type 0} (xs : List X) : Type 0 where
   pub first : X

@@ -6,7 +6,8 @@ use Rattle.sqlite_tied.specs.Compute.{everything}
 use Rattle.sqlite.specs.Listing.{understood}
 use Rattle.sqlite.proofs.Callers.{IsPlain, command_of}
 use Rattle.lrs_store_tables.specs.Schema as it
-pub use Rattle.lrs_store_commit.proofs.DeleteStatements.{drop_piece_tests, drop_mark_tests, drop_ref_tests, drop_span_tests}
+use Rattle.lrs_store_commit.proofs.DeleteStatements.{eq}
+pub use Rattle.lrs_store_commit.proofs.DeleteStatements.{drop_piece_tests, drop_mark_tests, take_span_tests}
 use Rattle.lrs_store_commit.proofs.UpdateRows.{changing}
 
 abbrev pub rename_piece_row : List Term
@@ -23,16 +24,19 @@ pub rename_mark_is : (command_of (understood it.inventory it.rename_mark) ≡ Up
 unfolding understood everything
 rename_mark_is = (refl, (refl, refl))
 
-abbrev pub rename_ref_row : List Term
-rename_ref_row = col 1 0 ∷ col 1 1 ∷ col 0 1 ∷ col 1 3 ∷ []
+abbrev pub rename_ref_tests : List Term
+rename_ref_tests = eq (col 1 1) (col 0 0) ∷ eq (col 1 2) (col 0 1) ∷ []
 
-pub rename_ref_is : (command_of (understood it.inventory it.rename_ref) ≡ Update 6 (changing 9 drop_ref_tests rename_ref_row)) × IsPlain (understood it.inventory it.rename_ref)
+abbrev pub rename_ref_row : List Term
+rename_ref_row = col 1 0 ∷ col 1 1 ∷ col 0 2 ∷ col 1 3 ∷ []
+
+pub rename_ref_is : (command_of (understood it.inventory it.rename_ref) ≡ Update 6 (changing 9 rename_ref_tests rename_ref_row)) × IsPlain (understood it.inventory it.rename_ref)
 unfolding understood everything
 rename_ref_is = (refl, (refl, refl))
 
 abbrev pub rename_span_row : List Term
-rename_span_row = col 1 0 ∷ col 1 1 ∷ col 0 1 ∷ col 1 3 ∷ col 1 4 ∷ col 1 5 ∷ []
+rename_span_row = col 1 0 ∷ col 1 1 ∷ col 0 3 ∷ col 1 3 ∷ col 1 4 ∷ col 1 5 ∷ []
 
-pub rename_span_is : (command_of (understood it.inventory it.rename_span) ≡ Update 7 (changing 11 drop_span_tests rename_span_row)) × IsPlain (understood it.inventory it.rename_span)
+pub rename_span_is : (command_of (understood it.inventory it.rename_span) ≡ Update 7 (changing 11 take_span_tests rename_span_row)) × IsPlain (understood it.inventory it.rename_span)
 unfolding understood everything
 rename_span_is = (refl, (refl, refl))

@@ -8,14 +8,14 @@ use Rattle.lrs_events.specs.declared.part.Part.{Part}
 use Rattle.lrs_image.specs.declared.change.RouteChange.{RouteChange}
 use Rattle.lrs_image.specs.declared.change.Difference.{Difference}
 use Rattle.lrs_image.specs.declared.change.Change.{Change}
-use Rattle.lrs_image.specs.Change.{no_difference}
+use Rattle.lrs_image.specs.Change.{no_keys, no_difference}
 use Rattle.lrs_store_rows.specs.Tables.{Tables, AssetRow, OriginRow, SpanRow, EnteredRow}
 use Rattle.lrs_store_rows.specs.Laws.{origin_row}
 use Rattle.lrs_store_rows.specs.Encoding.{asset_row, span_row, entered_row, edit_row, numbered}
 
 -- a route that gets one span, and stays as it is otherwise
 abbrev pub with_one_span : Name → Span → RouteChange
-with_one_span route span = record { route = route; name = route; course = None; marks = None; refs = record { gone = []; come = [] }; spans_gone = []; spans_come = span ∷ [] }
+with_one_span route span = record { route = route; name = route; keys = no_keys; course = None; marks = None; refs = record { gone = []; come = [] }; spans_gone = []; spans_come = span ∷ [] }
 
 pub record BringsOneSpan (r : RouteChange) : Type 0 where
   pub span : Span

@@ -15,22 +15,26 @@ use crate::lists::write_all;
 use crate::new_assets::are_new_assets;
 use crate::routes::{change_route, drop_route, put_route};
 use lrs_events::{Gone, Part};
-use lrs_image::{Change, Difference, RouteChange};
+use lrs_image::{Change, Difference, RouteChange, RouteKeys};
 use lrs_machine::RouteRow;
 use lrs_measure::Rows;
 use lrs_position::RouteName;
 use lrs_store_tables::insert::put_edit;
 use sqlite::{Alter, Connection, Error, Transaction};
 
-/// A route goes, if one does.
-fn drop_some<S: Alter>(tx: &mut Transaction<'_, S>, route: &Option<RouteName>) -> Result<(), Error>
+/// A route goes, if one does, with what lies on it.
+fn drop_some<S: Alter>(
+    tx: &mut Transaction<'_, S>,
+    route: &Option<RouteName>,
+    keys: &RouteKeys,
+) -> Result<(), Error>
     ensures same_reference { tx.new.conn.ghost_name ≡ tx.old.conn.ghost_name }
     ensures does { OkDoes result (state S.Store tx.old.conn.now) (state S.Store tx.new.conn.now)
-        (Makes (with_some without_route route.now)) }
+        (Makes (with_some (λ r. without_route r keys.now) route.now)) }
     ensures survives { LeavesStore (state S.Store tx.old.conn.now) (state S.Store tx.new.conn.now) }
 {
     match route {
-        Some(route) => drop_route(tx, route),
+        Some(route) => drop_route(tx, route, keys),
         None => Ok(()),
     }
 }
@@ -113,7 +117,7 @@ fn write_rows<S: Alter>(tx: &mut Transaction<'_, S>, n: u64, change: &Change) ->
 {
     let difference = &change.difference;
     put_named(tx, difference)?;
-    drop_some(tx, &difference.dropped)?;
+    drop_some(tx, &difference.dropped, &difference.keys)?;
     change_some(tx, &difference.changed)?;
     put_some(tx, &difference.made)?;
     put_ledgers(tx, difference)?;

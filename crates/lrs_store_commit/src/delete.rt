@@ -3,7 +3,7 @@
 ghost use Rattle.std.specs.Prelude.{◌≡◌};
 ghost use Rattle.sqlite.specs.Held.{state};
 ghost use Rattle.lrs_store_tables.specs.Stored.{Makes, OkDoes, LeavesStore};
-ghost use Rattle.lrs_store_tables.specs.Changing.{without_pieces, without_marks, without_refs, without_spans, less_spans, less_refs};
+ghost use Rattle.lrs_store_tables.specs.Changing.{without_pieces, without_marks, less_spans, less_refs};
 ghost use Rattle.lrs_store_tables.specs.RowLaws.{no_less_spans, no_less_refs, less_spans_more, less_refs_more};
 
 use crate::lists::Written;
@@ -34,30 +34,6 @@ pub fn drop_marks<S: Alter>(tx: &mut Transaction<'_, S>, route: &RouteName) -> R
 {
     let name = ValueRef::Text(route.bytes());
     tx.execute("DELETE FROM mark WHERE route = ?1", &[name])?;
-    Ok(())
-}
-
-/// The referents of a route go.
-pub fn drop_refs<S: Alter>(tx: &mut Transaction<'_, S>, route: &RouteName) -> Result<(), Error>
-    ensures same_reference { tx.new.conn.ghost_name ≡ tx.old.conn.ghost_name }
-    ensures does { OkDoes result (state S.Store tx.old.conn.now) (state S.Store tx.new.conn.now)
-        (Makes (without_refs route.now)) }
-    ensures survives { LeavesStore (state S.Store tx.old.conn.now) (state S.Store tx.new.conn.now) }
-{
-    let name = ValueRef::Text(route.bytes());
-    tx.execute("DELETE FROM ref WHERE route = ?1", &[name])?;
-    Ok(())
-}
-
-/// The spans of a route go.
-pub fn drop_spans<S: Alter>(tx: &mut Transaction<'_, S>, route: &RouteName) -> Result<(), Error>
-    ensures same_reference { tx.new.conn.ghost_name ≡ tx.old.conn.ghost_name }
-    ensures does { OkDoes result (state S.Store tx.old.conn.now) (state S.Store tx.new.conn.now)
-        (Makes (without_spans route.now)) }
-    ensures survives { LeavesStore (state S.Store tx.old.conn.now) (state S.Store tx.new.conn.now) }
-{
-    let name = ValueRef::Text(route.bytes());
-    tx.execute("DELETE FROM span WHERE route = ?1", &[name])?;
     Ok(())
 }
 

@@ -13,6 +13,9 @@ fn brings_one_span(change: &RouteChange) -> bool
     if change.name != change.route {
         return false;
     }
+    if !change.keys.refs.is_empty() || !change.keys.spans.is_empty() {
+        return false;
+    }
     if !change.refs.gone.is_empty() || !change.refs.come.is_empty() {
         return false;
     }
@@ -31,12 +34,15 @@ fn brings_one_asset(difference: &Difference) -> bool
         class,
         asset,
         dropped,
+        keys,
         made,
         gone,
         ..
     } = difference;
     match (link, class, asset, dropped, made) {
-        (None, None, Some(_), None, None) => gone.is_empty(),
+        (None, None, Some(_), None, None) => {
+            keys.refs.is_empty() && keys.spans.is_empty() && gone.is_empty()
+        }
         _ => false,
     }
 }

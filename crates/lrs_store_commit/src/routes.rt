@@ -3,16 +3,16 @@
 ghost use Rattle.std.specs.Prelude.{◌≡◌, Some};
 ghost use Rattle.sqlite.specs.Held.{state};
 ghost use Rattle.lrs_store_tables.specs.Stored.{Makes, OkDoes, LeavesStore};
-ghost use Rattle.lrs_store_tables.specs.Changing.{with_pieces, with_marks, with_refs, with_spans, without_route, less_spans, less_refs, renamed_route};
+ghost use Rattle.lrs_store_tables.specs.Changing.{with_pieces, with_marks, with_refs, with_spans, without_route, less_spans, less_refs, renamed_refs, renamed_spans, renamed_route};
 ghost use Rattle.lrs_store_tables.specs.Writing.{MakesOf, with_some, new_pieces, new_marks, changed_refs, changed_spans, changed_line, changed_route, new_route};
 
-use crate::delete::{Going, drop_marks, drop_pieces, drop_refs, drop_spans};
+use crate::delete::{Going, drop_marks, drop_pieces};
 use crate::insert_lists::Coming;
 use crate::lists::write_all;
-use crate::update::{rename_marks, rename_pieces, rename_refs, rename_spans};
+use crate::update::{Renaming, rename_marks, rename_pieces};
 use lrs_element::{Course, Marks};
 use lrs_events::Span;
-use lrs_image::{ReferentChange, RouteChange};
+use lrs_image::{ReferentChange, RouteChange, RouteKeys};
 use lrs_machine::RouteRow;
 use lrs_measure::Rows;
 use lrs_position::{RefName, Referent, RouteName};
@@ -208,21 +208,62 @@ fn change_spans<S: Alter>(tx: &mut Transaction<'_, S>, change: &RouteChange) -> 
     Ok(())
 }
 
-/// A route gets its new name.
+/// Referents get the new name of their route, by their names.
+fn rename_refs<S: Alter>(
+    tx: &mut Transaction<'_, S>,
+    route: &RouteName,
+    name: &RouteName,
+    refs: &Rows<RefName>,
+) -> Result<(), Error>
+    ensures same_reference { tx.new.conn.ghost_name ≡ tx.old.conn.ghost_name }
+    ensures does { OkDoes result (state S.Store tx.old.conn.now) (state S.Store tx.new.conn.now)
+        (Makes (renamed_refs route.now name.now refs.now)) }
+    ensures survives { LeavesStore (state S.Store tx.old.conn.now) (state S.Store tx.new.conn.now) }
+{
+    let of = Renaming {
+        route: *route,
+        name: *name,
+    };
+    write_all(tx, &of, refs.as_slice())?;
+    Ok(())
+}
+
+/// Spans get the new name of their route, by their keys.
+fn rename_spans<S: Alter>(
+    tx: &mut Transaction<'_, S>,
+    route: &RouteName,
+    name: &RouteName,
+    spans: &Rows<Span>,
+) -> Result<(), Error>
+    ensures same_reference { tx.new.conn.ghost_name ≡ tx.old.conn.ghost_name }
+    ensures does { OkDoes result (state S.Store tx.old.conn.now) (state S.Store tx.new.conn.now)
+        (Makes (renamed_spans route.now name.now spans.now)) }
+    ensures survives { LeavesStore (state S.Store tx.old.conn.now) (state S.Store tx.new.conn.now) }
+{
+    let of = Renaming {
+        route: *route,
+        name: *name,
+    };
+    write_all(tx, &of, spans.as_slice())?;
+    Ok(())
+}
+
+/// A route gets its new name, with what lies on it.
 fn rename_route<S: Alter>(
     tx: &mut Transaction<'_, S>,
     route: &RouteName,
     name: &RouteName,
+    keys: &RouteKeys,
 ) -> Result<(), Error>
     ensures same_reference { tx.new.conn.ghost_name ≡ tx.old.conn.ghost_name }
     ensures does { OkDoes result (state S.Store tx.old.conn.now) (state S.Store tx.new.conn.now)
-        (Makes (renamed_route route.now name.now)) }
+        (Makes (renamed_route route.now name.now keys.now)) }
     ensures survives { LeavesStore (state S.Store tx.old.conn.now) (state S.Store tx.new.conn.now) }
 {
     rename_pieces(tx, route, name)?;
     rename_marks(tx, route, name)?;
-    rename_refs(tx, route, name)?;
-    rename_spans(tx, route, name)?;
+    rename_refs(tx, route, name, &keys.refs)?;
+    rename_spans(tx, route, name, &keys.spans)?;
     Ok(())
 }
 
@@ -231,16 +272,17 @@ fn rename_if_new<S: Alter>(
     tx: &mut Transaction<'_, S>,
     route: &RouteName,
     name: &RouteName,
+    keys: &RouteKeys,
 ) -> Result<(), Error>
     ensures same_reference { tx.new.conn.ghost_name ≡ tx.old.conn.ghost_name }
     ensures does { OkDoes result (state S.Store tx.old.conn.now) (state S.Store tx.new.conn.now)
-        (Makes (renamed_route route.now name.now)) }
+        (Makes (renamed_route route.now name.now keys.now)) }
     ensures survives { LeavesStore (state S.Store tx.old.conn.now) (state S.Store tx.new.conn.now) }
 {
     if route == name {
         return Ok(());
     }
-    rename_route(tx, route, name)?;
+    rename_route(tx, route, name, keys)?;
     Ok(())
 }
 
@@ -269,21 +311,25 @@ pub fn change_route<S: Alter>(
     change_line(tx, change)?;
     change_refs(tx, &change.route, &change.refs)?;
     change_spans(tx, change)?;
-    rename_if_new(tx, &change.route, &change.name)?;
+    rename_if_new(tx, &change.route, &change.name, &change.keys)?;
     Ok(())
 }
 
 /// A route goes, with what lies on it.
-pub fn drop_route<S: Alter>(tx: &mut Transaction<'_, S>, route: &RouteName) -> Result<(), Error>
+pub fn drop_route<S: Alter>(
+    tx: &mut Transaction<'_, S>,
+    route: &RouteName,
+    keys: &RouteKeys,
+) -> Result<(), Error>
     ensures same_reference { tx.new.conn.ghost_name ≡ tx.old.conn.ghost_name }
     ensures does { OkDoes result (state S.Store tx.old.conn.now) (state S.Store tx.new.conn.now)
-        (Makes (without_route route.now)) }
+        (Makes (without_route route.now keys.now)) }
     ensures survives { LeavesStore (state S.Store tx.old.conn.now) (state S.Store tx.new.conn.now) }
 {
     drop_pieces(tx, route)?;
     drop_marks(tx, route)?;
-    drop_refs(tx, route)?;
-    drop_spans(tx, route)?;
+    take_refs(tx, route, &keys.refs)?;
+    take_spans(tx, route, &keys.spans)?;
     Ok(())
 }
 

@@ -1,11 +1,15 @@
-//! Rows of a route that gets another name.
+//! Rows of a route that gets another name: all of it in a table, or some by their keys.
 
 ghost use Rattle.std.specs.Prelude.{◌≡◌};
 ghost use Rattle.sqlite.specs.Held.{state};
 ghost use Rattle.lrs_store_tables.specs.Stored.{Makes, OkDoes, LeavesStore};
 ghost use Rattle.lrs_store_tables.specs.Changing.{renamed_pieces, renamed_marks, renamed_refs, renamed_spans};
+ghost use Rattle.lrs_store_tables.specs.RowLaws.{no_renamed_refs, no_renamed_spans, renamed_refs_more, renamed_spans_more};
 
-use lrs_position::RouteName;
+use crate::lists::Written;
+use lrs_events::Span;
+use lrs_position::{RefName, RouteName};
+use lrs_store_tables::number::number;
 use sqlite::types::ValueRef;
 use sqlite::{Alter, Error, Transaction};
 
@@ -43,36 +47,58 @@ pub fn rename_marks<S: Alter>(
     Ok(())
 }
 
-/// The referents of a route get its new name.
-pub fn rename_refs<S: Alter>(
-    tx: &mut Transaction<'_, S>,
-    route: &RouteName,
-    name: &RouteName,
-) -> Result<(), Error>
-    ensures same_reference { tx.new.conn.ghost_name ≡ tx.old.conn.ghost_name }
-    ensures does { OkDoes result (state S.Store tx.old.conn.now) (state S.Store tx.new.conn.now)
-        (Makes (renamed_refs route.now name.now)) }
-    ensures survives { LeavesStore (state S.Store tx.old.conn.now) (state S.Store tx.new.conn.now) }
-{
-    let old = ValueRef::Text(route.bytes());
-    let new = ValueRef::Text(name.bytes());
-    tx.execute("UPDATE ref SET route = ?2 WHERE route = ?1", &[old, new])?;
-    Ok(())
+/// The route whose rows get its new name.
+#[derive(Clone, Copy)]
+pub struct Renaming {
+    pub route: RouteName,
+    pub name: RouteName,
 }
 
-/// The spans of a route get its new name.
-pub fn rename_spans<S: Alter>(
-    tx: &mut Transaction<'_, S>,
-    route: &RouteName,
-    name: &RouteName,
-) -> Result<(), Error>
-    ensures same_reference { tx.new.conn.ghost_name ≡ tx.old.conn.ghost_name }
-    ensures does { OkDoes result (state S.Store tx.old.conn.now) (state S.Store tx.new.conn.now)
-        (Makes (renamed_spans route.now name.now)) }
-    ensures survives { LeavesStore (state S.Store tx.old.conn.now) (state S.Store tx.new.conn.now) }
-{
-    let old = ValueRef::Text(route.bytes());
-    let new = ValueRef::Text(name.bytes());
-    tx.execute("UPDATE span SET route = ?2 WHERE route = ?1", &[old, new])?;
-    Ok(())
+impl Written<Renaming> for Span {
+    ghost all = { λ of n spans. renamed_spans of.route of.name spans };
+
+    fn write<S: Alter>(
+        &self,
+        tx: &mut Transaction<'_, S>,
+        of: &Renaming,
+        _n: u64,
+    ) -> Result<(), Error> {
+        let asset = number(self.asset)?;
+        let old = ValueRef::Text(of.route.bytes());
+        let from = number(self.from)?;
+        let new = ValueRef::Text(of.name.bytes());
+        tx.execute(
+            "UPDATE span SET route = ?4 WHERE asset = ?1 AND route = ?2 AND lo = ?3",
+            &[asset, old, from, new],
+        )?;
+        Ok(())
+    }
+
+    ghost none = { λ of n t. no_renamed_spans of.route of.name t };
+
+    ghost more = { λ of n k xs x t u at same. renamed_spans_more of.route of.name xs x t u same };
+}
+
+impl Written<Renaming> for RefName {
+    ghost all = { λ of n names. renamed_refs of.route of.name names };
+
+    fn write<S: Alter>(
+        &self,
+        tx: &mut Transaction<'_, S>,
+        of: &Renaming,
+        _n: u64,
+    ) -> Result<(), Error> {
+        let name = ValueRef::Text(self.bytes());
+        let old = ValueRef::Text(of.route.bytes());
+        let new = ValueRef::Text(of.name.bytes());
+        tx.execute(
+            "UPDATE ref SET route = ?3 WHERE name = ?1 AND route = ?2",
+            &[name, old, new],
+        )?;
+        Ok(())
+    }
+
+    ghost none = { λ of n t. no_renamed_refs of.route of.name t };
+
+    ghost more = { λ of n k xs x t u at same. renamed_refs_more of.route of.name xs x t u same };
 }

@@ -30,7 +30,7 @@ beside route ps ms rs ss t = record t {
   span = map (span_row route) ss ++ t.span;
 }
 
-and_false : (b : Bool) → (b && false) ≡ false
+pub and_false : (b : Bool) → (b && false) ≡ false
 and_false true = refl
 and_false false = refl
 
@@ -90,7 +90,7 @@ changed_refs_beside route c t clear ps ms rs ss =
 abbrev pub AreKeyedAs : RouteChange → List Span → Type 0
 AreKeyedAs c ss = AllByRecursion (λ s. list_any (λ g. has_key_of c.route g (span_row c.route s)) c.spans_gone ≡ has_row c.spans_gone s) ss
 
-other_keys : (route : Name) (gone : List Span) (r : SpanRow) → same_name r.route route ≡ false → list_any (λ g. has_key_of route g r) gone ≡ false
+pub other_keys : (route : Name) (gone : List Span) (r : SpanRow) → same_name r.route route ≡ false → list_any (λ g. has_key_of route g r) gone ≡ false
 other_keys route [] r h = refl
 other_keys route (g ∷ gs) r h =
     let here : has_key_of route g r ≡ false = ap (λ b. (is_number g.asset r.asset && b) && is_number g.from r.lo) h ∙ ap (λ b. b && is_number g.from r.lo) (and_false (is_number g.asset r.asset)) in

@@ -27,10 +27,11 @@ use Rattle.lrs_store_tables.specs.Writing.{with_some, with_named, with_routes, w
 use Rattle.lrs_store_tables.specs.RowLaws.{same_trans}
 use Rattle.lrs_store_laws.specs.ChangeLaws.{WrittenIsEncoded}
 use Rattle.lrs_store_laws.proofs.Keys.{keys_are_rows}
-use Rattle.lrs_store_laws.proofs.Tabled.{over, all_permuted, encodes_over, drops_some}
+use Rattle.lrs_store_laws.proofs.Tabled.{over, all_permuted, encodes_over}
 use Rattle.lrs_store_laws.proofs.Appended.{named, puts_named, puts_ledgers, puts_edit}
 use Rattle.lrs_store_laws.proofs.Routes.{AreOthers, IsBeside, comes, changes}
 use Rattle.lrs_store_laws.proofs.Apart.{differ, referents, others_apart, put_in, taken, found_is_named, gone_elsewhere, IsKept, all_that_stay, stays_first}
+use Rattle.lrs_store_laws.proofs.Dropped.{drops_some}
 
 -- What is asked of the routes of a sound image.
 record AreSound (routes : List RouteRow) : Type 0 where
@@ -65,6 +66,7 @@ changes_some (Some c) dropped pieces are routes sound can apart order i t h =
       new = all_that_stay dropped (λ (o : RouteRow). same_name o.route.name c.name ≡ false) others (subst (λ n. AreOthers n others) new_name (others_apart after others (routes_after (Some c) routes) same_after order));
       refs = all_that_stay dropped (λ (o : RouteRow). AllByRecursion (λ (r : Referent). list_any (same_name r.name) c.refs.gone ≡ false) o.route.refs) others (gone_elsewhere e others routes c.refs.gone same sound.once can.becomes.named);
       spans = keys_are_rows e.spans (all_permuted (λ (r : RouteRow). are_rows r.spans ≡ true) routes (e ∷ others) same sound.rows).0 c.route c.spans_gone can.becomes.there;
+      renamed = can.becomes.renamed;
     } in
     encodes_over i (after ∷ without_some dropped others) (without_some dropped (routes_after (Some c) routes)) (changed_route c pieces t) stays_after
     (changes c pieces are e i (without_some dropped others) t beside
@@ -93,8 +95,10 @@ written_is_encoded i c t after sound can encodes written =
     let d = c.difference in
     let next = named d i in
     let e1 = puts_named d i t encodes in
-    let e2 = drops_some d.dropped next i.routes (with_named d t) e1 in
-    let e3 = changes_some d.changed d.dropped written.changed written.changed_are i.routes (are_sound i sound) can.differ.route can.differ.apart can.differ.names next (with_some without_route d.dropped (with_named d t)) e2 in
+    let routes_are = are_sound i sound in
+    let gone = with_some (λ name. without_route name d.keys) d.dropped (with_named d t) in
+    let e2 = drops_some d.dropped d.keys i.routes can.differ.whole routes_are.order routes_are.once next (with_named d t) e1 in
+    let e3 = changes_some d.changed d.dropped written.changed written.changed_are i.routes routes_are can.differ.route can.differ.apart can.differ.names next gone e2 in
     let e4 = comes_some d.made written.made written.made_are (without_some d.dropped (routes_after d.changed i.routes)) (routes_in_order (apply c i) can.sound) next _ e3 in
     let e5 = puts_ledgers d (over next (insert_some route_before d.made (without_some d.dropped (routes_after d.changed i.routes)))) (with_routes d written.changed written.made (with_named d t)) e4 in
     let e6 = puts_edit c.edit _ (with_ledgers d (with_routes d written.changed written.made (with_named d t))) e5 in

@@ -16,6 +16,12 @@ use Rattle.lrs_store_tables.specs.Changing.{has_key_of}
 use Rattle.lrs_store_laws.proofs.Lists.{any_alike, all_members}
 use Rattle.lrs_store_laws.proofs.Naming.{same_itself, same_test}
 
+-- the row of a span has its key
+pub key_itself : (route : Name) (s : Span) → has_key_of route s (span_row route s) ≡ true
+key_itself route s =
+    and_from (nat_eq s.asset s.asset && same_name route route) (nat_eq s.from s.from)
+    (and_from (nat_eq s.asset s.asset) (same_name route route) (eq-eqb s.asset s.asset refl) (same_itself route)) (eq-eqb s.from s.from refl)
+
 -- rows of one asset that begin together are not apart
 begin_together : (r s : Span) → is_row r ≡ true → is_row s ≡ true → r.asset ≡ s.asset → r.from ≡ s.from → are_apart r s ≡ false
 begin_together r s row other asset from = by (are_apart r s) refl
@@ -91,13 +97,8 @@ module _ (rows : List Span) (are : are_rows rows ≡ true) where
           let asset = and_parts (nat_eq s.asset g.asset) (same_name route route) key.0 in
           whole g s (sym (one_of_key s g n m (eqb-true s.asset g.asset asset.0) (eqb-true s.from g.from key.1)))
 
-      itself : has_key_of route s (span_row route s) ≡ true
-      itself =
-          and_from (nat_eq s.asset s.asset && same_name route route) (nat_eq s.from s.from)
-          (and_from (nat_eq s.asset s.asset) (same_name route route) (eq-eqb s.asset s.asset refl) (same_itself route)) (eq-eqb s.from s.from refl)
-
       back : same_row g s ≡ true → has_key_of route g (span_row route s) ≡ true
-      back h = subst (λ x. has_key_of route x (span_row route s) ≡ true) (sym (row_is g s h)) itself
+      back h = subst (λ x. has_key_of route x (span_row route s) ≡ true) (sym (row_is g s h)) (key_itself route s)
 
   -- Of rows that are there, those with the keys of some are these.
   pub keys_are_rows : (route : Name) (gone : List Span) → list_all (has_row rows) gone ≡ true → AllByRecursion (λ s. list_any (λ g. has_key_of route g (span_row route s)) gone ≡ has_row gone s) rows

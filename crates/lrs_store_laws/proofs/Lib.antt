@@ -15,4 +15,5 @@ pub mod Beside
 pub mod Changed
 pub mod Routes
 pub mod Apart
+pub mod Dropped
 pub mod ChangeWritten

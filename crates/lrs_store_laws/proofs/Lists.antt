@@ -27,6 +27,11 @@ module _ {X Y : Type 0} where
   flat_map_alike f g [] h = refl
   flat_map_alike f g (x ∷ xs) h = ap₂ (λ y ys. y ++ ys) h.0 (flat_map_alike f g xs h.1)
 
+module _ {X Y : Type 0} where
+  pub map_alike : (f g : X → Y) (xs : List X) → AllByRecursion (λ x. f x ≡ g x) xs → map f xs ≡ map g xs
+  map_alike f g [] h = refl
+  map_alike f g (x ∷ xs) h = ap₂ (λ y ys. y ∷ ys) h.0 (map_alike f g xs h.1)
+
 module _ {X : Type 0} where
   pub map_kept : (f : X → X) (xs : List X) → AllByRecursion (λ x. f x ≡ x) xs → map f xs ≡ xs
   map_kept f [] h = refl

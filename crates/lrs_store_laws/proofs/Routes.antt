@@ -14,7 +14,7 @@ use Rattle.lrs_events.specs.Changes.{without_rows}
 use Rattle.lrs_machine.specs.declared.image.RouteRow.{RouteRow}
 use Rattle.lrs_machine.specs.declared.image.Image.{Image}
 use Rattle.lrs_image.specs.declared.change.RouteChange.{RouteChange}
-use Rattle.lrs_image.specs.Change.{fits_after, route_after, entry_after, course_after}
+use Rattle.lrs_image.specs.Change.{fits_after, route_after, entry_after, course_after, IsRenamedWhole}
 use Rattle.lrs_image.proofs.Becoming.{becomes}
 use Rattle.lrs_store_rows.specs.Tables.{Tables, AreSame, PieceRow, MarkRow, RefRow, SpanRow}
 use Rattle.lrs_store_rows.specs.Encoding.{piece_row, mark_row, ref_row, span_row, numbered, ArePiecesOf}
@@ -68,7 +68,7 @@ comes e (Some own) are i others t apart h =
     (subst (ArePiecesOf e.route.course) (sym (own_is name own h.pieces)) are, others_are name own h.pieces others apart h.are)
     (subst (AreSame (encoded pieces (over i (e ∷ others)))) same (same_refl _))
 
--- A route that can change, beside the others: it has the old name, no other has the old or the new one, and what goes is on it alone.
+-- A route that can change, beside the others: it has the old name, no other has the old or the new one, what goes is on it alone, and where it gets another name all that then lies on it is named.
 pub record IsBeside (c : RouteChange) (e : RouteRow) (others : List RouteRow) : Type 0 where
   pub named : e.route.name ≡ c.route
   pub fits : fits_after c e.route ≡ true
@@ -76,6 +76,7 @@ pub record IsBeside (c : RouteChange) (e : RouteRow) (others : List RouteRow) : 
   pub new : AreOthers c.name others
   pub refs : AllByRecursion (λ (o : RouteRow). AllByRecursion (λ (r : Referent). list_any (same_name r.name) c.refs.gone ≡ false) o.route.refs) others
   pub spans : AreKeyedAs c e.spans
+  pub renamed : IsRenamedWhole c e
 
 clear_of : (c : RouteChange) (e : RouteRow) (others : List RouteRow) → IsBeside c e others → (pieces : Name → List Piece) (i : Image) → IsClearOf c.route c.refs.gone (encoded pieces (over i others))
 clear_of c e others h pieces i = record {
@@ -115,7 +116,7 @@ changes c changed are e i others t it h =
     let new : encoded pieces (over i (entry_after c e ∷ others)) ≡ beside c.name own (unwrap_or c.marks e.route.marks) refs spans rest =
     changed_one ∙ ap (λ ps. beside c.name ps (unwrap_or c.marks e.route.marks) refs spans rest) (own_is c.name own h.pieces) in
     let clear = clear_of c e others it h.pieces i in
-    let rows = becomes_beside c changed rest clear (h.pieces c.route) e.route.marks e.route.refs e.spans it.spans in
+    let rows = becomes_beside c changed rest clear (h.pieces c.route) e.route.marks e.route.refs e.spans it.spans it.renamed in
     let own_are : ArePiecesOf (course_after c e.route) own = pieces_after c.course changed are e.route.course (h.pieces c.route) (subst (λ name. ArePiecesOf e.route.course (h.pieces name)) it.named h.are.0) in
     encodes_by (changed_route c changed) (steady-changed_route c changed) (over i (e ∷ others)) (over i (entry_after c e ∷ others)) t h pieces
     (subst (λ course. ArePiecesOf course (pieces (route_after c e.route).name)) (sym after.course) (subst (ArePiecesOf (course_after c e.route)) (sym (ap pieces after.name ∙ own_is c.name own h.pieces)) own_are), others_are c.name own h.pieces others it.new h.are.1)

@@ -1,23 +1,18 @@
 -- The rows of an image whose routes are given.
-use Rattle.std.proofs.Common.{◌≡◌, not, List, map, refl, sym, IsPermutation}
-use Rattle.std.specs.Prelude.{Option, Some, None}
+use Rattle.std.proofs.Common.{List, map, IsPermutation}
 use Rattle.std.specs.List.{AllByRecursion}
 use Rattle.std.proofs.lemmas.List.Sorted.{IsPermutation-refl, IsPermutation-sym, All-permutation}
 use Rattle.std.proofs.lemmas.List.Elements.{All-from_recursion, recursion_from_All}
-use Rattle.sqlite_keyed.proofs.ListLemmas.{IsPermutation-flat_map, IsPermutation-same, all-map, all-filter}
-use Rattle.lrs_measure.specs.Texts.{Name, same_name}
+use Rattle.sqlite_keyed.proofs.ListLemmas.{IsPermutation-flat_map}
+use Rattle.lrs_measure.specs.Texts.{Name}
 use Rattle.lrs_element.specs.declared.link.Piece.{Piece}
 use Rattle.lrs_machine.specs.declared.image.RouteRow.{RouteRow}
 use Rattle.lrs_machine.specs.declared.image.Image.{Image}
-use Rattle.lrs_image.specs.Change.{is_named, without, without_some}
 use Rattle.lrs_store_rows.specs.Tables.{Tables, AreSame, PieceRow, MarkRow, RefRow, SpanRow}
 use Rattle.lrs_store_rows.specs.Encoding.{piece_row, mark_row, ref_row, span_row, numbered, ArePiecesOf}
 use Rattle.lrs_store_rows.specs.Encoded.{encoded, ArePiecesOfAll, Encodes}
-use Rattle.lrs_store_tables.specs.Changing.{without_route}
-use Rattle.lrs_store_tables.specs.Writing.{with_some}
 use Rattle.lrs_store_tables.specs.RowLaws.{same_trans}
-use Rattle.lrs_store_tables.proofs.Steady.{IsSteady, steady-without_route}
-use Rattle.lrs_store_laws.proofs.Lists.{numbered_all, filter-flat_map}
+use Rattle.lrs_store_tables.proofs.Steady.{IsSteady}
 
 -- an image with these routes
 abbrev pub over : Image → List RouteRow → Image
@@ -67,31 +62,3 @@ encodes_over i routes others t same e = record {
 -- What makes the rows of the new image of those of the old one does so in whichever order they are.
 pub encodes_by : (f : Tables → Tables) → IsSteady f → (i new : Image) (t : Tables) (e : Encodes i t) (pieces : Name → List Piece) → ArePiecesOfAll pieces new.routes → AreSame (encoded pieces new) (f (encoded e.pieces i)) → Encodes new (f t)
 encodes_by f steady i new t e pieces are rows = record { pieces = pieces; are = are; rows = same_trans _ _ _ rows (steady _ _ e.rows) }
-
--- A route that goes takes its rows with it.
-module _ (route : Name) where
-  dropped : (pieces : Name → List Piece) (i : Image) (routes : List RouteRow) → AreSame (encoded pieces (over i (without route routes))) (without_route route (encoded pieces (over i routes)))
-  dropped pieces i routes = record {
-    version = IsPermutation-refl _;
-    link = IsPermutation-refl _;
-    class = IsPermutation-refl _;
-    asset = IsPermutation-refl _;
-    piece = IsPermutation-same _ _ (sym (filter-flat_map (λ (r : PieceRow). not (same_name r.route route)) (λ e. not (is_named route e)) (pieces_of pieces) (λ e. numbered_all (λ (r : PieceRow). not (same_name r.route route) ≡ not (is_named route e)) (piece_row e.route.name) (λ k p. refl) 0 (pieces e.route.name)) routes));
-    mark = IsPermutation-same _ _ (sym (filter-flat_map (λ (r : MarkRow). not (same_name r.route route)) (λ e. not (is_named route e)) marks_of (λ e. numbered_all (λ (r : MarkRow). not (same_name r.route route) ≡ not (is_named route e)) (mark_row e.route.name) (λ k m. refl) 0 e.route.marks) routes));
-    ref = IsPermutation-same _ _ (sym (filter-flat_map (λ (r : RefRow). not (same_name r.route route)) (λ e. not (is_named route e)) refs_of (λ e. all-map (λ (r : RefRow). not (same_name r.route route) ≡ not (is_named route e)) (ref_row e.route.name) (λ r. refl) e.route.refs) routes));
-    span = IsPermutation-same _ _ (sym (filter-flat_map (λ (r : SpanRow). not (same_name r.route route)) (λ e. not (is_named route e)) spans_of (λ e. all-map (λ (r : SpanRow). not (same_name r.route route) ≡ not (is_named route e)) (span_row e.route.name) (λ s. refl) e.spans) routes));
-    entered = IsPermutation-refl _;
-    gone = IsPermutation-refl _;
-    edit = IsPermutation-refl _;
-    origin = IsPermutation-refl _;
-  }
-
-  drops : (i : Image) (routes : List RouteRow) (t : Tables) → Encodes (over i routes) t → Encodes (over i (without route routes)) (without_route route t)
-  drops i routes t e =
-      encodes_by (without_route route) (steady-without_route route) (over i routes) (over i (without route routes)) t e e.pieces
-      (all-filter (λ (r : RouteRow). ArePiecesOf r.route.course (e.pieces r.route.name)) (λ r. not (is_named route r)) routes e.are)
-      (dropped e.pieces i routes)
-
-pub drops_some : (route : Option Name) (i : Image) (routes : List RouteRow) (t : Tables) → Encodes (over i routes) t → Encodes (over i (without_some route routes)) (with_some without_route route t)
-drops_some None i routes t e = e
-drops_some (Some route) i routes t e = drops route i routes t e

@@ -18,6 +18,7 @@ use Rattle.lrs_machine.specs.declared.image.Edit.{Edit}
 use Rattle.lrs_machine.specs.declared.image.RouteRow.{RouteRow}
 use Rattle.lrs_image.specs.declared.change.ReferentChange.{ReferentChange}
 use Rattle.lrs_image.specs.declared.change.RouteChange.{RouteChange}
+use Rattle.lrs_image.specs.declared.change.RouteKeys.{RouteKeys}
 use Rattle.lrs_image.specs.declared.change.Difference.{Difference}
 use Rattle.lrs_store_rows.specs.Tables.{Tables}
 use Rattle.lrs_store_rows.specs.Laws.{origin_row}
@@ -88,17 +89,11 @@ steady-without_marks route a b h = record { version = h.version; link = h.link; 
 pub steady-renamed_marks : (old : Name) (new : Name) → IsSteady (it.renamed_marks old new)
 steady-renamed_marks old new a b h = record { version = h.version; link = h.link; class = h.class; asset = h.asset; piece = h.piece; mark = IsPermutation-map (it.renamed_mark old new) _ _ h.mark; ref = h.ref; span = h.span; entered = h.entered; gone = h.gone; edit = h.edit; origin = h.origin }
 
-pub steady-without_refs : (route : Name) → IsSteady (it.without_refs route)
-steady-without_refs route a b h = record { version = h.version; link = h.link; class = h.class; asset = h.asset; piece = h.piece; mark = h.mark; ref = IsPermutation-filter (λ r. not (same_name r.route route)) _ _ h.ref; span = h.span; entered = h.entered; gone = h.gone; edit = h.edit; origin = h.origin }
+pub steady-renamed_refs : (old : Name) (new : Name) (ns : List Name) → IsSteady (it.renamed_refs old new ns)
+steady-renamed_refs old new ns a b h = record { version = h.version; link = h.link; class = h.class; asset = h.asset; piece = h.piece; mark = h.mark; ref = IsPermutation-map (it.renamed_ref old new ns) _ _ h.ref; span = h.span; entered = h.entered; gone = h.gone; edit = h.edit; origin = h.origin }
 
-pub steady-renamed_refs : (old : Name) (new : Name) → IsSteady (it.renamed_refs old new)
-steady-renamed_refs old new a b h = record { version = h.version; link = h.link; class = h.class; asset = h.asset; piece = h.piece; mark = h.mark; ref = IsPermutation-map (it.renamed_ref old new) _ _ h.ref; span = h.span; entered = h.entered; gone = h.gone; edit = h.edit; origin = h.origin }
-
-pub steady-without_spans : (route : Name) → IsSteady (it.without_spans route)
-steady-without_spans route a b h = record { version = h.version; link = h.link; class = h.class; asset = h.asset; piece = h.piece; mark = h.mark; ref = h.ref; span = IsPermutation-filter (λ r. not (same_name r.route route)) _ _ h.span; entered = h.entered; gone = h.gone; edit = h.edit; origin = h.origin }
-
-pub steady-renamed_spans : (old : Name) (new : Name) → IsSteady (it.renamed_spans old new)
-steady-renamed_spans old new a b h = record { version = h.version; link = h.link; class = h.class; asset = h.asset; piece = h.piece; mark = h.mark; ref = h.ref; span = IsPermutation-map (it.renamed_span old new) _ _ h.span; entered = h.entered; gone = h.gone; edit = h.edit; origin = h.origin }
+pub steady-renamed_spans : (old : Name) (new : Name) (ss : List Span) → IsSteady (it.renamed_spans old new ss)
+steady-renamed_spans old new ss a b h = record { version = h.version; link = h.link; class = h.class; asset = h.asset; piece = h.piece; mark = h.mark; ref = h.ref; span = IsPermutation-map (it.renamed_span old new ss) _ _ h.span; entered = h.entered; gone = h.gone; edit = h.edit; origin = h.origin }
 
 pub steady-less_spans : (route : Name) (ss : List Span) → IsSteady (it.less_spans route ss)
 steady-less_spans route ss a b h = record { version = h.version; link = h.link; class = h.class; asset = h.asset; piece = h.piece; mark = h.mark; ref = h.ref; span = IsPermutation-filter (λ r. not (list_any (λ s. has_key_of route s r) ss)) _ _ h.span; entered = h.entered; gone = h.gone; edit = h.edit; origin = h.origin }
@@ -123,18 +118,18 @@ steady-changed_refs route c a b h = steady-with_refs route c.come _ _ (steady-le
 pub steady-changed_spans : (c : RouteChange) → IsSteady (changed_spans c)
 steady-changed_spans c a b h = steady-with_spans c.route c.spans_come _ _ (steady-less_spans c.route c.spans_gone a b h)
 
-pub steady-renamed_route : (old new : Name) → IsSteady (it.renamed_route old new)
-steady-renamed_route old new a b h = steady-renamed_spans old new _ _ (steady-renamed_refs old new _ _ (steady-renamed_marks old new _ _ (steady-renamed_pieces old new a b h)))
+pub steady-renamed_route : (old new : Name) (keys : RouteKeys) → IsSteady (it.renamed_route old new keys)
+steady-renamed_route old new keys a b h = steady-renamed_spans old new keys.spans _ _ (steady-renamed_refs old new keys.refs _ _ (steady-renamed_marks old new _ _ (steady-renamed_pieces old new a b h)))
 
-pub steady-without_route : (route : Name) → IsSteady (it.without_route route)
-steady-without_route route a b h = steady-without_spans route _ _ (steady-without_refs route _ _ (steady-without_marks route _ _ (steady-without_pieces route a b h)))
+pub steady-without_route : (route : Name) (keys : RouteKeys) → IsSteady (it.without_route route keys)
+steady-without_route route keys a b h = steady-less_spans route keys.spans _ _ (steady-less_refs keys.refs _ _ (steady-without_marks route _ _ (steady-without_pieces route a b h)))
 
 pub steady-new_pieces : (route : Name) (ps : List Piece) → IsSteady (new_pieces route ps)
 steady-new_pieces route ps a b h = steady-with_pieces route 0 ps _ _ (steady-without_pieces route a b h)
 
 pub steady-changed_route : (c : RouteChange) (pieces : Option (List Piece)) → IsSteady (changed_route c pieces)
 steady-changed_route c pieces a b h =
-    steady-renamed_route c.route c.name _ _ (steady-changed_spans c _ _ (steady-changed_refs c.route c.refs _ _
+    steady-renamed_route c.route c.name c.keys _ _ (steady-changed_spans c _ _ (steady-changed_refs c.route c.refs _ _
     (steady_some (new_marks c.route) (steady-new_marks c.route) c.marks _ _ (steady_some (new_pieces c.route) (steady-new_pieces c.route) pieces a b h))))
 
 pub steady-new_route : (e : RouteRow) (pieces : Option (List Piece)) → IsSteady (new_route e pieces)

@@ -12,6 +12,7 @@ use Rattle.lrs_events.specs.declared.span.Span.{Span}
 use Rattle.lrs_events.specs.declared.part.Part.{Part}
 use Rattle.lrs_events.specs.declared.part.Gone.{Gone}
 use Rattle.lrs_machine.specs.declared.image.Edit.{Edit}
+use Rattle.lrs_image.specs.declared.change.RouteKeys.{RouteKeys}
 use Rattle.lrs_store_rows.specs.Tables.{Tables, PieceRow, MarkRow, RefRow, SpanRow}
 use Rattle.lrs_store_rows.specs.Laws.{origin_row}
 use Rattle.lrs_store_rows.specs.Encoding.{link_row, class_row, asset_row, piece_row, mark_row, ref_row, span_row, entered_row, gone_row, edit_row, numbered}
@@ -81,16 +82,6 @@ without_pieces route t = record t { piece = filter (λ r. not (same_name r.route
 abbrev pub without_marks : Name → Tables → Tables
 without_marks route t = record t { mark = filter (λ r. not (same_name r.route route)) t.mark }
 
-abbrev pub without_refs : Name → Tables → Tables
-without_refs route t = record t { ref = filter (λ r. not (same_name r.route route)) t.ref }
-
-abbrev pub without_spans : Name → Tables → Tables
-without_spans route t = record t { span = filter (λ r. not (same_name r.route route)) t.span }
-
--- a route with all that lies on it
-abbrev pub without_route : Name → Tables → Tables
-without_route route t = without_spans route (without_refs route (without_marks route (without_pieces route t)))
-
 abbrev pub is_number : ℕ → ℤ → Bool
 is_number n (pos m) = nat_eq m n
 is_number n (negsuc m) = false
@@ -107,6 +98,10 @@ less_spans route ss t = record t { span = filter (λ r. not (list_any (λ s. has
 abbrev pub less_refs : List Name → Tables → Tables
 less_refs names t = record t { ref = filter (λ r. not (list_any (same_name r.name) names)) t.ref }
 
+-- a route with what lies on it: its referents and spans go by their keys
+abbrev pub without_route : Name → RouteKeys → Tables → Tables
+without_route route keys t = less_spans route keys.spans (less_refs keys.refs (without_marks route (without_pieces route t)))
+
 -- rows of a route that gets another name
 
 abbrev pub renamed_piece : Name → Name → PieceRow → PieceRow
@@ -121,18 +116,24 @@ renamed_mark old new r = if same_name r.route old then record r { route = new } 
 abbrev pub renamed_marks : Name → Name → Tables → Tables
 renamed_marks old new t = record t { mark = map (renamed_mark old new) t.mark }
 
-abbrev pub renamed_ref : Name → Name → RefRow → RefRow
-renamed_ref old new r = if same_name r.route old then record r { route = new } else r
+-- the row is of this referent, on this route
+abbrev pub is_ref_of : Name → Name → RefRow → Bool
+is_ref_of route name r = same_name r.name name && same_name r.route route
 
-abbrev pub renamed_refs : Name → Name → Tables → Tables
-renamed_refs old new t = record t { ref = map (renamed_ref old new) t.ref }
+-- only the rows of these referents of the route
+abbrev pub renamed_ref : Name → Name → List Name → RefRow → RefRow
+renamed_ref old new names r = if list_any (λ name. is_ref_of old name r) names then record r { route = new } else r
 
-abbrev pub renamed_span : Name → Name → SpanRow → SpanRow
-renamed_span old new r = if same_name r.route old then record r { route = new } else r
+abbrev pub renamed_refs : Name → Name → List Name → Tables → Tables
+renamed_refs old new names t = record t { ref = map (renamed_ref old new names) t.ref }
 
-abbrev pub renamed_spans : Name → Name → Tables → Tables
-renamed_spans old new t = record t { span = map (renamed_span old new) t.span }
+-- only the rows with the keys of these spans of the route
+abbrev pub renamed_span : Name → Name → List Span → SpanRow → SpanRow
+renamed_span old new ss r = if list_any (λ s. has_key_of old s r) ss then record r { route = new } else r
 
--- a route with all that lies on it
-abbrev pub renamed_route : Name → Name → Tables → Tables
-renamed_route old new t = renamed_spans old new (renamed_refs old new (renamed_marks old new (renamed_pieces old new t)))
+abbrev pub renamed_spans : Name → Name → List Span → Tables → Tables
+renamed_spans old new ss t = record t { span = map (renamed_span old new ss) t.span }
+
+-- a route with what lies on it: its referents and spans are found by their keys
+abbrev pub renamed_route : Name → Name → RouteKeys → Tables → Tables
+renamed_route old new keys t = renamed_spans old new keys.spans (renamed_refs old new keys.refs (renamed_marks old new (renamed_pieces old new t)))

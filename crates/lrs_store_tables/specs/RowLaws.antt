@@ -5,8 +5,8 @@ use Rattle.std.specs.List.{list_any}
 use Rattle.std.specs.List.Sorted.{IsPermutation}
 use Rattle.std.proofs.lemmas.List.{map_push}
 use Rattle.std.proofs.lemmas.List.Folds.{list_any-append}
-use Rattle.std.proofs.lemmas.List.Sorted.{IsPermutation-refl, IsPermutation-cons, IsPermutation-trans, IsPermutation-middle}
-use Rattle.sqlite_keyed.proofs.ListLemmas.{IsPermutation-filter, filter_same}
+use Rattle.std.proofs.lemmas.List.Sorted.{IsPermutation-refl, IsPermutation-cons, IsPermutation-map, IsPermutation-trans, IsPermutation-middle}
+use Rattle.sqlite_keyed.proofs.ListLemmas.{IsPermutation-filter, filter_same, map-map, map_same}
 use Rattle.lrs_measure.specs.Texts.{Name, same_name}
 use Rattle.lrs_element.specs.declared.link.Piece.{Piece}
 use Rattle.lrs_element.specs.declared.marks.Mark.{Mark}
@@ -15,11 +15,10 @@ use Rattle.lrs_events.specs.declared.class.Asset.{Asset}
 use Rattle.lrs_events.specs.declared.span.Span.{Span}
 use Rattle.lrs_events.specs.declared.part.Part.{Part}
 use Rattle.lrs_events.specs.declared.part.Gone.{Gone}
-use Rattle.lrs_store_rows.specs.Tables.{Tables}
-use Rattle.lrs_store_rows.specs.Tables.{AreSame}
+use Rattle.lrs_store_rows.specs.Tables.{Tables, AreSame, RefRow, SpanRow}
 use Rattle.lrs_store_rows.specs.Laws.{origin_row}
 use Rattle.lrs_store_rows.specs.Encoding.{piece_row, mark_row, ref_row, span_row, entered_row, gone_row, numbered}
-use Rattle.lrs_store_tables.specs.Changing.{with_pieces, with_marks, with_refs, with_spans, with_entered, with_gone, with_origins, has_key_of, less_spans, less_refs}
+use Rattle.lrs_store_tables.specs.Changing.{with_pieces, with_marks, with_refs, with_spans, with_entered, with_gone, with_origins, has_key_of, less_spans, less_refs, is_ref_of, renamed_refs, renamed_spans}
 
 -- the same rows, as a relation
 pub same_refl : (a : Tables) → AreSame a a
@@ -109,3 +108,49 @@ less_spans_more route xs x t u h =
 pub less_refs_more : (xs : List Name) (x : Name) (t u : Tables) → AreSame (less_refs xs t) u → AreSame (less_refs (xs ++ x ∷ []) t) (less_refs (x ∷ []) u)
 less_refs_more xs x t u h =
     record { version = h.version; link = h.link; class = h.class; asset = h.asset; piece = h.piece; mark = h.mark; ref = one_less (λ name r. same_name r.name name) xs x t.ref u.ref h.ref; span = h.span; entered = h.entered; gone = h.gone; edit = h.edit; origin = h.origin }
+
+-- ---- renamed rows
+
+-- A row that was renamed stays what it is under a further change to the same name.
+renamed_twice : {X : Type 0} (change : X → X) (q : X → Bool) (r : X) → change (change r) ≡ change r → (p : Bool) → cond (q (cond p (change r) r)) (change (cond p (change r) r)) (cond p (change r) r) ≡ cond (p || q r) (change r) r
+renamed_twice change q r once true = by (q (change r))
+  where
+    by : (b : Bool) → cond b (change (change r)) (change r) ≡ change r
+    by true = once
+    by false = refl
+renamed_twice change q r once false = refl
+
+-- one more whose rows change
+one_changed : {A X : Type 0} (has : A → X → Bool) (change : X → X) → ((r : X) → change (change r) ≡ change r) → (as_ : List A) (a : A) (rows left : List X) → IsPermutation (map (λ r. cond (list_any (λ s. has s r) as_) (change r) r) rows) left
+    → IsPermutation (map (λ r. cond (list_any (λ s. has s r) (as_ ++ a ∷ [])) (change r) r) rows) (map (λ r. cond (list_any (λ s. has s r) (a ∷ [])) (change r) r) left)
+one_changed {A} {X} has change once as_ a rows left h =
+    let p : X → Bool = λ r. list_any (λ s. has s r) as_ in
+    let q : X → Bool = λ r. list_any (λ s. has s r) (a ∷ []) in
+    let first : X → X = λ r. cond (p r) (change r) r in
+    let second : X → X = λ r. cond (q r) (change r) r in
+    let both : X → X = λ r. cond (list_any (λ s. has s r) (as_ ++ a ∷ [])) (change r) r in
+    let same = map-map second first rows ∙ map_same (λ r. second (first r)) both (λ r. renamed_twice change q r (once r) (p r) ∙ ap (λ b. cond b (change r) r) (sym (list_any-append (λ s. has s r) as_ (a ∷ [])))) rows in
+    subst (λ l. IsPermutation l (map second left)) same (IsPermutation-map second _ left h)
+
+none_changed : {X : Type 0} (rows : List X) → IsPermutation (map (λ r. r) rows) rows
+none_changed {X} rows = subst (λ l. IsPermutation l rows) (sym (same rows)) (IsPermutation-refl rows)
+  where
+    same : (xs : List X) → map (λ r. r) xs ≡ xs
+    same [] = refl
+    same (x ∷ xs) = ap (λ ys. x ∷ ys) (same xs)
+
+pub no_renamed_refs : (old new : Name) (t : Tables) → AreSame (renamed_refs old new [] t) t
+no_renamed_refs old new t = record { version = IsPermutation-refl t.version; link = IsPermutation-refl t.link; class = IsPermutation-refl t.class; asset = IsPermutation-refl t.asset; piece = IsPermutation-refl t.piece; mark = IsPermutation-refl t.mark; ref = none_changed t.ref; span = IsPermutation-refl t.span; entered = IsPermutation-refl t.entered; gone = IsPermutation-refl t.gone; edit = IsPermutation-refl t.edit; origin = IsPermutation-refl t.origin }
+
+pub no_renamed_spans : (old new : Name) (t : Tables) → AreSame (renamed_spans old new [] t) t
+no_renamed_spans old new t = record { version = IsPermutation-refl t.version; link = IsPermutation-refl t.link; class = IsPermutation-refl t.class; asset = IsPermutation-refl t.asset; piece = IsPermutation-refl t.piece; mark = IsPermutation-refl t.mark; ref = IsPermutation-refl t.ref; span = none_changed t.span; entered = IsPermutation-refl t.entered; gone = IsPermutation-refl t.gone; edit = IsPermutation-refl t.edit; origin = IsPermutation-refl t.origin }
+
+pub renamed_refs_more : (old new : Name) (xs : List Name) (x : Name) (t u : Tables) → AreSame (renamed_refs old new xs t) u → AreSame (renamed_refs old new (xs ++ x ∷ []) t) (renamed_refs old new (x ∷ []) u)
+renamed_refs_more old new xs x t u h =
+    let one = one_changed (is_ref_of old) (λ (r : RefRow). record r { route = new }) (λ r. refl) xs x t.ref u.ref h.ref in
+    record { version = h.version; link = h.link; class = h.class; asset = h.asset; piece = h.piece; mark = h.mark; ref = one; span = h.span; entered = h.entered; gone = h.gone; edit = h.edit; origin = h.origin }
+
+pub renamed_spans_more : (old new : Name) (xs : List Span) (x : Span) (t u : Tables) → AreSame (renamed_spans old new xs t) u → AreSame (renamed_spans old new (xs ++ x ∷ []) t) (renamed_spans old new (x ∷ []) u)
+renamed_spans_more old new xs x t u h =
+    let one = one_changed (has_key_of old) (λ (r : SpanRow). record r { route = new }) (λ r. refl) xs x t.span u.span h.span in
+    record { version = h.version; link = h.link; class = h.class; asset = h.asset; piece = h.piece; mark = h.mark; ref = h.ref; span = one; entered = h.entered; gone = h.gone; edit = h.edit; origin = h.origin }

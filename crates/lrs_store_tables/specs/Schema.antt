@@ -214,18 +214,6 @@ drop_mark = codes "DELETE FROM mark WHERE route = ?1"
 abbrev pub rename_mark : List ℕ
 rename_mark = codes "UPDATE mark SET route = ?2 WHERE route = ?1"
 
-abbrev pub drop_ref : List ℕ
-drop_ref = codes "DELETE FROM ref WHERE route = ?1"
-
-abbrev pub rename_ref : List ℕ
-rename_ref = codes "UPDATE ref SET route = ?2 WHERE route = ?1"
-
-abbrev pub drop_span : List ℕ
-drop_span = codes "DELETE FROM span WHERE route = ?1"
-
-abbrev pub rename_span : List ℕ
-rename_span = codes "UPDATE span SET route = ?2 WHERE route = ?1"
-
 -- all rows of a table go
 
 abbrev pub clear_version : List ℕ
@@ -234,13 +222,19 @@ clear_version = codes "DELETE FROM version"
 abbrev pub clear_origin : List ℕ
 clear_origin = codes "DELETE FROM origin"
 
--- one row goes, by its key
+-- one row goes, or gets the new name of its route, by its key
 
 abbrev pub take_ref : List ℕ
 take_ref = codes "DELETE FROM ref WHERE name = ?1"
 
+abbrev pub rename_ref : List ℕ
+rename_ref = codes "UPDATE ref SET route = ?3 WHERE name = ?1 AND route = ?2"
+
 abbrev pub take_span : List ℕ
 take_span = codes "DELETE FROM span WHERE asset = ?1 AND route = ?2 AND lo = ?3"
+
+abbrev pub rename_span : List ℕ
+rename_span = codes "UPDATE span SET route = ?4 WHERE asset = ?1 AND route = ?2 AND lo = ?3"
 
 -- all tables, and the index that each key without a number of its own has
 abbrev pub inventory : Schema

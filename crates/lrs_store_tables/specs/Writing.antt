@@ -48,7 +48,7 @@ changed_line c pieces t = with_some (new_marks c.route) c.marks (with_some (new_
 
 -- A route that stays: its rows change under its old name, and then get the new one.
 abbrev pub changed_route : RouteChange → Option (List Piece) → Tables → Tables
-changed_route c pieces t = renamed_route c.route c.name (changed_spans c (changed_refs c.route c.refs (changed_line c pieces t)))
+changed_route c pieces t = renamed_route c.route c.name c.keys (changed_spans c (changed_refs c.route c.refs (changed_line c pieces t)))
 
 -- a new route
 abbrev pub new_route : RouteRow → Option (List Piece) → Tables → Tables
@@ -66,7 +66,7 @@ new_course (Some e) = Some e.route.course
 
 -- At most one route is removed, another one changes, and one is inserted, in this order: a route may get referents of the removed one.
 abbrev pub with_routes : Difference → Option (List Piece) → Option (List Piece) → Tables → Tables
-with_routes d changed made t = with_some (λ e. new_route e made) d.made (with_some (λ c. changed_route c changed) d.changed (with_some without_route d.dropped t))
+with_routes d changed made t = with_some (λ e. new_route e made) d.made (with_some (λ c. changed_route c changed) d.changed (with_some (λ route. without_route route d.keys) d.dropped t))
 
 -- a new link, class or asset
 abbrev pub with_named : Difference → Tables → Tables

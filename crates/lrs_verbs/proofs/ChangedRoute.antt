@@ -43,6 +43,7 @@ module _ (c : RouteChange) (i : Image) (r : RouteRow) (s : IsSound i) (found : f
   differs_so fits can = record {
     route = record { row = r; found = found; becomes = can };
     apart = tt;
+    whole = tt;
     names = ap (each_two route_before) (difference_rewrites d i s none_drops ∙ one_written) ∙ new_order i (r.route.name ∷ []) (after ∷ []) s fits;
   }
 

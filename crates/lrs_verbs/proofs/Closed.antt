@@ -7,7 +7,7 @@ use Rattle.std.proofs.lemmas.List.{append-nil}
 use Rattle.std.specs.Prelude.{is_some, nat_lt}
 use Rattle.std.specs.Option.{option_map, ok_or}
 use Rattle.std.specs.Cmp.Lexicographic.{bytes_decides}
-use Rattle.lrs_inventory.specs.Prelude.{each_two, Name, same_name, Ground, Piece, Millimetre, course_of, runs_over, IsFilled, Referent, Alignment, referent_before, Gone, holds_by_spans, Cause, Image, RouteRow, state_of, route_entry, referent_entry, referents_on, attempt, ◌>>=◌, IsSound, State, Makes, Difference, is_named, with_difference, AreGone}
+use Rattle.lrs_inventory.specs.Prelude.{each_two, Name, same_name, Ground, Piece, Millimetre, course_of, runs_over, IsFilled, Referent, Alignment, referent_before, Gone, holds_by_spans, Cause, Image, RouteRow, state_of, route_entry, referent_entry, referents_on, attempt, ◌>>=◌, IsSound, State, Makes, RouteKeys, keys_of, Difference, is_named, with_difference, AreGone}
 use Rattle.lrs_machine.specs.declared.answer.Cause.TheVariants as cause
 use Rattle.lrs_machine.specs.declared.command.Command.TheVariants as verb
 use Rattle.lrs_machine.specs.Machine.{abandon, drop_route}
@@ -71,9 +71,9 @@ all_named r = record { theirs = λ x on. on; there = there; known = known }
 
 -- ---- The plan of the verb.
 
-module _ (route : Name) (i : Image) (r : RouteRow) (gone : List Gone) (s : IsSound i) (found : find (is_named route) i.routes ≡ Some r) (led : AreGone (length i.edits + 1) Abandoned (holds_by_spans r.route.course r.spans) gone) where
+module _ (route : Name) (i : Image) (r : RouteRow) (gone : List Gone) (keys : RouteKeys) (whole : keys ≡ keys_of r.route.refs r.spans) (s : IsSound i) (found : find (is_named route) i.routes ≡ Some r) (led : AreGone (length i.edits + 1) Abandoned (holds_by_spans r.route.course r.spans) gone) where
   abbrev d : Difference
-  d = without_route route gone
+  d = without_route route keys gone
 
   abbrev dropped : List Name
   dropped = r.route.name ∷ []
@@ -98,10 +98,10 @@ module _ (route : Name) (i : Image) (r : RouteRow) (gone : List Gone) (s : IsSou
   stands : (name : Name) → (state_of new).referents name ≡ cond (list_any (same_name name) (names_of r.route.refs)) None ((state_of i).referents name)
   stands name = ap (λ (t : State). t.referents name) (same_state i r gone s there led) ∙ named_leave i r r.route.course (names_of r.route.refs) s there (all_named r) name
 
-  pub closes : (freed : List Piece) → course_of freed ≡ r.route.course → AllByRecursion IsFilled freed → IsPlanOf (verb.Close route) i (closing route gone freed (names_of r.route.refs))
+  pub closes : (freed : List Piece) → course_of freed ≡ r.route.course → AllByRecursion IsFilled freed → IsPlanOf (verb.Close route) i (closing route keys gone freed (names_of r.route.refs))
   closes freed of filled = record {
     makes = subst (λ (j : Image). Makes (verb.Close route) i j) (sym image_is) (subst (λ (n : Name). Makes (verb.Close n) i new) own_name (close_makes i r gone s there led));
-    differ = record { route = tt; apart = tt; names = routes_in_order i s };
+    differ = record { route = tt; apart = tt; whole = record { row = r; found = found; keys_are = whole }; names = routes_in_order i s };
     tells = record {
       ground = λ m. ap (λ (j : Image). route_on j.routes m) image_is ∙ now_free m ∙ (λ j. cond (runs_over (sym of j) m) None (route_on i.routes m));
       can_ground = record {

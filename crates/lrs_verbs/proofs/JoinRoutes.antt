@@ -6,7 +6,7 @@ use Rattle.std.proofs.lemmas.List.{length-append, length-map, length-drop}
 use Rattle.std.specs.Prelude.{◌||◌, ◌&&◌, not, is_some, nat_lt, nat_le, nat_eq, unwrap_or}
 use Rattle.std.specs.Option.{option_map, ok_or}
 use Rattle.std.specs.Cmp.Lexicographic.{bytes_decides}
-use Rattle.lrs_inventory.specs.Prelude.{each_two, Name, same_name, Ground, Piece, Mark, course_of, runs_over, is_too_long, longest_route, IsFilled, Referent, Alignment, is_route, referent_before, Asset, Span, are_rows, Cause, Image, RouteRow, state_of, route_entry, State, attempt, ◌>>◌, ◌>>=◌, set_route, asset_before, is_span, are_spans_of, route_before, IsSound, Makes, RouteChange, Difference, is_named, changed_refs, fits_after, route_after, entry_after, with_difference, CanDiffer, are_names_of, rerouting}
+use Rattle.lrs_inventory.specs.Prelude.{each_two, Name, same_name, Ground, Piece, Mark, course_of, runs_over, is_too_long, longest_route, IsFilled, Referent, Alignment, is_route, referent_before, Asset, Span, are_rows, Cause, Image, RouteRow, state_of, route_entry, State, attempt, ◌>>◌, ◌>>=◌, set_route, asset_before, is_span, are_spans_of, route_before, IsSound, Makes, RouteChange, RouteKeys, keys_of, Difference, is_named, changed_refs, fits_after, route_after, entry_after, with_difference, CanDiffer, are_names_of, rerouting}
 use Rattle.lrs_measure.specs.Ordered.{insert_all}
 use Rattle.lrs_element.specs.Course.{piece_count}
 use Rattle.lrs_measure.specs.Limits.{most_marks, most_pieces}
@@ -32,9 +32,10 @@ use Rattle.lrs_image_laws.proofs.Naming.{same_either, found_in, order_stays}
 use Rattle.lrs_image_laws.proofs.Rewriting.{are_unlike, refs_at, old_spans, old_unlike}
 use Rattle.lrs_image_laws.proofs.Running.{runs_there}
 use Rattle.lrs_inventory.specs.Changes.{route_on}
-use Rattle.lrs_verbs.specs.Checks.{join_plan}
+use Rattle.lrs_verbs.specs.Checks.{joining, join_plan}
 use Rattle.lrs_verbs.specs.Joins.{joined_course, joined_line, CanGoOn, GoesOn}
 use Rattle.lrs_inventory.specs.Plans.{IsPlanOf}
+use Rattle.lrs_verbs.proofs.KeptName.{keeps_name}
 use Rattle.lrs_inventory.proofs.Known.{route_value}
 
 -- ---- what the checks say
@@ -210,12 +211,12 @@ refs_have_room b n room = all_of (λ (q : Referent). nat_lt (n + q.at) longest_r
 -- ---- The plan of the verb, where its checks pass.
 module _ (first second : Name) (i : Image) (a b : RouteRow) (c : RouteChange) (s : IsSound i) (found : find (is_named first) i.routes ≡ Some a) (also : find (is_named second) i.routes ≡ Some b)
     (apart : same_name first second ≡ false) (short : is_too_long (a.route.course ++ b.route.course) ≡ false) (few : nat_lt most_marks (length (joined_marks a.route.marks b.route.marks)) ≡ false)
-    (small : is_out_of_range (joined_marks a.route.marks b.route.marks) ≡ false) (is : GoesOn a b c) where
+    (small : is_out_of_range (joined_marks a.route.marks b.route.marks) ≡ false) (is : GoesOn a b c) (keys : RouteKeys) (whole : keys ≡ keys_of b.route.refs b.spans) where
   abbrev w : RouteRow
   w = entry_after c a
 
   abbrev d : Difference
-  d = rerouting (Some c) (Some second) None
+  d = joining c second keys
 
   abbrev len : ℕ
   len = length a.route.course
@@ -299,13 +300,14 @@ module _ (first second : Name) (i : Image) (a b : RouteRow) (c : RouteChange) (s
 
   changes_so : CanDiffer d i
   changes_so = record {
-    route = record { row = a; found = found_by; becomes = record { fits = stays_fit; rows = is.rows; gone = is.spans_gone; there = is.spans_there; named = ap (are_names_of a) is.refs_gone } };
+    route = record { row = a; found = found_by; becomes = record { fits = stays_fit; rows = is.rows; gone = is.spans_gone; there = is.spans_there; named = ap (are_names_of a) is.refs_gone; renamed = keeps_name c a (is.route ∙ sym is.name) } };
     apart = (ap (λ n. same_name n second) (is.route ∙ at_first.1) ∙ apart, ap (λ n. same_name n second) (is.name ∙ at_first.1) ∙ apart);
+    whole = record { row = b; found = also; keys_are = whole };
     names = ap (each_two route_before) (difference_rewrites (rerouting (Some c) None None) i s (λ w n is e. absurd (cc e)) ∙ (λ j. rewritten (is.route j ∷ []) (cons_option (option_map (entry_after c) (found_by j)) []) i.routes))
         ∙ order_stays w a.route.name i.routes joined.name (routes_in_order i s);
   }
 
-  pub makes_one : (passed : List Piece) → course_of passed ≡ b.route.course → AllByRecursion IsFilled passed → IsPlanOf (verb.Join first second) i (join_plan second c passed)
+  pub makes_one : (passed : List Piece) → course_of passed ≡ b.route.course → AllByRecursion IsFilled passed → IsPlanOf (verb.Join first second) i (join_plan second keys c passed)
   makes_one passed of filled = record {
     makes = subst (λ (j : Image). Makes (verb.Join first second) i j) (sym image_is)
         (subst (λ (n : Name). Makes (verb.Join n second) i new) at_first.1 (subst (λ (n : Name). Makes (verb.Join a.route.name n) i new) at_second.1 (join_makes i a b w s joined)));

@@ -1,4 +1,5 @@
 pub mod InPlace
+pub mod KeptName
 pub mod Going
 pub mod RowsInPlace
 pub mod NewRow

@@ -104,6 +104,6 @@ makes c i fresh s = record {
     edits = refl;
     orderly = λ room. subst IsOrderly (sym (with_difference-class c i)) (stays_orderly c i (sym (knows c.name i) ∙ fresh) (sound_is_orderly i s));
   };
-  differ = can_differ (adding None (Some c)) i refl s;
+  differ = can_differ (adding None (Some c)) i refl tt s;
   tells = tells None (Some c) i;
 }

@@ -125,6 +125,6 @@ makes l i fresh s = record {
     edits = refl;
     orderly = λ room. subst IsOrderly (sym (with_difference-link l i)) (stays_orderly l i (sym (knows l.number i) ∙ fresh) (sound_is_orderly i s));
   };
-  differ = can_differ (adding (Some l) None) i refl s;
+  differ = can_differ (adding (Some l) None) i refl tt s;
   tells = tells (Some l) None i;
 }

@@ -289,6 +289,6 @@ module _ (name : Name) (pieces : List Piece) (marks line : List Mark) (course : 
       edits = refl;
       orderly = λ room. subst IsOrderly (sym (with_difference-route e i)) (stays_orderly e pieces i no_such_name made free of.refs of.spans (sound_is_orderly i s) (room.routes refl));
     };
-    differ = can_differ (record no_difference { made = Some e }) i refl s;
+    differ = can_differ (record no_difference { made = Some e }) i refl tt s;
     tells = tells_ground e pieces i no_such_name made free of.refs of.spans (sound_is_orderly i s) own over filled;
   })

@@ -37,6 +37,7 @@ use Rattle.lrs_image_laws.proofs.Replaced.{three_parts, replaced_length}
 use Rattle.lrs_verbs.specs.declared.verbs.realign.NewLine.{NewLine}
 use Rattle.lrs_verbs.specs.declared.verbs.realign.Realigned.{Realigned}
 use Rattle.lrs_inventory.specs.Changes.{route_on}
+use Rattle.lrs_verbs.proofs.KeptName.{keeps_name}
 use Rattle.lrs_inventory.specs.Plans.{IsPlanOf}
 use Rattle.lrs_verbs.specs.Realignments.{check_stretch, new_line, refs_on, referents_moved, realigned_plan, IsOnNewLine}
 use Rattle.lrs_image_laws.proofs.FromReferents.{ground_there}
@@ -188,8 +189,9 @@ module _ (route : Name) (from to : ℕ) (given : Option (List Piece)) (marks : L
 
   differs_so : CanDiffer d i
   differs_so = record {
-    route = record { row = r; found = found_by; becomes = record { fits = stays_fit; rows = is.rows; gone = is.spans_gone; there = is.spans_there; named = ap (λ (refs : ReferentChange). are_names_of r refs.gone) is.refs ∙ names_kept (λ q. not (is_ahead from q)) r.route.refs } };
+    route = record { row = r; found = found_by; becomes = record { fits = stays_fit; rows = is.rows; gone = is.spans_gone; there = is.spans_there; named = ap (λ (refs : ReferentChange). are_names_of r refs.gone) is.refs ∙ names_kept (λ q. not (is_ahead from q)) r.route.refs; renamed = keeps_name c r (is.route ∙ sym is.name) } };
     apart = tt;
+    whole = tt;
     names = ap (each_two route_before) (difference_rewrites (rerouting (Some c) None None) i s none_drops ∙ (λ j. rewritten (is.route j ∷ []) (cons_option (option_map (entry_after c) (found_by j)) []) i.routes))
         ∙ new_order i dropped (w ∷ []) s fits_in;
   }

@@ -1,9 +1,11 @@
 -- A route with other marks.
-use Rattle.std.proofs.Common.{◌≡◌, ℕ, true, List, length, Option, Some, None, Result, Ok, Err, sym, ap, subst, ◌∙◌}
+use Rattle.std.proofs.Common.{◌≡◌, ℕ, true, List, length, Option, Some, None, Result, Ok, Err, refl, sym, ap, subst, ◌∙◌}
 use Rattle.std.specs.Prelude.{is_none}
+use Rattle.std.proofs.lemmas.Bool.{both_ways}
+use Rattle.std.specs.Cmp.Lexicographic.{bytes_decides}
 use Rattle.std.specs.List.{find}
 use Rattle.std.specs.Option.{option_map, ok_or}
-use Rattle.lrs_inventory.specs.Prelude.{Name, Mark, Alignment, Cause, Image, RouteRow, state_of, route_entry, State, attempt, ◌>>◌, ◌>>=◌, set_route, IsSound, Makes, RouteChange, is_named}
+use Rattle.lrs_inventory.specs.Prelude.{Name, same_name, no_keys, Mark, Alignment, Cause, Image, RouteRow, state_of, route_entry, State, attempt, ◌>>◌, ◌>>=◌, set_route, IsSound, Makes, RouteChange, is_named}
 use Rattle.lrs_element.specs.Marks.{bad_mark}
 use Rattle.lrs_machine.specs.declared.answer.Cause.TheVariants as cause
 use Rattle.lrs_machine.specs.declared.command.Command.TheVariants as verb
@@ -44,19 +46,19 @@ module _ (route : Name) (marks line : List Mark) (i : Image) (r : RouteRow) (s :
   good = ap is_none (good_line (length r.route.course) marks line marked)
 
   abbrev change : RouteChange
-  change = relabelled route route (Some line)
+  change = relabelled route route no_keys (Some line)
 
   abbrev w : RouteRow
-  w = after route route (Some line) i r s found good
+  w = after route route no_keys (Some line) i r s found good
 
   its_name : w.route.name ≡ r.route.name
-  its_name = new_name route route (Some line) i r s found good ∙ sym (own_name change i r s found)
+  its_name = new_name route route no_keys (Some line) i r s found good ∙ sym (own_name change i r s found)
 
   its_marks : w.route.marks ≡ marks
-  its_marks = new_marks_are route route (Some line) i r s found good ∙ (marks_of (length r.route.course) marks line marked).1
+  its_marks = new_marks_are route route no_keys (Some line) i r s found good ∙ (marks_of (length r.route.course) marks line marked).1
 
   still : HasSame r w
-  still = same route route (Some line) i r s found good
+  still = same route route no_keys (Some line) i r s found good
 
   made : Makes (verb.Recalibrate route marks) i (new change i r s found)
   made =
@@ -65,4 +67,4 @@ module _ (route : Name) (marks line : List Mark) (i : Image) (r : RouteRow) (s :
       (recalibrate_makes i r w s (at change i r s found) still its_name))
 
   pub recalibrates : IsPlanOf (verb.Recalibrate route marks) i (recalibrated route line)
-  recalibrates = plans_alike change i r s found its_name (alike i r w s (at change i r s found) still) (can_become route route (Some line) i r s found good) (verb.Recalibrate route marks) made
+  recalibrates = plans_alike change i r s found its_name (alike i r w s (at change i r s found) still) (can_become route route no_keys (Some line) i r s found good (λ apart. absurd (both_ways (same_name route route) apart ((bytes_decides route route).1 refl)))) (verb.Recalibrate route marks) made

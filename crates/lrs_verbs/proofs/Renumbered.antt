@@ -4,7 +4,7 @@ use Rattle.std.specs.Prelude.{is_none, is_some}
 use Rattle.std.specs.List.{find, list_any, AllByRecursion}
 use Rattle.std.proofs.lemmas.Bool.{false≢true}
 use Rattle.std.specs.Option.{option_map, ok_or}
-use Rattle.lrs_inventory.specs.Prelude.{Name, same_name, Piece, course_of, runs_over, IsFilled, Alignment, Cause, Image, RouteRow, state_of, route_entry, State, attempt, ◌>>◌, ◌>>=◌, set_route, contains_key, IsSound, Makes, RouteChange, is_named}
+use Rattle.lrs_inventory.specs.Prelude.{Name, same_name, Piece, course_of, runs_over, IsFilled, Alignment, Cause, Image, RouteRow, state_of, route_entry, State, attempt, ◌>>◌, ◌>>=◌, set_route, contains_key, IsSound, Makes, RouteChange, RouteKeys, keys_of, is_named}
 use Rattle.lrs_element.specs.Marks.{bad_mark}
 use Rattle.lrs_machine.specs.declared.answer.Cause.TheVariants as cause
 use Rattle.lrs_machine.specs.declared.command.Command.TheVariants as verb
@@ -40,21 +40,21 @@ module _ (route name : Name) (i : Image) (n : ℕ) where
   refuses_known r found known = attempt_is (Some r) found ∙ ap (λ b. refuse_if b cause.RouteKnown >> Ok (set_route name r.route.course r.route.marks (drop_route route (state_of i)))) known
 
 -- ---- The plan of the verb, where the name is new.
-module _ (route name : Name) (i : Image) (r : RouteRow) (s : IsSound i) (found : find (is_named route) i.routes ≡ Some r) (fresh : contains_key (state_of i).routes name ≡ false) where
+module _ (route name : Name) (i : Image) (r : RouteRow) (s : IsSound i) (found : find (is_named route) i.routes ≡ Some r) (fresh : contains_key (state_of i).routes name ≡ false) (keys : RouteKeys) (whole : keys ≡ keys_of r.route.refs r.spans) where
   good : is_none (bad_mark (length r.route.course) r.route.marks) ≡ true
   good = (fits r).1
 
   abbrev change : RouteChange
-  change = relabelled route name None
+  change = relabelled route name keys None
 
   abbrev w : RouteRow
-  w = after route name None i r s found good
+  w = after route name keys None i r s found good
 
   its_name : w.route.name ≡ name
-  its_name = new_name route name None i r s found good
+  its_name = new_name route name keys None i r s found good
 
   its_marks : w.route.marks ≡ r.route.marks
-  its_marks = new_marks_are route name None i r s found good
+  its_marks = new_marks_are route name keys None i r s found good
 
   there : In r i.routes
   there = at change i r s found
@@ -63,7 +63,7 @@ module _ (route name : Name) (i : Image) (r : RouteRow) (s : IsSound i) (found :
   no_such = ap (λ n. list_any (is_named n) i.routes) its_name ∙ sym (knows name i) ∙ fresh
 
   still : HasSame r w
-  still = same route name None i r s found good
+  still = same route name keys None i r s found good
 
   same_there : IsAlike i r w
   same_there = alike i r w s there still
@@ -77,10 +77,10 @@ module _ (route name : Name) (i : Image) (r : RouteRow) (s : IsSound i) (found :
       (subst (λ (n : Name). Makes (verb.Renumber n w.route.name) i (new change i r s found)) (own_name change i r s found)
       (renumber_makes i r w s there still its_marks no_such))
 
-  pub renumbers : (passed : List Piece) → course_of passed ≡ r.route.course → AllByRecursion IsFilled passed → IsPlanOf (verb.Renumber route name) i (renumbered route name passed)
+  pub renumbers : (passed : List Piece) → course_of passed ≡ r.route.course → AllByRecursion IsFilled passed → IsPlanOf (verb.Renumber route name) i (renumbered route name keys passed)
   renumbers passed of filled = record {
     makes = subst (λ (j : Image). Makes (verb.Renumber route name) i j) (sym (image_is change i r s found)) made;
-    differ = differs_so change i r s found (fit i r w s there same_there own) (can_become route name None i r s found good);
+    differ = differs_so change i r s found (fit i r w s there same_there own) (can_become route name keys None i r s found good (λ apart. whole));
     tells = record {
       ground = λ m. ap (λ (j : Image). route_on j.routes m) (image_is change i r s found) ∙ moves i r w s there same_there own m
           ∙ (λ j. cond (runs_over (sym of j) m) (Some (its_name j)) (route_on i.routes m));

@@ -22,6 +22,7 @@ use Rattle.lrs_inventory.specs.Changes.{route_on, referents_after, IsNewReferent
 use Rattle.lrs_inventory.specs.Plans.{TellsGround, IsPlanOf}
 use Rattle.lrs_verbs.specs.RouteReferents.{change_of_referents, difference_of_referents, plan_of_referents}
 use Rattle.lrs_image_laws.proofs.FromReferents.{other_names, refs_of}
+use Rattle.lrs_verbs.proofs.KeptName.{keeps_name}
 use Rattle.lrs_verbs.proofs.InPlace.{DifferAt, found_by_name, in_place, map_same, any_same, all_still, names_stay, ground_stays}
 
 some_is : (a b : RouteRow) → Some a ≡ Some b → a ≡ b
@@ -131,12 +132,13 @@ module _ (i : Image) (r : RouteRow) (c : ReferentChange) (s : IsSound i) (m : In
   names_in_order = names_stay r new i.routes after in_its_place became.name order
 
   can_become : are_names_of r c.gone ≡ true → CanBecome change r
-  can_become own = record { fits = fits; rows = ap are_rows same_rows ∙ own_rows; gone = refl; there = refl; named = own }
+  can_become own = record { fits = fits; rows = ap are_rows same_rows ∙ own_rows; gone = refl; there = refl; named = own; renamed = keeps_name change r refl }
 
   can_differ : are_names_of r c.gone ≡ true → CanDiffer (difference_of_referents r.route.name c) i
   can_differ own = record {
     route = record { row = r; found = found_there; becomes = can_become own };
     apart = tt;
+    whole = tt;
     names = ap (λ o. each_two route_before (insert_some route_before (option_map (entry_after change) o) (without r.route.name i.routes))) found_there ∙ names_in_order;
   }
 

@@ -12,6 +12,7 @@ use Rattle.lrs_image.specs.Change.{routes_after, are_rows_of}
 use Rattle.lrs_image.proofs.Becoming.{has_become}
 use Rattle.lrs_image_laws.specs.Differences.{no_change}
 use Rattle.lrs_inventory.specs.Changes.{route_on}
+use Rattle.lrs_verbs.proofs.KeptName.{keeps_name}
 use Rattle.lrs_inventory.specs.Plans.{plan_of, TellsGround}
 use Rattle.lrs_verbs.proofs.InPlace.{DifferAt, made_same, in_place, names_stay, ground_stays}
 
@@ -62,8 +63,9 @@ module _ (i : Image) (order : each_two route_before i.routes ≡ true) (name : N
   module _ (asset : Option Asset) (entered : List Part) (went : List Gone) where
     pub can : are_rows spans ≡ true → each_two span_before gone ≡ true → are_rows_of r gone ≡ true → CanDiffer (with_ledgers asset change entered went) i
     can canonical in_order there = record {
-      route = record { row = r; found = found; becomes = record { fits = stays_fit name gone come r named; rows = ap are_rows rows_are ∙ canonical; gone = in_order; there = there; named = refl } };
+      route = record { row = r; found = found; becomes = record { fits = stays_fit name gone come r named; rows = ap are_rows rows_are ∙ canonical; gone = in_order; there = there; named = refl; renamed = keeps_name change r refl } };
       apart = tt;
+      whole = tt;
       names = ap (each_two route_before) routes_are ∙ names_stay r new i.routes new_routes differ refl order;
     }
 

@@ -30,6 +30,7 @@ use Rattle.lrs_image_laws.proofs.Running.{runs_there}
 use Rattle.lrs_image_laws.proofs.Splitting.{split_makes, moves, front_order, same_state}
 use Rattle.lrs_verbs.specs.declared.verbs.split.Halves.{Halves}
 use Rattle.lrs_inventory.specs.Changes.{route_on}
+use Rattle.lrs_verbs.proofs.KeptName.{keeps_name}
 use Rattle.lrs_inventory.specs.Plans.{IsPlanOf}
 use Rattle.lrs_verbs.specs.Checks.{split_plan}
 use Rattle.lrs_verbs.specs.Splits.{is_inside, refs_behind, IsHalved}
@@ -179,8 +180,9 @@ module _ (route name : Name) (at : ℕ) (i : Image) (r : RouteRow) (h : Halves) 
 
   changes_so : CanDiffer d i
   changes_so = record {
-    route = record { row = r; found = found_by; becomes = record { fits = stays_fit; rows = is.front_rows; gone = is.spans_gone; there = is.spans_there; named = ap (are_names_of r) is.refs_gone ∙ names_kept (λ q. not (is_ahead at q)) r.route.refs } };
+    route = record { row = r; found = found_by; becomes = record { fits = stays_fit; rows = is.front_rows; gone = is.spans_gone; there = is.spans_there; named = ap (are_names_of r) is.refs_gone ∙ names_kept (λ q. not (is_ahead at q)) r.route.refs; renamed = keeps_name c r (is.route ∙ sym is.front_name) } };
     apart = tt;
+    whole = tt;
     names = ap (each_two route_before) (difference_rewrites (rerouting (Some c) None None) i s (λ w n is e. absurd (cc e)) ∙ (λ j. rewritten (is.route j ∷ []) (cons_option (option_map (entry_after c) (found_by j)) []) i.routes))
         ∙ front_order i r front h.rear at name s split;
   }

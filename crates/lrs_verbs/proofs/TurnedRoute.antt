@@ -27,6 +27,7 @@ use Rattle.lrs_image_laws.proofs.Naming.{found_in}
 use Rattle.lrs_image_laws.proofs.Rewriting.{old_spans}
 use Rattle.lrs_image_laws.proofs.Turning.{alike, turn_makes, turned_is_route, turned_has_rows}
 use Rattle.lrs_machine.proofs.Pairs.{each_two-map}
+use Rattle.lrs_verbs.proofs.KeptName.{keeps_name}
 use Rattle.lrs_inventory.specs.Plans.{plan_of, IsPlanOf}
 use Rattle.lrs_verbs.specs.Turns.{IsTurnedBy}
 use Rattle.lrs_verbs.proofs.ChangedRoute.{after, new, at, plans_alike}
@@ -133,5 +134,5 @@ module _ (route : Name) (i : Image) (r : RouteRow) (c : RouteChange) (s : IsSoun
   }
 
   pub turns : IsPlanOf (verb.Turn route) i (plan_of (rerouting (Some c) None None))
-  turns = plans_alike c i r s found_by turn.name (alike i r w s turn) (record { fits = stays_fit; rows = is.rows; gone = is.spans_gone; there = is.spans_there; named = ap (are_names_of r) is.refs_gone ∙ names_there r.route.refs r.route.refs (λ q m. m) }) (verb.Turn route)
+  turns = plans_alike c i r s found_by turn.name (alike i r w s turn) (record { fits = stays_fit; rows = is.rows; gone = is.spans_gone; there = is.spans_there; named = ap (are_names_of r) is.refs_gone ∙ names_there r.route.refs r.route.refs (λ q m. m); renamed = keeps_name c r (is.route ∙ sym is.name) }) (verb.Turn route)
       (subst (λ (n : Name). Makes (verb.Turn n) i (new c i r s found_by)) own (turn_makes i r w s turn))

@@ -1,7 +1,7 @@
 -- What an entry changes: an asset, a row on its route, and the rows of a ledger for it.
 use Rattle.std.specs.Prelude.{◌≡◌, ℕ, ◌&&◌, true, false, nat_eq, nat_lt, List, [], ◌∷◌, Some, None}
 use Rattle.std.specs.List.{list_any, list_all}
-use Rattle.lrs_inventory.specs.Prelude.{each_two, Name, Ground, alignment_of, Asset, Kind, Part, Span, Place, NewAsset, Image, RouteRow, state_of, contains_key, Extent, Difference, RouteChange, no_difference}
+use Rattle.lrs_inventory.specs.Prelude.{each_two, Name, Ground, alignment_of, Asset, Kind, Part, Span, Place, NewAsset, Image, RouteRow, state_of, contains_key, Extent, Difference, RouteChange, no_difference, no_keys}
 use Rattle.lrs_events.specs.Parts.{has_pair, IsHadOnce, part_before}
 use Rattle.lrs_events.specs.Spans.{holds_by_span}
 use Rattle.lrs_machine.specs.Entered.{is_asset_number, is_lateral_offset}
@@ -25,7 +25,7 @@ row_of e x = record { asset = e.asset; class = e.class; from = x.from; to = x.to
 
 -- a route with one more row
 abbrev pub with_row : Name → Span → RouteChange
-with_row route row = record { route = route; name = route; course = None; marks = None; refs = record { gone = []; come = [] }; spans_gone = []; spans_come = row ∷ [] }
+with_row route row = record { route = route; name = route; keys = no_keys; course = None; marks = None; refs = record { gone = []; come = [] }; spans_gone = []; spans_come = row ∷ [] }
 
 -- what an edit changes that enters an asset
 abbrev pub entering : ℕ → NewAsset → Extent → List Part → Difference

@@ -1,6 +1,6 @@
 -- What changes where the referents of one route change, and nothing else.
 use Rattle.std.specs.Prelude.{[], ◌∷◌, Some, None}
-use Rattle.lrs_inventory.specs.Prelude.{Name, Millimetre, Referent, RouteChange, Difference, no_difference}
+use Rattle.lrs_inventory.specs.Prelude.{Name, Millimetre, Referent, RouteChange, Difference, no_difference, no_keys}
 use Rattle.lrs_image.specs.declared.change.ReferentChange.{ReferentChange}
 use Rattle.lrs_inventory.specs.declared.plan.Plan.{Plan}
 use Rattle.lrs_inventory.specs.declared.plan.ReferentPlaces.{ReferentPlaces}
@@ -8,7 +8,7 @@ use Rattle.lrs_inventory.specs.Plans.{plan_of}
 
 -- the route keeps its name, its course, its marks and its rows
 abbrev pub change_of_referents : Name → ReferentChange → RouteChange
-change_of_referents route refs = record { route = route; name = route; course = None; marks = None; refs = refs; spans_gone = []; spans_come = [] }
+change_of_referents route refs = record { route = route; name = route; keys = no_keys; course = None; marks = None; refs = refs; spans_gone = []; spans_come = [] }
 
 abbrev pub difference_of_referents : Name → ReferentChange → Difference
 difference_of_referents route refs = record no_difference { changed = Some (change_of_referents route refs) }

@@ -6,9 +6,10 @@ ghost use Rattle.lrs_verbs.specs.Closings.{closing};
 ghost use Rattle.lrs_inventory.specs.Plans.{Plans};
 
 use crate::verbs::checks::route_named;
-use crate::verbs::route_changes::{names_of, pieces_of};
+use crate::verbs::route_changes::{keys_on, names_of, pieces_of};
 use lrs_element::Piece;
 use lrs_events::Gone;
+use lrs_image::RouteKeys;
 use lrs_image_laws::taken_away;
 use lrs_inventory::{GroundChange, Inventory, Plan, Stop};
 use lrs_measure::Rows;
@@ -25,21 +26,24 @@ pub fn plan_close(alloc: Global, inventory: &Inventory, route: RouteName) -> Res
     let gone = taken_away(alloc, edit, route_row.spans.rows(), course, true)?;
     let freed = pieces_of(alloc, course)?;
     let names = names_of(alloc, route_row.route.refs.as_slice())?;
-    Ok(closing(alloc, route, gone, freed, names))
+    let keys = keys_on(alloc, route_row)?;
+    Ok(closing(alloc, route, keys, gone, freed, names))
 }
 
 /// The plan by which a route goes: its ground is free, and its referents stand nowhere any more.
 fn closing(
     alloc: Global,
     route: RouteName,
+    keys: RouteKeys,
     gone: Rows<Gone>,
     freed: Rows<Piece>,
     names: Rows<RefName>,
 ) -> Plan
-    ensures { result ≡ closing route gone freed names }
+    ensures { result ≡ closing route keys gone freed names }
 {
     let mut plan = Plan::none(alloc);
     plan.difference.dropped = Some(route);
+    plan.difference.keys = keys;
     plan.difference.gone = gone;
     plan.ground = Some(GroundChange {
         route,

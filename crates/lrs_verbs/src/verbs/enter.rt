@@ -16,7 +16,7 @@ use crate::verbs::location::wanted_of;
 use lrs_element::Course;
 use lrs_events::{Asset, Kind, Part, Span};
 use lrs_events_parts::parts;
-use lrs_image::{ReferentChange, RouteChange};
+use lrs_image::{ReferentChange, RouteChange, RouteKeys};
 use lrs_inventory::{Inventory, Plan, RouteStretch, Stop};
 use lrs_machine::{Cause, NewAsset, RouteRow};
 use lrs_measure::Rows;
@@ -151,6 +151,7 @@ fn with_row(alloc: Global, route: RouteName, row: &Span) -> Result<RouteChange, 
     Ok(RouteChange {
         route,
         name: route,
+        keys: RouteKeys::none(alloc),
         course: None,
         marks: None,
         refs: ReferentChange {

@@ -11,9 +11,9 @@ ghost use Rattle.lrs_verbs.specs.Joins.{joined_course, joined_line, CanGoOn, Goe
 ghost use Rattle.lrs_inventory.specs.Plans.{Answers, Plans};
 
 use crate::verbs::checks::route_named;
-use crate::verbs::route_changes::{no_change, pieces_of};
+use crate::verbs::route_changes::{keys_on, no_change, pieces_of};
 use lrs_element::{Course, JoinFault, Marks, Piece};
-use lrs_image::RouteChange;
+use lrs_image::{RouteChange, RouteKeys};
 use lrs_inventory::{GroundChange, Inventory, Plan, Stop, refuse_if};
 use lrs_machine::{Cause, RouteRow};
 use lrs_measure::Rows;
@@ -36,9 +36,10 @@ pub fn plan_join(
     refuse_if(is_same, Cause::SameRoute)?;
     let course = joined_course(&front.route.course, &rear.route.course)?;
     let marks = joined_marks(&front.route, &rear.route)?;
-    let change = lengthened(alloc, front, rear, course, marks)?;
     let passed = pieces_of(alloc, &rear.route.course)?;
-    Ok(join_plan(alloc, second, change, passed))
+    let keys = keys_on(alloc, rear)?;
+    let change = lengthened(alloc, front, rear, course, marks)?;
+    Ok(join_plan(alloc, second, keys, change, passed))
 }
 
 /// The course of two routes as one.
@@ -86,11 +87,12 @@ fn lengthened(
     ensures { IfOk result (λ change. GoesOn front.now rear.now change) }
 {
     let len = front.route.course.len();
+    let refs = refs_on(alloc, rear.route.refs.as_slice(), len)?;
     let spans = front.spans.plan_concat(alloc, &rear.spans, len)?;
     let mut change = no_change(alloc, front.route.name);
     change.course = Some(course);
     change.marks = Some(marks);
-    change.refs.come = refs_on(alloc, rear.route.refs.as_slice(), len)?;
+    change.refs.come = refs;
     change.spans_gone = Rows::from_vec(spans.gone);
     change.spans_come = Rows::from_vec(spans.come);
     Ok(change)
@@ -112,8 +114,14 @@ fn refs_on(alloc: Global, refs: &[Referent], len: u64) -> Result<Rows<Referent>,
 }
 
 /// The plan by which a route changes and the second goes, whose ground passes to it.
-fn join_plan(alloc: Global, second: RouteName, change: RouteChange, passed: Rows<Piece>) -> Plan
-    ensures { result ≡ join_plan second change passed }
+fn join_plan(
+    alloc: Global,
+    second: RouteName,
+    keys: RouteKeys,
+    change: RouteChange,
+    passed: Rows<Piece>,
+) -> Plan
+    ensures { result ≡ join_plan second keys change passed }
 {
     let mut plan = Plan::none(alloc);
     plan.ground = Some(GroundChange {
@@ -124,5 +132,6 @@ fn join_plan(alloc: Global, second: RouteName, change: RouteChange, passed: Rows
     });
     plan.difference.changed = Some(change);
     plan.difference.dropped = Some(second);
+    plan.difference.keys = keys;
     plan
 }

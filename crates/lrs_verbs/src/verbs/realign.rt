@@ -171,15 +171,16 @@ fn realign_route(
     let len = come.len();
     // It is not too long.
     let _len = course.len();
-    let RealignedRows { left, change: rows } = plan_rows(alloc, &route_row.spans, from, to, len)?;
-    let abandoned = taken_away(alloc, edit, &left, &route.course, true)?;
     let freed = stretch_of(alloc, &route.course, from, to)?;
     let come = pieces_of(alloc, &come)?;
     let names = names_on(alloc, route.refs.as_slice(), from, to)?;
+    let refs = moved_referents(alloc, route.refs.as_slice(), from, to, len)?;
+    let RealignedRows { left, change: rows } = plan_rows(alloc, &route_row.spans, from, to, len)?;
+    let abandoned = taken_away(alloc, edit, &left, &route.course, true)?;
     let mut change = no_change(alloc, route.name);
     change.course = Some(course);
     change.marks = Some(marks);
-    change.refs = moved_referents(alloc, route.refs.as_slice(), from, to, len)?;
+    change.refs = refs;
     change.spans_gone = Rows::from_vec(rows.gone);
     change.spans_come = Rows::from_vec(rows.come);
     Ok(Realigned {

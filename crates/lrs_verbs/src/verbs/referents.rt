@@ -3,7 +3,7 @@
 ghost use Rattle.std.specs.Prelude.{◌≡◌, ◌∷◌, [], IfOk};
 ghost use Rattle.lrs_verbs.specs.RouteReferents.{plan_of_referents};
 
-use lrs_image::{ReferentChange, RouteChange};
+use lrs_image::{ReferentChange, RouteChange, RouteKeys};
 use lrs_inventory::{Plan, ReferentPlaces};
 use lrs_measure::Rows;
 use lrs_position::{RefName, Referent, RouteName};
@@ -22,6 +22,7 @@ pub fn plan_of_referents(
     plan.difference.changed = Some(RouteChange {
         route,
         name: route,
+        keys: RouteKeys::none(alloc),
         course: None,
         marks: None,
         refs,

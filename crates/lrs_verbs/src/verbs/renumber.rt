@@ -6,8 +6,9 @@ ghost use Rattle.lrs_verbs.specs.Checks.{renumbered};
 ghost use Rattle.lrs_inventory.specs.Plans.{Plans};
 
 use crate::verbs::checks::route_named;
-use crate::verbs::route_changes::{no_change, pieces_of};
+use crate::verbs::route_changes::{keys_on, no_change, pieces_of};
 use lrs_element::Piece;
+use lrs_image::RouteKeys;
 use lrs_inventory::{GroundChange, Inventory, Plan, Stop, refuse_if};
 use lrs_machine::Cause;
 use lrs_measure::Rows;
@@ -27,15 +28,23 @@ pub fn plan_renumber(
     let is_known = inventory.route(&name).is_some();
     refuse_if(is_known, Cause::RouteKnown)?;
     let passed = pieces_of(alloc, &route_row.route.course)?;
-    Ok(renumbered(alloc, route, name, passed))
+    let keys = keys_on(alloc, route_row)?;
+    Ok(renumbered(alloc, route, name, keys, passed))
 }
 
-/// The plan by which a route gets this name, and its ground passes to it.
-fn renumbered(alloc: Global, route: RouteName, name: RouteName, passed: Rows<Piece>) -> Plan
-    ensures { result ≡ renumbered route name passed }
+/// The plan by which a route gets this name with what lies on it, and its ground passes to it.
+fn renumbered(
+    alloc: Global,
+    route: RouteName,
+    name: RouteName,
+    keys: RouteKeys,
+    passed: Rows<Piece>,
+) -> Plan
+    ensures { result ≡ renumbered route name keys passed }
 {
     let mut change = no_change(alloc, route);
     change.name = name;
+    change.keys = keys;
     let mut plan = Plan::none(alloc);
     plan.ground = Some(GroundChange {
         route: name,

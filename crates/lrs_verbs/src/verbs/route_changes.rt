@@ -2,11 +2,12 @@
 
 ghost use Rattle.std.specs.Prelude.{◌≡◌, IfOk, map};
 ghost use Rattle.std.specs.List.{AllByRecursion};
-ghost use Rattle.lrs_inventory.specs.Prelude.{course_of, IsFilled};
+ghost use Rattle.lrs_inventory.specs.Prelude.{course_of, keys_of, IsFilled};
 ghost use Rattle.lrs_image_laws.specs.Differences.{no_change};
 
 use lrs_element::{Course, Piece};
-use lrs_image::{ReferentChange, RouteChange};
+use lrs_image::{ReferentChange, RouteChange, RouteKeys};
+use lrs_machine::RouteRow;
 use lrs_measure::Rows;
 use lrs_position::{RefName, Referent, RouteName};
 use std::alloc::{AllocError, Global};
@@ -18,6 +19,7 @@ pub fn no_change(alloc: Global, route: RouteName) -> RouteChange
     RouteChange {
         route,
         name: route,
+        keys: RouteKeys::none(alloc),
         course: None,
         marks: None,
         refs: ReferentChange {
@@ -47,4 +49,16 @@ pub fn names_of(alloc: Global, refs: &[Referent]) -> Result<Rows<RefName>, Alloc
         out.push(referent.name)?;
     }
     Ok(Rows::from_vec(out))
+}
+
+/// What lies on a route, by its keys.
+pub fn keys_on(alloc: Global, route_row: &RouteRow) -> Result<RouteKeys, AllocError>
+    ensures { IfOk result (λ keys. keys ≡ keys_of route_row.now.route.refs route_row.now.spans) }
+{
+    let refs = names_of(alloc, route_row.route.refs.as_slice())?;
+    let spans = Vec::from_slice(alloc, route_row.spans.rows())?;
+    Ok(RouteKeys {
+        refs,
+        spans: Rows::from_vec(spans),
+    })
 }

@@ -83,12 +83,13 @@ fn cut_route(
     let _rear_len = rear_course.len();
     let (marks, rear_marks) = route.marks.cut(at)?;
     let refs = refs_behind(alloc, route.refs.as_slice(), at)?;
+    let names = names_behind(alloc, route.refs.as_slice(), at)?;
     let Cut { rear, change } = route_row.spans.plan_cut(alloc, at)?;
     let spans = Spans::of_rows(alloc, rear)?;
     let mut front = no_change(alloc, route.name);
     front.course = Some(course);
     front.marks = Some(marks);
-    front.refs.gone = names_behind(alloc, route.refs.as_slice(), at)?;
+    front.refs.gone = names;
     front.spans_gone = Rows::from_vec(change.gone);
     front.spans_come = Rows::from_vec(change.come);
     let route = rear_route(name, rear_course, rear_marks, refs);

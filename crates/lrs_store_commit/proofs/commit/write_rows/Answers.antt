@@ -1,6 +1,7 @@
 use Rattle.std.proofs.Common.{arith}
 use Rattle.sqlite.specs.State.{HasCleanDisk}
 use Rattle.sqlite.specs.Held.{state}
+use Rattle.lrs_measure.specs.Texts.{Name}
 use Rattle.lrs_image.specs.declared.change.RouteChange.{RouteChange}
 use Rattle.lrs_machine.specs.declared.image.RouteRow.{RouteRow}
 use Rattle.lrs_store_tables.specs.Changing.{without_route, with_edit}
@@ -25,12 +26,13 @@ returns-clause-does g c clean writing =
     let m2 : HasCleanDisk s2 = omega (arith, m3, c.change_some.ensures.survives.clean) in
     let m1 : HasCleanDisk s1 = omega (arith, m2, c.drop_some.ensures.survives.clean) in
     let d = c.args.change.now.difference in
+    let gone : Name → Tables → Tables = λ route. without_route route d.keys in
     let a1 = (c.in_ok-put_named.ensures.does m1 writing) in
-    let a2 = makes_on (with_named d) (with_some without_route d.dropped) s0 s1 s2 (steady_some without_route steady-without_route d.dropped) a1 (c.in_ok-drop_some.ensures.does m2 a1.writing) in
+    let a2 = makes_on (with_named d) (with_some gone d.dropped) s0 s1 s2 (steady_some gone (λ (route : Name). steady-without_route route d.keys) d.dropped) a1 (c.in_ok-drop_some.ensures.does m2 a1.writing) in
     let o3 = (c.in_ok-change_some.ensures.does m3 a2.writing) in
-    let a3 = makes_on (λ (t : Tables). with_some without_route d.dropped (with_named d t)) (with_some (λ (r : RouteChange). changed_route r o3.pieces) d.changed) s0 s2 s3 (steady_some (λ (r : RouteChange). changed_route r o3.pieces) (λ r. steady-changed_route r o3.pieces) d.changed) a2 o3.makes in
+    let a3 = makes_on (λ (t : Tables). with_some gone d.dropped (with_named d t)) (with_some (λ (r : RouteChange). changed_route r o3.pieces) d.changed) s0 s2 s3 (steady_some (λ (r : RouteChange). changed_route r o3.pieces) (λ r. steady-changed_route r o3.pieces) d.changed) a2 o3.makes in
     let o4 = (c.in_ok-put_some.ensures.does m4 a3.writing) in
-    let a4 = makes_on (λ (t : Tables). with_some (λ (r : RouteChange). changed_route r o3.pieces) d.changed (with_some without_route d.dropped (with_named d t))) (with_some (λ (e : RouteRow). new_route e o4.pieces) d.made) s0 s3 s4 (steady_some (λ (e : RouteRow). new_route e o4.pieces) (λ e. steady-new_route e o4.pieces) d.made) a3 o4.makes in
+    let a4 = makes_on (λ (t : Tables). with_some (λ (r : RouteChange). changed_route r o3.pieces) d.changed (with_some gone d.dropped (with_named d t))) (with_some (λ (e : RouteRow). new_route e o4.pieces) d.made) s0 s3 s4 (steady_some (λ (e : RouteRow). new_route e o4.pieces) (λ e. steady-new_route e o4.pieces) d.made) a3 o4.makes in
     let a5 = makes_on (λ (t : Tables). with_routes d o3.pieces o4.pieces (with_named d t)) (with_ledgers d) s0 s4 s5 (steady-with_ledgers d) a4 (c.in_ok-put_ledgers.ensures.does m5 a4.writing) in
     let a6 = makes_on (λ (t : Tables). with_ledgers d (with_routes d o3.pieces o4.pieces (with_named d t))) (with_edit c.args.n c.args.change.now.edit) s0 s5 s6 (steady-with_edit c.args.n c.args.change.now.edit) a5 (c.in_ok-put_edit.ensures.does clean a5.writing) in
     record { writing = a6.writing; was_open = a5.was_open (c.in_ok-put_edit.ensures.is_open clean a5.writing); rows = record { changed = o3.pieces; changed_are = o3.are; made = o4.pieces; made_are = o4.are; rows = a6.rows } }

@@ -22,5 +22,5 @@ returns-clause-does g c clean writing =
     let a1 = o1.makes in
     let a2 = makes_on (changed_line c.args.change.now o1.pieces) (changed_refs c.args.change.now.route c.args.change.now.refs) s0 s1 s2 (steady-changed_refs c.args.change.now.route c.args.change.now.refs) a1 (c.in_ok-change_refs.ensures.does m2 a1.writing) in
     let a3 = makes_on (λ (t : Tables). (changed_refs c.args.change.now.route c.args.change.now.refs) ((changed_line c.args.change.now o1.pieces) t)) (changed_spans c.args.change.now) s0 s2 s3 (steady-changed_spans c.args.change.now) a2 (c.in_ok-change_spans.ensures.does m3 a2.writing) in
-    let a4 = makes_on (λ (t : Tables). (changed_spans c.args.change.now) ((λ (t : Tables). (changed_refs c.args.change.now.route c.args.change.now.refs) ((changed_line c.args.change.now o1.pieces) t)) t)) (renamed_route c.args.change.now.route c.args.change.now.name) s0 s3 s4 (steady-renamed_route c.args.change.now.route c.args.change.now.name) a3 (c.in_ok-rename_if_new.ensures.does clean a3.writing) in
+    let a4 = makes_on (λ (t : Tables). (changed_spans c.args.change.now) ((λ (t : Tables). (changed_refs c.args.change.now.route c.args.change.now.refs) ((changed_line c.args.change.now o1.pieces) t)) t)) (renamed_route c.args.change.now.route c.args.change.now.name c.args.change.now.keys) s0 s3 s4 (steady-renamed_route c.args.change.now.route c.args.change.now.name c.args.change.now.keys) a3 (c.in_ok-rename_if_new.ensures.does clean a3.writing) in
     record { pieces = o1.pieces; are = o1.are; makes = a4 }

@@ -11,4 +11,5 @@ returns-then-eq-clause-does g c clean writing =
     let s = state g.S.Store c.args.tx.now.conn.now in
     let same : c.args.route.now ≡ c.args.name.now = search rules in
     let own = c.args.route.now in
-    subst (λ name. Makes (renamed_route own name) s s) same (makes_nothing (renamed_route own own) s (renamed_itself own) writing)
+    let keys = c.args.keys.now in
+    subst (λ name. Makes (renamed_route own name keys) s s) same (makes_nothing (renamed_route own own keys) s (renamed_itself own keys) writing)

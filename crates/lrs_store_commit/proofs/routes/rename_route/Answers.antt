@@ -19,6 +19,6 @@ returns-clause-does g c clean writing =
     let m1 : HasCleanDisk s1 = omega (arith, m2, c.rename_marks.ensures.survives.clean) in
     let a1 = (c.in_ok-rename_pieces.ensures.does m1 writing) in
     let a2 = makes_on (renamed_pieces c.args.route.now c.args.name.now) (renamed_marks c.args.route.now c.args.name.now) s0 s1 s2 (steady-renamed_marks c.args.route.now c.args.name.now) a1 (c.in_ok-rename_marks.ensures.does m2 a1.writing) in
-    let a3 = makes_on (λ (t : Tables). (renamed_marks c.args.route.now c.args.name.now) ((renamed_pieces c.args.route.now c.args.name.now) t)) (renamed_refs c.args.route.now c.args.name.now) s0 s2 s3 (steady-renamed_refs c.args.route.now c.args.name.now) a2 (c.in_ok-rename_refs.ensures.does m3 a2.writing) in
-    let a4 = makes_on (λ (t : Tables). (renamed_refs c.args.route.now c.args.name.now) ((λ (t : Tables). (renamed_marks c.args.route.now c.args.name.now) ((renamed_pieces c.args.route.now c.args.name.now) t)) t)) (renamed_spans c.args.route.now c.args.name.now) s0 s3 s4 (steady-renamed_spans c.args.route.now c.args.name.now) a3 (c.in_ok-rename_spans.ensures.does clean a3.writing) in
+    let a3 = makes_on (λ (t : Tables). (renamed_marks c.args.route.now c.args.name.now) ((renamed_pieces c.args.route.now c.args.name.now) t)) (renamed_refs c.args.route.now c.args.name.now c.args.keys.now.refs) s0 s2 s3 (steady-renamed_refs c.args.route.now c.args.name.now c.args.keys.now.refs) a2 (c.in_ok-rename_refs.ensures.does m3 a2.writing) in
+    let a4 = makes_on (λ (t : Tables). (renamed_refs c.args.route.now c.args.name.now c.args.keys.now.refs) ((λ (t : Tables). (renamed_marks c.args.route.now c.args.name.now) ((renamed_pieces c.args.route.now c.args.name.now) t)) t)) (renamed_spans c.args.route.now c.args.name.now c.args.keys.now.spans) s0 s3 s4 (steady-renamed_spans c.args.route.now c.args.name.now c.args.keys.now.spans) a3 (c.in_ok-rename_spans.ensures.does clean a3.writing) in
     a4

@@ -39,5 +39,5 @@ returns c =
     let led = subst (λ (n : ℕ). AreGone (n + 1) Abandoned (holds_by_spans r.route.course r.spans) gone) c.edits-edit.ensures
     (subst (λ (rows : List Span). AreGone (c.edits-edit.result + 1) Abandoned (holds_by_spans r.route.course rows) gone) c.rows.ensures.rows c.in_ok-gone.ensures) in
     let names = c.in_ok-names.ensures ∙ ap (λ (refs : List Referent). names_of refs) c.as_slice.ensures in
-    subst (λ (p : Plan). IsPlanOf (verb.Close c.args.route) i p) (sym (c.closing.ensures ∙ ap (closing c.args.route gone c.in_ok-freed.freed) names))
-    (closes c.args.route i r gone c.prove_sound.ensures c.in_ok-route_row.ensures.found led c.in_ok-freed.freed c.in_ok-freed.ensures.course c.in_ok-freed.ensures.filled)
+    subst (λ (p : Plan). IsPlanOf (verb.Close c.args.route) i p) (sym (c.closing.ensures ∙ ap (closing c.args.route c.in_ok-keys.keys gone c.in_ok-freed.freed) names))
+    (closes c.args.route i r gone c.in_ok-keys.keys c.in_ok-keys.ensures c.prove_sound.ensures c.in_ok-route_row.ensures.found led c.in_ok-freed.freed c.in_ok-freed.ensures.course c.in_ok-freed.ensures.filled)

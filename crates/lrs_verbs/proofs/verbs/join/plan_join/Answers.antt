@@ -79,5 +79,5 @@ returns c =
     let short = (course_is a.route.course b.route.course c.in_ok-course.course c.in_ok-course.ensures).1 in
     let line = line_is a.route.marks b.route.marks c.in_ok-marks.marks c.in_ok-marks.ensures in
     subst (λ (p : Plan). IsPlanOf (verb.Join first second) i p) (sym c.join_plan.ensures)
-    (makes_one first second i a b c.in_ok-change.change c.prove_sound.ensures c.in_ok-front.ensures.found c.in_ok-rear.ensures.found differ short line.few line.small c.in_ok-change.ensures c.in_ok-passed.passed
+    (makes_one first second i a b c.in_ok-change.change c.prove_sound.ensures c.in_ok-front.ensures.found c.in_ok-rear.ensures.found differ short line.few line.small c.in_ok-change.ensures c.in_ok-keys.keys c.in_ok-keys.ensures c.in_ok-passed.passed
     c.in_ok-passed.ensures.course c.in_ok-passed.ensures.filled)

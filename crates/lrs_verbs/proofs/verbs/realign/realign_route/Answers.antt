@@ -11,6 +11,11 @@ plan_realign-requires-clause-room c =
     subst (λ (n : ℕ). have_room_behind c.args.to (c.args.from + n) c.args.route_row.now.spans ≡ true) (sym c.len-len.ensures.len)
     (room c.args.route_row.now.route.course c.args.line.come c.args.line.course c.args.from c.args.to c.requires.order c.requires.inside c.requires.course c.len-len-2.ensures.limits c.args.route_row.now.spans c.requires.ends)
 
+pub plan_realign-requires-clause-limit : goal.plan_realign-requires-clause-limit
+plan_realign-requires-clause-limit c =
+    subst (λ (n : ℕ). c.args.from + n ≤ longest_route) (sym c.len-len.ensures.len)
+    (limit c.args.route_row.now.route.course c.args.line.come c.args.line.course c.args.from c.args.to c.requires.order c.requires.inside c.requires.course c.len-len-2.ensures.limits)
+
 pub moved_referents-requires-clause-limit : goal.moved_referents-requires-clause-limit
 moved_referents-requires-clause-limit c =
     subst (λ (n : ℕ). c.args.from + n ≤ longest_route) (sym c.len-len.ensures.len)

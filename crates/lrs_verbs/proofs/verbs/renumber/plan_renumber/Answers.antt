@@ -35,4 +35,4 @@ returns c =
     let unknown = passed c.is_some-is_known.result cause.RouteKnown c.refuse_if.result _ c.refuse_if.ensures c.in_ok-refuse_if.was in
     let fresh = same_known _ _ c.route.result (get (state_of i).routes name) c.route.ensures.route ∙ sym c.is_some-is_known.ensures ∙ unknown in
     subst (λ (p : Plan). IsPlanOf (verb.Renumber c.args.route name) i p) (sym c.renumbered.ensures)
-    (renumbers c.args.route name i c.in_ok-route_row.route_row.now c.prove_sound.ensures c.in_ok-route_row.ensures.found fresh c.in_ok-passed.passed c.in_ok-passed.ensures.course c.in_ok-passed.ensures.filled)
+    (renumbers c.args.route name i c.in_ok-route_row.route_row.now c.prove_sound.ensures c.in_ok-route_row.ensures.found fresh c.in_ok-keys.keys c.in_ok-keys.ensures c.in_ok-passed.passed c.in_ok-passed.ensures.course c.in_ok-passed.ensures.filled)

@@ -53,6 +53,11 @@ cut_route-requires-clause-inner c =
     let known = not_false c.is_inside-is_inner.result (passed (not c.is_inside-is_inner.result) cause.NoMark c.refuse_if-2.result _ c.refuse_if-2.ensures c.in_ok-refuse_if-2.was) in
     sym (inside_is_inner r c.args.at) ∙ sym (c.is_inside-is_inner.ensures ∙ (λ j. is_inside (c.len-len.ensures.len j) (c.list.ensures.list j) c.args.at)) ∙ known
 
+pub returns-in_err-passed : goal.returns-in_err-passed
+returns-in_err-passed c =
+    let e = err_from_is_err_and c.from_residual-in_err-passed.result c.from_residual-in_err-passed.ensures.1 in
+    rw (e.1, e.2) tt
+
 pub returns : goal.returns
 returns c =
     let i = c.args.inventory.now in
