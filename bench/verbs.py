@@ -1,16 +1,19 @@
 """What each verb costs beside few and beside many assets, and on a route with many rows.
 
-    python3 bench/verbs.py [--file FOLDER] [MANY..]
+    python3 bench/verbs.py [--file FOLDER [--instructions]] [MANY..]
 
 Routes of 1,000 mm with three assets each, which the measured commands edit, stand beside 1,000 other routes with 1,000 assets, and
-with MANY (30,000 and 1,000,000) on them together: over :memory:, or with --file over a database in FOLDER. The sheet goes through a
+with MANY (30,000 and 970,000) on them together: over :memory:, or with --file over a database in FOLDER. The sheet goes through a
 pipe: when the program waits for more, it has done all that it was sent, and its processor time then, less that before the commands
 of a verb, is what they cost. A figure is for one command, the least of three rounds of 64 commands, which over a file are one
-transaction. Nothing but Python is needed; ROADLRS in the environment names the program.
+transaction. With --instructions they are counted, by valgrind, of one round on a copy of the closed database, less those of a sheet
+without a record. Nothing else but Python is needed; ROADLRS in the environment names the program.
 """
 
 import argparse
 import os
+import re
+import shutil
 import subprocess
 import sys
 import tempfile
@@ -119,20 +122,53 @@ VERBS = ("link", "class", "route", "ref", "unref", "enter", "supersede", "retire
 CLASSES = [row("c1", "class", "SPEED", "exclusive"), row("c2", "class", "RAIL", "stretch")]
 
 
-def costs(path, database, count):
-    """What one command of each verb costs beside so many other assets."""
+def batches():
+    """The verb and the first route of each round of commands."""
+    return [(verb, (turn * len(VERBS) + place) * COMMANDS) for turn in range(ROUNDS) for place, verb in enumerate(VERBS)]
+
+
+def commands(verb, first):
+    return [of_verb(verb, first + n) for n in range(COMMANDS)]
+
+
+def filled(path, database, count):
+    """The program, once it has entered what the measured commands edit, and so many other assets."""
     program = Program(path, database)
     program.send(CLASSES)
-    batches = [(verb, (turn * len(VERBS) + place) * COMMANDS) for turn in range(ROUNDS) for place, verb in enumerate(VERBS)]
-    for verb, first in batches:
+    for verb, first in batches():
         program.send(edited(first, COMMANDS, verb == "join"))
     program.send(others(count))
-    found = {}
-    for verb, first in batches:
-        cost = program.cost([of_verb(verb, first + n) for n in range(COMMANDS)], COMMANDS)
+    return program
+
+
+def costs(path, database, count):
+    """What one command of each verb costs beside so many other assets, in microseconds of a processor."""
+    program, found = filled(path, database, count), {}
+    for verb, first in batches():
+        cost = program.cost(commands(verb, first), COMMANDS)
         found[verb] = min(cost, found.get(verb, cost))
     program.end()
     return found
+
+
+def instructions(path, database, rows):
+    """How many the program takes for these records on a copy of a closed database, with its opening."""
+    copy, sheet = f"{database}-copy", f"{database}-sheet"
+    shutil.copy(database, copy)
+    with open(sheet, "wb") as it:
+        it.write(b"".join([HEADER, *rows]))
+    words = ["valgrind", "--tool=callgrind", "--callgrind-out-file=/dev/null", path, "edit", copy, sheet]
+    done = subprocess.run(words, stdout=subprocess.DEVNULL, stderr=subprocess.PIPE, text=True, check=True)
+    return int(re.search(r"refs: +([0-9,]+)", done.stderr)[1].replace(",", ""))
+
+
+def counted(path, database, count):
+    """What one command of each verb costs, in thousands of instructions."""
+    program = filled(path, database, count)
+    program.settled()
+    program.end()
+    opening = instructions(path, database, [])
+    return {verb: (instructions(path, database, commands(verb, first)) - opening) / COMMANDS / 1_000 for verb, first in batches()[: len(VERBS)]}
 
 
 def long_route():
@@ -183,16 +219,20 @@ def measured(costs, folder, *given):
 def main():
     words = argparse.ArgumentParser()
     words.add_argument("--file", metavar="FOLDER")
-    words.add_argument("many", type=int, nargs="*", default=[30_000, 1_000_000])
+    words.add_argument("--instructions", action="store_true")
+    words.add_argument("many", type=int, nargs="*", default=[30_000, 970_000])
     words = words.parse_args()
     path = os.environ.get("ROADLRS", str(BUILT))
     counts = [1_000, *words.many]
-    found = [measured(lambda *it: costs(path, *it), words.file, count) for count in counts]
-    print("one command, in microseconds, beside so many assets, and the last beside the first")
+    cost, unit = (counted, "thousands of instructions") if words.instructions else (costs, "microseconds")
+    found = [measured(lambda *it: cost(path, *it), words.file, count) for count in counts]
+    print(f"one command, in {unit}, beside so many assets, and the last beside the first")
     print(f"{'':12}" + "".join(f"{count:12,}" for count in counts) + f"{'ratio':>12}")
     for verb in VERBS:
         figures = [it[verb] for it in found]
         print(f"{verb:12}" + "".join(f"{it:12.1f}" for it in figures) + f"{figures[-1] / figures[0]:12.2f}")
+    if words.instructions:
+        return
     print(f"one command on a route of {ROWS:,} rows, in microseconds")
     runs = [measured(lambda *it: long_costs(path, *it), words.file) for _ in range(ROUNDS)]
     for verb, cost in least(runs).items():
