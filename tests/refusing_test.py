@@ -2,13 +2,16 @@
 answered without, the program names the fault, and the same sheet with nothing refused ends as if nothing had been.
 """
 
+import collections
 import pathlib
+import subprocess
 import tempfile
 
 import pytest
 
-from program import BUILT, FIRST, FIRST_REPLIES, HEADER, lines, record, run
+from program import BUILT, FIRST, FIRST_REPLIES, HEADER, PATIENCE, lines, record, run
 from refusing import with_each_refused
+from serving import answer, free_port, reply, request, sheet_reply
 from stores import edit, is_whole, make, rows_of
 from worked_rows import WORKED_ROWS
 
@@ -167,3 +170,23 @@ def test_a_survey_over_a_file_that_fails(kind, faults):
             is_whole(path)
 
         assert with_each_refused(kind, test) > 5
+
+
+def served(refusal, sent):
+    """What is answered to one request, or how the program ended before it listened."""
+    port = free_port()
+    words = [BUILT, "serve", ":memory:", str(port), "1"]
+    with refusal.environment() as env, subprocess.Popen(words, env=env, stdout=subprocess.PIPE, stderr=subprocess.PIPE) as program:
+        replied = answer(port, sent) if program.stdout.readline() else program.stderr.read()
+        assert program.wait(PATIENCE) == (3 if replied.startswith(b"roadlrs: ") else 0), (refusal.number, replied)
+    return replied
+
+
+def test_a_sheet_over_http_bears_a_refused_growth():
+    """It is answered in full, or by the 503 that says that memory does not suffice; only a connection for which there is none is closed."""
+    sent = request("POST /v1/edits", FIRST, "Content-Type: text/csv")
+    full, unavailable = sheet_reply(FIRST_REPLIES), reply(503)
+    found = collections.Counter()
+    with_each_refused("ALLOCATION", lambda refusal: found.update([served(refusal, sent)]))
+    assert set(found) <= {full, unavailable, b"", b"roadlrs: fault Memory\n", b"roadlrs: fault Door\n"}, found
+    assert found[full] > 100 and found[unavailable] > 100 and found[b""] <= 2, found

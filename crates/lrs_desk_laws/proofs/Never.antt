@@ -1,5 +1,5 @@
 -- No count rises from nothing to nothing.
-use Rattle.std.proofs.Common.{◌≡◌, inl, inr, arith}
+use Rattle.std.proofs.Common.{inl, inr, arith}
 use Rattle.lrs_image.specs.Keeping.{HasRisen}
 
 pub never : HasRisen 0 0 → ⊥

@@ -1,14 +1,15 @@
 //! The calls of a desk as steps of a run that may stop.
 
-ghost use Rattle.std.specs.Prelude.{◌≡◌, ◌≤◌, ◌++◌, ◌∷◌, [], Err, List, length, IfOk, IfErr, Result};
+ghost use Rattle.std.specs.Prelude.{◌≡◌, ◌≤◌, ◌++◌, ◌∷◌, ◌↔◌, [], Err, List, length, IfOk, IfErr, OnOk, IsTrue, Result};
 ghost use Rattle.lrs_machine.specs.declared.answer.Limits.{Limits as DeskLimits};
 ghost use Rattle.lrs_machine.specs.declared.image.Image.{Image as ImageRows};
 ghost use Rattle.lrs_machine.specs.declared.table.Table.{Table as ImageTable};
 ghost use Rattle.lrs_machine.specs.Image.{state_of};
+ghost use Rattle.lrs_machine.specs.Machine.{step as do_step};
 ghost use Rattle.lrs_machine.specs.State.{State};
 ghost use Rattle.lrs_machine_stops.specs.Stopped.{Step, Open, Stop};
 ghost use Rattle.lrs_machine_stops.specs.Laws.{IsMadeBy};
-ghost use Rattle.lrs_desk.specs.Desk.{records_of};
+ghost use Rattle.lrs_desk.specs.Desk.{IsUnchanged, records_of};
 ghost use Rattle.lrs_desk_laws.specs.Steps.{AreStepsOf, IsAtRest, IsInRun, step_of};
 
 use lrs_desk::{Answer, Command, Desk, Fault, Keeper, Key, Limits, OpenFault, Plain};
@@ -49,8 +50,17 @@ pub fn act<K: Keeper>(desk: &mut Desk<K>, key: Key, command: &Command) -> Result
 /// Does a command over an inventory in memory, as `Desk::act` does. No commit fails there.
 ///
 /// # Errors
-/// When memory runs out.
+/// When memory runs out; nothing has changed then. `MustReopen` where the desk asks for it before.
 pub fn act_in_memory(desk: &mut Desk<Plain>, key: Key, command: &Command) -> Result<Answer, Fault>
+    ensures answer { IfOk result (λ answer. answer ≡ (do_step desk.old.limits key command.now
+        (state_of desk.old.image)).answer) }
+    ensures image { OnOk result (state_of desk.new.image ≡ (do_step desk.old.limits key command.now
+        (state_of desk.old.image)).state) }
+    ensures memory { result ≡ Err Fault.Memory
+        → IsUnchanged ⟦<Plain as Keeper>⟧.may_hold desk.old desk.new }
+    ensures reopen { (result ≡ Err Fault.MustReopen) ↔ IsTrue desk.old.must_reopen }
+    ensures stays { result ≡ Err Fault.MustReopen
+        → IsUnchanged ⟦<Plain as Keeper>⟧.may_hold desk.old desk.new }
     ensures never { result ≡ Err Fault.Keep → ⊥ }
 {
     desk.act(key, command)
