@@ -6,12 +6,13 @@ ghost use Rattle.lrs_machine.specs.declared.table.Table.{Table};
 ghost use Rattle.lrs_machine.specs.Sound.{IsSound};
 ghost use Rattle.lrs_image.specs.Change.{apply, CanMake};
 ghost use Rattle.lrs_image.specs.Keeping.{HasRisen, HoldsOnly, HoldsSound, HoldsOldOrNew, HoldsSame};
-ghost use Rattle.lrs_image.specs.Kept.{image_of};
+ghost use Rattle.lrs_image.specs.Kept.{image_of, image_with, IsPrepared};
 ghost use Rattle.lrs_image.specs.Together.{IsChangedBy};
 
 use crate::change::Change;
 use crate::keeper::{CommitFailed, Keeper};
 use crate::kept_image::KeptImage;
+use crate::open_route::OpenRoute;
 use lrs_measure::TryCopy;
 use std::alloc::{AllocError, Global};
 
@@ -57,15 +58,14 @@ pub fn stage_change<K: Keeper>(
     ensures open { K.is_open keeper.old → K.is_open keeper.new }
     ensures quiet { K.failures keeper.new ≡ K.failures keeper.old }
 {
-    let copy = change.copy(alloc)?;
-    let opened = kept.prepare(alloc, &change.difference)?;
-    match keeper.stage(copy) {
-        Ok(()) => {
+    match stage_prepared(alloc, kept, keeper, &change) {
+        Ok(opened) => {
             kept.finish(opened, change);
             Ok(())
         }
         Err(fault) => {
-            kept.put_back(opened);
+            // As a call, the drop is one step to prove, and not one for each part.
+            drop(change);
             Err(fault)
         }
     }
@@ -103,13 +103,42 @@ pub fn make_change<K: Keeper>(
         → K.is_clean keeper.new → K.is_open keeper.new }
     ensures staged { K.staged keeper.new ≡ [] }
 {
-    let copy = change.copy(alloc)?;
-    let opened = kept.prepare(alloc, &change.difference)?;
-    match keep_one(keeper, copy) {
-        Ok(()) => {
+    match keep_prepared(alloc, kept, keeper, &change) {
+        Ok(opened) => {
             kept.finish(opened, change);
             Ok(())
         }
+        Err(fault) => {
+            // As a call, the drop is one step to prove, and not one for each part.
+            drop(change);
+            Err(fault)
+        }
+    }
+}
+
+/// Prepares the lists for a change, and stages a copy of it. Where that fails, the route is put back.
+fn stage_prepared<K: Keeper>(
+    alloc: Global,
+    kept: &mut KeptImage,
+    keeper: &mut K,
+    change: &Change,
+) -> Result<Option<OpenRoute>, AllocError>
+    requires sound { IsSound (image_of kept.old) }
+    requires can { CanMake change.now (image_of kept.old) }
+    ensures image { IfOk result (λ opened. image_with opened kept.new ≡ image_of kept.old) }
+    ensures ready { IfOk result (λ opened. IsPrepared change.now.difference opened kept.new) }
+    ensures staged { OnOk result (K.staged keeper.new ≡ K.staged keeper.old ++ change.now ∷ []) }
+    ensures err { OnErr result (image_of kept.new ≡ image_of kept.old) }
+    ensures not_staged { OnErr result (K.staged keeper.new ≡ K.staged keeper.old) }
+    ensures content { HoldsSame (K.may_hold keeper.old) (K.may_hold keeper.new) }
+    ensures loaded { K.is_loaded keeper.new ≡ K.is_loaded keeper.old }
+    ensures clean { K.is_clean keeper.new → K.is_clean keeper.old }
+    ensures open { K.is_open keeper.old → K.is_open keeper.new }
+    ensures quiet { K.failures keeper.new ≡ K.failures keeper.old }
+{
+    let opened = kept.prepare(alloc, &change.difference)?;
+    match stage_copy(alloc, keeper, change) {
+        Ok(()) => Ok(opened),
         Err(fault) => {
             kept.put_back(opened);
             Err(fault)
@@ -117,20 +146,28 @@ pub fn make_change<K: Keeper>(
     }
 }
 
-/// Stages a change where nothing is staged, and commits it.
-fn keep_one<K: Keeper>(keeper: &mut K, change: Change) -> Result<(), CommitFault>
+/// Prepares the lists for a change, and keeps it. Where that fails, the route is put back.
+fn keep_prepared<K: Keeper>(
+    alloc: Global,
+    kept: &mut KeptImage,
+    keeper: &mut K,
+    change: &Change,
+) -> Result<Option<OpenRoute>, CommitFault>
     requires loaded { K.is_loaded keeper.old ≡ true }
     requires staged { K.staged keeper.old ≡ [] }
     requires reached { K.is_clean keeper.old → K.is_open keeper.old }
-    requires sound { HoldsSound (K.may_hold keeper.old) }
-    requires can { (c : Result Image Table) → K.may_hold keeper.old c → IfOk c (CanMake change) }
-    ensures ok { OnOk result ((c : Result Image Table) → K.may_hold keeper.new c
-        → IsChangedBy (K.may_hold keeper.old) (change ∷ []) c) }
+    requires content { HoldsOnly (K.may_hold keeper.old) (image_of kept.old) }
+    requires sound { IsSound (image_of kept.old) }
+    requires can { CanMake change.now (image_of kept.old) }
+    ensures image { IfOk result (λ opened. image_with opened kept.new ≡ image_of kept.old) }
+    ensures ready { IfOk result (λ opened. IsPrepared change.now.difference opened kept.new) }
+    ensures ok_kept { OnOk result (HoldsOnly (K.may_hold keeper.new)
+        (apply change.now (image_of kept.old))) }
+    ensures err { OnErr result (image_of kept.new ≡ image_of kept.old) }
     ensures memory { result ≡ Err CommitFault.Memory → (c : Result Image Table)
         → K.may_hold keeper.new c → K.may_hold keeper.old c }
-    ensures store { result ≡ Err CommitFault.Store → (c : Result Image Table)
-        → K.may_hold keeper.new c
-        → K.may_hold keeper.old c ⊎ IsChangedBy (K.may_hold keeper.old) (change ∷ []) c }
+    ensures store { result ≡ Err CommitFault.Store
+        → HoldsOldOrNew change.now (K.may_hold keeper.new) (image_of kept.old) }
     ensures cause { result ≡ Err CommitFault.Store
         → HasRisen (K.failures keeper.old) (K.failures keeper.new) }
     ensures loaded { K.is_loaded keeper.new ≡ true }
@@ -138,7 +175,52 @@ fn keep_one<K: Keeper>(keeper: &mut K, change: Change) -> Result<(), CommitFault
         → K.is_clean keeper.new → K.is_open keeper.new }
     ensures staged { K.staged keeper.new ≡ [] }
 {
-    keeper.stage(change)?;
+    let opened = kept.prepare(alloc, &change.difference)?;
+    match keep_one(alloc, keeper, change) {
+        Ok(()) => Ok(opened),
+        Err(fault) => {
+            kept.put_back(opened);
+            Err(fault)
+        }
+    }
+}
+
+/// Stages a copy of a change.
+fn stage_copy<K: Keeper>(alloc: Global, keeper: &mut K, change: &Change) -> Result<(), AllocError>
+    ensures ok { OnOk result (K.staged keeper.new ≡ K.staged keeper.old ++ change.now ∷ []) }
+    ensures err { OnErr result (K.staged keeper.new ≡ K.staged keeper.old) }
+    ensures content { HoldsSame (K.may_hold keeper.old) (K.may_hold keeper.new) }
+    ensures clean { K.is_clean keeper.new → K.is_clean keeper.old }
+    ensures open { K.is_open keeper.old → K.is_open keeper.new }
+    ensures loaded { K.is_loaded keeper.new ≡ K.is_loaded keeper.old }
+    ensures quiet { K.failures keeper.new ≡ K.failures keeper.old }
+{
+    let copy = change.copy(alloc)?;
+    keeper.stage(copy)
+}
+
+/// Stages a copy of a change where nothing is staged, and commits it.
+fn keep_one<K: Keeper>(alloc: Global, keeper: &mut K, change: &Change) -> Result<(), CommitFault>
+    requires loaded { K.is_loaded keeper.old ≡ true }
+    requires staged { K.staged keeper.old ≡ [] }
+    requires reached { K.is_clean keeper.old → K.is_open keeper.old }
+    requires sound { HoldsSound (K.may_hold keeper.old) }
+    requires can { (c : Result Image Table) → K.may_hold keeper.old c → IfOk c (CanMake change.now) }
+    ensures ok { OnOk result ((c : Result Image Table) → K.may_hold keeper.new c
+        → IsChangedBy (K.may_hold keeper.old) (change.now ∷ []) c) }
+    ensures memory { result ≡ Err CommitFault.Memory → (c : Result Image Table)
+        → K.may_hold keeper.new c → K.may_hold keeper.old c }
+    ensures store { result ≡ Err CommitFault.Store → (c : Result Image Table)
+        → K.may_hold keeper.new c
+        → K.may_hold keeper.old c ⊎ IsChangedBy (K.may_hold keeper.old) (change.now ∷ []) c }
+    ensures cause { result ≡ Err CommitFault.Store
+        → HasRisen (K.failures keeper.old) (K.failures keeper.new) }
+    ensures loaded { K.is_loaded keeper.new ≡ true }
+    ensures reached { (result ≡ Err CommitFault.Store → ⊥)
+        → K.is_clean keeper.new → K.is_open keeper.new }
+    ensures staged { K.staged keeper.new ≡ [] }
+{
+    stage_copy(alloc, keeper, change)?;
     match keeper.commit() {
         Ok(()) => Ok(()),
         Err(CommitFailed) => Err(CommitFault::Store),

@@ -1,13 +1,11 @@
-use Rattle.std.proofs.Common.{◌⊎◌, [], ◌∷◌, ap, subst, ◌∙◌}
+use Rattle.std.proofs.Common.{Err, ap, ◌∙◌}
 use Rattle.lrs_measure.specs.Lists.{each_two}
 use Rattle.lrs_machine.specs.declared.image.Image.{Image}
 use Rattle.lrs_machine.specs.Sound.{route_before}
-use Rattle.lrs_image.specs.declared.change.Change.{Change}
-use Rattle.lrs_image.specs.Together.{IsChangedBy}
 use Rattle.lrs_image.specs.Kept.{image_of}
 use Rattle.lrs_image.proofs.OneChange.{old_or_next}
 use Rattle.lrs_image.proofs.Tables.{routes_in_order}
-use Rattle.lrs_image.proofs.commit.make_change.Goals as goal
+use Rattle.lrs_image.proofs.commit.keep_prepared.Goals as goal
 
 pub put_back-requires-clause-order : goal.put_back-requires-clause-order
 put_back-requires-clause-order g c =
@@ -16,5 +14,5 @@ put_back-requires-clause-order g c =
 pub returns-in-Err-clause-store : goal.returns-in-Err-clause-store
 returns-in-Err-clause-store g c = λ e found h.
     let old = g.K.Keeper.may_hold c.args.keeper.now in
-    old_or_next old (image_of c.args.kept.now) c.requires.content c.args.change found
-    (subst (λ (d : Change). old found ⊎ IsChangedBy old (d ∷ []) found) c.in_ok-copy.ensures (c.in-Err.ensures.store e found h))
+    old_or_next old (image_of c.args.kept.now) c.requires.content c.args.change.now found
+    (c.in-Err.ensures.store (ap Err (cc e)) found h)

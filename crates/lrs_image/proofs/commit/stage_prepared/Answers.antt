@@ -4,7 +4,7 @@ use Rattle.lrs_machine.specs.declared.image.Image.{Image}
 use Rattle.lrs_machine.specs.Sound.{route_before}
 use Rattle.lrs_image.specs.Kept.{image_of}
 use Rattle.lrs_image.proofs.Tables.{routes_in_order}
-use Rattle.lrs_image.proofs.commit.stage_change.Goals as goal
+use Rattle.lrs_image.proofs.commit.stage_prepared.Goals as goal
 
 pub put_back-requires-clause-order : goal.put_back-requires-clause-order
 put_back-requires-clause-order g c =
