@@ -6,14 +6,14 @@ use std::io;
 use std::io::Read;
 
 /// A reader that knows whether a whole record has arrived behind what was taken of it.
-pub(crate) trait Arrival {
+pub trait Arrival {
     /// Whether the bytes that it gave have a whole record behind the first `taken` ones.
     fn has_record_behind(&self, taken: u64) -> bool;
 }
 
 /// A text that is there as a whole.
 #[derive(Drop)]
-pub(crate) struct Whole<R: Read> {
+pub struct Whole<R: Read> {
     pub reader: R,
 }
 
@@ -33,7 +33,7 @@ impl<R: Read> Arrival for Whole<R> {
 
 /// A text that is sent piece by piece. The places are counts of bytes from its start.
 #[derive(Drop)]
-pub(crate) struct Arriving<R: Read> {
+pub struct Arriving<R: Read> {
     reader: R,
     given: u64,
     // Where the last line begins, if it has not ended. A line without a byte is none.
@@ -45,6 +45,7 @@ pub(crate) struct Arriving<R: Read> {
 }
 
 impl<R: Read> Arriving<R> {
+    /// The text that a reader gives, of which nothing has come.
     pub fn new(reader: R) -> Arriving<R>
         ensures { result.reader ≡ reader }
     {

@@ -8,7 +8,7 @@ pub mod laws;
 mod queue;
 mod reply;
 mod resumption;
-mod rows;
+pub mod rows;
 mod run;
 
 pub use fault::SheetFault;

@@ -160,6 +160,8 @@ pub fn resume_sheet<W: Write, K: Keeper>(
         → K.may_hold desk.new.keeper c → BreaksOffResumed sheet together desk.old.limits text.now
         (state_of desk.old.image) (state_of desk.new.image) (W.contents writer.old)
         (W.contents writer.new) c }
+    ensures still { result ≡ Err (SheetFault.Desk Fault.Keep) → together ≡ 1
+        → desk.new.is_ahead ≡ false }
     ensures left { IsAfterCommands desk.old.limits (state_of desk.old.image)
         (state_of desk.new.image) }
 {

@@ -1,4 +1,4 @@
-//! The records of a text, one at a time.
+//! The records of a text, one at a time, for whoever reads sheets: of commands here, of questions in the crate above.
 
 ghost use Rattle.std.specs.Prelude.{◌≡◌, ◌⊎◌, ◌∷◌, [], List, true, false, length, IfOk, OnOk, IfErr, IfSome, Some, None};
 ghost use Rattle.csv.specs.Records.{fields_of};
@@ -8,13 +8,14 @@ ghost use Rattle.lrs_sheet_records.specs.Kinds.{width_of};
 ghost use Rattle.lrs_sheet_records.specs.declared.sheet.Sheet.{Sheet};
 ghost use Rattle.lrs_sheet.specs.Rows.{IsPlain, HasRead, Gave, EndsAfter, IsReadFault, fault_of_kind};
 
+pub use crate::arrival::{Arrival, Arriving, Whole};
 use crate::fault::SheetFault;
 use csv::{ByteRecord, Error, ErrorKind, Reader, ReaderBuilder};
 use std::alloc::Global;
 use std::io::Read;
 
-/// A reader of the records of a text.
-pub(crate) fn open<R: Read>(alloc: Global, reader: R) -> Reader<R>
+/// A reader of the records of a text. None has been read yet, not even the header.
+pub fn open<R: Read>(alloc: Global, reader: R) -> Reader<R>
     ensures plain { IsPlain result }
     ensures first { expected_len result ≡ None }
     ensures start { IfSome (R.remaining reader) (λ input. HasRead R.remaining result input []) }
@@ -34,15 +35,12 @@ fn fault_of(error: Error) -> SheetFault
     }
 }
 
-/// Reads the next record into `row`, and says whether there was one.
+/// Reads the next record into `row`, and says whether there was one. The header counts as a record.
 ///
 /// # Errors
 ///
-/// `Read`, `Memory`, or `BadCsv` if the record has another length than the one before it.
-pub(crate) fn next_row<R: Read>(
-    rows: &mut Reader<R>,
-    row: &mut ByteRecord,
-) -> Result<bool, SheetFault>
+/// `Read` if the reader fails, `Memory`, or `BadCsv` if the record has another number of fields than the one before it.
+pub fn next_row<R: Read>(rows: &mut Reader<R>, row: &mut ByteRecord) -> Result<bool, SheetFault>
     requires { IsPlain rows.old }
     ensures plain { IfOk result (λ found. found ≡ true → IsPlain rows.new) }
     ensures width { IfOk result (λ found. found ≡ true

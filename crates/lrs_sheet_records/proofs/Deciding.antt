@@ -13,6 +13,7 @@ use Rattle.std.proofs.lemmas.Bool.Decides.{nat_tests}
 use Rattle.std.proofs.lemmas.Nat.Gcd.{IsGcd-from_zero, IsGcd-from_mod}
 use Rattle.std.proofs.lemmas.Slice.Eq.{bytes_eq-Decides}
 use Rattle.lrs_measure.specs.Lists.{is_from_to, is_nothing}
+use Rattle.lrs_measure.specs.Texts.{Name}
 use Rattle.lrs_measure.specs.Numerals.{has_sign, numerator_text, denominator_text, signed_value}
 use Rattle.lrs_measure.proofs.Lowest.{reduced, IsQuotient-reduced, IsLowest-reduced}
 use Rattle.lrs_measure.specs.Limits.{longest_link, longest_route, greatest_measure}
@@ -25,16 +26,19 @@ use Rattle.lrs_position.specs.declared.expression.Expr.{Expr}
 use Rattle.lrs_position.specs.declared.expression.Expr.TheVariants.{Abs, Rel, Int}
 use Rattle.lrs_position.specs.declared.expression.Method.{Method}
 use Rattle.lrs_position.specs.declared.expression.Method.TheVariants as method
+use Rattle.lrs_position.specs.declared.expression.Target.TheVariants as target
 use Rattle.lrs_events.specs.Names.{is_class_name, is_value, kind_text, side_text}
 use Rattle.lrs_machine.specs.Entered.{are_entered_pieces, are_entered_marks}
 use Rattle.lrs_machine.specs.Lines.{Text}
 use Rattle.lrs_machine.specs.declared.answer.Field.{Field}
-use Rattle.lrs_sheet_records.proofs.OneArgument.{kind_from, kind-back, side_from, side-back, method_from, method-back}
+use Rattle.lrs_machine.specs.declared.question.Destination.{Destination}
+use Rattle.lrs_machine.specs.declared.question.Destination.TheVariants as destination
+use Rattle.lrs_sheet_records.proofs.OneArgument.{kind_from, kind-back, side_from, side-back, method_from, method-back, destination_from, destination-back}
 use Rattle.lrs_sheet_records.proofs.PrintedTexts.{below, from-to}
-use Rattle.lrs_sheet_records.proofs.Said.{number-said, class-said, route-said, referent-said, value-said, kind-said, side-said, method-said, position-said, pieces-said, marks-said, nothing-or-said}
+use Rattle.lrs_sheet_records.proofs.Said.{number-said, class-said, route-said, referent-said, value-said, kind-said, side-said, method-said, position-said, pieces-said, marks-said, classes-said, destination-said, nothing-or-said}
 use Rattle.lrs_sheet_records.proofs.Wording.{one-mark, one-piece}
-use Rattle.lrs_sheet_records.specs.Shapes.{Argument, Nothing, Number, Word, KindOf, SideOf, MethodOf, At, PiecesOf, MarksOf, Shape, Whole, ClassName, RouteName, ReferentName, AssetValue, ClassKind, RouteSide, MethodName, PositionBy, Pieces, Marks, OrNothing, Says}
-use Rattle.lrs_sheet_records.specs.Words.{AreSaid, IsMarkText, IsPieceText, SaysNumber, part, parts_of, sign_text, words_of}
+use Rattle.lrs_sheet_records.specs.Shapes.{Argument, Nothing, Number, Word, KindOf, SideOf, MethodOf, At, PiecesOf, MarksOf, ClassesOf, DestinationOf, Shape, Whole, ClassName, RouteName, ReferentName, AssetValue, ClassKind, RouteSide, MethodName, PositionBy, Pieces, Marks, ClassNames, DestinationName, OrNothing, Says, IsReachable, destination_text}
+use Rattle.lrs_sheet_records.specs.Words.{AreSaid, IsClassWord, IsMarkText, IsPieceText, SaysNumber, most_words, part, parts_of, sign_text, words_of}
 
 -- numbers
 
@@ -187,6 +191,38 @@ same-piece word p h = one-piece word p (piece_in word) h (piece-from word (piece
 same-mark : (word : Text) (m : Mark) → IsMarkText word m → m ≡ mark_in word
 same-mark word m h = one-mark word m (mark_in word) h (mark-from word (mark-is word m h))
 
+-- classes
+
+abbrev pub class_in : Text → Name
+class_in word = word
+
+class-from : (word : Text) → is_class_name word ≡ true → IsClassWord word (class_in word)
+class-from word h = (h, refl)
+
+class-is : (word : Text) (name : Name) → IsClassWord word name → is_class_name word ≡ true
+class-is word name h = h.0
+
+same-class : (word : Text) (name : Name) → IsClassWord word name → name ≡ class_in word
+same-class word name h = h.1
+
+-- destinations
+
+abbrev pub is_reachable : Destination → Bool
+is_reachable (destination.Method (target.Rel name)) = is_referent_name name
+is_reachable _ = true
+
+reachable-from : (to : Destination) → is_reachable to ≡ true → IsReachable to
+reachable-from (destination.Method target.Abs) h = tt
+reachable-from (destination.Method (target.Rel name)) h = h
+reachable-from (destination.Method target.Int) h = tt
+reachable-from destination.Link h = tt
+
+reachable-is : (to : Destination) → IsReachable to → is_reachable to ≡ true
+reachable-is (destination.Method target.Abs) h = refl
+reachable-is (destination.Method (target.Rel name)) h = h
+reachable-is (destination.Method target.Int) h = refl
+reachable-is destination.Link h = refl
+
 -- positions
 
 -- the greatest common divisor, in so many steps
@@ -274,6 +310,8 @@ fits texts MethodName text = is_method text
 fits texts (PositionBy field) text = is_method (texts field) && states (method_from (texts field)) text
 fits texts Pieces text = list_all is_piece (words_of text) && are_entered_pieces (map piece_in (words_of text))
 fits texts Marks text = list_all is_mark (words_of text) && are_entered_marks (map mark_in (words_of text))
+fits texts ClassNames text = list_all is_class_name (words_of text) && nat_le (length (map class_in (words_of text))) most_words
+fits texts DestinationName text = bytes_eq text (destination_text (destination_from text)) && is_reachable (destination_from text)
 fits texts (OrNothing shape) text = is_nothing text || fits texts shape text
 
 -- what it then says
@@ -289,6 +327,8 @@ argument_in texts MethodName text = MethodOf (method_from text)
 argument_in texts (PositionBy field) text = At (expression_in (method_from (texts field)) text)
 argument_in texts Pieces text = PiecesOf (map piece_in (words_of text))
 argument_in texts Marks text = MarksOf (map mark_in (words_of text))
+argument_in texts ClassNames text = ClassesOf (map class_in (words_of text))
+argument_in texts DestinationName text = DestinationOf (destination_from text)
 argument_in texts (OrNothing shape) text = if is_nothing text then Nothing else argument_in texts shape text
 
 -- a shape says nothing only by an empty text
@@ -304,6 +344,8 @@ said-nothing texts MethodName text h = absurd h
 said-nothing texts (PositionBy field) text h = absurd h
 said-nothing texts Pieces text h = absurd h
 said-nothing texts Marks text h = absurd h
+said-nothing texts ClassNames text h = absurd h
+said-nothing texts DestinationName text h = absurd h
 said-nothing texts (OrNothing shape) text h = h
 
 -- what a shape says may be there
@@ -317,6 +359,8 @@ said-there texts shape text (MethodOf method) h = h
 said-there texts shape text (At e) h = h
 said-there texts shape text (PiecesOf pieces) h = h
 said-there texts shape text (MarksOf marks) h = h
+said-there texts shape text (ClassesOf names) h = h
+said-there texts shape text (DestinationOf to) h = h
 
 -- a text of a shape says what stands in it
 pub fits-says : (texts : Field → Text) (shape : Shape) (text : Text) → fits texts shape text ≡ true → Says texts shape text (argument_in texts shape text)
@@ -337,6 +381,12 @@ fits-says texts Pieces text h =
 fits-says texts Marks text h =
     let both = and_parts (list_all is_mark (words_of text)) (are_entered_marks (map mark_in (words_of text))) h in
     (all-from IsMarkText is_mark mark_in mark-from (words_of text) both.0, both.1)
+fits-says texts ClassNames text h =
+    let both = and_parts (list_all is_class_name (words_of text)) (nat_le (length (map class_in (words_of text))) most_words) h in
+    (all-from IsClassWord is_class_name class_in class-from (words_of text) both.0, below most_words (length (map class_in (words_of text))) both.1)
+fits-says texts DestinationName text h =
+    let both = and_parts (bytes_eq text (destination_text (destination_from text))) (is_reachable (destination_from text)) h in
+    (same-text text (destination_text (destination_from text)) both.0, reachable-from (destination_from text) both.1)
 fits-says texts (OrNothing shape) [] h = refl
 fits-says texts (OrNothing shape) (c ∷ text) h = said-there texts shape (c ∷ text) (argument_in texts shape (c ∷ text)) (fits-says texts shape (c ∷ text) h)
 
@@ -366,6 +416,14 @@ says-fits texts Marks text a h =
     let (ms, is, said, entered) = marks-said texts text a h in
     let all = all-is IsMarkText is_mark mark_in mark-is same-mark (words_of text) ms said in
     and_from (list_all is_mark (words_of text)) (are_entered_marks (map mark_in (words_of text))) all.0 (rw all.1 at entered)
+says-fits texts ClassNames text a h =
+    let (names, is, said, few) = classes-said texts text a h in
+    let all = all-is IsClassWord is_class_name class_in class-is same-class (words_of text) names said in
+    and_from (list_all is_class_name (words_of text)) (nat_le (length (map class_in (words_of text))) most_words) all.0 (at-most (length (map class_in (words_of text))) most_words (rw all.1 at few))
+says-fits texts DestinationName text a h =
+    let (to, is, said, named) = destination-said texts text a h in
+    let back : destination_from text ≡ to = ap destination_from said ∙ destination-back to in
+    and_from (bytes_eq text (destination_text (destination_from text))) (is_reachable (destination_from text)) (rw back (text-same text (destination_text to) said)) (rw back (reachable-is to named))
 says-fits texts (OrNothing shape) [] a h = refl
 says-fits texts (OrNothing shape) (c ∷ text) a h = elim (nothing-or-said texts shape (c ∷ text) a h) [
   | inl none ↦ absurd (full none.1)

@@ -10,9 +10,7 @@ use Rattle.csv.specs.Reading.{is_bom, strip_bom}
 use Rattle.csv.specs.Records.{field_at}
 use Rattle.lrs_sheet_records.specs.Records.{text_at}
 use Rattle.lrs_sheet_records.specs.Surveys.{as_edit}
-use Rattle.lrs_sheet_records.specs.declared.sheet.Sheet.{Sheet}
-use Rattle.lrs_sheet_records.specs.declared.sheet.Sheet.TheVariants.{Edits, Survey}
-use Rattle.lrs_sheet_records.specs.Kinds.{IsHeader, header_of, width_of}
+use Rattle.lrs_sheet_records.specs.Kinds.{without_mark}
 
 marked : (a b c : ℕ) (rest : List ℕ) (t : Bool) → is_bom a b c ≡ t → starts_with nat_eq (a ∷ b ∷ c ∷ rest) (239 ∷ 187 ∷ 191 ∷ []) ≡ t
 marked a b c rest true e = grind (arith, nat_tests)
@@ -53,33 +51,33 @@ same-fields (x ∷ xs) (y ∷ ys) n h =
     let others : xs ≡ ys = same-fields xs ys (omega arith) (λ i below. h (suc i) (omega arith)) in
     rw (first, others) refl
 
--- as many fields as the header has, with its names
-pub header-from : (sheet : Sheet) (fields : List (List ℕ)) → length fields ≡ width_of sheet → strip_bom (text_at fields 0) ≡ text_at (header_of sheet) 0
-    → ((i : ℕ) → 1 ≤ i → i < width_of sheet → text_at fields i ≡ text_at (header_of sheet) i) → IsHeader sheet fields
-unfolding field_at
-header-from Edits [] n first others = absurd (omega arith)
-header-from Survey [] n first others = absurd (omega arith)
-header-from sheet (f ∷ fs) n first others = same-fields (strip_bom f ∷ fs) (header_of sheet) n at
-  where
-    at : (i : ℕ) → i < width_of sheet → text_at (strip_bom f ∷ fs) i ≡ text_at (header_of sheet) i
-    at zero below = first
-    at (suc i) below = others (suc i) (omega arith) below
+module _ (header : List (List ℕ)) where
+  -- as many fields as the header has, with its names
+  pub header-from : (fields : List (List ℕ)) → 1 ≤ length header → length fields ≡ length header → strip_bom (text_at fields 0) ≡ text_at header 0
+      → ((i : ℕ) → 1 ≤ i → i < length header → text_at fields i ≡ text_at header i) → without_mark fields ≡ header
+  unfolding field_at
+  header-from [] some n first others = absurd (omega (arith, some, n))
+  header-from (f ∷ fs) some n first others = same-fields (strip_bom f ∷ fs) header n at
+    where
+      at : (i : ℕ) → i < length header → text_at (strip_bom f ∷ fs) i ≡ text_at header i
+      at zero below = first
+      at (suc i) below = others (suc i) (omega arith) below
 
--- what a header has
-pub header-first : (sheet : Sheet) (fields : List (List ℕ)) → IsHeader sheet fields → strip_bom (text_at fields 0) ≡ text_at (header_of sheet) 0
-unfolding field_at strip_bom
-header-first sheet [] h = ap (λ (xs : List (List ℕ)). text_at xs 0) h
-header-first sheet (f ∷ fs) h = ap (λ (xs : List (List ℕ)). text_at xs 0) h
+  -- what a header has
+  pub header-first : (fields : List (List ℕ)) → without_mark fields ≡ header → strip_bom (text_at fields 0) ≡ text_at header 0
+  unfolding field_at strip_bom
+  header-first [] h = ap (λ (xs : List (List ℕ)). text_at xs 0) h
+  header-first (f ∷ fs) h = ap (λ (xs : List (List ℕ)). text_at xs 0) h
 
-pub header-other : (sheet : Sheet) (fields : List (List ℕ)) (i : ℕ) → IsHeader sheet fields → 1 ≤ i → text_at fields i ≡ text_at (header_of sheet) i
-unfolding field_at
-header-other sheet [] i h low = ap (λ (xs : List (List ℕ)). text_at xs i) h
-header-other sheet (f ∷ fs) zero h low = absurd (omega arith)
-header-other sheet (f ∷ fs) (suc i) h low = ap (λ (xs : List (List ℕ)). text_at xs (suc i)) h
+  pub header-other : (fields : List (List ℕ)) (i : ℕ) → without_mark fields ≡ header → 1 ≤ i → text_at fields i ≡ text_at header i
+  unfolding field_at
+  header-other [] i h low = ap (λ (xs : List (List ℕ)). text_at xs i) h
+  header-other (f ∷ fs) zero h low = absurd (omega arith)
+  header-other (f ∷ fs) (suc i) h low = ap (λ (xs : List (List ℕ)). text_at xs (suc i)) h
 
-pub header-length : (sheet : Sheet) (fields : List (List ℕ)) → IsHeader sheet fields → length fields ≡ width_of sheet
-header-length sheet [] h = ap length h
-header-length sheet (f ∷ fs) h = ap length h
+  pub header-length : (fields : List (List ℕ)) → without_mark fields ≡ header → length fields ≡ length header
+  header-length [] h = ap length h
+  header-length (f ∷ fs) h = ap length h
 
 -- two texts that differ are not equal
 pub not-ne : (xs ys : List ℕ) (r : Bool) → r ≡ not (bytes_eq xs ys) → r ≡ true → xs ≡ ys → false ≡ true

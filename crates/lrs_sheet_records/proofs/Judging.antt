@@ -10,7 +10,6 @@ use Rattle.csv.specs.Records.{field_at}
 use Rattle.lrs_machine.specs.Keys.{is_key}
 use Rattle.lrs_machine.specs.Lines.{Text}
 use Rattle.lrs_machine.specs.declared.command.Command.{Command}
-use Rattle.lrs_machine.specs.declared.command.Command.TheVariants as verb
 use Rattle.lrs_sheet_records.proofs.Deciding.{argument_in, fits, fits-says, says-fits}
 use Rattle.lrs_sheet_records.proofs.Misfits.{misfit-malformed}
 use Rattle.lrs_sheet_records.specs.Fields.{FirstMisfit}

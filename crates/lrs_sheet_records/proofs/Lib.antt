@@ -12,3 +12,4 @@ pub mod HeaderFields
 pub mod OneCommand
 pub mod Complete
 pub mod Readers
+pub mod Asked

@@ -1,10 +1,10 @@
 -- A text of a shape says one argument.
-use Rattle.std.proofs.Common.{◌≡◌, ℕ, ◌+◌, List, [], ◌∷◌, refl, sym, ap, ◌∙◌, inl, inr, arith}
+use Rattle.std.proofs.Common.{◌≡◌, ℕ, ◌+◌, List, [], ◌∷◌, drop, refl, sym, ap, ◌∙◌, inl, inr, arith}
 use Rattle.std.specs.Prelude.{codes, if◌then◌else◌}
 use Rattle.std.specs.Str.Parse.{IsNumeral, digits_value}
 use Rattle.std.proofs.lemmas.Bool.{false≢true}
 use Rattle.lrs_measure.specs.Numerals.{numerator_text, denominator_text}
-use Rattle.lrs_measure.specs.Texts.{same_name}
+use Rattle.lrs_measure.specs.Texts.{Name, same_name}
 use Rattle.lrs_element.specs.declared.link.Piece.{Piece}
 use Rattle.lrs_element.specs.declared.marks.Mark.{Mark}
 use Rattle.lrs_position.specs.Readings.{States, method_text}
@@ -13,6 +13,7 @@ use Rattle.lrs_position.specs.declared.expression.Expr.{Expr}
 use Rattle.lrs_position.specs.declared.expression.Expr.TheVariants.{Abs, Rel, Int}
 use Rattle.lrs_position.specs.declared.expression.Method.{Method}
 use Rattle.lrs_position.specs.declared.expression.Method.TheVariants as method
+use Rattle.lrs_position.specs.declared.expression.Target.TheVariants as target
 use Rattle.lrs_events.specs.Names.{kind_text, side_text}
 use Rattle.lrs_events.specs.declared.class.Kind.{Kind}
 use Rattle.lrs_events.specs.declared.class.Kind.TheVariants.{Point, Stretch, Exclusive}
@@ -20,12 +21,14 @@ use Rattle.lrs_events.specs.declared.side.Side.{Side}
 use Rattle.lrs_events.specs.declared.side.Side.TheVariants.{L, R, B}
 use Rattle.lrs_machine.specs.Lines.{Text}
 use Rattle.lrs_machine.specs.declared.answer.Field.{Field}
+use Rattle.lrs_machine.specs.declared.question.Destination.{Destination}
+use Rattle.lrs_machine.specs.declared.question.Destination.TheVariants as destination
 use Rattle.lrs_machine.proofs.Joined.{differ, starts_with}
-use Rattle.lrs_sheet_records.proofs.Said.{number-said, class-said, route-said, referent-said, value-said, kind-said, side-said, method-said, position-said, pieces-said, marks-said, nothing-or-said}
+use Rattle.lrs_sheet_records.proofs.Said.{number-said, class-said, route-said, referent-said, value-said, kind-said, side-said, method-said, position-said, pieces-said, marks-said, classes-said, destination-said, nothing-or-said}
 use Rattle.lrs_sheet_records.proofs.Wording.{one-mark, one-piece, one-said}
 use Rattle.lrs_sheet_records.specs.Records.{SayAll, text_at, texts_of}
-use Rattle.lrs_sheet_records.specs.Shapes.{Argument, Nothing, Number, Word, KindOf, SideOf, MethodOf, At, PiecesOf, MarksOf, Shape, Whole, ClassName, RouteName, ReferentName, AssetValue, ClassKind, RouteSide, MethodName, PositionBy, Pieces, Marks, OrNothing, Says, StatesBy}
-use Rattle.lrs_sheet_records.specs.Words.{AreSaid, IsMarkText, IsPieceText, words_of}
+use Rattle.lrs_sheet_records.specs.Shapes.{Argument, Nothing, Number, Word, KindOf, SideOf, MethodOf, At, PiecesOf, MarksOf, ClassesOf, DestinationOf, Shape, Whole, ClassName, RouteName, ReferentName, AssetValue, ClassKind, RouteSide, MethodName, PositionBy, Pieces, Marks, ClassNames, DestinationName, OrNothing, Says, StatesBy, destination_text}
+use Rattle.lrs_sheet_records.specs.Words.{AreSaid, IsClassWord, IsMarkText, IsPieceText, words_of}
 
 -- the kind of a text, by its first byte
 abbrev pub kind_from : Text → Kind
@@ -132,6 +135,36 @@ no-marks-said : (ms : List Mark) → AreSaid IsMarkText (words_of []) ms → ⊥
 no-marks-said [] h = h
 no-marks-said (m ∷ ms) h = omega (arith, h.0.two)
 
+-- how a position is to be told, by the first byte of a text
+abbrev pub destination_from : Text → Destination
+destination_from text =
+    if starts_with 108 text then destination.Link
+    else destination.Method (if starts_with 97 text then target.Abs else (if starts_with 114 text then target.Rel (drop 4 text) else target.Int))
+
+pub destination-back : (to : Destination) → destination_from (destination_text to) ≡ to
+destination-back (destination.Method target.Abs) = refl
+destination-back (destination.Method (target.Rel name)) = refl
+destination-back (destination.Method target.Int) = refl
+destination-back destination.Link = refl
+
+-- a text says one destination
+one-destination : (text : Text) (to other : Destination) → text ≡ destination_text to → text ≡ destination_text other → to ≡ other
+one-destination text to other p q = sym (destination-back to) ∙ ap destination_from (sym p ∙ q) ∙ destination-back other
+
+no-destination : (to : Destination) → [] ≡ destination_text to → ⊥
+no-destination (destination.Method target.Abs) e = cc e
+no-destination (destination.Method (target.Rel name)) e = cc e
+no-destination (destination.Method target.Int) e = cc e
+no-destination destination.Link e = cc e
+
+-- a word names one class
+pub one-class : (word : Text) (a b : Name) → IsClassWord word a → IsClassWord word b → a ≡ b
+one-class word a b h g = h.1 ∙ sym g.1
+
+no-classes-said : (names : List Name) → AreSaid IsClassWord (words_of []) names → ⊥
+no-classes-said [] h = h
+no-classes-said (name ∷ names) h = false≢true h.0.0
+
 -- an empty text says at most that there is nothing
 empty-said : (texts : Field → Text) (shape : Shape) (a : Argument) → Says texts shape [] a → a ≡ Nothing
 empty-said texts (Whole low high) a h = absurd (no-digits (number-said texts low high [] a h).2.digits)
@@ -145,6 +178,8 @@ empty-said texts MethodName a h = let (m, is, said) = method-said texts [] a h i
 empty-said texts (PositionBy field) a h = let (e, is, said) = position-said texts field [] a h in absurd (no-stated said.0 e said.2)
 empty-said texts Pieces a h = let (ps, is, said, entered) = pieces-said texts [] a h in absurd (no-pieces-said ps said)
 empty-said texts Marks a h = let (ms, is, said, entered) = marks-said texts [] a h in absurd (no-marks-said ms said)
+empty-said texts ClassNames a h = let (names, is, said, few) = classes-said texts [] a h in absurd (no-classes-said names said)
+empty-said texts DestinationName a h = let (to, is, said, named) = destination-said texts [] a h in absurd (no-destination to said)
 empty-said texts (OrNothing shape) a h = elim (nothing-or-said texts shape [] a h) [
   | inl none ↦ none.0
   | inr said ↦ empty-said texts shape a said
@@ -196,6 +231,14 @@ one-argument texts Marks text a b h g =
     let (ms, is, said, entered) = marks-said texts text a h in
     let (ns, is', said', entered') = marks-said texts text b g in
     is ∙ ap MarksOf (one-said IsMarkText one-mark (words_of text) ms ns said said') ∙ sym is'
+one-argument texts ClassNames text a b h g =
+    let (names, is, said, few) = classes-said texts text a h in
+    let (others, is', said', few') = classes-said texts text b g in
+    is ∙ ap ClassesOf (one-said IsClassWord one-class (words_of text) names others said said') ∙ sym is'
+one-argument texts DestinationName text a b h g =
+    let (to, is, said, named) = destination-said texts text a h in
+    let (other, is', said', named') = destination-said texts text b g in
+    is ∙ ap DestinationOf (one-destination text to other said said') ∙ sym is'
 one-argument texts (OrNothing shape) text a b h g = elim (nothing-or-said texts shape text a h) [
   | inl none ↦ none.0 ∙ sym (empty-said texts (OrNothing shape) b (rw none.1 at g))
   | inr said ↦ elim (nothing-or-said texts shape text b g) [

@@ -1,6 +1,7 @@
 -- What the text of each shape says.
-use Rattle.std.proofs.Common.{◌≡◌, ◌⊎◌, ℕ, List, [], refl, inl, inr}
+use Rattle.std.proofs.Common.{◌≡◌, ◌⊎◌, ℕ, ◌≤◌, List, [], length, refl, inl, inr}
 use Rattle.std.specs.Prelude.{IsTrue}
+use Rattle.lrs_measure.specs.Texts.{Name}
 use Rattle.lrs_element.specs.declared.link.Piece.{Piece}
 use Rattle.lrs_element.specs.declared.marks.Mark.{Mark}
 use Rattle.lrs_position.specs.Names.{is_route_name, is_referent_name}
@@ -13,8 +14,9 @@ use Rattle.lrs_events.specs.declared.side.Side.{Side}
 use Rattle.lrs_machine.specs.Entered.{are_entered_pieces, are_entered_marks}
 use Rattle.lrs_machine.specs.Lines.{Text}
 use Rattle.lrs_machine.specs.declared.answer.Field.{Field}
-use Rattle.lrs_sheet_records.specs.Shapes.{Argument, Nothing, Number, Word, KindOf, SideOf, MethodOf, At, PiecesOf, MarksOf, Shape, Whole, ClassName, RouteName, ReferentName, AssetValue, ClassKind, RouteSide, MethodName, PositionBy, Pieces, Marks, OrNothing, Says, StatesBy}
-use Rattle.lrs_sheet_records.specs.Words.{AreSaid, IsMarkText, IsPieceText, SaysNumber, words_of}
+use Rattle.lrs_machine.specs.declared.question.Destination.{Destination}
+use Rattle.lrs_sheet_records.specs.Shapes.{Argument, Nothing, Number, Word, KindOf, SideOf, MethodOf, At, PiecesOf, MarksOf, ClassesOf, DestinationOf, Shape, Whole, ClassName, RouteName, ReferentName, AssetValue, ClassKind, RouteSide, MethodName, PositionBy, Pieces, Marks, ClassNames, DestinationName, OrNothing, Says, StatesBy, IsReachable, destination_text}
+use Rattle.lrs_sheet_records.specs.Words.{AreSaid, IsClassWord, IsMarkText, IsPieceText, SaysNumber, most_words, words_of}
 
 -- a number
 pub number-said : (texts : Field → Text) (low high : ℕ) (text : Text) (a : Argument) → Says texts (Whole low high) text a → (n : ℕ) × (a ≡ Number n) × SaysNumber low high text n
@@ -27,6 +29,8 @@ number-said texts low high text (MethodOf method) h = absurd h
 number-said texts low high text (At e) h = absurd h
 number-said texts low high text (PiecesOf pieces) h = absurd h
 number-said texts low high text (MarksOf marks) h = absurd h
+number-said texts low high text (ClassesOf names) h = absurd h
+number-said texts low high text (DestinationOf to) h = absurd h
 
 -- the name of a class
 pub class-said : (texts : Field → Text) (text : Text) (a : Argument) → Says texts ClassName text a → (word : Text) × (a ≡ Word word) × IsTrue (is_class_name text) × (word ≡ text)
@@ -39,6 +43,8 @@ class-said texts text (MethodOf method) h = absurd h
 class-said texts text (At e) h = absurd h
 class-said texts text (PiecesOf pieces) h = absurd h
 class-said texts text (MarksOf marks) h = absurd h
+class-said texts text (ClassesOf names) h = absurd h
+class-said texts text (DestinationOf to) h = absurd h
 
 -- the name of a route
 pub route-said : (texts : Field → Text) (text : Text) (a : Argument) → Says texts RouteName text a → (word : Text) × (a ≡ Word word) × IsTrue (is_route_name text) × (word ≡ text)
@@ -51,6 +57,8 @@ route-said texts text (MethodOf method) h = absurd h
 route-said texts text (At e) h = absurd h
 route-said texts text (PiecesOf pieces) h = absurd h
 route-said texts text (MarksOf marks) h = absurd h
+route-said texts text (ClassesOf names) h = absurd h
+route-said texts text (DestinationOf to) h = absurd h
 
 -- the name of a referent
 pub referent-said : (texts : Field → Text) (text : Text) (a : Argument) → Says texts ReferentName text a → (word : Text) × (a ≡ Word word) × IsTrue (is_referent_name text) × (word ≡ text)
@@ -63,6 +71,8 @@ referent-said texts text (MethodOf method) h = absurd h
 referent-said texts text (At e) h = absurd h
 referent-said texts text (PiecesOf pieces) h = absurd h
 referent-said texts text (MarksOf marks) h = absurd h
+referent-said texts text (ClassesOf names) h = absurd h
+referent-said texts text (DestinationOf to) h = absurd h
 
 -- a value
 pub value-said : (texts : Field → Text) (text : Text) (a : Argument) → Says texts AssetValue text a → (word : Text) × (a ≡ Word word) × IsTrue (is_value text) × (word ≡ text)
@@ -75,6 +85,8 @@ value-said texts text (MethodOf method) h = absurd h
 value-said texts text (At e) h = absurd h
 value-said texts text (PiecesOf pieces) h = absurd h
 value-said texts text (MarksOf marks) h = absurd h
+value-said texts text (ClassesOf names) h = absurd h
+value-said texts text (DestinationOf to) h = absurd h
 
 -- a kind
 pub kind-said : (texts : Field → Text) (text : Text) (a : Argument) → Says texts ClassKind text a → (kind : Kind) × (a ≡ KindOf kind) × text ≡ kind_text kind
@@ -87,6 +99,8 @@ kind-said texts text (MethodOf method) h = absurd h
 kind-said texts text (At e) h = absurd h
 kind-said texts text (PiecesOf pieces) h = absurd h
 kind-said texts text (MarksOf marks) h = absurd h
+kind-said texts text (ClassesOf names) h = absurd h
+kind-said texts text (DestinationOf to) h = absurd h
 
 -- a side
 pub side-said : (texts : Field → Text) (text : Text) (a : Argument) → Says texts RouteSide text a → (side : Side) × (a ≡ SideOf side) × text ≡ side_text side
@@ -99,6 +113,8 @@ side-said texts text (MethodOf method) h = absurd h
 side-said texts text (At e) h = absurd h
 side-said texts text (PiecesOf pieces) h = absurd h
 side-said texts text (MarksOf marks) h = absurd h
+side-said texts text (ClassesOf names) h = absurd h
+side-said texts text (DestinationOf to) h = absurd h
 
 -- a method
 pub method-said : (texts : Field → Text) (text : Text) (a : Argument) → Says texts MethodName text a → (method : Method) × (a ≡ MethodOf method) × text ≡ method_text method
@@ -111,6 +127,8 @@ method-said texts text (MethodOf method) h = (method, refl, h)
 method-said texts text (At e) h = absurd h
 method-said texts text (PiecesOf pieces) h = absurd h
 method-said texts text (MarksOf marks) h = absurd h
+method-said texts text (ClassesOf names) h = absurd h
+method-said texts text (DestinationOf to) h = absurd h
 
 -- a position
 pub position-said : (texts : Field → Text) (field : Field) (text : Text) (a : Argument) → Says texts (PositionBy field) text a → (e : Expr) × (a ≡ At e) × StatesBy (texts field) text e
@@ -123,6 +141,8 @@ position-said texts field text (MethodOf method) h = absurd h
 position-said texts field text (At e) h = (e, refl, h)
 position-said texts field text (PiecesOf pieces) h = absurd h
 position-said texts field text (MarksOf marks) h = absurd h
+position-said texts field text (ClassesOf names) h = absurd h
+position-said texts field text (DestinationOf to) h = absurd h
 
 -- pieces
 pub pieces-said : (texts : Field → Text) (text : Text) (a : Argument) → Says texts Pieces text a → (pieces : List Piece) × (a ≡ PiecesOf pieces) × AreSaid IsPieceText (words_of text) pieces × IsTrue (are_entered_pieces pieces)
@@ -135,6 +155,8 @@ pieces-said texts text (MethodOf method) h = absurd h
 pieces-said texts text (At e) h = absurd h
 pieces-said texts text (PiecesOf pieces) h = (pieces, refl, h.0, h.1)
 pieces-said texts text (MarksOf marks) h = absurd h
+pieces-said texts text (ClassesOf names) h = absurd h
+pieces-said texts text (DestinationOf to) h = absurd h
 
 -- marks
 pub marks-said : (texts : Field → Text) (text : Text) (a : Argument) → Says texts Marks text a → (marks : List Mark) × (a ≡ MarksOf marks) × AreSaid IsMarkText (words_of text) marks × IsTrue (are_entered_marks marks)
@@ -147,6 +169,36 @@ marks-said texts text (MethodOf method) h = absurd h
 marks-said texts text (At e) h = absurd h
 marks-said texts text (PiecesOf pieces) h = absurd h
 marks-said texts text (MarksOf marks) h = (marks, refl, h.0, h.1)
+marks-said texts text (ClassesOf names) h = absurd h
+marks-said texts text (DestinationOf to) h = absurd h
+
+-- names of classes
+pub classes-said : (texts : Field → Text) (text : Text) (a : Argument) → Says texts ClassNames text a → (names : List Name) × (a ≡ ClassesOf names) × AreSaid IsClassWord (words_of text) names × (length names ≤ most_words)
+classes-said texts text Nothing h = absurd h
+classes-said texts text (Number n) h = absurd h
+classes-said texts text (Word word) h = absurd h
+classes-said texts text (KindOf kind) h = absurd h
+classes-said texts text (SideOf side) h = absurd h
+classes-said texts text (MethodOf method) h = absurd h
+classes-said texts text (At e) h = absurd h
+classes-said texts text (PiecesOf pieces) h = absurd h
+classes-said texts text (MarksOf marks) h = absurd h
+classes-said texts text (ClassesOf names) h = (names, refl, h.0, h.1)
+classes-said texts text (DestinationOf to) h = absurd h
+
+-- how a position is to be told
+pub destination-said : (texts : Field → Text) (text : Text) (a : Argument) → Says texts DestinationName text a → (to : Destination) × (a ≡ DestinationOf to) × (text ≡ destination_text to) × IsReachable to
+destination-said texts text Nothing h = absurd h
+destination-said texts text (Number n) h = absurd h
+destination-said texts text (Word word) h = absurd h
+destination-said texts text (KindOf kind) h = absurd h
+destination-said texts text (SideOf side) h = absurd h
+destination-said texts text (MethodOf method) h = absurd h
+destination-said texts text (At e) h = absurd h
+destination-said texts text (PiecesOf pieces) h = absurd h
+destination-said texts text (MarksOf marks) h = absurd h
+destination-said texts text (ClassesOf names) h = absurd h
+destination-said texts text (DestinationOf to) h = (to, refl, h.0, h.1)
 
 -- nothing, or what the shape says
 pub nothing-or-said : (texts : Field → Text) (shape : Shape) (text : Text) (a : Argument) → Says texts (OrNothing shape) text a → ((a ≡ Nothing) × (text ≡ [])) ⊎ Says texts shape text a
@@ -159,3 +211,5 @@ nothing-or-said texts shape text (MethodOf method) h = inr h
 nothing-or-said texts shape text (At e) h = inr h
 nothing-or-said texts shape text (PiecesOf pieces) h = inr h
 nothing-or-said texts shape text (MarksOf marks) h = inr h
+nothing-or-said texts shape text (ClassesOf names) h = inr h
+nothing-or-said texts shape text (DestinationOf to) h = inr h

@@ -1,5 +1,5 @@
 -- Words and their parts.
-use Rattle.std.proofs.Common.{◌≡◌, Option, Some, None, take, drop, ◌-◌, append_assoc, ℕ, suc, ◌+◌, ◌≤◌, Bool, true, false, List, [], ◌∷◌, ◌++◌, length, refl, sym, ap, ◌∙◌, arith, length-append}
+use Rattle.std.proofs.Common.{◌<◌, ◌≡◌, Option, Some, None, take, drop, ◌-◌, append_assoc, ℕ, suc, ◌+◌, ◌≤◌, Bool, true, false, List, [], ◌∷◌, ◌++◌, length, refl, sym, ap, ◌∙◌, arith, length-append}
 use Rattle.std.specs.Prelude.{◌==◌, IsTrue, IfNone, IfSome, codes}
 use Rattle.lrs_machine.specs.Entered.{are_entered_pieces, are_entered_marks}
 use Rattle.lrs_machine.specs.declared.answer.Field.{Field}
@@ -123,6 +123,14 @@ pub all-taken : {X : Type 0} (says : List ℕ → X → Type 0) (text rest word 
     → ys ≡ xs ++ x ∷ [] → words_of rest ≡ word ∷ [] → says word x → AreSaid says (words_of text) ys
 all-taken says text rest word xs ys x turns h grown cut said =
     rw (grown, h.split ∙ ap (λ (words : List (List ℕ)). h.front ++ words) cut) (said-more says h.front xs word x h.said said)
+
+-- there are no more than turns
+pub few-taken : {X : Type 0} (says : List ℕ → X → Type 0) (text rest : List ℕ) (xs ys : List X) (x : X) (turns : ℕ) → HasTaken says text rest xs turns → ys ≡ xs ++ x ∷ [] → turns < 1_000 → length ys ≤ 1_000
+few-taken says text rest xs ys x turns h grown below =
+    let size = said-length says h.front xs h.said in
+    let count = h.count in
+    let more = length-append xs (x ∷ []) in
+    rw grown (omega (arith, size, count, more, below))
 
 -- a word that says nothing
 pub nothing-said : {X : Type 0} (says : List ℕ → X → Type 0) (text rest word : List ℕ) (more : List (List ℕ)) (xs ys : List X) (turns : ℕ) → HasTaken says text rest xs turns

@@ -5,9 +5,9 @@ use Rattle.lrs_measure.specs.Fraction.{IsLowest}
 use Rattle.lrs_position.specs.Readings.{method_text}
 use Rattle.lrs_position.specs.declared.expression.Expr.TheVariants as expression
 use Rattle.lrs_events.specs.Names.{kind_text, side_text}
-use Rattle.lrs_machine.specs.Lines.{Text, fields, expression_text, pieces_text, marks_text}
+use Rattle.lrs_machine.specs.Lines.{Text, fields, words, expression_text, pieces_text, marks_text}
 use Rattle.lrs_machine.specs.declared.command.Command.{Command}
-use Rattle.lrs_sheet_records.specs.Shapes.{Argument, Nothing, Number, Word, KindOf, SideOf, MethodOf, At, PiecesOf, MarksOf}
+use Rattle.lrs_sheet_records.specs.Shapes.{Argument, Nothing, Number, Word, KindOf, SideOf, MethodOf, At, PiecesOf, MarksOf, ClassesOf, DestinationOf, destination_text}
 use Rattle.lrs_sheet_records.specs.Verbs.{arguments_of, verb_of}
 
 -- the text of an argument, which is empty where there is nothing
@@ -21,6 +21,8 @@ argument_text (MethodOf method) = method_text method
 argument_text (At e) = expression_text e
 argument_text (PiecesOf pieces) = pieces_text pieces
 argument_text (MarksOf marks) = marks_text marks
+argument_text (ClassesOf names) = words names
+argument_text (DestinationOf to) = destination_text to
 
 -- the verb and the texts of its arguments
 abbrev pub command_fields : Command → List Text

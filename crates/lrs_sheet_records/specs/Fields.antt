@@ -1,12 +1,14 @@
 -- What functions that read one field, or the fields of one verb, give.
-use Rattle.std.specs.Prelude.{◌≡◌, ◌⊎◌, ℕ, ◌+◌, ◌<◌, ◌≤◌, List, [], ◌∷◌, Some, Result, Ok, Err, ⊤, MatchResult}
+use Rattle.std.specs.Prelude.{◌≡◌, ◌⊎◌, ℕ, ◌+◌, ◌<◌, ◌≤◌, List, [], ◌∷◌, Some, Result, Ok, Err, ⊤, MatchResult, Contains}
 use Rattle.lrs_machine.specs.Lines.{Text}
 use Rattle.lrs_machine.specs.declared.answer.Field.{Field}
 use Rattle.lrs_machine.specs.declared.answer.Field.TheVariants as field
 use Rattle.lrs_machine.specs.declared.command.NewAsset.{NewAsset}
 use Rattle.lrs_machine.specs.declared.command.Command.{Command}
+use Rattle.lrs_machine.specs.declared.question.Question.{Question}
 use Rattle.lrs_sheet_records.specs.declared.fault.ReadFault.{ReadFault}
 use Rattle.lrs_sheet_records.specs.declared.fault.ReadFault.TheVariants as fault
+use Rattle.lrs_sheet_records.specs.Questions.{all_questions, asked_by, question_of, question_shapes}
 use Rattle.lrs_sheet_records.specs.Records.{SayAll, place_of, text_at, texts_of}
 use Rattle.lrs_sheet_records.specs.Shapes.{Argument, Fits, Says, Shape}
 use Rattle.lrs_sheet_records.specs.Verbs.{IsVerb, arguments_of, new_asset_arguments, new_asset_shapes, shapes_of, verb_of}
@@ -54,3 +56,17 @@ abbrev pub ReadsNewAsset : List Text → Result NewAsset ReadFault → Type 0
 ReadsNewAsset fields (Ok entry) = SayAll fields 2 new_asset_shapes (new_asset_arguments entry)
 ReadsNewAsset fields (Err (fault.Field field)) = FirstMisfit fields 2 new_asset_shapes (place_of field)
 ReadsNewAsset fields (Err fault.Memory) = ⊥
+
+-- the fields of one question: the question, or the first field that does not fit
+abbrev pub ReadsAsked : List Text → Text → Result Question ReadFault → Type 0
+ReadsAsked fields name (Ok q) = (question_of q ≡ name) × SayAll fields 2 (question_shapes name) (asked_by q)
+ReadsAsked fields name (Err (fault.Field field)) = FirstMisfit fields 2 (question_shapes name) (place_of field)
+ReadsAsked fields name (Err fault.Memory) = ⊤
+
+-- the question and its fields
+abbrev pub ReadsQuestion : List Text → Result Question ReadFault → Type 0
+ReadsQuestion fields (Ok q) = Contains all_questions (text_at fields 1) × (text_at fields 1 ≡ question_of q) × SayAll fields 2 (question_shapes (question_of q)) (asked_by q)
+ReadsQuestion fields (Err (fault.Field at)) =
+    ((at ≡ field.Verb) × (Contains all_questions (text_at fields 1) → ⊥))
+    ⊎ (Contains all_questions (text_at fields 1) × FirstMisfit fields 2 (question_shapes (text_at fields 1)) (place_of at))
+ReadsQuestion fields (Err fault.Memory) = ⊤

@@ -5,5 +5,6 @@ pub mod Records
 pub mod Surveys
 pub mod Kinds
 pub mod CanonicalRecords
+pub mod Questions
 pub mod Fields
 pub mod Laws

@@ -1,9 +1,10 @@
 -- What one field of a record may say: its shape, and the argument that a text of that shape says.
-use Rattle.std.specs.Prelude.{◌≡◌, ℕ, List, [], Option, Some, None, IsTrue}
+use Rattle.std.specs.Prelude.{◌≡◌, ℕ, ◌≤◌, List, [], length, Option, Some, None, IsTrue, ⊤, codes}
+use Rattle.lrs_measure.specs.Texts.{Name}
 use Rattle.lrs_element.specs.declared.link.Piece.{Piece}
 use Rattle.lrs_element.specs.declared.marks.Mark.{Mark}
 use Rattle.lrs_position.specs.Names.{is_route_name, is_referent_name}
-use Rattle.lrs_position.specs.Readings.{States, method_text}
+use Rattle.lrs_position.specs.Readings.{States, IsNamed, method_text, target_text}
 use Rattle.lrs_position.specs.declared.expression.Expr.{Expr}
 use Rattle.lrs_position.specs.declared.expression.Method.{Method}
 use Rattle.lrs_events.specs.Names.{is_class_name, is_value, kind_text, side_text}
@@ -12,9 +13,11 @@ use Rattle.lrs_events.specs.declared.side.Side.{Side}
 use Rattle.lrs_machine.specs.Entered.{are_entered_pieces, are_entered_marks}
 use Rattle.lrs_machine.specs.Lines.{Text}
 use Rattle.lrs_machine.specs.declared.answer.Field.{Field}
-use Rattle.lrs_sheet_records.specs.Words.{AreSaid, IsMarkText, IsPieceText, SaysNumber, words_of}
+use Rattle.lrs_machine.specs.declared.question.Destination.{Destination}
+use Rattle.lrs_machine.specs.declared.question.Destination.TheVariants as destination
+use Rattle.lrs_sheet_records.specs.Words.{AreSaid, IsClassWord, IsMarkText, IsPieceText, SaysNumber, most_words, words_of}
 
--- an argument of a command, or that there is nothing in its place
+-- an argument of a command or of a question, or that there is nothing in its place
 pub data Argument : Type 0 where
   Nothing : Argument
   Number : ℕ → Argument
@@ -25,8 +28,10 @@ pub data Argument : Type 0 where
   At : Expr → Argument
   PiecesOf : List Piece → Argument
   MarksOf : List Mark → Argument
+  ClassesOf : List Name → Argument
+  DestinationOf : Destination → Argument
 
--- what a field may say: a number between two bounds, a name of one of the alphabets, one of the words for kinds, sides and methods, a position by the method that another field names, a list, or one of these that may be missing
+-- what a field may say: a number between two bounds, a name of one of the alphabets, one of the words for kinds, sides and methods, a position by the method that another field names, a list, how a position is to be told, or one of these that may be missing
 pub data Shape : Type 0 where
   Whole : ℕ → ℕ → Shape
   ClassName : Shape
@@ -39,11 +44,23 @@ pub data Shape : Type 0 where
   PositionBy : Field → Shape
   Pieces : Shape
   Marks : Shape
+  ClassNames : Shape
+  DestinationName : Shape
   OrNothing : Shape → Shape
 
 -- The text states the expression by the method of this name.
 abbrev pub StatesBy : Text → Text → Expr → Type 0
 StatesBy name text e = (method : Method) × (name ≡ method_text method) × States method text e
+
+-- how a position is to be told: a target, or `link`
+abbrev pub destination_text : Destination → Text
+destination_text (destination.Method target) = target_text target
+destination_text destination.Link = codes "link"
+
+-- a destination that names a referent does so by a name
+abbrev pub IsReachable : Destination → Type 0
+IsReachable (destination.Method target) = IsNamed target
+IsReachable destination.Link = ⊤
 
 -- The text says this argument, where the record's fields have these texts.
 abbrev pub Says : (Field → Text) → Shape → Text → Argument → Type 0
@@ -58,6 +75,8 @@ Says texts MethodName text (MethodOf method) = text ≡ method_text method
 Says texts (PositionBy field) text (At e) = StatesBy (texts field) text e
 Says texts Pieces text (PiecesOf pieces) = AreSaid IsPieceText (words_of text) pieces × IsTrue (are_entered_pieces pieces)
 Says texts Marks text (MarksOf marks) = AreSaid IsMarkText (words_of text) marks × IsTrue (are_entered_marks marks)
+Says texts ClassNames text (ClassesOf names) = AreSaid IsClassWord (words_of text) names × (length names ≤ most_words)
+Says texts DestinationName text (DestinationOf to) = (text ≡ destination_text to) × IsReachable to
 -- an empty text says that there is nothing
 Says texts (OrNothing shape) text Nothing = text ≡ []
 Says texts (OrNothing shape) text argument = Says texts shape text argument

@@ -1,10 +1,12 @@
 -- Words in a field: numbers, pieces and marks, and lists of them between spaces.
-use Rattle.std.specs.Prelude.{◌≡◌, ◌==◌, ℕ, ◌≤◌, Bool, if◌then◌else◌, List, [], ◌∷◌, length, codes, slice_index_or, ⊤}
+use Rattle.std.specs.Prelude.{◌≡◌, ◌==◌, ℕ, ◌≤◌, Bool, if◌then◌else◌, IsTrue, List, [], ◌∷◌, length, codes, slice_index_or, ⊤}
 use Rattle.std.specs.List.{slice_split}
 use Rattle.std.specs.Str.Parse.{IsNumeral, digits_value}
 use Rattle.lrs_measure.specs.Limits.{longest_link, longest_route, greatest_measure, greatest_link}
+use Rattle.lrs_measure.specs.Texts.{Name}
 use Rattle.lrs_element.specs.declared.link.Piece.{Piece}
 use Rattle.lrs_element.specs.declared.marks.Mark.{Mark}
+use Rattle.lrs_events.specs.Names.{is_class_name}
 use Rattle.lrs_machine.specs.Lines.{Text}
 
 -- The text says this number, which lies between the bounds: digits, with leading zeros or without.
@@ -43,6 +45,14 @@ pub record IsMarkText (word : Text) (m : Mark) : Type 0 where
   pub two : length (parts_of 58 word) ≡ 2
   pub chainage : SaysNumber 0 longest_route (part word 0) m.chainage
   pub measure : SaysNumber 0 greatest_measure (part word 1) m.measure
+
+-- The word names this class.
+abbrev pub IsClassWord : Text → Name → Type 0
+IsClassWord word name = IsTrue (is_class_name word) × (name ≡ word)
+
+-- the most words of a list
+abbrev pub most_words : ℕ
+most_words = 1_000
 
 -- the words say these, one each
 abbrev pub AreSaid : {X : Type 0} → (Text → X → Type 0) → List Text → List X → Type 0

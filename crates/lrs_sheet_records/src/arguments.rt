@@ -40,7 +40,7 @@ fn argument_at(place: usize) -> Field
 }
 
 /// The fields that a verb does not use are empty.
-fn nothing_from(row: &SheetRecord<'_>, first: Field) -> Result<(), ReadFault>
+pub(crate) fn nothing_from(row: &SheetRecord<'_>, first: Field) -> Result<(), ReadFault>
     requires eleven { length (edit_fields row.now) ≤ 11 }
     requires argument { 2 ≤ spec.place_of first }
     ensures { NothingFrom (edit_fields row.now) (spec.place_of first) result }

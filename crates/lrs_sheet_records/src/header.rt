@@ -6,6 +6,7 @@ ghost use Rattle.csv.specs.Reading.{strip_bom};
 ghost use Rattle.csv.specs.Records.{fields_of};
 ghost use Rattle.lrs_sheet_records.specs.Records as spec;
 ghost use Rattle.lrs_sheet_records.specs.Kinds.{IsHeader, edit_header, header_of, width_of};
+ghost use Rattle.lrs_sheet_records.specs.Questions.{IsQuestionHeader, question_header};
 ghost use Rattle.lrs_sheet_records.specs.Surveys.{survey_header};
 
 use crate::sheet::{Sheet, field_text};
@@ -90,6 +91,40 @@ pub fn is_header(sheet: Sheet, row: &ByteRecord) -> bool
     }
     for place in 1..width {
         if field_text(row, place) != column(sheet, place) {
+            return false;
+        }
+    }
+    true
+}
+
+#[tactic(auto, unfolding(csv::specs::Records::field_at))]
+/// The name of a field of a sheet of questions.
+fn question_column(place: usize) -> &'static [u8]
+    requires { place < 6 }
+    ensures { result.now ≡ spec.text_at question_header place }
+{
+    match place {
+        0 => b"key",
+        1 => b"question",
+        2 => b"a",
+        3 => b"b",
+        4 => b"c",
+        _ => b"d",
+    }
+}
+
+/// Whether a record is the header of a sheet of questions.
+pub fn is_question_header(row: &ByteRecord) -> bool
+    ensures { IsTrue result ↔ IsQuestionHeader (fields_of row.now) }
+{
+    if row.len() != 6 {
+        return false;
+    }
+    if without_mark(field_text(row, 0)) != question_column(0) {
+        return false;
+    }
+    for place in 1..6 {
+        if field_text(row, place) != question_column(place) {
             return false;
         }
     }

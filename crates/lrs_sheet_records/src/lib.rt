@@ -8,12 +8,14 @@ mod header;
 pub mod laws;
 mod list;
 mod place;
+mod question;
 mod record;
 mod shape;
 mod sheet;
 mod verb;
 
 pub use fault::ReadFault;
-pub use header::is_header;
+pub use header::{is_header, is_question_header};
+pub use question::{column_name, question_in};
 pub use record::{command_in, command_of, survey_of};
 pub use sheet::{Sheet, SheetRecord, text_at};

@@ -1,4 +1,4 @@
-//! Lists in one field: pieces and marks, as words between spaces.
+//! Lists in one field: pieces, marks and classes, as words between spaces.
 
 ghost use Rattle.std.specs.Prelude.{◌≡◌, ◌≢◌, ◌==◌, ℕ, Bool, List, ◌≤◌, [], ◌∷◌, length, IfSome, IfNone, IfOk};
 ghost use Rattle.std.specs.List.{position};
@@ -7,6 +7,7 @@ ghost use Rattle.lrs_element.specs.declared.marks.Mark.{Mark as DeclaredMark};
 ghost use Rattle.lrs_sheet_records.specs.Words.{AreSaid, IsMarkText, IsPieceText, SaysNumber, parts_of, sign_text, words_of};
 
 use lrs_element::{Mark, Piece};
+use lrs_events::ClassName;
 use lrs_measure::limits::{GREATEST_LINK, GREATEST_MEASURE, LONGEST_LINK, LONGEST_ROUTE};
 use lrs_measure::read_digits;
 use std::alloc::{AllocError, Global};
@@ -176,6 +177,16 @@ impl Word for Mark {
     }
 }
 
+impl Word for ClassName {
+    ghost use Rattle.lrs_sheet_records.specs.Words.{IsClassWord};
+
+    ghost says = { IsClassWord };
+
+    fn read(word: &[u8]) -> Option<ClassName> {
+        ClassName::new(word)
+    }
+}
+
 /// What the words of a text say, if each says something and there are at most 1,000 of them.
 ///
 /// # Errors
@@ -187,6 +198,7 @@ pub(crate) fn read_list<T: Word + Drop>(
 ) -> Result<Option<Vec<T>>, AllocError>
     ensures some { IfOk result (λ list. IfSome list (λ xs.
         AreSaid T.says (words_of text.now) xs.items)) }
+    ensures few { IfOk result (λ list. IfSome list (λ xs. length xs.items ≤ 1_000)) }
     ensures none { IfOk result (λ list. IfNone list
         ((xs : List T) → AreSaid T.says (words_of text.now) xs → length xs ≤ 1_000 → ⊥)) }
 {

@@ -1,23 +1,27 @@
 //! What the fields of a record say of sides, values, numbers and positions.
 
-ghost use Rattle.std.specs.Prelude.{◌≡◌, IsTrue};
+ghost use Rattle.std.specs.Prelude.{◌≡◌, IsTrue, IfSome, IfNone};
 ghost use Rattle.lrs_position.specs.Expressions.{are_alike};
 ghost use Rattle.lrs_sheet_records.specs.Kinds.{edit_fields};
 ghost use Rattle.lrs_position.specs.Readings.{method_text};
 ghost use Rattle.lrs_sheet_records.specs.Records as spec;
 ghost use Rattle.lrs_measure.specs.Limits.{greatest_lateral};
 ghost use Rattle.lrs_sheet_records.specs.Shapes;
-ghost use Rattle.lrs_sheet_records.specs.Shapes.{Number, Word, SideOf, MethodOf, At, PiecesOf, PositionBy, OrNothing};
+ghost use Rattle.lrs_sheet_records.specs.Shapes.{Number, Word, SideOf, MethodOf, At, PiecesOf, ClassesOf, DestinationOf, PositionBy, OrNothing, IsReachable, destination_text};
 ghost use Rattle.lrs_sheet_records.specs.Verbs.{asset_number, chainage, or_nothing};
 ghost use Rattle.lrs_sheet_records.specs.Fields.{ReadsField, ReadsList};
 
 use crate::fault::ReadFault;
+use crate::list::read_list;
 use crate::shape::{pieces_at, place_of, whole_at};
 use crate::sheet::{SheetRecord, text_at};
-use lrs_events::{Side, Value, read_side};
-use lrs_machine::{AssetNumber, Chainage, Field, LateralOffset, PieceList};
+use lrs_events::{ClassName, Side, Value, read_side};
+use lrs_machine::{AssetNumber, Chainage, Destination, Field, LateralOffset, PieceList};
+use lrs_measure::Rows;
 use lrs_measure::limits::{GREATEST_ASSET, GREATEST_LATERAL, LONGEST_ROUTE};
-use lrs_position::{EnteredPosition, EventLocation, Method, RefName, read_expr, read_method};
+use lrs_position::{
+    EnteredPosition, EventLocation, Method, RefName, read_expr, read_method, read_target,
+};
 use std::alloc::Global;
 
 /// The name of a referent.
@@ -144,6 +148,46 @@ pub(crate) fn some_pieces_at(
     match pieces_at(alloc, row, field) {
         Ok(pieces) => Ok(Some(pieces)),
         Err(fault) => Err(fault),
+    }
+}
+
+/// The destination of a text.
+fn read_destination(text: &[u8]) -> Option<Destination>
+    ensures read { IfSome result (λ to. (text.now ≡ destination_text to) × IsReachable to) }
+    ensures unread { IfNone result ((to : _) → text.now ≡ destination_text to
+        → IsReachable to → ⊥) }
+{
+    if text == b"link".as_slice() {
+        return Some(Destination::Link);
+    }
+    match read_target(text) {
+        Some(target) => Some(Destination::Method(target)),
+        None => None,
+    }
+}
+
+/// How a position is to be told.
+pub(crate) fn destination_at(row: &SheetRecord<'_>, field: Field) -> Result<Destination, ReadFault>
+    ensures { ReadsField Shapes.DestinationName DestinationOf (edit_fields row.now) field result }
+{
+    match read_destination(text_at(row, place_of(field))) {
+        Some(to) => Ok(to),
+        None => Err(ReadFault::Field(field)),
+    }
+}
+
+/// A list of classes, one at least.
+pub(crate) fn classes_at(
+    alloc: Global,
+    row: &SheetRecord<'_>,
+    field: Field,
+) -> Result<Rows<ClassName>, ReadFault>
+    ensures { ReadsList Shapes.ClassNames ClassesOf (edit_fields row.now) field result }
+{
+    match read_list(alloc, text_at(row, place_of(field))) {
+        Ok(Some(classes)) => Ok(Rows::from_vec(classes)),
+        Ok(None) => Err(ReadFault::Field(field)),
+        Err(_) => Err(ReadFault::Memory),
     }
 }
 

@@ -1,5 +1,5 @@
 use Rattle.std.proofs.Common.{rules}
-use Rattle.lrs_sheet_records.proofs.Wording.{all-taken, first-word, more-taken, nothing-said, start-taken, too-many}
+use Rattle.lrs_sheet_records.proofs.Wording.{all-taken, few-taken, first-word, more-taken, nothing-said, start-taken, too-many}
 use Rattle.lrs_sheet_records.proofs.list.read_list.Goals as goal
 
 pub loop-turn-init : goal.loop-turn-init
@@ -13,6 +13,10 @@ returns-in_default-clause-none g c xs said few =
 pub returns-in-None-clause-some : goal.returns-in-None-clause-some
 returns-in-None-clause-some g c =
     all-taken g.T.Word.says c.args.text.now c.loop-turn.rest.now c.cut_at.result.0.now c.loop-turn.list.items c.push.new.self.items c.in-Some.item c.loop-turn._turn c.loop-turn.invariant c.in_ok-push.ensures.items (rw c.in-None.is at c.cut_at.ensures.last) c.in-Some.ensures.some
+
+pub returns-in-None-clause-few : goal.returns-in-None-clause-few
+returns-in-None-clause-few g c =
+    few-taken g.T.Word.says c.args.text.now c.loop-turn.rest.now c.loop-turn.list.items c.push.new.self.items c.in-Some.item c.loop-turn._turn c.loop-turn.invariant c.in_ok-push.ensures.items (search rules)
 
 pub loop-turn-preserved : goal.loop-turn-preserved
 loop-turn-preserved g c =

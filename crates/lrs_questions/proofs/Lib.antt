@@ -1,0 +1,3 @@
+pub mod Appending
+pub mod Answered
+pub mod Whole

@@ -1,0 +1,87 @@
+-- What a record of a sheet of questions says: a key and a question, or which of its fields is the first malformed one.
+use Rattle.std.specs.Prelude.{◌≡◌, ℕ, zero, suc, ◌+◌, ◌<◌, List, [], ◌∷◌, IsTrue, ⊤, Contains, codes, map, slice_get}
+use Rattle.lrs_machine.specs.Keys.{is_key}
+use Rattle.lrs_machine.specs.Lines.{Text}
+use Rattle.lrs_machine.specs.declared.answer.Field.{Field}
+use Rattle.lrs_machine.specs.declared.answer.Field.TheVariants as field
+use Rattle.lrs_machine.specs.declared.question.Question.{Question}
+use Rattle.lrs_machine.specs.declared.question.Question.TheVariants as question
+use Rattle.lrs_sheet_records.specs.declared.fault.ReadFault.{ReadFault}
+use Rattle.lrs_sheet_records.specs.declared.fault.ReadFault.TheVariants as fault
+use Rattle.lrs_sheet_records.specs.Kinds.{without_mark}
+use Rattle.lrs_sheet_records.specs.Records.{SayAll, place_of, text_at, texts_of}
+use Rattle.lrs_sheet_records.specs.Shapes.{Argument, Number, Word, SideOf, MethodOf, At, ClassesOf, DestinationOf, Fits, Shape, RouteName, RouteSide, MethodName, PositionBy, ClassNames, DestinationName}
+use Rattle.lrs_sheet_records.specs.Verbs.{Verb, asset_number, method_of, shapes_in}
+
+-- the header of a sheet of questions
+abbrev pub question_header : List Text
+question_header = codes "key" ∷ codes "question" ∷ codes "a" ∷ codes "b" ∷ codes "c" ∷ codes "d" ∷ []
+
+-- The fields are the header of a sheet of questions.
+abbrev pub IsQuestionHeader : List Text → Type 0
+IsQuestionHeader fields = without_mark fields ≡ question_header
+
+-- the name of a column in this header
+abbrev pub column_text : Field → Text
+column_text field.Key = codes "key"
+column_text field.Verb = codes "question"
+column_text field.A = codes "a"
+column_text field.B = codes "b"
+column_text field.C = codes "c"
+column_text field.D = codes "d"
+column_text _ = []
+
+-- The questions that there are, and what the fields a, b, .. of each say.
+abbrev pub questions : List Verb
+questions =
+    record { name = codes "at"; shapes = RouteName ∷ MethodName ∷ PositionBy field.B ∷ [] }
+    ∷ record { name = codes "translate"; shapes = RouteName ∷ MethodName ∷ PositionBy field.B ∷ DestinationName ∷ [] }
+    ∷ record { name = codes "find"; shapes = asset_number ∷ [] }
+    ∷ record { name = codes "segments"; shapes = RouteName ∷ RouteSide ∷ ClassNames ∷ [] }
+    ∷ []
+
+abbrev pub all_questions : List Text
+all_questions = map (λ asked. asked.name) questions
+
+abbrev pub question_shapes : Text → List Shape
+question_shapes name = shapes_in questions name
+
+-- the name of a question; no record asks any other kind
+abbrev pub question_of : Question → Text
+question_of (question.At route e) = codes "at"
+question_of (question.Translate route e to) = codes "translate"
+question_of (question.Find asset) = codes "find"
+question_of (question.Segments route side classes) = codes "segments"
+question_of _ = []
+
+-- what it asks, in the order of the fields a, b, ..
+abbrev pub asked_by : Question → List Argument
+asked_by (question.At route e) = Word route ∷ MethodOf (method_of e) ∷ At e ∷ []
+asked_by (question.Translate route e to) = Word route ∷ MethodOf (method_of e) ∷ At e ∷ DestinationOf to ∷ []
+asked_by (question.Find asset) = Number asset ∷ []
+asked_by (question.Segments route side classes) = Word route ∷ SideOf side ∷ ClassesOf classes ∷ []
+asked_by _ = []
+
+-- The fields ask this question under this key.
+pub record SaysQuestion (fields : List Text) (key : Text) (q : Question) : Type 0 where
+  pub is_key : IsTrue (is_key (text_at fields 0))
+  pub same_key : key ≡ text_at fields 0
+  pub is_question : Contains all_questions (text_at fields 1)
+  pub same_question : text_at fields 1 ≡ question_of q
+  pub arguments : SayAll fields 2 (question_shapes (question_of q)) (asked_by q)
+
+-- The field at a place is well formed, where the earlier ones are; a field that the question does not use is empty.
+abbrev pub IsWellFormedQuestion : List Text → ℕ → Type 0
+IsWellFormedQuestion fields zero = IsTrue (is_key (text_at fields 0))
+IsWellFormedQuestion fields (suc zero) = Contains all_questions (text_at fields 1)
+IsWellFormedQuestion fields (suc (suc i)) = Fits (texts_of fields) (slice_get (question_shapes (text_at fields 1)) i) (text_at fields (2 + i))
+
+-- The field at this place is the first that is malformed.
+pub record FirstMalformedQuestion (fields : List Text) (place : ℕ) : Type 0 where
+  pub malformed : IsWellFormedQuestion fields place → ⊥
+  pub earlier : (i : ℕ) → i < place → IsWellFormedQuestion fields i
+
+-- a fault names the first malformed field, or want of memory
+abbrev pub RefusesQuestion : List Text → ReadFault → Type 0
+RefusesQuestion fields (fault.Field at) = FirstMalformedQuestion fields (place_of at)
+RefusesQuestion fields fault.Memory = ⊤
