@@ -31,5 +31,18 @@ pub unserved : {K : Type 0} (holds : K → Result Image Table → Type 0) (a : O
 unserved holds None desk = tt
 unserved holds (Some input) desk = (empty_answer 503, inr (refl, refl))
 
+-- a refusal for want of memory, as a request that is answered so
+pub refused_ok : {K : Type 0} (holds : K → Result Image Table → Type 0) (w v : Option (List ℕ)) (desk : DeskView K) (r : Result ℕ WebFault) → IfOk r (λ status. Writes w v status (empty_answer 503))
+    → IfOk r (λ status. (asked : Asked) × (answer : Answer) × Writes w v status answer × Responds holds asked desk answer desk)
+refused_ok holds w v desk (Ok status) writes = (refused 503, empty_answer 503, writes, (empty_answer 503, (refl, refl), inl refl))
+refused_ok holds w v desk (Err fault) writes = tt
+
+-- a request that is responded to is some request
+pub some_asked : {K : Type 0} (holds : K → Result Image Table → Type 0) (w v : Option (List ℕ)) (asked : Asked) (old new : DeskView K) (r : Result ℕ WebFault)
+    → IfOk r (λ status. (answer : Answer) × Writes w v status answer × Responds holds asked old answer new)
+    → IfOk r (λ status. (asked : Asked) × (answer : Answer) × Writes w v status answer × Responds holds asked old answer new)
+some_asked holds w v asked old new (Ok status) done = (asked, done.0, done.1, done.2)
+some_asked holds w v asked old new (Err fault) done = tt
+
 pub nothing_done : {K : Type 0} (holds : K → Result Image Table → Type 0) (desk : DeskView K) → (asked : Asked) × (due : Answer) × Does holds asked desk due desk
 nothing_done holds desk = (refused 503, empty_answer 503, (refl, refl))

@@ -1,4 +1,5 @@
 pub mod Sheets
+pub mod Questions
 pub mod Asked
 pub mod Serving
 pub mod Door

@@ -31,9 +31,9 @@ lines_answer status lines = record { status = status; content_type = type_of_lin
 abbrev pub fault_answer : Text → Text → Answer
 fault_answer line lines = lines_answer 422 (lines ++ line)
 
--- the reply to a sheet whose run ended so, and wrote these lines
-abbrev pub answer_after : Result Tally SheetFault → Text → Answer
-answer_after (Ok tally) lines = lines_answer 200 lines
+-- the reply to a sheet whose run ended so, and wrote these lines; what it counted plays no part
+abbrev pub answer_after : {X : Type 0} → Result X SheetFault → Text → Answer
+answer_after (Ok counted) lines = lines_answer 200 lines
 answer_after (Err fault.BadHeader) lines = fault_answer (codes "-,fault,BadHeader\n") lines
 answer_after (Err fault.BadCsv) lines = fault_answer (codes "-,fault,BadCsv\n") lines
 answer_after (Err fault.Read) lines = empty_answer 503
@@ -59,7 +59,7 @@ pub record IsRun {K : Type 0} (holds : K → Result Image Table → Type 0) (she
       → BreaksOffSo resumes sheet records_together old.limits input (state_of old.image) (state_of new.image) (Some []) (Some lines) c
 
 -- the reply to such a run; where memory runs out for it, there is an empty 503 in its place
-abbrev pub IsAnswerAfter : Result Tally SheetFault → Text → Answer → Type 0
+abbrev pub IsAnswerAfter : {X : Type 0} → Result X SheetFault → Text → Answer → Type 0
 IsAnswerAfter ended lines answer = (answer ≡ answer_after ended lines) ⊎ (answer ≡ empty_answer 503)
 
 -- A sheet is done at a desk, or gone on with, and answered.

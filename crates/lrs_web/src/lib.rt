@@ -3,6 +3,7 @@
 
 mod door;
 mod log;
+mod questions;
 mod request;
 mod sheet;
 

@@ -1,6 +1,6 @@
 //! One request is read, done and answered.
 
-ghost use Rattle.std.specs.Prelude.{◌≡◌, ◌⊎◌, IfOk, IfSome, Err, true, false};
+ghost use Rattle.std.specs.Prelude.{◌≡◌, ◌⊎◌, IfOk, IfSome, MatchOption, Err, true, false};
 ghost use Rattle.lrs_web_requests.specs.Request.{Asked, IsServed, asked_by};
 ghost use Rattle.lrs_web_requests.specs.Text.{Answer, answer_of, empty_answer};
 ghost use Rattle.lrs_web_replies.specs.Questions.{is_reported};
@@ -9,9 +9,12 @@ ghost use Rattle.lrs_web_requests.specs.declared.paths.Resource.TheVariants as p
 ghost use Rattle.lrs_web_requests.specs.Request.{verb_of};
 ghost use Rattle.lrs_web_requests.specs.declared.response.Verb.TheVariants.{Get};
 ghost use Rattle.lrs_web.specs.Asked.{AnswersAsked, log_answer};
+ghost use Rattle.lrs_web.specs.Questions.{AnswersQuestions};
+ghost use Rattle.lrs_web.specs.Sheets.{DoesSheet};
 ghost use Rattle.lrs_web.specs.Serving.{Does, Responds, Serves, Writes, allowed_answer, sheet_at};
 
 use crate::log::log_reply;
+use crate::questions::answer_questions;
 use crate::sheet::do_sheet;
 use http::StatusCode;
 use lrs_desk::{Desk, Keeper};
@@ -34,11 +37,12 @@ pub enum WebFault {
     Write,
 }
 
-fn sheet_of(resource: Resource) -> Sheet
+fn sheet_of(resource: Resource) -> Option<Sheet>
     ensures { result ≡ sheet_at resource }
 {
     match resource {
-        Resource::Surveys => Sheet::Survey,
+        Resource::Questions => None,
+        Resource::Surveys => Some(Sheet::Survey),
         Resource::At
         | Resource::Route
         | Resource::Segments
@@ -56,7 +60,7 @@ fn sheet_of(resource: Resource) -> Sheet
         | Resource::Lengths
         | Resource::Gone
         | Resource::Where
-        | Resource::Edits => Sheet::Edits,
+        | Resource::Edits => Some(Sheet::Edits),
     }
 }
 
@@ -206,6 +210,24 @@ fn query_reply<K: Keeper>(
     }
 }
 
+/// Does a sheet, or answers the questions where it is of no kind that is done.
+fn do_posted<K: Keeper>(
+    alloc: Global,
+    kind: Option<Sheet>,
+    resumes: bool,
+    bytes: &[u8],
+    desk: &mut Desk<K>,
+) -> Response
+    ensures { MatchOption kind (AnswersQuestions bytes.now desk.old (answer_of result) desk.new)
+        (λ kind. DoesSheet K.may_hold kind resumes bytes.now desk.old (answer_of result)
+        desk.new) }
+{
+    match kind {
+        Some(kind) => do_sheet(alloc, kind, resumes, bytes, desk),
+        None => answer_questions(alloc, bytes, desk),
+    }
+}
+
 /// Does what is asked for.
 fn do_task<K: Keeper>(alloc: Global, task: &Request, desk: &mut Desk<K>) -> Response
     requires { IsServed (asked_by task.now) }
@@ -218,7 +240,7 @@ fn do_task<K: Keeper>(alloc: Global, task: &Request, desk: &mut Desk<K>) -> Resp
             query_reply(alloc, *resource, argument.as_slice(), desk)
         }
         Request::Sheet(resource, resumes, bytes) => {
-            do_sheet(alloc, sheet_of(*resource), *resumes, bytes.as_slice(), desk)
+            do_posted(alloc, sheet_of(*resource), *resumes, bytes.as_slice(), desk)
         }
     }
 }
@@ -281,7 +303,10 @@ pub fn serve_one<R: Read, W: Write, K: Keeper>(
         (answer : Answer) × Serves K.may_hold input desk.old answer desk.new) }
     ensures read { result ≡ Err WebFault.Read → desk.new ≡ desk.old }
 
-    // Whatever the reader tells of its bytes, the desk is as some request leaves it.
+    // Whatever the reader tells of its bytes, what is written is the reply to some request, and the desk is as it leaves it.
+    ensures answered { IfOk result (λ status. (asked : Asked) × (answer : Answer)
+        × Writes (W.contents writer.old) (W.contents writer.new) status answer
+        × Responds K.may_hold asked desk.old answer desk.new) }
     ensures left { (asked : Asked) × (due : Answer) × Does K.may_hold asked desk.old due desk.new }
 {
     let Ok(router) = routes(alloc) else {

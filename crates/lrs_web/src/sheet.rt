@@ -44,8 +44,8 @@ fn faulty_reply(mut lines: Vec<u8>, line: &[u8]) -> Response
     }
 }
 
-/// The reply to a sheet whose run ended so.
-fn reply_after(ended: Result<Tally, SheetFault>, lines: Vec<u8>) -> Response
+/// The reply to a sheet whose run ended so; what it counted plays no part.
+pub(crate) fn reply_after<T: Drop>(ended: Result<T, SheetFault>, lines: Vec<u8>) -> Response
     ensures { IsAnswerAfter ended lines.items (answer_of result) }
 {
     match ended {

@@ -8,14 +8,13 @@ use Rattle.lrs_element.specs.declared.link.Piece.{Piece}
 use Rattle.lrs_position.specs.declared.route.Route.{Route}
 use Rattle.lrs_events.specs.declared.class.Asset.{Asset}
 use Rattle.lrs_events.specs.declared.part.Gone.{Gone}
-use Rattle.lrs_events.specs.declared.side.Side.{Side}
 use Rattle.lrs_events.specs.declared.span.Span.{Span}
 use Rattle.lrs_machine.specs.declared.segment.Segment.{Segment}
 use Rattle.lrs_machine.specs.declared.hit.Hit.{Hit}
 use Rattle.lrs_whereabouts.specs.declared.answer.Whereabouts.{Whereabouts}
 use Rattle.lrs_web_replies.specs.Reports.{gone_data_with, named_list, place_data, row_data_with, whereabouts_data}
 use Rattle.lrs_web_replies.specs.Shown.{each}
-use Rattle.lrs_web_replies.specs.Answers.{at_data, hit_data, mark_data, piece_data, referent_data, route_data, ShowsRoute, value_data, segment_data, segments_data}
+use Rattle.lrs_web_replies.specs.Answers.{at_data, hit_data, mark_data, piece_data, referent_data, route_data, ShowsRoute, value_data, segment_data}
 
 neither : (a b : Bool) → a ≡ false → b ≡ false → (a || b) ≡ false
 neither a b p q = ap (λ x. x || b) p ∙ q
@@ -29,7 +28,7 @@ value_whole : (o : Option Name) → has_float (value_data o) ≡ false
 value_whole None = refl
 value_whole (Some value) = refl
 
-segment_whole : (s : Segment) → has_float (segment_data s) ≡ false
+pub segment_whole : (s : Segment) → has_float (segment_data s) ≡ false
 segment_whole s = neither (has_float (each value_data s.values)) false (each_whole value_data value_whole s.values) refl
 
 pub at_whole : (d : Data) (route : Name) (at : ℕ) (entry : Ground) (hits : List Hit) → d ≡ at_data route at entry hits → has_float d ≡ false
@@ -44,10 +43,6 @@ route_with r pieces =
 
 pub route_whole : (d : Data) (r : Route) → ShowsRoute r d → has_float d ≡ false
 route_whole d r shows = ap has_float shows.is ∙ route_with r shows.pieces
-
-pub segments_whole : (d : Data) (route : Name) (side : Side) (segments : List Segment) → d ≡ segments_data route side segments → has_float d ≡ false
-segments_whole d route side segments is =
-    ap has_float is ∙ neither (has_float (each segment_data segments)) false (each_whole segment_data segment_whole segments) refl
 
 pub list_whole : {A : Type 0} (d : Data) (name : List ℕ) (shown : A → Data) (xs : List A) → ((x : A) → has_float (shown x) ≡ false) → d ≡ named_list name (map shown xs) → has_float d ≡ false
 list_whole d name shown xs whole is = ap has_float is ∙ neither (has_float (each shown xs)) false (each_whole shown whole xs) refl

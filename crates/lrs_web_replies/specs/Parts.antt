@@ -1,13 +1,16 @@
--- Parts of the text of a report, as they are written one behind the other.
-use Rattle.std.specs.Prelude.{ℕ, if◌then◌else◌, List, [], ◌∷◌, ◌++◌, Option}
+-- Parts of the text of a report or of segments, as they are written one behind the other.
+use Rattle.std.specs.Prelude.{ℕ, if◌then◌else◌, List, [], ◌∷◌, ◌++◌, codes, Option}
 use Rattle.std.specs.List.{flat_map}
 use Rattle.serde_json.specs.Data.{Data, string}
 use Rattle.serde_json.specs.Written.{compact_text}
+use Rattle.lrs_measure.specs.Texts.{Name}
 use Rattle.lrs_position.specs.declared.route.Referent.{Referent}
 use Rattle.lrs_position.specs.declared.route.Route.{Route}
 use Rattle.lrs_events.specs.declared.class.Asset.{Asset}
 use Rattle.lrs_events.specs.declared.part.Gone.{Gone}
+use Rattle.lrs_events.specs.declared.side.Side.{Side}
 use Rattle.lrs_events.specs.declared.span.Span.{Span}
+use Rattle.lrs_events.specs.Names.{side_text}
 use Rattle.lrs_machine.specs.declared.image.RouteRow.{RouteRow}
 use Rattle.lrs_machine.specs.Lines.{Text}
 use Rattle.lrs_lists.specs.declared.wanted.RowsWanted.{RowsWanted}
@@ -22,10 +25,22 @@ front_text name = 123 ∷ (compact_text (string name) ++ 58 ∷ [])
 abbrev pub item_text : Data → Text
 item_text d = 44 ∷ compact_text d
 
+-- the name of a member behind others, up to its value
+abbrev pub name_text : Text → Text
+name_text name = item_text (string name) ++ 58 ∷ []
+
 -- the items of a list with its opening bracket in the place of the first comma
 abbrev pub opened_text : List Data → Text
 opened_text [] = 91 ∷ []
 opened_text (d ∷ ds) = 91 ∷ (compact_text d ++ flat_map item_text ds)
+
+-- the segments of a route, up to their list
+abbrev pub segments_front : Name → Text
+segments_front route = front_text (codes "route") ++ (compact_text (string route) ++ name_text (codes "segments"))
+
+-- what stands behind the list of the segments of a side
+abbrev pub segments_end : Side → Text
+segments_end side = name_text (codes "side") ++ (compact_text (string (side_text side)) ++ 125 ∷ [])
 
 -- a referent
 abbrev pub ref_part : Route → Referent → Text

@@ -1,16 +1,18 @@
 //! Answers as the bytes of JSON texts.
 
-ghost use Rattle.std.specs.Prelude.{◌≡◌, false, map, IfOk};
+ghost use Rattle.std.specs.Prelude.{◌≡◌, ◌++◌, false, map, IfOk, OnOk};
 ghost use Rattle.std.specs.Str.{IsAscii};
 ghost use Rattle.serde_json.specs.Data.{Data};
 ghost use Rattle.serde_json.specs.View.{view};
 ghost use Rattle.serde_json.specs.Written.{compact_text, has_float};
 ghost use Rattle.lrs_web_replies.specs.Reports.{lengths_data, named_list, whereabouts_data};
 ghost use Rattle.lrs_web_replies.specs.Answers.{at_data, direction_text, ShowsRoute, segments_data, translated_data, on_link_data, routes_data, totals_data, found_data, error_data};
+ghost use Rattle.lrs_web_replies.specs.Parts.{segments_end, segments_front};
 ghost use Rattle.lrs_machine.specs.Lines.{method_text};
 
 use crate::list::Shown;
-use crate::members::{Member, Scalar, members_of, object_of, put_list};
+use crate::list_text::{add_array, add_name, add_value, begin};
+use crate::members::{Member, Scalar, members_of, object_of, put_list, scalar_value};
 use lrs_answers::{FoundRow, RouteLength};
 use lrs_element::Ground;
 use lrs_events::Side;
@@ -119,30 +121,33 @@ pub fn route_json(alloc: Global, route: &Route) -> Result<Vec<u8>, AllocError>
     bytes_of(alloc, &value)
 }
 
-fn segments_value(
-    alloc: Global,
-    route: &RouteName,
-    side: Side,
-    segments: &[Segment],
-) -> Result<Value, AllocError>
-    ensures { IfOk result (λ value. view value ≡ segments_data route.now side segments.now) }
+/// The object of the segments of a route up to their list.
+fn begin_segments(alloc: Global, route: &RouteName) -> Result<Vec<u8>, AllocError>
+    ensures { IfOk result (λ bytes. bytes.items ≡ segments_front route.now) }
 {
-    let mut members = members_of(
-        alloc,
-        &[
-            Member("route", Scalar::Route(*route)),
-            Member("side", Scalar::Side(side)),
-        ],
-    )?;
-    put_list(alloc, &mut members, "segments", segments)?;
-    Ok(Value::Object(members))
+    let name = Value::try_from_str(alloc, name_of(route))?;
+    let mut bytes = begin(alloc, "route")?;
+    add_value(alloc, &mut bytes, &name)?;
+    add_name(alloc, &mut bytes, "segments")?;
+    Ok(bytes)
 }
 
-/// The segments of a side of a route; a value that is missing is `-`.
+/// Adds what stands behind the list of segments: their side, and the end of the object.
+fn end_segments(alloc: Global, bytes: &mut Vec<u8>, side: Side) -> Result<(), AllocError>
+    ensures { OnOk result (bytes.new.items ≡ bytes.old.items ++ segments_end side) }
+{
+    let value = scalar_value(alloc, &Scalar::Side(side))?;
+    add_name(alloc, bytes, "side")?;
+    add_value(alloc, bytes, &value)?;
+    bytes.push(b'}')?;
+    Ok(())
+}
+
+/// The segments of a side of a route; a value that is missing is `-`. They are written one by one.
 ///
 /// # Errors
 /// When memory runs out.
-#[tactic(auto, using(crate::proofs::Whole::segments_whole))]
+#[tactic(auto, using(crate::proofs::Whole::segment_whole, crate::proofs::Listing::segments_text))]
 pub fn segments_json(
     alloc: Global,
     route: &RouteName,
@@ -152,8 +157,10 @@ pub fn segments_json(
     ensures { IfOk result (λ bytes. bytes.items ≡ compact_text
         (segments_data route.now side segments.now)) }
 {
-    let value = segments_value(alloc, route, side, segments)?;
-    bytes_of(alloc, &value)
+    let mut bytes = begin_segments(alloc, route)?;
+    add_array(alloc, &mut bytes, segments)?;
+    end_segments(alloc, &mut bytes, side)?;
+    Ok(bytes)
 }
 
 pub(crate) fn method_of(expression: Expr) -> &'static str

@@ -1,4 +1,4 @@
-//! The text of an object whose one member is a list, written item by item: no more than one item is in memory as a value.
+//! The text of a list, and of the object that has it, written item by item: no more than one item is in memory as a value.
 
 ghost use Rattle.std.specs.Prelude.{◌≡◌, ◌∷◌, ◌++◌, [], List, length, false, IfOk, OnOk};
 ghost use Rattle.std.specs.List.{flat_map};
@@ -6,8 +6,8 @@ ghost use Rattle.serde_json.specs.Data.{Data};
 ghost use Rattle.serde_json.specs.View.{view};
 ghost use Rattle.serde_json.specs.Written.{compact_text, has_float};
 ghost use Rattle.lrs_machine.specs.Lines.{Text};
-ghost use Rattle.lrs_web_replies.specs.Parts.{front_text, item_text, opened_text};
-ghost use Rattle.lrs_web_replies.specs.Shown.{list as list_data};
+ghost use Rattle.lrs_web_replies.specs.Parts.{front_text, item_text, name_text, opened_text};
+ghost use Rattle.lrs_web_replies.specs.Shown.{each, list as list_data};
 
 use crate::answers::bytes_of;
 use crate::list::Shown;
@@ -28,14 +28,32 @@ pub(crate) fn begin(alloc: Global, name: &str) -> Result<Vec<u8>, AllocError>
     Ok(bytes)
 }
 
+/// Adds a value.
+pub(crate) fn add_value(alloc: Global, bytes: &mut Vec<u8>, value: &Value) -> Result<(), AllocError>
+    requires { has_float (view value.now) ≡ false }
+    ensures { OnOk result (bytes.new.items ≡ bytes.old.items ++ compact_text (view value.now)) }
+{
+    let text = bytes_of(alloc, value)?;
+    bytes.extend_from_slice(text.as_slice())
+}
+
 /// Adds an item, with a comma before it.
 pub(crate) fn add_item(alloc: Global, bytes: &mut Vec<u8>, item: &Value) -> Result<(), AllocError>
     requires { has_float (view item.now) ≡ false }
     ensures { OnOk result (bytes.new.items ≡ bytes.old.items ++ item_text (view item.now)) }
 {
-    let text = bytes_of(alloc, item)?;
     bytes.push(b',')?;
-    bytes.extend_from_slice(text.as_slice())
+    add_value(alloc, bytes, item)
+}
+
+/// Adds the name of one more member, with a comma before it and a colon behind it.
+pub(crate) fn add_name(alloc: Global, bytes: &mut Vec<u8>, name: &str) -> Result<(), AllocError>
+    ensures { OnOk result (bytes.new.items ≡ bytes.old.items ++ name_text name.now) }
+{
+    let name = Value::try_from_str(alloc, name)?;
+    add_item(alloc, bytes, &name)?;
+    bytes.push(b':')?;
+    Ok(())
 }
 
 fn add_one<T: Shown>(alloc: Global, bytes: &mut Vec<u8>, one: &T) -> Result<(), AllocError>
@@ -44,6 +62,18 @@ fn add_one<T: Shown>(alloc: Global, bytes: &mut Vec<u8>, one: &T) -> Result<(), 
 {
     let value = one.value(alloc)?;
     add_item(alloc, bytes, &value)
+}
+
+/// Adds each of a slice, with a comma before it.
+fn add_slice<T: Shown>(alloc: Global, bytes: &mut Vec<u8>, list: &[T]) -> Result<(), AllocError>
+    requires whole { (one : T) → has_float (T.shown one) ≡ false }
+    ensures { OnOk result (bytes.new.items
+        ≡ bytes.old.items ++ flat_map (λ one. item_text (T.shown one)) list.now) }
+{
+    for one in list {
+        add_one(alloc, bytes, one)?;
+    }
+    Ok(())
 }
 
 /// Adds each of a list, with a comma before it.
@@ -76,14 +106,39 @@ fn open_list(bytes: &mut Vec<u8>, start: usize) -> Result<(), AllocError>
     Ok(())
 }
 
+/// Ends the list, whose items begin behind so many bytes.
+fn close_list(bytes: &mut Vec<u8>, start: usize) -> Result<(), AllocError>
+    ensures { OnOk result ((front : Text) (items : List Data) → length front ≡ start
+        → bytes.old.items ≡ front ++ flat_map item_text items
+        → bytes.new.items ≡ front ++ compact_text (list_data items)) }
+{
+    open_list(bytes, start)?;
+    bytes.push(b']')?;
+    Ok(())
+}
+
+/// Adds a list, item by item.
+pub(crate) fn add_array<T: Shown>(
+    alloc: Global,
+    bytes: &mut Vec<u8>,
+    list: &[T],
+) -> Result<(), AllocError>
+    requires whole { (one : T) → has_float (T.shown one) ≡ false }
+    ensures { OnOk result (bytes.new.items
+        ≡ bytes.old.items ++ compact_text (each T.shown list.now)) }
+{
+    let start = bytes.len();
+    add_slice(alloc, bytes, list)?;
+    close_list(bytes, start)
+}
+
 /// Ends the list, whose items begin behind so many bytes, and the object.
 pub(crate) fn end(mut bytes: Vec<u8>, start: usize) -> Result<Vec<u8>, AllocError>
     ensures { IfOk result (λ whole. (front : Text) (items : List Data) → length front ≡ start
         → bytes.items ≡ front ++ flat_map item_text items
         → whole.items ≡ front ++ (compact_text (list_data items) ++ 125 ∷ [])) }
 {
-    open_list(&mut bytes, start)?;
-    bytes.push(b']')?;
+    close_list(&mut bytes, start)?;
     bytes.push(b'}')?;
     Ok(bytes)
 }

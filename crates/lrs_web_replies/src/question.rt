@@ -215,7 +215,8 @@ pub fn question_of(
         | Resource::Gone
         | Resource::Where
         | Resource::Edits
-        | Resource::Surveys => unreachable!(),
+        | Resource::Surveys
+        | Resource::Questions => unreachable!(),
     }
 }
 

@@ -55,7 +55,8 @@ pub fn is_reported(resource: Resource) -> bool
         | Resource::Find
         | Resource::Log
         | Resource::Edits
-        | Resource::Surveys => false,
+        | Resource::Surveys
+        | Resource::Questions => false,
     }
 }
 
@@ -174,6 +175,7 @@ pub fn report_of(alloc: Global, resource: Resource, query: &[u8]) -> Result<Repo
         | Resource::Find
         | Resource::Log
         | Resource::Edits
-        | Resource::Surveys => unreachable!(),
+        | Resource::Surveys
+        | Resource::Questions => unreachable!(),
     }
 }

@@ -7,7 +7,7 @@ use Rattle.matchit.specs.Rows.{param_token}
 use Rattle.matchit.specs.Router.{RouteOf}
 use Rattle.matchit.specs.Seek.{first, has_slash}
 use Rattle.lrs_web_requests.specs.declared.paths.Resource.{Resource}
-use Rattle.lrs_web_requests.specs.declared.paths.Resource.TheVariants.{At, Route, Segments, Totals, Translate, Diagram, Routes, Find, Log, Health, Links, Classes, Refs, Rows, Lengths, Gone, Where, Edits, Surveys}
+use Rattle.lrs_web_requests.specs.declared.paths.Resource.TheVariants.{At, Route, Segments, Totals, Translate, Diagram, Routes, Find, Log, Health, Links, Classes, Refs, Rows, Lengths, Gone, Where, Edits, Surveys, Questions}
 use Rattle.lrs_web_requests.specs.Routes.{named, rows, resource_at}
 use Rattle.lrs_web_requests.specs.Paths.{literal_paths, slash, IsName, Names, FindsWhatIsNamed, FindsNothingElse}
 use Rattle.lrs_web_requests.proofs.LiteralLemmas.{IsSimple, Fits, IsWord, HasFit, AllSimple, text_from, simple_literal, simple_named, fits_literal, fits_named, first_reached, reached_fits, reached_name}
@@ -69,22 +69,25 @@ rows_simple = (
                   (
                     simple_row (codes "/v1/log") refl,
                     (
-                      simple_row (codes "/v1/refs") refl,
+                      simple_row (codes "/v1/questions") refl,
                       (
-                        simple_named (codes "/v1/route/") (text_from (codes "/v1/route/") refl),
+                        simple_row (codes "/v1/refs") refl,
                         (
-                          simple_row (codes "/v1/routes") refl,
+                          simple_named (codes "/v1/route/") (text_from (codes "/v1/route/") refl),
                           (
-                            simple_row (codes "/v1/rows") refl,
+                            simple_row (codes "/v1/routes") refl,
                             (
-                              simple_row (codes "/v1/segments") refl,
+                              simple_row (codes "/v1/rows") refl,
                               (
-                                simple_row (codes "/v1/surveys") refl,
+                                simple_row (codes "/v1/segments") refl,
                                 (
-                                  simple_row (codes "/v1/totals") refl,
+                                  simple_row (codes "/v1/surveys") refl,
                                   (
-                                    simple_row (codes "/v1/translate") refl,
-                                    (simple_row (codes "/v1/where") refl, tt),
+                                    simple_row (codes "/v1/totals") refl,
+                                    (
+                                      simple_row (codes "/v1/translate") refl,
+                                      (simple_row (codes "/v1/where") refl, tt),
+                                    ),
                                   ),
                                 ),
                               ),
@@ -139,24 +142,27 @@ named_by_fit path route fit =
                       | inr fit ↦ elim fit [
                         | inl at ↦ names_literal (codes "/v1/log") path Log route.value refl (9, omega arith, refl) (ap (λ r. r.value) at.0) at.1
                         | inr fit ↦ elim fit [
-                          | inl at ↦ names_literal (codes "/v1/refs") path Refs route.value refl (10, omega arith, refl) (ap (λ r. r.value) at.0) at.1
+                          | inl at ↦ names_literal (codes "/v1/questions") path Questions route.value refl (10, omega arith, refl) (ap (λ r. r.value) at.0) at.1
                           | inr fit ↦ elim fit [
-                            | inl at ↦ names_route path route.value (ap (λ r. r.value) at.0) at.1
+                            | inl at ↦ names_literal (codes "/v1/refs") path Refs route.value refl (11, omega arith, refl) (ap (λ r. r.value) at.0) at.1
                             | inr fit ↦ elim fit [
-                              | inl at ↦ names_literal (codes "/v1/routes") path Routes route.value refl (11, omega arith, refl) (ap (λ r. r.value) at.0) at.1
+                              | inl at ↦ names_route path route.value (ap (λ r. r.value) at.0) at.1
                               | inr fit ↦ elim fit [
-                                | inl at ↦ names_literal (codes "/v1/rows") path Rows route.value refl (12, omega arith, refl) (ap (λ r. r.value) at.0) at.1
+                                | inl at ↦ names_literal (codes "/v1/routes") path Routes route.value refl (12, omega arith, refl) (ap (λ r. r.value) at.0) at.1
                                 | inr fit ↦ elim fit [
-                                  | inl at ↦ names_literal (codes "/v1/segments") path Segments route.value refl (13, omega arith, refl) (ap (λ r. r.value) at.0) at.1
+                                  | inl at ↦ names_literal (codes "/v1/rows") path Rows route.value refl (13, omega arith, refl) (ap (λ r. r.value) at.0) at.1
                                   | inr fit ↦ elim fit [
-                                    | inl at ↦ names_literal (codes "/v1/surveys") path Surveys route.value refl (14, omega arith, refl) (ap (λ r. r.value) at.0) at.1
+                                    | inl at ↦ names_literal (codes "/v1/segments") path Segments route.value refl (14, omega arith, refl) (ap (λ r. r.value) at.0) at.1
                                     | inr fit ↦ elim fit [
-                                      | inl at ↦ names_literal (codes "/v1/totals") path Totals route.value refl (15, omega arith, refl) (ap (λ r. r.value) at.0) at.1
+                                      | inl at ↦ names_literal (codes "/v1/surveys") path Surveys route.value refl (15, omega arith, refl) (ap (λ r. r.value) at.0) at.1
                                       | inr fit ↦ elim fit [
-                                        | inl at ↦ names_literal (codes "/v1/translate") path Translate route.value refl (16, omega arith, refl) (ap (λ r. r.value) at.0) at.1
+                                        | inl at ↦ names_literal (codes "/v1/totals") path Totals route.value refl (16, omega arith, refl) (ap (λ r. r.value) at.0) at.1
                                         | inr fit ↦ elim fit [
-                                          | inl at ↦ names_literal (codes "/v1/where") path Where route.value refl (17, omega arith, refl) (ap (λ r. r.value) at.0) at.1
-                                          | inr none ↦ absurd none
+                                          | inl at ↦ names_literal (codes "/v1/translate") path Translate route.value refl (17, omega arith, refl) (ap (λ r. r.value) at.0) at.1
+                                          | inr fit ↦ elim fit [
+                                            | inl at ↦ names_literal (codes "/v1/where") path Where route.value refl (18, omega arith, refl) (ap (λ r. r.value) at.0) at.1
+                                            | inr none ↦ absurd none
+                                          ]
                                         ]
                                       ]
                                     ]
@@ -193,7 +199,7 @@ IsFound entry = resource_at entry.0 ≡ Some entry.1
 literal_is_found : (path : List ℕ) (resource : Resource) → Contains literal_paths (path, resource) → resource_at path ≡ Some resource
 unfolding matchit_on_literals rows IsFound
 literal_is_found path resource has =
-    All-contains IsFound literal_paths (path, resource) (All-from_recursion IsFound literal_paths (refl, (refl, (refl, (refl, (refl, (refl, (refl, (refl, (refl, (refl, (refl, (refl, (refl, (refl, (refl, (refl, (refl, (refl, tt))))))))))))))))))) has
+    All-contains IsFound literal_paths (path, resource) (All-from_recursion IsFound literal_paths (refl, (refl, (refl, (refl, (refl, (refl, (refl, (refl, (refl, (refl, (refl, (refl, (refl, (refl, (refl, (refl, (refl, (refl, (refl, tt)))))))))))))))))))) has
 
 route_is_found : (word : List ℕ) → IsWord word → resource_at (codes "/v1/route/" ++ word) ≡ Some Route
 unfolding rows

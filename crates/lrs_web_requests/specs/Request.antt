@@ -11,12 +11,12 @@ use Rattle.lrs_web_requests.specs.declared.response.Verb.{Verb}
 use Rattle.lrs_web_requests.specs.declared.response.Verb.TheVariants.{Get, Post}
 use Rattle.lrs_web_requests.specs.Text.{method_name}
 use Rattle.lrs_web_requests.specs.declared.paths.Resource.{Resource}
-use Rattle.lrs_web_requests.specs.declared.paths.Resource.TheVariants.{At, Route, Segments, Totals, Translate, Diagram, Routes, Find, Log, Health, Links, Classes, Refs, Rows, Lengths, Gone, Where, Edits, Surveys}
+use Rattle.lrs_web_requests.specs.declared.paths.Resource.TheVariants.{At, Route, Segments, Totals, Translate, Diagram, Routes, Find, Log, Health, Links, Classes, Refs, Rows, Lengths, Gone, Where, Edits, Surveys, Questions}
 use Rattle.lrs_web_requests.specs.Routes.{resource_at}
 use Rattle.lrs_web_requests.specs.declared.request.Request.{Request}
 use Rattle.lrs_web_requests.specs.declared.request.Request.TheVariants as task
 
--- what is asked for: nothing that is served, an answer to a question, with what it is asked by, or that a sheet is done, or gone on with
+-- what is asked for: nothing that is served, an answer to a question, with what it is asked by, or that a sheet is done, gone on with or, of questions, answered
 pub data Asked : Type 0 where
   refused : ℕ → Asked
   not_allowed : Verb → Asked
@@ -70,6 +70,7 @@ verb_of Gone = Get
 verb_of Where = Get
 verb_of Edits = Post
 verb_of Surveys = Post
+verb_of Questions = Post
 
 -- whether a sheet goes on behind its last record that is an edit: where `resume` is 1, not where there is no `resume`; any other value is refused
 abbrev pub resumes_for : Option (List ℕ) → Option Bool

@@ -16,12 +16,20 @@ pub enum BodyFault {
 }
 
 impl From<AllocError> for BodyFault {
+    ghost use Rattle.lrs_web_requests.specs.declared.body.BodyFault.TheVariants.{Memory};
+
+    ghost from_gives = { λ _ e. e ≡ Memory };
+
     fn from(_: AllocError) -> BodyFault {
         BodyFault::Memory
     }
 }
 
 impl From<io::Error> for BodyFault {
+    ghost use Rattle.lrs_web_requests.specs.declared.body.BodyFault.TheVariants as fault;
+
+    ghost from_gives = { λ error e. e ≡ fault.Read error };
+
     fn from(error: io::Error) -> BodyFault {
         BodyFault::Read(error)
     }

@@ -28,6 +28,7 @@ pub enum Resource {
     Where,
     Edits,
     Surveys,
+    Questions,
 }
 
 /// A router of all the paths.
@@ -54,6 +55,7 @@ pub fn routes(alloc: Global) -> Result<Router<Resource>, InsertError>
     router.insert("/v1/where", Resource::Where)?;
     router.insert("/v1/edits", Resource::Edits)?;
     router.insert("/v1/surveys", Resource::Surveys)?;
+    router.insert("/v1/questions", Resource::Questions)?;
     Ok(router)
 }
 

@@ -36,7 +36,8 @@ pub enum Request {
     NotAllowed(Verb),
     /// An answer: to a query, or of a route to the name in its path.
     Query(Resource, Vec<u8>),
-    /// That the sheet in the body is done, or that it goes on behind its last record that is an edit.
+    /// That the sheet in the body is done, or that it goes on behind its last record that is an edit; or that the questions
+    /// in the body are answered, whatever the second part says.
     Sheet(Resource, bool, Vec<u8>),
 }
 
@@ -61,7 +62,7 @@ fn verb_for(resource: Resource) -> Verb
         | Resource::Lengths
         | Resource::Gone
         | Resource::Where => Verb::Get,
-        Resource::Edits | Resource::Surveys => Verb::Post,
+        Resource::Edits | Resource::Surveys | Resource::Questions => Verb::Post,
     }
 }
 
@@ -111,7 +112,8 @@ fn argument(resource: Resource, target: &str) -> &[u8]
         | Resource::Gone
         | Resource::Where
         | Resource::Edits
-        | Resource::Surveys => query.as_bytes(),
+        | Resource::Surveys
+        | Resource::Questions => query.as_bytes(),
     }
 }
 

@@ -1,9 +1,22 @@
 //! Serves connections of a door in memory at a desk over an inventory in memory. Each word lets one more connection wait,
 //! with the request of a file, as `request:totals.http`, or with a first read that fails, as `failing:totals.http`; or it
-//! serves so many, as `serve:3`. What is written to each connection is printed, and then how the service ended.
+//! serves so many, as `serve:3`. What is written to each connection is printed, and then how the service ended. Beside it
+//! stand tests of desks and of whole sheets.
 #![tactic(auto)]
 
+#[cfg(test)]
+mod calls;
+#[cfg(test)]
+mod equality;
+#[cfg(test)]
+mod failure;
+#[cfg(test)]
+mod limits;
 mod memory;
+#[cfg(test)]
+mod request;
+#[cfg(test)]
+mod sheet_memory;
 
 use lrs_desk::{Desk, Keeper, Plain};
 use lrs_machine::Limits;

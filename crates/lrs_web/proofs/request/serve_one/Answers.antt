@@ -1,5 +1,5 @@
 use Rattle.lrs_web_requests.specs.Request.{asked_by}
-use Rattle.lrs_web.proofs.Responding.{nothing_done, serves_ok, serves_done, unserved}
+use Rattle.lrs_web.proofs.Responding.{nothing_done, refused_ok, serves_ok, serves_done, some_asked, unserved}
 use Rattle.lrs_web.proofs.request.serve_one.Goals as goal
 
 -- src/serving.rt:145:9
@@ -33,3 +33,16 @@ returns-in-Err-Memory-clause-left g c = nothing_done g.K.Keeper.may_hold c.args.
 
 pub returns-clause-left : goal.returns-clause-left
 returns-clause-left g c = nothing_done g.K.Keeper.may_hold c.args.desk.now
+
+pub returns-in_default-clause-answered : goal.returns-in_default-clause-answered
+returns-in_default-clause-answered g c =
+    refused_ok g.K.Keeper.may_hold (g.W.Write.contents c.args.writer.now) (g.W.Write.contents c.refuse.new.writer) c.args.desk.now c.refuse.result c.refuse.ensures.written
+
+pub returns-in-Ok-receive-clause-answered : goal.returns-in-Ok-receive-clause-answered
+returns-in-Ok-receive-clause-answered g c =
+    some_asked g.K.Keeper.may_hold (g.W.Write.contents c.args.writer.now) (g.W.Write.contents c.respond.new.writer) (asked_by c.in-Ok-receive.task) c.args.desk.now c.respond.new.desk
+    c.respond.result c.respond.ensures.written
+
+pub returns-in-Err-Memory-clause-answered : goal.returns-in-Err-Memory-clause-answered
+returns-in-Err-Memory-clause-answered g c =
+    refused_ok g.K.Keeper.may_hold (g.W.Write.contents c.args.writer.now) (g.W.Write.contents c.refuse-in-Err-Memory.new.writer) c.args.desk.now c.refuse-in-Err-Memory.result c.refuse-in-Err-Memory.ensures.written

@@ -24,4 +24,5 @@ returns c =
     let i17 = c.in_ok-insert-17.ensures in
     let i18 = c.in_ok-insert-18.ensures in
     let i19 = c.in_ok-insert-19.ensures in
-    rw (i19.1, i18.1, i17.1, i16.1, i15.1, i14.1, i13.1, i12.1, i11.1, i10.1, i9.1, i8.1, i7.1, i6.1, i5.1, i4.1, i3.1, i2.1, i1.1, c.new-router.ensures)
+    let i20 = c.in_ok-insert-20.ensures in
+    rw (i20.1, i19.1, i18.1, i17.1, i16.1, i15.1, i14.1, i13.1, i12.1, i11.1, i10.1, i9.1, i8.1, i7.1, i6.1, i5.1, i4.1, i3.1, i2.1, i1.1, c.new-router.ensures)

@@ -1,0 +1,32 @@
+//! Sheets of questions are answered at a desk.
+
+ghost use Rattle.std.specs.Prelude.{◌≡◌, ◌⊎◌, false, true};
+ghost use Rattle.lrs_web_requests.specs.Text.{answer_of, empty_answer};
+ghost use Rattle.lrs_web.specs.Questions.{AnswersQuestions, RepliesToQuestions};
+
+use crate::sheet::reply_after;
+use http::StatusCode;
+use lrs_desk::{Desk, Keeper};
+use lrs_questions::ask_all;
+use lrs_web_requests::Response;
+use std::alloc::Global;
+
+fn run_questions<K: Keeper>(alloc: Global, bytes: &[u8], desk: &Desk<K>) -> Response
+    requires behind { desk.now.is_ahead ≡ false }
+    ensures { RepliesToQuestions desk.now.image bytes.now (answer_of result) }
+{
+    let mut lines = Vec::new(alloc);
+    let ended = ask_all(alloc, bytes, &mut lines, desk);
+    reply_after(ended, lines)
+}
+
+/// Answers a sheet of questions whose bytes have all come. Once a commit of several commands has failed, nothing is answered,
+/// and the reply is an empty 503.
+pub(crate) fn answer_questions<K: Keeper>(alloc: Global, bytes: &[u8], desk: &Desk<K>) -> Response
+    ensures { AnswersQuestions bytes.now desk.now (answer_of result) desk.now }
+{
+    if desk.is_ahead() {
+        return Response::empty(StatusCode::SERVICE_UNAVAILABLE);
+    }
+    run_questions(alloc, bytes, desk)
+}
