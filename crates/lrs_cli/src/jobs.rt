@@ -10,7 +10,7 @@ use crate::server::do_service;
 use lrs_cli_help::hint_at;
 use lrs_cli_tasks::{
     Ending, Pace, ProgramFault, Shown, Task, Work, do_audit, do_check, do_page, do_question,
-    do_records, do_report, is_in_memory, open_in_memory, task_of,
+    do_questions, do_records, do_report, is_in_memory, open_in_memory, task_of,
 };
 use lrs_cli_words::{BadWord, Job, QuestionFault, new_has_sums};
 use lrs_desk::{Desk, Keeper, Plain};
@@ -45,6 +45,7 @@ pub fn do_work<R: Runtime<A = Global> + Net, K: Keeper>(
         } => do_records(rt, desk, kind, resumes, all, from, of_file, shown),
         Work::Check { kind, from } => do_check(rt, desk, kind, from),
         Work::Question(question) => do_question(rt, desk, question),
+        Work::Questions { from } => do_questions(rt, desk, from),
         Work::Report(report) => do_report(rt, desk, &report),
         Work::Audit => do_audit(rt, desk),
         Work::Service(service) => do_service(rt, desk, service),
@@ -128,11 +129,14 @@ fn has_bytes(rt: &HostRuntime, path: &str) -> bool {
     }
 }
 
-// Whether work is a question or a report.
+// Whether work is a question, a sheet of them or a report.
 fn looks(work: &Work<'_>) -> bool
     ensures { IsTrue result ↔ Looks work.now }
 {
-    matches!(work, Work::Question(_) | Work::Report(_))
+    matches!(
+        work,
+        Work::Question(_) | Work::Questions { .. } | Work::Report(_)
+    )
 }
 
 // Does work in the inventory of a file. What only looks is answered without a connection, where that opening takes the
@@ -180,7 +184,7 @@ fn is_new(rt: &HostRuntime, path: &str) -> bool {
 }
 
 // Does work in the inventory of a file. What only looks makes no file: a check looks at a fresh inventory then, and a
-// report or an audit has none. Nor is one made where it has to be there.
+// sheet of questions, a report or an audit has none. Nor is one made where it has to be there.
 fn do_at_path(
     rt: &HostRuntime,
     path: &str,
@@ -192,7 +196,8 @@ fn do_at_path(
     ensures { EndsInFile ⟦<Plain as Keeper>⟧.may_hold ⟦<FileKeeper as Keeper>⟧.may_hold
         ⟦<FileQuestions as Keeper>⟧.may_hold (image_at ⟦<Unknown as Start>⟧) work.entry result }
 {
-    let wants_file = existing || matches!(work, Work::Report(_) | Work::Audit);
+    let wants_file = existing
+        || matches!(work, Work::Questions { .. } | Work::Report(_) | Work::Audit);
     if wants_file && is_new(rt, path) {
         return Ending::Stopped(ProgramFault::Open);
     }

@@ -1,7 +1,7 @@
 //! What stands behind a fault, and what to do about it.
 
 use crate::inspection::{Found, inspect};
-use crate::job_texts::{inventory_of, port_of, sheet_of};
+use crate::job_texts::{has_questions, inventory_of, port_of, sheet_of};
 use lrs_cli_tasks::ProgramFault;
 use lrs_cli_words::Job;
 use lrs_machine::Table;
@@ -84,7 +84,7 @@ fn explain_unsound(rt: &HostRuntime, db: &str, table: Table) {
     );
 }
 
-fn explain_read(rt: &HostRuntime, sheet: &str) {
+fn explain_read(rt: &HostRuntime, sheet: &str, of_questions: bool) {
     if sheet == "stdin" {
         return say(rt, "standard input could not be read to its end");
     }
@@ -94,10 +94,14 @@ fn explain_read(rt: &HostRuntime, sheet: &str) {
             let _ = eprintln!(rt; "explain: {sheet}: {error}");
         }
     }
-    say(
-        rt,
-        "send the sheet again: what was done is kept, and is answered again,N",
-    );
+    if of_questions {
+        say(rt, "ask again: questions change nothing");
+    } else {
+        say(
+            rt,
+            "send the sheet again: what was done is kept, and is answered again,N",
+        );
+    }
 }
 
 fn explain_port(rt: &HostRuntime, port: &str) {
@@ -141,6 +145,26 @@ fn explain_sheet(rt: &HostRuntime, sheet: &str, fault: ProgramFault) {
     say(rt, "roadlrs check DB SHEET says where, and what is wanted");
 }
 
+fn explain_questions(rt: &HostRuntime, sheet: &str, fault: ProgramFault) {
+    if matches!(fault, ProgramFault::BadHeader) {
+        say_of(
+            rt,
+            sheet,
+            "its first line is not the header of such a sheet; nothing was asked",
+        );
+    } else {
+        say_of(
+            rt,
+            sheet,
+            "a record has too few or too many fields; those before it are answered",
+        );
+    }
+    say(
+        rt,
+        "the header is key,question,a,b,c,d; mend the sheet and ask again",
+    );
+}
+
 /// Says on standard error what stands behind a fault of a job, and what to do about it.
 pub fn explain(rt: &HostRuntime, job: &Job<'_>, fault: ProgramFault) {
     let db = inventory_of(job).unwrap_or("");
@@ -156,8 +180,11 @@ pub fn explain(rt: &HostRuntime, job: &Job<'_>, fault: ProgramFault) {
                 "an earlier command was not written; start the program again",
             );
         }
-        ProgramFault::Read => explain_read(rt, sheet),
+        ProgramFault::Read => explain_read(rt, sheet, has_questions(job)),
         ProgramFault::Write => say(rt, "standard output, or the page's folder, took no more"),
+        ProgramFault::BadHeader | ProgramFault::BadCsv if has_questions(job) => {
+            explain_questions(rt, sheet, fault);
+        }
         ProgramFault::BadHeader | ProgramFault::BadCsv => explain_sheet(rt, sheet, fault),
         ProgramFault::Door => explain_port(rt, port_of(job).unwrap_or("")),
     }

@@ -133,6 +133,7 @@ pub(crate) fn inventory_of<'a>(job: &Job<'a>) -> Option<&'a str> {
         | Job::Totals { db }
         | Job::Lengths { db, .. }
         | Job::Find { db, .. }
+        | Job::Ask { db, .. }
         | Job::List { db, .. }
         | Job::Rows { db, .. }
         | Job::Gone { db, .. }
@@ -149,8 +150,14 @@ pub(crate) fn sheet_of<'a>(job: &Job<'a>) -> Option<&'a str> {
         Job::Edit { sheet, .. } | Job::Survey { sheet, .. } | Job::Check { sheet, .. } => {
             Some(sheet)
         }
+        Job::Ask { questions, .. } => Some(questions),
         _ => None,
     }
+}
+
+/// Whether a job's sheet is one of questions.
+pub(crate) fn has_questions(job: &Job<'_>) -> bool {
+    matches!(job, Job::Ask { .. })
 }
 
 /// The port of a job, if it serves.

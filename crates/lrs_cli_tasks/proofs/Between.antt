@@ -1,5 +1,5 @@
 -- A run of a sheet over a writer that is put before another and taken away again.
-use Rattle.std.proofs.Common.{◌≡◌, ◌∙◌, ℕ, List, ◌++◌, ◌∷◌, length, Option, Some, None, [], Result, Ok, Err, refl, ap, inl, inr, subst, sym}
+use Rattle.std.proofs.Common.{◌≡◌, ◌∙◌, ℕ, List, ◌++◌, length, Option, Some, None, [], Result, Ok, Err, refl, ap, inl, inr, subst, sym}
 use Rattle.std.specs.Prelude.{IfSome}
 use Rattle.std.specs.Io.KnownBytes.{Appends, Keeps}
 use Rattle.lrs_machine.specs.State.{State}
@@ -19,7 +19,7 @@ use Rattle.lrs_cli_tasks.specs.declared.sheets.Way.{Way}
 use Rattle.lrs_cli_tasks.specs.Sheets.{GoesOnOrBreaks, HasRun, together_at}
 
 -- bytes that are appended between two that are kept
-appends-between : (first old new last : Option (List ℕ)) (bytes : List ℕ) → Keeps first old → Keeps new last → Appends old new bytes → Appends first last bytes
+pub appends-between : (first old new last : Option (List ℕ)) (bytes : List ℕ) → Keeps first old → Keeps new last → Appends old new bytes → Appends first last bytes
 appends-between None old new last bytes kept keeps appends = tt
 appends-between (Some xs) None new last bytes kept keeps appends = absurd kept
 appends-between (Some xs) (Some ys) None last bytes kept keeps appends = absurd appends
@@ -34,7 +34,7 @@ keeps-itself (Some xs) = refl
 pub keeps-same : (first old : Option (List ℕ)) → old ≡ first → Keeps first old
 keeps-same first old same = subst (λ (o : Option (List ℕ)). Keeps first o) (sym same) (keeps-itself first)
 
-keeps-between : (first old new last : Option (List ℕ)) → Keeps first old → Keeps new last → Keeps old new → Keeps first last
+pub keeps-between : (first old new last : Option (List ℕ)) → Keeps first old → Keeps new last → Keeps old new → Keeps first last
 keeps-between None old new last kept keeps same = tt
 keeps-between (Some xs) None new last kept keeps same = absurd kept
 keeps-between (Some xs) (Some ys) None last kept keeps same = absurd same

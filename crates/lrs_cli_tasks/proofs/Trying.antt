@@ -1,11 +1,9 @@
 -- A sheet that is tried at a copy of an inventory, and one that is done on the empty inventory.
-use Rattle.std.proofs.Common.{◌≡◌, ◌∙◌, ◌⊎◌, ℕ, List, Option, Some, Result, Ok, Err, IfOk, IfErr, ap, refl, subst, sym, inl, inr}
+use Rattle.std.proofs.Common.{◌≡◌, ◌⊎◌, ℕ, List, Option, Some, Result, Ok, Err, IfOk, IfErr, refl, subst, inl, inr}
 use Rattle.lrs_measure.specs.Limits.{most_assets, most_edits, most_routes}
 use Rattle.lrs_machine.specs.Image.{nothing, state_of}
-use Rattle.lrs_machine.specs.Sound.{IsSound}
 use Rattle.lrs_machine.specs.declared.image.Image.{Image}
 use Rattle.lrs_machine.specs.declared.table.Table.{Table}
-use Rattle.lrs_image.specs.Keeping.{content_by, content_of}
 use Rattle.lrs_desk.specs.DeskView.{DeskView}
 use Rattle.lrs_sheet_records.specs.declared.sheet.Sheet.{Sheet}
 use Rattle.lrs_sheet.specs.Sheets.{RunsBehind, RunsEdits}

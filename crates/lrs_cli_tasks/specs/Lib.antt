@@ -6,6 +6,7 @@ pub mod Tasks
 pub mod Trials
 pub mod Listings
 pub mod Places
+pub mod QuestionSheets
 pub mod Lengths
 pub mod Reporting
 pub mod Auditing

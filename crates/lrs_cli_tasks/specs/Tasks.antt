@@ -25,6 +25,7 @@ inventory_of (job.Diagram db route classes from to) = Some db.now
 inventory_of (job.Totals db) = Some db.now
 inventory_of (job.Lengths db route) = Some db.now
 inventory_of (job.Find db asset) = Some db.now
+inventory_of (job.Ask db questions) = Some db.now
 inventory_of (job.List db what) = Some db.now
 inventory_of (job.Rows db route from to class asset) = Some db.now
 inventory_of (job.Gone db edit) = Some db.now
@@ -38,11 +39,12 @@ abbrev pub kind_checked : Bool → Sheet
 kind_checked true = Survey
 kind_checked false = Edits
 
--- `edit` does an edit sheet, `survey` a survey, `check` tries one, `audit` audits, `serve` serves where and how its words say, and every other job reports or asks what they say
+-- `edit` does an edit sheet, `survey` a survey, `check` tries one, `ask` answers a sheet of questions, `audit` audits, `serve` serves where and how its words say, and every other job reports or asks what they say
 abbrev pub IsWorkOf : Job → Work → Type 0
 IsWorkOf (job.Edit db sheet sums resume all) (work.Sheet kind from resumes whole) = (kind ≡ Edits) × (from.now ≡ sheet.now) × (resumes ≡ resume) × (whole ≡ all)
 IsWorkOf (job.Survey db sheet sums resume all) (work.Sheet kind from resumes whole) = (kind ≡ Survey) × (from.now ≡ sheet.now) × (resumes ≡ resume) × (whole ≡ all)
 IsWorkOf (job.Check db sheet survey) (work.Check kind from) = (kind ≡ kind_checked survey) × (from.now ≡ sheet.now)
+IsWorkOf (job.Ask db questions) (work.Questions from) = from.now ≡ questions.now
 IsWorkOf (job.Audit db) work.Audit = ⊤
 IsWorkOf (job.Serve db port max sums log end_on_fault) (work.Service service) = SaysService port.now max.now log end_on_fault service
 IsWorkOf j (work.Question question) = Asks j question

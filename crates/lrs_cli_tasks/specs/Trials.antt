@@ -1,5 +1,5 @@
 -- What a sheet is answered that is tried at a copy of an inventory, and how the program ends with it.
-use Rattle.std.specs.Prelude.{◌≡◌, ◌≢◌, ◌⊎◌, ⊤, ℕ, Bool, true, false, List, [], length, Option, Some, Result, Ok, Err}
+use Rattle.std.specs.Prelude.{◌≡◌, ◌⊎◌, ℕ, Bool, true, false, List, length, Option, Some, Result, Ok, Err}
 use Rattle.lrs_measure.specs.Limits.{most_assets, most_edits, most_routes}
 use Rattle.lrs_machine.specs.Image.{state_of}
 use Rattle.lrs_machine.specs.Lines.{Text}

@@ -201,10 +201,18 @@ fn pace_of_sent(of_file: Pace) -> Pace {
 }
 
 // Only a file has all its records already; on a pipe or a terminal they may come one by one.
-fn pace_of<R: Runtime<A = Global>>(rt: &R, sheet: &str, of_file: Pace) -> Pace {
+pub(crate) fn is_whole<R: Runtime<A = Global>>(rt: &R, sheet: &str) -> bool {
     match fs::metadata(rt, sheet) {
-        Ok(metadata) if metadata.is_file() => of_file,
-        _ => pace_of_sent(of_file),
+        Ok(metadata) => metadata.is_file(),
+        Err(_) => false,
+    }
+}
+
+fn pace_of<R: Runtime<A = Global>>(rt: &R, sheet: &str, of_file: Pace) -> Pace {
+    if is_whole(rt, sheet) {
+        of_file
+    } else {
+        pace_of_sent(of_file)
     }
 }
 

@@ -27,6 +27,10 @@ pub enum Work<'a> {
     },
     /// A question is answered.
     Question(Question),
+    /// A sheet of questions is read from `from`, and answered.
+    Questions {
+        from: &'a str,
+    },
     /// A report is printed.
     Report(Report),
     /// The log is done again in memory, and what it makes is compared with what is kept.
@@ -87,6 +91,7 @@ pub fn task_of<'a>(alloc: Global, job: &Job<'a>) -> Result<Task<'a>, QuestionFau
             ..
         } => (db, sheet_work(Sheet::Survey, sheet, *resume, *all)),
         Job::Check { db, sheet, survey } => (db, check_work(sheet, *survey)),
+        Job::Ask { db, questions } => (db, Work::Questions { from: questions }),
         Job::Audit { db } => (db, Work::Audit),
         Job::Serve {
             db,

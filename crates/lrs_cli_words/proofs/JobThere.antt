@@ -161,6 +161,7 @@ has_flags job.Lengths = record {
   short = short_help (rules_at job.Lengths) help_fills;
 }
 has_flags job.Find = record { long = without_options job.Find help_fills; short = short_help (rules_at job.Find) help_fills }
+has_flags job.Ask = record { long = without_options job.Ask help_fills; short = short_help (rules_at job.Ask) help_fills }
 has_flags job.List = record { long = without_options job.List help_fills; short = short_help (rules_at job.List) help_fills }
 has_flags job.Rows = record {
   long = long_among (rules_at job.Rows) row_options
@@ -226,6 +227,7 @@ none_lack job.Diagram = refl
 none_lack job.Totals = refl
 none_lack job.Lengths = refl
 none_lack job.Find = refl
+none_lack job.Ask = refl
 none_lack job.List = refl
 none_lack job.Rows = refl
 none_lack job.Gone = refl
@@ -246,6 +248,7 @@ none_missing job.Diagram rows e = missing_none _ e
 none_missing job.Totals rows e = missing_none _ e
 none_missing job.Lengths rows e = missing_none _ e
 none_missing job.Find rows e = missing_none _ e
+none_missing job.Ask rows e = missing_none _ e
 none_missing job.List rows e = missing_none _ e
 none_missing job.Rows rows e = missing_none _ e
 none_missing job.Gone rows e = missing_none _ e

@@ -113,13 +113,14 @@ pub record SaysService (at most : Text) (tells ends : Bool) (service : Service) 
 
 -- ---- questions
 
--- the job asks no question: it does or checks a sheet, reports, audits, serves, or writes the page
+-- the job asks no single question: it does or checks a sheet, answers a sheet of questions, reports, audits, serves, or writes the page
 abbrev pub AsksNothing : Job → Type 0
 AsksNothing (job.Edit db sheet sums resume all) = ⊤
 AsksNothing (job.Survey db sheet sums resume all) = ⊤
 AsksNothing (job.Check db sheet survey) = ⊤
 AsksNothing (job.Where db route chainage mm) = ⊤
 AsksNothing (job.Lengths db route) = ⊤
+AsksNothing (job.Ask db questions) = ⊤
 AsksNothing (job.List db what) = ⊤
 AsksNothing (job.Rows db route from to class asset) = ⊤
 AsksNothing (job.Gone db edit) = ⊤

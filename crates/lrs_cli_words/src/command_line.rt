@@ -11,12 +11,14 @@ use clap::Command;
 use std::alloc::{AllocError, Global};
 
 /// The version of the program, and the kit that proved it.
-static VERSION: &str = "0.7.0, proved by rattle-kit-13f logic dac8208d650f15bf";
+static VERSION: &str = "0.8.0, proved by rattle-kit-13f logic dac8208d650f15bf";
 
 // What help says of the words.
 const DB: &str = "The inventory's file, or :memory: for a fresh one in memory";
 
 const SHEET: &str = "The sheet's file, or stdin for the standard input";
+
+const QUESTIONS: &str = "The file of the questions, or stdin for the standard input";
 
 // What help says of the program, behind its commands.
 static GENERAL: &str = "Two options go with every command, anywhere after roadlrs:
@@ -127,6 +129,25 @@ refusal names them so: Malformed:a is asset, Malformed:i is offset.
 Replies: KEY,done,N or KEY,again,N or KEY,refused,CAUSE. See docs/SHEETS.md.
 
 Example: roadlrs survey roads.db found.csv";
+
+// What help says of the records of a sheet of questions.
+const ASKED: &str = "A record has a key, a question and its fields a to d, 6 fields in all:
+  at ROUTE METHOD POS            a position's place on its link, what is there
+  translate ROUTE METHOD POS TO  a position by another method or on its link
+  find ASSET                     where an asset is
+  segments ROUTE SIDE CLASSES    a route, divided where a value changes
+METHOD and POS: abs 3000, rel KM2+500 or int 1/3. TO: abs, int, rel:NAME, link.
+SIDE: L or R. CLASSES: exclusive classes, one space between two of them.
+Header: key,question,a,b,c,d
+Replies, in the order of the questions:
+  KEY,place,ROUTE,MM,LINK,MM,DIRECTION,N  and N lines KEY,hit
+  KEY,position,ROUTE,METHOD,POS
+  KEY,found,N                             and N lines KEY,row
+  KEY,segments,ROUTE,SIDE,N               and N lines KEY,segment
+  KEY,refused,CAUSE
+It changes nothing. See docs/SHEETS.md.
+
+Example: roadlrs ask roads.db questions.csv";
 
 static EDIT: Line = Line {
     name: "edit",
@@ -263,6 +284,17 @@ static FIND: Line = Line {
     parts: &[Part::Required("DB", DB), Part::Required("ASSET", ASSET)],
 };
 
+static ASK: Line = Line {
+    name: "ask",
+    about: "Answers a sheet of questions",
+    example: ASKED,
+    usage: None,
+    parts: &[
+        Part::Required("DB", DB),
+        Part::Required("QUESTIONS", QUESTIONS),
+    ],
+};
+
 static LIST: Line = Line {
     name: "list",
     about: "Lists the routes, links, classes or referents as CSV",
@@ -353,6 +385,7 @@ fn line_in_table(job: JobName) -> &'static Line
         JobName::Totals => &TOTALS,
         JobName::Lengths => &LENGTHS,
         JobName::Find => &FIND,
+        JobName::Ask => &ASK,
         JobName::List => &LIST,
         JobName::Rows => &ROWS,
         JobName::Gone => &GONE,
@@ -418,6 +451,7 @@ pub(crate) fn program<'a>(alloc: Global) -> Result<Command<'a>, AllocError>
             JobName::Totals,
             JobName::Lengths,
             JobName::Find,
+            JobName::Ask,
             JobName::List,
             JobName::Rows,
             JobName::Gone,

@@ -18,6 +18,7 @@ pub enum JobName {
     Totals,
     Lengths,
     Find,
+    Ask,
     List,
     Rows,
     Gone,
@@ -107,6 +108,11 @@ pub enum Job<'a> {
         db: &'a str,
         asset: &'a str,
     },
+    /// Answers the questions of the sheet `questions`.
+    Ask {
+        db: &'a str,
+        questions: &'a str,
+    },
     /// Lists all of one kind: routes, links, classes or referents.
     List {
         db: &'a str,
@@ -168,6 +174,7 @@ pub fn new_has_sums(job: &Job<'_>) -> bool
         | Job::Totals { .. }
         | Job::Lengths { .. }
         | Job::Find { .. }
+        | Job::Ask { .. }
         | Job::List { .. }
         | Job::Rows { .. }
         | Job::Gone { .. }
@@ -194,6 +201,7 @@ pub(crate) fn read_job(name: &str) -> Option<JobName>
         "totals" => Some(JobName::Totals),
         "lengths" => Some(JobName::Lengths),
         "find" => Some(JobName::Find),
+        "ask" => Some(JobName::Ask),
         "list" => Some(JobName::List),
         "rows" => Some(JobName::Rows),
         "gone" => Some(JobName::Gone),

@@ -338,7 +338,8 @@ pub fn service_of(
     })
 }
 
-/// What a job asks of its inventory; none where it does or checks a sheet, reports, serves, or writes the page.
+/// What a job asks of its inventory; none where it does or checks a sheet, answers a sheet of questions, reports, serves,
+/// or writes the page.
 ///
 /// # Errors
 /// The first word that cannot be read, and `Memory`.
@@ -353,6 +354,7 @@ pub fn question_of(alloc: Global, job: &Job<'_>) -> Result<Option<Question>, Que
         | Job::Check { .. }
         | Job::Where { .. }
         | Job::Lengths { .. }
+        | Job::Ask { .. }
         | Job::List { .. }
         | Job::Rows { .. }
         | Job::Gone { .. }

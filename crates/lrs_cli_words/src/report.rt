@@ -211,8 +211,8 @@ fn log_of(from: Option<&str>, key: Option<&str>) -> Result<Listing, QuestionFaul
     }
 }
 
-/// What a job reports of its inventory; none where it asks a question, does or checks a sheet, audits,
-/// serves, or writes the page.
+/// What a job reports of its inventory; none where it asks a question or a sheet of them, does or checks a sheet,
+/// audits, serves, or writes the page.
 ///
 /// # Errors
 /// The first word that cannot be read.
@@ -249,6 +249,7 @@ pub fn report_of(job: &Job<'_>) -> Result<Option<Report>, QuestionFault>
         | Job::Diagram { .. }
         | Job::Totals { .. }
         | Job::Find { .. }
+        | Job::Ask { .. }
         | Job::Audit { .. }
         | Job::Serve { .. }
         | Job::Page { .. } => return Ok(None),

@@ -289,6 +289,16 @@ fn find_job<'a>(given: &ArgMatches<'a>) -> Job<'a>
     Job::Find { db, asset }
 }
 
+fn ask_job<'a>(given: &ArgMatches<'a>) -> Job<'a>
+    requires { AreGiven (rules_of JobName.Ask) (rows_of (found_of given.now)) }
+    ensures name { job_name result ≡ JobName.Ask }
+    ensures words { HasWords result (rows_of (found_of given.now)) }
+{
+    let db = given_word(given, "DB");
+    let questions = given_word(given, "QUESTIONS");
+    Job::Ask { db, questions }
+}
+
 fn list_job<'a>(given: &ArgMatches<'a>) -> Job<'a>
     requires { AreGiven (rules_of JobName.List) (rows_of (found_of given.now)) }
     ensures name { job_name result ≡ JobName.List }
@@ -398,6 +408,7 @@ fn job_with<'a>(alloc: Global, name: JobName, given: &ArgMatches<'a>) -> Result<
         JobName::Totals => Ok(totals_job(given)),
         JobName::Lengths => Ok(lengths_job(given)),
         JobName::Find => Ok(find_job(given)),
+        JobName::Ask => Ok(ask_job(given)),
         JobName::List => Ok(list_job(given)),
         JobName::Rows => Ok(rows_job(given)),
         JobName::Gone => Ok(gone_job(given)),

@@ -1,4 +1,4 @@
-use Rattle.std.proofs.Common.{◌≡◌, ◌∙◌, Ok, Result, refl, subst, sym}
+use Rattle.std.proofs.Common.{◌≡◌, ◌∙◌, Result, refl, subst, sym}
 use Rattle.std.specs.Prelude.{IfOk}
 use Rattle.lrs_machine.specs.declared.image.Image.{Image}
 use Rattle.lrs_machine.specs.declared.table.Table.{Table}

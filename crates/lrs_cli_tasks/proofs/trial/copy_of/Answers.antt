@@ -1,5 +1,4 @@
-use Rattle.std.proofs.Common.{◌∙◌, ap, subst}
-use Rattle.lrs_machine.specs.Sound.{IsSound}
+use Rattle.std.proofs.Common.{◌∙◌, ap}
 use Rattle.lrs_image.specs.Keeping.{content_by, content_of}
 use Rattle.lrs_image_plain.specs.Plain.{PlainView}
 use Rattle.lrs_cli_tasks.proofs.trial.copy_of.Goals as goal
