@@ -1,5 +1,6 @@
 -- Whatever ends a sheet or a request, commands were done in order.
-use Rattle.std.proofs.Common.{◌≡◌, ◌⊎◌, inl, inr, ℕ, Bool, true, false, List, [], ◌++◌, take, Option, Some, Result, Ok, Err, sym, ap, subst, ◌∙◌}
+use Rattle.std.specs.Prelude.{MatchOption}
+use Rattle.std.proofs.Common.{◌≡◌, ◌⊎◌, inl, inr, ℕ, Bool, true, false, List, [], ◌++◌, take, Option, Some, None, Result, Ok, Err, sym, ap, subst, ◌∙◌}
 use Rattle.lrs_machine.specs.Image.{state_of}
 use Rattle.lrs_machine.specs.Lines.{Text}
 use Rattle.lrs_machine.specs.Machine.{state_after}
@@ -19,7 +20,9 @@ use Rattle.lrs_sheet.specs.declared.reply.Reply.{Reply}
 use Rattle.lrs_sheet.specs.declared.reply.Tally.{Tally}
 use Rattle.lrs_web_requests.specs.Request.{Asked, refused, not_allowed, query, sheet as posted}
 use Rattle.lrs_web_requests.specs.Text.{Answer}
+use Rattle.lrs_web.specs.Questions.{AnswersQuestions}
 use Rattle.lrs_web.specs.Serving.{Does, sheet_at}
+use Rattle.lrs_web.specs.Sheets.{DoesSheet}
 use Rattle.lrs_promises.proofs.Given.{answered, not_begun, state_both}
 
 -- nothing was done
@@ -64,12 +67,18 @@ module _ {K : Type 0} (holds : K → Result Image Table → Type 0) (old new : D
   same_after : new ≡ old → IsAfterCommands old.limits (state_of old.image) (state_of new.image)
   same_after same = none_after old.limits (state_of old.image) (state_of new.image) (ap (λ (d : DeskView K). state_of d.image) same)
 
-  -- what a request asks for is some commands in order
+  -- what is posted is some commands in order
+  posted_after : (kind : Option Sheet) (resumes : Bool) (body : Text) (answer : Answer) → MatchOption kind (AnswersQuestions body old answer new) (λ k. DoesSheet holds k resumes body old answer new)
+      → IsAfterCommands old.limits (state_of old.image) (state_of new.image)
+  posted_after None resumes body answer (same, told, ahead) = same_after same
+  posted_after (Some kind) false body answer (ended, lines, run, is) =
+      runs_after [] kind records_together old.limits body (state_of old.image) (state_of new.image) (Some []) (Some lines) ended run.runs
+  posted_after (Some kind) true body answer (ended, lines, run, is) =
+      resumes_after old.must_reopen kind records_together old.limits body (state_of old.image) (state_of new.image) (Some []) (Some lines) ended run.runs
+
+  -- so is what a request asks for
   pub does_after : (asked : Asked) (answer : Answer) → Does holds asked old answer new → IsAfterCommands old.limits (state_of old.image) (state_of new.image)
   does_after (refused status) answer does = same_after does.0
   does_after (not_allowed verb) answer does = same_after does.0
   does_after (query resource argument) answer does = same_after does.0
-  does_after (posted resource false body) answer (ended, lines, run, is) =
-      runs_after [] (sheet_at resource) records_together old.limits body (state_of old.image) (state_of new.image) (Some []) (Some lines) ended run.runs
-  does_after (posted resource true body) answer (ended, lines, run, is) =
-      resumes_after old.must_reopen (sheet_at resource) records_together old.limits body (state_of old.image) (state_of new.image) (Some []) (Some lines) ended run.runs
+  does_after (posted resource resumes body) answer does = posted_after (sheet_at resource) resumes body answer does

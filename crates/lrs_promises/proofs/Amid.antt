@@ -1,5 +1,6 @@
 -- What is left of a keeper, whatever ends a sheet or a request.
-use Rattle.std.proofs.Common.{◌≡◌, ◌⊎◌, inl, inr, ℕ, true, false, List, [], ◌++◌, take, Option, Some, None, Result, Ok, Err, IfOk, IfSome, refl, sym, ap, subst, ◌∙◌}
+use Rattle.std.specs.Prelude.{MatchOption}
+use Rattle.std.proofs.Common.{◌≡◌, ◌⊎◌, inl, inr, ℕ, Bool, true, false, List, [], ◌++◌, take, Option, Some, None, Result, Ok, Err, IfOk, IfSome, refl, sym, ap, subst, ◌∙◌}
 use Rattle.lrs_machine.specs.Image.{state_of}
 use Rattle.lrs_machine.specs.Lines.{Text}
 use Rattle.lrs_machine.specs.Machine.{state_after}
@@ -17,7 +18,9 @@ use Rattle.lrs_sheet.specs.declared.reply.Tally.{Tally}
 use Rattle.lrs_sheet.proofs.Done.{stays}
 use Rattle.lrs_web_requests.specs.Request.{Asked, refused, not_allowed, query, sheet as posted}
 use Rattle.lrs_web_requests.specs.Text.{Answer}
-use Rattle.lrs_web.specs.Serving.{Does, Serves, Writes, sheet_at}
+use Rattle.lrs_web.specs.Questions.{AnswersQuestions}
+use Rattle.lrs_web.specs.Serving.{Does, Responds, Serves, Writes, sheet_at}
+use Rattle.lrs_web.specs.Sheets.{DoesSheet}
 use Rattle.lrs_web.specs.declared.request.WebFault.{WebFault}
 use Rattle.lrs_web.specs.declared.request.WebFault.TheVariants as web
 use Rattle.lrs_promises.specs.Headline.{SheetLeft}
@@ -65,34 +68,43 @@ module _ {K : Type 0} (holds : K → Result Image Table → Type 0) (old new : D
   sheet_keeps (Err (fault.Desk stop.MustReopen)) desk found = inl desk.0
   sheet_keeps (Err (fault.Desk stop.Keep)) desk found = inr (record { desk = desk; found = found refl })
 
+  posted_keeps : (kind : Option Sheet) (resumes : Bool) (body : Text) (answer : Answer) → MatchOption kind (AnswersQuestions body old answer new) (λ k. DoesSheet holds k resumes body old answer new) → Kept
+  posted_keeps None resumes body answer (same, told, ahead) = same_keeps same
+  posted_keeps (Some kind) false body answer (ended, lines, run, is) = sheet_keeps ended run.desk (λ e c may.
+      amid [] kind records_together old.limits body (state_of old.image) (state_of new.image) (Some []) (Some lines) c (run.broken e c may))
+  posted_keeps (Some kind) true body answer (ended, lines, run, is) = sheet_keeps ended run.desk (λ e c may.
+      let (d, passed, decided, breaks) = run.broken e c may in
+      amid passed kind records_together old.limits body (state_of old.image) (state_of new.image) (Some []) (Some lines) c breaks)
+
   does_keeps : (asked : Asked) (answer : Answer) → Does holds asked old answer new → Kept
   does_keeps (refused status) answer does = same_keeps does.0
   does_keeps (not_allowed verb) answer does = same_keeps does.0
   does_keeps (query resource argument) answer does = same_keeps does.0
-  does_keeps (posted resource false body) answer (ended, lines, run, is) = sheet_keeps ended run.desk (λ e c may.
-      amid [] (sheet_at resource) records_together old.limits body (state_of old.image) (state_of new.image) (Some []) (Some lines) c (run.broken e c may))
-  does_keeps (posted resource true body) answer (ended, lines, run, is) = sheet_keeps ended run.desk (λ e c may.
-      let (d, passed, decided, breaks) = run.broken e c may in
-      amid passed (sheet_at resource) records_together old.limits body (state_of old.image) (state_of new.image) (Some []) (Some lines) c breaks)
-
-  served_so : (input before after : Option Text) (result : Result ℕ WebFault)
-      → IfOk result (λ status. (answer : Answer) × Writes before after status answer × IfSome input (λ bytes. Serves holds bytes old answer new))
-      → IfOk result (λ status. IfSome input (λ bytes. (answer : Answer) × (status ≡ answer.status) × Serves holds bytes old answer new))
-  served_so None before after (Ok status) served = tt
-  served_so (Some bytes) before after (Ok status) (answer, (is, writes), serves) = (answer, is, serves)
-  served_so input before after (Err e) served = tt
+  does_keeps (posted resource resumes body) answer does = posted_keeps (sheet_at resource) resumes body answer does
 
   pub request_leaves : (input before after : Option Text) (result : Result ℕ WebFault)
       → IfOk result (λ status. (answer : Answer) × Writes before after status answer × IfSome input (λ bytes. Serves holds bytes old answer new))
+      → IfOk result (λ status. (asked : Asked) × (answer : Answer) × Writes before after status answer × Responds holds asked old answer new)
       → (result ≡ Err web.Write → IfSome input (λ bytes. (answer : Answer) × Serves holds bytes old answer new)) → (result ≡ Err web.Read → new ≡ old)
-      → (asked : Asked) × (due : Answer) × Does holds asked old due new → RequestLeaves holds input old new result
-  request_leaves input before after result served write read (asked, due, does) = record {
+      → (asked : Asked) × (due : Answer) × Does holds asked old due new → RequestLeaves holds input before after old new result
+  request_leaves input before after result served replied write read (asked, due, does) = record {
     commands = does_after holds old new asked due does;
     desk = does_keeps asked due does;
     unread = read;
-    served = served_so input before after result served;
+    replied = replied;
+    served = served;
     unwritten = write;
   }
+
+  -- the same over bytes that are there as a whole, and a writer that was given nothing
+  pub request_left : (bytes none reply : Text) (result : Result ℕ WebFault) → none ≡ []
+      → IfOk result (λ status. (answer : Answer) × Writes (Some none) (Some reply) status answer × Serves holds bytes old answer new)
+      → IfOk result (λ status. (asked : Asked) × (answer : Answer) × Writes (Some none) (Some reply) status answer × Responds holds asked old answer new)
+      → (result ≡ Err web.Write → (answer : Answer) × Serves holds bytes old answer new) → (result ≡ Err web.Read → new ≡ old)
+      → (asked : Asked) × (due : Answer) × Does holds asked old due new → RequestLeaves holds (Some bytes) (Some []) (Some reply) old new result
+  request_left bytes none reply result empty served replied write read left =
+      subst (λ (text : Text). RequestLeaves holds (Some bytes) (Some text) (Some reply) old new result) empty
+      (request_leaves (Some bytes) (Some none) (Some reply) result served replied write read left)
 
   -- a sheet that ended in a fault, by what its run says
   pub sheet_left : (sheet : Sheet) (input none lines : Text) (ended : SheetFault) (result : Result Tally SheetFault) → result ≡ Err ended → none ≡ []

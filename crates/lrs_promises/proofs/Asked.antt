@@ -453,6 +453,7 @@ module _ (query : Text) (one two : Answer) (served : one.status ≡ 503 → ⊥)
       state_alike path.Where read = absurd (false≢true read)
       state_alike path.Edits read = absurd (false≢true read)
       state_alike path.Surveys read = absurd (false≢true read)
+      state_alike path.Questions read = absurd (false≢true read)
 
   module _ (i : Image) where
     rows_alike : AnswersAsked i path.Rows query one → AnswersAsked i path.Rows query two → one ≡ two
@@ -506,3 +507,4 @@ module _ (query : Text) (one two : Answer) (served : one.status ≡ 503 → ⊥)
     image_alike path.Where read = where_alike
     image_alike path.Edits read = absurd (false≢true read)
     image_alike path.Surveys read = absurd (false≢true read)
+    image_alike path.Questions read = absurd (false≢true read)

@@ -1,5 +1,6 @@
 -- Equal bytes and equal states give equal bytes and equal states.
-use Rattle.std.proofs.Common.{◌≡◌, ◌⊎◌, inl, inr, ℕ, true, false, List, [], ◌∷◌, ◌++◌, length, append-nil, Some, None, Result, Ok, Err, refl, sym, ap, subst, ◌∙◌}
+use Rattle.std.specs.Prelude.{MatchOption}
+use Rattle.std.proofs.Common.{◌≡◌, ◌⊎◌, inl, inr, ℕ, Bool, true, false, List, [], ◌∷◌, ◌++◌, length, append-nil, Option, Some, None, Result, Ok, Err, refl, sym, ap, subst, ◌∙◌}
 use Rattle.std.specs.List.{AllByRecursion}
 use Rattle.std.proofs.lemmas.Bool.{false≢true}
 use Rattle.csv.specs.Machine.{next_record}
@@ -28,8 +29,9 @@ use Rattle.lrs_sheet.proofs.Resuming.{no_first, one_first}
 use Rattle.lrs_web_requests.specs.Request.{Asked, refused, not_allowed, query, sheet as posted}
 use Rattle.lrs_web_requests.specs.Text.{Answer, answer_text, empty_answer}
 use Rattle.lrs_web.specs.Asked.{AnswersAsked}
+use Rattle.lrs_web.specs.Questions.{AnswersQuestions}
 use Rattle.lrs_web.specs.Serving.{Does, sheet_at}
-use Rattle.lrs_web.specs.Sheets.{IsAnswerAfter, answer_after}
+use Rattle.lrs_web.specs.Sheets.{DoesSheet, IsAnswerAfter, answer_after}
 use Rattle.lrs_promises.specs.Calls.{Did, is_decided}
 use Rattle.lrs_promises.specs.Determined.{CallsEndAlike, EndAlike, IsCallOfState, IsOfImage, IsOfState, IsQuestion, QuestionsEndAlike, SheetsEndAlike, StandAlike}
 use Rattle.lrs_promises.specs.declared.calls.Call.{Call}
@@ -228,6 +230,23 @@ answered_so P answer served (inl told) = told
 answered_so P answer served (inr none) = absurd (served (ap (λ (a : Answer). a.status) none))
 
 module _ {K J : Type 0} (holds : K → Result Image Table → Type 0) (has : J → Result Image Table → Type 0) where
+  posted_alike : (kind : Option Sheet) (resumes : Bool) (body : Text) (one two : Answer) (old new : DeskView K) (before after : DeskView J) → (kind ≡ None → ⊥) → resumes ≡ false → StandAlike old before
+      → MatchOption kind (AnswersQuestions body old one new) (λ k. DoesSheet holds k resumes body old one new) → (one.status ≡ 503 → ⊥)
+      → MatchOption kind (AnswersQuestions body before two after) (λ k. DoesSheet has k resumes body before two after) → (two.status ≡ 503 → ⊥)
+      → Alike (answer_text one) (answer_text two) (state_of new.image) (state_of after.image)
+  posted_alike None resumes body one two old new before after some entire stand did served done also = absurd (some refl)
+  posted_alike (Some kind) true body one two old new before after some entire stand did served done also = absurd (false≢true (sym entire))
+  posted_alike (Some kind) false body one two old new before after some entire stand (ended, lines, run, is) served (end, more, running, too) also =
+      let d = answer_decided ended lines one is served in
+      let e = answer_decided end more two too also in
+      let runs = coe 0 1 (k. Runs kind records_together (stand.limits k) body (stand.state k) (state_of new.image) (Some []) (Some lines) ended) run.runs in
+      let h = sheets_end_alike kind records_together records_together before.limits body (state_of before.image) (state_of new.image) (state_of after.image) [] lines [] more ended end d e runs running.runs in
+      let lines_are : lines ≡ more = h.one ∙ sym h.same in
+      record {
+        wrote = ap answer_text (answer_of_end ended lines one is served ∙ (λ i. answer_after (h.ends i) (lines_are i)) ∙ sym (answer_of_end end more two too also));
+        state = h.state;
+      }
+
   asked_alike : (asked : Asked) (one two : Answer) (old new : DeskView K) (before after : DeskView J) → IsOfState asked → StandAlike old before
       → Does holds asked old one new → (one.status ≡ 503 → ⊥) → Does has asked before two after → (two.status ≡ 503 → ⊥) → Alike (answer_text one) (answer_text two) (state_of new.image) (state_of after.image)
   asked_alike (refused status) one two old new before after posts stand did served done also = record {
@@ -242,17 +261,8 @@ module _ {K J : Type 0} (holds : K → Result Image Table → Type 0) (has : J �
     wrote = ap answer_text (state_alike argument one two served also old.image before.image stand.state resource read (answered_so _ one served did.1) (answered_so _ two also done.1));
     state = ap (λ (d : DeskView K). state_of d.image) did.0 ∙ stand.state ∙ sym (ap (λ (d : DeskView J). state_of d.image) done.0);
   }
-  asked_alike (posted resource true body) one two old new before after posts stand did served done also = absurd (false≢true (sym posts))
-  asked_alike (posted resource false body) one two old new before after posts stand (ended, lines, run, is) served (end, more, running, too) also =
-      let d = answer_decided ended lines one is served in
-      let e = answer_decided end more two too also in
-      let runs = coe 0 1 (k. Runs (sheet_at resource) records_together (stand.limits k) body (stand.state k) (state_of new.image) (Some []) (Some lines) ended) run.runs in
-      let h = sheets_end_alike (sheet_at resource) records_together records_together before.limits body (state_of before.image) (state_of new.image) (state_of after.image) [] lines [] more ended end d e runs running.runs in
-      let lines_are : lines ≡ more = h.one ∙ sym h.same in
-      record {
-        wrote = ap answer_text (answer_of_end ended lines one is served ∙ (λ i. answer_after (h.ends i) (lines_are i)) ∙ sym (answer_of_end end more two too also));
-        state = h.state;
-      }
+  asked_alike (posted resource resumes body) one two old new before after (some, entire) stand did served done also =
+      posted_alike (sheet_at resource) resumes body one two old new before after some entire stand did served done also
 
   sheet_alike : (sheet : Sheet) (input text other : Text) (old new : DeskView K) (before after : DeskView J) (ended end : Result Tally SheetFault) → StandAlike old before → is_decided ended ≡ true → is_decided end ≡ true
       → Runs sheet 1 old.limits input (state_of old.image) (state_of new.image) (Some []) (Some text) ended → Runs sheet 1 before.limits input (state_of before.image) (state_of after.image) (Some []) (Some other) end

@@ -1,5 +1,5 @@
 -- A list of calls, of edit sheets, surveys and requests, mixed: what each reads, writes and leaves of a desk, and which commands it gives.
-use Rattle.std.specs.Prelude.{◌≡◌, ◌⊎◌, Bool, true, false, List, [], ◌∷◌, ◌++◌, length, Some, Result, Ok, Err}
+use Rattle.std.specs.Prelude.{◌≡◌, ◌⊎◌, Bool, true, false, List, [], ◌∷◌, ◌++◌, length, Option, Some, None, Result, Ok, Err}
 use Rattle.lrs_machine.specs.Image.{state_of}
 use Rattle.lrs_machine.specs.Lines.{Text}
 use Rattle.lrs_machine.specs.Machine.{Record, state_after}
@@ -79,13 +79,18 @@ GivesBehind passed sheet input commands = (records : List (List Text)) × HasRec
 abbrev pub GivesRest : Sheet → Text → State → List Record → Type 0
 GivesRest sheet input s commands = (d : Decided) × (passed : List (List Text)) × IsDecidedBy sheet s input d passed × GivesBehind passed sheet input commands
 
--- A request gives the commands of the sheet that it posts, and any other one gives none.
+-- What is posted gives the commands of a sheet of this kind; questions, which are of no kind, give none.
+abbrev pub GivesPosted : Option Sheet → Bool → Text → State → List Record → Type 0
+GivesPosted None resumes body s commands = commands ≡ []
+GivesPosted (Some kind) false body s commands = GivesBehind [] kind body commands
+GivesPosted (Some kind) true body s commands = GivesRest kind body s commands
+
+-- A request gives the commands of what it posts, and any other one gives none.
 abbrev pub GivesAsked : Asked → State → List Record → Type 0
 GivesAsked (refused status) s commands = commands ≡ []
 GivesAsked (not_allowed verb) s commands = commands ≡ []
 GivesAsked (query resource argument) s commands = commands ≡ []
-GivesAsked (posted resource false body) s commands = GivesBehind [] (sheet_at resource) body commands
-GivesAsked (posted resource true body) s commands = GivesRest (sheet_at resource) body s commands
+GivesAsked (posted resource resumes body) s commands = GivesPosted (sheet_at resource) resumes body s commands
 
 -- The commands that a call gives, in a state.
 abbrev pub Gives : Call → State → List Record → Type 0

@@ -1,5 +1,5 @@
 -- Equal bytes and equal states give equal bytes and equal states.
-use Rattle.std.specs.Prelude.{◌≡◌, ℕ, Bool, true, false, ◌++◌, List, [], ◌∷◌, Some, Result, ⊤}
+use Rattle.std.specs.Prelude.{◌≡◌, ℕ, Bool, true, false, ◌++◌, List, [], ◌∷◌, Some, None, Result, ⊤}
 use Rattle.lrs_machine.specs.Image.{state_of}
 use Rattle.lrs_machine.specs.Lines.{Text}
 use Rattle.lrs_machine.specs.State.{State}
@@ -14,6 +14,7 @@ use Rattle.lrs_sheet.specs.declared.reply.Tally.{Tally}
 use Rattle.lrs_web_requests.specs.declared.paths.Resource.{Resource}
 use Rattle.lrs_web_requests.specs.declared.paths.Resource.TheVariants as path
 use Rattle.lrs_web_requests.specs.Request.{Asked, Asks, refused, not_allowed, query, sheet as posted}
+use Rattle.lrs_web.specs.Serving.{sheet_at}
 use Rattle.lrs_promises.specs.declared.calls.Call.{Call}
 use Rattle.lrs_promises.specs.declared.calls.Call.TheVariants as call
 use Rattle.lrs_promises.specs.Calls.{DidAll, is_decided}
@@ -58,14 +59,14 @@ is_of_image path.Gone = true
 is_of_image path.Where = true
 is_of_image resource = is_of_state resource
 
--- whether a request asks for nothing but what is read off the state and what changes it: it is refused, asks for the one, or posts a sheet from its first record on
+-- whether a request asks for nothing but what is read off the state and what changes it: it is refused, asks for the one, or posts a sheet from its first record on; one that posts questions does not pass
 abbrev pub IsOfState : Asked → Type 0
 IsOfState (refused status) = ⊤
 IsOfState (not_allowed verb) = ⊤
 IsOfState (query resource argument) = is_of_state resource ≡ true
-IsOfState (posted resource resumes body) = resumes ≡ false
+IsOfState (posted resource resumes body) = (sheet_at resource ≡ None → ⊥) × (resumes ≡ false)
 
--- whether a request asks for nothing but what is read off the image, or is refused
+-- whether a request asks for nothing but what is read off the image, or is refused; one that posts questions does not pass
 abbrev pub IsOfImage : Asked → Type 0
 IsOfImage (refused status) = ⊤
 IsOfImage (not_allowed verb) = ⊤

@@ -109,7 +109,8 @@ pub record SheetLeft {K : Type 0} (holds : K → Result Image Table → Type 0) 
 pub record RequestLeft {K : Type 0} (holds : K → Result Image Table → Type 0) (input : Text) (fault : CallFault) (old new : DeskView K) : Type 0 where
   pub ended : Result ℕ WebFault
   pub is : ((ended ≡ Ok 503) × (fault ≡ why.Unavailable)) ⊎ ((e : WebFault) × (ended ≡ Err e) × (fault ≡ why.Web e))
-  pub left : RequestLeaves holds (Some input) old new ended
+  pub reply : Text
+  pub left : RequestLeaves holds (Some input) (Some []) (Some reply) old new ended
 
 -- What a call left of a desk that ended so.
 abbrev pub Left : {K : Type 0} → (K → Result Image Table → Type 0) → Call → CallFault → DeskView K → DeskView K → Type 0

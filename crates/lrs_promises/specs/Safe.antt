@@ -19,8 +19,9 @@ use Rattle.lrs_sheet.specs.Sheets.{BreaksOff, GoesAlong, IsAfterCommands, Leaves
 use Rattle.lrs_sheet.specs.declared.fault.SheetFault.{SheetFault}
 use Rattle.lrs_sheet.specs.declared.fault.SheetFault.TheVariants as fault
 use Rattle.lrs_sheet.specs.declared.reply.Tally.{Tally}
+use Rattle.lrs_web_requests.specs.Request.{Asked}
 use Rattle.lrs_web_requests.specs.Text.{Answer as Reply}
-use Rattle.lrs_web.specs.Serving.{Serves}
+use Rattle.lrs_web.specs.Serving.{Responds, Serves, Writes}
 use Rattle.lrs_web.specs.declared.request.WebFault.{WebFault}
 use Rattle.lrs_web.specs.declared.request.WebFault.TheVariants as web
 
@@ -86,14 +87,16 @@ pub record HasFailedAmid {K : Type 0} (holds : K → Result Image Table → Type
   pub desk : MustReopen old new
   pub found : (c : Result Image Table) → holds new.keeper c → StandsAmid old.limits (state_of old.image) (state_of new.image) c
 
--- What a request leaves of a desk, however it ends, from what the reader tells that it has.
-pub record RequestLeaves {K : Type 0} (holds : K → Result Image Table → Type 0) (input : Option Text) (old new : DeskView K) (result : Result ℕ WebFault) : Type 0 where
+-- What a request leaves of a desk, however it ends, from what the reader tells that it has and what the writer tells that it was given.
+pub record RequestLeaves {K : Type 0} (holds : K → Result Image Table → Type 0) (input written text : Option Text) (old new : DeskView K) (result : Result ℕ WebFault) : Type 0 where
   -- some commands were done in order
   pub commands : IsAfterCommands old.limits (state_of old.image) (state_of new.image)
   -- the keeper goes along, unless a commit failed
   pub desk : GoesAlong holds old new ⊎ HasFailedAmid holds old new
   -- of one that was not read nothing was done
   pub unread : result ≡ Err web.Read → new ≡ old
-  -- where the reader tells its bytes, what they ask for was done, or for want of memory nothing
-  pub served : IfOk result (λ status. IfSome input (λ bytes. (reply : Reply) × (status ≡ reply.status) × Serves holds bytes old reply new))
+  -- the reply to some request is written, with this status
+  pub replied : IfOk result (λ status. (asked : Asked) × (reply : Reply) × Writes written text status reply × Responds holds asked old reply new)
+  -- where the reader tells its bytes, it is the reply to what they ask for, which was done, or for want of memory nothing
+  pub served : IfOk result (λ status. (reply : Reply) × Writes written text status reply × IfSome input (λ bytes. Serves holds bytes old reply new))
   pub unwritten : result ≡ Err web.Write → IfSome input (λ bytes. (reply : Reply) × Serves holds bytes old reply new)

@@ -42,7 +42,8 @@ pub fn sheet<R: Read + Drop, W: Write, K: Keeper>(
 }
 
 /// Serves a request, as `serve_one` does. Whatever ends it, over any reader and writer, commands were done in order, and the
-/// keeper goes along unless a commit failed; a request that was not read has changed nothing.
+/// keeper goes along unless a commit failed; a request that was not read has changed nothing, and of one that is answered a
+/// reply is written.
 ///
 /// # Errors
 /// Those of `serve_one`.
@@ -52,7 +53,8 @@ pub fn request<R: Read, W: Write, K: Keeper>(
     writer: &mut W,
     desk: &mut Desk<K>,
 ) -> Result<u16, WebFault>
-    ensures { RequestLeaves K.may_hold (R.remaining reader.old) desk.old desk.new result }
+    ensures { RequestLeaves K.may_hold (R.remaining reader.old) (W.contents writer.old)
+        (W.contents writer.new) desk.old desk.new result }
 {
     serve_one(alloc, reader, writer, desk)
 }
