@@ -24,6 +24,8 @@ import sys
 import tempfile
 import time
 
+from country_asked import by_a_script, by_a_sheet, call_of
+from country_runs import Run, of_process
 from country_table import Table, put_latencies
 from files import BUILT, HEADER, Postgres, sync_of
 
@@ -155,32 +157,6 @@ ON_MAP = f"""
 PREPARE at_abs (text, float8) AS WITH p AS MATERIALIZED (SELECT ST_LocateAlong(line, $2) AS g FROM road WHERE name = $1) {NEAR};
 PREPARE at_rel (text, text, bigint) AS WITH p AS MATERIALIZED (SELECT ST_LineInterpolatePoint(line, (place + $3)::float8 / length) AS g FROM road JOIN ref ON route = $1 AND ref.name = $2 WHERE road.name = $1) {NEAR};
 """
-
-
-class Run:
-    """A run of the program to its end: the seconds of the clock and the processor, the most memory, what it wrote, and its replies."""
-
-    def __init__(self, words, replies):
-        started, self.memory, self.written, done = time.monotonic(), 0, 0, 0
-        with open(replies, "wb") as out:
-            child = subprocess.Popen(list(map(str, words)), stdout=out, stdin=subprocess.DEVNULL)
-        while not done:
-            self.memory = max(self.memory, of_process(child.pid, "status", "VmHWM") / 1_000)
-            self.written = max(self.written, of_process(child.pid, "io", "write_bytes") / 1_000_000)
-            time.sleep(min(0.05, max(0.002, (time.monotonic() - started) / 100)))
-            done, status, used = os.wait4(child.pid, os.WNOHANG)
-        child.returncode = self.status = os.waitstatus_to_exitcode(status)
-        self.clock, self.processor = time.monotonic() - started, used.ru_utime + used.ru_stime
-        self.replies = pathlib.Path(replies).read_bytes()
-
-
-def of_process(pid, file, name):
-    """A number that the system keeps of a process, or 0 once it has ended."""
-    try:
-        lines = pathlib.Path(f"/proc/{pid}/{file}").read_text().splitlines()
-    except OSError:
-        return 0
-    return next((int(line.split()[1]) for line in lines if line.startswith(name + ":")), 0)
 
 
 def load(program, folder, database, sheets, what, table):
@@ -394,22 +370,6 @@ def copied(folder, table, name=None):
     return f"\\copy {name or table} from '{folder}/peers/{table}'\n"
 
 
-def call_of(kind, words):
-    """A question as the call of a prepared statement."""
-    given = words.split()[2:]
-    if kind in ("at", "translate"):
-        route, method, position = given[:3]
-        if method == "abs":
-            return f"EXECUTE {kind}_abs('{route}', {position})"
-        name, sign, distance = position.replace("+", " + ").replace("-", " - ").split()
-        return f"EXECUTE {kind}_rel('{route}', '{name}', {sign}{distance})"
-    if kind == "find":
-        return f"EXECUTE find({given[0]})"
-    if kind == "totals":
-        return "EXECUTE totals"
-    return f"EXECUTE {kind}('{given[0]}', {SIDES.index(given[1])}::smallint, '{{{','.join(given[2:])}}}')"
-
-
 def one_of_each(questions):
     return {kind: words for kind, _, words in reversed(questions)}
 
@@ -529,11 +489,13 @@ def measure_peers(folder, room, program, questions, answers, table):
         made = "".join(f"CREATE TABLE {name} ({columns});\n" for name, columns in TABLES.items())
         cluster.load("roads", made + "".join(copied(folder, name) for name in TABLES) + KEYS, "PostgreSQL", folder, table)
         ask_postgres(cluster, questions, answers, table)
+        by_a_script(cluster, "roads", "PostgreSQL", PREPARED, questions, table)
         single_edits_of_theirs(cluster, folder, table)
         compare_totals(cluster, program, room / "mixed.db", room / "replies")
         raw = copied(folder, "road") + copied(folder, "ref") + copied(folder, "asset", "raw_asset") + copied(folder, "span", "raw_span")
         cluster.load("map", ROADS + raw + LOCATED, "PostGIS", folder, table)
         ask_postgis(cluster, questions, answers, table)
+        by_a_script(cluster, "map", "PostGIS", ON_MAP, questions, table)
     finally:
         cluster.stop()
 
@@ -571,6 +533,7 @@ def measure_in(room, folder, program, without_postgres, edits, table):
     table.put("size of the file", "roadlrs", database.stat().st_size / 1e6, "MB")
     by_commands(program, database, questions, room / "replies", table)
     answers = served(program, database, questions, table)
+    by_a_sheet(program, database, questions, answers, table)
     shutil.copy(database, other)
     single_edits_of_ours(program, folder, other, table)
     if not without_postgres:

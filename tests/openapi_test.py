@@ -104,7 +104,7 @@ def test_another_method_is_refused(port, path, method, said):
     assert status == "405", (path, status)
 
 
-@pytest.mark.parametrize("path", ["/v1/edits", "/v1/surveys"])
+@pytest.mark.parametrize("path", ["/v1/edits", "/v1/surveys", "/v1/questions"])
 def test_sheets_are_as_the_file_says(port, path):
     said = API["paths"][path]["post"]
     header = said["requestBody"]["content"]["text/csv"]["example"].encode()

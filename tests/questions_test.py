@@ -27,6 +27,7 @@ EXAMPLES = {
     "totals": ("totals roads.db", 0, None),
     "lengths": ("lengths roads.db --route A1", 1, "NoRoute"),
     "find": ("find roads.db 10", 1, "NoAsset"),
+    "ask": ("ask roads.db questions.csv", 3, "fault Read"),
     "list": ("list roads.db routes", 0, None),
     "rows": ("rows roads.db --route A1 --class SPEED", 1, "NoRoute"),
     "gone": ("gone roads.db --edit 17", 1, "NoEdit"),
@@ -156,4 +157,4 @@ def test_help_names_each_command():
 def test_the_version_names_the_kit_that_proved_it():
     kit = re.search(r"Proved with the kit `([^`]+)`", (TOP / "README.md").read_text()).group(1)
     for word in ["--version", "-V"]:
-        ends(run(word), f"roadlrs 0.7.0, proved by {kit}\n".encode(), 0)
+        ends(run(word), f"roadlrs 0.8.0, proved by {kit}\n".encode(), 0)

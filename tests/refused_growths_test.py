@@ -42,7 +42,7 @@ def test_courses_and_marks_bear_a_refused_growth():
 
 
 def test_a_sheet_of_all_verbs_bears_a_refused_growth():
-    assert refused_calls("lrs_sheet_tests") >= {"run_sheet"}
+    assert refused_calls("lrs_web_tests", "sheet_memory") >= {"run_sheet"}
 
 
 def test_deciding_soundness_bears_a_refused_growth():

@@ -147,6 +147,37 @@ def test_a_survey_that_cannot_be_read_or_answered():
     at_each_read_and_write("WRITE", "Write", "survey", SURVEY, refused)
 
 
+QUESTIONS = b"""key,question,a,b,c,d
+q1,at,A1,abs,3000,
+q2,translate,A1,int,1/3,link
+q3,find,10,,,
+q4,segments,A1,L,SPEED,
+q5,find,11,,,
+"""
+ANSWERS = lines("q1,place,A1,2500,1,2500,+,1", "q1,hit,10,SPEED,B,0,80,8", "q2,position,A1,link,1:8000/3", "q3,found,1", "q3,row,A1,2500,8000,B",
+                "q4,segments,A1,L,2", "q4,segment,0,2500,-", "q4,segment,2500,8000,80", "q5,refused,NoAsset")
+
+
+@pytest.mark.parametrize("source", ["stdin", "questions.csv"])
+@pytest.mark.parametrize("kind, faults", [("ALLOCATION", {"Memory", "Open"}), ("READ", {"Read", "Open"}), ("WRITE", {"Write"})])
+def test_questions_of_a_file_with_each_call_refused(tmp_path, source, kind, faults):
+    """The answers that went out are the first ones; the file stays as it is."""
+    first, sheet = tmp_path / "first.db", tmp_path / "questions.csv"
+    make(first, "e1,enter,10,SPEED,A1,B,abs,3000,9000,80,0")
+    made = first.read_bytes()
+    sheet.write_bytes(QUESTIONS)
+
+    def test(refusal):
+        path = tmp_path / f"{refusal.number}.db"
+        path.write_bytes(made)
+        ended = refusal.run(BUILT, "ask", path, "stdin" if source == "stdin" else sheet, given=QUESTIONS)
+        is_answered_in_part(ended, ANSWERS, 1, faults)
+        assert path.read_bytes() == made
+        path.unlink()
+
+    assert with_each_refused(kind, test) > 0
+
+
 @pytest.mark.parametrize("kind, faults", [("READ", {"Read", "Open"}), ("WRITE", {"Open", "Keep", "MustReopen", "Write"})])
 def test_a_survey_over_a_file_that_fails(kind, faults):
     """Each read or write fails in turn, of the survey, of the replies or of the store; then the same survey is done."""

@@ -53,7 +53,7 @@ def test_paths_that_begin_with_a_dash(name, tmp_path):
     ends(run("edit", ":memory:", f"./{name}", cwd=tmp_path), FIRST_REPLIES, 0)
 
 
-@pytest.mark.parametrize("job", ["edit", "survey", "check"])
+@pytest.mark.parametrize("job", ["edit", "survey", "check", "ask"])
 def test_a_dash_is_no_name_for_the_standard_input(job, tmp_path):
     said = b"hint: standard input is written stdin\nroadlrs: fault Read\n"
     ends(run(job, ":memory:", "--", "-", given=FIRST, cwd=tmp_path), b"", 3, said)
@@ -174,7 +174,7 @@ def test_sums_that_are_not_understood(words):
     is_misused(run(*words, given=FIRST))
 
 
-NAMES_OF_JOBS = ["edit", "survey", "check", "serve", "at", "where", "translate", "strip", "diagram", "totals", "lengths", "find", "list", "rows", "gone", "log", "audit", "page"]
+NAMES_OF_JOBS = ["edit", "survey", "check", "serve", "at", "where", "translate", "strip", "diagram", "totals", "lengths", "find", "ask", "list", "rows", "gone", "log", "audit", "page"]
 
 
 OPTIONS = {
