@@ -28,7 +28,7 @@ ASKED = [
     ("q2,at,A1,rel,KM2+5000,", ["q2,place,A1,5002,2,2997,-,1", "q2,hit,10,SPEED,B,0,80,8"]),
     ("q3,at,A1,int,1/1000,", ["q3,place,A1,8,1,8,+,2", "q3,hit,11,RAIL,L,600,W-beam,9", "q3,hit,13,SURFACE,L,0,AC14,13"]),
     ("q4,translate,A1,int,1/3,abs", ["q4,position,A1,abs,3200"]),
-    ("q5,translate,A1,abs,3000,rel:KM2", ["q5,position,A1,rel,KM2+4995/2"]),
+    ("q5,translate,A1,abs,3000,rel:KM2", ["q5,position,A1,rel,KM2+2498"]),
     ("q6,translate,A1,abs,3000,int", ["q6,position,A1,int,5/16"]),
     ("q7,translate,A1,abs,3000,link", ["q7,position,A1,link,1:2500"]),
     ("q8,find,10,,,", ["q8,found,1", "q8,row,A1,2500,8000,B"]),
