@@ -161,7 +161,7 @@ ANSWERS = lines("q1,place,A1,2500,1,2500,+,1", "q1,hit,10,SPEED,B,0,80,8", "q2,p
 @pytest.mark.parametrize("source", ["stdin", "questions.csv"])
 @pytest.mark.parametrize("kind, faults", [("ALLOCATION", {"Memory", "Open"}), ("READ", {"Read", "Open"}), ("WRITE", {"Write"})])
 def test_questions_of_a_file_with_each_call_refused(tmp_path, source, kind, faults):
-    """The answers that went out are the first ones; the file stays as it is."""
+    """The answers that went out are the first ones; the file stays as it is. Of the many allocations of an opening one in 61 is refused."""
     first, sheet = tmp_path / "first.db", tmp_path / "questions.csv"
     make(first, "e1,enter,10,SPEED,A1,B,abs,3000,9000,80,0")
     made = first.read_bytes()
@@ -175,7 +175,7 @@ def test_questions_of_a_file_with_each_call_refused(tmp_path, source, kind, faul
         assert path.read_bytes() == made
         path.unlink()
 
-    assert with_each_refused(kind, test) > 0
+    assert with_each_refused(kind, test, step=61 if kind == "ALLOCATION" else 1) > 0
 
 
 @pytest.mark.parametrize("kind, faults", [("READ", {"Read", "Open"}), ("WRITE", {"Open", "Keep", "MustReopen", "Write"})])
