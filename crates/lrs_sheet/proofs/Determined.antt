@@ -17,7 +17,7 @@ use Rattle.lrs_sheet_records.proofs.OneCommand.{one-command, one-malformed, well
 use Rattle.lrs_sheet.specs.declared.reply.Reply.{Reply}
 use Rattle.lrs_sheet.specs.Laws.{IsOneReply, Outcome, SheetDeterminesReply}
 use Rattle.lrs_sheet_records.specs.Records.{text_at, place_of}
-use Rattle.lrs_sheet_records.specs.Verbs.{all_verbs}
+use Rattle.lrs_sheet_records.specs.Verbs.{all_verbs, shapes_of}
 use Rattle.lrs_sheet_records.specs.declared.sheet.Sheet.{Sheet}
 use Rattle.lrs_sheet_records.specs.Kinds.{edit_record}
 use Rattle.lrs_sheet.specs.Replies.{IsAnswered, IsReplied, Replied, lines_of, tally_of}
@@ -53,7 +53,7 @@ one-answer limits before after other fields a b (inl (key, command, says, answer
     let moved : step limits key command before ≡ step limits key' command' before = λ i. step limits (keys i) (same i) before in
     (answer ∙ ap (λ o. o.answer) moved ∙ sym answer', state ∙ ap (λ o. o.state) moved ∙ sym state')
 one-answer limits before after other fields a b (inr (field, first, answer, state)) (inr (field', first', answer', state')) =
-    let same = one-malformed all_verbs fields field field' first first' in
+    let same = one-malformed all_verbs shapes_of fields field field' first first' in
     (answer ∙ ap (λ (f : Field). Refused (Malformed f)) same ∙ sym answer', state ∙ sym state')
 one-answer limits before after other fields a b (inl (key, command, says, answer, state)) (inr (field, first, answer', state')) =
     absurd (first.malformed (well-formed all_verbs fields key command says (place_of field)))

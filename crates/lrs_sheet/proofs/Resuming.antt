@@ -62,9 +62,14 @@ nothing_searched sheet rem rows s d plain width is = record {
   gave = gave-none rem rows;
   number = ap (λ (d : Decided). d.records) is;
   last = rw is refl;
+  wide = tt;
   none = tt;
   in_turn = refl;
 }
+
+all_front : (P : List Text → Type 0) (front behind : List (List Text)) → AllByRecursion P (front ++ behind) → AllByRecursion P front
+all_front P [] behind all = tt
+all_front P (r ∷ rs) behind all = (all.0, all_front P rs behind all.1)
 
 module _ {R : Type 0} (sheet : Sheet) (rem : R → Option Text) (first now next : Reader R) (s : State) (d : Decided) (turns : ℕ) (h : HasSearched sheet rem first now s d turns)
     (fields : List Text) (plain : IsPlain next) (width : expected_len next ≡ Some (length fields)) (wide : length fields ≡ width_of sheet) (gave : Gave rem now next (fields ∷ [])) where
@@ -83,6 +88,7 @@ module _ {R : Type 0} (sheet : Sheet) (rem : R → Option Text) (first now next 
         gave = rw (append-nil ((h.decided ++ h.others) ++ fields ∷ [])) (gave-more rem first now next (h.decided ++ h.others) (fields ∷ []) h.gave gave);
         number = ap (λ (d : Decided). d.records) is ∙ sym size;
         last = rw is (h.decided ++ h.others, fields, refl, edit);
+        wide = rw (append-nil ((h.decided ++ h.others) ++ fields ∷ [])) (one_more_none (λ (r : List Text). length r ≡ width_of sheet) (h.decided ++ h.others) fields h.wide wide);
         none = tt;
         in_turn = (omega (arith, size));
       }
@@ -97,6 +103,7 @@ module _ {R : Type 0} (sheet : Sheet) (rem : R → Option Text) (first now next 
     gave = rw (← append_assoc h.decided h.others (fields ∷ [])) (gave-more rem first now next (h.decided ++ h.others) (fields ∷ []) h.gave gave);
     number = h.number;
     last = h.last;
+    wide = rw (← append_assoc h.decided h.others (fields ∷ [])) (one_more_none (λ (r : List Text). length r ≡ width_of sheet) (h.decided ++ h.others) fields h.wide wide);
     none = one_more_none (IsNoEdit sheet s) h.others fields h.none none;
     in_turn = (let all = length-append h.others (fields ∷ []) in omega (arith, all, h.in_turn));
   }
@@ -150,7 +157,7 @@ module _ (cfg : Config) where
       behind_front first.place s1 s2 first.rest y1 y2 rs a b first.one first.other
 
   -- what begins a reading is a reading
-  reached_front : (s s2 : Place) (xs y : Text) (front behind : List (List Text)) → Reached cfg s xs (front ++ behind) s2 y → (mid : Place) × (rest : Text) × Reached cfg s xs front mid rest
+  pub reached_front : (s s2 : Place) (xs y : Text) (front behind : List (List Text)) → Reached cfg s xs (front ++ behind) s2 y → (mid : Place) × (rest : Text) × Reached cfg s xs front mid rest
   unfolding Reached
   reached_front s s2 xs y [] behind h = (s, xs, (refl, refl))
   reached_front s s2 xs y (r ∷ rs) behind (p, next, is, more) =
@@ -211,6 +218,7 @@ found_decided sheet rem next s input d fields has (last, turns, w, ends) = (
   record {
     number = w.number;
     at_front = inr (fields, stands sheet rem next last s input d fields has turns w);
+    wide = all_front (λ (r : List Text). length r ≡ width_of sheet) w.decided w.others w.wide;
     last = w.last;
     others = λ header others is begins wide. by ends header others begins wide;
   },
@@ -239,6 +247,7 @@ none_of_empty sheet rem rows (Some input) s start ends = (
   record {
     number = refl;
     at_front = inl refl;
+    wide = tt;
     last = refl;
     others = λ header others is begins wide. absurd (no_first input header others begins (ends input [] start));
   },
@@ -253,6 +262,7 @@ none_of_other sheet rem rows next (Some input) s fields start gave other = (
   record {
     number = refl;
     at_front = inl refl;
+    wide = tt;
     last = refl;
     others = λ header others is begins wide. absurd (another header others is begins (gave input [] start));
   },

@@ -39,6 +39,7 @@ EndInEdit sheet s records (Some key) = (front : List (List Text)) × (last : Lis
 pub record IsDecidedBy (sheet : Sheet) (s : State) (input : Text) (d : Decided) (records : List (List Text)) : Type 0 where
   pub number : d.records ≡ length records
   pub at_front : StandAtFront input records
+  pub wide : HaveWidth sheet records
   pub last : EndInEdit sheet s records d.key
   -- whatever the sheet goes on with, none of it is an edit
   pub others : (header : List Text) (others : List (List Text)) → IsHeader sheet header → BeginsWith input (header ∷ (records ++ others)) → HaveWidth sheet others → AllByRecursion (IsNoEdit sheet s) others
@@ -86,6 +87,7 @@ pub record HasSearched {R : Type 0} (sheet : Sheet) (remaining : R → Option Te
   pub gave : Gave remaining first now (decided ++ others)
   pub number : d.records ≡ length decided
   pub last : EndInEdit sheet s decided d.key
+  pub wide : HaveWidth sheet (decided ++ others)
   pub none : AllByRecursion (IsNoEdit sheet s) others
   pub in_turn : length decided + length others ≡ turns
 

@@ -1,45 +1,27 @@
 -- Records that ask questions.
-use Rattle.std.proofs.Common.{Ok, Err, Result, sym, ◌≡◌, ℕ, zero, suc, ◌≤◌, ◌<◌, ◌+◌, ◌∙◌, List, length, arith, inl, inr, Some}
-use Rattle.std.specs.Prelude.{slice_get, Contains, IsTrue}
+use Rattle.std.proofs.Common.{Ok, Err, Result, sym, ◌≡◌, ℕ, ◌≤◌, ◌∙◌, List, length, inl, inr, Some}
+use Rattle.std.specs.Prelude.{Contains, IsTrue}
 use Rattle.lrs_measure.specs.Texts.{Name}
 use Rattle.lrs_machine.specs.Keys.{is_key}
 use Rattle.lrs_machine.specs.Lines.{Text}
 use Rattle.lrs_machine.specs.declared.answer.Field.{Field}
 use Rattle.lrs_machine.specs.declared.question.Destination.{Destination}
 use Rattle.lrs_machine.specs.declared.question.Question.{Question}
-use Rattle.lrs_sheet_records.proofs.Misfits.{misfit-at}
+use Rattle.lrs_sheet_records.proofs.Misfits.{misfit-malformed, unknown-malformed}
 use Rattle.lrs_sheet_records.proofs.Said.{classes-said, destination-said}
 use Rattle.lrs_sheet_records.specs.declared.fault.ReadFault.{ReadFault}
 use Rattle.lrs_sheet_records.specs.declared.fault.ReadFault.TheVariants as fault
-use Rattle.lrs_sheet_records.specs.Fields.{FirstMisfit, ReadsAsked, ReadsQuestion}
-use Rattle.lrs_sheet_records.specs.Questions.{FirstMalformedQuestion, IsWellFormedQuestion, RefusesQuestion, all_questions, question_shapes}
-use Rattle.lrs_sheet_records.specs.Records.{place_of, text_at, texts_of}
+use Rattle.lrs_sheet_records.specs.Fields.{ReadsAsked, ReadsQuestion}
+use Rattle.lrs_sheet_records.specs.Questions.{RefusesQuestion, all_questions, question_shapes}
+use Rattle.lrs_sheet_records.specs.Records.{place_of, text_at}
 use Rattle.lrs_sheet_records.specs.Shapes.{ClassNames, DestinationName, Fits, IsReachable, destination_text}
 use Rattle.lrs_sheet_records.specs.Words.{AreSaid, IsClassWord, words_of}
-
--- where the key and the name are well formed, the first misfit is the first malformed field
-misfit-asked : (fields : List (List ℕ)) (m : ℕ) → IsTrue (is_key (text_at fields 0)) → Contains all_questions (text_at fields 1)
-    → FirstMisfit fields 2 (question_shapes (text_at fields 1)) m → FirstMalformedQuestion fields m
-misfit-asked fields m key known h =
-    let (j, e, bad, earlier) = misfit-at fields 2 (question_shapes (text_at fields 1)) m h in
-    let at : m ≡ suc (suc j) = omega arith in
-    rw at (record { malformed = bad; earlier = before j earlier })
-  where
-    before : (j : ℕ) → ((i : ℕ) → i < j → Fits (texts_of fields) (slice_get (question_shapes (text_at fields 1)) i) (text_at fields (2 + i)))
-        → (i : ℕ) → i < suc (suc j) → IsWellFormedQuestion fields i
-    before j earlier zero below = key
-    before j earlier (suc zero) below = known
-    before j earlier (suc (suc i)) below = earlier i (omega arith)
 
 -- a fault of the fields after a well formed key
 pub refuses-asked : (fields : List (List ℕ)) (e : ReadFault) → IsTrue (is_key (text_at fields 0)) → ReadsQuestion fields (Err e) → RefusesQuestion fields e
 refuses-asked fields fault.Memory key reads = tt
-refuses-asked fields (fault.Field at) key (inl (is, unknown)) = rw is (record { malformed = unknown; earlier = λ i below. first i below })
-  where
-    first : (i : ℕ) → i < 1 → IsWellFormedQuestion fields i
-    first zero below = key
-    first (suc i) below = absurd (omega arith)
-refuses-asked fields (fault.Field at) key (inr (known, misfit)) = misfit-asked fields (place_of at) key known misfit
+refuses-asked fields (fault.Field at) key (inl (is, unknown)) = rw is (unknown-malformed all_questions question_shapes fields key unknown)
+refuses-asked fields (fault.Field at) key (inr (known, misfit)) = misfit-malformed all_questions question_shapes fields (place_of at) key known misfit
 
 -- the fields of a question that there is
 pub reads-question : (fields : List (List ℕ)) (name : List ℕ) (result : Result Question ReadFault) → Contains all_questions name → text_at fields 1 ≡ name → ReadsAsked fields name result → ReadsQuestion fields result

@@ -1,5 +1,5 @@
 -- Each record says a command or has a first malformed field.
-use Rattle.std.proofs.Common.{◌≡◌, ◌⊎◌, ℕ, zero, suc, List, [], ◌∷◌, Option, Some, None, true, false, Bool, refl, sym, subst, arith, inl, inr}
+use Rattle.std.proofs.Common.{◌≡◌, ◌⊎◌, ℕ, zero, suc, List, [], ◌∷◌, Option, Some, None, true, refl, sym, subst, arith, inl, inr}
 use Rattle.std.specs.Prelude.{Contains, codes, map, nat_le, if◌then◌else◌}
 use Rattle.std.specs.Str.Parse.{digits_value}
 use Rattle.std.proofs.lemmas.Bool.{and_from}
@@ -18,7 +18,7 @@ use Rattle.lrs_machine.specs.declared.command.NewAsset.{NewAsset}
 use Rattle.lrs_machine.specs.declared.command.Command.{Command}
 use Rattle.lrs_machine.specs.declared.command.Command.TheVariants as verb
 use Rattle.lrs_sheet_records.proofs.Deciding.{argument_in, at-most, expression_in, mark_in, piece_in}
-use Rattle.lrs_sheet_records.proofs.Judging.{arguments_in, fitting-say, is_among, among, malformed_in, malformed-from, misfit_in, says-from}
+use Rattle.lrs_sheet_records.proofs.Judging.{arguments_in, fitting-say, is_among, among, malformed_in, malformed-from, misfit_in, none-malformed, says-from}
 use Rattle.lrs_sheet_records.proofs.OneArgument.{kind_from, method_from, side_from}
 use Rattle.lrs_sheet_records.proofs.OneCommand.{one-command, one-place, well-formed}
 use Rattle.lrs_sheet_records.specs.Laws.{RecordsAreJudged}
@@ -28,7 +28,7 @@ use Rattle.lrs_sheet_records.specs.Verbs.{all_verbs, arguments_of, new_asset_arg
 use Rattle.lrs_sheet_records.specs.Words.{SaysNumber, words_of}
 
 -- what is read by a method is of the method
-read-method : (m : Method) (text : Text) → m ≡ method_of (expression_in m text)
+pub read-method : (m : Method) (text : Text) → m ≡ method_of (expression_in m text)
 read-method method.Abs text = refl
 read-method method.Rel text = refl
 read-method method.Int text = refl
@@ -125,22 +125,14 @@ each-judged : (names row : List Text) → ((name : Text) → Contains names name
     → ((key : Text) × (command : Command) × SaysAmong names row key command) ⊎ ((place : ℕ) × FirstMalformedAmong names row place)
 each-judged names row known = elim (malformed_in names row)
     as (λ o. malformed_in names row ≡ o → ((key : Text) × (command : Command) × SaysAmong names row key command) ⊎ ((place : ℕ) × FirstMalformedAmong names row place)) [
-      | None ↦ λ e. let parts = none-malformed e in inl (judged names row known parts.0 parts.1 parts.2)
+      | None ↦ λ e. let parts = none-malformed names shapes_of row e in inl (judged names row known parts.0 parts.1 parts.2)
       | Some place ↦ λ e. inr (place, malformed-from names row place e)
     ] refl
-  where
-    none-malformed : malformed_in names row ≡ None → (is_key (text_at row 0) ≡ true) × (is_among names (text_at row 1) ≡ true) × (misfit_in row 2 (shapes_of (text_at row 1)) ≡ None)
-    none-malformed e = both (is_key (text_at row 0)) (is_among names (text_at row 1)) (misfit_in row 2 (shapes_of (text_at row 1))) e
-      where
-        both : (a b : Bool) (o : Option ℕ) → (if a then (if b then o else Some 1) else Some 0) ≡ None → (a ≡ true) × (b ≡ true) × (o ≡ None)
-        both true true o e = (refl, refl, e)
-        both true false o e = absurd (cc e)
-        both false b o e = absurd (cc e)
 
 pub records_are_judged : RecordsAreJudged
 records_are_judged = record {
   some = each-judged;
   one_command = one-command;
-  one_field = one-place;
+  one_field = λ names fields place other h g. one-place names shapes_of fields place other h g;
   not_both = λ names row key command place says first. first.malformed (well-formed names row key command says place);
 }

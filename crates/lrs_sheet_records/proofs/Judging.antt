@@ -11,9 +11,9 @@ use Rattle.lrs_machine.specs.Keys.{is_key}
 use Rattle.lrs_machine.specs.Lines.{Text}
 use Rattle.lrs_machine.specs.declared.command.Command.{Command}
 use Rattle.lrs_sheet_records.proofs.Deciding.{argument_in, fits, fits-says, says-fits}
-use Rattle.lrs_sheet_records.proofs.Misfits.{misfit-malformed}
+use Rattle.lrs_sheet_records.proofs.Misfits.{misfit-malformed, unknown-malformed}
 use Rattle.lrs_sheet_records.specs.Fields.{FirstMisfit}
-use Rattle.lrs_sheet_records.specs.Records.{FirstMalformedAmong, IsWellFormedAmong, SayAll, SaysAmong, text_at, texts_of}
+use Rattle.lrs_sheet_records.specs.Records.{FirstMalformedAmong, FirstMalformedBy, SayAll, SaysAmong, text_at, texts_of}
 use Rattle.lrs_sheet_records.specs.Shapes.{Argument, Shape}
 use Rattle.lrs_sheet_records.specs.Verbs.{IsVerb, all_verbs, arguments_of, laying_verbs, shapes_of, verb_of, working_verbs}
 
@@ -37,9 +37,12 @@ abbrev pub is_among : List Text → Text → Bool
 is_among names name = list_any (bytes_eq name) names
 
 -- the place of the first malformed field
+abbrev pub malformed_by : List Text → (Text → List Shape) → List Text → Option ℕ
+malformed_by names shapes fields =
+    if is_key (text_at fields 0) then (if is_among names (text_at fields 1) then misfit_in fields 2 (shapes (text_at fields 1)) else Some 1) else Some 0
+
 abbrev pub malformed_in : List Text → List Text → Option ℕ
-malformed_in names fields =
-    if is_key (text_at fields 0) then (if is_among names (text_at fields 1) then misfit_in fields 2 (shapes_of (text_at fields 1)) else Some 1) else Some 0
+malformed_in names = malformed_by names shapes_of
 
 -- fields from a place on
 text_at-drop : (fields : List Text) (place i : ℕ) → text_at (drop place fields) i ≡ text_at fields (place + i)
@@ -121,28 +124,37 @@ among-is (other ∷ names) name (suc k, below, is) = or-later (bytes_eq name oth
     or-later true b h = refl
     or-later false b h = h
 
--- The malformed field that is computed is the first.
-pub malformed-from : (names fields : List Text) (m : ℕ) → malformed_in names fields ≡ Some m → FirstMalformedAmong names fields m
-malformed-from names fields m h = elim (is_key (text_at fields 0))
-    as (λ t. is_key (text_at fields 0) ≡ t → (if t then (if is_among names (text_at fields 1) then misfit_in fields 2 (shapes_of (text_at fields 1)) else Some 1) else Some 0) ≡ Some m → FirstMalformedAmong names fields m) [
-      | true ↦ λ key later. behind-key key later
-      | false ↦ λ e now.
-          let same : m ≡ 0 = cc in
-          rw same (record { malformed = λ key. false≢true (sym e ∙ key); earlier = λ i below. absurd (omega (arith, below)) })
-    ] refl h
-  where
-    first : is_key (text_at fields 0) ≡ true → (i : ℕ) → i < 1 → IsWellFormedAmong names fields i
-    first key zero below = key
-    first key (suc i) below = absurd (omega (arith, below))
+module _ (names : List Text) (shapes : Text → List Shape) (fields : List Text) where
+  -- The malformed field that is computed is the first.
+  pub malformed-by : (m : ℕ) → malformed_by names shapes fields ≡ Some m → FirstMalformedBy names shapes fields m
+  malformed-by m h = elim (is_key (text_at fields 0))
+      as (λ t. is_key (text_at fields 0) ≡ t → (if t then (if is_among names (text_at fields 1) then misfit_in fields 2 (shapes (text_at fields 1)) else Some 1) else Some 0) ≡ Some m → FirstMalformedBy names shapes fields m) [
+        | true ↦ λ key later. behind-key key later
+        | false ↦ λ e now.
+            let same : m ≡ 0 = cc in
+            rw same (record { malformed = λ key. false≢true (sym e ∙ key); earlier = λ i below. absurd (omega (arith, below)) })
+      ] refl h
+    where
+      behind-key : is_key (text_at fields 0) ≡ true → (if is_among names (text_at fields 1) then misfit_in fields 2 (shapes (text_at fields 1)) else Some 1) ≡ Some m → FirstMalformedBy names shapes fields m
+      behind-key key h = elim (is_among names (text_at fields 1))
+          as (λ t. is_among names (text_at fields 1) ≡ t → (if t then misfit_in fields 2 (shapes (text_at fields 1)) else Some 1) ≡ Some m → FirstMalformedBy names shapes fields m) [
+            | true ↦ λ known later. misfit-malformed names shapes fields m key (among names (text_at fields 1) known) (misfit-from fields 2 (shapes (text_at fields 1)) m later)
+            | false ↦ λ e now.
+                let same : m ≡ 1 = cc in
+                rw same (unknown-malformed names shapes fields key (λ known. false≢true (sym e ∙ among-is names (text_at fields 1) known)))
+          ] refl h
 
-    behind-key : is_key (text_at fields 0) ≡ true → (if is_among names (text_at fields 1) then misfit_in fields 2 (shapes_of (text_at fields 1)) else Some 1) ≡ Some m → FirstMalformedAmong names fields m
-    behind-key key h = elim (is_among names (text_at fields 1))
-        as (λ t. is_among names (text_at fields 1) ≡ t → (if t then misfit_in fields 2 (shapes_of (text_at fields 1)) else Some 1) ≡ Some m → FirstMalformedAmong names fields m) [
-          | true ↦ λ known later. misfit-malformed names fields m key (among names (text_at fields 1) known) (misfit-from fields 2 (shapes_of (text_at fields 1)) m later)
-          | false ↦ λ e now.
-              let same : m ≡ 1 = cc in
-              rw same (record { malformed = λ known. false≢true (sym e ∙ among-is names (text_at fields 1) known); earlier = first key })
-        ] refl h
+  -- Where none is computed, the key and the name are well formed, and what is behind them fits.
+  pub none-malformed : malformed_by names shapes fields ≡ None → (is_key (text_at fields 0) ≡ true) × (is_among names (text_at fields 1) ≡ true) × (misfit_in fields 2 (shapes (text_at fields 1)) ≡ None)
+  none-malformed e = both (is_key (text_at fields 0)) (is_among names (text_at fields 1)) (misfit_in fields 2 (shapes (text_at fields 1))) e
+    where
+      both : (a b : Bool) (o : Option ℕ) → (if a then (if b then o else Some 1) else Some 0) ≡ None → (a ≡ true) × (b ≡ true) × (o ≡ None)
+      both true true o e = (refl, refl, e)
+      both true false o e = absurd (cc e)
+      both false b o e = absurd (cc e)
+
+pub malformed-from : (names fields : List Text) (m : ℕ) → malformed_in names fields ≡ Some m → FirstMalformedAmong names fields m
+malformed-from names = malformed-by names shapes_of
 
 -- Where no field is malformed, the record says the command of its verb and of its arguments.
 pub says-from : (names fields : List Text) (key : Text) (command : Command) → is_key (text_at fields 0) ≡ true → key ≡ text_at fields 0 → is_among names (text_at fields 1) ≡ true → text_at fields 1 ≡ verb_of command

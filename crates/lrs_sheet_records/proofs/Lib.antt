@@ -11,5 +11,6 @@ pub mod Judging
 pub mod HeaderFields
 pub mod OneCommand
 pub mod Complete
+pub mod OneQuestion
 pub mod Readers
 pub mod Asked

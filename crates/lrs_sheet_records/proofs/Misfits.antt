@@ -3,7 +3,7 @@ use Rattle.std.proofs.Common.{Ok, Err, Result, ◌∙◌, Option, ◌-◌, sym, 
 use Rattle.std.specs.Prelude.{slice_get, Contains, IsTrue}
 use Rattle.std.specs.List.{AllByRecursion}
 use Rattle.csv.specs.Records.{field_at}
-use Rattle.lrs_sheet_records.specs.Records.{FirstMalformedAmong, IsWellFormedAmong, Refuses, place_of, text_at, texts_of}
+use Rattle.lrs_sheet_records.specs.Records.{FirstMalformedBy, IsWellFormedBy, Refuses, place_of, text_at, texts_of}
 use Rattle.lrs_sheet_records.specs.Shapes.{Fits, Shape}
 use Rattle.lrs_sheet_records.specs.Verbs.{IsVerb, all_verbs, shapes_of}
 use Rattle.lrs_sheet_records.specs.Fields.{FirstMisfit, ReadsArguments, ReadsCommand}
@@ -53,19 +53,27 @@ misfit-at fields place (shape ∷ shapes) m (inr h) =
     from first j earlier zero below = fits-along fields (Some shape) place (place + 0) (omega arith) first
     from first j earlier (suc i) below = fits-along fields (slice_get shapes i) (place + 1 + i) (place + suc i) (omega arith) (earlier i (omega arith))
 
--- where the key and the verb are well formed, the first misfit is the first malformed field
-pub misfit-malformed : (names fields : List (List ℕ)) (m : ℕ) → IsTrue (is_key (text_at fields 0)) → Contains names (text_at fields 1)
-    → FirstMisfit fields 2 (shapes_of (text_at fields 1)) m → FirstMalformedAmong names fields m
-misfit-malformed names fields m key verb h =
-    let (j, e, bad, earlier) = misfit-at fields 2 (shapes_of (text_at fields 1)) m h in
-    let at : m ≡ suc (suc j) = omega arith in
-    rw at (record { malformed = bad; earlier = before j earlier })
-  where
-    before : (j : ℕ) → ((i : ℕ) → i < j → Fits (texts_of fields) (slice_get (shapes_of (text_at fields 1)) i) (text_at fields (2 + i)))
-        → (i : ℕ) → i < suc (suc j) → IsWellFormedAmong names fields i
-    before j earlier zero below = key
-    before j earlier (suc zero) below = verb
-    before j earlier (suc (suc i)) below = earlier i (omega arith)
+module _ (names : List (List ℕ)) (shapes : List ℕ → List Shape) (fields : List (List ℕ)) where
+  -- where the key and the name are well formed, the first misfit is the first malformed field
+  pub misfit-malformed : (m : ℕ) → IsTrue (is_key (text_at fields 0)) → Contains names (text_at fields 1) → FirstMisfit fields 2 (shapes (text_at fields 1)) m → FirstMalformedBy names shapes fields m
+  misfit-malformed m key name h =
+      let (j, e, bad, earlier) = misfit-at fields 2 (shapes (text_at fields 1)) m h in
+      let at : m ≡ suc (suc j) = omega arith in
+      rw at (record { malformed = bad; earlier = before j earlier })
+    where
+      before : (j : ℕ) → ((i : ℕ) → i < j → Fits (texts_of fields) (slice_get (shapes (text_at fields 1)) i) (text_at fields (2 + i)))
+          → (i : ℕ) → i < suc (suc j) → IsWellFormedBy names shapes fields i
+      before j earlier zero below = key
+      before j earlier (suc zero) below = name
+      before j earlier (suc (suc i)) below = earlier i (omega arith)
+
+  -- a name that is none of them is the first malformed field behind a well formed key
+  pub unknown-malformed : IsTrue (is_key (text_at fields 0)) → (Contains names (text_at fields 1) → ⊥) → FirstMalformedBy names shapes fields 1
+  unknown-malformed key unknown = record { malformed = unknown; earlier = first }
+    where
+      first : (i : ℕ) → i < 1 → IsWellFormedBy names shapes fields i
+      first zero below = key
+      first (suc i) below = absurd (omega arith)
 
 -- a name that differs from each of a list is not among them
 pub not-among : (names : List (List ℕ)) (name : List ℕ) → AllByRecursion (λ other. name ≡ other → ⊥) names → Contains names name → ⊥
@@ -76,12 +84,8 @@ not-among (other ∷ names) name h (suc k, below, is) = not-among names name h.1
 -- a fault of the fields after a well formed key
 pub refuses : (fields : List (List ℕ)) (e : ReadFault) → IsTrue (is_key (text_at fields 0)) → ReadsCommand fields (Err e) → Refuses fields e
 refuses fields fault.Memory key reads = tt
-refuses fields (fault.Field at) key (inl (is, unknown)) = rw is (record { malformed = unknown; earlier = λ i below. first i below })
-  where
-    first : (i : ℕ) → i < 1 → IsWellFormedAmong all_verbs fields i
-    first zero below = key
-    first (suc i) below = absurd (omega arith)
-refuses fields (fault.Field at) key (inr (known, misfit)) = misfit-malformed all_verbs fields (place_of at) key known misfit
+refuses fields (fault.Field at) key (inl (is, unknown)) = rw is (unknown-malformed all_verbs shapes_of fields key unknown)
+refuses fields (fault.Field at) key (inr (known, misfit)) = misfit-malformed all_verbs shapes_of fields (place_of at) key known misfit
 
 -- the fields of a verb that there is
 pub reads-verb : (fields : List (List ℕ)) (verb : List ℕ) (result : Result Command ReadFault) → IsVerb verb → text_at fields 1 ≡ verb → ReadsArguments fields verb result → ReadsCommand fields result

@@ -16,7 +16,7 @@ use Rattle.lrs_machine.proofs.Joined.{differ}
 use Rattle.lrs_machine.proofs.LinesApart.{lines_tell_commands_apart}
 use Rattle.lrs_sheet_records.proofs.Misfits.{fits-along}
 use Rattle.lrs_sheet_records.proofs.OneArgument.{one-list}
-use Rattle.lrs_sheet_records.specs.Records.{FirstMalformedAmong, IsWellFormedAmong, SayAll, SaysAmong, place_of, text_at, texts_of}
+use Rattle.lrs_sheet_records.specs.Records.{FirstMalformedBy, IsWellFormedBy, SayAll, SaysAmong, place_of, text_at, texts_of}
 use Rattle.lrs_sheet_records.specs.Shapes.{Argument, At, PiecesOf, Fits, Shape}
 use Rattle.lrs_sheet_records.specs.Verbs.{arguments_of, new_asset_arguments, or_nothing, shapes_of, verb_of}
 
@@ -42,8 +42,8 @@ one-field : (f g : Field) → place_of f ≡ place_of g → f ≡ g
 one-field f g e = sym (back f) ∙ ap field_of e ∙ back g
 
 -- one place is the first malformed one
-pub one-place : (names fields : List Text) (p q : ℕ) → FirstMalformedAmong names fields p → FirstMalformedAmong names fields q → p ≡ q
-one-place names fields p q h g = elim (cases_lt p q) [
+pub one-place : (names : List Text) (shapes : Text → List Shape) (fields : List Text) (p q : ℕ) → FirstMalformedBy names shapes fields p → FirstMalformedBy names shapes fields q → p ≡ q
+one-place names shapes fields p q h g = elim (cases_lt p q) [
   | inl below ↦ absurd (h.malformed (g.earlier p below))
   | inr above ↦ elim (cases_lt q p) [
     | inl below ↦ absurd (g.malformed (h.earlier q below))
@@ -52,11 +52,11 @@ one-place names fields p q h g = elim (cases_lt p q) [
 ]
 
 -- so it is one field
-pub one-malformed : (names fields : List Text) (f g : Field) → FirstMalformedAmong names fields (place_of f) → FirstMalformedAmong names fields (place_of g) → f ≡ g
-one-malformed names fields f g first other = one-field f g (one-place names fields (place_of f) (place_of g) first other)
+pub one-malformed : (names : List Text) (shapes : Text → List Shape) (fields : List Text) (f g : Field) → FirstMalformedBy names shapes fields (place_of f) → FirstMalformedBy names shapes fields (place_of g) → f ≡ g
+one-malformed names shapes fields f g first other = one-field f g (one-place names shapes fields (place_of f) (place_of g) first other)
 
 -- what is said fits
-say-fits : (fields : List Text) (place : ℕ) (shapes : List Shape) (arguments : List Argument) → SayAll fields place shapes arguments
+pub say-fits : (fields : List Text) (place : ℕ) (shapes : List Shape) (arguments : List Argument) → SayAll fields place shapes arguments
     → (i : ℕ) → Fits (texts_of fields) (slice_get shapes i) (text_at fields (place + i))
 say-fits fields place [] [] h i = h (place + i) (omega arith)
 say-fits fields place [] (argument ∷ arguments) h i = absurd h
@@ -65,7 +65,7 @@ say-fits fields place (shape ∷ shapes) (argument ∷ arguments) h zero = fits-
 say-fits fields place (shape ∷ shapes) (argument ∷ arguments) h (suc i) = fits-along fields (slice_get shapes i) (place + 1 + i) (place + suc i) (omega arith) (say-fits fields (place + 1) shapes arguments h.1 i)
 
 -- where a command is said each field is well formed
-pub well-formed : (names fields : List Text) (key : List ℕ) (command : Command) → SaysAmong names fields key command → (place : ℕ) → IsWellFormedAmong names fields place
+pub well-formed : (names fields : List Text) (key : List ℕ) (command : Command) → SaysAmong names fields key command → (place : ℕ) → IsWellFormedBy names shapes_of fields place
 well-formed names fields key command says zero = says.is_key
 well-formed names fields key command says (suc zero) = says.is_verb
 well-formed names fields key command says (suc (suc i)) = rw says.same_verb (say-fits fields 2 (shapes_of (verb_of command)) (arguments_of command) says.arguments i)

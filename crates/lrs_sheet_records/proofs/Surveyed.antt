@@ -8,7 +8,7 @@ use Rattle.lrs_sheet_records.proofs.Misfits.{misfit-malformed}
 use Rattle.lrs_sheet_records.specs.Fields.{ReadsNewAsset}
 use Rattle.lrs_sheet_records.specs.Records.{SayAll, place_of, text_at}
 use Rattle.lrs_sheet_records.specs.Surveys.{RefusesNewAsset, SaysNewAsset, as_edit}
-use Rattle.lrs_sheet_records.specs.Verbs.{all_verbs, new_asset_arguments, new_asset_shapes}
+use Rattle.lrs_sheet_records.specs.Verbs.{all_verbs, new_asset_arguments, new_asset_shapes, shapes_of}
 use Rattle.lrs_sheet_records.specs.declared.fault.ReadFault.{ReadFault}
 use Rattle.lrs_sheet_records.specs.declared.fault.ReadFault.TheVariants as fault
 
@@ -33,4 +33,4 @@ pub refuses-new_asset : (fields : List (List ℕ)) (e : ReadFault) → IsTrue (i
 unfolding field_at
 refuses-new_asset fields fault.Memory key reads = absurd reads
 refuses-new_asset [] (fault.Field at) key misfit = absurd (no-key key)
-refuses-new_asset (first ∷ others) (fault.Field at) key misfit = misfit-malformed all_verbs (as_edit (first ∷ others)) (place_of at) key enter-known misfit
+refuses-new_asset (first ∷ others) (fault.Field at) key misfit = misfit-malformed all_verbs shapes_of (as_edit (first ∷ others)) (place_of at) key enter-known misfit

@@ -1,5 +1,5 @@
 -- What a record of a sheet of questions says: a key and a question, or which of its fields is the first malformed one.
-use Rattle.std.specs.Prelude.{◌≡◌, ℕ, zero, suc, ◌+◌, ◌<◌, List, [], ◌∷◌, IsTrue, ⊤, Contains, codes, map, slice_get}
+use Rattle.std.specs.Prelude.{◌≡◌, ℕ, List, [], ◌∷◌, IsTrue, ⊤, Contains, codes, map}
 use Rattle.lrs_machine.specs.Keys.{is_key}
 use Rattle.lrs_machine.specs.Lines.{Text}
 use Rattle.lrs_machine.specs.declared.answer.Field.{Field}
@@ -9,8 +9,8 @@ use Rattle.lrs_machine.specs.declared.question.Question.TheVariants as question
 use Rattle.lrs_sheet_records.specs.declared.fault.ReadFault.{ReadFault}
 use Rattle.lrs_sheet_records.specs.declared.fault.ReadFault.TheVariants as fault
 use Rattle.lrs_sheet_records.specs.Kinds.{without_mark}
-use Rattle.lrs_sheet_records.specs.Records.{SayAll, place_of, text_at, texts_of}
-use Rattle.lrs_sheet_records.specs.Shapes.{Argument, Number, Word, SideOf, MethodOf, At, ClassesOf, DestinationOf, Fits, Shape, RouteName, RouteSide, MethodName, PositionBy, ClassNames, DestinationName}
+use Rattle.lrs_sheet_records.specs.Records.{FirstMalformedBy, SayAll, place_of, text_at}
+use Rattle.lrs_sheet_records.specs.Shapes.{Argument, Number, Word, SideOf, MethodOf, At, ClassesOf, DestinationOf, Shape, RouteName, RouteSide, MethodName, PositionBy, ClassNames, DestinationName}
 use Rattle.lrs_sheet_records.specs.Verbs.{Verb, asset_number, method_of, shapes_in}
 
 -- the header of a sheet of questions
@@ -70,16 +70,9 @@ pub record SaysQuestion (fields : List Text) (key : Text) (q : Question) : Type 
   pub same_question : text_at fields 1 ≡ question_of q
   pub arguments : SayAll fields 2 (question_shapes (question_of q)) (asked_by q)
 
--- The field at a place is well formed, where the earlier ones are; a field that the question does not use is empty.
-abbrev pub IsWellFormedQuestion : List Text → ℕ → Type 0
-IsWellFormedQuestion fields zero = IsTrue (is_key (text_at fields 0))
-IsWellFormedQuestion fields (suc zero) = Contains all_questions (text_at fields 1)
-IsWellFormedQuestion fields (suc (suc i)) = Fits (texts_of fields) (slice_get (question_shapes (text_at fields 1)) i) (text_at fields (2 + i))
-
 -- The field at this place is the first that is malformed.
-pub record FirstMalformedQuestion (fields : List Text) (place : ℕ) : Type 0 where
-  pub malformed : IsWellFormedQuestion fields place → ⊥
-  pub earlier : (i : ℕ) → i < place → IsWellFormedQuestion fields i
+abbrev pub FirstMalformedQuestion : List Text → ℕ → Type 0
+FirstMalformedQuestion = FirstMalformedBy all_questions question_shapes
 
 -- a fault names the first malformed field, or want of memory
 abbrev pub RefusesQuestion : List Text → ReadFault → Type 0

@@ -33,11 +33,16 @@ place_of field.I = 10
 abbrev pub texts_of : List Text → Field → Text
 texts_of fields field = text_at fields (place_of field)
 
--- The field at a place is well formed, where the earlier ones are and the verbs have these names; a field that the verb does not use is empty.
-abbrev pub IsWellFormedAmong : List Text → List Text → ℕ → Type 0
-IsWellFormedAmong names fields zero = IsTrue (is_key (text_at fields 0))
-IsWellFormedAmong names fields (suc zero) = Contains names (text_at fields 1)
-IsWellFormedAmong names fields (suc (suc i)) = Fits (texts_of fields) (slice_get (shapes_of (text_at fields 1)) i) (text_at fields (2 + i))
+-- The field at a place is well formed, where the earlier ones are: a key, one of these names, and what the fields behind it say for that name; a field that it does not use is empty.
+abbrev pub IsWellFormedBy : List Text → (Text → List Shape) → List Text → ℕ → Type 0
+IsWellFormedBy names shapes fields zero = IsTrue (is_key (text_at fields 0))
+IsWellFormedBy names shapes fields (suc zero) = Contains names (text_at fields 1)
+IsWellFormedBy names shapes fields (suc (suc i)) = Fits (texts_of fields) (slice_get (shapes (text_at fields 1)) i) (text_at fields (2 + i))
+
+-- The field at this place is the first that is malformed.
+pub record FirstMalformedBy (names : List Text) (shapes : Text → List Shape) (fields : List Text) (place : ℕ) : Type 0 where
+  pub malformed : IsWellFormedBy names shapes fields place → ⊥
+  pub earlier : (i : ℕ) → i < place → IsWellFormedBy names shapes fields i
 
 -- the arguments, each said by its field, and no field after them
 abbrev pub SayAll : List Text → ℕ → List Shape → List Argument → Type 0
@@ -55,9 +60,8 @@ pub record SaysAmong (names : List Text) (fields : List Text) (key : Text) (comm
   pub arguments : SayAll fields 2 (shapes_of (verb_of command)) (arguments_of command)
 
 -- The field at this place is the first that is malformed, where the verbs have these names.
-pub record FirstMalformedAmong (names : List Text) (fields : List Text) (place : ℕ) : Type 0 where
-  pub malformed : IsWellFormedAmong names fields place → ⊥
-  pub earlier : (i : ℕ) → i < place → IsWellFormedAmong names fields i
+abbrev pub FirstMalformedAmong : List Text → List Text → ℕ → Type 0
+FirstMalformedAmong names = FirstMalformedBy names shapes_of
 
 -- The fields say this command under this key.
 abbrev pub SaysCommand : List Text → Text → Command → Type 0

@@ -1,10 +1,20 @@
 //! Laws of records and of the table of verbs.
 
-ghost use Rattle.lrs_sheet_records.specs.Laws.{RecordsAreJudged, LinesAreTheTables, PrintedRecordsSay};
+ghost use Rattle.lrs_sheet_records.specs.Laws.{
+  LinesAreTheTables,
+  PrintedRecordsSay,
+  QuestionsAreJudged,
+  RecordsAreJudged,
+};
 
 /// A record says one command under one key, or it has one first malformed field, and not both.
 pub fn each_record_is_judged()
     ensures { RecordsAreJudged }
+{}
+
+/// A record of a sheet of questions asks one question under one key, or it has one first malformed field, and not both.
+pub fn each_question_is_judged()
+    ensures { QuestionsAreJudged }
 {}
 
 /// The canonical line of each command is made from the table of verbs.

@@ -136,6 +136,7 @@ pub fn question_in(alloc: Global, row: &ByteRecord) -> Result<(Key, Question), R
     ensures says { IfOk result (λ said. SaysQuestion (fields_of row.now) said.0 said.1) }
     ensures refuses { IfErr result (RefusesQuestion (fields_of row.now)) }
 {
+    // the fields stand at their own places, as those of an edit sheet do
     let asked = SheetRecord {
         fields: row,
         sheet: Sheet::Edits,
