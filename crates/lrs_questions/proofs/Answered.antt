@@ -1,5 +1,5 @@
 -- Records of questions answered one after the other.
-use Rattle.std.proofs.Common.{◌≡◌, ◌⊎◌, inl, inr, ℕ, Ok, Err, List, [], ◌∷◌, ◌++◌, ◌+◌, ◌≤◌, Option, None, Some, Bool, true, false, length, refl, sym, ap, ◌∙◌, append_assoc, length-append, arith, cond}
+use Rattle.std.proofs.Common.{◌≡◌, ◌⊎◌, inl, inr, ℕ, Ok, Err, List, [], ◌∷◌, ◌++◌, ◌+◌, ◌≤◌, Option, None, Some, Bool, true, false, length, refl, sym, ap, ◌∙◌, length-append, arith, cond}
 use Rattle.std.specs.Prelude.{not, count_by, codes, IsTrue, if◌then◌else◌}
 use Rattle.std.specs.Io.KnownBytes.{Appends, Keeps}
 use Rattle.std.proofs.lemmas.List.Sums.{sum_by-append}

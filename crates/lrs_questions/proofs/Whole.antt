@@ -1,21 +1,21 @@
 -- A whole sheet of questions, from its header on.
-use Rattle.std.proofs.Common.{◌≡◌, ℕ, List, [], ◌∷◌, Option, Some, None, refl, ap, inl, inr, Result, Ok, Err}
+use Rattle.std.proofs.Common.{◌≡◌, ℕ, List, [], ◌∷◌, Option, Some, None, refl, inl, inr, Result, Ok, Err}
 use Rattle.std.specs.Prelude.{IfSome}
 use Rattle.std.specs.Io.KnownBytes.{Keeps}
+use Rattle.csv.proofs.WriteFacts.{appends-none}
 use Rattle.csv.specs.Reading.{expected_len}
 use Rattle.csv.specs.declared.reader.Reader.{Reader}
-use Rattle.lrs_desk.specs.declared.desk.Fault.{Fault}
 use Rattle.lrs_machine.specs.declared.image.Image.{Image}
 use Rattle.lrs_sheet.specs.Rows.{EndsAfter, Gave, HasRead, IsReadFault}
 use Rattle.lrs_sheet.specs.declared.fault.SheetFault.{SheetFault}
 use Rattle.lrs_sheet.specs.declared.fault.SheetFault.TheVariants as fault
 use Rattle.lrs_sheet_records.specs.Questions.{IsQuestionHeader}
-use Rattle.lrs_questions.specs.Answering.{RunsQuestions}
+use Rattle.lrs_questions.specs.Answering.{AnswersRecords, RunsQuestions, WritesAnswers}
 use Rattle.lrs_questions.specs.Replies.{tally_of}
 use Rattle.lrs_questions.specs.Rows.{AnswersRows}
 use Rattle.lrs_questions.specs.declared.tally.QuestionTally.{QuestionTally}
 
-keeps-same : (contents : Option (List ℕ)) → Keeps contents contents
+pub keeps-same : (contents : Option (List ℕ)) → Keeps contents contents
 keeps-same None = tt
 keeps-same (Some bytes) = refl
 
@@ -30,13 +30,32 @@ unread i rem rows (Some input) contents fault.BadHeader first why = absurd why
 unread i rem rows (Some input) contents (fault.Desk m) first why = absurd why
 unread i rem rows (Some input) contents fault.BadCsv first (wanted, expected, next) = absurd (cc (first, expected))
 
--- a fault of reading is none of the desk
-pub reads-alone : {R : Type 0} (rem : R → Option (List ℕ)) (rows : Reader R) (e : SheetFault) (f : Fault) → IsReadFault rem rows e → e ≡ fault.Desk f → ⊥
-reads-alone rem rows e f why is = rw is at why
+-- no record is answered
+pub none-answered : (i : Image) (contents : Option (List ℕ)) → AnswersRecords i contents contents
+none-answered i contents = ([], [], record { width = tt; replied = tt; written = appends-none contents })
 
--- nor is one of the records
-pub asks-alone : {R : Type 0} (i : Image) (rem : R → Option (List ℕ)) (rows : Reader R) (old new : Option (List ℕ)) (e : SheetFault) (f : Fault) → AnswersRows i rem rows old new (Err e) → e ≡ fault.Desk f → ⊥
-asks-alone i rem rows old new e f does is = rw is at does
+-- ... where the first read failed
+pub unread-writes : {R : Type 0} (i : Image) (rem : R → Option (List ℕ)) (rows : Reader R) (contents : Option (List ℕ)) (e : SheetFault) → IsReadFault rem rows e → WritesAnswers i contents contents (Err e)
+unread-writes i rem rows contents fault.Read why = none-answered i contents
+unread-writes i rem rows contents fault.Memory why = none-answered i contents
+unread-writes i rem rows contents fault.BadCsv why = none-answered i contents
+unread-writes i rem rows contents fault.Write why = absurd why
+unread-writes i rem rows contents fault.BadHeader why = absurd why
+unread-writes i rem rows contents (fault.Desk m) why = absurd why
+
+-- ... or where there was none
+pub empty-writes : (i : Image) (contents : Option (List ℕ)) (tally : QuestionTally) → tally ≡ tally_of [] → WritesAnswers i contents contents (Ok tally)
+empty-writes i contents tally none = ([], [], record { width = tt; replied = tt; written = appends-none contents }, none)
+
+-- the records under the header are answered
+pub rows-write : {R : Type 0} (i : Image) (rem : R → Option (List ℕ)) (rows : Reader R) (old new : Option (List ℕ)) (result : Result QuestionTally SheetFault) → AnswersRows i rem rows old new result → WritesAnswers i old new result
+rows-write i rem rows old new (Ok tally) (records, replies, answered, counts, ends, few) = (records, replies, answered, counts)
+rows-write i rem rows old new (Err fault.BadCsv) (records, replies, answered, differs) = (records, replies, answered)
+rows-write i rem rows old new (Err fault.Read) (records, replies, answered, begins) = (records, replies, answered)
+rows-write i rem rows old new (Err fault.Memory) (records, replies, answered, begins) = (records, replies, answered)
+rows-write i rem rows old new (Err fault.Write) does = tt
+rows-write i rem rows old new (Err fault.BadHeader) does = absurd does
+rows-write i rem rows old new (Err (fault.Desk e)) does = absurd does
 
 -- a sheet with no record
 pub empty-sheet : {R : Type 0} (i : Image) (rem : R → Option (List ℕ)) (rows : Reader R) (known contents : Option (List ℕ)) (tally : QuestionTally)

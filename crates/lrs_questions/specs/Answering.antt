@@ -58,3 +58,17 @@ RunsQuestions i input old new (Err fault.Read) = HasAnsweredSome i input old new
 RunsQuestions i input old new (Err fault.Memory) = HasAnsweredSome i input old new
 RunsQuestions i input old new (Err fault.Write) = ⊤
 RunsQuestions i input old new (Err (fault.Desk e)) = ⊥
+
+-- Some records are answered in order, and nothing else is written.
+abbrev pub AnswersRecords : Image → Option Text → Option Text → Type 0
+AnswersRecords i old new = (records : List (List Text)) × (replies : List Reply) × AreAnswered i records replies old new
+
+-- What is written whatever the reader gives: the answers to some records, which are counted; under another header none. The desk never fails.
+abbrev pub WritesAnswers : Image → Option Text → Option Text → Result QuestionTally SheetFault → Type 0
+WritesAnswers i old new (Ok tally) = (records : List (List Text)) × (replies : List Reply) × AreAnswered i records replies old new × (tally ≡ tally_of replies)
+WritesAnswers i old new (Err fault.BadHeader) = Keeps old new
+WritesAnswers i old new (Err fault.BadCsv) = AnswersRecords i old new
+WritesAnswers i old new (Err fault.Read) = AnswersRecords i old new
+WritesAnswers i old new (Err fault.Memory) = AnswersRecords i old new
+WritesAnswers i old new (Err fault.Write) = ⊤
+WritesAnswers i old new (Err (fault.Desk e)) = ⊥

@@ -1,11 +1,10 @@
 //! A sheet of questions, from its bytes to the bytes of its answers.
 
-ghost use Rattle.std.specs.Prelude.{◌≡◌, IfErr, IfSome, Some, false};
+ghost use Rattle.std.specs.Prelude.{◌≡◌, IfSome, Some, false};
 ghost use Rattle.std.specs.Io.KnownBytes.{Keeps};
 ghost use Rattle.csv.specs.Reading.{expected_len};
-ghost use Rattle.lrs_desk.specs.declared.desk.Fault.{Fault as DeskFault};
 ghost use Rattle.lrs_sheet.specs.Rows.{IsPlain};
-ghost use Rattle.lrs_questions.specs.Answering.{RunsQuestions, width};
+ghost use Rattle.lrs_questions.specs.Answering.{RunsQuestions, WritesAnswers, width};
 ghost use Rattle.lrs_questions.specs.Rows.{AnswersRows};
 
 use crate::answer::answer_row;
@@ -76,7 +75,8 @@ fn run<R: Read + Arrival + Drop, W: Write, K: Keeper>(
     requires behind { desk.now.is_ahead ≡ false }
     ensures runs { IfSome (R.remaining reader) (λ input. RunsQuestions desk.now.image input
         (W.contents writer.old) (W.contents writer.new) result) }
-    ensures asks { IfErr result (λ e. (f : DeskFault) → e ≡ SheetFault.Desk f → ⊥) }
+    ensures writes { WritesAnswers desk.now.image (W.contents writer.old)
+        (W.contents writer.new) result }
 {
     let mut rows = open(alloc, reader);
     let mut row = ByteRecord::new(alloc);
@@ -108,7 +108,8 @@ pub fn ask_all<R: Read + Drop, W: Write, K: Keeper>(
     requires behind { desk.now.is_ahead ≡ false }
     ensures runs { IfSome (R.remaining reader) (λ input. RunsQuestions desk.now.image input
         (W.contents writer.old) (W.contents writer.new) result) }
-    ensures asks { IfErr result (λ e. (f : DeskFault) → e ≡ SheetFault.Desk f → ⊥) }
+    ensures writes { WritesAnswers desk.now.image (W.contents writer.old)
+        (W.contents writer.new) result }
 {
     run(alloc, Whole { reader }, writer, desk)
 }
@@ -128,7 +129,8 @@ pub fn ask_arriving<R: Read + Drop, W: Write, K: Keeper>(
     requires behind { desk.now.is_ahead ≡ false }
     ensures runs { IfSome (R.remaining reader) (λ input. RunsQuestions desk.now.image input
         (W.contents writer.old) (W.contents writer.new) result) }
-    ensures asks { IfErr result (λ e. (f : DeskFault) → e ≡ SheetFault.Desk f → ⊥) }
+    ensures writes { WritesAnswers desk.now.image (W.contents writer.old)
+        (W.contents writer.new) result }
 {
     run(alloc, Arriving::new(reader), writer, desk)
 }
