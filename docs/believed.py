@@ -260,7 +260,7 @@ class Block:
 
     def __init__(self, head, text, above):
         self.head, self.text = head, text
-        self.names = {**above, **imported("\n".join(re.findall(r"^ +ghost (use .*)", text, re.M)))}
+        self.names = {**above, **imported("\n".join(re.findall(r"^ +ghost (use [^;]+);", text, re.M)))}
         self.trait, self.type = None, None
         if named := re.match(r"trait (\w+)", head):
             self.trait = named[1]
@@ -295,7 +295,7 @@ class Module:
         self.imports = {}
         for used in re.findall(r"^(?:pub(?:\(\w+\))? )?use ([^;]+);", text, re.M):
             self.imports.update(tree(used))
-        names = imported("\n".join(re.findall(r"^ghost (use .*)", text, re.M)))
+        names = imported("\n".join(re.findall(r"^ghost (use [^;]+);", text, re.M)))
         self.types = set(re.findall(r"^(?:pub(?:\(\w+\))? )?(?:struct|enum) (\w+)", text, re.M))
         self.free = Block("", text, names)
         parts = re.findall(r"^(?:pub(?:\(\w+\))? )?((?:impl|trait)\b[^{]*)\{\n(.*?)^\}", text, re.M | re.S)

@@ -6,6 +6,7 @@ use Rattle.std.proofs.lemmas.List.{take_more}
 use Rattle.lrs_machine.specs.Image.{state_of}
 use Rattle.lrs_machine.specs.Lines.{Text}
 use Rattle.lrs_machine.specs.Machine.{Record, state_after, step_record}
+use Rattle.lrs_machine.specs.Sound.{IsSound}
 use Rattle.lrs_machine.specs.State.{State}
 use Rattle.lrs_machine.specs.declared.answer.Limits.{Limits}
 use Rattle.lrs_machine.specs.declared.image.Image.{Image}
@@ -83,7 +84,7 @@ not_begun must_reopen before after old new (Ok tally) h = absurd h
 not_begun must_reopen before after old new (Err e) h = h.1
 
 -- a sheet that is not begun is not decided
-undecided : (must_reopen : Bool) (before after : State) (old new : Option Text) (ended : Result Tally SheetFault) → is_decided ended ≡ true → IsNotBegun must_reopen before after old new ended → ⊥
+pub undecided : (must_reopen : Bool) (before after : State) (old new : Option Text) (ended : Result Tally SheetFault) → is_decided ended ≡ true → IsNotBegun must_reopen before after old new ended → ⊥
 undecided must_reopen before after old new (Ok tally) d h = h
 undecided must_reopen before after old new (Err fault.BadHeader) d h = h.0
 undecided must_reopen before after old new (Err fault.BadCsv) d h = h.0
@@ -107,7 +108,7 @@ state_both limits (r ∷ xs) ys s = state_both limits xs ys (step_record limits 
 -- ---- what a call gives
 
 -- an answer that is no 503 is to a sheet that was decided
-pub answer_decided : (ended : Result Tally SheetFault) (lines : Text) (answer : Answer) → IsAnswerAfter ended lines answer → (answer.status ≡ 503 → ⊥) → is_decided ended ≡ true
+pub answer_decided : {T : Type 0} (ended : Result T SheetFault) (lines : Text) (answer : Answer) → IsAnswerAfter ended lines answer → (answer.status ≡ 503 → ⊥) → is_decided ended ≡ true
 answer_decided ended lines answer (inr e) served = absurd (served (ap (λ (a : Answer). a.status) e))
 answer_decided (Ok tally) lines answer (inl e) served = refl
 answer_decided (Err fault.BadHeader) lines answer (inl e) served = refl
@@ -180,7 +181,7 @@ module _ {K : Type 0} (holds : K → Result Image Table → Type 0) where
   all_gave [] [] old new did = desk_stays (AllGive old.limits (state_of old.image) []) old new refl did
   all_gave [] (text ∷ texts) old new did = absurd did
   all_gave (next ∷ calls) [] old new did = absurd did
-  all_gave (next ∷ calls) (text ∷ texts) old new (mid, one, others) =
+  all_gave (next ∷ calls) (text ∷ texts) old new (mid, one, sound, others) =
       let f = call_gave next text old mid one in
       let g = all_gave calls texts mid new others in
       let limits = f.along.limits in
@@ -196,15 +197,15 @@ module _ {K : Type 0} (holds : K → Result Image Table → Type 0) where
 
   -- ---- one more call
 
-  pub did_more : (calls : List Call) (texts : List Text) (next : Call) (text : Text) (old mid new : DeskView K) → DidAll holds calls texts old mid → Did holds next text mid new
+  pub did_more : (calls : List Call) (texts : List Text) (next : Call) (text : Text) (old mid new : DeskView K) → DidAll holds calls texts old mid → Did holds next text mid new → IsSound new.image
       → DidAll holds (calls ++ next ∷ []) (texts ++ text ∷ []) old new
-  did_more [] [] next text old mid new did one = (new, subst (λ d. Did holds next text d new) did one, refl)
-  did_more [] (t ∷ texts) next text old mid new did one = absurd did
-  did_more (c ∷ calls) [] next text old mid new did one = absurd did
-  did_more (c ∷ calls) (t ∷ texts) next text old mid new (d, first, others) one = (d, first, did_more calls texts next text d mid new others one)
+  did_more [] [] next text old mid new did one sound = (new, subst (λ d. Did holds next text d new) did one, sound, refl)
+  did_more [] (t ∷ texts) next text old mid new did one sound = absurd did
+  did_more (c ∷ calls) [] next text old mid new did one sound = absurd did
+  did_more (c ∷ calls) (t ∷ texts) next text old mid new (d, first, held, others) one sound = (d, first, held, did_more calls texts next text d mid new others one sound)
 
   pub did_next : (calls : List Call) (i : ℕ) (texts : List Text) (next : Call) (text : Text) (old mid new : DeskView K) → i < length calls → next ≡ get_or calls i next
-      → DidAll holds (take i calls) texts old mid → Did holds next text mid new → DidAll holds (take (i + 1) calls) (texts ++ text ∷ []) old new
-  did_next calls i texts next text old mid new low is did one =
+      → DidAll holds (take i calls) texts old mid → Did holds next text mid new → IsSound new.image → DidAll holds (take (i + 1) calls) (texts ++ text ∷ []) old new
+  did_next calls i texts next text old mid new low is did one sound =
       let more = take_more calls i next low ∙ ap (λ c. take i calls ++ c ∷ []) (sym is) in
-      subst (λ cs. DidAll holds cs (texts ++ text ∷ []) old new) (sym more) (did_more (take i calls) texts next text old mid new did one)
+      subst (λ cs. DidAll holds cs (texts ++ text ∷ []) old new) (sym more) (did_more (take i calls) texts next text old mid new did one sound)

@@ -8,7 +8,13 @@ pub mod Parameters
 pub mod Once
 pub mod Places
 pub mod Translated
+pub mod Framed
+pub mod Resumed
+pub mod Replied
+pub mod Pictured
+pub mod OneInventory
 pub mod Asked
+pub mod Agreeing
 pub mod Ends
 pub mod Fewest
 pub mod Trips

@@ -40,6 +40,9 @@ some_is_not_none x is = cc
 pub ok_is_not_err : {A E : Type 0} (a : A) (e : E) → ◌≡◌ {A = Result A E} (Ok a) (Err e) → ⊥
 ok_is_not_err a e is = cc
 
+pub same_ok : {A E : Type 0} (x y : A) → ◌≡◌ {A = Result A E} (Ok x) (Ok y) → x ≡ y
+same_ok x y is = cc
+
 pub same_err : {A E : Type 0} (d e : E) → ◌≡◌ {A = Result A E} (Err d) (Err e) → d ≡ e
 same_err d e is = cc
 
@@ -49,7 +52,7 @@ same_err d e is = cc
 abbrev pub OneUnlessMemory : {A : Type 0} → (Result A AskFault → Type 0) → Type 0
 OneUnlessMemory {A} Passes = (r q : Result A AskFault) → Passes r → Passes q → (r ≡ Err Memory → ⊥) → (q ≡ Err Memory → ⊥) → r ≡ q
 
-unless_memory : {A : Type 0} (Passes : A → Type 0) → ((x y : A) → Passes x → Passes y → x ≡ y) → OneUnlessMemory (UnlessMemory Passes)
+pub unless_memory : {A : Type 0} (Passes : A → Type 0) → ((x y : A) → Passes x → Passes y → x ≡ y) → OneUnlessMemory (UnlessMemory Passes)
 unless_memory Passes one (Ok x) (Ok y) h g some also = ap Ok (one x y h g)
 unless_memory Passes one (Ok x) (Err e) h g some also = absurd (also (ap (λ (f : AskFault). Err f) g))
 unless_memory Passes one (Err d) q h g some also = absurd (some (ap (λ (f : AskFault). Err f) h))
@@ -60,6 +63,23 @@ on_route {A} s name Asked one r q h g some also = by (get s.routes name) h g
     by : (o : Option Alignment) → MatchOption o (r ≡ Err NoRoute) (λ a. Asked a r) → MatchOption o (q ≡ Err NoRoute) (λ a. Asked a q) → r ≡ q
     by None x y = x ∙ sym y
     by (Some a) x y = one a r q x y some also
+
+-- what is told of answers of which one passes is one
+pub tells_once : {A : Type 0} (Passes : Result A AskFault → Type 0) (told_of : A → Told) → OneUnlessMemory Passes → OneUnlessMemory (Tells Passes told_of)
+tells_once {A} Passes told_of one r q h g some also = by r q h g some also
+  where
+    fails : (x : A) (fault : AskFault) → Passes (Ok x) → Passes (Err fault) → (fault ≡ Memory → ⊥) → ⊥
+    fails x fault h g lacks = ok_is_not_err x fault (one (Ok x) (Err fault) h g (ok_is_not_err x Memory) (λ e. lacks (same_err fault Memory e)))
+
+    by : (r q : Result Told AskFault) → Tells Passes told_of r → Tells Passes told_of q → (r ≡ Err Memory → ⊥) → (q ≡ Err Memory → ⊥) → r ≡ q
+    by (Ok t) (Ok u) (x, h, is) (y, g, tells) some also =
+        let same = one (Ok x) (Ok y) h g (ok_is_not_err x Memory) (ok_is_not_err y Memory) in
+        ap (λ (v : Told). Ok v) (is ∙ ap told_of (same_ok x y same) ∙ sym tells)
+    by (Ok t) (Err fault) (x, h, is) g some also = absurd (fails x fault h g (λ e. also (ap (λ (f : AskFault). Err f) e)))
+    by (Err fault) (Ok u) h (y, g, tells) some also = absurd (fails y fault g h (λ e. some (ap (λ (f : AskFault). Err f) e)))
+    by (Err d) (Err e) h g some also =
+        let same = one (Err d) (Err e) h g (λ k. some (ap (λ (f : AskFault). Err f) (same_err d Memory k))) (λ k. also (ap (λ (f : AskFault). Err f) (same_err e Memory k))) in
+        ap (λ (f : AskFault). Err f) (same_err d e same)
 
 -- ---- a position
 

@@ -74,7 +74,7 @@ pub one_destination : (text : Text) (d e : Destination) → SaysDestination text
 one_destination text d e h g = sym (back d) ∙ ap destination_from (sym (text_is text d h) ∙ text_is text e g) ∙ back e
 
 -- an expression that a text states has a denominator
-stated_above : (m : Method) (text : Text) (e : Expr) → States m text e → 0 < (number_of e).den
+pub stated_above : (m : Method) (text : Text) (e : Expr) → States m text e → 0 < (number_of e).den
 stated_above method.Abs text (Abs m) h = let low : 0 < 1 = omega arith in subst (λ (f : Fraction). 0 < f.den) (sym h.value) low
 stated_above method.Abs text (Rel name t) h = absurd h
 stated_above method.Abs text (Int p) h = absurd h
@@ -171,11 +171,15 @@ abbrev pub TellsTranslated : State → Name → Expr → Destination → Result 
 TellsTranslated s route e (destination.Method t) = Tells (IsTranslated s route e t) (told.Translated route)
 TellsTranslated s route e destination.Link = Tells (IsOnLink s route e) (λ on. told.OnLink route on.0 on.1)
 
+pub by_method_once : (i : Image) (route : Name) (e : Expr) (t : Target) → 0 < (number_of e).den → OneUnlessMemory (IsTranslated (state_of i) route e t)
+by_method_once i route e t above = asks_once (state_of i) route (λ al on found. Translates al on e t found × RoundTrip al on e t found)
+    (λ al there x y h k. translates_once al (referent_chainage (state_of i) al) e (sound_route i route al there) above t x y h.0 k.0)
+
+pub on_link_once : (i : Image) (route : Name) (e : Expr) → 0 < (number_of e).den → OneUnlessMemory (IsOnLink (state_of i) route e)
+on_link_once i route e above = asks_once (state_of i) route (λ al on found. IsLinkPosition al on e found)
+    (λ al there x y h k. link_once al (referent_chainage (state_of i) al) e (sound_route i route al there) above x y h k)
+
 pub translated_once : (i : Image) (route : Name) (e : Expr) (to : Destination) → 0 < (number_of e).den → (a b : Answer) → (a.status ≡ 503 → ⊥) → (b.status ≡ 503 → ⊥) → (said other : Result Told AskFault)
     → TellsTranslated (state_of i) route e to said → TellsTranslated (state_of i) route e to other → IsReplyTo said a → IsReplyTo other b → a ≡ b
-translated_once i route e (destination.Method t) above a b served also said other = told_once (IsTranslated (state_of i) route e t) (told.Translated route)
-    (asks_once (state_of i) route (λ al on found. Translates al on e t found × RoundTrip al on e t found) (λ al there x y h k. translates_once al (referent_chainage (state_of i) al) e (sound_route i route al there) above t x y h.0 k.0))
-    (λ x c d p q. p ∙ sym q) a b served also said other
-translated_once i route e destination.Link above a b served also said other = told_once (IsOnLink (state_of i) route e) (λ on. told.OnLink route on.0 on.1)
-    (asks_once (state_of i) route (λ al on found. IsLinkPosition al on e found) (λ al there x y h k. link_once al (referent_chainage (state_of i) al) e (sound_route i route al there) above x y h k))
-    (λ x c d p q. p ∙ sym q) a b served also said other
+translated_once i route e (destination.Method t) above = told_once (IsTranslated (state_of i) route e t) (told.Translated route) (by_method_once i route e t above) (λ x c d p q. p ∙ sym q)
+translated_once i route e destination.Link above = told_once (IsOnLink (state_of i) route e) (λ on. told.OnLink route on.0 on.1) (on_link_once i route e above) (λ x c d p q. p ∙ sym q)

@@ -3,6 +3,7 @@ use Rattle.std.specs.Prelude.{◌≡◌, ◌⊎◌, Bool, true, false, List, [],
 use Rattle.lrs_machine.specs.Image.{state_of}
 use Rattle.lrs_machine.specs.Lines.{Text}
 use Rattle.lrs_machine.specs.Machine.{Record, state_after}
+use Rattle.lrs_machine.specs.Sound.{IsSound}
 use Rattle.lrs_machine.specs.State.{State}
 use Rattle.lrs_machine.specs.declared.answer.Limits.{Limits}
 use Rattle.lrs_machine.specs.declared.image.Image.{Image}
@@ -27,8 +28,8 @@ use Rattle.lrs_promises.specs.declared.calls.Call.TheVariants as call
 -- ---- what a call does, where it ends neither in a fault nor with a 503
 
 -- a sheet was done as far as it is one: to its end, or to a header or a record that is none of it
-abbrev pub is_decided : Result Tally SheetFault → Bool
-is_decided (Ok tally) = true
+abbrev pub is_decided : {T : Type 0} → Result T SheetFault → Bool
+is_decided (Ok counted) = true
 is_decided (Err fault.BadHeader) = true
 is_decided (Err fault.BadCsv) = true
 is_decided _ = false
@@ -55,10 +56,10 @@ Did holds (call.Edits bytes) = DidSheet holds sheet.Edits bytes.items
 Did holds (call.Survey bytes) = DidSheet holds sheet.Survey bytes.items
 Did holds (call.Request bytes) = DidRequest holds bytes.items
 
--- These calls were done one after another, and wrote these texts.
+-- These calls were done one after another, and wrote these texts; the inventory is sound after each.
 abbrev pub DidAll : {K : Type 0} → (K → Result Image Table → Type 0) → List Call → List Text → DeskView K → DeskView K → Type 0
 DidAll holds [] [] old new = new ≡ old
-DidAll {K} holds (next ∷ calls) (text ∷ texts) old new = (mid : DeskView K) × Did holds next text old mid × DidAll holds calls texts mid new
+DidAll {K} holds (next ∷ calls) (text ∷ texts) old new = (mid : DeskView K) × Did holds next text old mid × IsSound mid.image × DidAll holds calls texts mid new
 DidAll holds [] (text ∷ texts) old new = ⊥
 DidAll holds (next ∷ calls) [] old new = ⊥
 

@@ -22,6 +22,7 @@ fn do_all<K: Keeper>(
     let mut written = Vec::new(alloc);
     for call in calls {
         let text = do_call(alloc, call, desk)?;
+        desk.inventory().prove_sound();
         written.push(text)?;
     }
     Ok(written)

@@ -1,6 +1,13 @@
 //! Equal bytes and equal states give equal bytes and equal states.
 
-ghost use Rattle.lrs_promises.specs.Determined.{CallsEndAlike, QuestionsEndAlike, SheetsEndAlike};
+ghost use Rattle.lrs_promises.specs.Determined.{
+  CallsEndAlike,
+  InventoriesAreOne,
+  QuestionSheetsEndAlike,
+  QuestionsEndAlike,
+  ResumedEndAlike,
+  SheetsEndAlike,
+};
 
 use lrs_desk::Keeper;
 
@@ -10,15 +17,30 @@ pub fn a_sheet_determines_its_end()
     ensures { SheetsEndAlike }
 {}
 
+/// So do those of a sheet that goes on behind its last record that is an edit.
+pub fn a_resumed_sheet_determines_its_end()
+    ensures { ResumedEndAlike }
+{}
+
+/// The bytes of a sheet of questions and the state determine how it ends, and the bytes that are written.
+pub fn a_sheet_of_questions_determines_its_answers()
+    ensures { QuestionSheetsEndAlike }
+{}
+
+/// The state determines the inventory, but for the rows of its ledgers.
+pub fn a_state_determines_its_inventory()
+    ensures { InventoriesAreOne }
+{}
+
 /// The bytes of calls, and the state before them, determine the bytes that they write and the state after them, over any
-/// keepers: of sheets and surveys that end whole or are broken off for a fault of their own, and of requests that are
-/// refused, post a sheet, or ask for what is read off the state.
+/// keepers: of sheets and surveys that end whole or are broken off for a fault of their own, and of requests for anything
+/// but what is gone, which is listed by the rows of the ledgers.
 pub fn calls_determine_their_replies<K: Keeper, J: Keeper>()
     ensures { CallsEndAlike K.may_hold J.may_hold }
 {}
 
-/// The bytes of questions, and the image, determine the bytes that are answered, over any keepers: of requests that are
-/// refused, or ask for what is read off the image.
+/// The bytes of questions, and the image, determine the bytes that are answered, over any keepers: of all requests but
+/// those that post an edit sheet or a survey.
 pub fn questions_determine_their_answers<K: Keeper, J: Keeper>()
     ensures { QuestionsEndAlike K.may_hold J.may_hold }
 {}

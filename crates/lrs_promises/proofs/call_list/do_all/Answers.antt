@@ -1,5 +1,6 @@
 use Rattle.std.proofs.Common.{[], ◌∷◌, ◌+◌, ap, inl, inr, map, refl, subst, sym, take, ◌∙◌}
 use Rattle.std.proofs.lemmas.List.{map-append}
+use Rattle.lrs_machine.specs.Sound.{IsSound}
 use Rattle.lrs_promises.specs.Calls.{DidAll}
 use Rattle.lrs_promises.proofs.Given.{did_next}
 use Rattle.lrs_promises.specs.Headline.{HasStopped}
@@ -14,8 +15,9 @@ loop-call-preserved g c =
     let i = c.loop-call.call-index in
     let before = c.loop-call.written.items in
     let text = c.in_ok-text.text in
+    let sound = subst (λ i. IsSound i) c.inventory.ensures c.prove_sound.ensures in
     let next = did_next holds calls i (map (λ t. t.items) before) c.call-item.result text.items c.args.desk.now c.loop-call.desk c.do_call.new.desk c.loop-call-test.true c.call-item.is
-    c.loop-call.invariant c.in_ok-text.ensures.done in
+    c.loop-call.invariant c.in_ok-text.ensures.done sound in
     subst (λ texts. DidAll holds (take (i + 1) calls) texts c.args.desk.now c.do_call.new.desk)
     (sym (ap (map (λ t. t.items)) c.in_ok-push.ensures.items ∙ map-append (λ t. t.items) before (text ∷ []))) next
 
