@@ -30,5 +30,5 @@ pub use route_diagram::diagram;
 pub use route_list::{RouteLength, routes};
 pub use rows::{FoundRow, push_rows};
 pub use search::find;
-pub use segmentation::segments;
+pub use segmentation::{RouteSegments, segments};
 pub use told::Told;

@@ -155,30 +155,28 @@ fn write_lengths<W: Write>(writer: &mut W, rows: &[RouteLength]) -> io::Result<(
     Ok(())
 }
 
-/// Writes what is told to a question, in lines, and a diagram as an SVG picture. It takes no memory beyond the writer's, and does not flush the writer.
+/// Writes what is told to a question, in lines, and a diagram as an SVG picture. It takes no memory beyond the writer's, and
+/// does not flush the writer.
 ///
 /// # Errors
 /// That of the writer. Part of the lines may be written then.
-pub fn write_told<W: Write>(writer: &mut W, told: &Told) -> io::Result<()>
+pub fn write_told<W: Write>(writer: &mut W, told: Told<'_>) -> io::Result<()>
     ensures { OnOk result (Appends (W.contents writer.old) (W.contents writer.new)
-        (told_text told.now)) }
+        (told_text told)) }
 {
     match told {
-        Told::At { route, found } => write_at(writer, route, found),
-        Told::Route(route) => write_route(writer, route),
+        Told::At { route, found } => write_at(writer, &route, &found),
+        Told::Route(route) => write_route(writer, &route),
         Told::Segments {
             route,
             side,
             length,
             classes,
             segments,
-        } => {
-            let classes = classes.as_slice();
-            strip_of(writer, route, *side, *length, classes, segments.as_slice())
-        }
-        Told::Translated { position, .. } => write_expression(writer, *position),
-        Told::OnLink { link, distance, .. } => write_link_position(writer, *link, *distance),
-        Told::Diagram(diagram) => write_diagram(writer, diagram),
+        } => strip_of(writer, &route, side, length, classes.as_slice(), segments),
+        Told::Translated { position, .. } => write_expression(writer, position),
+        Told::OnLink { link, distance, .. } => write_link_position(writer, link, distance),
+        Told::Diagram(diagram) => write_diagram(writer, &diagram),
         Told::Routes(routes) => write_lengths(writer, routes.as_slice()),
         Told::Totals(totals) => write_totals(writer, totals.as_slice()),
         Told::Found(rows) => write_found(writer, rows.as_slice()),

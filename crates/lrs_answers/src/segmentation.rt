@@ -8,12 +8,16 @@ ghost use Rattle.lrs_answers.specs.Segmented.{asked_fault, IsSegmented};
 
 use crate::fault::AskFault;
 use crate::route::route_of;
-use lrs_events::{ClassName, Side};
+use lrs_events::{Asset, ClassName, Side};
 use lrs_image::KeptImage;
-use lrs_machine::{SegFault, Segment};
-use lrs_measure::Rows;
+use lrs_machine::SegFault;
+use lrs_ordered::Chunked;
 use lrs_position::RouteName;
+use lrs_report::{Segments, sweep_segments};
 use std::alloc::Global;
+
+/// The segments of a route of an inventory.
+pub type RouteSegments<'a> = Segments<'a, Chunked<Asset>>;
 
 /// The fault of segments as that of a question.
 fn asked_fault(fault: SegFault) -> AskFault
@@ -26,18 +30,19 @@ fn asked_fault(fault: SegFault) -> AskFault
 }
 
 /// The segments of a route on one side of it, seen along the route: the maximal runs of its millimetres over which each
-/// class asked for has one value or none. They follow one another from its start to its end.
+/// class asked for has one value or none. They follow one another from its start to its end, and each is made where it is
+/// taken.
 ///
 /// # Errors
 /// `NoRoute`, then `Seg` of the first class that is not there (`NoClass`), of the first that is not exclusive
 /// (`NotExclusive`), each by its place in `wanted`, and of both sides (`SideB`), and `Memory`.
-pub fn segments(
+pub fn segments<'a>(
     alloc: Global,
-    kept: &KeptImage,
+    kept: &'a KeptImage,
     route: &RouteName,
     wanted: &[ClassName],
     side: Side,
-) -> Result<Rows<Segment>, AskFault>
+) -> Result<RouteSegments<'a>, AskFault>
     requires sound { IsSound (image_of kept.now) }
     ensures { IsSegmented (state_of (image_of kept.now)) route.now wanted.now side result }
 {
@@ -46,8 +51,8 @@ pub fn segments(
             let spans = &row.spans;
             let assets = &kept.assets;
             let classes = &kept.classes;
-            match lrs_report::segments(alloc, &row.route, spans, assets, classes, wanted, side) {
-                Ok(found) => Ok(Rows::from_vec(found)),
+            match sweep_segments(alloc, &row.route, spans, assets, classes, wanted, side) {
+                Ok(found) => Ok(found),
                 Err(fault) => Err(asked_fault(fault)),
             }
         }

@@ -1,15 +1,15 @@
 //! What is told to a question: its answer, with the words of the question that its text repeats.
 
-use crate::{AtAnswer, FoundRow, RouteLength};
+use crate::{AtAnswer, FoundRow, RouteLength, RouteSegments};
 use lrs_diagram::Diagram;
 use lrs_events::{ClassName, Side};
-use lrs_machine::{Segment, Total};
+use lrs_machine::Total;
 use lrs_measure::{Frac, Rows};
 use lrs_position::{Expr, Route, RouteName};
 
 /// What is told to a question: one variant for each kind of answer.
 #[derive(Drop)]
-pub enum Told {
+pub enum Told<'a> {
     /// Where a position of a route stands, and the assets that hold the place.
     At {
         route: RouteName,
@@ -17,13 +17,14 @@ pub enum Told {
     },
     /// A route.
     Route(Route),
-    /// The segments of a side of a route by these classes; the length of the route is in millimetres.
+    /// The segments of a side of a route by these classes, which are made where they are taken; the length of the route is
+    /// in millimetres.
     Segments {
         route: RouteName,
         side: Side,
         length: u64,
         classes: Rows<ClassName>,
-        segments: Rows<Segment>,
+        segments: RouteSegments<'a>,
     },
     /// A position of a route, by another method.
     Translated {

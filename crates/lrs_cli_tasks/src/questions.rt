@@ -25,13 +25,6 @@ pub enum Unanswered {
     Write,
 }
 
-fn write_owned<W: Write>(writer: &mut W, told: Told) -> io::Result<()>
-    ensures { OnOk result (Appends (W.contents writer.old) (W.contents writer.new)
-        (told_text told)) }
-{
-    write_told(writer, &told)
-}
-
 // The answer to a question.
 fn print_answer<K: Keeper, W: Write>(
     desk: &Desk<K>,
@@ -43,7 +36,7 @@ fn print_answer<K: Keeper, W: Write>(
         (W.contents writer.new) result }
 {
     match desk.ask(question) {
-        Ok(told) => match write_owned(writer, told) {
+        Ok(told) => match write_told(writer, told) {
             Ok(()) => Ok(()),
             Err(_) => Err(Unanswered::Write),
         },

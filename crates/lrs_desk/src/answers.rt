@@ -11,11 +11,11 @@ ghost use Rattle.lrs_answers.specs.Told.{AreTotals, IsNamedRoute, IsOnLink, IsTr
 ghost use Rattle.lrs_machine.specs.Image.{state_of};
 
 use crate::desk::Desk;
-use lrs_answers::{AskFault, AtAnswer, FoundRow, RouteLength};
+use lrs_answers::{AskFault, AtAnswer, FoundRow, RouteLength, RouteSegments};
 use lrs_diagram::Diagram;
 use lrs_events::{ClassName, Side};
 use lrs_image::Keeper;
-use lrs_machine::{Segment, Total};
+use lrs_machine::Total;
 use lrs_measure::{Frac, Rows};
 use lrs_position::{Expr, Route, RouteName, Target};
 
@@ -67,7 +67,8 @@ impl<K: Keeper> Desk<K> {
         lrs_answers::find(self.alloc(), self.inventory(), asset)
     }
 
-    /// The segments of a route by these exclusive classes, on one side of it (ISO 19148: linear segment).
+    /// The segments of a route by these exclusive classes, on one side of it (ISO 19148: linear segment), each of which is made
+    /// where it is taken.
     ///
     /// # Errors
     ///
@@ -77,7 +78,7 @@ impl<K: Keeper> Desk<K> {
         route: &RouteName,
         wanted: &[ClassName],
         side: Side,
-    ) -> Result<Rows<Segment>, AskFault>
+    ) -> Result<RouteSegments<'_>, AskFault>
         ensures reopen { (result ≡ Err AskFault.MustReopen) ↔ IsTrue self.now.is_ahead }
         ensures answer { self.now.is_ahead ≡ false
             → IsSegmented (state_of self.now.image) route.now wanted.now side result }

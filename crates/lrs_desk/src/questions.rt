@@ -19,7 +19,7 @@ use lrs_measure::Rows;
 use lrs_position::{Expr, RouteName, Target};
 
 impl<K: Keeper> Desk<K> {
-    fn tell_at(&self, route: RouteName, position: Expr) -> Result<Told, AskFault>
+    fn tell_at(&self, route: RouteName, position: Expr) -> Result<Told<'_>, AskFault>
         ensures reopen { (result ≡ Err AskFault.MustReopen) ↔ IsTrue self.now.is_ahead }
         ensures answer { self.now.is_ahead ≡ false
             → Tells (IsAt (state_of self.now.image) route position) (told.At route) result }
@@ -28,7 +28,7 @@ impl<K: Keeper> Desk<K> {
         Ok(Told::At { route, found })
     }
 
-    fn tell_route(&self, name: RouteName) -> Result<Told, AskFault>
+    fn tell_route(&self, name: RouteName) -> Result<Told<'_>, AskFault>
         ensures reopen { (result ≡ Err AskFault.MustReopen) ↔ IsTrue self.now.is_ahead }
         ensures answer { self.now.is_ahead ≡ false
             → Tells (IsNamedRoute self.now.image name) told.Route result }
@@ -49,7 +49,7 @@ impl<K: Keeper> Desk<K> {
         route: RouteName,
         side: Side,
         classes: Rows<ClassName>,
-    ) -> Result<Told, AskFault>
+    ) -> Result<Told<'_>, AskFault>
         ensures reopen { (result ≡ Err AskFault.MustReopen) ↔ IsTrue self.now.is_ahead }
         ensures answer { self.now.is_ahead ≡ false
             → Tells (IsSegmented (state_of self.now.image) route classes side)
@@ -71,7 +71,7 @@ impl<K: Keeper> Desk<K> {
         route: RouteName,
         position: Expr,
         target: Target,
-    ) -> Result<Told, AskFault>
+    ) -> Result<Told<'_>, AskFault>
         ensures reopen { (result ≡ Err AskFault.MustReopen) ↔ IsTrue self.now.is_ahead }
         ensures answer { self.now.is_ahead ≡ false
             → Tells (IsTranslated (state_of self.now.image) route position target)
@@ -81,7 +81,7 @@ impl<K: Keeper> Desk<K> {
         Ok(Told::Translated { route, position })
     }
 
-    fn tell_on_link(&self, route: RouteName, position: Expr) -> Result<Told, AskFault>
+    fn tell_on_link(&self, route: RouteName, position: Expr) -> Result<Told<'_>, AskFault>
         ensures reopen { (result ≡ Err AskFault.MustReopen) ↔ IsTrue self.now.is_ahead }
         ensures answer { self.now.is_ahead ≡ false
             → Tells (IsOnLink (state_of self.now.image) route position)
@@ -101,7 +101,7 @@ impl<K: Keeper> Desk<K> {
         classes: Rows<ClassName>,
         from: Option<u64>,
         to: Option<u64>,
-    ) -> Result<Told, AskFault>
+    ) -> Result<Told<'_>, AskFault>
         ensures reopen { (result ≡ Err AskFault.MustReopen) ↔ IsTrue self.now.is_ahead }
         ensures answer { self.now.is_ahead ≡ false
             → Tells (IsDrawn self.now.image route classes from to) told.Diagram result }
@@ -110,7 +110,7 @@ impl<K: Keeper> Desk<K> {
         Ok(Told::Diagram(diagram))
     }
 
-    fn tell_routes(&self) -> Result<Told, AskFault>
+    fn tell_routes(&self) -> Result<Told<'_>, AskFault>
         ensures reopen { (result ≡ Err AskFault.MustReopen) ↔ IsTrue self.now.is_ahead }
         ensures answer { self.now.is_ahead ≡ false
             → Tells (AreRoutes self.now.image) told.Routes result }
@@ -119,7 +119,7 @@ impl<K: Keeper> Desk<K> {
         Ok(Told::Routes(routes))
     }
 
-    fn tell_totals(&self) -> Result<Told, AskFault>
+    fn tell_totals(&self) -> Result<Told<'_>, AskFault>
         ensures reopen { (result ≡ Err AskFault.MustReopen) ↔ IsTrue self.now.is_ahead }
         ensures answer { self.now.is_ahead ≡ false
             → Tells (AreTotals (state_of self.now.image)) told.Totals result }
@@ -128,7 +128,7 @@ impl<K: Keeper> Desk<K> {
         Ok(Told::Totals(totals))
     }
 
-    fn tell_found(&self, asset: u64) -> Result<Told, AskFault>
+    fn tell_found(&self, asset: u64) -> Result<Told<'_>, AskFault>
         ensures reopen { (result ≡ Err AskFault.MustReopen) ↔ IsTrue self.now.is_ahead }
         ensures answer { self.now.is_ahead ≡ false
             → Tells (IsFound (state_of self.now.image) asset) told.Found result }
@@ -143,7 +143,7 @@ impl<K: Keeper> Desk<K> {
     ///
     /// `MustReopen` once a commit of several commands has failed; else those of the call for its kind: `at`, `route`, `segments`,
     /// `translate`, `to_link`, `diagram`, `routes`, `totals` or `find`.
-    pub fn ask(&self, question: Question) -> Result<Told, AskFault>
+    pub fn ask(&self, question: Question) -> Result<Told<'_>, AskFault>
         ensures reopen { (result ≡ Err AskFault.MustReopen) ↔ IsTrue self.now.is_ahead }
         ensures answer { self.now.is_ahead ≡ false → IsTold self.now.image question result }
     {

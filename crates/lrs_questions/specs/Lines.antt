@@ -69,6 +69,11 @@ abbrev pub segments_lines : Text → Name → Side → List Segment → Text
 segments_lines key route side segments =
     fields_line (key ∷ codes "segments" ∷ route ∷ side_text side ∷ decimal (length segments) ∷ []) ++ flat_map (segment_line key) segments
 
+-- how many segments are told
+abbrev pub segment_count : Told → ℕ
+segment_count (told.Segments route side len classes segments) = length segments
+segment_count _ = 0
+
 -- What is told to a question of a sheet, under its key; a sheet asks nothing that is told in another way.
 abbrev pub told_lines : Text → Told → Text
 told_lines key (told.At route found) = at_lines key route found

@@ -1,13 +1,13 @@
 //! A record is asked at a desk and answered.
 
-ghost use Rattle.std.specs.Prelude.{◌≡◌, ◌≤◌, ◌⊎◌, ◌++◌, length, codes, false, IfOk, IfErr, OnOk, Some};
+ghost use Rattle.std.specs.Prelude.{◌≡◌, ◌≤◌, ◌⊎◌, ◌++◌, length, codes, false, IfOk, IfErr, IsTrue, OnOk, Some};
 ghost use Rattle.std.specs.Io.KnownBytes.{Appends};
 ghost use Rattle.csv.specs.Records.{fields_of};
 ghost use Rattle.lrs_answers.specs.Causes.{cause_text};
-ghost use Rattle.lrs_questions.specs.Lines.{refused_line};
+ghost use Rattle.lrs_questions.specs.Lines.{refused_line, told_lines};
 ghost use Rattle.lrs_questions.specs.Replies.{IsReplied, Reply, malformed, reply_of};
 
-use crate::lines::write_told;
+use crate::lines::{count_segments, write_told};
 use csv::ByteRecord;
 use lrs_answers::{AskCause, AskFault, Told, cause_of};
 use lrs_desk::{Desk, Keeper};
@@ -50,11 +50,27 @@ fn write_malformed<W: Write>(writer: &mut W, row: &ByteRecord, field: Field) -> 
     }
 }
 
+/// Writes what is told to a question, and says so. What it takes of memory is taken before anything is written.
+fn write_answer<W: Write>(writer: &mut W, key: Key, told: Told<'_>) -> Result<bool, SheetFault>
+    ensures written { IfOk result (λ is_answer. IsTrue is_answer
+        × Appends (W.contents writer.old) (W.contents writer.new) (told_lines key told)) }
+    ensures faults { IfErr result (λ e. (e ≡ SheetFault.Write)
+        ⊎ ((e ≡ SheetFault.Memory) × (W.contents writer.new ≡ W.contents writer.old))) }
+{
+    let Ok(count) = count_segments(&told) else {
+        return Err(SheetFault::Memory);
+    };
+    match write_told(writer, key, told, count) {
+        Ok(()) => Ok(true),
+        Err(_) => Err(SheetFault::Write),
+    }
+}
+
 /// Writes what is told to a question, or why it is refused, and says whether it is told.
 fn write_said<W: Write>(
     writer: &mut W,
     key: Key,
-    said: Result<Told, AskFault>,
+    said: Result<Told<'_>, AskFault>,
 ) -> Result<bool, SheetFault>
     ensures written { IfOk result (λ is_answer. (reply : Reply)
         × (reply_of key said ≡ Some reply) × (is_answer ≡ reply.is_answer)
@@ -63,10 +79,7 @@ fn write_said<W: Write>(
         ⊎ ((e ≡ SheetFault.Memory) × (W.contents writer.new ≡ W.contents writer.old))) }
 {
     match said {
-        Ok(told) => match write_told(writer, key, &told) {
-            Ok(()) => Ok(true),
-            Err(_) => Err(SheetFault::Write),
-        },
+        Ok(told) => write_answer(writer, key, told),
         Err(fault) => match cause_of(fault) {
             Some(cause) => match write_refused(writer, key, cause) {
                 Ok(()) => Ok(false),

@@ -1,18 +1,19 @@
 //! The lines of answers, written without taking memory.
 
-ghost use Rattle.std.specs.Prelude.{◌≡◌, ◌∷◌, [], OnOk, codes};
+ghost use Rattle.std.specs.Prelude.{◌≡◌, ◌∷◌, [], length, codes, IfOk, OnOk};
 ghost use Rattle.std.specs.List.{flat_map};
 ghost use Rattle.std.specs.Fmt.{decimal};
 ghost use Rattle.std.specs.Io.KnownBytes.{Appends};
 ghost use Rattle.lrs_events.specs.Names.{side_text};
 ghost use Rattle.lrs_machine.specs.Lines.{fields, method_text};
-ghost use Rattle.lrs_questions.specs.Lines.{at_lines, fields_line, found_lines, hit_line, place_line, row_line, segment_line, segments_lines, told_lines, value_field};
+ghost use Rattle.lrs_questions.specs.Lines.{at_lines, fields_line, found_lines, hit_line, place_line, row_line, segment_count, segment_line, segments_lines, told_lines, value_field};
 
-use lrs_answers::{AtAnswer, FoundRow, Told};
+use lrs_answers::{AtAnswer, FoundRow, RouteSegments, Told};
 use lrs_events::{Side, Value};
 use lrs_machine::{Hit, Key, Segment};
 use lrs_measure::Frac;
 use lrs_position::{Expr, RouteName};
+use std::alloc::AllocError;
 use std::io;
 use std::io::Write;
 
@@ -199,12 +200,13 @@ fn write_segment<W: Write>(writer: &mut W, key: Key, segment: &Segment) -> io::R
     writer.write_all(b"\n")
 }
 
-fn write_each<W: Write>(writer: &mut W, key: Key, segments: &[Segment]) -> io::Result<()>
+fn write_each<W: Write>(writer: &mut W, key: Key, mut segments: RouteSegments<'_>) -> io::Result<()>
     ensures { OnOk result (Appends (W.contents writer.old) (W.contents writer.new)
-        (flat_map (segment_line key) segments.now)) }
+        (flat_map (segment_line key) segments)) }
 {
-    for segment in segments {
+    while let Some(segment) = segments.first() {
         write_segment(writer, key, segment)?;
+        segments.pass();
     }
     Ok(())
 }
@@ -229,35 +231,63 @@ fn write_segments<W: Write>(
     key: Key,
     route: &RouteName,
     side: Side,
-    segments: &[Segment],
+    count: usize,
+    segments: RouteSegments<'_>,
 ) -> io::Result<()>
+    requires { count ≡ length segments }
     ensures { OnOk result (Appends (W.contents writer.old) (W.contents writer.new)
-        (segments_lines key route.now side segments.now)) }
+        (segments_lines key route.now side segments)) }
 {
-    write_segment_count(writer, key, route, side, segments.len())?;
+    write_segment_count(writer, key, route, side, count)?;
     write_each(writer, key, segments)
 }
 
-/// Writes what is told to a question of a sheet, under its key.
-pub(crate) fn write_told<W: Write>(writer: &mut W, key: Key, told: &Told) -> io::Result<()>
-    ensures { OnOk result (Appends (W.contents writer.old) (W.contents writer.new)
-        (told_lines key told.now)) }
+/// How many segments are told.
+///
+/// # Errors
+/// When memory runs out.
+pub(crate) fn count_segments(told: &Told<'_>) -> Result<usize, AllocError>
+    ensures { IfOk result (λ count. count ≡ segment_count told.now) }
 {
     match told {
-        Told::At { route, found } => write_at(writer, key, route, found),
-        Told::Translated { route, position } => write_translated(writer, key, route, position),
+        Told::Segments { segments, .. } => segments.count(),
+        Told::At { .. }
+        | Told::Translated { .. }
+        | Told::OnLink { .. }
+        | Told::Found(_)
+        | Told::Route(_)
+        | Told::Diagram(_)
+        | Told::Routes(_)
+        | Told::Totals(_) => Ok(0),
+    }
+}
+
+/// Writes what is told to a question of a sheet, under its key. So many segments are told.
+pub(crate) fn write_told<W: Write>(
+    writer: &mut W,
+    key: Key,
+    told: Told<'_>,
+    count: usize,
+) -> io::Result<()>
+    requires { count ≡ segment_count told }
+    ensures { OnOk result (Appends (W.contents writer.old) (W.contents writer.new)
+        (told_lines key told)) }
+{
+    match told {
+        Told::At { route, found } => write_at(writer, key, &route, &found),
+        Told::Translated { route, position } => write_translated(writer, key, &route, &position),
         Told::OnLink {
             route,
             link,
             distance,
-        } => write_on_link(writer, key, route, *link, *distance),
+        } => write_on_link(writer, key, &route, link, distance),
         Told::Found(rows) => write_found(writer, key, rows.as_slice()),
         Told::Segments {
             route,
             side,
             segments,
             ..
-        } => write_segments(writer, key, route, *side, segments.as_slice()),
+        } => write_segments(writer, key, &route, side, count, segments),
         Told::Route(_) | Told::Diagram(_) | Told::Routes(_) | Told::Totals(_) => Ok(()),
     }
 }

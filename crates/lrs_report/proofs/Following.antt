@@ -1,6 +1,5 @@
 -- The stretches of rows that follow one another.
-use Rattle.std.proofs.Common.{◌≡◌, ℕ, ◌<◌, ◌≤◌, Bool, true, false, cond, Option, Some, None, ◌⊎◌, inl, inr, List, [], ◌∷◌, ◌++◌, length, drop, refl, sym, ap, subst, ◌∙◌, arith}
-use Rattle.std.proofs.Math.ListN.{drop_of_length-le}
+use Rattle.std.proofs.Common.{◌≡◌, ℕ, ◌<◌, ◌≤◌, Bool, true, false, cond, Option, Some, None, ◌⊎◌, inl, inr, List, [], ◌∷◌, ◌++◌, refl, sym, ap, subst, ◌∙◌, arith}
 use Rattle.std.specs.Prelude.{◌&&◌, nat_lt, if◌then◌else◌}
 use Rattle.std.specs.List.{find}
 use Rattle.std.specs.Option.{option_and_then}
@@ -10,13 +9,8 @@ use Rattle.lrs_events.specs.declared.span.Span.{Span}
 use Rattle.lrs_events_rows.specs.Order.{In}
 use Rattle.lrs_report.specs.declared.columns.ValueStretch.{ValueStretch}
 use Rattle.lrs_report.specs.Along.{FollowOn, is_at}
-use Rattle.lrs_report.specs.Columns.{IsColumn, value_at, gap}
+use Rattle.lrs_report.specs.Columns.{IsColumn, value_at, gap, stretches_from, stretches_behind}
 use Rattle.lrs_report.proofs.Found.{none_found}
-
--- the stretches of rows, each of the value of its asset, and those between them
-abbrev pub stretches_from : (ℕ → Option Name) → ℕ → ℕ → List Span → List ValueStretch
-stretches_from v from len [] = gap from len
-stretches_from v from len (r ∷ rs) = gap from r.from ++ record { to = r.to; value = v r.asset } ∷ stretches_from v r.to len rs
 
 -- ---- gaps
 
@@ -99,7 +93,29 @@ module _ (v : ℕ → Option Name) (len : ℕ) where
           ∙ later l high
           ∙ sym (λ i. option_and_then (λ q. v q.asset) (cond (le-leb r.from j k i && le-ltb j r.to l i) (Some r) (find (is_at j) rs)))
 
--- where all rows are done, and the gap behind them
-pub all_rows : (v : ℕ → Option Name) (from len n : ℕ) (rows : List Span) (done new : List ValueStretch) → length rows ≤ n → new ≡ done ++ gap from len → done ++ stretches_from v from len (drop n rows) ≡ stretches_from v 0 len rows
-    → new ≡ stretches_from v 0 len rows
-all_rows v from len n rows done new h e so = e ∙ sym (ap (λ rs. done ++ stretches_from v from len rs) (drop_of_length-le rows h)) ∙ so
+-- ---- the first stretch, and those behind it
+
+-- a gap that begins where it ends is none
+no_gap : (from to : ℕ) → to ≤ from → gap from to ≡ []
+no_gap from to h = ap (λ b. if◌then◌else◌ {A = List ValueStretch} b (record { to = to; value = None } ∷ []) []) (le-ltb from to h)
+
+some_gap : (from to : ℕ) → from < to → gap from to ≡ record { to = to; value = None } ∷ []
+some_gap from to h = ap (λ b. if◌then◌else◌ {A = List ValueStretch} b (record { to = to; value = None } ∷ []) []) (lt-ltb from to h)
+
+-- where the first row begins, or the route ends where there is none
+abbrev pub next_start : ℕ → List Span → ℕ
+next_start len [] = len
+next_start len (r ∷ rs) = r.from
+
+module _ (v : ℕ → Option Name) (len from : ℕ) where
+  pub gap_first : (rows : List Span) → from < next_start len rows → stretches_behind v len (Some (record { to = next_start len rows; value = None })) rows ≡ stretches_from v from len rows
+  gap_first [] h = ap (λ ss. record { to = len; value = None } ∷ ss) (no_gap len len (omega arith)) ∙ sym (some_gap from len h)
+  gap_first (r ∷ rs) h =
+      let rest : List ValueStretch = record { to = r.to; value = v r.asset } ∷ stretches_from v r.to len rs in
+      ap (λ ss. record { to = r.from; value = None } ∷ (ss ++ rest)) (no_gap r.from r.from (omega arith)) ∙ sym (ap (λ ss. ss ++ rest) (some_gap from r.from h))
+
+  pub row_first : (r : Span) (rs : List Span) → r.from ≤ from → stretches_behind v len (Some (record { to = r.to; value = v r.asset })) rs ≡ stretches_from v from len (r ∷ rs)
+  row_first r rs h = sym (ap (λ ss. ss ++ record { to = r.to; value = v r.asset } ∷ stretches_from v r.to len rs) (no_gap from r.from h))
+
+  pub none_first : len ≤ from → stretches_behind v len None [] ≡ stretches_from v from len []
+  none_first h = sym (no_gap from len h)

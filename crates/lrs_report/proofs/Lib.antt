@@ -8,3 +8,4 @@ pub mod Writing
 pub mod States
 pub mod Keyed
 pub mod Tallied
+pub mod Taking

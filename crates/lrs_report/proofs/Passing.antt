@@ -25,6 +25,23 @@ next_changed f i xs ys v w h so e k =
     let n : suc i ≡ i + 1 = omega arith in
     ap (λ zs. set zs i w) so ∙ set_next f i xs v w h (e ∙ ap (λ zs. get_or zs i v) so) k ∙ ap (λ m. map f (take m xs) ++ drop m xs) n
 
+-- ---- elements that are put in the places of others
+
+put_next : {A B : Type 0} → (f : A → B) (i : ℕ) (xs : List A) (ys : List B) (x : A) → length ys ≡ length xs → i < length xs → x ≡ get_or xs i x
+    → set (map f (take i xs) ++ drop i ys) i (f x) ≡ map f (take (suc i) xs) ++ drop (suc i) ys
+put_next f zero [] ys x e h k = absurd (omega (arith, h))
+put_next f zero (a ∷ xs) [] x e h k = absurd (omega (arith, e))
+put_next f zero (a ∷ xs) (b ∷ ys) x e h k = ap (λ z. f z ∷ ys) k
+put_next f (suc i) [] ys x e h k = absurd (omega (arith, h))
+put_next f (suc i) (a ∷ xs) [] x e h k = absurd (omega (arith, e))
+put_next f (suc i) (a ∷ xs) (b ∷ ys) x e h k = ap (λ zs. f a ∷ zs) (put_next f i xs ys x (omega (arith, e)) (omega (arith, h)) k)
+
+pub next_put : {A B : Type 0} → (f : A → B) (i : ℕ) (xs : List A) (ys zs : List B) (x : A) (w : B) → length ys ≡ length xs → i < length xs → zs ≡ map f (take i xs) ++ drop i ys → x ≡ get_or xs i x → w ≡ f x
+    → set zs i w ≡ map f (take (i + 1) xs) ++ drop (i + 1) ys
+next_put f i xs ys zs x w e h so k is =
+    let n : suc i ≡ i + 1 = omega arith in
+    (λ t. set (so t) i (is t)) ∙ put_next f i xs ys x e h k ∙ ap (λ m. map f (take m xs) ++ drop m ys) n
+
 -- ---- one column
 
 column_along : (len to j : ℕ) (c : List ValueStretch) → j < to → to ≤ first_end len c → value_at c j ≡ first_value c

@@ -1,19 +1,19 @@
--- Segments as far as a sweep has come.
-use Rattle.std.proofs.Common.{◌≡◌, ℕ, ◌+◌, ◌<◌, ◌≤◌, Bool, true, false, Option, Some, None, List, [], ◌∷◌, ◌++◌, map, refl, sym, ap, subst, ◌∙◌, arith}
-use Rattle.std.specs.Prelude.{not}
+-- The first segment of columns, and those behind it.
+use Rattle.std.proofs.Common.{◌≡◌, ℕ, zero, suc, ◌+◌, ◌-◌, ◌^◌, ◌<◌, ◌≤◌, Bool, true, false, Option, Some, None, List, [], ◌∷◌, length, map, refl, sym, ap, subst, ◌∙◌, arith}
+use Rattle.std.specs.Prelude.{not, if◌then◌else◌}
 use Rattle.std.specs.List.{range_with_len}
 use Rattle.std.specs.Cmp.Lexicographic.{pointwise_decides, bytes_decides}
-use Rattle.std.proofs.lemmas.Bool.{false≢true, and_parts, and_from}
-use Rattle.std.proofs.lemmas.List.{map-append}
+use Rattle.std.proofs.lemmas.Bool.{false≢true, not-true}
+use Rattle.std.proofs.lemmas.List.{length-map}
+use Rattle.std.proofs.lemmas.List.FromFn.{length-map-range_with_len}
 use Rattle.lrs_measure.specs.Texts.{Name, same_name}
-use Rattle.lrs_measure.specs.Runs.{Run, runs_of, same_option}
-use Rattle.lrs_measure.specs.Maximal.{IsChain, neighbours_differ}
-use Rattle.lrs_measure.proofs.Runs.{AreValued, range_runs_are}
+use Rattle.lrs_measure.specs.Runs.{Run, longer, runs_from, same_option}
+use Rattle.lrs_measure.specs.Maximal.{begin_other}
 use Rattle.lrs_machine.specs.Segments.{Values, same_values}
 use Rattle.lrs_machine.specs.declared.segment.Segment.{Segment}
 use Rattle.lrs_report.specs.declared.columns.ValueStretch.{ValueStretch}
-use Rattle.lrs_report.specs.Columns.{first_value, least_end, values_at}
-use Rattle.lrs_report.specs.Sweep.{run_of, IsPassed}
+use Rattle.lrs_report.specs.Columns.{first_value, least_end, value_at, values_at}
+use Rattle.lrs_report.specs.Sweep.{run_of, segment_of, segments_between, segments_from, HasBegun, IsPassed}
 use Rattle.lrs_report.proofs.Passing.{values_along, least_ahead}
 
 -- ---- equal values
@@ -37,74 +37,106 @@ values_equal xs ys = (values_decide xs ys).0
 values_itself : (xs : Values) → same_values xs xs ≡ true
 values_itself xs = (values_decide xs xs).1 refl
 
--- ---- one run more
+-- ---- the first run, and those behind it
 
 module _ {A : Type 0} (same : A → A → Bool) where
-  -- the last run, if there is one, has another value
-  abbrev pub ends_other : List (Run A) → A → Bool
-  ends_other [] y = true
-  ends_other (r ∷ []) y = not (same r.value y)
-  ends_other (r ∷ q ∷ rs) y = ends_other (q ∷ rs) y
+  alone : (j : ℕ) (x : A) (rs : List (Run A)) → begin_other same x rs ≡ true → longer same j x rs ≡ record { from = j; to = j + 1; value = x } ∷ rs
+  alone j x [] h = refl
+  alone j x (r ∷ rs) h = ap (λ b. if b then record { from = j; to = r.to; value = x } ∷ rs else record { from = j; to = j + 1; value = x } ∷ r ∷ rs) (not-true (same x r.value) h)
 
-  chain_more : (from b c : ℕ) (v : A) (rs : List (Run A)) → IsChain from b rs → b < c → IsChain from c (rs ++ record { from = b; to = c; value = v } ∷ [])
-  chain_more from b c v [] h k = (sym h, k, refl)
-  chain_more from b c v (r ∷ rs) h k = (h.0, h.1, chain_more r.to b c v rs h.2 k)
+  -- a function has one value up to a place, and another one there
+  one_value : ((x : A) → same x x ≡ true) → (f : ℕ → A) (x : A) (n m j to : ℕ) → j + suc n ≡ to → ((k : ℕ) → j ≤ k → k < to → f k ≡ x) → begin_other same x (runs_from same to (map f (range_with_len to m))) ≡ true
+      → runs_from same j (map f (range_with_len j (suc n + m))) ≡ record { from = j; to = to; value = x } ∷ runs_from same to (map f (range_with_len to m))
+  one_value itself f x zero m j to e h b =
+      let P : ℕ → Type 0 = λ k. runs_from same j (map f (range_with_len j k)) ≡ record { from = j; to = to; value = x } ∷ runs_from same to (map f (range_with_len to m)) in
+      let all : suc m ≡ suc zero + m = omega arith in
+      let first : f j ≡ x = h j (omega arith) (omega (arith, e)) in
+      let next : j + 1 ≡ to = omega (arith, e) in
+      subst P all
+      ((λ i. longer same j (first i) (runs_from same (next i) (map f (range_with_len (next i) m))))
+      ∙ alone j x (runs_from same to (map f (range_with_len to m))) b
+      ∙ (λ i. record { from = j; to = next i; value = x } ∷ runs_from same to (map f (range_with_len to m))))
+  one_value itself f x (suc n) m j to e h b =
+      let behind = runs_from same to (map f (range_with_len to m)) in
+      let P : ℕ → Type 0 = λ k. runs_from same j (map f (range_with_len j k)) ≡ record { from = j; to = to; value = x } ∷ behind in
+      let all : suc (suc n + m) ≡ suc (suc n) + m = omega arith in
+      let first : f j ≡ x = h j (omega arith) (omega (arith, e)) in
+      let rest = one_value itself f x n m (j + 1) to (omega (arith, e)) (λ k low high. h k (omega (arith, low)) high) b in
+      subst P all
+      ((λ i. longer same j (first i) (rest i))
+      ∙ ap (λ c. if c then record { from = j; to = to; value = x } ∷ behind else record { from = j; to = j + 1; value = x } ∷ record { from = j + 1; to = to; value = x } ∷ behind) (itself x))
 
-  valued_more : (f : ℕ → A) (b c : ℕ) (v : A) (rs : List (Run A)) → AreValued f rs → ((j : ℕ) → b ≤ j → j < c → f j ≡ v) → AreValued f (rs ++ record { from = b; to = c; value = v } ∷ [])
-  valued_more f b c v [] h k = (k, tt)
-  valued_more f b c v (r ∷ rs) h k = (h.0, valued_more f b c v rs h.1 k)
+  begin_longer : (x y : A) (j : ℕ) (rs : List (Run A)) → begin_other same x (longer same j y rs) ≡ not (same x y)
+  begin_longer x y j [] = refl
+  begin_longer x y j (r ∷ rs) = by (same y r.value)
+    where
+      by : (c : Bool) → begin_other same x (if c then record { from = j; to = r.to; value = y } ∷ rs else record { from = j; to = j + 1; value = y } ∷ r ∷ rs) ≡ not (same x y)
+      by true = refl
+      by false = refl
 
-  differ_more : (b c : ℕ) (v : A) (rs : List (Run A)) → neighbours_differ same rs ≡ true → ends_other rs v ≡ true → neighbours_differ same (rs ++ record { from = b; to = c; value = v } ∷ []) ≡ true
-  differ_more b c v [] h k = refl
-  differ_more b c v (r ∷ []) h k = and_from (not (same r.value v)) true k refl
-  differ_more b c v (r ∷ q ∷ rs) h k =
-      let parts = and_parts (not (same r.value q.value)) (neighbours_differ same (q ∷ rs)) h in
-      and_from (not (same r.value q.value)) (neighbours_differ same ((q ∷ rs) ++ record { from = b; to = c; value = v } ∷ [])) parts.0 (differ_more b c v (q ∷ rs) parts.1 k)
+same_along : {A : Type 0} (f g : ℕ → A) (n j : ℕ) → ((k : ℕ) → j ≤ k → f k ≡ g k) → map f (range_with_len j n) ≡ map g (range_with_len j n)
+same_along f g zero j h = refl
+same_along f g (suc n) j h = let first = h j (omega arith) in let rest = same_along f g n (j + 1) (λ k low. h k (omega (arith, low))) in λ i. first i ∷ rest i
 
-  ends_more : (b c : ℕ) (v y : A) (rs : List (Run A)) → ends_other (rs ++ record { from = b; to = c; value = v } ∷ []) y ≡ not (same v y)
-  ends_more b c v y [] = refl
-  ends_more b c v y (r ∷ []) = refl
-  ends_more b c v y (r ∷ q ∷ rs) = ends_more b c v y (q ∷ rs)
+-- ---- segments
 
--- ---- as far as the sweep has come
-
--- the runs up to a chainage are maximal
-pub record IsSwept (f : ℕ → Values) (x len : ℕ) (rs : List (Run Values)) : Type 0 where
-  pub within : x ≤ len
-  pub cover : IsChain 0 x rs
-  pub values : AreValued f rs
-  pub maximal : neighbours_differ same_values rs ≡ true
-  pub last : x < len → ends_other same_values rs (f x) ≡ true
-
-pub nothing_swept : (f : ℕ → Values) (len : ℕ) → IsSwept f 0 len []
-nothing_swept f len = record { within = omega arith; cover = refl; values = tt; maximal = refl; last = λ h. refl }
-
--- one step of a sweep
-pub swept_more : (f : ℕ → Values) (x len to : ℕ) (v : Values) (old new : List (List ValueStretch)) (ss : List Segment)
-    → IsSwept f x len (map run_of ss) → ((j : ℕ) → x ≤ j → values_at old j ≡ f j) → IsPassed x len v old to new → (to < len → same_values v (map first_value new) ≡ false)
-    → IsSwept f to len (map run_of (ss ++ record { from = x; to = to; values = v } ∷ []))
-swept_more f x len to v old new ss h same p other =
-    subst (IsSwept f to len) (sym (map-append run_of ss (record { from = x; to = to; values = v } ∷ []))) (record {
-      within = p.within;
-      cover = chain_more same_values 0 x to v (map run_of ss) h.cover p.ahead;
-      values = valued_more same_values f x to v (map run_of ss) h.values here;
-      maximal = differ_more same_values x to v (map run_of ss) h.maximal (subst (λ y. ends_other same_values (map run_of ss) y ≡ true) (here x (omega arith) p.ahead) (h.last (let a = p.ahead in let w = p.within in omega (arith, a, w))));
-      last = λ k. ends_more same_values x to v (f to) (map run_of ss) ∙ ap not (ap (same_values v) (there k) ∙ other k);
-    })
+few_longer : {A : Type 0} (same : A → A → Bool) (j : ℕ) (x : A) (rs : List (Run A)) → length (longer same j x rs) ≤ length rs + 1
+few_longer same j x [] = omega arith
+few_longer same j x (r ∷ rs) = by (same x r.value)
   where
-    here : (j : ℕ) → x ≤ j → j < to → f j ≡ v
-    here j low high = sym (same j low) ∙ p.along j low high
+    by : (b : Bool) → length (if b then record { from = j; to = r.to; value = x } ∷ rs else record { from = j; to = j + 1; value = x } ∷ r ∷ rs) ≤ length (r ∷ rs) + 1
+    by true = omega arith
+    by false = omega arith
 
-    there : to < len → f to ≡ map first_value new
-    there k =
-        let a = p.ahead in
-        let low : x ≤ to = omega (arith, a) in
-        sym (same to low) ∙ sym (p.rest to (omega arith)) ∙ values_along len (least_end len new) to new (least_ahead to len new p.columns k) (omega arith)
+few_runs : {A : Type 0} (same : A → A → Bool) (j : ℕ) (xs : List A) → length (runs_from same j xs) ≤ length xs
+few_runs same j [] = omega arith
+few_runs same j (x ∷ xs) = let rest = few_runs same (j + 1) xs in let one = few_longer same j x (runs_from same (j + 1) xs) in omega (arith, rest, one)
 
--- all of a route is swept
-pub all_swept : (f : ℕ → Values) (x len : ℕ) (ss : List Segment) → IsSwept f x len (map run_of ss) → len ≤ x → map run_of ss ≡ runs_of same_values (map f (range_with_len 0 len))
-all_swept f x len ss h end =
+-- there are no more segments than millimetres
+pub few_segments : (first : Option Segment) (columns : List (List ValueStretch)) (len : ℕ) → HasBegun first columns len → length (segments_from first columns len) < 2 ^ 64
+few_segments None columns len h = omega arith
+few_segments (Some s) columns len h =
+    let values : List Values = map (values_at columns) (range_with_len s.to (len - s.to)) in
+    let runs = runs_from same_values s.to values in
+    let all = length-map runs segment_of in
+    let few = few_runs same_values s.to values in
+    let size = length-map-range_with_len (values_at columns) s.to (len - s.to) in
+    let a = h.ahead in
     let w = h.within in
-    let e : x ≡ 0 + len = omega (arith, w, end) in
-    let P : ℕ → Type 0 = λ n. IsChain 0 n (map run_of ss) in
-    sym (range_runs_are same_values values_itself f 0 len (map run_of ss) (subst P e h.cover) h.values h.maximal)
+    let f = h.fits in
+    omega (arith, all, few, size, a, w, f)
+
+pub runs_again : (rs : List (Run Values)) → map run_of (map segment_of rs) ≡ rs
+runs_again [] = refl
+runs_again (r ∷ rs) = ap (λ qs. r ∷ qs) (runs_again rs)
+
+pub no_segment : (columns : List (List ValueStretch)) (from to : ℕ) → to ≤ from → segments_between columns from to ≡ []
+no_segment columns from to h = let e : to - from ≡ 0 = omega (arith, h) in ap (λ n. map segment_of (runs_from same_values from (map (values_at columns) (range_with_len from n)))) e
+
+module _ (from len to : ℕ) (v : Values) (old new : List (List ValueStretch)) (passed : IsPassed from len v old to new) where
+  -- behind the columns' first values they have others, or the route ends
+  other_behind : (n : ℕ) → len - to ≡ n → (to < len → same_values v (map first_value new) ≡ false) → begin_other same_values v (runs_from same_values to (map (values_at old) (range_with_len to n))) ≡ true
+  other_behind zero e other = refl
+  other_behind (suc n) e other =
+      let k : to < len = omega (arith, e) in
+      let there : values_at old to ≡ map first_value new = sym (passed.rest to (omega arith)) ∙ values_along len (least_end len new) to new (least_ahead to len new passed.columns k) (omega arith) in
+      begin_longer same_values v (values_at old to) to (runs_from same_values (to + 1) (map (values_at old) (range_with_len (to + 1) n)))
+      ∙ ap not (ap (same_values v) there ∙ other k)
+
+  -- there are as many columns as before
+  pub as_many : length new ≡ length old
+  as_many =
+      let at : List ValueStretch → Option Name = λ c. value_at c to in
+      sym (length-map new at) ∙ ap length (passed.rest to (omega arith)) ∙ length-map old at
+
+  pub next_segment : (to < len → same_values v (map first_value new) ≡ false) → segments_between old from len ≡ record { from = from; to = to; values = v } ∷ segments_between new to len
+  next_segment other =
+      let a = passed.ahead in
+      let w = passed.within in
+      let n = to - from - 1 in
+      let m = len - to in
+      let e : from + suc n ≡ to = omega (arith, a) in
+      let all : len - from ≡ suc n + m = omega (arith, a, w) in
+      ap (λ k. map segment_of (runs_from same_values from (map (values_at old) (range_with_len from k)))) all
+      ∙ ap (map segment_of) (one_value same_values values_itself (values_at old) v n m from to e passed.along (other_behind m refl other))
+      ∙ ap (λ xs. record { from = from; to = to; values = v } ∷ map segment_of (runs_from same_values to xs)) (same_along (values_at old) (values_at new) m to (λ k low. sym (passed.rest k low)))

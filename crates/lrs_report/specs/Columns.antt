@@ -1,6 +1,7 @@
 -- Columns: what a class has along a route, in stretches that follow one another, each with a value or none.
-use Rattle.std.specs.Prelude.{◌≡◌, ℕ, ◌<◌, nat_lt, nat_le, min, if◌then◌else◌, List, [], ◌∷◌, map, Option, Some, None}
+use Rattle.std.specs.Prelude.{◌≡◌, ℕ, ◌<◌, nat_lt, nat_le, min, if◌then◌else◌, List, [], ◌∷◌, ◌++◌, map, Option, Some, None}
 use Rattle.lrs_measure.specs.Texts.{Name}
+use Rattle.lrs_events.specs.declared.span.Span.{Span}
 use Rattle.lrs_machine.specs.Segments.{Values}
 use Rattle.lrs_report.specs.declared.columns.ValueStretch.{ValueStretch}
 
@@ -45,3 +46,13 @@ values_at columns j = map (λ c. value_at c j) columns
 -- the stretch without a value between two chainages, if there is something between them
 abbrev pub gap : ℕ → ℕ → List ValueStretch
 gap from to = if nat_lt from to then record { to = to; value = None } ∷ [] else []
+
+-- the stretches from a chainage on of rows that follow one another, each of the value of its asset, and those between them
+abbrev pub stretches_from : (ℕ → Option Name) → ℕ → ℕ → List Span → List ValueStretch
+stretches_from value from len [] = gap from len
+stretches_from value from len (r ∷ rs) = gap from r.from ++ record { to = r.to; value = value r.asset } ∷ stretches_from value r.to len rs
+
+-- a first stretch, if there is one, and those behind it
+abbrev pub stretches_behind : (ℕ → Option Name) → ℕ → Option ValueStretch → List Span → List ValueStretch
+stretches_behind value len None rows = []
+stretches_behind value len (Some s) rows = s ∷ stretches_from value s.to len rows

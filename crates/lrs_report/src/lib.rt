@@ -14,5 +14,6 @@ mod tally;
 
 pub use class_totals::totals;
 pub use known_rows::KnownRows;
-pub use segmentation::segments;
+pub use segmentation::{segments, sweep_segments};
 pub use strip_text::{strip, strip_of};
+pub use sweep::Segments;

@@ -6,7 +6,9 @@ ghost use Rattle.std.specs.Io.KnownBytes.{Appends};
 ghost use Rattle.lrs_measure.specs.Printing.{metres_text};
 ghost use Rattle.lrs_report.specs.Strips.{aligned, columns_text, title_text, heading_text, value_text, segment_text, strip_text};
 
-use lrs_events::{ClassName, Side, Value};
+use crate::known_rows::KnownRows;
+use crate::sweep::Segments;
+use lrs_events::{Asset, ClassName, Side, Value};
 use lrs_machine::Segment;
 use lrs_measure::Metres;
 use lrs_position::{Route, RouteName};
@@ -121,30 +123,59 @@ fn write_segments<W: Write>(writer: &mut W, segments: &[Segment]) -> io::Result<
     Ok(())
 }
 
+/// Writes the lines of segments that are made one by one.
+fn write_each<W: Write, A: KnownRows<Asset, u64>>(
+    writer: &mut W,
+    mut segments: Segments<'_, A>,
+) -> io::Result<()>
+    ensures { OnOk result (Appends (W.contents writer.old) (W.contents writer.new)
+        (flat_map segment_text segments.entry)) }
+{
+    while let Some(segment) = segments.first() {
+        write_segment(writer, segment)?;
+        segments.pass();
+    }
+    Ok(())
+}
+
+/// Writes the title of a strip with the name of a route, the side and the length, and a heading with the classes asked for.
+fn write_front<W: Write>(
+    writer: &mut W,
+    name: &RouteName,
+    side: Side,
+    len: u64,
+    wanted: &[ClassName],
+) -> io::Result<()>
+    ensures { OnOk result (Appends (W.contents writer.old) (W.contents writer.new)
+        (title_text name.now side len ++ heading_text wanted.now)) }
+{
+    write_title(writer, name, side, len)?;
+    write_heading(writer, wanted)
+}
+
 /// Writes the strip of segments of a route that has this name and this length in millimetres: a title with the name, the side
 /// and the length in metres, a heading with the classes asked for, and a line for each segment. It takes no memory beyond the
 /// writer's; the writer is not flushed.
 ///
 /// # Errors
 /// That of the writer. Part of the strip may be written then.
-pub fn strip_of<W: Write>(
+pub fn strip_of<W: Write, A: KnownRows<Asset, u64>>(
     writer: &mut W,
     name: &RouteName,
     side: Side,
     len: u64,
     wanted: &[ClassName],
-    segments: &[Segment],
+    segments: Segments<'_, A>,
 ) -> io::Result<()>
     ensures { OnOk result (Appends (W.contents writer.old) (W.contents writer.new)
-        (strip_text name.now side len wanted.now segments.now)) }
+        (strip_text name.now side len wanted.now segments.entry)) }
 {
-    write_title(writer, name, side, len)?;
-    write_heading(writer, wanted)?;
-    write_segments(writer, segments)
+    write_front(writer, name, side, len, wanted)?;
+    write_each(writer, segments)
 }
 
 /// Writes the strip of a route's segments on one side (ISO 19148: linear segments), as `strip_of` does with the name and the
-/// length of the route. Chainages and the length are in metres.
+/// length of the route. Chainages and the length are in metres. It takes no memory beyond the writer's.
 ///
 /// # Errors
 /// That of the writer. Part of the strip may be written then.
@@ -158,5 +189,6 @@ pub fn strip<W: Write>(
     ensures { OnOk result (Appends (W.contents writer.old) (W.contents writer.new)
         (strip_text route.now.name side (length route.now.course) wanted.now segments.now)) }
 {
-    strip_of(writer, &route.name, side, route.length(), wanted, segments)
+    write_front(writer, &route.name, side, route.length(), wanted)?;
+    write_segments(writer, segments)
 }

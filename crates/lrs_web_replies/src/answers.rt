@@ -11,13 +11,13 @@ ghost use Rattle.lrs_web_replies.specs.Parts.{segments_end, segments_front};
 ghost use Rattle.lrs_machine.specs.Lines.{method_text};
 
 use crate::list::Shown;
-use crate::list_text::{add_array, add_name, add_value, begin};
+use crate::list_text::{add_name, add_segment_list, add_value, begin};
 use crate::members::{Member, Scalar, members_of, object_of, put_list, scalar_value};
-use lrs_answers::{FoundRow, RouteLength};
+use lrs_answers::{FoundRow, RouteLength, RouteSegments};
 use lrs_element::Ground;
 use lrs_events::Side;
 use lrs_lengths::ValueLength;
-use lrs_machine::{Hit, Segment, Total};
+use lrs_machine::{Hit, Total};
 use lrs_measure::Frac;
 use lrs_position::{Expr, Route, RouteName};
 use lrs_whereabouts::Whereabouts;
@@ -152,13 +152,13 @@ pub fn segments_json(
     alloc: Global,
     route: &RouteName,
     side: Side,
-    segments: &[Segment],
+    segments: RouteSegments<'_>,
 ) -> Result<Vec<u8>, AllocError>
     ensures { IfOk result (λ bytes. bytes.items ≡ compact_text
-        (segments_data route.now side segments.now)) }
+        (segments_data route.now side segments)) }
 {
     let mut bytes = begin_segments(alloc, route)?;
-    add_array(alloc, &mut bytes, segments)?;
+    add_segment_list(alloc, &mut bytes, segments)?;
     end_segments(alloc, &mut bytes, side)?;
     Ok(bytes)
 }

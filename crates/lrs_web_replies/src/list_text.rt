@@ -6,11 +6,13 @@ ghost use Rattle.serde_json.specs.Data.{Data};
 ghost use Rattle.serde_json.specs.View.{view};
 ghost use Rattle.serde_json.specs.Written.{compact_text, has_float};
 ghost use Rattle.lrs_machine.specs.Lines.{Text};
+ghost use Rattle.lrs_web_replies.specs.Answers.{segment_data};
 ghost use Rattle.lrs_web_replies.specs.Parts.{front_text, item_text, name_text, opened_text};
 ghost use Rattle.lrs_web_replies.specs.Shown.{each, list as list_data};
 
 use crate::answers::bytes_of;
 use crate::list::Shown;
+use lrs_answers::RouteSegments;
 use lrs_ordered::Chunked;
 use serde_json::Value;
 use std::alloc::{AllocError, Global};
@@ -64,14 +66,18 @@ fn add_one<T: Shown>(alloc: Global, bytes: &mut Vec<u8>, one: &T) -> Result<(), 
     add_item(alloc, bytes, &value)
 }
 
-/// Adds each of a slice, with a comma before it.
-fn add_slice<T: Shown>(alloc: Global, bytes: &mut Vec<u8>, list: &[T]) -> Result<(), AllocError>
-    requires whole { (one : T) → has_float (T.shown one) ≡ false }
+/// Adds each segment, with a comma before it.
+fn add_segments(
+    alloc: Global,
+    bytes: &mut Vec<u8>,
+    mut segments: RouteSegments<'_>,
+) -> Result<(), AllocError>
     ensures { OnOk result (bytes.new.items
-        ≡ bytes.old.items ++ flat_map (λ one. item_text (T.shown one)) list.now) }
+        ≡ bytes.old.items ++ flat_map (λ one. item_text (segment_data one)) segments) }
 {
-    for one in list {
-        add_one(alloc, bytes, one)?;
+    while let Some(segment) = segments.first() {
+        add_one(alloc, bytes, segment)?;
+        segments.pass();
     }
     Ok(())
 }
@@ -117,18 +123,17 @@ fn close_list(bytes: &mut Vec<u8>, start: usize) -> Result<(), AllocError>
     Ok(())
 }
 
-/// Adds a list, item by item.
-pub(crate) fn add_array<T: Shown>(
+/// Adds the list of segments, one by one.
+pub(crate) fn add_segment_list(
     alloc: Global,
     bytes: &mut Vec<u8>,
-    list: &[T],
+    segments: RouteSegments<'_>,
 ) -> Result<(), AllocError>
-    requires whole { (one : T) → has_float (T.shown one) ≡ false }
     ensures { OnOk result (bytes.new.items
-        ≡ bytes.old.items ++ compact_text (each T.shown list.now)) }
+        ≡ bytes.old.items ++ compact_text (each segment_data segments)) }
 {
     let start = bytes.len();
-    add_slice(alloc, bytes, list)?;
+    add_segments(alloc, bytes, segments)?;
     close_list(bytes, start)
 }
 

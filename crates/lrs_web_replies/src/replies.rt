@@ -36,30 +36,30 @@ fn found_reply(bytes: Vec<u8>) -> Response
 }
 
 /// The reply to what is told to a question: a diagram as SVG, and any other answer as JSON.
-fn told_reply(alloc: Global, told: &Told) -> Result<Response, AllocError>
-    ensures { IfOk result (λ reply. ShowsTold told.now (answer_of reply)) }
+fn told_reply(alloc: Global, told: Told<'_>) -> Result<Response, AllocError>
+    ensures { IfOk result (λ reply. ShowsTold told (answer_of reply)) }
 {
     match told {
         Told::At { route, found } => {
             let hits = found.hits.as_slice();
-            Ok(found_reply(at_json(alloc, route, found.at, found.ground, hits)?))
+            Ok(found_reply(at_json(alloc, &route, found.at, found.ground, hits)?))
         }
-        Told::Route(route) => Ok(found_reply(route_json(alloc, route)?)),
+        Told::Route(route) => Ok(found_reply(route_json(alloc, &route)?)),
         Told::Segments {
             route,
             side,
             segments,
             ..
-        } => Ok(found_reply(segments_json(alloc, route, *side, segments.as_slice())?)),
+        } => Ok(found_reply(segments_json(alloc, &route, side, segments)?)),
         Told::Translated { route, position } => {
-            Ok(found_reply(translated_json(alloc, route, *position)?))
+            Ok(found_reply(translated_json(alloc, &route, position)?))
         }
         Told::OnLink {
             route,
             link,
             distance,
-        } => Ok(found_reply(link_json(alloc, route, *link, *distance)?)),
-        Told::Diagram(diagram) => Ok(svg_reply(diagram_bytes(alloc, diagram)?)),
+        } => Ok(found_reply(link_json(alloc, &route, link, distance)?)),
+        Told::Diagram(diagram) => Ok(svg_reply(diagram_bytes(alloc, &diagram)?)),
         Told::Routes(routes) => Ok(found_reply(routes_json(alloc, routes.as_slice())?)),
         Told::Totals(totals) => Ok(found_reply(totals_json(alloc, totals.as_slice())?)),
         Told::Found(rows) => Ok(found_reply(found_json(alloc, rows.as_slice())?)),
@@ -70,11 +70,11 @@ fn told_reply(alloc: Global, told: &Told) -> Result<Response, AllocError>
 ///
 /// # Errors
 /// When memory runs out; the reply may be the empty 503 then, too.
-pub fn reply_to(alloc: Global, told: Result<Told, AskFault>) -> Result<Response, AllocError>
+pub fn reply_to(alloc: Global, told: Result<Told<'_>, AskFault>) -> Result<Response, AllocError>
     ensures { IfOk result (λ reply. IsReplyTo told (answer_of reply)) }
 {
     match told {
-        Ok(told) => told_reply(alloc, &told),
+        Ok(told) => told_reply(alloc, told),
         Err(fault) => refusal(alloc, fault),
     }
 }

@@ -57,6 +57,6 @@ pub fn write_whereabouts<W: Write>(writer: &mut W, whereabouts: Whereabouts) -> 
         found,
         positions,
     } = whereabouts;
-    write_told(writer, &Told::At { route, found })?;
+    write_told(writer, Told::At { route, found })?;
     write_positions(writer, positions.as_slice())
 }

@@ -3,4 +3,4 @@ use Rattle.lrs_report.specs.Columns.{first_value}
 use Rattle.lrs_report.proofs.sweep.first_values.Given as goal
 
 abbrev pub invariant-loop-column : goal.invariant-loop-column
-invariant-loop-column l = l.values.items ≡ map first_value (take l.column-index l.columns)
+invariant-loop-column g l = l.values.items ≡ map first_value (take l.column-index l.columns)

@@ -4,4 +4,4 @@ use Rattle.lrs_report.specs.Columns.{first_value}
 use Rattle.lrs_report.proofs.sweep.have.Given as goal
 
 abbrev pub invariant-loop-i : goal.invariant-loop-i
-invariant-loop-i l = same_values (drop l.i l.values) (map first_value (drop l.i l.columns)) ≡ same_values l.values (map first_value l.columns)
+invariant-loop-i g l = same_values (drop l.i l.values) (map first_value (drop l.i l.columns)) ≡ same_values l.values (map first_value l.columns)

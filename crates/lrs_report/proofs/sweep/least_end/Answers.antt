@@ -3,4 +3,4 @@ use Rattle.lrs_report.proofs.Passing.{least_within}
 use Rattle.lrs_report.proofs.sweep.least_end.Goals as goal
 
 pub loop-column-init : goal.loop-column-init
-loop-column-init c = let w = least_within c.args.len c.args.columns.now in record { least = omega (arith, w); within = omega arith }
+loop-column-init g c = let w = least_within c.args.len c.args.columns.now in record { least = omega (arith, w); within = omega arith }
