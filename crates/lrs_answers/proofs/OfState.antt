@@ -107,14 +107,13 @@ module _ (i : Image) (name : Name) (r : RouteRow) (wanted : List Name) (side : S
       on_route (state_of i) name (Asked (class_list (state_of i))) (alignment_of r.route) result is
       (subst (λ classes. Asked classes (alignment_of r.route) result) (sym (classes_are i)) h)
 
-  pub segments_found : {A : Type 0} (found : A) (view : A → List Segment) (result : List Segment) → result ≡ view found
-      → IsAnswer (segment_fault i.classes wanted side) (λ f. (s : LinkSide) → side ≡ one_side s → map run_of (view f) ≡ segments_of i.assets wanted (holders_along r.spans s (length r.route.course))) (Ok found)
-      → IsSegmented (state_of i) name wanted side (Ok result)
-  segments_found found view result same h =
-      as_state (Ok result)
-      (found_as_asked (segment_fault i.classes wanted side) (λ f. (s : LinkSide) → side ≡ one_side s → map run_of (view f) ≡ segments_of i.assets wanted (holders_along r.spans s (length r.route.course)))
-      ((on : LinkSide) → side ≡ one_side on → map run_of result ≡ segments_on (state_of i) r.route.course wanted on) (Ok result) found h
-      (λ k on s. ap (map run_of) same ∙ k on s ∙ of_state i r.route.course r.spans wanted on (tell_holders i r sound (route_in i r known))))
+  pub segments_found : (found : List Segment) → IsAnswer (segment_fault i.classes wanted side) (λ f. (s : LinkSide) → side ≡ one_side s → map run_of f ≡ segments_of i.assets wanted (holders_along r.spans s (length r.route.course))) (Ok found)
+      → IsSegmented (state_of i) name wanted side (Ok found)
+  segments_found found h =
+      as_state (Ok found)
+      (found_as_asked (segment_fault i.classes wanted side) (λ f. (s : LinkSide) → side ≡ one_side s → map run_of f ≡ segments_of i.assets wanted (holders_along r.spans s (length r.route.course)))
+      ((on : LinkSide) → side ≡ one_side on → map run_of found ≡ segments_on (state_of i) r.route.course wanted on) (Ok found) found h
+      (λ k on s. k on s ∙ of_state i r.route.course r.spans wanted on (tell_holders i r sound (route_in i r known))))
 
   pub segments_refused : {A : Type 0} (P : A → Type 0) (fault : SegFault) (asked : AskFault) → asked ≡ asked_fault fault → IsAnswer (segment_fault i.classes wanted side) P (Err fault) → IsSegmented (state_of i) name wanted side (Err asked)
   segments_refused P fault asked same h =

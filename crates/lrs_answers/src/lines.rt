@@ -162,7 +162,7 @@ fn write_lengths<W: Write>(writer: &mut W, rows: &[RouteLength]) -> io::Result<(
 /// That of the writer. Part of the lines may be written then.
 pub fn write_told<W: Write>(writer: &mut W, told: Told<'_>) -> io::Result<()>
     ensures { OnOk result (Appends (W.contents writer.old) (W.contents writer.new)
-        (told_text told)) }
+        (told_text told.entry)) }
 {
     match told {
         Told::At { route, found } => write_at(writer, &route, &found),

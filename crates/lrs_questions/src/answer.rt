@@ -53,7 +53,7 @@ fn write_malformed<W: Write>(writer: &mut W, row: &ByteRecord, field: Field) -> 
 /// Writes what is told to a question, and says so. What it takes of memory is taken before anything is written.
 fn write_answer<W: Write>(writer: &mut W, key: Key, told: Told<'_>) -> Result<bool, SheetFault>
     ensures written { IfOk result (λ is_answer. IsTrue is_answer
-        × Appends (W.contents writer.old) (W.contents writer.new) (told_lines key told)) }
+        × Appends (W.contents writer.old) (W.contents writer.new) (told_lines key told.entry)) }
     ensures faults { IfErr result (λ e. (e ≡ SheetFault.Write)
         ⊎ ((e ≡ SheetFault.Memory) × (W.contents writer.new ≡ W.contents writer.old))) }
 {
@@ -73,7 +73,7 @@ fn write_said<W: Write>(
     said: Result<Told<'_>, AskFault>,
 ) -> Result<bool, SheetFault>
     ensures written { IfOk result (λ is_answer. (reply : Reply)
-        × (reply_of key said ≡ Some reply) × (is_answer ≡ reply.is_answer)
+        × (reply_of key said.entry ≡ Some reply) × (is_answer ≡ reply.is_answer)
         × Appends (W.contents writer.old) (W.contents writer.new) reply.lines) }
     ensures faults { IfErr result (λ e. (e ≡ SheetFault.Write)
         ⊎ ((e ≡ SheetFault.Memory) × (W.contents writer.new ≡ W.contents writer.old))) }

@@ -202,7 +202,7 @@ fn write_segment<W: Write>(writer: &mut W, key: Key, segment: &Segment) -> io::R
 
 fn write_each<W: Write>(writer: &mut W, key: Key, mut segments: RouteSegments<'_>) -> io::Result<()>
     ensures { OnOk result (Appends (W.contents writer.old) (W.contents writer.new)
-        (flat_map (segment_line key) segments)) }
+        (flat_map (segment_line key) segments.entry)) }
 {
     while let Some(segment) = segments.first() {
         write_segment(writer, key, segment)?;
@@ -236,7 +236,7 @@ fn write_segments<W: Write>(
 ) -> io::Result<()>
     requires { count ≡ length segments }
     ensures { OnOk result (Appends (W.contents writer.old) (W.contents writer.new)
-        (segments_lines key route.now side segments)) }
+        (segments_lines key route.now side segments.entry)) }
 {
     write_segment_count(writer, key, route, side, count)?;
     write_each(writer, key, segments)
@@ -271,7 +271,7 @@ pub(crate) fn write_told<W: Write>(
 ) -> io::Result<()>
     requires { count ≡ segment_count told }
     ensures { OnOk result (Appends (W.contents writer.old) (W.contents writer.new)
-        (told_lines key told)) }
+        (told_lines key told.entry)) }
 {
     match told {
         Told::At { route, found } => write_at(writer, key, &route, &found),

@@ -155,7 +155,7 @@ pub fn segments_json(
     segments: RouteSegments<'_>,
 ) -> Result<Vec<u8>, AllocError>
     ensures { IfOk result (λ bytes. bytes.items ≡ compact_text
-        (segments_data route.now side segments)) }
+        (segments_data route.now side segments.entry)) }
 {
     let mut bytes = begin_segments(alloc, route)?;
     add_segment_list(alloc, &mut bytes, segments)?;

@@ -73,7 +73,7 @@ fn add_segments(
     mut segments: RouteSegments<'_>,
 ) -> Result<(), AllocError>
     ensures { OnOk result (bytes.new.items
-        ≡ bytes.old.items ++ flat_map (λ one. item_text (segment_data one)) segments) }
+        ≡ bytes.old.items ++ flat_map (λ one. item_text (segment_data one)) segments.entry) }
 {
     while let Some(segment) = segments.first() {
         add_one(alloc, bytes, segment)?;
@@ -130,7 +130,7 @@ pub(crate) fn add_segment_list(
     segments: RouteSegments<'_>,
 ) -> Result<(), AllocError>
     ensures { OnOk result (bytes.new.items
-        ≡ bytes.old.items ++ compact_text (each segment_data segments)) }
+        ≡ bytes.old.items ++ compact_text (each segment_data segments.entry)) }
 {
     let start = bytes.len();
     add_segments(alloc, bytes, segments)?;

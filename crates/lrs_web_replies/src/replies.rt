@@ -37,7 +37,7 @@ fn found_reply(bytes: Vec<u8>) -> Response
 
 /// The reply to what is told to a question: a diagram as SVG, and any other answer as JSON.
 fn told_reply(alloc: Global, told: Told<'_>) -> Result<Response, AllocError>
-    ensures { IfOk result (λ reply. ShowsTold told (answer_of reply)) }
+    ensures { IfOk result (λ reply. ShowsTold told.entry (answer_of reply)) }
 {
     match told {
         Told::At { route, found } => {
@@ -71,7 +71,7 @@ fn told_reply(alloc: Global, told: Told<'_>) -> Result<Response, AllocError>
 /// # Errors
 /// When memory runs out; the reply may be the empty 503 then, too.
 pub fn reply_to(alloc: Global, told: Result<Told<'_>, AskFault>) -> Result<Response, AllocError>
-    ensures { IfOk result (λ reply. IsReplyTo told (answer_of reply)) }
+    ensures { IfOk result (λ reply. IsReplyTo told.entry (answer_of reply)) }
 {
     match told {
         Ok(told) => told_reply(alloc, told),

@@ -4,20 +4,20 @@ use Rattle.lrs_answers.proofs.Asked.{route_in}
 use Rattle.lrs_answers.proofs.OfState.{rows_fit, rows_exclusive, segments_found, segments_refused}
 use Rattle.lrs_answers.proofs.segmentation.segments.Goals as goal
 
-pub segments-requires-clause-assets_order : goal.segments-requires-clause-assets_order
-segments-requires-clause-assets_order c = assets_in_order (image_of c.args.kept.now) c.requires.sound
+pub sweep_segments-requires-clause-assets_order : goal.sweep_segments-requires-clause-assets_order
+sweep_segments-requires-clause-assets_order c = assets_in_order (image_of c.args.kept.now) c.requires.sound
 
-pub segments-requires-clause-classes_order : goal.segments-requires-clause-classes_order
-segments-requires-clause-classes_order c = classes_in_order (image_of c.args.kept.now) c.requires.sound
+pub sweep_segments-requires-clause-classes_order : goal.sweep_segments-requires-clause-classes_order
+sweep_segments-requires-clause-classes_order c = classes_in_order (image_of c.args.kept.now) c.requires.sound
 
-pub segments-requires-clause-rows : goal.segments-requires-clause-rows
-segments-requires-clause-rows c =
+pub sweep_segments-requires-clause-rows : goal.sweep_segments-requires-clause-rows
+sweep_segments-requires-clause-rows c =
     let i = image_of c.args.kept.now in
     let r = c.in-Some.row.now in
     rows_fit i r c.requires.sound (route_in i r c.in-Some.ensures.known)
 
-pub segments-requires-clause-exclusive : goal.segments-requires-clause-exclusive
-segments-requires-clause-exclusive c =
+pub sweep_segments-requires-clause-exclusive : goal.sweep_segments-requires-clause-exclusive
+sweep_segments-requires-clause-exclusive c =
     let i = image_of c.args.kept.now in
     let r = c.in-Some.row.now in
     rows_exclusive i r c.requires.sound (route_in i r c.in-Some.ensures.known)
@@ -25,7 +25,7 @@ segments-requires-clause-exclusive c =
 pub returns-in-Ok : goal.returns-in-Ok
 returns-in-Ok c =
     segments_found (image_of c.args.kept.now) c.args.route.now c.in-Some.row.now c.args.wanted.now c.args.side c.requires.sound c.in-Some.ensures.known c.in-Some.ensures.route
-    c.in-Ok.found (λ found. found.items) c.from_vec.result c.from_vec.ensures c.in-Ok.ensures
+    c.in-Ok.found c.in-Ok.ensures
 
 pub returns-in-Err : goal.returns-in-Err
 returns-in-Err c =
