@@ -1,10 +1,12 @@
 //! Replies to questions.
 
 ghost use Rattle.std.specs.Prelude.{◌≡◌, IfOk};
+ghost use Rattle.lrs_answers.specs.declared.told.Told.TheVariants as told;
 ghost use Rattle.lrs_diagram.specs.Drawing.{diagram_text};
 ghost use Rattle.lrs_web_requests.specs.Text.{answer_of};
 ghost use Rattle.lrs_web_replies.specs.Answered.{IsReplyTo, ShowsTold};
-ghost use Rattle.lrs_web_replies.specs.Replies.{json_bytes};
+ghost use Rattle.lrs_web_replies.specs.Answers.{segments_data};
+ghost use Rattle.lrs_web_replies.specs.Replies.{json_answer, json_bytes};
 
 use crate::answers::{
     at_json, found_json, link_json, route_json, routes_json, segments_json, totals_json,
@@ -12,8 +14,11 @@ use crate::answers::{
 };
 use crate::reply::{json_reply, refusal, svg_reply};
 use http::StatusCode;
-use lrs_answers::{AskFault, Told};
+use lrs_answers::{AskFault, AtAnswer, RouteSegments, Told};
 use lrs_diagram::{Diagram, write_diagram};
+use lrs_events::Side;
+use lrs_measure::Frac;
+use lrs_position::{Expr, RouteName};
 use lrs_web_requests::Response;
 use std::alloc::{AllocError, Global};
 
@@ -35,30 +40,71 @@ fn found_reply(bytes: Vec<u8>) -> Response
     json_reply(StatusCode::OK, bytes)
 }
 
+fn at_reply(alloc: Global, route: &RouteName, found: &AtAnswer) -> Result<Response, AllocError>
+    ensures { IfOk result (λ reply. ShowsTold (told.At route.now found.now) (answer_of reply)) }
+{
+    let hits = found.hits.as_slice();
+    let bytes = at_json(alloc, route, found.at, found.ground, hits)?;
+    Ok(found_reply(bytes))
+}
+
+fn segments_reply(
+    alloc: Global,
+    route: &RouteName,
+    side: Side,
+    segments: RouteSegments<'_>,
+) -> Result<Response, AllocError>
+    ensures { IfOk result (λ reply. answer_of reply
+        ≡ json_answer 200 (segments_data route.now side segments.entry)) }
+{
+    let bytes = segments_json(alloc, route, side, segments)?;
+    Ok(found_reply(bytes))
+}
+
+fn translated_reply(
+    alloc: Global,
+    route: &RouteName,
+    position: Expr,
+) -> Result<Response, AllocError>
+    ensures { IfOk result (λ reply. ShowsTold (told.Translated route.now position)
+        (answer_of reply)) }
+{
+    let bytes = translated_json(alloc, route, position)?;
+    Ok(found_reply(bytes))
+}
+
+fn on_link_reply(
+    alloc: Global,
+    route: &RouteName,
+    link: u32,
+    distance: Frac,
+) -> Result<Response, AllocError>
+    ensures { IfOk result (λ reply. ShowsTold (told.OnLink route.now link distance)
+        (answer_of reply)) }
+{
+    let bytes = link_json(alloc, route, link, distance)?;
+    Ok(found_reply(bytes))
+}
+
 /// The reply to what is told to a question: a diagram as SVG, and any other answer as JSON.
 fn told_reply(alloc: Global, told: Told<'_>) -> Result<Response, AllocError>
     ensures { IfOk result (λ reply. ShowsTold told.entry (answer_of reply)) }
 {
     match told {
-        Told::At { route, found } => {
-            let hits = found.hits.as_slice();
-            Ok(found_reply(at_json(alloc, &route, found.at, found.ground, hits)?))
-        }
+        Told::At { route, found } => at_reply(alloc, &route, &found),
         Told::Route(route) => Ok(found_reply(route_json(alloc, &route)?)),
         Told::Segments {
             route,
             side,
             segments,
             ..
-        } => Ok(found_reply(segments_json(alloc, &route, side, segments)?)),
-        Told::Translated { route, position } => {
-            Ok(found_reply(translated_json(alloc, &route, position)?))
-        }
+        } => segments_reply(alloc, &route, side, segments),
+        Told::Translated { route, position } => translated_reply(alloc, &route, position),
         Told::OnLink {
             route,
             link,
             distance,
-        } => Ok(found_reply(link_json(alloc, &route, link, distance)?)),
+        } => on_link_reply(alloc, &route, link, distance),
         Told::Diagram(diagram) => Ok(svg_reply(diagram_bytes(alloc, &diagram)?)),
         Told::Routes(routes) => Ok(found_reply(routes_json(alloc, routes.as_slice())?)),
         Told::Totals(totals) => Ok(found_reply(totals_json(alloc, totals.as_slice())?)),

@@ -3,7 +3,11 @@ use Rattle.std.specs.Option.{option_copied}
 use Rattle.lrs_report.proofs.Taking.{leads_next, leads_end}
 use Rattle.lrs_web_replies.specs.Answers.{segment_data}
 use Rattle.lrs_web_replies.specs.Parts.{item_text}
+use Rattle.lrs_web_replies.proofs.Whole.{segment_whole}
 use Rattle.lrs_web_replies.proofs.list_text.add_segments.Goals as goal
+
+pub add_one-requires : goal.add_one-requires
+add_one-requires c = record { whole = segment_whole c.in-Some.segment.now }
 
 pub loop-segment-preserved : goal.loop-segment-preserved
 loop-segment-preserved c =
