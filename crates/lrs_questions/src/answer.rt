@@ -1,6 +1,6 @@
 //! A record is asked at a desk and answered.
 
-ghost use Rattle.std.specs.Prelude.{◌≡◌, ◌≤◌, ◌⊎◌, ◌++◌, length, codes, false, IfOk, IfErr, IsTrue, OnOk, Some};
+ghost use Rattle.std.specs.Prelude.{◌≡◌, ◌≤◌, ◌⊎◌, ◌++◌, length, codes, false, IfOk, IfErr, OnOk, Some};
 ghost use Rattle.std.specs.Io.KnownBytes.{Appends};
 ghost use Rattle.csv.specs.Records.{fields_of};
 ghost use Rattle.lrs_answers.specs.Causes.{cause_text};
@@ -50,10 +50,10 @@ fn write_malformed<W: Write>(writer: &mut W, row: &ByteRecord, field: Field) -> 
     }
 }
 
-/// Writes what is told to a question, and says so. What it takes of memory is taken before anything is written.
-fn write_answer<W: Write>(writer: &mut W, key: Key, told: Told<'_>) -> Result<bool, SheetFault>
-    ensures written { IfOk result (λ is_answer. IsTrue is_answer
-        × Appends (W.contents writer.old) (W.contents writer.new) (told_lines key told.entry)) }
+/// Writes what is told to a question. What it takes of memory is taken before anything is written.
+fn write_answer<W: Write>(writer: &mut W, key: Key, told: Told<'_>) -> Result<(), SheetFault>
+    ensures written { OnOk result (Appends (W.contents writer.old) (W.contents writer.new)
+        (told_lines key told.entry)) }
     ensures faults { IfErr result (λ e. (e ≡ SheetFault.Write)
         ⊎ ((e ≡ SheetFault.Memory) × (W.contents writer.new ≡ W.contents writer.old))) }
 {
@@ -61,7 +61,7 @@ fn write_answer<W: Write>(writer: &mut W, key: Key, told: Told<'_>) -> Result<bo
         return Err(SheetFault::Memory);
     };
     match write_told(writer, key, told, count) {
-        Ok(()) => Ok(true),
+        Ok(()) => Ok(()),
         Err(_) => Err(SheetFault::Write),
     }
 }
@@ -79,7 +79,10 @@ fn write_said<W: Write>(
         ⊎ ((e ≡ SheetFault.Memory) × (W.contents writer.new ≡ W.contents writer.old))) }
 {
     match said {
-        Ok(told) => write_answer(writer, key, told),
+        Ok(told) => {
+            write_answer(writer, key, told)?;
+            Ok(true)
+        }
         Err(fault) => match cause_of(fault) {
             Some(cause) => match write_refused(writer, key, cause) {
                 Ok(()) => Ok(false),

@@ -5,8 +5,8 @@ use Rattle.lrs_questions.specs.Lines.{told_lines}
 use Rattle.lrs_questions.specs.Replies.{answered, refused, reply_of}
 use Rattle.lrs_questions.proofs.answer.write_said.Goals as goal
 
-pub returns-in-Ok-write_told-clause-written : goal.returns-in-Ok-write_told-clause-written
-returns-in-Ok-write_told-clause-written g c = (answered (told_lines c.args.key c.in-Ok.told), ap (reply_of c.args.key) c.in-Ok.is, refl, c.in-Ok-write_told.ensures)
+pub returns-in_ok-write_answer-in-Ok-clause-written : goal.returns-in_ok-write_answer-in-Ok-clause-written
+returns-in_ok-write_answer-in-Ok-clause-written g c = (answered (told_lines c.args.key c.in-Ok.told), ap (reply_of c.args.key) c.in-Ok.is, refl, c.in_ok-write_answer-in-Ok.ensures.written)
 
 pub returns-in-Ok-write_refused-clause-written : goal.returns-in-Ok-write_refused-clause-written
 returns-in-Ok-write_refused-clause-written g c = (
