@@ -3,7 +3,8 @@
     python3 bench/answers.py [--assets N] [--repeats R]
 
 One route has so many assets of an exclusive class, side by side and of two values in turn, so that there are as many segments. `segments` of the
-class, asked for so many times over, is answered over HTTP, and by a sheet of questions on the command line. The program is the one that ROADLRS names.
+class, asked for so many times over, is answered over HTTP, and by a sheet of questions and by `strip` on the command line. The program is the one that
+ROADLRS names.
 """
 
 import argparse
@@ -49,15 +50,24 @@ def over_http(program, database, repeats):
     return size / 1e6, after - before, spent
 
 
-def by_a_sheet(program, database, repeats, folder):
-    asked = folder / "questions.csv"
-    asked.write_text(f"key,question,a,b,c,d\nq,segments,A1,L,{' '.join(['SPEED'] * repeats)},\n")
-    with open(folder / "answers", "wb") as out:
-        run = subprocess.Popen([program, "ask", database, asked], stdout=out)
+def by_a_command(words, out):
+    """How much a command prints, and the most memory that it holds."""
+    with open(out, "wb") as file:
+        run = subprocess.Popen(words, stdout=file)
         _, status, used = os.wait4(run.pid, 0)
     run.returncode = os.waitstatus_to_exitcode(status)
     assert run.returncode == 0, run.returncode
-    return (folder / "answers").stat().st_size / 1e6, used.ru_maxrss / 1_000
+    return out.stat().st_size / 1e6, used.ru_maxrss / 1_000
+
+
+def by_a_sheet(program, database, repeats, folder):
+    asked = folder / "questions.csv"
+    asked.write_text(f"key,question,a,b,c,d\nq,segments,A1,L,{' '.join(['SPEED'] * repeats)},\n")
+    return by_a_command([program, "ask", database, asked], folder / "answers")
+
+
+def by_strip(program, database, repeats, folder):
+    return by_a_command([program, "strip", database, "A1", "L", *["SPEED"] * repeats], folder / "answers")
 
 
 def main():
@@ -73,9 +83,10 @@ def main():
         subprocess.run([program, "edit", database, made], stdout=subprocess.DEVNULL, check=True)
         size, memory, spent = over_http(program, database, given.repeats)
         print(f"over HTTP: {size:,.0f} MB of reply, {memory:,.0f} MB of memory more, {memory / size:.1f} times, {spent:.1f} s")
-        if "ask" in subprocess.run([program, "--help"], capture_output=True, text=True, check=True).stdout.split():
-            size, memory = by_a_sheet(program, database, given.repeats, folder)
-            print(f"by a sheet: {size:,.0f} MB of lines, {memory:,.0f} MB of memory in all, {memory / size:.1f} times")
+        for name, printed in [("a sheet", by_a_sheet), ("strip", by_strip)]:
+            _, least = printed(program, database, 1, folder)
+            size, memory = printed(program, database, given.repeats, folder)
+            print(f"by {name}: {size:,.0f} MB of lines, {memory:,.0f} MB of memory in all, {memory - least:,.0f} MB more than for one class")
 
 
 main()
