@@ -141,7 +141,7 @@ def black_box_tests(folder, **files):
 NOTHING_BUILT = {"ROADLRS": "/bin/true"}
 
 # what ./test calls beside rt and Python
-BASIC = "bash dirname mktemp rm tail tee".split()
+BASIC = "bash cat dirname mktemp nproc rm tail tee xargs".split()
 TWO_TESTS = "def test_a(): pass\ndef test_b(): pass\n"
 
 
@@ -162,7 +162,7 @@ def run_gate(rt, tests=TWO_TESTS, **environment):
             command(commands / "rt", rt)
         command(copy / "roadlrs", "exit 0")
         shutil.copy(TOP / "test", copy)
-        black_box_tests(copy, a=tests)
+        black_box_tests(copy, **({"a": tests} if isinstance(tests, str) else tests))
         env = {"PATH": str(commands), "HOME": folder, **environment}
         done = subprocess.run(["bash", str(copy / "test")], env=env, capture_output=True, text=True, timeout=600)
         return done.stdout.splitlines()[-1], done.returncode
@@ -203,6 +203,12 @@ def test_the_gate_counts_what_was_proved(rt, counted):
 )
 def test_the_gate_counts_the_black_box_tests(tests, counted):
     assert run_gate("echo '5 passed, 0 failed'", tests) == (counted, 1)
+
+
+def test_the_gate_counts_each_file_of_tests():
+    """Whichever runs first, side by side with others, or alone."""
+    tests = {"a": TWO_TESTS, "in_time": TWO_TESTS, "refusing": "def test_c(): assert False\n", "z": TWO_TESTS}
+    assert run_gate("echo '5 passed, 0 failed'", tests) == ("11 passed, 1 failed", 1)
 
 
 def test_the_gate_tests_no_other_program():

@@ -2,6 +2,8 @@
 
 import contextlib
 import http.client
+import itertools
+import os
 import select
 import signal
 import socket
@@ -13,6 +15,7 @@ import time
 from program import FIRST, FIRST_REPLIES, PATIENCE, PROGRAM, lines, long_sheet, sheet_of
 
 HOST = "127.0.0.1"
+TAKEN = itertools.count()
 CSV, JSON = "text/csv", "application/json"
 
 REASONS = {
@@ -58,9 +61,13 @@ def sheet_reply(replied, status=200):
 
 
 def free_port():
-    with socket.socket() as stream:
-        stream.bind((HOST, 0))
-        return stream.getsockname()[1]
+    """A port that nobody has. Where ./test runs files side by side, each slot has ports of its own and takes none twice, so that
+    nobody takes a port that another is about to listen on."""
+    slot = os.environ.get("ROADLRS_SLOT")
+    while True:
+        with socket.socket() as stream, contextlib.suppress(OSError):
+            stream.bind((HOST, 0 if slot is None else 12_000 + 2_000 * int(slot) + next(TAKEN) % 2_000))
+            return stream.getsockname()[1]
 
 
 def connect(port):
