@@ -413,7 +413,7 @@ def test_a_thousand_requests_with_few_files_open():
 
 def test_an_answer_that_memory_does_not_suffice_for():
     sheet, done, question, _ = long_question()
-    little = lambda: resource.setrlimit(resource.RLIMIT_AS, (32 * 2**20, 32 * 2**20))
+    little = lambda: resource.setrlimit(resource.RLIMIT_AS, (18 * 2**20, 18 * 2**20))
     with serving(4, preexec_fn=little, env={**os.environ, "LC_ALL": "C"}) as server:
         server.does("edits", sheet, done)
         server.answers(question, b"HTTP/1.1 503 Service Unavailable\r\nContent-Length: 0\r\n" + CLOSE)
