@@ -150,8 +150,9 @@ def command(path, body):
     path.chmod(0o755)
 
 
-def run_gate(rt, tests=TWO_TESTS, **environment):
-    """The last line and the status of a copy of ./test, over these black-box tests and with an rt that does this or is not there."""
+def run_gate(rt, tests=TWO_TESTS, others=(), **environment):
+    """The last line and the status of a copy of ./test, over these black-box tests, with an rt that does this or is not there, and with
+    other commands that do what is given."""
     with tempfile.TemporaryDirectory() as folder:
         copy, commands = pathlib.Path(folder), pathlib.Path(folder) / "commands"
         commands.mkdir()
@@ -160,6 +161,9 @@ def run_gate(rt, tests=TWO_TESTS, **environment):
         command(commands / "python3", f'exec {sys.executable} "$@"')
         if rt is not None:
             command(commands / "rt", rt)
+        for name, body in others:
+            (commands / name).unlink()
+            command(commands / name, body)
         command(copy / "roadlrs", "exit 0")
         shutil.copy(TOP / "test", copy)
         black_box_tests(copy, **({"a": tests} if isinstance(tests, str) else tests))
@@ -209,6 +213,12 @@ def test_the_gate_counts_each_file_of_tests():
     """Whichever runs first, side by side with others, or alone."""
     tests = {"a": TWO_TESTS, "in_time": TWO_TESTS, "refusing": "def test_c(): assert False\n", "z": TWO_TESTS}
     assert run_gate("echo '5 passed, 0 failed'", tests) == ("11 passed, 1 failed", 1)
+
+
+def test_a_file_of_tests_that_did_not_run_has_failed():
+    """As where a run is killed, and those behind it are not begun."""
+    tests = {"a": TWO_TESTS, "in_time": TWO_TESTS, "z": TWO_TESTS}
+    assert run_gate("echo '5 passed, 0 failed'", tests, others=[("xargs", "exit 125")]) == ("7 passed, 2 failed", 1)
 
 
 def test_the_gate_tests_no_other_program():

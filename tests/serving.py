@@ -61,13 +61,15 @@ def sheet_reply(replied, status=200):
 
 
 def free_port():
-    """A port that nobody has. Where ./test runs files side by side, each slot has ports of its own and takes none twice, so that
-    nobody takes a port that another is about to listen on."""
+    """A port that nobody has. Where ./test runs files side by side, each slot takes its own ports in turn, so that nobody takes a
+    port that another is about to listen on."""
     slot = os.environ.get("ROADLRS_SLOT")
-    while True:
+    ports = [0] if slot is None else (12_000 + 2_000 * int(slot) + next(TAKEN) % 2_000 for _ in range(2_000))
+    for port in ports:
         with socket.socket() as stream, contextlib.suppress(OSError):
-            stream.bind((HOST, 0 if slot is None else 12_000 + 2_000 * int(slot) + next(TAKEN) % 2_000))
+            stream.bind((HOST, port))
             return stream.getsockname()[1]
+    raise AssertionError("no port is free")
 
 
 def connect(port):
