@@ -10,7 +10,7 @@ import tempfile
 import pytest
 
 from program import BUILT, FIRST, FIRST_REPLIES, HEADER, PATIENCE, lines, record, run
-from refusing import with_each_refused
+from refusing import Refusal, with_each_refused
 from serving import answer, free_port, reply, request, sheet_reply
 from stores import edit, is_whole, make, rows_of
 from worked_rows import WORKED_ROWS
@@ -109,7 +109,8 @@ def at_all_verbs(kind, faults, step, one_by_one=True):
 
 
 def test_all_verbs_over_a_file_bear_a_refused_growth():
-    at_all_verbs("ALLOCATION", {"Memory", "Open", "Keep", "MustReopen"}, 23)
+    """Those of a commit too: want of memory is no failure of the disk."""
+    at_all_verbs("ALLOCATION", {"Memory", "Open"}, 23)
 
 
 @pytest.mark.parametrize("one_by_one", [True, False])
@@ -221,3 +222,51 @@ def test_a_sheet_over_http_bears_a_refused_growth():
     with_each_refused("ALLOCATION", lambda refusal: found.update([served(refusal, sent)]))
     assert set(found) <= {full, unavailable, b"", b"roadlrs: fault Memory\n", b"roadlrs: fault Door\n"}, found
     assert found[full] > 100 and found[unavailable] > 100 and found[b""] <= 2, found
+
+
+def refused_before_listening(path, number):
+    """Whether the allocation of this number is one of those before a server over this file listens."""
+    refusal = Refusal("ALLOCATION", number)
+    words = [BUILT, "serve", path, str(free_port()), "1"]
+    with refusal.environment() as env, subprocess.Popen(words, env=env, stdout=subprocess.PIPE, stderr=subprocess.DEVNULL) as program:
+        program.stdout.readline()
+        reached = pathlib.Path(env["REFUSED_NOTE"]).exists()
+        program.kill()
+    return reached
+
+
+def allocations_of_an_opening(path):
+    """How many allocations there are before a server over this file listens."""
+    least, most = 0, 1_000_000
+    while least < most:
+        middle = (least + most + 1) // 2
+        least, most = (middle, most) if refused_before_listening(path, middle) else (least, middle - 1)
+    return least
+
+
+def test_a_server_over_a_file_goes_on_after_a_refused_growth(tmp_path):
+    """One edit is sent twice, with each allocation behind the opening refused in turn, those of its commit too. It may get a 503, or no reply;
+    the server then does the next one all the same."""
+    first = tmp_path / "first.db"
+    make(first)
+    made = first.read_bytes()
+    sent = request("POST /v1/edits", HEADER + record("e1,enter,10,SPEED,A1,B,abs,3000,9000,80,0"), "Content-Type: text/csv")
+    done, again, unavailable = sheet_reply(b"e1,done,8\n"), sheet_reply(b"e1,again,8\n"), reply(503)
+    found = collections.Counter()
+
+    def test(refusal):
+        path = tmp_path / f"{refusal.number}.db"
+        path.write_bytes(made)
+        port = free_port()
+        words = [BUILT, "serve", path, str(port), "2"]
+        with refusal.environment() as env, subprocess.Popen(words, env=env, stdout=subprocess.PIPE, stderr=subprocess.DEVNULL) as program:
+            assert program.stdout.readline() == b"listening %d\n" % port, refusal.number
+            replies = answer(port, sent), answer(port, sent)
+            assert program.wait(PATIENCE) == 0, (refusal.number, replies)
+        assert replies[0] in (done, unavailable, b""), (refusal.number, replies)
+        assert replies[1] in ([again] if replies[0] == done else [done, again]), (refusal.number, replies)
+        found.update(replies)
+        path.unlink()
+
+    with_each_refused("ALLOCATION", test, first=allocations_of_an_opening(first) + 1)
+    assert found[unavailable] > 100 and found[b""] <= 2, found

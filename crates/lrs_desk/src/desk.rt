@@ -15,7 +15,7 @@ ghost use Rattle.lrs_desk.specs.Desk.{IsUnchanged, HasBroken, DoesFirst, BreaksA
 use crate::decision::{Decision, decide, known_edit};
 use crate::group::{class_of, do_first};
 use lrs_answers_totals::Counts;
-use lrs_image::{CommitFailed, CommitFault, Keeper, LoadFault};
+use lrs_image::{CommitFault, Keeper, LoadFault};
 use lrs_inventory::{Inventory, Plan};
 use lrs_machine::{Answer, Command, Edit, Key, Limits, Table};
 use std::alloc::{AllocError, AllocFailed, Global};
@@ -281,8 +281,9 @@ impl<K: Keeper> Desk<K> {
     ///
     /// # Errors
     ///
-    /// `Memory`, and nothing has changed. `Keep` if the keeper's device failed: all of them are kept then, or none, and
-    /// the image is ahead of an opening that finds none, so no question is answered either. `MustReopen` from then on.
+    /// `Memory`, and nothing has changed. `Keep` if the keeper's device failed, or memory ran out in the commit: all of
+    /// them are kept then, or none, and the image is ahead of an opening that finds none, so no question is answered
+    /// either. `MustReopen` from then on.
     pub fn act_on_first(&mut self, commands: &[(Key, Command)]) -> Result<Vec<Answer>, Fault>
         requires some { 1 ≤ length commands.now }
         // The answers and the next state are the ground machine's.
@@ -295,7 +296,7 @@ impl<K: Keeper> Desk<K> {
         // Want of memory changes nothing.
         ensures memory { result ≡ Err Fault.Memory → IsUnchanged K.may_hold self.old self.new }
 
-        // A commit fails only where the device does, and then all of them are kept or none.
+        // A commit fails only where the keeper counts it, and then all of them are kept or none.
         ensures keep { result ≡ Err Fault.Keep → BreaksAmid K.may_hold K.failures
             (records_of commands.now) self.old self.new }
 
@@ -324,7 +325,7 @@ impl<K: Keeper> Desk<K> {
         }
         match self.keeper.commit() {
             Ok(()) => Ok(given),
-            Err(CommitFailed) => {
+            Err(_) => {
                 self.must_reopen = true;
                 self.is_ahead = true;
                 Err(Fault::Keep)

@@ -1,10 +1,10 @@
 -- One change, and what may be found before and after it.
-use Rattle.std.proofs.Common.{◌≡◌, ◌⊎◌, inl, inr, List, [], ◌∷◌, refl, sym, ap, subst, ◌∙◌, Result, Ok, Err, IfOk}
+use Rattle.std.proofs.Common.{◌≡◌, ◌⊎◌, inl, inr, List, [], ◌∷◌, sym, ap, subst, ◌∙◌, Result, Ok, Err, IfOk}
 use Rattle.lrs_machine.specs.declared.image.Image.{Image}
 use Rattle.lrs_machine.specs.declared.table.Table.{Table}
 use Rattle.lrs_image.specs.declared.change.Change.{Change}
 use Rattle.lrs_image.specs.Change.{apply, CanMake}
-use Rattle.lrs_image.specs.Keeping.{HoldsOnly, HoldsOldOrNew, HoldsSame}
+use Rattle.lrs_image.specs.Keeping.{HoldsOnly, HoldsSame}
 use Rattle.lrs_image.specs.Together.{CanMakeAll, IsChangedBy}
 
 -- Changes of what is found after a change is staged are changes of what was found before.

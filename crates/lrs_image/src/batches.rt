@@ -1,7 +1,7 @@
 //! Where changes are kept several at a time, as a store's transaction does.
 
 use crate::change::Change;
-use crate::keeper::{CommitFailed, LoadFault};
+use crate::keeper::{CommitFault, LoadFault};
 use lrs_machine::Image;
 use std::alloc::Global;
 
@@ -26,7 +26,7 @@ pub trait Batches {
     /// Whether the last `load` answered Ok.
     ghost is_loaded: { Self → Bool };
 
-    /// How often the device has failed.
+    /// How often the device has failed, or memory ran out in a write.
     ghost failures: { Self → ℕ };
 
     /// Reads the image. It leaves the content as it is, whatever it answers.
@@ -48,21 +48,26 @@ pub trait Batches {
     /// Keeps these changes, each made of what those before it made.
     ///
     /// # Errors
-    /// Where the device fails: all of them are kept then, or none.
-    fn write(&mut self, changes: &[Change]) -> Result<(), CommitFailed>
+    /// `Memory` where memory runs out, and none of them is kept. `Store` where the device fails: all of them are kept
+    /// then, or none.
+    fn write(&mut self, changes: &[Change]) -> Result<(), CommitFault>
         requires loaded { is_loaded self.old ≡ true }
         requires sound { HoldsSound (may_hold self.old) }
         requires can { (c : Result Image Table) → may_hold self.old c
             → IfOk c (CanMakeAll changes.now) }
         ensures ok { OnOk result ((c : Result Image Table) → may_hold self.new c
             → IsChangedBy (may_hold self.old) changes.now c) }
-        ensures failed { OnErr result ((c : Result Image Table) → may_hold self.new c
-            → may_hold self.old c ⊎ IsChangedBy (may_hold self.old) changes.now c) }
+        ensures memory { result ≡ Err CommitFault.Memory → (c : Result Image Table)
+            → may_hold self.new c → may_hold self.old c }
+        ensures store { result ≡ Err CommitFault.Store → (c : Result Image Table)
+            → may_hold self.new c
+            → may_hold self.old c ⊎ IsChangedBy (may_hold self.old) changes.now c }
         ensures cause { OnErr result (HasRisen (failures self.old) (failures self.new)) }
         ensures counts { failures self.old ≤ failures self.new }
         ensures found { HoldsSound (may_hold self.new) }
         ensures loaded { is_loaded self.new ≡ true }
-        ensures open { OnOk result (is_clean self.new → is_open self.new) };
+        ensures open { (result ≡ Err CommitFault.Store → ⊥) → is_clean self.new
+            → is_open self.new };
 
     // Where the device is clean something is found, so that not everything is promised of nothing.
     ghost finds: { (keeper : Self) → is_clean keeper → is_open keeper

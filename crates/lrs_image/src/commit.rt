@@ -10,31 +10,11 @@ ghost use Rattle.lrs_image.specs.Kept.{image_of, image_with, IsPrepared};
 ghost use Rattle.lrs_image.specs.Together.{IsChangedBy};
 
 use crate::change::Change;
-use crate::keeper::{CommitFailed, Keeper};
+use crate::keeper::{CommitFault, Keeper};
 use crate::kept_image::KeptImage;
 use crate::open_route::OpenRoute;
 use lrs_measure::TryCopy;
 use std::alloc::{AllocError, Global};
-
-/// Why a change is not made.
-#[derive(Clone, Copy, Debug, PartialEq, Eq)]
-pub enum CommitFault {
-    /// There is too little memory. What is kept is as it was.
-    Memory,
-    /// The device failed. What is kept is as it was, or with the change as a whole.
-    Store,
-}
-
-impl From<AllocError> for CommitFault {
-    ghost use Rattle.std.specs.Prelude.{◌≡◌};
-    ghost use Rattle.lrs_image.specs.declared.commit.CommitFault.TheVariants.{Memory};
-
-    ghost from_gives = { λ _ e. e ≡ Memory };
-
-    fn from(_: AllocError) -> Self {
-        CommitFault::Memory
-    }
-}
 
 /// Makes a change of an image here, and stages it. Nothing fails once it is staged.
 ///
@@ -75,7 +55,7 @@ pub fn stage_change<K: Keeper>(
 /// fails after the commit.
 ///
 /// # Errors
-/// `Memory` when memory runs out, and `Store` where the device fails; here nothing has changed then.
+/// `Memory` when memory runs out, in the commit too, and `Store` where the device fails; here nothing has changed then.
 pub fn make_change<K: Keeper>(
     alloc: Global,
     kept: &mut KeptImage,
@@ -221,8 +201,5 @@ fn keep_one<K: Keeper>(alloc: Global, keeper: &mut K, change: &Change) -> Result
     ensures staged { K.staged keeper.new ≡ [] }
 {
     stage_copy(alloc, keeper, change)?;
-    match keeper.commit() {
-        Ok(()) => Ok(()),
-        Err(CommitFailed) => Err(CommitFault::Store),
-    }
+    keeper.commit()
 }

@@ -26,9 +26,25 @@ impl From<AllocError> for LoadFault {
     }
 }
 
-/// The device failed: all that was staged is kept, or nothing of it.
+/// Why a change is not made, or what is staged is not kept.
 #[derive(Clone, Copy, Debug, PartialEq, Eq)]
-pub struct CommitFailed;
+pub enum CommitFault {
+    /// There is too little memory. What is kept is as it was.
+    Memory,
+    /// The device failed. What is kept is as it was, or with all changes.
+    Store,
+}
+
+impl From<AllocError> for CommitFault {
+    ghost use Rattle.std.specs.Prelude.{◌≡◌};
+    ghost use Rattle.lrs_image.specs.declared.keeper.CommitFault.TheVariants.{Memory};
+
+    ghost from_gives = { λ _ e. e ≡ Memory };
+
+    fn from(_: AllocError) -> Self {
+        CommitFault::Memory
+    }
+}
 
 /// Keeps an image, on a device that may fail. A change is staged first, which may take memory; a commit then keeps
 /// all that is staged, and takes none that it cannot do without.
@@ -53,7 +69,7 @@ pub trait Keeper {
     /// Whether the last `load` answered Ok.
     ghost is_loaded: { Self → Bool };
 
-    /// How often the device has failed.
+    /// How often the device has failed, or memory ran out in a commit.
     ghost failures: { Self → ℕ };
 
     /// What the next commit is to keep. An opening finds nothing of it.
@@ -92,21 +108,26 @@ pub trait Keeper {
     /// Keeps what is staged, each change of what those before it made. Nothing is staged then, whatever it answers.
     ///
     /// # Errors
-    /// Where the device fails: all that was staged is kept then, or nothing of it.
-    fn commit(&mut self) -> Result<(), CommitFailed>
+    /// `Memory` where memory runs out, and nothing is kept. `Store` where the device fails: all that was staged is kept
+    /// then, or nothing of it.
+    fn commit(&mut self) -> Result<(), CommitFault>
         requires loaded { is_loaded self.old ≡ true }
         requires sound { HoldsSound (may_hold self.old) }
         requires can { (c : Result Image Table) → may_hold self.old c
             → IfOk c (CanMakeAll (staged self.old)) }
         ensures ok { OnOk result ((c : Result Image Table) → may_hold self.new c
             → IsChangedBy (may_hold self.old) (staged self.old) c) }
-        ensures failed { OnErr result ((c : Result Image Table) → may_hold self.new c
-            → may_hold self.old c ⊎ IsChangedBy (may_hold self.old) (staged self.old) c) }
+        ensures memory { result ≡ Err CommitFault.Memory → (c : Result Image Table)
+            → may_hold self.new c → may_hold self.old c }
+        ensures store { result ≡ Err CommitFault.Store → (c : Result Image Table)
+            → may_hold self.new c
+            → may_hold self.old c ⊎ IsChangedBy (may_hold self.old) (staged self.old) c }
         ensures cause { OnErr result (HasRisen (failures self.old) (failures self.new)) }
         ensures counts { failures self.old ≤ failures self.new }
         ensures found { HoldsSound (may_hold self.new) }
         ensures loaded { is_loaded self.new ≡ true }
-        ensures open { OnOk result (is_clean self.new → is_open self.new) }
+        ensures open { (result ≡ Err CommitFault.Store → ⊥) → is_clean self.new
+            → is_open self.new }
         ensures staged { staged self.new ≡ [] };
 
     // Where the device is clean an open keeper finds something, so it cannot promise everything of nothing.

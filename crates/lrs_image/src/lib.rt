@@ -13,8 +13,8 @@ mod staged;
 
 pub use batches::Batches;
 pub use change::{Change, Difference, ReferentChange, RouteChange, RouteKeys};
-pub use commit::{CommitFault, make_change, stage_change};
-pub use keeper::{CommitFailed, Keeper, LoadFault};
+pub use commit::{make_change, stage_change};
+pub use keeper::{CommitFault, Keeper, LoadFault};
 pub use kept_image::KeptImage;
 pub use open_route::OpenRoute;
 pub use staged::Staged;

@@ -4,7 +4,7 @@ ghost use Rattle.std.specs.Prelude.{◌≡◌, []};
 
 use crate::batches::Batches;
 use crate::change::Change;
-use crate::keeper::{CommitFailed, Keeper, LoadFault};
+use crate::keeper::{CommitFault, Keeper, LoadFault};
 use lrs_machine::Image;
 use std::alloc::{AllocError, Global};
 
@@ -61,7 +61,7 @@ impl<B: Batches> Keeper for Staged<B> {
         Ok(())
     }
 
-    fn commit(&mut self) -> Result<(), CommitFailed> {
+    fn commit(&mut self) -> Result<(), CommitFault> {
         let written = self.batches.write(&self.staged);
         self.staged.clear();
         written

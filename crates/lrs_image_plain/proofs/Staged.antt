@@ -1,5 +1,5 @@
 -- A keeper in memory: what becomes of it where all of its changes are kept.
-use Rattle.std.proofs.Common.{◌≡◌, ℕ, ◌++◌, ◌≤◌, Bool, true, false, List, [], ◌∷◌, length, take, drop, refl, sym, ap, subst, ◌∙◌, arith, Result, Ok, Err, IfOk}
+use Rattle.std.proofs.Common.{◌≡◌, ℕ, ◌++◌, ◌≤◌, true, List, [], ◌∷◌, length, take, drop, refl, sym, ap, subst, ◌∙◌, arith, Result, Ok, IfOk}
 use Rattle.std.proofs.lemmas.Bool.{false≢true}
 use Rattle.std.proofs.lemmas.List.{take_all, take-append-drop, take-append-le, length-take-le}
 use Rattle.lrs_machine.specs.declared.image.Image.{Image}
@@ -10,7 +10,7 @@ use Rattle.lrs_image_plain.specs.declared.plain.Content.{Content}
 use Rattle.lrs_image_plain.specs.declared.plain.Content.TheVariants.{Sound, Unsound}
 use Rattle.lrs_image.specs.Keeping.{is_image, HoldsSound}
 use Rattle.lrs_image.specs.Kept.{image_of}
-use Rattle.lrs_image_plain.specs.Plain.{content_after, IsBase, IsContent, IsPlain, PlainView}
+use Rattle.lrs_image_plain.specs.Plain.{content_after, IsContent, IsPlain, PlainView}
 use Rattle.lrs_image.specs.Together.{apply_all, CanMakeAll, IsChangedBy}
 use Rattle.lrs_image.proofs.Together.{apply_append, can_append, sound_after}
 

@@ -3,27 +3,29 @@
 ghost use Rattle.std.specs.Prelude.{◌≡◌};
 
 use crate::plain::Plain;
-use lrs_image::{Change, CommitFailed, Keeper, LoadFault};
+use lrs_image::{Change, CommitFault, Keeper, LoadFault};
 use lrs_machine::Image;
 use std::alloc::{AllocError, Global};
 use std::marker::Model;
 
-/// What is kept where the commit fails.
+/// How a commit fails.
 #[derive(Clone, Copy, Debug, PartialEq, Eq)]
-pub enum Leaves {
-    /// What was kept before.
+pub enum Failure {
+    /// The device fails, and nothing that was staged is kept.
     Old,
-    /// That with all that was staged.
+    /// The device fails, and all that was staged is kept.
     New,
+    /// Memory runs out, and nothing that was staged is kept.
+    Memory,
 }
 
-/// Keeps an image in memory. Its device does a number of loads and of commits, and fails at each one after them.
+/// Keeps an image in memory. Its device does a number of loads and of commits; each one after them fails.
 #[derive(Drop)]
 pub struct Failing {
     plain: Plain,
     loads: u64,
     commits: u64,
-    leaves: Leaves,
+    failure: Failure,
     failures: u64,
 }
 
@@ -32,20 +34,20 @@ impl Model for Failing {
 
     ghost Value = { FailingView };
 
-    ghost view = { λ f. record { plain = f.plain; loads = f.loads; commits = f.commits; leaves = f.leaves; failures = f.failures } };
+    ghost view = { λ f. record { plain = f.plain; loads = f.loads; commits = f.commits; failure = f.failure; failures = f.failures } };
 }
 
 impl Failing {
     /// Keeps what this keeper has, for this many loads and commits.
-    pub fn over(plain: Plain, loads: u64, commits: u64, leaves: Leaves) -> Failing
+    pub fn over(plain: Plain, loads: u64, commits: u64, failure: Failure) -> Failing
         ensures { result ≡ record
-            { plain = plain; loads = loads; commits = commits; leaves = leaves; failures = 0 } }
+            { plain = plain; loads = loads; commits = commits; failure = failure; failures = 0 } }
     {
         Failing {
             plain,
             loads,
             commits,
-            leaves,
+            failure,
             failures: 0,
         }
     }
@@ -84,16 +86,25 @@ impl Keeper for Failing {
         self.plain.stage(change)
     }
 
-    fn commit(&mut self) -> Result<(), CommitFailed> {
+    fn commit(&mut self) -> Result<(), CommitFault> {
         if self.commits > 0 {
             self.commits -= 1;
             return self.plain.commit();
         }
         self.failures = self.failures.saturating_add(1);
-        match self.leaves {
-            Leaves::Old => self.plain.drop_staged(),
-            Leaves::New => self.plain.commit()?,
+        match self.failure {
+            Failure::Old => {
+                self.plain.drop_staged();
+                Err(CommitFault::Store)
+            }
+            Failure::New => {
+                self.plain.commit()?;
+                Err(CommitFault::Store)
+            }
+            Failure::Memory => {
+                self.plain.drop_staged();
+                Err(CommitFault::Memory)
+            }
         }
-        Err(CommitFailed)
     }
 }

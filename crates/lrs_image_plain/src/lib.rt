@@ -4,5 +4,5 @@
 mod failure;
 mod plain;
 
-pub use failure::{Failing, Leaves};
+pub use failure::{Failing, Failure};
 pub use plain::Plain;

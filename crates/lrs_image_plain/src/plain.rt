@@ -8,7 +8,7 @@ ghost use Rattle.lrs_image_plain.specs.Plain.{IsBase};
 ghost use Rattle.lrs_image.specs.Together.{apply_all};
 ghost use Rattle.lrs_image.specs.Keeping.{content_of};
 
-use lrs_image::{Change, CommitFailed, Keeper, KeptImage, LoadFault};
+use lrs_image::{Change, CommitFault, Keeper, KeptImage, LoadFault};
 use lrs_image_sound::first_unsound;
 use lrs_machine::{Image, Table};
 use std::alloc::{AllocError, Global};
@@ -129,7 +129,7 @@ impl Keeper for Plain {
         Ok(())
     }
 
-    fn commit(&mut self) -> Result<(), CommitFailed> {
+    fn commit(&mut self) -> Result<(), CommitFault> {
         self.kept = self.changes.as_slice().len();
         Ok(())
     }

@@ -20,3 +20,5 @@ pub mod Then
 pub mod Pieces
 pub mod SameName
 pub mod CommitLemmas
+pub mod OneSchema
+pub mod UndoneLemmas

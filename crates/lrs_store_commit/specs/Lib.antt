@@ -1,1 +1,2 @@
 pub mod NewAssets
+pub mod Undone

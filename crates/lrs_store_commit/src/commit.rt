@@ -1,12 +1,13 @@
 //! Changes are written, as a whole.
 
-ghost use Rattle.std.specs.Prelude.{◌≡◌, ◌+◌, ◌<◌, ◌≤◌, ◌^◌, length, take, IfOk, OnOk, IsTrue, false};
+ghost use Rattle.std.specs.Prelude.{◌≡◌, ◌+◌, ◌<◌, ◌≤◌, ◌^◌, length, take, IfOk, OnOk, OnErr, IsTrue, false};
 ghost use Rattle.sqlite.specs.State.{HasCleanDisk, Survives};
 ghost use Rattle.sqlite.specs.Held.{state};
 ghost use Rattle.lrs_store_tables.specs.Stored.{IsWriting, Makes, stored, OkDoes, LeavesStore};
 ghost use Rattle.lrs_store_tables.specs.Writing.{MakesOf, Writes, WritesEach, AreWritten, with_some, changed_course, changed_route, new_course, new_route, with_ledgers};
 ghost use Rattle.lrs_store_tables.specs.Changing.{without_route, with_entered, with_gone};
 ghost use Rattle.lrs_store_tables.specs.Resting.{IsReady};
+ghost use Rattle.lrs_store_commit.specs.Undone.{GoesBack, LeavesUndone};
 
 use crate::insert_assets::insert_new_assets;
 use crate::insert_lists::Ledger;
@@ -172,12 +173,37 @@ fn write_each<S: Alter>(
     Ok(())
 }
 
+/// Writes changes in one transaction: all of them, or nothing.
+fn write_in_one<S: Alter>(conn: &mut Connection<S>, n: u64, changes: &[Change]) -> Result<(), Error>
+    requires autocommit { conn.old.in_transaction ≡ false }
+    requires ready { IsReady (state S.Store conn.old) }
+    requires some { 0 < length changes.now }
+    requires fits { n + length changes.now < 2 ^ 64 }
+    ensures autocommit { conn.new.in_transaction ≡ false }
+    ensures written { HasCleanDisk (state S.Store conn.new)
+        → OnOk result (AreWritten n changes.now (stored (state S.Store conn.old).now.trees)
+        (stored (state S.Store conn.new).committed.trees)) }
+    ensures is_open { HasCleanDisk (state S.Store conn.new)
+        → OnOk result (IsTrue (state S.Store conn.old).is_open
+        × IsTrue (state S.Store conn.new).is_open) }
+    ensures ready { OnOk result (IsReady (state S.Store conn.new)) }
+    ensures back { OnErr result (GoesBack (state S.Store conn.old) (state S.Store conn.new)) }
+    ensures crash { Survives (state S.Store conn.old) (state S.Store conn.new) (λ db.
+        IsTrue (state S.Store conn.old).is_open × AreWritten n changes.now
+        (stored (state S.Store conn.old).now.trees) (stored db)) }
+{
+    let mut tx = conn.transaction();
+    write_each(&mut tx, n, changes)?;
+    tx.commit()
+}
+
 /// Writes changes in one transaction: the edit of the first has this number, each next one more. It writes all of
 /// them or nothing, and asks nothing of the store after the commit. With no change a commit would say nothing of
 /// a store that was shut, so there is at least one.
 ///
 /// # Errors
-/// When the store fails, or a number is too large for it. What is stored is then as it was, or with all changes.
+/// When the store fails, memory runs out, or a number is too large for it. What is stored is then as it was, or with all
+/// changes; where the store is open, it is as it was.
 pub fn write_changes<S: Alter>(
     conn: &mut Connection<S>,
     n: u64,
@@ -195,11 +221,14 @@ pub fn write_changes<S: Alter>(
         → OnOk result (IsTrue (state S.Store conn.old).is_open
         × IsTrue (state S.Store conn.new).is_open) }
     ensures ready { OnOk result (IsReady (state S.Store conn.new)) }
+    ensures undone { OnErr result (LeavesUndone (state S.Store conn.old) (state S.Store conn.new)) }
     ensures crash { Survives (state S.Store conn.old) (state S.Store conn.new) (λ db.
         IsTrue (state S.Store conn.old).is_open × AreWritten n changes.now
         (stored (state S.Store conn.old).now.trees) (stored db)) }
 {
-    let mut tx = conn.transaction();
-    write_each(&mut tx, n, changes)?;
-    tx.commit()
+    // For the prover alone: before and afterwards the trees list the schema.
+    let _ = conn.schema();
+    let written = write_in_one(conn, n, changes);
+    let _ = conn.schema();
+    written
 }

@@ -1,24 +1,25 @@
 -- What written changes make of what an opening may find.
-use Rattle.std.proofs.Common.{◌≡◌, ◌⊎◌, inl, inr, ℕ, ◌+◌, List, [], length, IsTrue, IfOk, Ok, Result, sym, ap, subst, ◌∙◌}
+use Rattle.std.proofs.Common.{◌≡◌, ◌⊎◌, inl, inr, ℕ, ◌+◌, List, [], length, IsTrue, IfOk, Ok, Result, sym, ap, subst, ◌∙◌, arith}
 use Rattle.sqlite_trees.specs.declared.store.Store.{Ghosts}
 use Rattle.sqlite_trees.specs.Tree.{Trees}
 use Rattle.sqlite.specs.Effect.{Database}
 use Rattle.sqlite.specs.Held.{Held, state}
-use Rattle.sqlite.specs.State.{State, HasCleanDisk}
+use Rattle.sqlite.specs.State.{State, HasCleanDisk, Survives}
 use Rattle.lrs_machine.specs.declared.image.Image.{Image}
 use Rattle.lrs_machine.specs.declared.table.Table.{Table}
 use Rattle.lrs_image.specs.declared.change.Change.{Change}
 use Rattle.lrs_image.specs.Together.{apply_all, CanMakeAll, IsChangedBy}
 use Rattle.lrs_store_rows.specs.Tables.{Tables}
 use Rattle.lrs_store_rows.specs.Content.{content_of}
-use Rattle.lrs_store_tables.specs.Stored.{stored}
+use Rattle.lrs_store_tables.specs.Stored.{stored, LeavesStore}
 use Rattle.lrs_store_tables.specs.Writing.{AreWritten}
 use Rattle.lrs_store_tables.specs.Resting.{IsReady}
 use Rattle.lrs_store_keeper.specs.Texts.{HaveTexts}
-use Rattle.lrs_store_keeper.specs.Holding.{MayHold, HoldEdits, HasEdits}
+use Rattle.lrs_store_commit.specs.Undone.{LeavesUndone}
+use Rattle.lrs_store_keeper.specs.Holding.{MayHold, HoldEdits, HasEdits, IsOpenIfClean, IsStillOpen, IsAsBefore}
 use Rattle.lrs_store_keeper.specs.Opening.{IsSecond}
 use Rattle.lrs_store_keeper.proofs.Next.{rows_after_all, all_more}
-use Rattle.lrs_store_keeper.proofs.ReadLemmas.{IsSettled}
+use Rattle.lrs_store_keeper.proofs.ReadLemmas.{IsSettled, before}
 
 abbrev pub Stays : {S : Type 0} → Ghosts S → Type 0
 Stays {S} g = (s : S) → IsTrue (g.view s).is_open → g.recovers s (g.view s).committed
@@ -75,6 +76,39 @@ module _ {S : Type 0} (g : Ghosts S) (stays : Stays g) (settled : IsSettled g) (
 -- rows of which the edits are counted are of version 2
 pub counted_second : (s : State) (edits : ℕ) → HasEdits edits s → IsSecond s
 counted_second s edits kept clean db left = (kept clean db left).rows.version
+
+-- what is found after a call that keeps nothing could be found before it
+pub held_before : (old new : State) → LeavesStore old new → (x : Result Image Table) → MayHold new x → MayHold old x
+held_before old new last x h = (omega (arith, h.0, last.clean), (h.1.0, before (last.crash h.0 h.1.0 h.1.1), h.1.2))
+
+-- changes that were not written leave the connection ready
+pub ready_after : (old mid : State) → IsOpenIfClean old → (HasCleanDisk mid → HasCleanDisk old) → LeavesUndone old mid → IsReady mid
+ready_after old mid opened early undone clean was = (undone clean (opened (early clean)) was).rest
+
+-- where the store is open afterwards, nothing was kept
+module _ {S : Type 0} (g : Ghosts S) (stays : Stays g) (settled : IsSettled g) (old mid new : Held S) (edits : ℕ) (opened : IsOpenIfClean (state g old)) (kept : HasEdits edits (state g old))
+    (early : HasCleanDisk (state g mid) → HasCleanDisk (state g old)) (undone : LeavesUndone (state g old) (state g mid)) (still : IsStillOpen (state g mid) (state g new)) (last : LeavesStore (state g mid) (state g new)) where
+  first : HasCleanDisk (state g new) → HasCleanDisk (state g old)
+  first clean = early (omega (arith, clean, last.clean))
+
+  left_before : HasCleanDisk (state g new) → (db : Trees) → g.recovers new.store db → g.recovers old.store db
+  left_before clean db left =
+      let m : HasCleanDisk (state g mid) = omega (arith, clean, last.clean) in
+      let was = still.was_open clean in
+      let is = settled mid.store db was (before (last.crash clean db left)) ∙ (undone m (opened (early m)) was).trees in
+      subst (λ (d : Trees). g.recovers old.store d) (sym is) (stays old.store (opened (early m)))
+
+  edits_left : HasEdits edits (state g new)
+  edits_left clean db left = kept (first clean) db (left_before clean db left)
+
+  pub as_before : IsAsBefore edits (state g old) (state g new)
+  as_before = record {
+    ready = still.ready;
+    second = counted_second (state g new) edits edits_left;
+    is_open = still.is_open;
+    edits_are = edits_left;
+    content = λ x h. (first h.0, (h.1.0, left_before h.0 h.1.0 h.1.1, h.1.2));
+  }
 
 -- without a change
 pub unchanged : (s : State) (edits : ℕ) (cs : List Change) → cs ≡ [] → HasEdits edits s → (x : Result Image Table) → MayHold s x → IsChangedBy (MayHold s) cs x

@@ -49,6 +49,20 @@ pub record HoldEdits (n : ℕ) (t : Tables) : Type 0 where
 abbrev pub HasEdits : ℕ → State → Type 0
 HasEdits n s = HasCleanDisk s → (db : Trees) → s.may_leave db → HoldEdits n (stored db)
 
+-- a call left the connection at rest, and it was open before and is, if the disk is clean
+pub record IsStillOpen (old new : State) : Type 0 where
+  pub ready : IsReady new
+  pub was_open : HasCleanDisk new → IsTrue old.is_open
+  pub is_open : IsOpenIfClean new
+
+-- Nothing was kept: what may be found could be found before, with as many edits, and the connection can be used.
+pub record IsAsBefore (edits : ℕ) (old new : State) : Type 0 where
+  pub ready : IsReady new
+  pub second : IsSecond new
+  pub is_open : IsOpenIfClean new
+  pub edits_are : HasEdits edits new
+  pub content : (c : Result Image Table) → MayHold new c → MayHold old c
+
 -- A keeper can use its connection: it is at rest, outside a transaction, and its rows are of version 2. Once the image is loaded it is open and the edits are counted.
 pub record IsUsable (s : State) (in_transaction is_loaded : Bool) (edits : ℕ) : Type 0 where
   pub autocommit : in_transaction ≡ false

@@ -56,6 +56,8 @@ pub(crate) fn check_open<S: Alter>(conn: &mut Connection<S>) -> Result<(), Error
     ensures autocommit { conn.new.in_transaction ≡ false }
     ensures ready { OnOk result (IsReady (state S.Store conn.new)) }
     ensures open { OnOk result (IsOpenIfClean (state S.Store conn.new)) }
+    ensures was_open { OnOk result (HasCleanDisk (state S.Store conn.new)
+        → IsTrue (state S.Store conn.old).is_open) }
     ensures survives { LeavesStore (state S.Store conn.old) (state S.Store conn.new) }
 {
     conn.prepare("SELECT v FROM version")?;

@@ -18,7 +18,7 @@ use crate::commit::write_next;
 use crate::image::{ReadImage, Unloaded, load_from};
 use crate::memory::new_store;
 use crate::migration::make_second;
-use lrs_image::{Batches, Change, CommitFailed, LoadFault};
+use lrs_image::{Batches, Change, CommitFault, LoadFault};
 use lrs_machine::{Image, Table};
 use lrs_store_tables::StoreFault;
 use sqlite::{Alter, Connection, MemStore};
@@ -27,8 +27,8 @@ use std::marker::Model;
 
 /// Keeps an image in the tables of a store. A write is one transaction; loading reads all tables.
 ///
-/// After a write or a load that failed the connection is not used again: each call fails from then on, until
-/// the store is opened anew.
+/// After a load that failed the connection is not used again, nor after a write but where memory ran out in it and
+/// nothing was kept: each call fails from then on, until the store is opened anew.
 #[derive(Drop)]
 pub struct Tables<S: Alter, R: ReadImage> {
     conn: Connection<S>,
@@ -194,20 +194,24 @@ impl<S: Alter, R: ReadImage> Batches for Tables<S, R> {
         }
     }
 
-    fn write(&mut self, changes: &[Change]) -> Result<(), CommitFailed> {
+    fn write(&mut self, changes: &[Change]) -> Result<(), CommitFault> {
         if self.is_broken {
             self.failures = self.failures.saturating_add(1);
-            return Err(CommitFailed);
+            return Err(CommitFault::Store);
         }
         match write_next(&mut self.conn, self.edits, changes) {
             Ok(edits) => {
                 self.edits = edits;
                 Ok(())
             }
-            Err(CommitFailed) => {
+            Err(CommitFault::Memory) => {
+                self.failures = self.failures.saturating_add(1);
+                Err(CommitFault::Memory)
+            }
+            Err(CommitFault::Store) => {
                 self.is_broken = true; // what is kept is either
                 self.failures = self.failures.saturating_add(1);
-                Err(CommitFailed)
+                Err(CommitFault::Store)
             }
         }
     }

@@ -4,7 +4,7 @@ ghost use Rattle.std.specs.Prelude.{◌≡◌, ◌≤◌};
 ghost use Rattle.lrs_image.specs.Keeping.{HasRisen};
 
 use crate::image::read_image;
-use lrs_image::{Change, CommitFailed, Keeper, LoadFault};
+use lrs_image::{Change, CommitFault, Keeper, LoadFault};
 use lrs_machine::Image;
 use lrs_store_keeper::ReadImage;
 use sqlite_trees::store::Alter;
@@ -66,9 +66,9 @@ impl<S: Alter, R: ReadImage> Keeper for Questions<S, R> {
         Err(AllocError)
     }
 
-    fn commit(&mut self) -> Result<(), CommitFailed> {
+    fn commit(&mut self) -> Result<(), CommitFault> {
         self.failures = self.failures.saturating_add(1);
-        Err(CommitFailed)
+        Err(CommitFault::Store)
     }
 
     ghost finds = { λ k clean told. finds_told S.Store.view S.Store.recovers k.store clean told (S.Store.stays k.store told.is_open) };

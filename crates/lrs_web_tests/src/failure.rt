@@ -1,10 +1,11 @@
-//! A desk whose keeper fails at the second commit, or as it is loaded: what it answers then, and what an opening finds.
+//! A desk whose keeper fails at the second commit, or wants memory there, or fails as it is loaded: what it answers then,
+//! and what an opening finds.
 //! All but the test itself is said of any keeper: at one keeper's type each step is dear to prove.
 
 use crate::calls::{opened, shut};
 use crate::equality::is_number;
 use lrs_desk::{
-    Answer, AskFault, Command, Desk, Failing, Fault, Keeper, Key, Leaves, OpenFault, Plain,
+    Answer, AskFault, Command, Desk, Failing, Failure, Fault, Keeper, Key, OpenFault, Plain,
 };
 use lrs_element::Link;
 use lrs_machine::Limits;
@@ -33,8 +34,8 @@ fn command(rt: &impl Abort, key: &str, link: Link) -> (Key, Command) {
 }
 
 /// A keeper that does one commit and fails at each further one.
-fn failing(alloc: Global, leaves: Leaves) -> Failing {
-    Failing::over(Plain::empty(alloc), 2, 1, leaves)
+fn failing(alloc: Global, failure: Failure) -> Failing {
+    Failing::over(Plain::empty(alloc), 2, 1, failure)
 }
 
 fn act<K: Keeper>(
@@ -101,6 +102,21 @@ fn after_a_failed_commit_of_one_questions_go_on<K: Keeper + Drop>(
 ) {
     let mut desk = broken(rt, alloc, keeper);
     answers(rt, &mut desk, "s3", THIRD, Err(Fault::MustReopen));
+    questions_go_on(rt, &desk);
+    shut(desk);
+}
+
+/// Memory ran out in a commit of one command: nothing has changed, and the desk goes on.
+fn after_want_of_memory_in_a_commit_the_desk_goes_on<K: Keeper + Drop>(
+    rt: &impl Abort,
+    alloc: Global,
+    keeper: K,
+) {
+    let mut desk = opened(keeper, Limits::full(), alloc).expect(rt, "a desk");
+    first_is_done(rt, &mut desk);
+    answers(rt, &mut desk, "s2", SECOND, Err(Fault::Memory));
+    answers(rt, &mut desk, "s3", THIRD, Err(Fault::Memory));
+    answers(rt, &mut desk, "s1", FIRST, Ok(Answer::Again(1)));
     questions_go_on(rt, &desk);
     shut(desk);
 }
@@ -172,13 +188,14 @@ fn a_keeper_that_is_not_loaded_is_no_desk<K: Keeper + Drop>(
 #[test]
 fn a_keeper_fails(rt: HostRuntime) {
     let alloc = rt.alloc();
-    after_a_failed_commit_of_one_questions_go_on(&rt, alloc, failing(alloc, Leaves::Old));
-    a_command_that_was_kept_is_done_no_second_time(&rt, alloc, failing(alloc, Leaves::New));
+    after_a_failed_commit_of_one_questions_go_on(&rt, alloc, failing(alloc, Failure::Old));
+    after_want_of_memory_in_a_commit_the_desk_goes_on(&rt, alloc, failing(alloc, Failure::Memory));
+    a_command_that_was_kept_is_done_no_second_time(&rt, alloc, failing(alloc, Failure::New));
     after_a_failed_commit_of_two_questions_ask_for_a_reopening(
         &rt,
         alloc,
-        failing(alloc, Leaves::Old),
+        failing(alloc, Failure::Old),
     );
-    let never_loaded = Failing::over(Plain::empty(alloc), 0, 0, Leaves::Old);
+    let never_loaded = Failing::over(Plain::empty(alloc), 0, 0, Failure::Old);
     a_keeper_that_is_not_loaded_is_no_desk(&rt, alloc, never_loaded);
 }

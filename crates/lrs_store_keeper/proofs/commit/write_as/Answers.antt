@@ -1,7 +1,7 @@
 use Rattle.std.proofs.Common.{arith}
 use Rattle.sqlite.specs.State.{HasCleanDisk}
 use Rattle.sqlite.specs.Held.{state}
-use Rattle.lrs_store_keeper.proofs.CommitLemmas.{counted, counted_second, changed, old_or_changed}
+use Rattle.lrs_store_keeper.proofs.CommitLemmas.{counted, counted_second, changed, old_or_changed, held_before, ready_after, as_before}
 use Rattle.lrs_store_keeper.proofs.commit.write_as.Goals as goal
 
 pub returns-in-Ok-clause-edits : goal.returns-in-Ok-clause-edits
@@ -16,11 +16,17 @@ returns-in-Ok-clause-ok g c =
     changed g.S.Store g.met.S.Store.stays g.met.S.Store.settled c.args.conn.now c.args.n c.args.edits c.args.changes.now c.requires.ready c.requires.next c.requires.edits c.requires.can c.prove_all_texts.ensures
     c.write_changes.new.conn early c.in-Ok.ensures.is_open c.in-Ok.ensures.written
 
-pub returns-in-Err-clause-err : goal.returns-in-Err-clause-err
-returns-in-Err-clause-err g c =
+pub returns-in-Err-clause-memory : goal.returns-in-Err-clause-memory
+returns-in-Err-clause-memory g c e =
+    let early : HasCleanDisk (state g.S.Store c.write_changes.new.conn) → HasCleanDisk (state g.S.Store c.args.conn.now) = λ clean. omega (arith, clean, c.write_changes.ensures.crash.clean) in
+    as_before g.S.Store g.met.S.Store.stays g.met.S.Store.settled c.args.conn.now c.write_changes.new.conn c.fault_of.new.conn c.args.edits c.requires.open c.requires.edits
+    early c.in-Err.ensures.undone (c.fault_of.ensures.memory (ap fault_in e)) c.fault_of.ensures.survives
+
+pub returns-in-Err-clause-store : goal.returns-in-Err-clause-store
+returns-in-Err-clause-store g c e x h =
     let early : HasCleanDisk (state g.S.Store c.write_changes.new.conn) → HasCleanDisk (state g.S.Store c.args.conn.now) = λ clean. omega (arith, clean, c.write_changes.ensures.crash.clean) in
     old_or_changed g.S.Store g.met.S.Store.stays g.met.S.Store.settled c.args.conn.now c.args.n c.args.edits c.args.changes.now c.requires.ready c.requires.next c.requires.edits c.requires.can c.prove_all_texts.ensures
-    c.write_changes.new.conn early c.write_changes.ensures.crash.crash
+    c.write_changes.new.conn early c.write_changes.ensures.crash.crash x (held_before _ _ c.fault_of.ensures.survives x h)
 
 pub returns-in-Ok-clause-second : goal.returns-in-Ok-clause-second
 returns-in-Ok-clause-second g c = counted_second (state g.S.Store c.write_changes.new.conn) _ (returns-in-Ok-clause-edits g c)

@@ -7,3 +7,6 @@ returns-clause-ready g c = rests_still (state g.S.Store c.args.conn.now) (state 
 
 pub returns-clause-open : goal.returns-clause-open
 returns-clause-open g c clean = (c.in_ok-prepare.ensures.ok clean).1.0.is_open
+
+pub returns-clause-was_open : goal.returns-clause-was_open
+returns-clause-was_open g c clean = (c.in_ok-prepare.ensures.ok clean).1.0.was_open

@@ -9,6 +9,6 @@ pub returns-then-self-gt0-clause-ok : goal.returns-then-self-gt0-clause-ok
 returns-then-self-gt0-clause-ok c =
     subst (λ (v : FailingView). OnOk c.commit.result ((x : Result Image Table) → x ≡ c.commit.new.self.content → IsChangedBy (λ y. y ≡ v.plain.content) v.plain.staged x)) c.self.view_is c.commit.ensures.ok
 
-pub returns-in_ok-commit-in-New-clause-failed : goal.returns-in_ok-commit-in-New-clause-failed
-returns-in_ok-commit-in-New-clause-failed c = λ x h.
+pub returns-in_ok-commit-in-New-clause-store : goal.returns-in_ok-commit-in-New-clause-store
+returns-in_ok-commit-in-New-clause-store c = λ e x h.
     inr (subst (λ (v : FailingView). IsChangedBy (λ y. y ≡ v.plain.content) v.plain.staged x) c.self.view_is (c.in_ok-commit-in-New.ensures.ok x h))

@@ -1,7 +1,7 @@
 use Rattle.std.proofs.Common.{rules}
 use Rattle.sqlite.specs.Held.{state}
 use Rattle.lrs_store_commit.proofs.CommitLemmas.{crash}
-use Rattle.lrs_store_commit.proofs.commit.write_changes.Goals as goal
+use Rattle.lrs_store_commit.proofs.commit.write_in_one.Goals as goal
 
 pub returns-clause-crash : goal.returns-clause-crash
 returns-clause-crash g c =
