@@ -27,7 +27,7 @@ use std::rt::HostRuntime;
 pub type FileKeeper = Staged<Tables<FileStore<FileFrom<Unknown>>, Reader>>;
 
 /// Keeps an inventory in a file and its log for questions alone.
-pub type FileQuestions = Questions<FileStore<FileFrom<Unknown>>, Reader>;
+pub type FileQuestions = Questions<FileStore<FileFrom<Unknown>>>;
 
 /// Opens the inventory in a file, or makes one where there is none. The desk acts on what the file holds, and on
 /// nothing else. A new file gets sums of its pages where that is asked for.
@@ -86,7 +86,7 @@ pub fn open_to_look(rt: &HostRuntime, path: &str) -> Result<Desk<FileQuestions>,
     ensures behind { IfOk result (λ desk. desk.is_ahead ≡ false) }
     ensures fault { IfErr result IsOfOpening }
 {
-    match open_for_questions(rt, path, Unknown, Reader) {
+    match open_for_questions(rt, path, Unknown) {
         Ok(keeper) => look_at(rt, keeper),
         Err(refusal) => match refusal.fault {
             StoreFault::Memory => Err(NotSeen::Stopped(ProgramFault::Memory)),

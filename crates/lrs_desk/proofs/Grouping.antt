@@ -13,6 +13,8 @@ use Rattle.lrs_machine.specs.Machine.{Record, step_record, answers, state_after}
 use Rattle.lrs_machine.specs.Sound.{IsSound}
 use Rattle.lrs_machine.specs.State.{State}
 use Rattle.lrs_image.specs.declared.change.Change.{Change}
+use Rattle.lrs_image.specs.declared.keeper.CommitFault.{CommitFault}
+use Rattle.lrs_image.specs.declared.keeper.CommitFault.TheVariants as commit
 use Rattle.lrs_image.specs.Change.{apply, CanMake}
 use Rattle.lrs_image.specs.Keeping.{HasRisen, HoldsOnly, HoldsSound}
 use Rattle.lrs_image.specs.Together.{apply_all, CanMakeAll, IsChangedBy}
@@ -264,3 +266,10 @@ kept_after old_may may old new next (Err MustReopen) only ok kept err memory nev
 pub same_only : (may : Result Image Table → Type 0) (i j : Image) (changes : List Change) → IsMade i j changes → changes ≡ [] → HoldsOnly may i → HoldsOnly may j
 same_only may i j changes m none only = λ c h.
     only c h ∙ ap (λ (image : Image). let r : Result Image Table = Ok image in r) (sym (m.made ∙ ap (λ (cs : List Change). apply_all cs i) none))
+
+-- whatever the fault of a commit is, nothing was kept or all of it
+pub failed_either : {A : Type 0} (found before after : Result Image Table → Type 0) (answer : Result A CommitFault) (fault : CommitFault) → answer ≡ Err fault
+    → (answer ≡ Err commit.Memory → (c : Result Image Table) → found c → before c) → (answer ≡ Err commit.Store → (c : Result Image Table) → found c → before c ⊎ after c)
+    → (c : Result Image Table) → found c → before c ⊎ after c
+failed_either found before after answer commit.Memory is memory store c h = inl (memory is c h)
+failed_either found before after answer commit.Store is memory store c h = store is c h

@@ -57,3 +57,11 @@ crash g old tx mid last n cs some is ready one writes two =
     (λ db. IsTrue (state g old).is_open × AreWritten n cs (stored (state g old).now.trees) (stored db)) is one writes two (λ does early m.
     let w = does m (begins g old ready early) in
     (w.is_open some, w.rows))
+
+-- statements that were run have not ended the transaction
+pub has_begun : {S : Type 0} (g : Ghosts S) (old tx mid : Held S) (n : ℕ) (cs : List Change) → tx ≡ record old { in_transaction = true } → IsReady (state g old)
+    → Survives (state g tx) (state g mid) (λ _. ⊥) → (HasCleanDisk (state g mid) → IsWriting (state g tx) → WritesEach n cs (state g tx) (state g mid)) → HasCleanDisk (state g mid) → IsTrue (state g mid).in_transaction
+has_begun {S} g old tx mid n cs is ready one writes clean =
+    let early : HasCleanDisk (state g tx) = omega (arith, clean, one.clean) in
+    let writing = subst (λ (h : Held S). HasCleanDisk (state g h) → IsWriting (state g h)) (sym is) (begins g old ready) early in
+    (writes clean writing).writing.begun

@@ -1,6 +1,6 @@
 -- The rows of sqlite_schema are those of one schema, where it has no view.
-use Rattle.std.proofs.Common.{◌≡◌, ◌⊎◌, inl, inr, ℕ, ◌+◌, ◌<◌, ◌^◌, pos, Bool, true, false, Option, Some, None, Ok, Result, List, [], ◌∷◌, ◌++◌, length, refl, sym, ap, subst, ◌∙◌, arith}
-use Rattle.std.specs.Prelude.{codes, slice_get, slice_index_or, filter}
+use Rattle.std.proofs.Common.{◌≡◌, inl, inr, ℕ, ◌+◌, ◌<◌, pos, false, Option, Some, Ok, Result, List, [], ◌∷◌, ◌++◌, refl, sym, ap, subst, ◌∙◌, arith}
+use Rattle.std.specs.Prelude.{codes, slice_get, filter}
 use Rattle.std.specs.List.{AllByRecursion, AllZip}
 use Rattle.std.specs.Fmt.{decimal}
 use Rattle.std.proofs.lemmas.Fmt.{decimal_injective}
@@ -8,8 +8,7 @@ use Rattle.std.proofs.lemmas.List.{append_cancel_left}
 use Rattle.sqlite_value.specs.declared.value.Value.{Value}
 use Rattle.sqlite_value.specs.declared.value.Value.TheVariants.{Null, Int, Real, Text, Blob}
 use Rattle.sqlite_value.specs.Order.{Row, column}
-use Rattle.sqlite_value.specs.Keys.{plain}
-use Rattle.sqlite_trees.specs.Tree.{rowid, IsAscending}
+use Rattle.sqlite_trees.specs.Tree.{IsAscending}
 use Rattle.sqlite_schema.specs.declared.schema.Table.{Table}
 use Rattle.sqlite_schema.specs.declared.schema.View.{View as Stored}
 use Rattle.sqlite_schema.specs.declared.schema.Index.{Index}
@@ -17,7 +16,7 @@ use Rattle.sqlite_schema.specs.declared.schema.Schema.{Schema}
 use Rattle.sqlite_schema.specs.Names.{same_name}
 use Rattle.sqlite_rules.specs.Lists.{Has}
 use Rattle.sqlite_resolve.specs.Compile.{table_defined_by, index_defined_by}
-use Rattle.sqlite_catalog.specs.Listing.{Describes, DefinesTable, IsTableRow, IsDefined, IsIndexRow, IsViewRow, AreListed, automatic, is_table_row, is_index_row, is_view_row}
+use Rattle.sqlite_catalog.specs.Listing.{IsTableRow, IsDefined, IsIndexRow, IsViewRow, AreListed, automatic, is_table_row, is_index_row, is_view_row}
 use Rattle.sqlite_catalog.proofs.StepLemmas.{same_itself}
 
 text_is : (a b : List ℕ) → Text a ≡ Text b → a ≡ b

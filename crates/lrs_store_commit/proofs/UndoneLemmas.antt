@@ -1,10 +1,10 @@
 -- A transaction that ends in an error is undone: what an open store leaves is its last commit, and a call of which nothing is committed leaves what was left before.
-use Rattle.std.proofs.Common.{◌≡◌, ◌⊎◌, inl, inr, IsTrue, true, false, refl, sym, ap, subst, ◌∙◌, arith}
+use Rattle.std.proofs.Common.{◌≡◌, ◌⊎◌, inl, inr, IsTrue, true, sym, ap, subst, ◌∙◌, arith, Result, Ok, Err, IfErr, OnErr}
 use Rattle.sqlite_trees.specs.declared.store.Store.{Ghosts}
 use Rattle.sqlite_trees.specs.Tree.{Trees}
 use Rattle.sqlite.specs.Effect.{Database}
 use Rattle.sqlite.specs.Held.{Held, state}
-use Rattle.sqlite.specs.State.{State, HasCleanDisk, Survives, IsRolledBack, IsUnchanged}
+use Rattle.sqlite.specs.State.{State, HasCleanDisk, Survives, IsRolledBack}
 use Rattle.sqlite.specs.Steps.{FailsToCommit}
 use Rattle.sqlite.specs.declared.error.Error.{Error}
 use Rattle.sqlite.specs.State.{IsLive}
@@ -16,6 +16,11 @@ use Rattle.lrs_store_tables.specs.Stored.{HasTables}
 use Rattle.lrs_store_tables.specs.Resting.{IsReady}
 use Rattle.lrs_store_commit.specs.Undone.{IsBack, GoesBack, LeavesUndone}
 use Rattle.lrs_store_commit.proofs.OneSchema.{one_schema}
+
+-- what holds anyway holds after an error
+pub on_error : {A P : Type 0} (answer : Result A Error) → P → OnErr answer P
+on_error (Ok a) p = tt
+on_error (Err e) p = p
 
 pub before : {A : Type 0} → A ⊎ ⊥ → A
 before (inl a) = a
@@ -61,6 +66,11 @@ module _ {S : Type 0} (g : Ghosts S) (stays : Stays g) (settled : IsSettled g) (
             trees = ap (λ (d : Database). d.trees) back.1 ∙ left_before (early clean) _ was (stays mid.store opened);
           }
 
+  -- so it is for what the commit answers, where its statements had not ended the transaction
+  pub commit_back : {A : Type 0} (answer : Result A Error) (new : Held S) → (HasCleanDisk (state g mid) → IsTrue (state g mid).in_transaction) → (HasCleanDisk (state g new) → HasCleanDisk (state g mid)) → (HasCleanDisk (state g new) → IfErr answer (FailsToCommit (state g mid) (state g new))) → OnErr answer (GoesBack (state g old) (state g new))
+  commit_back (Ok a) new begun early failed = tt
+  commit_back (Err e) new begun early failed = λ clean was now. not_committed new e (begun (early clean)) early failed clean was now
+
 -- what is undone is at rest: the trees of before list one schema
 pub rests_undone : (old new : State) → IsReady old → IsLive old → IsLive new → (HasCleanDisk new → HasCleanDisk old) → GoesBack old new → LeavesUndone old new
 rests_undone old new ready live lives early back clean was now =
@@ -77,3 +87,7 @@ rests_undone old new ready live lives early back clean was now =
       };
       trees = is.trees;
     }
+
+pub all_undone : {A : Type 0} (answer : Result A Error) (old new : State) → IsReady old → IsLive old → IsLive new → (HasCleanDisk new → HasCleanDisk old) → OnErr answer (GoesBack old new) → OnErr answer (LeavesUndone old new)
+all_undone (Ok a) old new ready live lives early back = tt
+all_undone (Err e) old new ready live lives early back = rests_undone old new ready live lives early back

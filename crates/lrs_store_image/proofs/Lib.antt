@@ -8,5 +8,6 @@ pub mod Entered
 pub mod Loaded
 pub mod Chained
 pub mod InParts
+pub mod InSteps
 pub mod OfEntries
 pub mod OfContent

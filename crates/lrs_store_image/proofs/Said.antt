@@ -1,8 +1,8 @@
 -- What the rows of a table say, and what is read of them.
-use Rattle.std.proofs.Common.{◌≡◌, Bool, List, map, Option, Some, None, Result, Ok, Err, sym, ap, subst, ◌∙◌}
+use Rattle.std.proofs.Common.{◌≡◌, Bool, List, map, Option, Some, None, Result, Err, sym, ap, subst, ◌∙◌}
 use Rattle.lrs_machine.specs.declared.table.Table.{Table}
 use Rattle.lrs_image.specs.declared.keeper.LoadFault.{LoadFault}
-use Rattle.lrs_image.specs.declared.keeper.LoadFault.TheVariants.{Memory, Store, Unsound}
+use Rattle.lrs_image.specs.declared.keeper.LoadFault.TheVariants.{Memory}
 use Rattle.lrs_store_rows.specs.Decoding.{each_of, each_sorted, sorted}
 use Rattle.lrs_store_rows.specs.Decoding as option
 use Rattle.lrs_store_rows.specs.Content.{read}

@@ -1,3 +1,4 @@
 pub mod Loading
 pub mod Entering
 pub mod Reading
+pub mod Steps

@@ -1,6 +1,5 @@
 -- What the rows of a store are read as, in three parts: what has names, what lies on routes, and the ledgers.
-use Rattle.std.specs.Prelude.{List, [], map, Result, Ok, Err}
-use Rattle.sqlite_value.specs.Order.{Row}
+use Rattle.std.specs.Prelude.{List, map, Result, Ok, Err}
 use Rattle.lrs_events.specs.Parts.{part_before}
 use Rattle.lrs_machine.specs.declared.image.Image.{Image}
 use Rattle.lrs_machine.specs.declared.image.RouteRow.{RouteRow}
@@ -10,7 +9,7 @@ use Rattle.lrs_machine.specs.Sound.{link_before, are_links, class_before, are_cl
 use Rattle.lrs_image_sound.specs.Tables.{route_spans}
 use Rattle.lrs_image.specs.declared.keeper.LoadFault.{LoadFault}
 use Rattle.lrs_image.specs.declared.keeper.LoadFault.TheVariants as load
-use Rattle.lrs_store_rows.specs.Tables.{Tables, LinkRow, ClassRow, AssetRow, PieceRow, MarkRow, RefRow, SpanRow, EnteredRow, GoneRow, EditRow}
+use Rattle.lrs_store_rows.specs.Tables.{LinkRow, ClassRow, AssetRow, PieceRow, MarkRow, RefRow, SpanRow, EnteredRow, GoneRow, EditRow}
 use Rattle.lrs_store_rows.specs.Decoding.{each_sorted, link_of, class_of, asset_of, part_of, gone_of}
 use Rattle.lrs_store_rows.specs.Content.{◌>>=◌, read, courses_of, measured_of, routes_of, entries_of, edits_of, with_edit}
 use Rattle.lrs_store_routes.specs.Measuring.{are_all_measured}
@@ -18,9 +17,6 @@ use Rattle.lrs_store_routes.specs.Referring.{are_all_referred}
 use Rattle.lrs_store_routes.specs.Spans.{are_sound}
 use Rattle.lrs_store_routes.specs.declared.fault.RowsFault.{RowsFault}
 use Rattle.lrs_store_routes.specs.declared.fault.RowsFault.TheVariants.{Memory, Unsound}
-use Rattle.lrs_store_tables.specs.Stored.{link_in, class_in, asset_in, piece_in, mark_in, ref_in, span_in, entered_in, gone_in, edit_in}
-use Rattle.lrs_store_keeper.specs.declared.rows.NamedRows.{NamedRows}
-use Rattle.lrs_store_keeper.specs.declared.rows.RouteRows.{RouteRows}
 use Rattle.lrs_store_image.specs.declared.registers.Named.{Named}
 use Rattle.lrs_store_image.specs.declared.ledgers.Ledgers.{Ledgers}
 
@@ -58,20 +54,3 @@ ledgers_read n routes entered gone edits =
 abbrev pub with_entries_of : Named → List RouteRow → Ledgers → Image
 with_entries_of n routes l =
     record { links = n.links; classes = n.classes; assets = map (with_edit l.entered) n.assets; routes = routes; entered = l.entered; gone = l.gone; edits = l.edits }
-
--- rows of the tables beside those of the version and of origins
-abbrev pub tables_beside : NamedRows → RouteRows → List Row → List Row → List Row → Tables
-tables_beside n r entered gone edits = record {
-  version = [];
-  link = map link_in n.link.items;
-  class = map class_in n.class.items;
-  asset = map asset_in n.asset.items;
-  piece = map piece_in r.piece.items;
-  mark = map mark_in r.mark.items;
-  ref = map ref_in r.referent.items;
-  span = map span_in r.span.items;
-  entered = map entered_in entered;
-  gone = map gone_in gone;
-  edit = map edit_in edits;
-  origin = [];
-}

@@ -1,11 +1,10 @@
-//! Whether a store has no row.
+//! Whether tables have no row.
 
 ghost use Rattle.std.specs.Prelude.{◌≡◌, ◌&&◌};
 ghost use Rattle.lrs_measure.specs.Lists.{is_nothing};
-ghost use Rattle.lrs_store_rows.specs.Content.{has_no_rows};
-ghost use Rattle.lrs_store_keeper.specs.Rows.{tables_of};
+ghost use Rattle.lrs_store_image.specs.Steps.{have_no_first, have_no_ledgers, ledgers_in};
 
-use lrs_store_keeper::rows::{LedgerRows, NamedRows, RouteRows, StoredRows};
+use lrs_store_keeper::rows::{LedgerRows, NamedRows, RouteRows};
 use sqlite::Row;
 
 fn is_nothing(rows: &[Row]) -> bool
@@ -34,19 +33,19 @@ fn no_routes(rows: &RouteRows) -> bool
         && is_nothing(rows.span.as_slice())
 }
 
-fn no_ledgers(rows: &LedgerRows) -> bool
-    ensures { result ≡ (is_nothing rows.now.entered.items && is_nothing rows.now.gone.items
-        && is_nothing rows.now.edit.items && is_nothing rows.now.origin.items) }
+/// Whether no table has a row that is not one of the ledgers.
+pub(crate) fn no_first(named: &NamedRows, routes: &RouteRows) -> bool
+    ensures { result ≡ have_no_first named.now routes.now }
+{
+    no_named(named) && no_routes(routes)
+}
+
+/// Whether no ledger has a row, nor the tables of edits and of origins.
+pub(crate) fn no_ledgers(rows: &LedgerRows) -> bool
+    ensures { result ≡ have_no_ledgers (ledgers_in rows.now) }
 {
     is_nothing(rows.entered.as_slice())
         && is_nothing(rows.gone.as_slice())
         && is_nothing(rows.edit.as_slice())
         && is_nothing(rows.origin.as_slice())
-}
-
-/// Whether no table has a row.
-pub(crate) fn has_no_rows(rows: &StoredRows) -> bool
-    ensures { result ≡ has_no_rows (tables_of rows.now) }
-{
-    no_named(&rows.named) && no_routes(&rows.routes) && no_ledgers(&rows.ledgers)
 }

@@ -25,7 +25,8 @@ pub struct Ledgers {
     pub edits: Rows<Edit>,
 }
 
-/// The ledgers and the edits of rows, each in its order.
+/// The ledgers and the edits of rows, each in its order. The rows of a table are let go before those of the next are
+/// read.
 ///
 /// # Errors
 /// When one of their tables is unsound, or memory runs out.
@@ -46,13 +47,15 @@ pub(crate) fn read_ledgers(
 {
     let links = named.links.as_slice();
     let assets = named.assets.as_slice();
-    let entered = rows::entered(alloc, links, assets, entered.as_slice())?;
-    let held = entered.as_slice();
-    let gone = rows::gone(alloc, links, assets, routes, held, gone.as_slice())?;
-    let edits = rows::edits(alloc, held, gone.as_slice(), edits.as_slice())?;
+    let parts = rows::entered(alloc, links, assets, entered.as_slice())?;
+    drop(entered);
+    let held = parts.as_slice();
+    let abandoned = rows::gone(alloc, links, assets, routes, held, gone.as_slice())?;
+    drop(gone);
+    let said = rows::edits(alloc, held, abandoned.as_slice(), edits.as_slice())?;
     Ok(Ledgers {
-        entered,
-        gone,
-        edits,
+        entered: parts,
+        gone: abandoned,
+        edits: said,
     })
 }

@@ -6,7 +6,6 @@ pub mod edits;
 mod emptiness;
 pub mod entering_edits;
 mod fault;
-mod inventory;
 mod ledgers;
 mod order;
 pub mod origins;
@@ -15,7 +14,9 @@ mod registers;
 mod route_lists;
 mod routes;
 pub mod rows;
+mod steps;
 mod table_fault;
 pub mod tests;
 
 pub use reader::Reader;
+pub use steps::{Begun, Registers, begin, finish};

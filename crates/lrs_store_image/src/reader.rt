@@ -3,8 +3,7 @@
 ghost use Rattle.lrs_store_keeper.specs.Rows.{tables_of};
 ghost use Rattle.lrs_store_keeper.specs.Holding.{Tells};
 
-use crate::emptiness::has_no_rows;
-use crate::inventory::read_image;
+use crate::steps::{begin, finish};
 use lrs_image::LoadFault;
 use lrs_machine::Image;
 use lrs_store_keeper::ReadImage;
@@ -17,9 +16,12 @@ pub struct Reader;
 
 impl ReadImage for Reader {
     fn read(&self, alloc: Global, rows: StoredRows) -> Result<Image, LoadFault> {
-        if has_no_rows(&rows) {
-            return Ok(Image::empty(alloc));
-        }
-        read_image(alloc, rows)
+        let StoredRows {
+            named,
+            routes,
+            ledgers,
+        } = rows;
+        let begun = begin(alloc, named, routes)?;
+        finish(alloc, begun, ledgers)
     }
 }

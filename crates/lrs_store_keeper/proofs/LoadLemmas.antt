@@ -1,5 +1,5 @@
 -- What was read of the rows of a store is what an opening may find.
-use Rattle.std.proofs.Common.{◌≡◌, inl, inr, pos, [], ◌∷◌, length, Ok, Err, Result, refl, sym, subst, ◌∙◌, IsPermutation}
+use Rattle.std.proofs.Common.{◌≡◌, inl, inr, pos, length, Ok, Err, Result, refl, sym, subst, ◌∙◌, IsPermutation}
 use Rattle.std.proofs.lemmas.List.Sorted.{IsPermutation-sym}
 use Rattle.sqlite_trees.specs.Tree.{Trees}
 use Rattle.sqlite.specs.State.{State, HasCleanDisk}

@@ -1,5 +1,5 @@
 -- What a store holds that was rolled back and then read.
-use Rattle.std.proofs.Common.{◌≡◌, Bool, true, false, IsTrue, IfOk, IfErr, OnOk, IfSome, Option, None, Some, Result, Ok, Err, refl, sym, ap, subst, ◌∙◌, arith, true≢false}
+use Rattle.std.proofs.Common.{◌≡◌, Bool, true, false, IsTrue, IfOk, IfErr, OnOk, IfSome, Option, None, Some, Result, Ok, Err, map, refl, sym, ap, subst, ◌∙◌, arith, true≢false}
 use Rattle.sqlite_trees.specs.Tree.{Trees}
 use Rattle.sqlite_trees.specs.View.{View, IsClean, IsRolledBack}
 use Rattle.lrs_machine.specs.declared.image.Image.{Image}
@@ -11,19 +11,73 @@ use Rattle.lrs_image.specs.declared.keeper.LoadFault.TheVariants.{Memory, Store,
 use Rattle.lrs_store_rows.specs.Tables.{Tables}
 use Rattle.lrs_store_rows.specs.Content.{content_of}
 use Rattle.lrs_store_rows.proofs.Contents.{content_is_sound}
-use Rattle.lrs_store_tables.specs.Stored.{stored}
-use Rattle.lrs_store_keeper.specs.declared.rows.StoredRows.{StoredRows}
-use Rattle.lrs_store_keeper.specs.Rows.{tables_of}
-use Rattle.lrs_store_keeper.specs.Holding.{Tells}
-use Rattle.lrs_store.specs.Seeing.{HasSeen}
-use Rattle.lrs_store_questions.specs.Reading.{ListInventory, HasRows, HasContent, Says, WasLookedAt, HoldsThere, MayTell, IsTold}
+use Rattle.lrs_store_tables.specs.Stored.{stored, rows_of, version_in, link_in, class_in, asset_in, piece_in, mark_in, ref_in, span_in, entered_in, gone_in, edit_in, origin_in, entered_places, gone_places, edit_places, origin_places}
+use Rattle.lrs_store_keeper.specs.declared.rows.NamedRows.{NamedRows}
+use Rattle.lrs_store_keeper.specs.declared.rows.RouteRows.{RouteRows}
+use Rattle.lrs_store_keeper.specs.declared.rows.LedgerRows.{LedgerRows}
+use Rattle.lrs_store.specs.Seeing.{HasSeen, HasLedgers}
+use Rattle.lrs_store_image.specs.Loading.{Reads}
+use Rattle.lrs_store_image.specs.declared.steps.Begun.{Begun}
+use Rattle.lrs_store_image.specs.Steps.{LedgerTables, ledgers_in, tables_with, held_with, Begins}
+use Rattle.lrs_store_questions.specs.Reading.{ListInventory, HasFirst, HasContent, Says, WasLookedAt, HoldsThere, MayTell, IsTold}
 
--- what a reader says is the content of the rows
-said : (r : Result Image LoadFault) (t : Tables) (c : Result Image Table) → Tells r t → Says r c → content_of t ≡ c
-said (Ok image) t c tells says = tells ∙ sym says
-said (Err (Unsound table)) t c tells says = tells ∙ sym says
-said (Err Memory) t c tells says = absurd says
-said (Err Store) t c tells says = absurd says
+-- the rows of the ledgers that a store has
+abbrev ledgers_at : Trees → LedgerTables
+ledgers_at db = record {
+  entered = map entered_in (rows_of db 13 entered_places);
+  gone = map gone_in (rows_of db 15 gone_places);
+  edit = map edit_in (rows_of db 17 edit_places);
+  origin = map origin_in (rows_of db 19 origin_places);
+}
+
+module _ (n : NamedRows) (r : RouteRows) (db : Trees) (first : HasFirst n r db) where
+  -- with them the rows that were read first are all rows
+  all_rows : tables_with n r (ledgers_at db) ≡ stored db
+  all_rows = λ i. record {
+    version = map version_in (first.named.version i);
+    link = map link_in (first.named.link i);
+    class = map class_in (first.named.class i);
+    asset = map asset_in (first.named.asset i);
+    piece = map piece_in (first.routes.piece i);
+    mark = map mark_in (first.routes.mark i);
+    ref = map ref_in (first.routes.referent i);
+    span = map span_in (first.routes.span i);
+    entered = map entered_in (rows_of db 13 entered_places);
+    gone = map gone_in (rows_of db 15 gone_places);
+    edit = map edit_in (rows_of db 17 edit_places);
+    origin = map origin_in (rows_of db 19 origin_places);
+  }
+
+  ledgers_are : (l : LedgerRows) → HasLedgers l db → ledgers_in l ≡ ledgers_at db
+  ledgers_are l h = λ i. record {
+    entered = map entered_in (h.entered i);
+    gone = map gone_in (h.gone i);
+    edit = map edit_in (h.edit i);
+    origin = map origin_in (h.origin i);
+  }
+
+  -- what is unsound whatever the ledgers are is the content
+  pub unsound_first : (t : Table) → ((l : LedgerTables) → content_of (tables_with n r l) ≡ Err t) → HasContent (Err t) db
+  unsound_first t unsound = record { lists = first.lists; is = ap content_of (sym all_rows) ∙ unsound (ledgers_at db) }
+
+  -- what both steps say is the content
+  pub said_last : (l : LedgerRows) → HasLedgers l db → (begun : Begun) → ((l : LedgerTables) → content_of (tables_with n r l) ≡ held_with begun l)
+      → (answer : Result Image LoadFault) → Reads (held_with begun (ledgers_in l)) answer → (c : Result Image Table) → Says answer c → HasContent c db
+  said_last l has begun begins answer reads c says = record {
+    lists = first.lists;
+    is = ap content_of (sym all_rows ∙ ap (tables_with n r) (sym (ledgers_are l has))) ∙ begins (ledgers_in l) ∙ said answer (held_with begun (ledgers_in l)) c reads says;
+  }
+    where
+      said : (a : Result Image LoadFault) (wanted : Result Image Table) (c : Result Image Table) → Reads wanted a → Says a c → wanted ≡ c
+      said (Ok image) wanted c reads says = reads ∙ sym says
+      said (Err (Unsound t)) wanted c reads says = reads ∙ sym says
+      said (Err Memory) wanted c reads says = absurd says
+      said (Err Store) wanted c reads says = absurd says
+
+-- what follows from what is said holds where an image was read
+pub told_ok : (answer : Result Image LoadFault) (P : Type 0) → ((c : Result Image Table) → Says answer c → P) → OnOk answer P
+told_ok (Ok image) P h = h (Ok image) refl
+told_ok (Err fault) P h = tt
 
 pub on_ok : {A E P : Type 0} (r : Result A E) → P → OnOk r P
 on_ok (Ok x) p = p
@@ -45,17 +99,17 @@ open_there v shut sound = go v.is_open refl
     go false is = absurd (true≢false (sym (shut is) ∙ sound))
 
 -- an image that is read is sound
-pub read_is_sound : (r : Result Image LoadFault) (t : Tables) → Tells r t → IfOk r IsSound
-read_is_sound (Ok image) t tells = content_is_sound t image tells
-read_is_sound (Err fault) t tells = tt
+pub read_is_sound : (t : Tables) (wanted : Result Image Table) (answer : Result Image LoadFault) → content_of t ≡ wanted → Reads wanted answer → IfOk answer IsSound
+read_is_sound t wanted (Ok image) is reads = content_is_sound t image (is ∙ reads)
+read_is_sound t wanted (Err fault) is reads = tt
 
 sound_content : (c : Result Image Table) (t : Tables) → content_of t ≡ c → IfOk c IsSound
 sound_content (Ok image) t e = content_is_sound t image e
 sound_content (Err table) t e = tt
 
 module _ {S : Type 0} {view : S → View} {recovers : S → Trees → Type 0} where
-  module _ (old mid new : S) (rows : StoredRows) (back : IsRolledBack (view old) (view mid))
-      (shut : (view mid).is_open ≡ false → IsTrue (view mid).is_broken) (seen : HasSeen view recovers (HasRows rows) mid new) where
+  module _ (old mid new : S) (c : Result Image Table) (back : IsRolledBack (view old) (view mid))
+      (shut : (view mid).is_open ≡ false → IsTrue (view mid).is_broken) (seen : HasSeen view recovers (HasContent c) mid new) where
     was_clean : IsClean (view new) → IsClean (view mid)
     was_clean clean = omega (arith, clean, seen.clean)
 
@@ -72,13 +126,11 @@ module _ {S : Type 0} {view : S → View} {recovers : S → Trees → Type 0} wh
     pub told : IsClean (view new) → IsTold view new
     told clean = record { is_open = still_open clean; lists = subst ListInventory (sym (committed clean)) (seen.seen clean).lists }
 
-    -- and what a reader says of its rows is what an opening finds
-    pub there : ((db : Trees) → IsTrue (view new).is_open → recovers new db → db ≡ (view new).committed)
-        → (r : Result Image LoadFault) → Tells r (tables_of rows) → (c : Result Image Table) → Says r c → HoldsThere view recovers c new
-    there settled r tells c says clean db may =
+    -- and its content is what an opening finds
+    pub there : ((db : Trees) → IsTrue (view new).is_open → recovers new db → db ≡ (view new).committed) → HoldsThere view recovers c new
+    there settled clean db may =
         let is : db ≡ (view mid).trees = settled db (still_open clean) may ∙ committed clean in
-        let has = seen.seen clean in
-        subst (HasContent c) (sym is) (record { lists = has.lists; is = ap content_of (sym has.are) ∙ said r (tables_of rows) c tells says })
+        subst (HasContent c) (sym is) (seen.seen clean)
 
 module _ {S : Type 0} (view : S → View) (recovers : S → Trees → Type 0) where
   -- what may be found is what was said
@@ -91,3 +143,17 @@ module _ {S : Type 0} (view : S → View) (recovers : S → Trees → Type 0) wh
   -- what may be found after a look might be found before it
   pub told_before : (old new : S) → WasLookedAt view recovers old new → (c : Result Image Table) → MayTell view recovers c new → MayTell view recovers c old
   told_before old new looked c may = (omega (arith, may.0, looked.clean), (may.1.0, looked.outcomes may.1.0 may.1.1, may.1.2))
+
+-- trees of which this holds were seen, so this holds of them too
+pub seen_so : {S : Type 0} {view : S → View} {recovers : S → Trees → Type 0} {old new : S} (P Q : Trees → Type 0) → ((db : Trees) → P db → Q db) → HasSeen view recovers P old new → HasSeen view recovers Q old new
+seen_so {view = view} {old = old} P Q so seen = record { clean = seen.clean; outcomes = seen.outcomes; same = seen.same; sound = seen.sound; seen = λ clean. so (view old).trees (seen.seen clean) }
+
+-- the content is said by a first step that failed
+pub said_first : {S : Type 0} {view : S → View} {recovers : S → Trees → Type 0} {old new : S} (n : NamedRows) (r : RouteRows) (given : Result Begun LoadFault) (answer : Result Image LoadFault) (fault : LoadFault)
+    → given ≡ Err fault → answer ≡ Err fault → Begins n r given → HasSeen view recovers (HasFirst n r) old new → (c : Result Image Table) → Says answer c → HasSeen view recovers (HasContent c) old new
+said_first {view = view} {recovers = recovers} {old = old} {new = new} n r given answer fault was is begins seen c says = by fault (subst (Begins n r) was begins) (subst (λ a. Says a c) is says)
+  where
+    by : (f : LoadFault) → Begins n r (Err f) → Says (Err f) c → HasSeen view recovers (HasContent c) old new
+    by Memory h s = absurd s
+    by Store h s = absurd h
+    by (Unsound t) h s = seen_so (HasFirst n r) (HasContent c) (λ db first. subst (λ x. HasContent x db) (sym s) (unsound_first n r db first t h)) seen

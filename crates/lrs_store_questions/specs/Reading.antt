@@ -12,17 +12,19 @@ use Rattle.lrs_image.specs.declared.keeper.LoadFault.TheVariants.{Memory, Store,
 use Rattle.lrs_store_rows.specs.Content.{content_of}
 use Rattle.lrs_store_tables.specs.Schema.{inventory}
 use Rattle.lrs_store_tables.specs.Stored.{stored}
-use Rattle.lrs_store_keeper.specs.declared.rows.StoredRows.{StoredRows}
-use Rattle.lrs_store_keeper.specs.Rows.{tables_of}
+use Rattle.lrs_store_keeper.specs.declared.rows.NamedRows.{NamedRows}
+use Rattle.lrs_store_keeper.specs.declared.rows.RouteRows.{RouteRows}
+use Rattle.lrs_store.specs.Seeing.{HasNamed, HasRoutes}
 
 -- the trees list the tables of an inventory and no others
 abbrev pub ListInventory : Trees → Type 0
 ListInventory db = Lists (db catalog_tree) inventory
 
--- The trees list the tables of an inventory, and these are their rows.
-pub record HasRows (rows : StoredRows) (db : Trees) : Type 0 where
+-- The trees list the tables of an inventory, and these are the rows of those beside the ledgers.
+pub record HasFirst (n : NamedRows) (r : RouteRows) (db : Trees) : Type 0 where
   pub lists : ListInventory db
-  pub are : tables_of rows ≡ stored db
+  pub named : HasNamed n db
+  pub routes : HasRoutes r db
 
 -- The trees list the tables of an inventory, whose rows hold this image, or whose first unsound table this is.
 pub record HasContent (c : Result Image Table) (db : Trees) : Type 0 where

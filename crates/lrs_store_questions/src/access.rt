@@ -12,7 +12,6 @@ ghost use Rattle.lrs_store_questions.specs.Asked.{HasRead, IsLeftAt};
 
 use crate::files::open_store;
 use crate::keeper::Questions;
-use lrs_store_keeper::ReadImage;
 use lrs_store_tables::StoreFault;
 use sqlite::{FileFrom, FileStore, Files, Leftover, Options, Start};
 use sqlite_disk::Disk;
@@ -42,12 +41,11 @@ fn fault_of(error: StoreError) -> StoreFault {
 /// # Errors
 /// `Store` where the files hold no sound store of plain tables and indexes, a file fails, or the log of a file that
 /// keeps sums has pages; `Memory` if memory runs out. What is left of the files holds what they held.
-pub fn files_for_questions<D: Disk + Drop, R: ReadImage + Drop>(
+pub fn files_for_questions<D: Disk + Drop>(
     alloc: Global,
     files: Files<D>,
     options: Options,
-    reader: R,
-) -> Result<Questions<FileStore<D>, R>, NotOpened<D>>
+) -> Result<Questions<FileStore<D>>, NotOpened<D>>
     requires log { IsTrue (D.Disk.is_usable files.log) }
     requires db { IsTrue (D.Disk.is_usable files.db) }
     ensures unloaded { IfOk result (λ k. k.is_loaded ≡ false) }
@@ -64,7 +62,6 @@ pub fn files_for_questions<D: Disk + Drop, R: ReadImage + Drop>(
     match open_store(alloc, files, options) {
         Ok(store) => Ok(Questions {
             store,
-            reader,
             is_loaded: false,
             failures: 0,
         }),
@@ -108,12 +105,11 @@ fn options(rt: &HostRuntime) -> Result<Options, StoreFault> {
 ///
 /// # Errors
 /// As `files_for_questions`, and `Store` where the system does not open the files, or another program has them.
-pub fn open_for_questions<S: Start, R: ReadImage + Drop>(
+pub fn open_for_questions<S: Start>(
     rt: &HostRuntime,
     path: &str,
     start: S,
-    reader: R,
-) -> Result<Questions<FileStore<FileFrom<S>>, R>, NotOpened<FileFrom<S>>>
+) -> Result<Questions<FileStore<FileFrom<S>>>, NotOpened<FileFrom<S>>>
     ensures unloaded { IfOk result (λ k. k.is_loaded ≡ false) }
     ensures open { IfOk result (λ k. IsTrue (view k.store).is_clean
         → IsTrue (view k.store).is_open) }
@@ -132,5 +128,5 @@ pub fn open_for_questions<S: Start, R: ReadImage + Drop>(
         Ok(options) => options,
         Err(fault) => return Err(NotOpened { fault, left: None }),
     };
-    files_for_questions(rt.alloc(), files, options, reader)
+    files_for_questions(rt.alloc(), files, options)
 }

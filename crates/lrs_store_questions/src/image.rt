@@ -1,19 +1,19 @@
 //! The image of a store, read without a connection.
 
-ghost use Rattle.std.specs.Prelude.{◌≡◌, IfOk, OnOk, IsTrue, Result};
+ghost use Rattle.std.specs.Prelude.{◌≡◌, IfOk, OnOk, Result};
 ghost use Rattle.sqlite_trees.specs.View.{IsClean};
 ghost use Rattle.lrs_machine.specs.declared.image.Image.{Image as ImageRows};
 ghost use Rattle.lrs_machine.specs.declared.table.Table.{Table as DeclaredTable};
 ghost use Rattle.lrs_machine.specs.Sound.{IsSound};
 ghost use Rattle.lrs_store.specs.Seeing.{HasSeen};
-ghost use Rattle.lrs_store_questions.specs.Reading.{ListInventory, HasRows, Says, WasLookedAt, HoldsThere, IsTold};
+ghost use Rattle.lrs_store_questions.specs.Reading.{ListInventory, HasFirst, HasContent, Says, WasLookedAt, HoldsThere, IsTold};
 
-use crate::rows::read_trees;
+use crate::rows::{read_ledgers, read_named, read_routes};
 use lrs_image::LoadFault;
 use lrs_machine::Image;
 use lrs_store_files::{Known, wanted, which};
-use lrs_store_keeper::ReadImage;
-use lrs_store_keeper::rows::StoredRows;
+use lrs_store_image::{begin, finish};
+use lrs_store_keeper::rows::{NamedRows, RouteRows};
 use sqlite_catalog::load::load;
 use sqlite_trees::error::StoreError;
 use sqlite_trees::store::Alter;
@@ -40,14 +40,44 @@ fn check_tables<S: Alter>(alloc: Global, store: &S) -> Result<(), StoreError>
     }
 }
 
-/// The rows of a store with the tables of an inventory.
-fn read_rows<S: Alter>(alloc: Global, store: &mut S) -> Result<StoredRows, StoreError>
+/// The rows beside those of the ledgers, of a store with the tables of an inventory.
+fn read_first<S: Alter>(alloc: Global, store: &mut S) -> Result<(NamedRows, RouteRows), StoreError>
     ensures seen { IfOk result (λ rows. HasSeen S.Store.view S.Store.recovers
-        (HasRows rows) store.old store.new) }
+        (HasFirst rows.0 rows.1) store.old store.new) }
     ensures still { WasLookedAt S.Store.view S.Store.recovers store.old store.new }
 {
     check_tables(alloc, store)?;
-    read_trees(alloc, store)
+    let named = read_named(alloc, store)?;
+    let routes = read_routes(alloc, store)?;
+    Ok((named, routes))
+}
+
+/// Why an image is not read, by what the store answered.
+fn fault_of(error: StoreError) -> LoadFault
+    ensures { (t : DeclaredTable) → result ≡ LoadFault.Unsound t → ⊥ }
+{
+    match error {
+        StoreError::OutOfMemory => LoadFault::Memory,
+        _ => LoadFault::Store,
+    }
+}
+
+/// The image that the tables of a store hold. The rows of routes are let go before those of the ledgers are read.
+fn read_content<S: Alter>(alloc: Global, store: &mut S) -> Result<Image, LoadFault>
+    ensures seen { (c : Result ImageRows DeclaredTable) → Says result c
+        → HasSeen S.Store.view S.Store.recovers (HasContent c) store.old store.new }
+    ensures still { WasLookedAt S.Store.view S.Store.recovers store.old store.new }
+    ensures sound { IfOk result IsSound }
+{
+    let (named, routes) = match read_first(alloc, store) {
+        Ok(rows) => rows,
+        Err(error) => return Err(fault_of(error)),
+    };
+    let begun = begin(alloc, named, routes)?;
+    match read_ledgers(alloc, store) {
+        Ok(ledgers) => finish(alloc, begun, ledgers),
+        Err(error) => Err(fault_of(error)),
+    }
 }
 
 /// The image that the tables of a store hold, by its last commit. Nothing is written: what a later opening may find,
@@ -56,11 +86,7 @@ fn read_rows<S: Alter>(alloc: Global, store: &mut S) -> Result<StoredRows, Store
 /// # Errors
 /// `Unsound` with the first unsound table; `Store` where the store has not an inventory's tables, or fails; `Memory` if
 /// memory runs out.
-pub(crate) fn read_image<S: Alter, R: ReadImage>(
-    alloc: Global,
-    store: &mut S,
-    reader: &R,
-) -> Result<Image, LoadFault>
+pub(crate) fn read_image<S: Alter>(alloc: Global, store: &mut S) -> Result<Image, LoadFault>
     ensures still { WasLookedAt S.Store.view S.Store.recovers store.old store.new }
     ensures there { (c : Result ImageRows DeclaredTable) → Says result c
         → HoldsThere S.Store.view S.Store.recovers c store.new }
@@ -69,9 +95,5 @@ pub(crate) fn read_image<S: Alter, R: ReadImage>(
         → IsTold S.Store.view store.new) }
 {
     store.rollback();
-    match read_rows(alloc, store) {
-        Ok(rows) => reader.read(alloc, rows),
-        Err(StoreError::OutOfMemory) => Err(LoadFault::Memory),
-        Err(_) => Err(LoadFault::Store),
-    }
+    read_content(alloc, store)
 }

@@ -6,15 +6,13 @@ ghost use Rattle.lrs_image.specs.Keeping.{HasRisen};
 use crate::image::read_image;
 use lrs_image::{Change, CommitFault, Keeper, LoadFault};
 use lrs_machine::Image;
-use lrs_store_keeper::ReadImage;
 use sqlite_trees::store::Alter;
 use std::alloc::{AllocError, Global};
 
 /// Keeps an inventory for questions: loading reads the trees of the store, and no change is taken.
 #[derive(Drop)]
-pub struct Questions<S: Alter, R: ReadImage> {
+pub struct Questions<S: Alter> {
     pub(crate) store: S,
-    pub(crate) reader: R,
     pub(crate) is_loaded: bool,
     pub(crate) failures: u64,
 }
@@ -31,7 +29,7 @@ fn failures_after(failures: u64, fault: &LoadFault) -> u64
     }
 }
 
-impl<S: Alter, R: ReadImage> Keeper for Questions<S, R> {
+impl<S: Alter> Keeper for Questions<S> {
     ghost use Rattle.std.specs.Prelude.{[]};
     ghost use Rattle.sqlite_trees.specs.View.{IsClean};
     ghost use Rattle.lrs_store_questions.specs.Reading.{MayTell, IsTold, finds_told};
@@ -49,7 +47,7 @@ impl<S: Alter, R: ReadImage> Keeper for Questions<S, R> {
     ghost staged = { λ k. [] };
 
     fn load(&mut self, alloc: Global) -> Result<Image, LoadFault> {
-        match read_image(alloc, &mut self.store, &self.reader) {
+        match read_image(alloc, &mut self.store) {
             Ok(image) => {
                 self.is_loaded = true;
                 Ok(image)

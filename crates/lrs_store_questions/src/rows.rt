@@ -1,19 +1,20 @@
-//! The rows of all tables, read from the trees of a store.
+//! The rows of tables, read from the trees of a store.
 
-ghost use Rattle.std.specs.Prelude.{◌≡◌, IfOk};
-ghost use Rattle.lrs_store_tables.specs.Stored.{stored};
-ghost use Rattle.lrs_store_keeper.specs.Rows.{tables_of};
+ghost use Rattle.std.specs.Prelude.{IfOk};
 ghost use Rattle.lrs_store.specs.Seeing.{HasSeen, HasNamed, HasRoutes, HasLedgers};
 ghost use Rattle.lrs_store_questions.specs.Reading.{WasLookedAt};
 
 use crate::trees::read_tree;
-use lrs_store_keeper::rows::{LedgerRows, NamedRows, RouteRows, StoredRows};
+use lrs_store_keeper::rows::{LedgerRows, NamedRows, RouteRows};
 use sqlite_trees::error::StoreError;
 use sqlite_trees::store::Store;
 use std::alloc::Global;
 
 /// The rows of the version, and of links, classes and assets. A key of one whole number is the number of its row.
-fn read_named<S: Store>(alloc: Global, store: &mut S) -> Result<NamedRows, StoreError>
+///
+/// # Errors
+/// When the store fails, or memory runs out.
+pub(crate) fn read_named<S: Store>(alloc: Global, store: &mut S) -> Result<NamedRows, StoreError>
     ensures seen { IfOk result (λ r. HasSeen S.Store.view S.Store.recovers
         (HasNamed r) store.old store.new) }
     ensures still { WasLookedAt S.Store.view S.Store.recovers store.old store.new }
@@ -31,7 +32,10 @@ fn read_named<S: Store>(alloc: Global, store: &mut S) -> Result<NamedRows, Store
 }
 
 /// The rows of routes.
-fn read_routes<S: Store>(alloc: Global, store: &mut S) -> Result<RouteRows, StoreError>
+///
+/// # Errors
+/// When the store fails, or memory runs out.
+pub(crate) fn read_routes<S: Store>(alloc: Global, store: &mut S) -> Result<RouteRows, StoreError>
     ensures seen { IfOk result (λ r. HasSeen S.Store.view S.Store.recovers
         (HasRoutes r) store.old store.new) }
     ensures still { WasLookedAt S.Store.view S.Store.recovers store.old store.new }
@@ -49,7 +53,10 @@ fn read_routes<S: Store>(alloc: Global, store: &mut S) -> Result<RouteRows, Stor
 }
 
 /// The rows of the ledgers, and of edits and origins.
-fn read_ledgers<S: Store>(alloc: Global, store: &mut S) -> Result<LedgerRows, StoreError>
+///
+/// # Errors
+/// When the store fails, or memory runs out.
+pub(crate) fn read_ledgers<S: Store>(alloc: Global, store: &mut S) -> Result<LedgerRows, StoreError>
     ensures seen { IfOk result (λ r. HasSeen S.Store.view S.Store.recovers
         (HasLedgers r) store.old store.new) }
     ensures still { WasLookedAt S.Store.view S.Store.recovers store.old store.new }
@@ -63,24 +70,5 @@ fn read_ledgers<S: Store>(alloc: Global, store: &mut S) -> Result<LedgerRows, St
         gone,
         edit,
         origin,
-    })
-}
-
-/// The rows of all tables.
-///
-/// # Errors
-/// When the store fails, or memory runs out.
-pub(crate) fn read_trees<S: Store>(alloc: Global, store: &mut S) -> Result<StoredRows, StoreError>
-    ensures seen { IfOk result (λ r. HasSeen S.Store.view S.Store.recovers (λ db.
-        tables_of r ≡ stored db) store.old store.new) }
-    ensures still { WasLookedAt S.Store.view S.Store.recovers store.old store.new }
-{
-    let named = read_named(alloc, store)?;
-    let routes = read_routes(alloc, store)?;
-    let ledgers = read_ledgers(alloc, store)?;
-    Ok(StoredRows {
-        named,
-        routes,
-        ledgers,
     })
 }

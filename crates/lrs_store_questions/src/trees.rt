@@ -15,14 +15,14 @@ use sqlite_trees::store::Store;
 use sqlite_value::row;
 use std::alloc::{AllocError, Global};
 
-/// The rows of a tree, as the columns at these places show them.
-fn rows_at(alloc: Global, rows: &[row::Row], places: &[usize]) -> Result<Vec<Row>, AllocError>
-    ensures { IfOk result (λ shown. shown.items ≡ map (λ r. map (column r) places.now) rows.now) }
+/// The rows of a tree, as the columns at these places show them. Each row is let go once it is shown.
+fn rows_at(alloc: Global, rows: Vec<row::Row>, places: &[usize]) -> Result<Vec<Row>, AllocError>
+    ensures { IfOk result (λ shown. shown.items ≡ map (λ r. map (column r) places.now) rows.items) }
 {
     let mut values = row::Row::new(alloc);
     let mut shown = Vec::with_capacity(alloc, rows.len())?;
     for row in rows {
-        take_values(&mut values, row, places)?;
+        take_values(&mut values, &row, places)?;
         shown.push(Row::from_row(alloc, &values)?)?;
     }
     Ok(shown)
@@ -44,5 +44,5 @@ pub(crate) fn read_tree<S: Store>(
 {
     let mut work = Workspace::new(alloc);
     let rows = all_rows(store, &mut work, tree)?;
-    Ok(rows_at(alloc, rows.as_slice(), places)?)
+    Ok(rows_at(alloc, rows, places)?)
 }

@@ -3,7 +3,6 @@ use Rattle.lrs_machine.specs.declared.image.Edit.{Edit}
 use Rattle.lrs_machine.specs.Image.{state_of}
 use Rattle.lrs_machine.specs.Machine.{Outcome}
 use Rattle.lrs_machine.specs.Sound.{IsSound}
-use Rattle.lrs_image.specs.declared.change.Change.{Change}
 use Rattle.lrs_image.specs.Change.{apply, CanMake}
 use Rattle.lrs_inventory.specs.Plans.{change_of}
 use Rattle.lrs_machine_stops.specs.Stopped.{IsAccepted}

@@ -1,8 +1,14 @@
-use Rattle.std.proofs.Common.{arith}
+use Rattle.std.proofs.Common.{arith, ap, Result, Ok, Err}
 use Rattle.sqlite.specs.State.{HasCleanDisk}
 use Rattle.sqlite.specs.Held.{state}
-use Rattle.lrs_store_keeper.proofs.CommitLemmas.{counted, counted_second, changed, old_or_changed, held_before, ready_after, as_before}
+use Rattle.lrs_store_keeper.proofs.CommitLemmas.{counted, counted_second, changed, old_or_changed, held_before, as_before}
+use Rattle.lrs_image.specs.declared.keeper.CommitFault.{CommitFault}
+use Rattle.lrs_image.specs.declared.keeper.CommitFault.TheVariants.{Memory}
 use Rattle.lrs_store_keeper.proofs.commit.write_as.Goals as goal
+
+abbrev fault_in : {A : Type 0} → Result A CommitFault → CommitFault
+fault_in (Ok x) = Memory
+fault_in (Err fault) = fault
 
 pub returns-in-Ok-clause-edits : goal.returns-in-Ok-clause-edits
 returns-in-Ok-clause-edits g c =

@@ -1,8 +1,9 @@
 use Rattle.std.proofs.Common.{ℕ, refl, sym, subst, true, ◌∙◌}
 use Rattle.lrs_image.specs.Keeping.{HasRisen}
+use Rattle.lrs_image.specs.Together.{IsChangedBy}
 use Rattle.lrs_desk.specs.Desk.{BreaksAmid, records_of}
 use Rattle.lrs_desk.specs.DeskView.{DeskView}
-use Rattle.lrs_desk.proofs.Grouping.{breaks_amid, as_before, none_made, held, same_only, still_only}
+use Rattle.lrs_desk.proofs.Grouping.{breaks_amid, as_before, none_made, held, same_only, still_only, failed_either}
 use Rattle.lrs_desk.proofs.desk.Desk.act_on_first.Goals as goal
 
 pub returns-in-Err-clause-keep : goal.returns-in-Err-clause-keep
@@ -16,7 +17,7 @@ returns-in-Err-clause-keep g c = λ e.
     let holds = g.K.Keeper.may_hold in
     subst (λ (v : DeskView g.row.K.Denot). BreaksAmid holds g.K.Keeper.failures records v new) c.self.view_is
     (breaks_amid holds g.K.Keeper.failures records old new c.in_ok-given.given.items staged c.in_ok-given.ensures.does (c.self.invariant.kept c.if-self.false)
-    (λ x h. as_before (holds d.keeper) (holds mid) c.do_first.ensures.content staged x (c.in-Err.ensures.failed x h))
+    (λ x h. as_before (holds d.keeper) (holds mid) c.do_first.ensures.content staged x (failed_either (holds c.commit.new.self) (holds mid) (IsChangedBy (holds mid) staged) c.commit.result c.in-Err.field-0 c.in-Err.is c.commit.ensures.memory c.commit.ensures.store x h))
     refl refl (subst (λ (n : ℕ). HasRisen n (g.K.Keeper.failures c.commit.new.self)) c.do_first.ensures.quiet c.in-Err.ensures.cause))
 
 -- Where no edit was made, nothing is staged, and the image is as it was.

@@ -1,4 +1,4 @@
-use Rattle.std.proofs.Common.{◌⊎◌, Result, subst}
+use Rattle.std.proofs.Common.{◌⊎◌, Result, Err, ap, subst, ◌∙◌}
 use Rattle.sqlite.specs.Held.{state}
 use Rattle.lrs_machine.specs.declared.image.Image.{Image}
 use Rattle.lrs_machine.specs.declared.table.Table.{Table}
@@ -17,11 +17,20 @@ returns-in-Ok-clause-ok g c =
 pub returns-in-Ok-clause-found : goal.returns-in-Ok-clause-found
 returns-in-Ok-clause-found g c = found_sound (state g.S.Store c.write_next.new.conn)
 
-pub returns-in-Err-clause-failed : goal.returns-in-Err-clause-failed
-returns-in-Err-clause-failed g c =
+pub returns-in-Err-Memory-clause-memory : goal.returns-in-Err-Memory-clause-memory
+returns-in-Err-Memory-clause-memory g c e =
+    let last = state g.S.Store c.write_next.new.conn in
+    subst (λ (v : KeeperView g.row.S.Denot g.row.R.Denot). (x : Result Image Table) → MayHold last x → MayHold (state g.S.Store v.conn) x) c.self.view_is
+    (c.write_next.ensures.memory (c.in-Err-Memory.is ∙ ap (λ f. Err f) c.in-Err-Memory.field-0-is)).content
+
+pub returns-in-Err-Memory-clause-found : goal.returns-in-Err-Memory-clause-found
+returns-in-Err-Memory-clause-found g c = found_sound (state g.S.Store c.write_next.new.conn)
+
+pub returns-in-Err-Store-clause-store : goal.returns-in-Err-Store-clause-store
+returns-in-Err-Store-clause-store g c e =
     let last = state g.S.Store c.write_next.new.conn in
     subst (λ (v : KeeperView g.row.S.Denot g.row.R.Denot). (x : Result Image Table) → MayHold last x → MayHold (state g.S.Store v.conn) x ⊎ IsChangedBy (MayHold (state g.S.Store v.conn)) c.args.changes.now x) c.self.view_is
-    c.in-Err.ensures.err
+    (c.write_next.ensures.store (c.in-Err-Store.is ∙ ap (λ f. Err f) c.in-Err-Store.field-0-is))
 
-pub returns-in-Err-clause-found : goal.returns-in-Err-clause-found
-returns-in-Err-clause-found g c = found_sound (state g.S.Store c.write_next.new.conn)
+pub returns-in-Err-Store-clause-found : goal.returns-in-Err-Store-clause-found
+returns-in-Err-Store-clause-found g c = found_sound (state g.S.Store c.write_next.new.conn)

@@ -1,0 +1,56 @@
+-- The image of rows is read in two steps, as the definition reads it table by table.
+use Rattle.std.proofs.Common.{◌≡◌, ℕ, List, Result, Ok, Err, refl, sym, ap, subst, ◌∙◌}
+use Rattle.std.specs.Prelude.{◌&&◌, true}
+use Rattle.lrs_machine.specs.declared.image.Image.{Image}
+use Rattle.lrs_machine.specs.declared.image.RouteRow.{RouteRow}
+use Rattle.lrs_machine.specs.declared.table.Table.{Table}
+use Rattle.lrs_machine.specs.declared.table.Table.TheVariants as table
+use Rattle.lrs_machine.specs.Sound.{are_origins}
+use Rattle.lrs_image.specs.declared.keeper.LoadFault.{LoadFault}
+use Rattle.lrs_image.specs.declared.keeper.LoadFault.TheVariants.{Unsound}
+use Rattle.lrs_store_rows.specs.Tables.{Tables}
+use Rattle.lrs_store_rows.specs.Decoding.{each_sorted, origin_of}
+use Rattle.lrs_store_rows.specs.Content.{◌>>=◌, read, version_of, origin_before, has_origins, inventory_of, image_of}
+use Rattle.lrs_store_image.specs.Loading.{Reads}
+use Rattle.lrs_store_image.specs.declared.registers.Named.{Named}
+use Rattle.lrs_store_image.specs.Reading.{named_read, entries_read, ledgers_read}
+use Rattle.lrs_store_image.specs.Steps.{image_with}
+use Rattle.lrs_store_image.proofs.Chained.{in_parts}
+use Rattle.lrs_store_image.proofs.InParts.{with_routes, with_ledgers, inventory_in_parts}
+
+module _ (t : Tables) where
+  -- an image, if the origins are its own
+  abbrev with_own : ℕ → Image → Result Image Table
+  with_own v image = read table.Origin (each_sorted origin_before origin_of t.origin) (λ os. are_origins image.entered image.assets && has_origins v image.assets os) >>= (λ os. Ok image)
+
+  -- the image, once the version is read
+  abbrev of_version : ℕ → Result Image Table
+  of_version v = inventory_of t >>= with_own v
+
+  pub no_version : (u : Table) → read table.Version (version_of t.version) (λ v. true) ≡ Err u → image_of t ≡ Err u
+  no_version u h = ap (λ x. x >>= of_version) h
+
+  module _ (v : ℕ) (is : read table.Version (version_of t.version) (λ v. true) ≡ Ok v) where
+    after_version : image_of t ≡ of_version v
+    after_version = ap (λ x. x >>= of_version) is
+
+    pub no_named : (u : Table) → named_read t.link t.class t.asset ≡ Err u → image_of t ≡ Err u
+    no_named u h = after_version ∙ ap (λ x. x >>= with_own v) (sym (inventory_in_parts t) ∙ ap (λ x. x >>= with_routes t) h)
+
+    module _ (named : Named) (read_named : named_read t.link t.class t.asset ≡ Ok named) where
+      after_named : inventory_of t ≡ with_routes t named
+      after_named = sym (inventory_in_parts t) ∙ ap (λ x. x >>= with_routes t) read_named
+
+      pub no_routes : (u : Table) → entries_read named t.piece t.mark t.ref t.span ≡ Err u → image_of t ≡ Err u
+      no_routes u h = after_version ∙ ap (λ x. x >>= with_own v) (after_named ∙ ap (λ x. x >>= with_ledgers t named) h)
+
+      pub in_steps : (routes : List RouteRow) → entries_read named t.piece t.mark t.ref t.span ≡ Ok routes
+          → image_of t ≡ image_with (record { version = v; named = named; routes = routes }) (record { entered = t.entered; gone = t.gone; edit = t.edit; origin = t.origin })
+      in_steps routes h =
+          after_version ∙ ap (λ x. x >>= with_own v) (after_named ∙ ap (λ x. x >>= with_ledgers t named) h)
+          ∙ in_parts (ledgers_read named routes t.entered t.gone t.edit) _ _ _ (λ ledgers. refl)
+
+-- a table that is answered as unsound was read so
+pub is_unsound : {A B : Type 0} (wanted : Result A Table) (given : Result A LoadFault) (answer : Result B LoadFault) (fault : LoadFault) (u : Table)
+    → given ≡ Err fault → answer ≡ Err fault → answer ≡ Err (Unsound u) → Reads wanted given → wanted ≡ Err u
+is_unsound wanted given answer fault u was is e h = let same : fault ≡ Unsound u = cc in subst (λ f. Reads wanted (Err f)) same (subst (Reads wanted) was h)
