@@ -1,24 +1,20 @@
--- What the rows of a store are read as, in three parts: what has names, what lies on routes, and the ledgers.
-use Rattle.std.specs.Prelude.{List, map, Result, Ok, Err}
-use Rattle.lrs_events.specs.Parts.{part_before}
-use Rattle.lrs_machine.specs.declared.image.Image.{Image}
+-- What the first rows of a store are read as, in two parts: what has names, and what lies on routes.
+use Rattle.std.specs.Prelude.{List, Result, Ok, Err}
 use Rattle.lrs_machine.specs.declared.image.RouteRow.{RouteRow}
 use Rattle.lrs_machine.specs.declared.table.Table.{Table}
 use Rattle.lrs_machine.specs.declared.table.Table.TheVariants as table
-use Rattle.lrs_machine.specs.Sound.{link_before, are_links, class_before, are_classes, asset_before, are_assets, are_courses, are_entered, gone_before, are_gone, are_edits}
-use Rattle.lrs_image_sound.specs.Tables.{route_spans}
+use Rattle.lrs_machine.specs.Sound.{link_before, are_links, class_before, are_classes, asset_before, are_assets, are_courses}
 use Rattle.lrs_image.specs.declared.keeper.LoadFault.{LoadFault}
 use Rattle.lrs_image.specs.declared.keeper.LoadFault.TheVariants as load
-use Rattle.lrs_store_rows.specs.Tables.{LinkRow, ClassRow, AssetRow, PieceRow, MarkRow, RefRow, SpanRow, EnteredRow, GoneRow, EditRow}
-use Rattle.lrs_store_rows.specs.Decoding.{each_sorted, link_of, class_of, asset_of, part_of, gone_of}
-use Rattle.lrs_store_rows.specs.Content.{◌>>=◌, read, courses_of, measured_of, routes_of, entries_of, edits_of, with_edit}
+use Rattle.lrs_store_rows.specs.Tables.{LinkRow, ClassRow, AssetRow, PieceRow, MarkRow, RefRow, SpanRow}
+use Rattle.lrs_store_rows.specs.Decoding.{each_sorted, link_of, class_of, asset_of}
+use Rattle.lrs_store_rows.specs.Content.{◌>>=◌, read, courses_of, measured_of, routes_of, entries_of}
 use Rattle.lrs_store_routes.specs.Measuring.{are_all_measured}
 use Rattle.lrs_store_routes.specs.Referring.{are_all_referred}
 use Rattle.lrs_store_routes.specs.Spans.{are_sound}
 use Rattle.lrs_store_routes.specs.declared.fault.RowsFault.{RowsFault}
 use Rattle.lrs_store_routes.specs.declared.fault.RowsFault.TheVariants.{Memory, Unsound}
 use Rattle.lrs_store_image.specs.declared.registers.Named.{Named}
-use Rattle.lrs_store_image.specs.declared.ledgers.Ledgers.{Ledgers}
 
 -- the same rows, or the same fault
 abbrev pub of_read : {V A : Type 0} → (V → A) → Result V RowsFault → Result A LoadFault
@@ -41,16 +37,3 @@ entries_read n pieces marks refs spans =
     read table.Mark (measured_of marks courses) are_all_measured >>= (λ measured.
     read table.Ref (routes_of refs measured) are_all_referred >>= (λ routes.
     read table.Span (entries_of n.assets spans routes) (are_sound n.links n.classes n.assets))))
-
--- the ledgers and the edits, or the first of their tables that is unsound
-abbrev pub ledgers_read : Named → List RouteRow → List EnteredRow → List GoneRow → List EditRow → Result Ledgers Table
-ledgers_read n routes entered gone edits =
-    read table.Entered (each_sorted part_before part_of entered) (are_entered n.links n.assets) >>= (λ entered.
-    read table.Gone (each_sorted gone_before gone_of gone) (are_gone n.links n.assets (route_spans routes) entered) >>= (λ gone.
-    read table.Edit (edits_of edits) (are_edits entered gone) >>= (λ edits.
-    Ok (record { entered = entered; gone = gone; edits = edits }))))
-
--- the image of what was read; the ledger tells which edit entered an asset
-abbrev pub with_entries_of : Named → List RouteRow → Ledgers → Image
-with_entries_of n routes l =
-    record { links = n.links; classes = n.classes; assets = map (with_edit l.entered) n.assets; routes = routes; entered = l.entered; gone = l.gone; edits = l.edits }

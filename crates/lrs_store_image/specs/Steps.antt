@@ -1,45 +1,47 @@
--- The image of rows in two steps: the ledgers are read behind all else.
+-- The image of rows in three steps: what has names and lies on routes, both ledgers, and edits with origins.
 use Rattle.std.specs.Prelude.{◌≡◌, ◌&&◌, true, Bool, List, map, if◌then◌else◌, Result, Ok, Err, ⊤}
 use Rattle.std.specs.List.{list_all}
-use Rattle.lrs_measure.specs.Lists.{is_nothing}
+use Rattle.sqlite_value.specs.Order.{Row}
+use Rattle.lrs_measure.specs.Lists.{is_nothing, each_two}
+use Rattle.lrs_events.specs.Parts.{part_before}
 use Rattle.lrs_machine.specs.declared.image.Image.{Image}
+use Rattle.lrs_machine.specs.declared.image.Edit.{Edit}
 use Rattle.lrs_machine.specs.declared.table.Table.{Table}
 use Rattle.lrs_machine.specs.declared.table.Table.TheVariants as table
 use Rattle.lrs_machine.specs.Image.{nothing}
-use Rattle.lrs_machine.specs.Sound.{are_links, are_assets, are_courses, are_origins}
-use Rattle.lrs_image_sound.specs.Tables.{fits_route, route_courses}
+use Rattle.lrs_machine.specs.Sound.{are_links, are_assets, are_courses, are_entered, gone_before, are_gone, are_edits, are_origins, asset_before}
+use Rattle.lrs_image_sound.specs.Tables.{fits_route, route_courses, route_spans}
 use Rattle.lrs_image.specs.declared.keeper.LoadFault.{LoadFault}
 use Rattle.lrs_image.specs.declared.keeper.LoadFault.TheVariants.{Memory, Store, Unsound}
 use Rattle.lrs_store_rows.specs.Tables.{Tables, EnteredRow, GoneRow, EditRow, OriginRow}
-use Rattle.lrs_store_rows.specs.Decoding.{each_sorted, origin_of}
-use Rattle.lrs_store_rows.specs.Content.{◌>>=◌, read, origin_before, has_origins, content_of}
-use Rattle.lrs_store_tables.specs.Stored.{version_in, link_in, class_in, asset_in, piece_in, mark_in, ref_in, span_in, entered_in, gone_in, edit_in, origin_in}
+use Rattle.lrs_store_rows.specs.Decoding.{each_sorted, part_of, gone_of, origin_of}
+use Rattle.lrs_store_rows.specs.Content.{◌>>=◌, read, edits_of, with_edit, origin_before, has_origins, content_of}
+use Rattle.lrs_store_tables.specs.Stored.{version_in, link_in, class_in, asset_in, piece_in, mark_in, ref_in, span_in, edit_in, origin_in}
 use Rattle.lrs_store_keeper.specs.declared.rows.NamedRows.{NamedRows}
 use Rattle.lrs_store_keeper.specs.declared.rows.RouteRows.{RouteRows}
-use Rattle.lrs_store_keeper.specs.declared.rows.LedgerRows.{LedgerRows}
 use Rattle.lrs_store_image.specs.declared.steps.Registers.{Registers}
 use Rattle.lrs_store_image.specs.declared.steps.Begun.{Begun}
-use Rattle.lrs_store_image.specs.declared.steps.Begun.TheVariants.{Nothing, Read}
-use Rattle.lrs_store_image.specs.Reading.{ledgers_read, with_entries_of}
+use Rattle.lrs_store_image.specs.declared.steps.Begun.TheVariants as begun
+use Rattle.lrs_store_image.specs.declared.steps.Ledgers.{Ledgers}
+use Rattle.lrs_store_image.specs.declared.steps.Held.{Held}
+use Rattle.lrs_store_image.specs.declared.steps.Held.TheVariants as held
 
--- the rows of both ledgers, of edits and of origins
+-- the rows of both ledgers
 pub record LedgerTables : Type 0 where
   pub entered : List EnteredRow
   pub gone : List GoneRow
+
+-- the rows of edits and of origins
+pub record EditTables : Type 0 where
   pub edit : List EditRow
   pub origin : List OriginRow
 
-abbrev pub ledgers_in : LedgerRows → LedgerTables
-ledgers_in r = record {
-  entered = map entered_in r.entered.items;
-  gone = map gone_in r.gone.items;
-  edit = map edit_in r.edit.items;
-  origin = map origin_in r.origin.items;
-}
+abbrev pub edits_in : List Row → List Row → EditTables
+edits_in edits origins = record { edit = map edit_in edits; origin = map origin_in origins }
 
 -- all rows of a store: those that were read first, and these
-abbrev pub tables_with : NamedRows → RouteRows → LedgerTables → Tables
-tables_with n r l = record {
+abbrev pub tables_with : NamedRows → RouteRows → LedgerTables → EditTables → Tables
+tables_with n r l e = record {
   version = map version_in n.version.items;
   link = map link_in n.link.items;
   class = map class_in n.class.items;
@@ -50,8 +52,8 @@ tables_with n r l = record {
   span = map span_in r.span.items;
   entered = l.entered;
   gone = l.gone;
-  edit = l.edit;
-  origin = l.origin;
+  edit = e.edit;
+  origin = e.origin;
 }
 
 -- no row was read first
@@ -61,28 +63,62 @@ have_no_first n r =
     && (is_nothing r.piece.items && is_nothing r.mark.items && is_nothing r.referent.items && is_nothing r.span.items)
 
 abbrev pub have_no_ledgers : LedgerTables → Bool
-have_no_ledgers l = is_nothing l.entered && is_nothing l.gone && is_nothing l.edit && is_nothing l.origin
+have_no_ledgers l = is_nothing l.entered && is_nothing l.gone
+
+abbrev pub have_no_edits : EditTables → Bool
+have_no_edits e = is_nothing e.edit && is_nothing e.origin
+
+-- the image of what was read in both steps and of these edits; the ledger tells which edit entered an asset
+abbrev pub image_by : Ledgers → List Edit → Image
+image_by l edits = record {
+  links = l.first.named.links;
+  classes = l.first.named.classes;
+  assets = map (with_edit l.entered) l.first.named.assets;
+  routes = l.first.routes;
+  entered = l.entered;
+  gone = l.gone;
+  edits = edits;
+}
 
 -- this image, if the origins are its own
-abbrev pub with_origins : Registers → LedgerTables → Image → Result Image Table
-with_origins p l image =
-    read table.Origin (each_sorted origin_before origin_of l.origin) (λ os. are_origins image.entered image.assets && has_origins p.version image.assets os) >>= (λ os. Ok image)
+abbrev pub with_origins : Registers → List OriginRow → Image → Result Image Table
+with_origins p rows image =
+    read table.Origin (each_sorted origin_before origin_of rows) (λ os. are_origins image.entered image.assets && has_origins p.version image.assets os) >>= (λ os. Ok image)
 
--- the image of what was read first, and of these ledgers
-abbrev pub image_with : Registers → LedgerTables → Result Image Table
-image_with p l = ledgers_read p.named p.routes l.entered l.gone l.edit >>= (λ ledgers. with_origins p l (with_entries_of p.named p.routes ledgers))
+-- the image of what was read in both steps, and of these edits and origins
+abbrev pub image_then : Ledgers → EditTables → Result Image Table
+image_then l e = read table.Edit (edits_of e.edit) (are_edits l.entered l.gone) >>= (λ edits. with_origins l.first e.origin (image_by l edits))
 
--- what a store holds of which this was read first; ledgers without a version hold no image
-abbrev pub held_with : Begun → LedgerTables → Result Image Table
-held_with Nothing l = if have_no_ledgers l then Ok nothing else Err table.Version
-held_with (Read p) l = image_with p l
+-- the image of what was read first, and of these rows
+abbrev pub image_with : Registers → LedgerTables → EditTables → Result Image Table
+image_with p l e =
+    read table.Entered (each_sorted part_before part_of l.entered) (are_entered p.named.links p.named.assets) >>= (λ parts.
+    read table.Gone (each_sorted gone_before gone_of l.gone) (are_gone p.named.links p.named.assets (route_spans p.routes) parts) >>= (λ gone.
+    image_then (record { first = p; entered = parts; gone = gone }) e))
 
--- Whatever the ledgers are, the store holds what this and they give; or its first unsound table is this.
+-- what a store holds of which this was read first; rows without a version hold no image
+abbrev pub held_with : Begun → LedgerTables → EditTables → Result Image Table
+held_with begun.Nothing l e = if have_no_ledgers l && have_no_edits e then Ok nothing else Err table.Version
+held_with (begun.Read p) l e = image_with p l e
+
+-- ... and of which this was read in both steps
+abbrev pub held_then : Held → EditTables → Result Image Table
+held_then held.Nothing e = if have_no_edits e then Ok nothing else Err table.Version
+held_then (held.Read l) e = image_then l e
+
+-- Whatever the other rows are, the store holds what this and they give; or its first unsound table is this.
 abbrev pub Begins : NamedRows → RouteRows → Result Begun LoadFault → Type 0
-Begins n r (Ok begun) = (l : LedgerTables) → content_of (tables_with n r l) ≡ held_with begun l
+Begins n r (Ok found) = (l : LedgerTables) (e : EditTables) → content_of (tables_with n r l e) ≡ held_with found l e
 Begins n r (Err Memory) = ⊤
 Begins n r (Err Store) = ⊥
-Begins n r (Err (Unsound t)) = (l : LedgerTables) → content_of (tables_with n r l) ≡ Err t
+Begins n r (Err (Unsound t)) = (l : LedgerTables) (e : EditTables) → content_of (tables_with n r l e) ≡ Err t
+
+-- the same of the step after it
+abbrev pub Enters : Begun → LedgerTables → Result Held LoadFault → Type 0
+Enters b l (Ok found) = (e : EditTables) → held_with b l e ≡ held_then found e
+Enters b l (Err Memory) = ⊤
+Enters b l (Err Store) = ⊥
+Enters b l (Err (Unsound t)) = (e : EditTables) → held_with b l e ≡ Err t
 
 -- the tables that were read first have passed, as the ledgers' tests ask
 pub record HavePassed (p : Registers) : Type 0 where
@@ -92,5 +128,10 @@ pub record HavePassed (p : Registers) : Type 0 where
   pub spans : list_all (fits_route p.named.assets) p.routes ≡ true
 
 abbrev pub HasPassed : Begun → Type 0
-HasPassed Nothing = ⊤
-HasPassed (Read p) = HavePassed p
+HasPassed begun.Nothing = ⊤
+HasPassed (begun.Read p) = HavePassed p
+
+-- the assets stand in their order
+abbrev pub HasOrder : Held → Type 0
+HasOrder held.Nothing = ⊤
+HasOrder (held.Read l) = each_two asset_before l.first.named.assets ≡ true

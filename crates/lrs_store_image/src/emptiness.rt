@@ -1,10 +1,11 @@
 //! Whether tables have no row.
 
-ghost use Rattle.std.specs.Prelude.{◌≡◌, ◌&&◌};
+ghost use Rattle.std.specs.Prelude.{◌≡◌, ◌&&◌, map};
 ghost use Rattle.lrs_measure.specs.Lists.{is_nothing};
-ghost use Rattle.lrs_store_image.specs.Steps.{have_no_first, have_no_ledgers, ledgers_in};
+ghost use Rattle.lrs_store_tables.specs.Stored.{entered_in, gone_in};
+ghost use Rattle.lrs_store_image.specs.Steps.{have_no_first, have_no_ledgers, have_no_edits, edits_in};
 
-use lrs_store_keeper::rows::{LedgerRows, NamedRows, RouteRows};
+use lrs_store_keeper::rows::{NamedRows, RouteRows};
 use sqlite::Row;
 
 fn is_nothing(rows: &[Row]) -> bool
@@ -40,12 +41,17 @@ pub(crate) fn no_first(named: &NamedRows, routes: &RouteRows) -> bool
     no_named(named) && no_routes(routes)
 }
 
-/// Whether no ledger has a row, nor the tables of edits and of origins.
-pub(crate) fn no_ledgers(rows: &LedgerRows) -> bool
-    ensures { result ≡ have_no_ledgers (ledgers_in rows.now) }
+/// Whether no ledger has a row.
+pub(crate) fn no_ledgers(entered: &[Row], gone: &[Row]) -> bool
+    ensures { result ≡ have_no_ledgers (record
+        { entered = map entered_in entered.now; gone = map gone_in gone.now }) }
 {
-    is_nothing(rows.entered.as_slice())
-        && is_nothing(rows.gone.as_slice())
-        && is_nothing(rows.edit.as_slice())
-        && is_nothing(rows.origin.as_slice())
+    is_nothing(entered) && is_nothing(gone)
+}
+
+/// Whether the tables of edits and of origins have no row.
+pub(crate) fn no_edits(edits: &[Row], origins: &[Row]) -> bool
+    ensures { result ≡ have_no_edits (edits_in edits.now origins.now) }
+{
+    is_nothing(edits) && is_nothing(origins)
 }

@@ -6,7 +6,6 @@ pub mod edits;
 mod emptiness;
 pub mod entering_edits;
 mod fault;
-mod ledgers;
 mod order;
 pub mod origins;
 mod reader;
@@ -19,4 +18,4 @@ mod table_fault;
 pub mod tests;
 
 pub use reader::Reader;
-pub use steps::{Begun, Registers, begin, finish};
+pub use steps::{Begun, Held, Ledgers, Registers, begin, enter, finish};

@@ -3,11 +3,11 @@
 ghost use Rattle.lrs_store_keeper.specs.Rows.{tables_of};
 ghost use Rattle.lrs_store_keeper.specs.Holding.{Tells};
 
-use crate::steps::{begin, finish};
+use crate::steps::{begin, enter, finish};
 use lrs_image::LoadFault;
 use lrs_machine::Image;
 use lrs_store_keeper::ReadImage;
-use lrs_store_keeper::rows::StoredRows;
+use lrs_store_keeper::rows::{LedgerRows, StoredRows};
 use std::alloc::Global;
 
 /// Reads the image that the rows of a store hold, each table beside those before it.
@@ -21,7 +21,14 @@ impl ReadImage for Reader {
             routes,
             ledgers,
         } = rows;
+        let LedgerRows {
+            entered,
+            gone,
+            edit,
+            origin,
+        } = ledgers;
         let begun = begin(alloc, named, routes)?;
-        finish(alloc, begun, ledgers)
+        let held = enter(alloc, begun, entered, gone)?;
+        finish(alloc, held, edit, origin)
     }
 }

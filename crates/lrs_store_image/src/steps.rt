@@ -1,25 +1,26 @@
-//! The image of the rows of a store, in two steps: the ledgers are read behind all else, so that the rows of two steps
-//! need not be in memory together.
+//! The image of the rows of a store, in three steps: what has names and lies on routes, both ledgers, and edits with
+//! origins. The rows of a step are let go in it, so that those of several need not be in memory together.
 
-ghost use Rattle.std.specs.Prelude.{◌≡◌, true, IfOk, IfErr, Ok, Err};
+ghost use Rattle.std.specs.Prelude.{◌≡◌, map, true, IfOk, Err};
 ghost use Rattle.lrs_measure.specs.Lists.{each_two};
 ghost use Rattle.lrs_machine.specs.Sound.{asset_before};
+ghost use Rattle.lrs_machine.specs.declared.image.Edit.{Edit as DeclaredEdit};
 ghost use Rattle.lrs_machine.specs.declared.table.Table.{Table as DeclaredTable};
 ghost use Rattle.lrs_store_rows.specs.Content.{image_of};
+ghost use Rattle.lrs_store_tables.specs.Stored.{entered_in, gone_in};
 ghost use Rattle.lrs_store_image.specs.Loading.{Reads};
-ghost use Rattle.lrs_store_image.specs.Reading.{with_entries_of};
-ghost use Rattle.lrs_store_image.specs.Steps.{LedgerTables, Begins, HavePassed, HasPassed, held_with, image_with, ledgers_in, tables_with};
+ghost use Rattle.lrs_store_image.specs.Steps.{LedgerTables, EditTables, Begins, Enters, HavePassed, HasPassed, HasOrder, held_then, image_by, image_then, image_with, edits_in, tables_with};
 
-use crate::emptiness::{no_first, no_ledgers};
-use crate::entering_edits;
-use crate::ledgers::{Ledgers, read_ledgers};
+use crate::emptiness::{no_edits, no_first, no_ledgers};
 use crate::registers::{Named, read_named};
 use crate::route_lists::read_entries;
-use crate::rows::{origins, version};
+use crate::{entering_edits, rows};
+use lrs_events::{Gone, Part};
 use lrs_image::LoadFault;
-use lrs_machine::{Image, RouteRow, Table};
+use lrs_machine::{Edit, Image, RouteRow, Table};
 use lrs_measure::Rows;
-use lrs_store_keeper::rows::{LedgerRows, NamedRows, RouteRows};
+use lrs_store_keeper::rows::{NamedRows, RouteRows};
+use sqlite::Row;
 use std::alloc::{AllocError, Global};
 
 /// What the rows beside the ledgers hold, and the version of the store.
@@ -37,20 +38,35 @@ pub enum Begun {
     Read(Registers),
 }
 
+/// What was read first, and both ledgers.
+#[derive(Drop)]
+pub struct Ledgers {
+    pub first: Registers,
+    pub entered: Rows<Part>,
+    pub gone: Rows<Gone>,
+}
+
+/// What was read in both steps: nothing where there was no row.
+#[derive(Drop)]
+pub enum Held {
+    Nothing,
+    Read(Ledgers),
+}
+
 /// What some rows hold that are not those of the ledgers.
 fn read_registers(
     alloc: Global,
     named: NamedRows,
     routes: RouteRows,
 ) -> Result<Registers, LoadFault>
-    ensures image { IfOk result (λ p. (l : LedgerTables)
-        → image_of (tables_with named routes l) ≡ image_with p l) }
+    ensures image { IfOk result (λ p. (l : LedgerTables) (e : EditTables)
+        → image_of (tables_with named routes l e) ≡ image_with p l e) }
     ensures passed { IfOk result HavePassed }
     ensures unsound { (t : DeclaredTable) → result ≡ Err (LoadFault.Unsound t) → (l : LedgerTables)
-        → image_of (tables_with named routes l) ≡ Err t }
+        (e : EditTables) → image_of (tables_with named routes l e) ≡ Err t }
     ensures never { result ≡ Err LoadFault.Store → ⊥ }
 {
-    let version = match version(named.version.as_slice()) {
+    let version = match rows::version(named.version.as_slice()) {
         Ok(version) => version,
         Err(table) => return Err(LoadFault::Unsound(table)),
     };
@@ -63,10 +79,10 @@ fn read_registers(
     })
 }
 
-/// Reads the rows that are not those of the ledgers. They are let go.
+/// Reads the rows of what has a name and lies on routes, which are let go.
 ///
 /// # Errors
-/// `Unsound` where one of their tables is the first unsound one, whatever the ledgers are; or `Memory`.
+/// `Unsound` where one of their tables is the first unsound one, whatever the other rows are; or `Memory`.
 pub fn begin(alloc: Global, named: NamedRows, routes: RouteRows) -> Result<Begun, LoadFault>
     ensures begins { Begins named routes result }
     ensures passed { IfOk result HasPassed }
@@ -77,65 +93,132 @@ pub fn begin(alloc: Global, named: NamedRows, routes: RouteRows) -> Result<Begun
     Ok(Begun::Read(read_registers(alloc, named, routes)?))
 }
 
-/// The image of what was read; the ledger tells which edit entered an asset.
-fn with_edits(
+/// Both ledgers, beside what was read first.
+fn read_ledgers(
     alloc: Global,
-    named: Named,
-    routes: Rows<RouteRow>,
-    ledgers: Ledgers,
-) -> Result<Image, AllocError>
-    requires { each_two asset_before named.assets ≡ true }
-    ensures { IfOk result (λ image. image ≡ with_entries_of named routes ledgers) }
+    first: Registers,
+    entered: Vec<Row>,
+    gone: Vec<Row>,
+) -> Result<Ledgers, LoadFault>
+    requires passed { HavePassed first }
+    ensures image { IfOk result (λ found. (e : EditTables) → image_with first (record
+        { entered = map entered_in entered.items; gone = map gone_in gone.items }) e
+        ≡ image_then found e) }
+    ensures order { IfOk result (λ found. each_two asset_before found.first.named.assets ≡ true) }
+    ensures unsound { (t : DeclaredTable) → result ≡ Err (LoadFault.Unsound t) → (e : EditTables)
+        → image_with first (record
+        { entered = map entered_in entered.items; gone = map gone_in gone.items }) e ≡ Err t }
+    ensures never { result ≡ Err LoadFault.Store → ⊥ }
 {
-    let entered = ledgers.entered.as_slice();
-    let assets = entering_edits::with_edits(alloc, entered, named.assets.as_slice())?;
+    let links = first.named.links.as_slice();
+    let assets = first.named.assets.as_slice();
+    let routes = first.routes.as_slice();
+    let parts = rows::entered(alloc, links, assets, entered.as_slice())?;
+    drop(entered);
+    let left = rows::gone(
+        alloc,
+        links,
+        assets,
+        routes,
+        parts.as_slice(),
+        gone.as_slice(),
+    )?;
+    Ok(Ledgers {
+        first,
+        entered: parts,
+        gone: left,
+    })
+}
+
+/// Reads the rows of both ledgers beside what was read first. They are let go.
+///
+/// # Errors
+/// `Unsound` where one of their tables is the first unsound one, whatever the other rows are; or `Memory`.
+pub fn enter(
+    alloc: Global,
+    begun: Begun,
+    entered: Vec<Row>,
+    gone: Vec<Row>,
+) -> Result<Held, LoadFault>
+    requires passed { HasPassed begun }
+    ensures enters { Enters begun (record
+        { entered = map entered_in entered.items; gone = map gone_in gone.items }) result }
+    ensures order { IfOk result HasOrder }
+{
+    match begun {
+        Begun::Read(first) => Ok(Held::Read(read_ledgers(alloc, first, entered, gone)?)),
+        Begun::Nothing => {
+            if no_ledgers(entered.as_slice(), gone.as_slice()) {
+                Ok(Held::Nothing)
+            } else {
+                Err(LoadFault::Unsound(Table::Version))
+            }
+        }
+    }
+}
+
+/// The image of what was read in both steps, and of edits; the ledger tells which edit entered an asset.
+fn with_edits(alloc: Global, held: Ledgers, edits: Rows<Edit>) -> Result<Image, AllocError>
+    requires { each_two asset_before held.first.named.assets ≡ true }
+    ensures { IfOk result (λ image. image ≡ image_by held edits) }
+{
+    let Ledgers {
+        first,
+        entered,
+        gone,
+    } = held;
+    let Registers { named, routes, .. } = first;
+    let assets = named.assets.as_slice();
+    let assets = entering_edits::with_edits(alloc, entered.as_slice(), assets)?;
     Ok(Image {
         links: named.links,
         classes: named.classes,
         assets,
         routes,
-        entered: ledgers.entered,
-        gone: ledgers.gone,
-        edits: ledgers.edits,
+        entered,
+        gone,
+        edits,
     })
 }
 
-/// The image of what was read first and of the ledgers.
-fn read_image(alloc: Global, first: Registers, rows: LedgerRows) -> Result<Image, LoadFault>
-    requires passed { HavePassed first }
-    ensures { Reads (image_with first (ledgers_in rows)) result }
+/// The image of what was read in both steps, and of the rows of edits and origins.
+fn read_image(
+    alloc: Global,
+    held: Ledgers,
+    edits: Vec<Row>,
+    origins: Vec<Row>,
+) -> Result<Image, LoadFault>
+    requires order { each_two asset_before held.first.named.assets ≡ true }
+    ensures { Reads (image_then held (edits_in edits.items origins.items)) result }
 {
-    let Registers {
-        version,
-        named,
-        routes,
-    } = first;
-    let LedgerRows {
-        entered,
-        gone,
-        edit,
-        origin,
-    } = rows;
-    let ledgers = read_ledgers(alloc, &named, routes.as_slice(), entered, gone, edit)?;
-    let image = with_edits(alloc, named, routes, ledgers)?;
+    let version = held.first.version;
+    let entered = held.entered.as_slice();
+    let said = rows::edits(alloc, entered, held.gone.as_slice(), edits.as_slice())?;
+    drop(edits);
+    let image = with_edits(alloc, held, said)?;
     let assets = image.assets.as_slice();
     let entered = image.entered.as_slice();
-    origins(alloc, version, assets, entered, origin.as_slice())?;
+    rows::origins(alloc, version, assets, entered, origins.as_slice())?;
     Ok(image)
 }
 
-/// Reads the rows of the ledgers, of edits and of origins beside what was read first.
+/// Reads the rows of edits and of origins beside what was read in both steps.
 ///
 /// # Errors
 /// `Unsound` with the first unsound table, or `Memory`.
-pub fn finish(alloc: Global, begun: Begun, rows: LedgerRows) -> Result<Image, LoadFault>
-    requires passed { HasPassed begun }
-    ensures { Reads (held_with begun (ledgers_in rows)) result }
+pub fn finish(
+    alloc: Global,
+    held: Held,
+    edits: Vec<Row>,
+    origins: Vec<Row>,
+) -> Result<Image, LoadFault>
+    requires order { HasOrder held }
+    ensures { Reads (held_then held (edits_in edits.items origins.items)) result }
 {
-    match begun {
-        Begun::Read(first) => read_image(alloc, first, rows),
-        Begun::Nothing => {
-            if no_ledgers(&rows) {
+    match held {
+        Held::Read(held) => read_image(alloc, held, edits, origins),
+        Held::Nothing => {
+            if no_edits(edits.as_slice(), origins.as_slice()) {
                 Ok(Image::empty(alloc))
             } else {
                 Err(LoadFault::Unsound(Table::Version))

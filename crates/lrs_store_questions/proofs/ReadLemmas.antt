@@ -1,5 +1,6 @@
 -- What a store holds that was rolled back and then read.
-use Rattle.std.proofs.Common.{◌≡◌, Bool, true, false, IsTrue, IfOk, IfErr, OnOk, IfSome, Option, None, Some, Result, Ok, Err, map, refl, sym, ap, subst, ◌∙◌, arith, true≢false}
+use Rattle.std.proofs.Common.{◌≡◌, Bool, true, false, IsTrue, IfOk, IfErr, OnOk, IfSome, Option, None, Some, Result, Ok, Err, List, map, refl, sym, ap, subst, ◌∙◌, arith, true≢false}
+use Rattle.sqlite_value.specs.Order.{Row}
 use Rattle.sqlite_trees.specs.Tree.{Trees}
 use Rattle.sqlite_trees.specs.View.{View, IsClean, IsRolledBack}
 use Rattle.lrs_machine.specs.declared.image.Image.{Image}
@@ -14,25 +15,33 @@ use Rattle.lrs_store_rows.proofs.Contents.{content_is_sound}
 use Rattle.lrs_store_tables.specs.Stored.{stored, rows_of, version_in, link_in, class_in, asset_in, piece_in, mark_in, ref_in, span_in, entered_in, gone_in, edit_in, origin_in, entered_places, gone_places, edit_places, origin_places}
 use Rattle.lrs_store_keeper.specs.declared.rows.NamedRows.{NamedRows}
 use Rattle.lrs_store_keeper.specs.declared.rows.RouteRows.{RouteRows}
-use Rattle.lrs_store_keeper.specs.declared.rows.LedgerRows.{LedgerRows}
-use Rattle.lrs_store.specs.Seeing.{HasSeen, HasLedgers}
+use Rattle.lrs_store.specs.Seeing.{HasSeen}
 use Rattle.lrs_store_image.specs.Loading.{Reads}
 use Rattle.lrs_store_image.specs.declared.steps.Begun.{Begun}
-use Rattle.lrs_store_image.specs.Steps.{LedgerTables, ledgers_in, tables_with, held_with, Begins}
-use Rattle.lrs_store_questions.specs.Reading.{ListInventory, HasFirst, HasContent, Says, WasLookedAt, HoldsThere, MayTell, IsTold}
+use Rattle.lrs_store_image.specs.declared.steps.Held.{Held}
+use Rattle.lrs_store_image.specs.Steps.{LedgerTables, EditTables, edits_in, tables_with, held_with, held_then, Begins, Enters}
+use Rattle.lrs_store_questions.specs.Reading.{ListInventory, HasFirst, HasLedgers, HasEdits, HasContent, Says, WasLookedAt, HoldsThere, MayTell, IsTold}
 
--- the rows of the ledgers that a store has
+-- the rows of the ledgers that a store has, and of edits and origins
+
 abbrev ledgers_at : Trees → LedgerTables
-ledgers_at db = record {
-  entered = map entered_in (rows_of db 13 entered_places);
-  gone = map gone_in (rows_of db 15 gone_places);
-  edit = map edit_in (rows_of db 17 edit_places);
-  origin = map origin_in (rows_of db 19 origin_places);
-}
+ledgers_at db = record { entered = map entered_in (rows_of db 13 entered_places); gone = map gone_in (rows_of db 15 gone_places) }
+
+abbrev edits_at : Trees → EditTables
+edits_at db = record { edit = map edit_in (rows_of db 17 edit_places); origin = map origin_in (rows_of db 19 origin_places) }
+
+abbrev pub ledgers_in : List Row → List Row → LedgerTables
+ledgers_in entered gone = record { entered = map entered_in entered; gone = map gone_in gone }
+
+said : (a : Result Image LoadFault) (wanted : Result Image Table) (c : Result Image Table) → Reads wanted a → Says a c → wanted ≡ c
+said (Ok image) wanted c reads says = reads ∙ sym says
+said (Err (Unsound t)) wanted c reads says = reads ∙ sym says
+said (Err Memory) wanted c reads says = absurd says
+said (Err Store) wanted c reads says = absurd says
 
 module _ (n : NamedRows) (r : RouteRows) (db : Trees) (first : HasFirst n r db) where
   -- with them the rows that were read first are all rows
-  all_rows : tables_with n r (ledgers_at db) ≡ stored db
+  all_rows : tables_with n r (ledgers_at db) (edits_at db) ≡ stored db
   all_rows = λ i. record {
     version = map version_in (first.named.version i);
     link = map link_in (first.named.link i);
@@ -48,31 +57,24 @@ module _ (n : NamedRows) (r : RouteRows) (db : Trees) (first : HasFirst n r db) 
     origin = map origin_in (rows_of db 19 origin_places);
   }
 
-  ledgers_are : (l : LedgerRows) → HasLedgers l db → ledgers_in l ≡ ledgers_at db
-  ledgers_are l h = λ i. record {
-    entered = map entered_in (h.entered i);
-    gone = map gone_in (h.gone i);
-    edit = map edit_in (h.edit i);
-    origin = map origin_in (h.origin i);
-  }
+  -- what is unsound whatever the other rows are is the content
+  unsound_first : (t : Table) → ((l : LedgerTables) (e : EditTables) → content_of (tables_with n r l e) ≡ Err t) → HasContent (Err t) db
+  unsound_first t unsound = record { lists = first.lists; is = ap content_of (sym all_rows) ∙ unsound (ledgers_at db) (edits_at db) }
 
-  -- what is unsound whatever the ledgers are is the content
-  pub unsound_first : (t : Table) → ((l : LedgerTables) → content_of (tables_with n r l) ≡ Err t) → HasContent (Err t) db
-  unsound_first t unsound = record { lists = first.lists; is = ap content_of (sym all_rows) ∙ unsound (ledgers_at db) }
+  module _ (entered gone : List Row) (ledgers : HasLedgers entered gone db) (b : Begun) (begins : (l : LedgerTables) (e : EditTables) → content_of (tables_with n r l e) ≡ held_with b l e) where
+    held : (e : EditTables) → content_of (tables_with n r (ledgers_at db) e) ≡ held_with b (ledgers_in entered gone) e
+    held e = begins (ledgers_at db) e ∙ (λ i. held_with b (record { entered = map entered_in (sym ledgers.entered i); gone = map gone_in (sym ledgers.gone i) }) e)
 
-  -- what both steps say is the content
-  pub said_last : (l : LedgerRows) → HasLedgers l db → (begun : Begun) → ((l : LedgerTables) → content_of (tables_with n r l) ≡ held_with begun l)
-      → (answer : Result Image LoadFault) → Reads (held_with begun (ledgers_in l)) answer → (c : Result Image Table) → Says answer c → HasContent c db
-  said_last l has begun begins answer reads c says = record {
-    lists = first.lists;
-    is = ap content_of (sym all_rows ∙ ap (tables_with n r) (sym (ledgers_are l has))) ∙ begins (ledgers_in l) ∙ said answer (held_with begun (ledgers_in l)) c reads says;
-  }
-    where
-      said : (a : Result Image LoadFault) (wanted : Result Image Table) (c : Result Image Table) → Reads wanted a → Says a c → wanted ≡ c
-      said (Ok image) wanted c reads says = reads ∙ sym says
-      said (Err (Unsound t)) wanted c reads says = reads ∙ sym says
-      said (Err Memory) wanted c reads says = absurd says
-      said (Err Store) wanted c reads says = absurd says
+    unsound_second : (t : Table) → ((e : EditTables) → held_with b (ledgers_in entered gone) e ≡ Err t) → HasContent (Err t) db
+    unsound_second t unsound = record { lists = first.lists; is = ap content_of (sym all_rows) ∙ held (edits_at db) ∙ unsound (edits_at db) }
+
+    said_last : (edits origins : List Row) → HasEdits edits origins db → (h : Held) → ((e : EditTables) → held_with b (ledgers_in entered gone) e ≡ held_then h e)
+        → (answer : Result Image LoadFault) → Reads (held_then h (edits_in edits origins)) answer → (c : Result Image Table) → Says answer c → HasContent c db
+    said_last edits origins has h enters answer reads c says = record {
+      lists = first.lists;
+      is = ap content_of (sym all_rows) ∙ held (edits_at db) ∙ enters (edits_at db)
+          ∙ (λ i. held_then h (record { edit = map edit_in (sym has.edit i); origin = map origin_in (sym has.origin i) })) ∙ said answer (held_then h (edits_in edits origins)) c reads says;
+    }
 
 -- what follows from what is said holds where an image was read
 pub told_ok : (answer : Result Image LoadFault) (P : Type 0) → ((c : Result Image Table) → Says answer c → P) → OnOk answer P
@@ -145,15 +147,48 @@ module _ {S : Type 0} (view : S → View) (recovers : S → Trees → Type 0) wh
   told_before old new looked c may = (omega (arith, may.0, looked.clean), (may.1.0, looked.outcomes may.1.0 may.1.1, may.1.2))
 
 -- trees of which this holds were seen, so this holds of them too
-pub seen_so : {S : Type 0} {view : S → View} {recovers : S → Trees → Type 0} {old new : S} (P Q : Trees → Type 0) → ((db : Trees) → P db → Q db) → HasSeen view recovers P old new → HasSeen view recovers Q old new
+seen_so : {S : Type 0} {view : S → View} {recovers : S → Trees → Type 0} {old new : S} (P Q : Trees → Type 0) → ((db : Trees) → P db → Q db) → HasSeen view recovers P old new → HasSeen view recovers Q old new
 seen_so {view = view} {old = old} P Q so seen = record { clean = seen.clean; outcomes = seen.outcomes; same = seen.same; sound = seen.sound; seen = λ clean. so (view old).trees (seen.seen clean) }
 
--- the content is said by a first step that failed
-pub said_first : {S : Type 0} {view : S → View} {recovers : S → Trees → Type 0} {old new : S} (n : NamedRows) (r : RouteRows) (given : Result Begun LoadFault) (answer : Result Image LoadFault) (fault : LoadFault)
-    → given ≡ Err fault → answer ≡ Err fault → Begins n r given → HasSeen view recovers (HasFirst n r) old new → (c : Result Image Table) → Says answer c → HasSeen view recovers (HasContent c) old new
-said_first {view = view} {recovers = recovers} {old = old} {new = new} n r given answer fault was is begins seen c says = by fault (subst (Begins n r) was begins) (subst (λ a. Says a c) is says)
+-- what is seen one after the other is seen of the same trees
+pub seen_both : {S : Type 0} {view : S → View} {recovers : S → Trees → Type 0} {old mid new : S} (P Q : Trees → Type 0) → HasSeen view recovers P old mid → HasSeen view recovers Q mid new → HasSeen view recovers (λ db. P db × Q db) old new
+seen_both {view = view} {old = old} {mid = mid} {new = new} P Q first second = record {
+  clean = omega (arith, first.clean, second.clean);
+  outcomes = λ db h. first.outcomes db (second.outcomes db h);
+  same = λ clean. second.same clean ∙ ap (λ (v : View). record v { cursors = (view new).cursors }) (first.same (early clean));
+  sound = λ clean. first.sound (early clean);
+  seen = λ clean. (first.seen (early clean), subst Q (ap (λ (v : View). v.trees) (first.same (early clean))) (second.seen clean));
+}
   where
-    by : (f : LoadFault) → Begins n r (Err f) → Says (Err f) c → HasSeen view recovers (HasContent c) old new
-    by Memory h s = absurd s
-    by Store h s = absurd h
-    by (Unsound t) h s = seen_so (HasFirst n r) (HasContent c) (λ db first. subst (λ x. HasContent x db) (sym s) (unsound_first n r db first t h)) seen
+    early : IsClean (view new) → IsClean (view mid)
+    early clean = omega (arith, clean, second.clean)
+
+module _ {S : Type 0} {view : S → View} {recovers : S → Trees → Type 0} {old new : S} (n : NamedRows) (r : RouteRows) where
+  -- the content is said by a first step that failed
+  pub said_first : (given : Result Begun LoadFault) (answer : Result Image LoadFault) (fault : LoadFault)
+      → given ≡ Err fault → answer ≡ Err fault → Begins n r given → HasSeen view recovers (HasFirst n r) old new → (c : Result Image Table) → Says answer c → HasSeen view recovers (HasContent c) old new
+  said_first given answer fault was is begins seen c says = by fault (subst (Begins n r) was begins) (subst (λ a. Says a c) is says)
+    where
+      by : (f : LoadFault) → Begins n r (Err f) → Says (Err f) c → HasSeen view recovers (HasContent c) old new
+      by Memory h s = absurd s
+      by Store h s = absurd h
+      by (Unsound t) h s = seen_so (HasFirst n r) (HasContent c) (λ db first. subst (λ x. HasContent x db) (sym s) (unsound_first n r db first t h)) seen
+
+  module _ (b : Begun) (begins : (l : LedgerTables) (e : EditTables) → content_of (tables_with n r l e) ≡ held_with b l e) (entered gone : List Row) where
+    -- by a second one
+    pub said_second : (given : Result Held LoadFault) (answer : Result Image LoadFault) (fault : LoadFault)
+        → given ≡ Err fault → answer ≡ Err fault → Enters b (ledgers_in entered gone) given → HasSeen view recovers (λ db. HasFirst n r db × HasLedgers entered gone db) old new
+        → (c : Result Image Table) → Says answer c → HasSeen view recovers (HasContent c) old new
+    said_second given answer fault was is enters seen c says = by fault (subst (Enters b (ledgers_in entered gone)) was enters) (subst (λ a. Says a c) is says)
+      where
+        by : (f : LoadFault) → Enters b (ledgers_in entered gone) (Err f) → Says (Err f) c → HasSeen view recovers (HasContent c) old new
+        by Memory h s = absurd s
+        by Store h s = absurd h
+        by (Unsound t) h s = seen_so (λ db. HasFirst n r db × HasLedgers entered gone db) (HasContent c) (λ db has. subst (λ x. HasContent x db) (sym s) (unsound_second n r db has.0 entered gone has.1 b begins t h)) seen
+
+    -- or by the last
+    pub said_third : (h : Held) → ((e : EditTables) → held_with b (ledgers_in entered gone) e ≡ held_then h e) → (edits origins : List Row) (answer : Result Image LoadFault) → Reads (held_then h (edits_in edits origins)) answer
+        → HasSeen view recovers (λ db. (HasFirst n r db × HasLedgers entered gone db) × HasEdits edits origins db) old new → (c : Result Image Table) → Says answer c → HasSeen view recovers (HasContent c) old new
+    said_third h enters edits origins answer reads seen c says =
+        seen_so (λ db. (HasFirst n r db × HasLedgers entered gone db) × HasEdits edits origins db) (HasContent c)
+        (λ db has. said_last n r db has.0.0 entered gone has.0.1 b begins edits origins has.1 h enters answer reads c says) seen

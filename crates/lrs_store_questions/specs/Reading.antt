@@ -1,6 +1,7 @@
 -- What is read of a store without a connection.
-use Rattle.std.specs.Prelude.{◌≡◌, ◌≤◌, Result, Ok, Err, IsTrue}
+use Rattle.std.specs.Prelude.{◌≡◌, ◌≤◌, List, Result, Ok, Err, IsTrue}
 use Rattle.std.proofs.Common.{refl}
+use Rattle.sqlite_value.specs.Order.{Row}
 use Rattle.sqlite_trees.specs.Tree.{Trees}
 use Rattle.sqlite_trees.specs.View.{View, doubt, IsClean}
 use Rattle.sqlite_trees.specs.Objects.{catalog_tree}
@@ -11,7 +12,7 @@ use Rattle.lrs_image.specs.declared.keeper.LoadFault.{LoadFault}
 use Rattle.lrs_image.specs.declared.keeper.LoadFault.TheVariants.{Memory, Store, Unsound}
 use Rattle.lrs_store_rows.specs.Content.{content_of}
 use Rattle.lrs_store_tables.specs.Schema.{inventory}
-use Rattle.lrs_store_tables.specs.Stored.{stored}
+use Rattle.lrs_store_tables.specs.Stored.{stored, rows_of, entered_places, gone_places, edit_places, origin_places}
 use Rattle.lrs_store_keeper.specs.declared.rows.NamedRows.{NamedRows}
 use Rattle.lrs_store_keeper.specs.declared.rows.RouteRows.{RouteRows}
 use Rattle.lrs_store.specs.Seeing.{HasNamed, HasRoutes}
@@ -25,6 +26,16 @@ pub record HasFirst (n : NamedRows) (r : RouteRows) (db : Trees) : Type 0 where
   pub lists : ListInventory db
   pub named : HasNamed n db
   pub routes : HasRoutes r db
+
+-- these are the rows of both ledgers
+pub record HasLedgers (parts left : List Row) (db : Trees) : Type 0 where
+  pub entered : parts ≡ rows_of db 13 entered_places
+  pub gone : left ≡ rows_of db 15 gone_places
+
+-- these are the rows of edits and of origins
+pub record HasEdits (edits origins : List Row) (db : Trees) : Type 0 where
+  pub edit : edits ≡ rows_of db 17 edit_places
+  pub origin : origins ≡ rows_of db 19 origin_places
 
 -- The trees list the tables of an inventory, whose rows hold this image, or whose first unsound table this is.
 pub record HasContent (c : Result Image Table) (db : Trees) : Type 0 where

@@ -8,11 +8,11 @@ ghost use Rattle.lrs_machine.specs.Sound.{IsSound};
 ghost use Rattle.lrs_store.specs.Seeing.{HasSeen};
 ghost use Rattle.lrs_store_questions.specs.Reading.{ListInventory, HasFirst, HasContent, Says, WasLookedAt, HoldsThere, IsTold};
 
-use crate::rows::{read_ledgers, read_named, read_routes};
+use crate::rows::{read_edits, read_ledgers, read_named, read_routes};
 use lrs_image::LoadFault;
 use lrs_machine::Image;
 use lrs_store_files::{Known, wanted, which};
-use lrs_store_image::{begin, finish};
+use lrs_store_image::{begin, enter, finish};
 use lrs_store_keeper::rows::{NamedRows, RouteRows};
 use sqlite_catalog::load::load;
 use sqlite_trees::error::StoreError;
@@ -62,7 +62,7 @@ fn fault_of(error: StoreError) -> LoadFault
     }
 }
 
-/// The image that the tables of a store hold. The rows of routes are let go before those of the ledgers are read.
+/// The image that the tables of a store hold. The rows of a step are let go before those of the next are read.
 fn read_content<S: Alter>(alloc: Global, store: &mut S) -> Result<Image, LoadFault>
     ensures seen { (c : Result ImageRows DeclaredTable) → Says result c
         → HasSeen S.Store.view S.Store.recovers (HasContent c) store.old store.new }
@@ -74,8 +74,13 @@ fn read_content<S: Alter>(alloc: Global, store: &mut S) -> Result<Image, LoadFau
         Err(error) => return Err(fault_of(error)),
     };
     let begun = begin(alloc, named, routes)?;
-    match read_ledgers(alloc, store) {
-        Ok(ledgers) => finish(alloc, begun, ledgers),
+    let (entered, gone) = match read_ledgers(alloc, store) {
+        Ok(rows) => rows,
+        Err(error) => return Err(fault_of(error)),
+    };
+    let held = enter(alloc, begun, entered, gone)?;
+    match read_edits(alloc, store) {
+        Ok((edits, origins)) => finish(alloc, held, edits, origins),
         Err(error) => Err(fault_of(error)),
     }
 }

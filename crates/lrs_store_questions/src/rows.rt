@@ -1,11 +1,12 @@
 //! The rows of tables, read from the trees of a store.
 
 ghost use Rattle.std.specs.Prelude.{IfOk};
-ghost use Rattle.lrs_store.specs.Seeing.{HasSeen, HasNamed, HasRoutes, HasLedgers};
-ghost use Rattle.lrs_store_questions.specs.Reading.{WasLookedAt};
+ghost use Rattle.lrs_store.specs.Seeing.{HasSeen, HasNamed, HasRoutes};
+ghost use Rattle.lrs_store_questions.specs.Reading.{HasLedgers, HasEdits, WasLookedAt};
 
 use crate::trees::read_tree;
-use lrs_store_keeper::rows::{LedgerRows, NamedRows, RouteRows};
+use lrs_store_keeper::rows::{NamedRows, RouteRows};
+use sqlite::Row;
 use sqlite_trees::error::StoreError;
 use sqlite_trees::store::Store;
 use std::alloc::Global;
@@ -52,23 +53,36 @@ pub(crate) fn read_routes<S: Store>(alloc: Global, store: &mut S) -> Result<Rout
     })
 }
 
-/// The rows of the ledgers, and of edits and origins.
+/// The rows of both ledgers: what was entered, and what is gone.
 ///
 /// # Errors
 /// When the store fails, or memory runs out.
-pub(crate) fn read_ledgers<S: Store>(alloc: Global, store: &mut S) -> Result<LedgerRows, StoreError>
+pub(crate) fn read_ledgers<S: Store>(
+    alloc: Global,
+    store: &mut S,
+) -> Result<(Vec<Row>, Vec<Row>), StoreError>
     ensures seen { IfOk result (λ r. HasSeen S.Store.view S.Store.recovers
-        (HasLedgers r) store.old store.new) }
+        (HasLedgers r.0.items r.1.items) store.old store.new) }
     ensures still { WasLookedAt S.Store.view S.Store.recovers store.old store.new }
 {
     let entered = read_tree(alloc, store, 13, &[1, 2, 3, 4, 5, 6])?;
     let gone = read_tree(alloc, store, 15, &[1, 2, 3, 4, 5, 6, 7])?;
+    Ok((entered, gone))
+}
+
+/// The rows of edits and of origins.
+///
+/// # Errors
+/// When the store fails, or memory runs out.
+pub(crate) fn read_edits<S: Store>(
+    alloc: Global,
+    store: &mut S,
+) -> Result<(Vec<Row>, Vec<Row>), StoreError>
+    ensures seen { IfOk result (λ r. HasSeen S.Store.view S.Store.recovers
+        (HasEdits r.0.items r.1.items) store.old store.new) }
+    ensures still { WasLookedAt S.Store.view S.Store.recovers store.old store.new }
+{
     let edit = read_tree(alloc, store, 17, &[0, 2, 3])?;
     let origin = read_tree(alloc, store, 19, &[0, 2])?;
-    Ok(LedgerRows {
-        entered,
-        gone,
-        edit,
-        origin,
-    })
+    Ok((edit, origin))
 }
