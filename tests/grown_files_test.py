@@ -2,9 +2,12 @@
 
 import sys
 
+from long_answers_test import most_of
 from program import BUILT, TOP
+from stores import edit
 
 sys.path.insert(0, str(TOP / "bench"))
+import reports
 import verbs
 
 MANY = 60_000
@@ -17,3 +20,11 @@ def test_no_verb_costs_more_beside_sixty_times_the_assets(tmp_path):
     assert set(few) == set(verbs.VERBS) and len(few) == 15
     dear = {verb: (few[verb], many[verb]) for verb in few if many[verb] > TIMES * few[verb]}
     assert dear == {}, "microseconds of a processor a command, beside few and beside many assets"
+
+
+def test_a_question_of_a_file_has_the_rows_of_a_step_in_memory(tmp_path):
+    """The rows of all tables take five times the bytes of their file."""
+    db, out = tmp_path / "many.db", tmp_path / "out"
+    assert edit(db, "".join(reports.sheet(MANY, 600)).encode()).status == 0
+    assert most_of(db, out, "at", "R1", "abs", "5") < 4 * db.stat().st_size
+    assert out.read_bytes().count(b"\n") > 1
