@@ -115,7 +115,7 @@ pub fn gone(
     tests::gone(alloc, links, assets, routes, entered, found)
 }
 
-/// The edits of rows, in order.
+/// The edits of rows, in order. The rows are let go before the edits are put in order, since both have their texts.
 ///
 /// # Errors
 /// When the table is unsound, or memory runs out.
@@ -123,14 +123,15 @@ pub fn edits(
     alloc: Global,
     entered: &[Part],
     gone: &[Gone],
-    rows: &[Row],
+    rows: Vec<Row>,
 ) -> Result<Rows<Edit>, LoadFault>
-    ensures { Reads (read table.Edit (edits_of (map edit_in rows.now))
+    ensures { Reads (read table.Edit (edits_of (map edit_in rows.items))
         (are_edits entered.now gone.now)) result }
 {
-    let Some(found) = all_said(alloc, rows)? else {
+    let Some(found) = all_said(alloc, rows.as_slice())? else {
         return Err(LoadFault::Unsound(Table::Edit));
     };
+    drop(rows);
     tests::edits(alloc, entered, gone, found)
 }
 

@@ -193,8 +193,7 @@ fn read_image(
 {
     let version = held.first.version;
     let entered = held.entered.as_slice();
-    let said = rows::edits(alloc, entered, held.gone.as_slice(), edits.as_slice())?;
-    drop(edits);
+    let said = rows::edits(alloc, entered, held.gone.as_slice(), edits)?;
     let image = with_edits(alloc, held, said)?;
     let assets = image.assets.as_slice();
     let entered = image.entered.as_slice();
