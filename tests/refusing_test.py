@@ -245,8 +245,8 @@ def allocations_of_an_opening(path):
 
 
 def test_a_server_over_a_file_goes_on_after_a_refused_growth(tmp_path):
-    """One edit is sent twice, with each allocation behind the opening refused in turn, those of its commit too. It may get a 503, or no reply;
-    the server then does the next one all the same."""
+    """One edit is sent three times, with each allocation behind the opening refused in turn, those of its commit too. One request may get a 503,
+    or no reply; the server then answers the next ones all the same."""
     first = tmp_path / "first.db"
     make(first)
     made = first.read_bytes()
@@ -258,15 +258,17 @@ def test_a_server_over_a_file_goes_on_after_a_refused_growth(tmp_path):
         path = tmp_path / f"{refusal.number}.db"
         path.write_bytes(made)
         port = free_port()
-        words = [BUILT, "serve", path, str(port), "2"]
+        words = [BUILT, "serve", path, str(port), "3"]
         with refusal.environment() as env, subprocess.Popen(words, env=env, stdout=subprocess.PIPE, stderr=subprocess.DEVNULL) as program:
             assert program.stdout.readline() == b"listening %d\n" % port, refusal.number
-            replies = answer(port, sent), answer(port, sent)
+            replies = [answer(port, sent) for _ in range(3)]
             assert program.wait(PATIENCE) == 0, (refusal.number, replies)
-        assert replies[0] in (done, unavailable, b""), (refusal.number, replies)
-        assert replies[1] in ([again] if replies[0] == done else [done, again]), (refusal.number, replies)
+        answered = [replied for replied in replies if replied not in (unavailable, b"")]
+        # what has no reply may have been done
+        assert answered[0] == done or replies[0] != answered[0] == again, (refusal.number, replies)
+        assert len(answered) >= 2 and set(answered[1:]) == {again}, (refusal.number, replies)
         found.update(replies)
         path.unlink()
 
     with_each_refused("ALLOCATION", test, first=allocations_of_an_opening(first) + 1)
-    assert found[unavailable] > 100 and found[b""] <= 2, found
+    assert found[unavailable] > 100 and found[b""] <= 6, found
