@@ -1,3 +1,4 @@
 pub mod SeeingLemmas
 pub mod JudgedLemmas
 pub mod OpenedLemmas
+pub mod RefusedLemmas

@@ -1,5 +1,5 @@
 -- The content of the rows that files held is kept.
-use Rattle.std.proofs.Common.{◌≡◌, ◌≢◌, pos, [], ◌∷◌, inl, inr, Option, None, Some, IfSome, IsSomeAnd, IsPermutation, Result, refl, sym, subst, ◌∙◌, arith}
+use Rattle.std.proofs.Common.{◌≢◌, pos, inl, inr, Option, None, Some, IfSome, IsSomeAnd, IsPermutation, Result, refl, sym, subst, ◌∙◌, arith}
 use Rattle.sqlite_disk.specs.declared.Disk.{Ghosts}
 use Rattle.sqlite_disk.specs.declared.Files.{Files}
 use Rattle.sqlite_trees.proofs.Doubt.{clean_of, no_doubt}
@@ -11,7 +11,6 @@ use Rattle.lrs_machine.specs.declared.table.Table.{Table}
 use Rattle.lrs_store_rows.specs.Tables.{Tables, AreSame}
 use Rattle.lrs_store_rows.specs.Content.{content_of}
 use Rattle.lrs_store_rows.proofs.Stored.{content_is_of_rows}
-use Rattle.sqlite_trees.specs.Tree.{Trees}
 use Rattle.sqlite_trees.specs.Objects.{catalog_tree}
 use Rattle.sqlite_catalog.proofs.ReadLemmas.{lists_once}
 use Rattle.lrs_store_tables.specs.Schema.{inventory}

@@ -1,5 +1,5 @@
 -- Files that no keeper takes.
-use Rattle.std.specs.Prelude.{◌≡◌, ◌≤◌, ◌⊎◌, pos, [], ◌∷◌, Option, None, Some, Result, Err, ⊤}
+use Rattle.std.specs.Prelude.{◌≡◌, ◌<◌, ◌≤◌, ◌⊎◌, pos, [], ◌∷◌, Option, None, Some, Result, Err, ⊤}
 use Rattle.sqlite_disk.specs.declared.Disk.{Ghosts}
 use Rattle.sqlite_disk.specs.declared.Files.{Files}
 use Rattle.sqlite_trees.specs.Tree.{Trees}
@@ -19,6 +19,7 @@ use Rattle.lrs_store_files.specs.declared.files.Untaken.TheVariants as untaken
 use Rattle.lrs_store_tables.specs.Schema.{inventory}
 use Rattle.lrs_store_tables.specs.Stored.{stored}
 use Rattle.lrs_store_files.specs.Found.{HasFound, IsLeftOf}
+use Rattle.lrs_store_files.specs.Refusing.{HasGrounds}
 use Rattle.lrs_store.specs.Judged.{IsUnsoundThere, IsSoundThere}
 use Rattle.lrs_store_keeper.specs.Holding.{MayHold}
 use Rattle.lrs_store.specs.declared.files.Left.{Left}
@@ -80,3 +81,9 @@ pub record WasLookedAt {D : Type 0} {g : Ghosts D} (old new : Untaken D g) : Typ
 abbrev pub IsHandedOn : {D : Type 0} {g : Ghosts D} → Option (Untaken D g) → Left D g → Type 0
 IsHandedOn None l = l ≡ left.Nothing
 IsHandedOn {D = D} {g = g} (Some old) l = (new : Untaken D g) × (l ≡ left.Untaken new) × ((new ≡ old) ⊎ WasLookedAt old new)
+
+-- Why an opening answers that the store failed: what the kit's sqlite gave back, and was at most looked at since, was refused on grounds; or a call of the disk failed and was counted, of files of version 2 that were taken. Where nothing is left the system did not open the files, of which no clause can speak.
+abbrev pub IsRefusedFor : {D : Type 0} {g : Ghosts D} → wal.Image → Left D g → Type 0
+IsRefusedFor {D = D} {g = g} image (left.Untaken new) = (before : Untaken D g) × ((new ≡ before) ⊎ WasLookedAt before new) × HasGrounds image before
+IsRefusedFor image (left.Opened conn) = HasCleanDisk (file_state conn) → HoldSecond image → 0 < (file_state conn).faults
+IsRefusedFor image left.Nothing = ⊤

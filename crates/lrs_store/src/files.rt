@@ -12,7 +12,7 @@ ghost use Rattle.lrs_store_keeper.specs.Opening.{IsSecond};
 ghost use Rattle.lrs_machine.specs.declared.table.Table.{Table};
 ghost use Rattle.lrs_store_files.specs.Found.{HasFound};
 ghost use Rattle.lrs_store.specs.Opened.{HasOpened};
-ghost use Rattle.lrs_store.specs.Refused.{IsUnsoundLeft, IsSoundLeft, WasLookedAt, IsHandedOn, HoldsUnsound, HoldsNoUnsound, HoldsStill, HoldsEachRow, HoldSecond};
+ghost use Rattle.lrs_store.specs.Refused.{IsRefusedFor, IsUnsoundLeft, IsSoundLeft, WasLookedAt, IsHandedOn, HoldsUnsound, HoldsNoUnsound, HoldsStill, HoldsEachRow, HoldSecond};
 
 use crate::verdict::judge;
 use lrs_image::LoadFault;
@@ -28,6 +28,7 @@ use std::rt::HostRuntime;
 fn fault_of(fault: StoreFault) -> LoadFault
     ensures memory { result ≡ LoadFault.Memory → fault ≡ StoreFault.Memory }
     ensures store { fault ≡ StoreFault.Store → result ≡ LoadFault.Store }
+    ensures only { result ≡ LoadFault.Store → fault ≡ StoreFault.Store }
     ensures unnamed { (t : Table) → result ≡ LoadFault.Unsound t → ⊥ }
 {
     match fault {
@@ -52,6 +53,17 @@ pub enum Left<D: Disk> {
 pub struct NotOpened<D: Disk> {
     pub fault: LoadFault,
     pub left: Left<D>,
+}
+
+impl<D: Disk + Drop> NotOpened<D> {
+    /// Why they are not opened. What is left of them is let go.
+    pub fn into_fault(self) -> LoadFault
+        ensures { result ≡ self.fault }
+    {
+        let NotOpened { fault, left } = self;
+        drop(left);
+        fault
+    }
 }
 
 /// Why no keeper is there, by what is left of the files. The kit's `sqlite` opens a store only if each row obeys its
@@ -81,6 +93,7 @@ fn not_opened<D: Disk + Drop, R: ReadImage>(
     ensures unsound { (t : Table) → result.fault ≡ LoadFault.Unsound t
         → HoldsUnsound t result.left }
     ensures store { result.fault ≡ LoadFault.Store → HoldsNoUnsound result.left }
+    ensures was { result.fault ≡ LoadFault.Store → refusal.fault ≡ StoreFault.Store }
     ensures still { IsHandedOn refusal.left result.left }
 {
     let Refusal { fault, left } = refusal;
@@ -126,6 +139,8 @@ pub fn open_files<D: Disk + Drop, R: ReadImage + Drop>(
     ensures unsound { IfErr result (λ e. (t : Table) → e.fault ≡ LoadFault.Unsound t
         → HoldsUnsound t e.left) }
     ensures store { IfErr result (λ e. e.fault ≡ LoadFault.Store → HoldsNoUnsound e.left) }
+    ensures cause { IfErr result (λ e. e.fault ≡ LoadFault.Store
+        → IsRefusedFor (image_of D.Disk files) e.left) }
     ensures still { IfErr result (λ e. HoldsStill (image_of D.Disk files) (λ given.
         given ≡ files) e.left) }
     ensures rows { IfErr result (λ e. (t : Table) → e.fault ≡ LoadFault.Unsound t
@@ -173,6 +188,8 @@ pub fn open_file<S: Start, R: ReadImage + Drop>(
     ensures unsound { IfErr result (λ e. (t : Table) → e.fault ≡ LoadFault.Unsound t
         → HoldsUnsound t e.left) }
     ensures store { IfErr result (λ e. e.fault ≡ LoadFault.Store → HoldsNoUnsound e.left) }
+    ensures cause { IfErr result (λ e. e.fault ≡ LoadFault.Store
+        → IsRefusedFor (image_at S.Start) e.left) }
     ensures still { IfErr result (λ e. HoldsStill (image_at S.Start) (λ files.
         IsFresh true files.log × IsFresh false files.db) e.left) }
     ensures rows { IfErr result (λ e. (t : Table) → e.fault ≡ LoadFault.Unsound t

@@ -6,6 +6,8 @@ use Rattle.sqlite_schema.specs.declared.schema.Schema.{Schema}
 use Rattle.lrs_store_tables.specs.Schema.{inventory}
 use Rattle.lrs_store_tables.specs.Making.{no_schema, first_tables}
 use Rattle.lrs_store_tables.proofs.MakeLemmas.{AllFrom, one_of}
+use Rattle.lrs_store_files.specs.Opening.{IsKnown}
+use Rattle.lrs_store_files.specs.declared.table_list.Known.{Known}
 use Rattle.lrs_store_files.specs.declared.table_list.Known.TheVariants.{First, Other}
 
 pub count_of : (n : ℕ) → n ≤ 12 → length (first_tables n).tables ≡ n
@@ -59,3 +61,7 @@ known_other found count counted differs n = (
       let same : count ≡ n = counted ∙ ap (λ (s : Schema). length s.tables) h.1 ∙ count_of n h.0 in
       differs (h.1 ∙ sym (is_cut n h.0).0 ∙ ap cut (sym same))),
 )
+
+-- tables that are no first ones are not known
+pub other_tables : (k : Known) (found s : Schema) → k ≡ Other → ((n : ℕ) → (k ≡ First n) ↔ ((n ≤ 12) × (found ≡ first_tables n))) → found ≡ s → IsKnown s → ⊥
+other_tables k found s other is same (n, few, first) = never_other n (sym other ∙ (is n).1 (few, same ∙ first))

@@ -2,3 +2,4 @@ pub mod PlainTables
 pub mod FirstTables
 pub mod OpenLemmas
 pub mod FoundLemmas
+pub mod RefusedLemmas

@@ -1,3 +1,4 @@
 pub mod Plain
 pub mod Opening
 pub mod Found
+pub mod Refusing

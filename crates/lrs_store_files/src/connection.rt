@@ -8,6 +8,7 @@ ghost use Rattle.lrs_store_tables.specs.Schema.{inventory};
 ghost use Rattle.lrs_store_tables.specs.Stored.{stored};
 ghost use Rattle.lrs_store_tables.specs.Making.{no_schema, first_tables, first_rows};
 ghost use Rattle.lrs_store_tables.specs.Resting.{IsReady};
+ghost use Rattle.lrs_store_tables.specs.Failing.{HasFailed, ErrHasReason};
 ghost use Rattle.lrs_store_files.specs.Opening.{IsKnown, IsTaken, IsFound, LeavesFound, IsGrown};
 
 use crate::table_list::{Known, wanted, which};
@@ -27,6 +28,7 @@ pub fn grow<S: Alter>(conn: &mut Connection<S>, first: usize) -> Result<(), Erro
     ensures autocommit { conn.new.in_transaction ≡ false }
     ensures grown { HasCleanDisk (state S.Store conn.new)
         → OnOk result (IsGrown first (state S.Store conn.old) (state S.Store conn.new)) }
+    ensures cause { ErrHasReason result (state S.Store conn.old) (state S.Store conn.new) }
     ensures survives { Survives (state S.Store conn.old) (state S.Store conn.new) (λ db.
         AreSame (first_rows first (stored (state S.Store conn.old).now.trees)) (stored db)) }
 {
@@ -52,6 +54,9 @@ fn kept<S: Alter>(conn: Connection<S>) -> TableStore<S>
     requires all { (state S.Store conn).now.schema ≡ inventory }
     ensures same { result.conn ≡ conn }
     ensures ready { IsReady (state S.Store result.conn) }
+    ensures open { HasCleanDisk (state S.Store result.conn)
+        → IsTrue (state S.Store result.conn).is_open }
+    ensures limit { (state S.Store result.conn).step_limit ≡ (state S.Store conn).step_limit }
     ensures rows { IsTaken (state S.Store conn) (state S.Store result.conn) }
 {
     // For the prover alone: what its contract says is known from here on.
@@ -70,7 +75,13 @@ fn made<S: Alter>(mut conn: Connection<S>) -> Result<TableStore<S>, NotTaken<S>>
     ensures clean { IfOk result (λ t. HasCleanDisk (state S.Store t.conn)
         → HasCleanDisk (state S.Store conn)) }
     ensures ready { IfOk result (λ t. IsReady (state S.Store t.conn)) }
+    ensures open { IfOk result (λ t. HasCleanDisk (state S.Store t.conn)
+        → IsTrue (state S.Store t.conn).is_open) }
+    ensures limit { IfOk result (λ t. (state S.Store t.conn).step_limit
+        ≡ (state S.Store conn).step_limit) }
     ensures rows { IfOk result (λ t. IsTaken (state S.Store conn) (state S.Store t.conn)) }
+    ensures failed { IfErr result (λ e. e.0 ≡ StoreFault.Store → HasCleanDisk (state S.Store e.1)
+        → HasFailed (state S.Store conn) (state S.Store e.1)) }
     ensures left { IfErr result (λ e. LeavesFound (state S.Store conn) (state S.Store e.1)) }
 {
     match make_store(&mut conn) {
@@ -89,7 +100,13 @@ fn grown<S: Alter>(mut conn: Connection<S>, first: usize) -> Result<TableStore<S
     ensures clean { IfOk result (λ t. HasCleanDisk (state S.Store t.conn)
         → HasCleanDisk (state S.Store conn)) }
     ensures ready { IfOk result (λ t. IsReady (state S.Store t.conn)) }
+    ensures open { IfOk result (λ t. HasCleanDisk (state S.Store t.conn)
+        → IsTrue (state S.Store t.conn).is_open) }
+    ensures limit { IfOk result (λ t. (state S.Store t.conn).step_limit
+        ≡ (state S.Store conn).step_limit) }
     ensures rows { IfOk result (λ t. IsTaken (state S.Store conn) (state S.Store t.conn)) }
+    ensures failed { IfErr result (λ e. e.0 ≡ StoreFault.Store → HasCleanDisk (state S.Store e.1)
+        → HasFailed (state S.Store conn) (state S.Store e.1)) }
     ensures left { IfErr result (λ e. LeavesFound (state S.Store conn) (state S.Store e.1)) }
 {
     match grow(&mut conn, first) {
@@ -106,6 +123,7 @@ fn grown<S: Alter>(mut conn: Connection<S>, first: usize) -> Result<TableStore<S
 fn unchanged<S: Alter>(fault: StoreFault, conn: Connection<S>) -> NotTaken<S>
     requires found { IsFound (state S.Store conn) }
     ensures same { result.1 ≡ conn }
+    ensures fault { result.0 ≡ fault }
     ensures left { LeavesFound (state S.Store conn) (state S.Store result.1) }
 {
     (fault, conn)
@@ -123,9 +141,16 @@ pub fn over<S: Alter>(alloc: Global, conn: Connection<S>) -> Result<TableStore<S
     ensures clean { IfOk result (λ t. HasCleanDisk (state S.Store t.conn)
         → HasCleanDisk (state S.Store conn)) }
     ensures ready { IfOk result (λ t. IsReady (state S.Store t.conn)) }
+    ensures open { IfOk result (λ t. HasCleanDisk (state S.Store t.conn)
+        → IsTrue (state S.Store t.conn).is_open) }
+    ensures limit { IfOk result (λ t. (state S.Store t.conn).step_limit
+        ≡ (state S.Store conn).step_limit) }
     ensures rows { IfOk result (λ t. IsTaken (state S.Store conn) (state S.Store t.conn)) }
     ensures same { (state S.Store conn).now.schema ≡ inventory → IfOk result (λ t. t.conn ≡ conn) }
     ensures other { (IsKnown (state S.Store conn).now.schema → ⊥) → IsErrAnd result (λ e. e.1 ≡ conn) }
+    ensures failed { IsKnown (state S.Store conn).now.schema → IfErr result (λ e.
+        e.0 ≡ StoreFault.Store → HasCleanDisk (state S.Store e.1)
+        → HasFailed (state S.Store conn) (state S.Store e.1)) }
     ensures left { IfErr result (λ e. LeavesFound (state S.Store conn) (state S.Store e.1)) }
 {
     let Ok(wanted) = wanted(alloc) else {

@@ -12,6 +12,7 @@ ghost use Rattle.sqlite.specs.Files.{file_state, image_of, IsOpened, IsBlankAs};
 ghost use Rattle.sqlite.specs.Closing.{IsCopied};
 ghost use Rattle.lrs_store_tables.specs.Resting.{IsReady};
 ghost use Rattle.lrs_store_files.specs.Found.{HasFound, IsLeftOf};
+ghost use Rattle.lrs_store_files.specs.Refusing.{HasGrounds};
 
 use crate::connection::{fault_of, over};
 use crate::lost::refuse_lost;
@@ -50,8 +51,13 @@ pub fn open_tables<D: Disk + Drop>(
     requires db { IsTrue (D.Disk.is_usable files.db) }
     ensures autocommit { IfOk result (λ t. t.conn.in_transaction ≡ false) }
     ensures ready { IfOk result (λ t. IsReady (file_state t.conn)) }
+    ensures open { IfOk result (λ t. HasCleanDisk (file_state t.conn)
+        → IsTrue (file_state t.conn).is_open) }
+    ensures unlimited { IfOk result (λ t. (file_state t.conn).step_limit ≡ None) }
     ensures found { IfOk result (λ t. HasCleanDisk (file_state t.conn)
         → HasFound (image_of D.Disk files) (file_state t.conn)) }
+    ensures cause { IfErr result (λ e. e.fault ≡ StoreFault.Store
+        → IfSome e.left (HasGrounds (image_of D.Disk files))) }
     ensures left { IfErr result (λ e. IsSomeAnd e.left
         (IsLeftOf (image_of D.Disk files) (λ given. given ≡ files))) }
 {
@@ -95,6 +101,8 @@ fn connect_at<S: Start>(
     ensures sums { IfOk result (λ c. HasCleanDisk (file_state c)
         → IsBlankAs new_has_sums (image_at S.Start)
         → (view c.store).has_sums ≡ new_has_sums) }
+    ensures cause { IfErr result (λ e. e.fault ≡ StoreFault.Store
+        → IfSome e.left (HasGrounds (image_at S.Start))) }
     ensures left { IfErr result (λ e. IfSome e.left
         (IsLeftOf (image_at S.Start) (λ files. IsFresh true files.log × IsFresh false files.db))) }
 {
@@ -122,8 +130,13 @@ pub fn open_tables_at<S: Start>(
 ) -> Result<TableStore<FileStore<FileFrom<S>>>, Refusal<FileFrom<S>>>
     ensures autocommit { IfOk result (λ t. t.conn.in_transaction ≡ false) }
     ensures ready { IfOk result (λ t. IsReady (file_state t.conn)) }
+    ensures open { IfOk result (λ t. HasCleanDisk (file_state t.conn)
+        → IsTrue (file_state t.conn).is_open) }
+    ensures unlimited { IfOk result (λ t. (file_state t.conn).step_limit ≡ None) }
     ensures found { IfOk result (λ t. HasCleanDisk (file_state t.conn)
         → HasFound (image_at S.Start) (file_state t.conn)) }
+    ensures cause { IfErr result (λ e. e.fault ≡ StoreFault.Store
+        → IfSome e.left (HasGrounds (image_at S.Start))) }
     ensures left { IfErr result (λ e. IfSome e.left
         (IsLeftOf (image_at S.Start) (λ files. IsFresh true files.log × IsFresh false files.db))) }
 {

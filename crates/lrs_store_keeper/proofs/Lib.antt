@@ -8,3 +8,4 @@ pub mod RowLemmas
 pub mod LoadLemmas
 pub mod BroughtUp
 pub mod OpeningLemmas
+pub mod FailedLemmas

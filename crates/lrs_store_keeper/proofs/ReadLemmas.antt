@@ -12,7 +12,7 @@ use Rattle.lrs_store_tables.specs.Resting.{IsReady, IsAtRest}
 use Rattle.lrs_store_keeper.specs.Rows.{HasRead}
 
 -- a transaction that begins is over the tables
-begins : {S : Type 0} (g : Ghosts S) (old : Held S) → IsReady (state g old) → HasCleanDisk (state g old) → IsWriting (state g (record old { in_transaction = true }))
+pub begins : {S : Type 0} (g : Ghosts S) (old : Held S) → IsReady (state g old) → HasCleanDisk (state g old) → IsWriting (state g (record old { in_transaction = true }))
 begins g old ready clean = record {
   begun = refl;
   schema = λ opened. (ready clean opened).schema;

@@ -10,6 +10,7 @@ ghost use Rattle.lrs_machine.specs.declared.table.Table.{Table as DeclaredTable}
 ghost use Rattle.lrs_store_rows.specs.Tables.{AreSame};
 ghost use Rattle.lrs_store_tables.specs.Stored.{stored, version_in, LeavesStore};
 ghost use Rattle.lrs_store_tables.specs.Resting.{IsReady};
+ghost use Rattle.lrs_store_tables.specs.Failing.{ErrHasReason, HasFailed};
 ghost use Rattle.lrs_store_keeper.specs.Rows.{tables_of};
 ghost use Rattle.lrs_store_keeper.specs.Holding.{AreRowsOf, MayHold, HasEdits, HoldNone, IsOpenIfClean, Tells};
 ghost use Rattle.lrs_store_keeper.specs.Opening.{IsSecond};
@@ -40,6 +41,7 @@ pub(crate) fn read_alone<S: Alter>(conn: &mut Connection<S>) -> Result<StoredRow
     ensures rows { HasCleanDisk (state S.Store conn.new) → (db : Trees)
         → (state S.Store conn.new).may_leave db → IfOk result (λ r.
         AreSame (stored db) (tables_of r)) }
+    ensures cause { ErrHasReason result (state S.Store conn.old) (state S.Store conn.new) }
     ensures survives { LeavesStore (state S.Store conn.old) (state S.Store conn.new) }
 {
     let mut tx = conn.transaction();
@@ -58,6 +60,7 @@ pub(crate) fn check_open<S: Alter>(conn: &mut Connection<S>) -> Result<(), Error
     ensures open { OnOk result (IsOpenIfClean (state S.Store conn.new)) }
     ensures was_open { OnOk result (HasCleanDisk (state S.Store conn.new)
         → IsTrue (state S.Store conn.old).is_open) }
+    ensures cause { ErrHasReason result (state S.Store conn.old) (state S.Store conn.new) }
     ensures survives { LeavesStore (state S.Store conn.old) (state S.Store conn.new) }
 {
     conn.prepare("SELECT v FROM version")?;
@@ -74,6 +77,7 @@ fn read_open<S: Alter>(conn: &mut Connection<S>) -> Result<StoredRows, Error>
     ensures rows { HasCleanDisk (state S.Store conn.new) → (db : Trees)
         → (state S.Store conn.new).may_leave db → IfOk result (λ r.
         AreSame (stored db) (tables_of r)) }
+    ensures cause { ErrHasReason result (state S.Store conn.old) (state S.Store conn.new) }
     ensures survives { LeavesStore (state S.Store conn.old) (state S.Store conn.new) }
 {
     let rows = read_alone(conn)?;
@@ -126,6 +130,8 @@ pub(crate) fn read_fault(error: Error) -> LoadFault
     ensures unnamed { (t : DeclaredTable) → result ≡ LoadFault.Unsound t → ⊥ }
     ensures memory { result ≡ LoadFault.Memory
         → error ≡ Error.SqliteFailure ErrorCode.OutOfMemory }
+    ensures always { error ≡ Error.SqliteFailure ErrorCode.OutOfMemory
+        → result ≡ LoadFault.Memory }
 {
     match error {
         Error::SqliteFailure(ErrorCode::OutOfMemory) => LoadFault::Memory,
@@ -162,6 +168,8 @@ pub(crate) fn load_from<S: Alter, R: ReadImage>(
     ensures unsound { IfErr result (λ e. (t : DeclaredTable) → e.fault ≡ LoadFault.Unsound t
         → (c : Result ImageRows DeclaredTable) → MayHold (state S.Store conn.new) c → c ≡ Err t) }
     ensures cause { IfErr result (λ e. e.fault ≡ LoadFault.Store → e.must_reopen ≡ true) }
+    ensures failed { IfErr result (λ e. e.fault ≡ LoadFault.Store → HasCleanDisk (state S.Store conn.new)
+        → HasFailed (state S.Store conn.old) (state S.Store conn.new)) }
     ensures survives { LeavesStore (state S.Store conn.old) (state S.Store conn.new) }
 {
     let rows = match read_open(conn) {

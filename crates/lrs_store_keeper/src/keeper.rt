@@ -11,6 +11,7 @@ ghost use Rattle.lrs_machine.specs.Sound.{IsSound};
 ghost use Rattle.lrs_image.specs.Keeping.{HasRisen, HoldsOnly, HoldsSound};
 ghost use Rattle.lrs_store_tables.specs.Stored.{LeavesStore};
 ghost use Rattle.lrs_store_tables.specs.Resting.{IsReady};
+ghost use Rattle.lrs_store_tables.specs.Failing.{HasFailed};
 ghost use Rattle.lrs_store_keeper.specs.Holding.{MayHold, IsOpenIfClean, IsSafe};
 ghost use Rattle.lrs_store_keeper.specs.Opening.{IsSecond};
 
@@ -67,7 +68,7 @@ impl<S: Alter, R: ReadImage + Drop> Tables<S, R> {
     ///
     /// # Errors
     /// `Unsound` with the first unsound table of rows that are not of version 2, all of which stay as they are; `Store`
-    /// if the store fails, and `Memory` if memory runs out. The connection is given back, and holds what it held: rows
+    /// if the store fails, of rows of version 2 only where the disk failed; and `Memory` if memory runs out. The connection is given back, and holds what it held: rows
     /// of version 2 stay as they are.
     pub fn open(
         alloc: Global,
@@ -90,6 +91,8 @@ impl<S: Alter, R: ReadImage + Drop> Tables<S, R> {
             → MayHold (state S.Store e.1) c → MayHold (state S.Store conn) c) }
         ensures still { IfErr result (λ e. (t : DeclaredTable) → e.0 ≡ LoadFault.Unsound t
             → LeavesStore (state S.Store conn) (state S.Store e.1)) }
+        ensures failed { IsSecond (state S.Store conn) → IfErr result (λ e. e.0 ≡ LoadFault.Store
+            → HasCleanDisk (state S.Store e.1) → HasFailed (state S.Store conn) (state S.Store e.1)) }
         ensures untouched { IsSecond (state S.Store conn) → MatchResult result (λ k.
             LeavesStore (state S.Store conn) (state S.Store k.conn)) (λ e.
             LeavesStore (state S.Store conn) (state S.Store e.1)) }
@@ -155,7 +158,7 @@ impl<S: Alter, R: ReadImage> Batches for Tables<S, R> {
 
     ghost failures = { λ k. k.failures };
 
-    // The last clause is not of `Batches`: all rows stay, whatever it answers.
+    // The last two clauses are not of `Batches`: why the store fails, and that all rows stay, whatever it answers.
     fn load(&mut self, alloc: Global) -> Result<Image, LoadFault>
         ensures image { IfOk result (λ image. (c : Result ImageRows DeclaredTable)
             → MayHold (state S.Store self.new.conn) c → c ≡ Ok image) }
@@ -173,6 +176,9 @@ impl<S: Alter, R: ReadImage> Batches for Tables<S, R> {
         ensures content { (c : Result ImageRows DeclaredTable)
             → MayHold (state S.Store self.new.conn) c → MayHold (state S.Store self.old.conn) c }
         ensures open { OnOk result (IsOpenIfClean (state S.Store self.new.conn)) }
+        ensures failed { result ≡ Err LoadFault.Store → self.old.is_broken ≡ false
+            → HasCleanDisk (state S.Store self.new.conn)
+            → HasFailed (state S.Store self.old.conn) (state S.Store self.new.conn) }
         ensures rows { LeavesStore (state S.Store self.old.conn) (state S.Store self.new.conn) }
     {
         if self.is_broken {

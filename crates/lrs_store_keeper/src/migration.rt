@@ -8,6 +8,7 @@ ghost use Rattle.lrs_machine.specs.declared.image.Image.{Image as ImageRows};
 ghost use Rattle.lrs_machine.specs.declared.table.Table.{Table as DeclaredTable};
 ghost use Rattle.lrs_store_tables.specs.Stored.{stored, version_in, LeavesStore};
 ghost use Rattle.lrs_store_tables.specs.Resting.{IsReady};
+ghost use Rattle.lrs_store_tables.specs.Failing.{ErrHasReason, HasFailed};
 ghost use Rattle.lrs_store_keeper.specs.Holding.{MayHold, IsOpenIfClean};
 ghost use Rattle.lrs_store_keeper.specs.Opening.{HoldsImage, IsSecond, IsNotSecond, HasVersions};
 
@@ -28,6 +29,7 @@ fn read_versions_alone<S: Alter>(conn: &mut Connection<S>) -> Result<Vec<Row>, E
     ensures rows { HasCleanDisk (state S.Store conn.new) → (db : Trees)
         → (state S.Store conn.new).may_leave db → IfOk result (λ rows.
         HasVersions rows.items (stored db)) }
+    ensures cause { ErrHasReason result (state S.Store conn.old) (state S.Store conn.new) }
     ensures survives { LeavesStore (state S.Store conn.old) (state S.Store conn.new) }
 {
     let mut tx = conn.transaction();
@@ -45,6 +47,7 @@ fn has_second<S: Alter>(conn: &mut Connection<S>) -> Result<bool, Error>
     ensures open { OnOk result (IsOpenIfClean (state S.Store conn.new)) }
     ensures second { IfOk result (λ is. IsTrue is → IsSecond (state S.Store conn.new)) }
     ensures other { IfOk result (λ is. is ≡ false → IsNotSecond (state S.Store conn.new)) }
+    ensures cause { ErrHasReason result (state S.Store conn.old) (state S.Store conn.new) }
     ensures survives { LeavesStore (state S.Store conn.old) (state S.Store conn.new) }
 {
     let rows = read_versions_alone(conn)?;
@@ -65,6 +68,8 @@ fn held_image<S: Alter, R: ReadImage>(
     ensures image { IfOk result (λ image. HoldsImage (state S.Store conn.new) image) }
     ensures unsound { (t : DeclaredTable) → result ≡ Err (LoadFault.Unsound t)
         → (c : Result ImageRows DeclaredTable) → MayHold (state S.Store conn.new) c → c ≡ Err t }
+    ensures failed { result ≡ Err LoadFault.Store → HasCleanDisk (state S.Store conn.new)
+        → HasFailed (state S.Store conn.old) (state S.Store conn.new) }
     ensures survives { LeavesStore (state S.Store conn.old) (state S.Store conn.new) }
 {
     let rows = match read_alone(conn) {
@@ -144,6 +149,9 @@ pub(crate) fn make_second<S: Alter, R: ReadImage>(
         → (c : Result ImageRows DeclaredTable) → MayHold (state S.Store conn.new) c → c ≡ Err t }
     ensures still { (t : DeclaredTable) → result ≡ Err (LoadFault.Unsound t)
         → LeavesStore (state S.Store conn.old) (state S.Store conn.new) }
+    ensures failed { IsSecond (state S.Store conn.old) → result ≡ Err LoadFault.Store
+        → HasCleanDisk (state S.Store conn.new)
+        → HasFailed (state S.Store conn.old) (state S.Store conn.new) }
     ensures untouched { IsSecond (state S.Store conn.old)
         → LeavesStore (state S.Store conn.old) (state S.Store conn.new) }
 {

@@ -5,6 +5,7 @@ ghost use Rattle.sqlite.specs.State.{HasCleanDisk};
 ghost use Rattle.sqlite.specs.Held.{state};
 ghost use Rattle.lrs_store_rows.specs.Tables.{AreSame};
 ghost use Rattle.lrs_store_tables.specs.Stored.{IsWriting, LeavesStore};
+ghost use Rattle.lrs_store_tables.specs.Failing.{ErrInsideHasReason};
 ghost use Rattle.lrs_store_keeper.specs.Rows.{HasRead, AreNamed, AreOfRoutes, AreOfLedgers, tables_of};
 
 use lrs_store_tables::select::{
@@ -55,6 +56,8 @@ fn read_named<S: Alter>(tx: &mut Transaction<'_, S>) -> Result<NamedRows, Error>
         → IsWriting (state S.Store tx.old.conn.now)
         → IfOk result (λ r. HasRead (AreNamed r) (state S.Store tx.old.conn.now)
         (state S.Store tx.new.conn.now)) }
+    ensures cause { ErrInsideHasReason result (state S.Store tx.old.conn.now)
+        (state S.Store tx.new.conn.now) }
     ensures survives { LeavesStore (state S.Store tx.old.conn.now) (state S.Store tx.new.conn.now) }
 {
     let version = read_versions(tx)?;
@@ -76,6 +79,8 @@ fn read_routes<S: Alter>(tx: &mut Transaction<'_, S>) -> Result<RouteRows, Error
         → IsWriting (state S.Store tx.old.conn.now)
         → IfOk result (λ r. HasRead (AreOfRoutes r) (state S.Store tx.old.conn.now)
         (state S.Store tx.new.conn.now)) }
+    ensures cause { ErrInsideHasReason result (state S.Store tx.old.conn.now)
+        (state S.Store tx.new.conn.now) }
     ensures survives { LeavesStore (state S.Store tx.old.conn.now) (state S.Store tx.new.conn.now) }
 {
     let piece = read_pieces(tx)?;
@@ -97,6 +102,8 @@ fn read_ledgers<S: Alter>(tx: &mut Transaction<'_, S>) -> Result<LedgerRows, Err
         → IsWriting (state S.Store tx.old.conn.now)
         → IfOk result (λ r. HasRead (AreOfLedgers r) (state S.Store tx.old.conn.now)
         (state S.Store tx.new.conn.now)) }
+    ensures cause { ErrInsideHasReason result (state S.Store tx.old.conn.now)
+        (state S.Store tx.new.conn.now) }
     ensures survives { LeavesStore (state S.Store tx.old.conn.now) (state S.Store tx.new.conn.now) }
 {
     let entered = read_entered(tx)?;
@@ -118,6 +125,8 @@ pub(crate) fn read_rows<S: Alter>(tx: &mut Transaction<'_, S>) -> Result<StoredR
         → IsWriting (state S.Store tx.old.conn.now)
         → IfOk result (λ r. HasRead (λ t. AreSame t (tables_of r)) (state S.Store tx.old.conn.now)
         (state S.Store tx.new.conn.now)) }
+    ensures cause { ErrInsideHasReason result (state S.Store tx.old.conn.now)
+        (state S.Store tx.new.conn.now) }
     ensures survives { LeavesStore (state S.Store tx.old.conn.now) (state S.Store tx.new.conn.now) }
 {
     let named = read_named(tx)?;

@@ -11,3 +11,7 @@ pub mod SelectStatements
 pub mod ReadLemmas
 pub mod SaidRows
 pub mod Transactions
+pub mod AloneStatements
+pub mod FailLemmas
+pub mod CreateFails
+pub mod InsertFails

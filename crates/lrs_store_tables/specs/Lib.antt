@@ -8,3 +8,4 @@ pub mod Making
 pub mod Resting
 pub mod Starting
 pub mod Holding
+pub mod Failing

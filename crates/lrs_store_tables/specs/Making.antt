@@ -68,3 +68,7 @@ first_rows n t = record {
   edit = if_first n 10 t.edit;
   origin = if_first n 11 t.origin;
 }
+
+-- none of the tables has a row
+abbrev pub AreEmpty : Trees → Type 0
+AreEmpty db = (k : ℕ) → k < 12 → db (tree_at k) ≡ []

@@ -4,6 +4,7 @@ ghost use Rattle.std.specs.Prelude.{◌≡◌, ◌<◌, ◌≤◌, OnOk};
 ghost use Rattle.sqlite.specs.State.{HasCleanDisk};
 ghost use Rattle.sqlite.specs.Held.{state};
 ghost use Rattle.lrs_store_tables.specs.Stored.{LeavesStore};
+ghost use Rattle.lrs_store_tables.specs.Failing.{ErrHasReason};
 ghost use Rattle.lrs_store_tables.specs.Making as making;
 ghost use Rattle.lrs_store_tables.specs.Making.{IsBegun, IsMaking};
 
@@ -55,6 +56,8 @@ pub fn make_tables<S: Alter>(tx: &mut Transaction<'_, S>, first: usize) -> Resul
         → IsBegun first (state S.Store tx.old.conn.now)
         → OnOk result (IsMaking first 12
         (state S.Store tx.old.conn.now) (state S.Store tx.new.conn.now)) }
+    ensures cause { IsBegun first (state S.Store tx.old.conn.now) → ErrHasReason result
+        (state S.Store tx.old.conn.now) (state S.Store tx.new.conn.now) }
     ensures survives { LeavesStore (state S.Store tx.old.conn.now) (state S.Store tx.new.conn.now) }
 {
     for place in first..TABLES {

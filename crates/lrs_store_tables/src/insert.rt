@@ -4,6 +4,8 @@ ghost use Rattle.std.specs.Prelude.{◌≡◌, OnOk, IsTrue};
 ghost use Rattle.sqlite.specs.State.{HasCleanDisk};
 ghost use Rattle.sqlite.specs.Held.{state};
 ghost use Rattle.lrs_store_tables.specs.Stored.{IsWriting, Makes, OkDoes, LeavesStore};
+ghost use Rattle.lrs_store_tables.specs.Making.{AreEmpty};
+ghost use Rattle.lrs_store_tables.specs.Failing.{ErrInsideHasReason};
 ghost use Rattle.lrs_store_tables.specs.Changing.{with_version, with_link, with_class, with_asset_row, with_origin, with_edit};
 
 use crate::number::{kind_number, number};
@@ -21,6 +23,9 @@ pub fn put_version<S: Alter>(tx: &mut Transaction<'_, S>, version: u64) -> Resul
     ensures is_open { HasCleanDisk (state S.Store tx.new.conn.now)
         → IsWriting (state S.Store tx.old.conn.now)
         → OnOk result (IsTrue (state S.Store tx.old.conn.now).is_open) }
+    ensures cause { version ≡ 2 → (IsTrue (state S.Store tx.old.conn.now).is_open
+        → AreEmpty (state S.Store tx.old.conn.now).now.trees) → ErrInsideHasReason result
+        (state S.Store tx.old.conn.now) (state S.Store tx.new.conn.now) }
     ensures survives { LeavesStore (state S.Store tx.old.conn.now) (state S.Store tx.new.conn.now) }
 {
     let version = number(version)?;

@@ -6,6 +6,7 @@ ghost use Rattle.sqlite.specs.Held.{state};
 ghost use Rattle.lrs_store_rows.specs.Tables.{AreSame};
 ghost use Rattle.lrs_store_tables.specs.Stored.{stored, LeavesStore};
 ghost use Rattle.lrs_store_tables.specs.Making.{IsBegun, no_schema};
+ghost use Rattle.lrs_store_tables.specs.Failing.{ErrHasReason};
 ghost use Rattle.lrs_store_tables.specs.Starting.{new_rows, IsStarted, IsNew, NewRowsHoldNothing};
 
 use crate::create::make_tables;
@@ -18,6 +19,8 @@ fn start<S: Alter>(tx: &mut Transaction<'_, S>) -> Result<(), Error>
     ensures started { HasCleanDisk (state S.Store tx.new.conn.now)
         → IsBegun 0 (state S.Store tx.old.conn.now)
         → OnOk result (IsStarted (state S.Store tx.new.conn.now)) }
+    ensures cause { IsBegun 0 (state S.Store tx.old.conn.now) → ErrHasReason result
+        (state S.Store tx.old.conn.now) (state S.Store tx.new.conn.now) }
     ensures survives { LeavesStore (state S.Store tx.old.conn.now) (state S.Store tx.new.conn.now) }
 {
     make_tables(tx, 0)?;
@@ -36,6 +39,7 @@ pub fn make_store<S: Alter>(conn: &mut Connection<S>) -> Result<(), Error>
     ensures autocommit { conn.new.in_transaction ≡ false }
     ensures made { HasCleanDisk (state S.Store conn.new)
         → OnOk result (IsNew (state S.Store conn.new)) }
+    ensures cause { ErrHasReason result (state S.Store conn.old) (state S.Store conn.new) }
     ensures crash { Survives (state S.Store conn.old) (state S.Store conn.new) (λ db.
         AreSame new_rows (stored db)) }
 {

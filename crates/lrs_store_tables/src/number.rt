@@ -1,6 +1,6 @@
 //! Numbers, as a store takes them.
 
-ghost use Rattle.std.specs.Prelude.{◌≡◌, pos, IfOk};
+ghost use Rattle.std.specs.Prelude.{◌≡◌, ◌≤◌, ◌^◌, pos, MatchResult};
 ghost use Rattle.sqlite_value.specs.declared.value.Value.TheVariants.{Int};
 ghost use Rattle.sqlite_value.specs.Value.{owned};
 ghost use Rattle.lrs_store_rows.specs.Encoding as encoding;
@@ -11,7 +11,7 @@ use sqlite::{Error, ErrorCode};
 
 /// A whole number.
 pub fn number(n: u64) -> Result<ValueRef<'static>, Error>
-    ensures { IfOk result (λ v. owned v ≡ Int (pos n)) }
+    ensures { MatchResult result (λ v. owned v ≡ Int (pos n)) (λ e. 2 ^ 63 ≤ n) }
 {
     match i64::try_from(n) {
         Ok(n) => Ok(ValueRef::Int(n)),

@@ -4,6 +4,7 @@ ghost use Rattle.std.specs.Prelude.{◌≡◌, IfOk, IsPermutation, map};
 ghost use Rattle.sqlite.specs.State.{HasCleanDisk, IsUnchanged};
 ghost use Rattle.sqlite.specs.Held.{state};
 ghost use Rattle.lrs_store_tables.specs.Stored.{IsWriting, stored, version_in, link_in, class_in, asset_in, piece_in, mark_in, ref_in, span_in, entered_in, gone_in, edit_in, origin_in, OkDoes, LeavesStore};
+ghost use Rattle.lrs_store_tables.specs.Failing.{ErrInsideHasReason};
 
 use sqlite::{Alter, Error, Row, Transaction};
 
@@ -16,6 +17,8 @@ pub fn read_versions<S: Alter>(tx: &mut Transaction<'_, S>) -> Result<Vec<Row>, 
         (state S.Store tx.old.conn.now).now.trees).version (map version_in rows.items)) }
     ensures same { OkDoes result (state S.Store tx.old.conn.now) (state S.Store tx.new.conn.now)
         (IsUnchanged) }
+    ensures cause { ErrInsideHasReason result (state S.Store tx.old.conn.now)
+        (state S.Store tx.new.conn.now) }
     ensures survives { LeavesStore (state S.Store tx.old.conn.now) (state S.Store tx.new.conn.now) }
 {
     let rows = tx.query_all("SELECT v FROM version", &[])?;
@@ -31,6 +34,8 @@ pub fn read_links<S: Alter>(tx: &mut Transaction<'_, S>) -> Result<Vec<Row>, Err
         (map link_in rows.items)) }
     ensures same { OkDoes result (state S.Store tx.old.conn.now) (state S.Store tx.new.conn.now)
         (IsUnchanged) }
+    ensures cause { ErrInsideHasReason result (state S.Store tx.old.conn.now)
+        (state S.Store tx.new.conn.now) }
     ensures survives { LeavesStore (state S.Store tx.old.conn.now) (state S.Store tx.new.conn.now) }
 {
     let rows = tx.query_all("SELECT number, length FROM link", &[])?;
@@ -46,6 +51,8 @@ pub fn read_classes<S: Alter>(tx: &mut Transaction<'_, S>) -> Result<Vec<Row>, E
         (state S.Store tx.old.conn.now).now.trees).class (map class_in rows.items)) }
     ensures same { OkDoes result (state S.Store tx.old.conn.now) (state S.Store tx.new.conn.now)
         (IsUnchanged) }
+    ensures cause { ErrInsideHasReason result (state S.Store tx.old.conn.now)
+        (state S.Store tx.new.conn.now) }
     ensures survives { LeavesStore (state S.Store tx.old.conn.now) (state S.Store tx.new.conn.now) }
 {
     let rows = tx.query_all("SELECT name, kind FROM class", &[])?;
@@ -61,6 +68,8 @@ pub fn read_assets<S: Alter>(tx: &mut Transaction<'_, S>) -> Result<Vec<Row>, Er
         (state S.Store tx.old.conn.now).now.trees).asset (map asset_in rows.items)) }
     ensures same { OkDoes result (state S.Store tx.old.conn.now) (state S.Store tx.new.conn.now)
         (IsUnchanged) }
+    ensures cause { ErrInsideHasReason result (state S.Store tx.old.conn.now)
+        (state S.Store tx.new.conn.now) }
     ensures survives { LeavesStore (state S.Store tx.old.conn.now) (state S.Store tx.new.conn.now) }
 {
     let rows = tx.query_all("SELECT number, class, value, lateral FROM asset", &[])?;
@@ -76,6 +85,8 @@ pub fn read_pieces<S: Alter>(tx: &mut Transaction<'_, S>) -> Result<Vec<Row>, Er
         (state S.Store tx.old.conn.now).now.trees).piece (map piece_in rows.items)) }
     ensures same { OkDoes result (state S.Store tx.old.conn.now) (state S.Store tx.new.conn.now)
         (IsUnchanged) }
+    ensures cause { ErrInsideHasReason result (state S.Store tx.old.conn.now)
+        (state S.Store tx.new.conn.now) }
     ensures survives { LeavesStore (state S.Store tx.old.conn.now) (state S.Store tx.new.conn.now) }
 {
     let rows = tx.query_all("SELECT route, n, link, a, b, dir FROM piece", &[])?;
@@ -91,6 +102,8 @@ pub fn read_marks<S: Alter>(tx: &mut Transaction<'_, S>) -> Result<Vec<Row>, Err
         (map mark_in rows.items)) }
     ensures same { OkDoes result (state S.Store tx.old.conn.now) (state S.Store tx.new.conn.now)
         (IsUnchanged) }
+    ensures cause { ErrInsideHasReason result (state S.Store tx.old.conn.now)
+        (state S.Store tx.new.conn.now) }
     ensures survives { LeavesStore (state S.Store tx.old.conn.now) (state S.Store tx.new.conn.now) }
 {
     let rows = tx.query_all("SELECT route, n, chainage, measure FROM mark", &[])?;
@@ -106,6 +119,8 @@ pub fn read_refs<S: Alter>(tx: &mut Transaction<'_, S>) -> Result<Vec<Row>, Erro
         (map ref_in rows.items)) }
     ensures same { OkDoes result (state S.Store tx.old.conn.now) (state S.Store tx.new.conn.now)
         (IsUnchanged) }
+    ensures cause { ErrInsideHasReason result (state S.Store tx.old.conn.now)
+        (state S.Store tx.new.conn.now) }
     ensures survives { LeavesStore (state S.Store tx.old.conn.now) (state S.Store tx.new.conn.now) }
 {
     let rows = tx.query_all("SELECT name, route, place FROM ref", &[])?;
@@ -121,6 +136,8 @@ pub fn read_spans<S: Alter>(tx: &mut Transaction<'_, S>) -> Result<Vec<Row>, Err
         (map span_in rows.items)) }
     ensures same { OkDoes result (state S.Store tx.old.conn.now) (state S.Store tx.new.conn.now)
         (IsUnchanged) }
+    ensures cause { ErrInsideHasReason result (state S.Store tx.old.conn.now)
+        (state S.Store tx.new.conn.now) }
     ensures survives { LeavesStore (state S.Store tx.old.conn.now) (state S.Store tx.new.conn.now) }
 {
     let rows = tx.query_all("SELECT asset, route, lo, hi, side FROM span", &[])?;
@@ -136,6 +153,8 @@ pub fn read_entered<S: Alter>(tx: &mut Transaction<'_, S>) -> Result<Vec<Row>, E
         (state S.Store tx.old.conn.now).now.trees).entered (map entered_in rows.items)) }
     ensures same { OkDoes result (state S.Store tx.old.conn.now) (state S.Store tx.new.conn.now)
         (IsUnchanged) }
+    ensures cause { ErrInsideHasReason result (state S.Store tx.old.conn.now)
+        (state S.Store tx.new.conn.now) }
     ensures survives { LeavesStore (state S.Store tx.old.conn.now) (state S.Store tx.new.conn.now) }
 {
     let rows = tx.query_all("SELECT edit, asset, link, lo, hi, side FROM entered", &[])?;
@@ -151,6 +170,8 @@ pub fn read_gone<S: Alter>(tx: &mut Transaction<'_, S>) -> Result<Vec<Row>, Erro
         (map gone_in rows.items)) }
     ensures same { OkDoes result (state S.Store tx.old.conn.now) (state S.Store tx.new.conn.now)
         (IsUnchanged) }
+    ensures cause { ErrInsideHasReason result (state S.Store tx.old.conn.now)
+        (state S.Store tx.new.conn.now) }
     ensures survives { LeavesStore (state S.Store tx.old.conn.now) (state S.Store tx.new.conn.now) }
 {
     let rows = tx.query_all(
@@ -169,6 +190,8 @@ pub fn read_edits<S: Alter>(tx: &mut Transaction<'_, S>) -> Result<Vec<Row>, Err
         (map edit_in rows.items)) }
     ensures same { OkDoes result (state S.Store tx.old.conn.now) (state S.Store tx.new.conn.now)
         (IsUnchanged) }
+    ensures cause { ErrInsideHasReason result (state S.Store tx.old.conn.now)
+        (state S.Store tx.new.conn.now) }
     ensures survives { LeavesStore (state S.Store tx.old.conn.now) (state S.Store tx.new.conn.now) }
 {
     let rows = tx.query_all("SELECT number, token, line FROM edit", &[])?;
@@ -184,6 +207,8 @@ pub fn read_origins<S: Alter>(tx: &mut Transaction<'_, S>) -> Result<Vec<Row>, E
         (state S.Store tx.old.conn.now).now.trees).origin (map origin_in rows.items)) }
     ensures same { OkDoes result (state S.Store tx.old.conn.now) (state S.Store tx.new.conn.now)
         (IsUnchanged) }
+    ensures cause { ErrInsideHasReason result (state S.Store tx.old.conn.now)
+        (state S.Store tx.new.conn.now) }
     ensures survives { LeavesStore (state S.Store tx.old.conn.now) (state S.Store tx.new.conn.now) }
 {
     let rows = tx.query_all("SELECT asset, edit FROM origin", &[])?;

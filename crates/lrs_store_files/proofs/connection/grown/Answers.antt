@@ -8,6 +8,7 @@ use Rattle.lrs_store_tables.specs.Stored.{stored}
 use Rattle.lrs_store_tables.specs.Making.{first_rows}
 use Rattle.lrs_store_tables.proofs.MakeLemmas.{rows_of_first}
 use Rattle.lrs_store_files.proofs.OpenLemmas.{taken_some, at_rest, grown_numbers, left_begun}
+use Rattle.lrs_store_files.proofs.RefusedLemmas.{store_failed}
 use Rattle.lrs_store_files.proofs.connection.grown.Goals as goal
 
 pub returns-in-Ok-clause-ready : goal.returns-in-Ok-clause-ready
@@ -31,3 +32,7 @@ returns-in-Err-clause-left g c =
     let old = state g.S.Store c.args.conn in
     left_begun old (state g.S.Store c.grow.new.conn) (λ db. AreSame (first_rows c.args.first (stored old.now.trees)) (stored db)) c.requires.found c.grow.ensures.survives (g.met.S.Store.settled c.args.conn.store)
     (λ db same. inr (c.args.first, c.requires.some, c.requires.few, c.requires.first, same))
+
+pub returns-in-Err-clause-failed : goal.returns-in-Err-clause-failed
+returns-in-Err-clause-failed g c is clean =
+    store_failed c.fault_of.result c.in-Err.error (state g.S.Store c.args.conn) (state g.S.Store c.grow.new.conn) c.fault_of.ensures.memory is (c.in-Err.ensures.cause clean)

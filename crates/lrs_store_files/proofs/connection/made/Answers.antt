@@ -5,6 +5,7 @@ use Rattle.lrs_store_tables.specs.Stored.{stored}
 use Rattle.lrs_store_tables.specs.Starting.{new_rows}
 use Rattle.sqlite.specs.Held.{state}
 use Rattle.lrs_store_files.proofs.OpenLemmas.{taken_nothing, left_begun}
+use Rattle.lrs_store_files.proofs.RefusedLemmas.{store_failed}
 use Rattle.lrs_store_files.proofs.connection.made.Goals as goal
 
 pub returns-in-Ok-clause-ready : goal.returns-in-Ok-clause-ready
@@ -19,3 +20,7 @@ pub returns-in-Err-clause-left : goal.returns-in-Err-clause-left
 returns-in-Err-clause-left g c =
     left_begun (state g.S.Store c.args.conn) (state g.S.Store c.make_store.new.conn) (λ db. AreSame new_rows (stored db)) c.requires.found c.make_store.ensures.crash (g.met.S.Store.settled c.args.conn.store)
     (λ db same. inl (c.requires.nothing, same))
+
+pub returns-in-Err-clause-failed : goal.returns-in-Err-clause-failed
+returns-in-Err-clause-failed g c is clean =
+    store_failed c.fault_of.result c.in-Err.error (state g.S.Store c.args.conn) (state g.S.Store c.make_store.new.conn) c.fault_of.ensures.memory is (c.in-Err.ensures.cause clean)

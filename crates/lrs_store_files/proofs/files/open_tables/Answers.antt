@@ -1,6 +1,7 @@
-use Rattle.std.proofs.Common.{◌≡◌}
+use Rattle.std.proofs.Common.{◌≡◌, sym, ◌∙◌}
 use Rattle.sqlite.specs.Files.{file_state, image_of}
 use Rattle.lrs_store_files.proofs.FoundLemmas.{opened_found, has_found, left_over, left_connected}
+use Rattle.lrs_store_files.proofs.RefusedLemmas.{refused_files, refused_tables}
 use Rattle.lrs_store_files.proofs.files.open_tables.Goals as goal
 
 pub over-requires-clause-found : goal.over-requires-clause-found
@@ -20,3 +21,11 @@ returns-in-Err-over-clause-left g c = left_connected (image_of g.D.Disk c.args.f
 
 pub returns-in-Err-clause-left : goal.returns-in-Err-clause-left
 returns-in-Err-clause-left g c = left_over c.args.files c.in-Err.left c.in-Err.ensures.unharmed
+
+pub returns-in-Err-over-clause-cause : goal.returns-in-Err-over-clause-cause
+returns-in-Err-over-clause-cause g c is =
+    refused_tables (image_of g.D.Disk c.args.files) c.in-Ok.conn c.in-Err-over.conn c.in-Ok.ensures.opened (λ clean. (c.in-Ok.ensures.found clean).reads) c.in-Err-over.ensures.left c.in-Ok.ensures.fresh.unlimited (λ known. c.in-Err-over.ensures.failed known is)
+
+pub returns-in-Err-clause-cause : goal.returns-in-Err-clause-cause
+returns-in-Err-clause-cause g c is =
+    refused_files c.args.files c.in-Err.left c.in-Err.error (λ memory. absurd (let both = sym (c.fault_of.ensures.memory memory) ∙ is in cc)) c.in-Err.ensures.cause

@@ -3,6 +3,7 @@ use Rattle.sqlite_wal.specs.Files.{image_at}
 use Rattle.sqlite_std_file.specs.File.{IsFresh}
 use Rattle.sqlite.specs.Files.{file_state}
 use Rattle.lrs_store_files.proofs.FoundLemmas.{opened_found, has_found, left_connected}
+use Rattle.lrs_store_files.proofs.RefusedLemmas.{refused_tables}
 use Rattle.lrs_store_files.proofs.files.open_tables_at.Goals as goal
 
 pub over-requires-clause-found : goal.over-requires-clause-found
@@ -19,3 +20,7 @@ returns-in-Ok-clause-found g c clean =
 
 pub returns-in-Err-over-clause-left : goal.returns-in-Err-over-clause-left
 returns-in-Err-over-clause-left g c = left_connected (image_at g.S.Start) (λ files. IsFresh true files.log × IsFresh false files.db) c.in_ok-conn.conn c.in-Err-over.conn c.in_ok-conn.ensures.opened (λ clean. (c.in_ok-conn.ensures.found clean).reads) c.in-Err-over.ensures.left
+
+pub returns-in-Err-over-clause-cause : goal.returns-in-Err-over-clause-cause
+returns-in-Err-over-clause-cause g c is =
+    refused_tables (image_at g.S.Start) c.in_ok-conn.conn c.in-Err-over.conn c.in_ok-conn.ensures.opened (λ clean. (c.in_ok-conn.ensures.found clean).reads) c.in-Err-over.ensures.left c.in_ok-conn.ensures.fresh.unlimited (λ known. c.in-Err-over.ensures.failed known is)

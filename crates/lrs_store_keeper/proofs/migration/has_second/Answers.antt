@@ -1,10 +1,11 @@
-use Rattle.std.proofs.Common.{map, sym, ap, ◌∙◌}
+use Rattle.std.proofs.Common.{rules, map, sym, ap, ◌∙◌}
 use Rattle.std.proofs.lemmas.Bool.{false≢true}
 use Rattle.sqlite.specs.Held.{state}
 use Rattle.lrs_store_tables.specs.Stored.{stored, version_in}
 use Rattle.lrs_store_keeper.specs.Opening.{HasVersions}
 use Rattle.lrs_store_keeper.proofs.OpeningLemmas.{second_read, other_read}
 use Rattle.lrs_store_keeper.proofs.ReadLemmas.{left_before}
+use Rattle.lrs_store_tables.proofs.FailLemmas.{reason_after}
 use Rattle.lrs_store_keeper.proofs.migration.has_second.Goals as goal
 
 pub returns-clause-second : goal.returns-clause-second
@@ -16,3 +17,9 @@ pub returns-clause-other : goal.returns-clause-other
 returns-clause-other g c is =
     let read = left_before (state g.S.Store c.read_versions_alone.new.conn) (state g.S.Store c.check_open.new.conn) c.check_open.ensures.survives (λ db. HasVersions c.in_ok-rows.rows.items (stored db)) c.in_ok-rows.ensures.rows in
     other_read (state g.S.Store c.check_open.new.conn) c.in_ok-rows.rows.items (λ second. absurd (false≢true (sym is ∙ c.is_second.ensures.1 (ap (map version_in) c.as_slice.ensures.value ∙ second)))) read
+
+pub returns-in_err-check_open-clause-cause : goal.returns-in_err-check_open-clause-cause
+returns-in_err-check_open-clause-cause g c clean =
+    let h = reason_after (state g.S.Store c.args.conn.now) (state g.S.Store c.read_versions_alone.new.conn) (state g.S.Store c.check_open.new.conn) c.in_err-check_open.field-0.0
+    c.read_versions_alone.ensures.survives c.check_open.ensures.survives clean (c.in_err-check_open.ensures.cause clean) in
+    search rules

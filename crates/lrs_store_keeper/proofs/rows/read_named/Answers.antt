@@ -1,10 +1,12 @@
-use Rattle.std.proofs.Common.{arith, map, IsPermutation}
+use Rattle.std.proofs.Common.{rules, arith, map, IsPermutation}
 use Rattle.sqlite.specs.State.{HasCleanDisk}
 use Rattle.sqlite.specs.Held.{state}
 use Rattle.lrs_store_rows.specs.Tables.{Tables}
 use Rattle.lrs_store_tables.specs.Stored.{version_in, link_in, class_in, asset_in}
 use Rattle.lrs_store_keeper.specs.Rows.{HasRead}
 use Rattle.lrs_store_keeper.proofs.RowLemmas.{reads_then, still}
+use Rattle.lrs_store_keeper.proofs.OpeningLemmas.{leaves_then}
+use Rattle.lrs_store_keeper.proofs.FailedLemmas.{fails_after}
 use Rattle.lrs_store_keeper.proofs.rows.read_named.Goals as goal
 
 pub returns-clause-read : goal.returns-clause-read
@@ -28,3 +30,45 @@ returns-clause-read g c clean writing =
     let b24 = reads_then (λ (t : Tables). IsPermutation t.link (map link_in c.in_ok-link.link.items)) _ s1 s2 s4 r2 b34 in
     let b14 = reads_then (λ (t : Tables). IsPermutation t.version (map version_in c.in_ok-version.version.items)) _ s0 s1 s4 r1 b24 in
     record { rows = record { version = b14.rows.0; link = b14.rows.1.0; class = b14.rows.1.1.0; asset = b14.rows.1.1.1 }; same = b14.same }
+
+pub returns-in_err-link-clause-cause : goal.returns-in_err-link-clause-cause
+returns-in_err-link-clause-cause g c writing clean =
+    let s0 = state g.S.Store c.args.tx.now.conn.now in
+    let s1 = state g.S.Store c.read_versions.new.tx.conn.now in
+    let s2 = state g.S.Store c.read_links.new.tx.conn.now in
+    let l1 = c.read_links.ensures.survives in
+    let f1 = c.in_err-link.ensures.cause in
+    let f0 = fails_after s0 s1 s2 c.in_err-link.field-0.0 c.read_versions.ensures.survives c.in_ok-version.ensures.same l1 f1 in
+    let h = f0 writing clean in
+    search rules
+
+pub returns-in_err-class-clause-cause : goal.returns-in_err-class-clause-cause
+returns-in_err-class-clause-cause g c writing clean =
+    let s0 = state g.S.Store c.args.tx.now.conn.now in
+    let s1 = state g.S.Store c.read_versions.new.tx.conn.now in
+    let s2 = state g.S.Store c.read_links.new.tx.conn.now in
+    let s3 = state g.S.Store c.read_classes.new.tx.conn.now in
+    let l2 = c.read_classes.ensures.survives in
+    let f2 = c.in_err-class.ensures.cause in
+    let f1 = fails_after s1 s2 s3 c.in_err-class.field-0.0 c.read_links.ensures.survives c.in_ok-link.ensures.same l2 f2 in
+    let l1 = leaves_then s1 s2 s3 c.read_links.ensures.survives l2 in
+    let f0 = fails_after s0 s1 s3 c.in_err-class.field-0.0 c.read_versions.ensures.survives c.in_ok-version.ensures.same l1 f1 in
+    let h = f0 writing clean in
+    search rules
+
+pub returns-in_err-asset-clause-cause : goal.returns-in_err-asset-clause-cause
+returns-in_err-asset-clause-cause g c writing clean =
+    let s0 = state g.S.Store c.args.tx.now.conn.now in
+    let s1 = state g.S.Store c.read_versions.new.tx.conn.now in
+    let s2 = state g.S.Store c.read_links.new.tx.conn.now in
+    let s3 = state g.S.Store c.read_classes.new.tx.conn.now in
+    let s4 = state g.S.Store c.read_assets.new.tx.conn.now in
+    let l3 = c.read_assets.ensures.survives in
+    let f3 = c.in_err-asset.ensures.cause in
+    let f2 = fails_after s2 s3 s4 c.in_err-asset.field-0.0 c.read_classes.ensures.survives c.in_ok-class.ensures.same l3 f3 in
+    let l2 = leaves_then s2 s3 s4 c.read_classes.ensures.survives l3 in
+    let f1 = fails_after s1 s2 s4 c.in_err-asset.field-0.0 c.read_links.ensures.survives c.in_ok-link.ensures.same l2 f2 in
+    let l1 = leaves_then s1 s2 s4 c.read_links.ensures.survives l2 in
+    let f0 = fails_after s0 s1 s4 c.in_err-asset.field-0.0 c.read_versions.ensures.survives c.in_ok-version.ensures.same l1 f1 in
+    let h = f0 writing clean in
+    search rules

@@ -1,8 +1,10 @@
-use Rattle.std.proofs.Common.{arith}
+use Rattle.std.proofs.Common.{rules, arith}
 use Rattle.sqlite.specs.State.{HasCleanDisk}
 use Rattle.sqlite.specs.Held.{state}
 use Rattle.lrs_store_keeper.specs.Rows.{AreNamed, AreOfRoutes, AreOfLedgers}
 use Rattle.lrs_store_keeper.proofs.RowLemmas.{reads_then, still}
+use Rattle.lrs_store_keeper.proofs.OpeningLemmas.{leaves_then}
+use Rattle.lrs_store_keeper.proofs.FailedLemmas.{fails_after}
 use Rattle.lrs_store_keeper.proofs.rows.read_rows.Goals as goal
 
 pub returns-clause-read : goal.returns-clause-read
@@ -39,3 +41,28 @@ returns-clause-read g c clean writing =
       };
       same = b13.same;
     }
+
+pub returns-in_err-routes-clause-cause : goal.returns-in_err-routes-clause-cause
+returns-in_err-routes-clause-cause g c writing clean =
+    let s0 = state g.S.Store c.args.tx.now.conn.now in
+    let s1 = state g.S.Store c.read_named.new.tx.conn.now in
+    let s2 = state g.S.Store c.read_routes.new.tx.conn.now in
+    let l1 = c.read_routes.ensures.survives in
+    let f1 = c.in_err-routes.ensures.cause in
+    let f0 = fails_after s0 s1 s2 c.in_err-routes.field-0.0 c.read_named.ensures.survives (λ early begun. (c.in_ok-named.ensures.read early begun).same) l1 f1 in
+    let h = f0 writing clean in
+    search rules
+
+pub returns-in_err-ledgers-clause-cause : goal.returns-in_err-ledgers-clause-cause
+returns-in_err-ledgers-clause-cause g c writing clean =
+    let s0 = state g.S.Store c.args.tx.now.conn.now in
+    let s1 = state g.S.Store c.read_named.new.tx.conn.now in
+    let s2 = state g.S.Store c.read_routes.new.tx.conn.now in
+    let s3 = state g.S.Store c.read_ledgers.new.tx.conn.now in
+    let l2 = c.read_ledgers.ensures.survives in
+    let f2 = c.in_err-ledgers.ensures.cause in
+    let f1 = fails_after s1 s2 s3 c.in_err-ledgers.field-0.0 c.read_routes.ensures.survives (λ early begun. (c.in_ok-routes.ensures.read early begun).same) l2 f2 in
+    let l1 = leaves_then s1 s2 s3 c.read_routes.ensures.survives l2 in
+    let f0 = fails_after s0 s1 s3 c.in_err-ledgers.field-0.0 c.read_named.ensures.survives (λ early begun. (c.in_ok-named.ensures.read early begun).same) l1 f1 in
+    let h = f0 writing clean in
+    search rules

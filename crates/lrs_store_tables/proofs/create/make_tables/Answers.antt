@@ -1,9 +1,11 @@
-use Rattle.std.proofs.Common.{◌≡◌, [], Ok, subst, ◌∙◌, arith}
+use Rattle.std.proofs.Common.{rules, ◌≡◌, [], Ok, Err, subst, ◌∙◌, arith}
 use Rattle.sqlite.specs.Held.{state}
-use Rattle.sqlite.specs.State.{ExecutesInside}
+use Rattle.sqlite.specs.State.{HasCleanDisk, ExecutesInside}
 use Rattle.sqlite.proofs.StateLemmas.{survives_then}
 use Rattle.lrs_store_tables.specs.Making.{IsMaking}
 use Rattle.lrs_store_tables.proofs.MakeLemmas.{makes_one}
+use Rattle.lrs_store_tables.proofs.FailLemmas.{reason_after}
+use Rattle.lrs_store_tables.proofs.CreateFails.{create_answers}
 use Rattle.lrs_store_tables.proofs.create.make_tables.Goals as goal
 
 pub loop-place-preserved : goal.loop-place-preserved
@@ -24,3 +26,15 @@ pub returns-clause-made : goal.returns-clause-made
 returns-clause-made g c clean begun =
     let all : c.loop-place.place ≡ 12 = omega (arith, c.loop-place-test.false, c.loop-place.auto.place-end c.requires) in
     subst (λ m. IsMaking c.args.first m (state g.S.Store c.args.tx.now.conn.now) (state g.S.Store c.loop-place.tx.conn.now)) all (c.loop-place.invariant.making clean begun)
+
+pub returns-in_err-execute-clause-cause : goal.returns-in_err-execute-clause-cause
+returns-in_err-execute-clause-cause g c begun clean =
+    let start = state g.S.Store c.args.tx.now.conn.now in
+    let mid = state g.S.Store c.loop-place.tx.conn.now in
+    let last = state g.S.Store c.execute.new.self.conn.now in
+    let e = c.in_err-execute.field-0.0 in
+    let early : HasCleanDisk mid = omega (arith, clean, c.execute.ensures.survives.clean) in
+    let before = c.loop-place.invariant.making early begun in
+    let ran = subst (λ sql. ExecutesInside 0 sql [] mid last (Err e)) c.create_at.ensures (c.in_err-execute.ensures.runs clean before.begun) in
+    let h = reason_after start mid last e c.loop-place.invariant.survives c.execute.ensures.survives clean (create_answers c.loop-place.place (omega arith) mid last e before.tables ran) in
+    search rules
