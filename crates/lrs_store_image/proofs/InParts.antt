@@ -17,12 +17,12 @@ use Rattle.lrs_store_image.specs.declared.registers.Named.{Named}
 use Rattle.lrs_store_image.specs.declared.steps.Registers.{Registers}
 use Rattle.lrs_store_image.specs.declared.steps.Ledgers.{Ledgers}
 use Rattle.lrs_store_image.specs.Reading.{named_read, entries_read}
-use Rattle.lrs_store_image.specs.Steps.{image_by}
+use Rattle.lrs_store_image.specs.Steps.{whole_image}
 use Rattle.lrs_store_image.proofs.Chained.{alike, in_parts}
 
 -- the image, once both ledgers are read
 abbrev pub with_edits : Tables → Ledgers → Result Image Table
-with_edits t l = read table.Edit (edits_of t.edit) (are_edits l.entered l.gone) >>= (λ edits. Ok (image_by l edits))
+with_edits t l = read table.Edit (edits_of t.edit) (are_edits l.entered l.gone) >>= (λ edits. Ok (whole_image l edits))
 
 -- the image, once links, classes, assets and routes are read
 abbrev pub with_ledgers : Tables → Registers → Result Image Table

@@ -19,7 +19,7 @@ use Rattle.lrs_store_image.specs.Loading.{Reads}
 use Rattle.lrs_store_image.specs.declared.registers.Named.{Named}
 use Rattle.lrs_store_image.specs.declared.steps.Registers.{Registers}
 use Rattle.lrs_store_image.specs.Reading.{named_read, entries_read}
-use Rattle.lrs_store_image.specs.Steps.{LedgerTables, EditTables, image_with, image_then}
+use Rattle.lrs_store_image.specs.Steps.{LedgerTables, EditTables, image_of_registers, image_of_ledgers}
 use Rattle.lrs_store_image.proofs.Chained.{in_parts}
 use Rattle.lrs_store_image.proofs.InParts.{with_routes, with_ledgers, inventory_in_parts}
 
@@ -50,7 +50,7 @@ module _ (t : Tables) where
       no_routes u h = after_version ∙ ap (λ x. x >>= with_own v) (after_named ∙ ap (λ x. x >>= (λ routes. with_ledgers t (record { version = v; named = named; routes = routes }))) h)
 
       pub in_steps : (routes : List RouteRow) → entries_read named t.piece t.mark t.ref t.span ≡ Ok routes
-          → image_of t ≡ image_with (record { version = v; named = named; routes = routes }) (record { entered = t.entered; gone = t.gone }) (record { edit = t.edit; origin = t.origin })
+          → image_of t ≡ image_of_registers (record { version = v; named = named; routes = routes }) (record { entered = t.entered; gone = t.gone }) (record { edit = t.edit; origin = t.origin })
       in_steps routes h =
           after_version ∙ ap (λ x. x >>= with_own v) (after_named ∙ ap (λ x. x >>= (λ routes. with_ledgers t (record { version = v; named = named; routes = routes }))) h)
           ∙ in_parts (read table.Entered (each_sorted part_before part_of t.entered) (are_entered named.links named.assets)) _ _ _ (λ parts.
@@ -62,19 +62,19 @@ module _ (p : Registers) (l : LedgerTables) (e : EditTables) where
   gone_read parts = read table.Gone (each_sorted gone_before gone_of l.gone) (are_gone p.named.links p.named.assets (route_spans p.routes) parts)
 
   abbrev with_gone : List Part → List Gone → Result Image Table
-  with_gone parts gone = image_then (record { first = p; entered = parts; gone = gone }) e
+  with_gone parts gone = image_of_ledgers (record { first = p; entered = parts; gone = gone }) e
 
-  pub no_entered : (u : Table) → read table.Entered (each_sorted part_before part_of l.entered) (are_entered p.named.links p.named.assets) ≡ Err u → image_with p l e ≡ Err u
+  pub no_entered : (u : Table) → read table.Entered (each_sorted part_before part_of l.entered) (are_entered p.named.links p.named.assets) ≡ Err u → image_of_registers p l e ≡ Err u
   no_entered u h = ap (λ x. x >>= (λ parts. gone_read parts >>= with_gone parts)) h
 
   module _ (parts : List Part) (is : read table.Entered (each_sorted part_before part_of l.entered) (are_entered p.named.links p.named.assets) ≡ Ok parts) where
-    after_entered : image_with p l e ≡ (gone_read parts >>= with_gone parts)
+    after_entered : image_of_registers p l e ≡ (gone_read parts >>= with_gone parts)
     after_entered = ap (λ x. x >>= (λ parts. gone_read parts >>= with_gone parts)) is
 
-    pub no_gone : (u : Table) → gone_read parts ≡ Err u → image_with p l e ≡ Err u
+    pub no_gone : (u : Table) → gone_read parts ≡ Err u → image_of_registers p l e ≡ Err u
     no_gone u h = after_entered ∙ ap (λ x. x >>= with_gone parts) h
 
-    pub entered_in_steps : (gone : List Gone) → gone_read parts ≡ Ok gone → image_with p l e ≡ with_gone parts gone
+    pub entered_in_steps : (gone : List Gone) → gone_read parts ≡ Ok gone → image_of_registers p l e ≡ with_gone parts gone
     entered_in_steps gone h = after_entered ∙ ap (λ x. x >>= with_gone parts) h
 
 -- a table that is answered as unsound was read so

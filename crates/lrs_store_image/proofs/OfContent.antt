@@ -21,7 +21,7 @@ use Rattle.lrs_store_image.specs.declared.steps.Begun.{Begun}
 use Rattle.lrs_store_image.specs.declared.steps.Begun.TheVariants as begun
 use Rattle.lrs_store_image.specs.declared.steps.Ledgers.{Ledgers}
 use Rattle.lrs_store_image.specs.declared.steps.Held.{Held}
-use Rattle.lrs_store_image.specs.Steps.{LedgerTables, EditTables, tables_with, have_no_first, have_no_ledgers, have_no_edits, held_with, image_with, Begins, Enters}
+use Rattle.lrs_store_image.specs.Steps.{LedgerTables, EditTables, tables_with, have_no_first, have_no_ledgers, have_no_edits, content_of_begun, image_of_registers, Begins, WithLedgers}
 use Rattle.lrs_store_keeper.specs.Holding.{Tells}
 
 without_rows : (t : Tables) → has_no_rows t ≡ true → content_of t ≡ Ok nothing
@@ -81,7 +81,7 @@ module _ (n : NamedRows) (r : RouteRows) where
       by (v ∷ vs) h = absurd (cc)
 
   -- no row was read first
-  pub none_first : have_no_first n r ≡ true → (l : LedgerTables) (e : EditTables) → content_of (tables_with n r l e) ≡ held_with begun.Nothing l e
+  pub none_first : have_no_first n r ≡ true → (l : LedgerTables) (e : EditTables) → content_of (tables_with n r l e) ≡ content_of_begun begun.Nothing l e
   none_first none l e =
       let t = tables_with n r l e in
       let unsound = no_version t table.Version (ap (λ v. read table.Version v (λ v. true)) (unversioned none)) in
@@ -90,7 +90,7 @@ module _ (n : NamedRows) (r : RouteRows) where
 
   -- what the first step answers where some row was read
   module _ (some : have_no_first n r ≡ false) where
-    pub begins_so : (p : Registers) → ((l : LedgerTables) (e : EditTables) → image_of (tables_with n r l e) ≡ image_with p l e) → Begins n r (Ok (begun.Read p))
+    pub begins_so : (p : Registers) → ((l : LedgerTables) (e : EditTables) → image_of (tables_with n r l e) ≡ image_of_registers p l e) → Begins n r (Ok (begun.Read p))
     begins_so p image l e = some_first some l e ∙ image l e
 
     pub begins_not : (given : Result Registers LoadFault) (answer : Result Begun LoadFault) (fault : LoadFault) → given ≡ Err fault → answer ≡ Err fault
@@ -113,20 +113,20 @@ module _ (n : NamedRows) (r : RouteRows) where
 
 module _ (b : Begun) (l : LedgerTables) where
   -- a second step that failed tells what is held
-  pub told_second : (t : Tables) (e : EditTables) (given : Result Held LoadFault) (answer : Result Image LoadFault) (fault : LoadFault) → content_of t ≡ held_with b l e → given ≡ Err fault → answer ≡ Err fault → Enters b l given → Tells answer t
-  told_second t e given answer fault holds was is enters = subst (λ a. Tells a t) (sym is) (by fault (subst (Enters b l) was enters))
+  pub told_second : (t : Tables) (e : EditTables) (given : Result Held LoadFault) (answer : Result Image LoadFault) (fault : LoadFault) → content_of t ≡ content_of_begun b l e → given ≡ Err fault → answer ≡ Err fault → WithLedgers b l given → Tells answer t
+  told_second t e given answer fault holds was is enters = subst (λ a. Tells a t) (sym is) (by fault (subst (WithLedgers b l) was enters))
     where
-      by : (f : LoadFault) → Enters b l (Err f) → Tells (Err f) t
+      by : (f : LoadFault) → WithLedgers b l (Err f) → Tells (Err f) t
       by Memory h = tt
       by Store h = h
       by (Unsound u) h = holds ∙ h e
 
 -- what the second step answers that failed
 pub enters_not : (p : Registers) (l : LedgerTables) (given : Result Ledgers LoadFault) (answer : Result Held LoadFault) (fault : LoadFault) → given ≡ Err fault → answer ≡ Err fault
-    → ((u : Table) → given ≡ Err (Unsound u) → (e : EditTables) → image_with p l e ≡ Err u) → (given ≡ Err Store → ⊥) → Enters (begun.Read p) l answer
-enters_not p l given answer fault was is unsound never = subst (Enters (begun.Read p) l) (sym is) (by fault was)
+    → ((u : Table) → given ≡ Err (Unsound u) → (e : EditTables) → image_of_registers p l e ≡ Err u) → (given ≡ Err Store → ⊥) → WithLedgers (begun.Read p) l answer
+enters_not p l given answer fault was is unsound never = subst (WithLedgers (begun.Read p) l) (sym is) (by fault was)
   where
-    by : (f : LoadFault) → given ≡ Err f → Enters (begun.Read p) l (Err f)
+    by : (f : LoadFault) → given ≡ Err f → WithLedgers (begun.Read p) l (Err f)
     by Memory h = tt
     by Store h = never h
     by (Unsound u) h = unsound u h

@@ -69,8 +69,8 @@ abbrev pub have_no_edits : EditTables → Bool
 have_no_edits e = is_nothing e.edit && is_nothing e.origin
 
 -- the image of what was read in both steps and of these edits; the ledger tells which edit entered an asset
-abbrev pub image_by : Ledgers → List Edit → Image
-image_by l edits = record {
+abbrev pub whole_image : Ledgers → List Edit → Image
+whole_image l edits = record {
   links = l.first.named.links;
   classes = l.first.named.classes;
   assets = map (with_edit l.entered) l.first.named.assets;
@@ -86,39 +86,39 @@ with_origins p rows image =
     read table.Origin (each_sorted origin_before origin_of rows) (λ os. are_origins image.entered image.assets && has_origins p.version image.assets os) >>= (λ os. Ok image)
 
 -- the image of what was read in both steps, and of these edits and origins
-abbrev pub image_then : Ledgers → EditTables → Result Image Table
-image_then l e = read table.Edit (edits_of e.edit) (are_edits l.entered l.gone) >>= (λ edits. with_origins l.first e.origin (image_by l edits))
+abbrev pub image_of_ledgers : Ledgers → EditTables → Result Image Table
+image_of_ledgers l e = read table.Edit (edits_of e.edit) (are_edits l.entered l.gone) >>= (λ edits. with_origins l.first e.origin (whole_image l edits))
 
 -- the image of what was read first, and of these rows
-abbrev pub image_with : Registers → LedgerTables → EditTables → Result Image Table
-image_with p l e =
+abbrev pub image_of_registers : Registers → LedgerTables → EditTables → Result Image Table
+image_of_registers p l e =
     read table.Entered (each_sorted part_before part_of l.entered) (are_entered p.named.links p.named.assets) >>= (λ parts.
     read table.Gone (each_sorted gone_before gone_of l.gone) (are_gone p.named.links p.named.assets (route_spans p.routes) parts) >>= (λ gone.
-    image_then (record { first = p; entered = parts; gone = gone }) e))
+    image_of_ledgers (record { first = p; entered = parts; gone = gone }) e))
 
 -- what a store holds of which this was read first; rows without a version hold no image
-abbrev pub held_with : Begun → LedgerTables → EditTables → Result Image Table
-held_with begun.Nothing l e = if have_no_ledgers l && have_no_edits e then Ok nothing else Err table.Version
-held_with (begun.Read p) l e = image_with p l e
+abbrev pub content_of_begun : Begun → LedgerTables → EditTables → Result Image Table
+content_of_begun begun.Nothing l e = if have_no_ledgers l && have_no_edits e then Ok nothing else Err table.Version
+content_of_begun (begun.Read p) l e = image_of_registers p l e
 
 -- ... and of which this was read in both steps
-abbrev pub held_then : Held → EditTables → Result Image Table
-held_then held.Nothing e = if have_no_edits e then Ok nothing else Err table.Version
-held_then (held.Read l) e = image_then l e
+abbrev pub content_of_held : Held → EditTables → Result Image Table
+content_of_held held.Nothing e = if have_no_edits e then Ok nothing else Err table.Version
+content_of_held (held.Read l) e = image_of_ledgers l e
 
 -- Whatever the other rows are, the store holds what this and they give; or its first unsound table is this.
 abbrev pub Begins : NamedRows → RouteRows → Result Begun LoadFault → Type 0
-Begins n r (Ok found) = (l : LedgerTables) (e : EditTables) → content_of (tables_with n r l e) ≡ held_with found l e
+Begins n r (Ok found) = (l : LedgerTables) (e : EditTables) → content_of (tables_with n r l e) ≡ content_of_begun found l e
 Begins n r (Err Memory) = ⊤
 Begins n r (Err Store) = ⊥
 Begins n r (Err (Unsound t)) = (l : LedgerTables) (e : EditTables) → content_of (tables_with n r l e) ≡ Err t
 
 -- the same of the step after it
-abbrev pub Enters : Begun → LedgerTables → Result Held LoadFault → Type 0
-Enters b l (Ok found) = (e : EditTables) → held_with b l e ≡ held_then found e
-Enters b l (Err Memory) = ⊤
-Enters b l (Err Store) = ⊥
-Enters b l (Err (Unsound t)) = (e : EditTables) → held_with b l e ≡ Err t
+abbrev pub WithLedgers : Begun → LedgerTables → Result Held LoadFault → Type 0
+WithLedgers b l (Ok found) = (e : EditTables) → content_of_begun b l e ≡ content_of_held found e
+WithLedgers b l (Err Memory) = ⊤
+WithLedgers b l (Err Store) = ⊥
+WithLedgers b l (Err (Unsound t)) = (e : EditTables) → content_of_begun b l e ≡ Err t
 
 -- the tables that were read first have passed, as the ledgers' tests ask
 pub record HavePassed (p : Registers) : Type 0 where

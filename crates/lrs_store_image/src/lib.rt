@@ -18,4 +18,4 @@ mod table_fault;
 pub mod tests;
 
 pub use reader::Reader;
-pub use steps::{Begun, Held, Ledgers, Registers, begin, enter, finish};
+pub use steps::{Begun, Held, Ledgers, Registers, begin, finish, with_ledgers};

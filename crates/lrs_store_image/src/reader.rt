@@ -3,7 +3,7 @@
 ghost use Rattle.lrs_store_keeper.specs.Rows.{tables_of};
 ghost use Rattle.lrs_store_keeper.specs.Holding.{Tells};
 
-use crate::steps::{begin, enter, finish};
+use crate::steps::{begin, finish, with_ledgers};
 use lrs_image::LoadFault;
 use lrs_machine::Image;
 use lrs_store_keeper::ReadImage;
@@ -28,7 +28,7 @@ impl ReadImage for Reader {
             origin,
         } = ledgers;
         let begun = begin(alloc, named, routes)?;
-        let held = enter(alloc, begun, entered, gone)?;
+        let held = with_ledgers(alloc, begun, entered, gone)?;
         finish(alloc, held, edit, origin)
     }
 }

@@ -9,7 +9,7 @@ ghost use Rattle.lrs_machine.specs.declared.table.Table.{Table as DeclaredTable}
 ghost use Rattle.lrs_store_rows.specs.Content.{image_of};
 ghost use Rattle.lrs_store_tables.specs.Stored.{entered_in, gone_in};
 ghost use Rattle.lrs_store_image.specs.Loading.{Reads};
-ghost use Rattle.lrs_store_image.specs.Steps.{LedgerTables, EditTables, Begins, Enters, HavePassed, HasPassed, HasOrder, held_then, image_by, image_then, image_with, edits_in, tables_with};
+ghost use Rattle.lrs_store_image.specs.Steps.{LedgerTables, EditTables, Begins, WithLedgers, HavePassed, HasPassed, HasOrder, content_of_held, whole_image, image_of_ledgers, image_of_registers, edits_in, tables_with};
 
 use crate::emptiness::{no_edits, no_first, no_ledgers};
 use crate::registers::{Named, read_named};
@@ -60,7 +60,7 @@ fn read_registers(
     routes: RouteRows,
 ) -> Result<Registers, LoadFault>
     ensures image { IfOk result (λ p. (l : LedgerTables) (e : EditTables)
-        → image_of (tables_with named routes l e) ≡ image_with p l e) }
+        → image_of (tables_with named routes l e) ≡ image_of_registers p l e) }
     ensures passed { IfOk result HavePassed }
     ensures unsound { (t : DeclaredTable) → result ≡ Err (LoadFault.Unsound t) → (l : LedgerTables)
         (e : EditTables) → image_of (tables_with named routes l e) ≡ Err t }
@@ -101,12 +101,12 @@ fn read_ledgers(
     gone: Vec<Row>,
 ) -> Result<Ledgers, LoadFault>
     requires passed { HavePassed first }
-    ensures image { IfOk result (λ found. (e : EditTables) → image_with first (record
+    ensures image { IfOk result (λ found. (e : EditTables) → image_of_registers first (record
         { entered = map entered_in entered.items; gone = map gone_in gone.items }) e
-        ≡ image_then found e) }
+        ≡ image_of_ledgers found e) }
     ensures order { IfOk result (λ found. each_two asset_before found.first.named.assets ≡ true) }
     ensures unsound { (t : DeclaredTable) → result ≡ Err (LoadFault.Unsound t) → (e : EditTables)
-        → image_with first (record
+        → image_of_registers first (record
         { entered = map entered_in entered.items; gone = map gone_in gone.items }) e ≡ Err t }
     ensures never { result ≡ Err LoadFault.Store → ⊥ }
 {
@@ -134,14 +134,14 @@ fn read_ledgers(
 ///
 /// # Errors
 /// `Unsound` where one of their tables is the first unsound one, whatever the other rows are; or `Memory`.
-pub fn enter(
+pub fn with_ledgers(
     alloc: Global,
     begun: Begun,
     entered: Vec<Row>,
     gone: Vec<Row>,
 ) -> Result<Held, LoadFault>
     requires passed { HasPassed begun }
-    ensures enters { Enters begun (record
+    ensures holds { WithLedgers begun (record
         { entered = map entered_in entered.items; gone = map gone_in gone.items }) result }
     ensures order { IfOk result HasOrder }
 {
@@ -160,7 +160,7 @@ pub fn enter(
 /// The image of what was read in both steps, and of edits; the ledger tells which edit entered an asset.
 fn with_edits(alloc: Global, held: Ledgers, edits: Rows<Edit>) -> Result<Image, AllocError>
     requires { each_two asset_before held.first.named.assets ≡ true }
-    ensures { IfOk result (λ image. image ≡ image_by held edits) }
+    ensures { IfOk result (λ image. image ≡ whole_image held edits) }
 {
     let Ledgers {
         first,
@@ -189,7 +189,7 @@ fn read_image(
     origins: Vec<Row>,
 ) -> Result<Image, LoadFault>
     requires order { each_two asset_before held.first.named.assets ≡ true }
-    ensures { Reads (image_then held (edits_in edits.items origins.items)) result }
+    ensures { Reads (image_of_ledgers held (edits_in edits.items origins.items)) result }
 {
     let version = held.first.version;
     let entered = held.entered.as_slice();
@@ -212,7 +212,7 @@ pub fn finish(
     origins: Vec<Row>,
 ) -> Result<Image, LoadFault>
     requires order { HasOrder held }
-    ensures { Reads (held_then held (edits_in edits.items origins.items)) result }
+    ensures { Reads (content_of_held held (edits_in edits.items origins.items)) result }
 {
     match held {
         Held::Read(held) => read_image(alloc, held, edits, origins),

@@ -19,7 +19,7 @@ use Rattle.lrs_store.specs.Seeing.{HasSeen}
 use Rattle.lrs_store_image.specs.Loading.{Reads}
 use Rattle.lrs_store_image.specs.declared.steps.Begun.{Begun}
 use Rattle.lrs_store_image.specs.declared.steps.Held.{Held}
-use Rattle.lrs_store_image.specs.Steps.{LedgerTables, EditTables, edits_in, tables_with, held_with, held_then, Begins, Enters}
+use Rattle.lrs_store_image.specs.Steps.{LedgerTables, EditTables, edits_in, tables_with, content_of_begun, content_of_held, Begins, WithLedgers}
 use Rattle.lrs_store_questions.specs.Reading.{ListInventory, HasFirst, HasLedgers, HasEdits, HasContent, Says, WasLookedAt, HoldsThere, MayTell, IsTold}
 
 -- the rows of the ledgers that a store has, and of edits and origins
@@ -61,19 +61,19 @@ module _ (n : NamedRows) (r : RouteRows) (db : Trees) (first : HasFirst n r db) 
   unsound_first : (t : Table) → ((l : LedgerTables) (e : EditTables) → content_of (tables_with n r l e) ≡ Err t) → HasContent (Err t) db
   unsound_first t unsound = record { lists = first.lists; is = ap content_of (sym all_rows) ∙ unsound (ledgers_at db) (edits_at db) }
 
-  module _ (entered gone : List Row) (ledgers : HasLedgers entered gone db) (b : Begun) (begins : (l : LedgerTables) (e : EditTables) → content_of (tables_with n r l e) ≡ held_with b l e) where
-    held : (e : EditTables) → content_of (tables_with n r (ledgers_at db) e) ≡ held_with b (ledgers_in entered gone) e
-    held e = begins (ledgers_at db) e ∙ (λ i. held_with b (record { entered = map entered_in (sym ledgers.entered i); gone = map gone_in (sym ledgers.gone i) }) e)
+  module _ (entered gone : List Row) (ledgers : HasLedgers entered gone db) (b : Begun) (begins : (l : LedgerTables) (e : EditTables) → content_of (tables_with n r l e) ≡ content_of_begun b l e) where
+    held : (e : EditTables) → content_of (tables_with n r (ledgers_at db) e) ≡ content_of_begun b (ledgers_in entered gone) e
+    held e = begins (ledgers_at db) e ∙ (λ i. content_of_begun b (record { entered = map entered_in (sym ledgers.entered i); gone = map gone_in (sym ledgers.gone i) }) e)
 
-    unsound_second : (t : Table) → ((e : EditTables) → held_with b (ledgers_in entered gone) e ≡ Err t) → HasContent (Err t) db
+    unsound_second : (t : Table) → ((e : EditTables) → content_of_begun b (ledgers_in entered gone) e ≡ Err t) → HasContent (Err t) db
     unsound_second t unsound = record { lists = first.lists; is = ap content_of (sym all_rows) ∙ held (edits_at db) ∙ unsound (edits_at db) }
 
-    said_last : (edits origins : List Row) → HasEdits edits origins db → (h : Held) → ((e : EditTables) → held_with b (ledgers_in entered gone) e ≡ held_then h e)
-        → (answer : Result Image LoadFault) → Reads (held_then h (edits_in edits origins)) answer → (c : Result Image Table) → Says answer c → HasContent c db
+    said_last : (edits origins : List Row) → HasEdits edits origins db → (h : Held) → ((e : EditTables) → content_of_begun b (ledgers_in entered gone) e ≡ content_of_held h e)
+        → (answer : Result Image LoadFault) → Reads (content_of_held h (edits_in edits origins)) answer → (c : Result Image Table) → Says answer c → HasContent c db
     said_last edits origins has h enters answer reads c says = record {
       lists = first.lists;
       is = ap content_of (sym all_rows) ∙ held (edits_at db) ∙ enters (edits_at db)
-          ∙ (λ i. held_then h (record { edit = map edit_in (sym has.edit i); origin = map origin_in (sym has.origin i) })) ∙ said answer (held_then h (edits_in edits origins)) c reads says;
+          ∙ (λ i. content_of_held h (record { edit = map edit_in (sym has.edit i); origin = map origin_in (sym has.origin i) })) ∙ said answer (content_of_held h (edits_in edits origins)) c reads says;
     }
 
 -- what follows from what is said holds where an image was read
@@ -174,20 +174,20 @@ module _ {S : Type 0} {view : S → View} {recovers : S → Trees → Type 0} {o
       by Store h s = absurd h
       by (Unsound t) h s = seen_so (HasFirst n r) (HasContent c) (λ db first. subst (λ x. HasContent x db) (sym s) (unsound_first n r db first t h)) seen
 
-  module _ (b : Begun) (begins : (l : LedgerTables) (e : EditTables) → content_of (tables_with n r l e) ≡ held_with b l e) (entered gone : List Row) where
+  module _ (b : Begun) (begins : (l : LedgerTables) (e : EditTables) → content_of (tables_with n r l e) ≡ content_of_begun b l e) (entered gone : List Row) where
     -- by a second one
     pub said_second : (given : Result Held LoadFault) (answer : Result Image LoadFault) (fault : LoadFault)
-        → given ≡ Err fault → answer ≡ Err fault → Enters b (ledgers_in entered gone) given → HasSeen view recovers (λ db. HasFirst n r db × HasLedgers entered gone db) old new
+        → given ≡ Err fault → answer ≡ Err fault → WithLedgers b (ledgers_in entered gone) given → HasSeen view recovers (λ db. HasFirst n r db × HasLedgers entered gone db) old new
         → (c : Result Image Table) → Says answer c → HasSeen view recovers (HasContent c) old new
-    said_second given answer fault was is enters seen c says = by fault (subst (Enters b (ledgers_in entered gone)) was enters) (subst (λ a. Says a c) is says)
+    said_second given answer fault was is enters seen c says = by fault (subst (WithLedgers b (ledgers_in entered gone)) was enters) (subst (λ a. Says a c) is says)
       where
-        by : (f : LoadFault) → Enters b (ledgers_in entered gone) (Err f) → Says (Err f) c → HasSeen view recovers (HasContent c) old new
+        by : (f : LoadFault) → WithLedgers b (ledgers_in entered gone) (Err f) → Says (Err f) c → HasSeen view recovers (HasContent c) old new
         by Memory h s = absurd s
         by Store h s = absurd h
         by (Unsound t) h s = seen_so (λ db. HasFirst n r db × HasLedgers entered gone db) (HasContent c) (λ db has. subst (λ x. HasContent x db) (sym s) (unsound_second n r db has.0 entered gone has.1 b begins t h)) seen
 
     -- or by the last
-    pub said_third : (h : Held) → ((e : EditTables) → held_with b (ledgers_in entered gone) e ≡ held_then h e) → (edits origins : List Row) (answer : Result Image LoadFault) → Reads (held_then h (edits_in edits origins)) answer
+    pub said_third : (h : Held) → ((e : EditTables) → content_of_begun b (ledgers_in entered gone) e ≡ content_of_held h e) → (edits origins : List Row) (answer : Result Image LoadFault) → Reads (content_of_held h (edits_in edits origins)) answer
         → HasSeen view recovers (λ db. (HasFirst n r db × HasLedgers entered gone db) × HasEdits edits origins db) old new → (c : Result Image Table) → Says answer c → HasSeen view recovers (HasContent c) old new
     said_third h enters edits origins answer reads seen c says =
         seen_so (λ db. (HasFirst n r db × HasLedgers entered gone db) × HasEdits edits origins db) (HasContent c)

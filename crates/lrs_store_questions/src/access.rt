@@ -28,6 +28,17 @@ pub struct NotOpened<D: Disk> {
     pub left: Option<Leftover<D>>,
 }
 
+impl<D: Disk + Drop> NotOpened<D> {
+    /// Why they are not opened. What is left of them is let go.
+    pub fn into_fault(self) -> StoreFault
+        ensures { result ≡ self.fault }
+    {
+        let NotOpened { fault, left } = self;
+        drop(left);
+        fault
+    }
+}
+
 /// Why files are not opened, by why they are no store.
 fn fault_of(error: StoreError) -> StoreFault {
     match error {

@@ -12,7 +12,7 @@ use crate::rows::{read_edits, read_ledgers, read_named, read_routes};
 use lrs_image::LoadFault;
 use lrs_machine::Image;
 use lrs_store_files::{Known, wanted, which};
-use lrs_store_image::{begin, enter, finish};
+use lrs_store_image::{begin, finish, with_ledgers};
 use lrs_store_keeper::rows::{NamedRows, RouteRows};
 use sqlite_catalog::load::load;
 use sqlite_trees::error::StoreError;
@@ -78,7 +78,7 @@ fn read_content<S: Alter>(alloc: Global, store: &mut S) -> Result<Image, LoadFau
         Ok(rows) => rows,
         Err(error) => return Err(fault_of(error)),
     };
-    let held = enter(alloc, begun, entered, gone)?;
+    let held = with_ledgers(alloc, begun, entered, gone)?;
     match read_edits(alloc, store) {
         Ok((edits, origins)) => finish(alloc, held, edits, origins),
         Err(error) => Err(fault_of(error)),
