@@ -112,7 +112,7 @@ impl<K: Keeper> Desk<K> {
     ///
     /// # Errors
     ///
-    /// `Unsound` with the first unsound table of what is kept, `Keep` if the keeper's device failed.
+    /// `Unsound` with the first unsound table of what is kept, `Keep` if the keeper counts a failure.
     pub fn open(mut keeper: K, limits: Limits, alloc: Global) -> Result<Desk<K>, (OpenFault, K)>
         ensures image { IfOk result (λ desk. HoldsOnly (K.may_hold desk.keeper) desk.image) }
         ensures content { IfOk result (λ desk. (c : Result ImageRows Table)
@@ -218,7 +218,7 @@ impl<K: Keeper> Desk<K> {
     ///
     /// # Errors
     ///
-    /// `Memory`, and nothing has changed. `Keep` if the keeper's device failed: what is kept is as it was, or has the
+    /// `Memory`, and nothing has changed. `Keep` if the keeper counts a failure: what is kept is as it was, or has the
     /// command, and questions are answered as before it. `MustReopen` from then on.
     pub fn act(&mut self, key: Key, command: &Command) -> Result<Answer, Fault>
         // The answer and the next state are the ground machine's.
@@ -233,7 +233,7 @@ impl<K: Keeper> Desk<K> {
         // Want of memory changes nothing.
         ensures memory { result ≡ Err Fault.Memory → IsUnchanged K.may_hold self.old self.new }
 
-        // A commit fails only where the device does; the image is then as before.
+        // A commit fails only where the keeper counts it; the image is then as before.
         ensures keep { result ≡ Err Fault.Keep → HasBroken K.may_hold K.failures key command.now
             self.old self.new }
 
@@ -281,7 +281,7 @@ impl<K: Keeper> Desk<K> {
     ///
     /// # Errors
     ///
-    /// `Memory`, and nothing has changed. `Keep` if the keeper's device failed, or memory ran out in the commit: all of
+    /// `Memory`, and nothing has changed. `Keep` if the keeper counts a failure of the commit, or memory runs out in it: all of
     /// them are kept then, or none, and the image is ahead of an opening that finds none, so no question is answered
     /// either. `MustReopen` from then on.
     pub fn act_on_first(&mut self, commands: &[(Key, Command)]) -> Result<Vec<Answer>, Fault>
