@@ -16,15 +16,28 @@ ghost use Rattle.lrs_cli.specs.Looking.{IsOfOpening};
 use lrs_cli_tasks::{ProgramFault, open_desk};
 use lrs_desk::{Desk, Keeper, OpenFault, Staged};
 use lrs_machine::Limits;
-use lrs_store::{Tables, open_file as open_tables};
+use lrs_store::{ReadImage, Tables, close_files, open_file as open_tables};
 use lrs_store_image::Reader;
 use lrs_store_questions::{Questions, open_for_questions};
 use lrs_store_tables::StoreFault;
 use sqlite::{FileFrom, FileStore, Start, Unknown};
+use sqlite_disk::Disk;
 use std::rt::HostRuntime;
 
 /// Keeps an inventory in a file and its log.
 pub type FileKeeper = Staged<Tables<FileStore<FileFrom<Unknown>>, Reader>>;
+
+/// A keeper that can be closed.
+pub trait Close {
+    /// Closes it, and lets it go. Where that fails, it still has what was committed.
+    fn close(self);
+}
+
+impl<D: Disk + Drop, R: ReadImage + Drop> Close for Staged<Tables<FileStore<D>, R>> {
+    fn close(self) {
+        drop(close_files(self.into_inner()));
+    }
+}
 
 /// Keeps an inventory in a file and its log for questions alone.
 pub type FileQuestions = Questions<FileStore<FileFrom<Unknown>>>;
@@ -46,7 +59,7 @@ pub fn open_file(
 {
     match open_tables(rt, path, new_has_sums, Unknown, Reader) {
         Ok(tables) => open_desk(Staged::over(tables, rt.alloc()), rt.alloc()),
-        Err(refusal) => Err(ProgramFault::from(OpenFault::from(refusal.fault))),
+        Err(refusal) => Err(ProgramFault::from(OpenFault::from(refusal.into_fault()))),
     }
 }
 
@@ -88,7 +101,7 @@ pub fn open_to_look(rt: &HostRuntime, path: &str) -> Result<Desk<FileQuestions>,
 {
     match open_for_questions(rt, path, Unknown) {
         Ok(keeper) => look_at(rt, keeper),
-        Err(refusal) => match refusal.fault {
+        Err(refusal) => match refusal.into_fault() {
             StoreFault::Memory => Err(NotSeen::Stopped(ProgramFault::Memory)),
             StoreFault::Store => Err(NotSeen::Left),
         },

@@ -5,7 +5,7 @@ ghost use Rattle.sqlite_wal.specs.Files.{image_at};
 ghost use Rattle.lrs_desk.specs.DeskView.{DeskView};
 ghost use Rattle.lrs_cli.specs.Jobs.{EndsInFile, EndsInMemory, EndsJob, EndsTask, EndsWithLog, HasWorked, Looks};
 
-use crate::inventory::{FileKeeper, FileQuestions, NotSeen, open_file, open_to_look};
+use crate::inventory::{Close, FileKeeper, FileQuestions, NotSeen, open_file, open_to_look};
 use crate::server::do_service;
 use lrs_cli_help::hint_at;
 use lrs_cli_tasks::{
@@ -14,7 +14,6 @@ use lrs_cli_tasks::{
 };
 use lrs_cli_words::{BadWord, Job, QuestionFault, new_has_sums};
 use lrs_desk::{Desk, Keeper, Plain};
-use lrs_store::close_files;
 use sqlite::{Start, Unknown};
 use std::alloc::Global;
 use std::fs;
@@ -77,11 +76,29 @@ fn tell_opening(rt: &HostRuntime, path: &str, shown: Shown) -> bool {
     }
 }
 
-// Takes that line away, where it was said.
-fn clear_opening(rt: &HostRuntime, was_said: bool) {
+// Takes that line away, where it was said, and hands on what was opened.
+fn cleared<T>(rt: &HostRuntime, was_said: bool, opened: T) -> T
+    ensures { result ≡ opened }
+{
     if was_said {
         let _ = eprint!(rt; "\r\x1b[K");
     }
+    opened
+}
+
+// Does work at a desk, whose keeper is then closed.
+fn do_and_close<K: Keeper + Close>(
+    rt: &HostRuntime,
+    mut desk: Desk<K>,
+    work: Work<'_>,
+    shown: Shown,
+) -> Ending
+    requires behind { desk.is_ahead ≡ false }
+    ensures { (after : DeskView K) × HasWorked K.may_hold work.entry desk after result }
+{
+    let ending = do_work(rt, &mut desk, work, Pace::InGroups, shown);
+    desk.into_keeper().close();
+    ending
 }
 
 // Does work in the inventory of a file, which is closed afterwards. Where it cannot be closed, its log still has
@@ -96,15 +113,10 @@ fn do_with_log(
     ensures { EndsWithLog ⟦<FileKeeper as Keeper>⟧.may_hold work.entry result }
 {
     let was_said = tell_opening(rt, path, shown);
-    let opened = open_file(rt, path, new_has_sums);
-    clear_opening(rt, was_said);
-    let mut desk = match opened {
-        Ok(desk) => desk,
-        Err(fault) => return Ending::Stopped(fault),
-    };
-    let ending = do_work(rt, &mut desk, work, Pace::InGroups, shown);
-    drop(close_files(desk.into_keeper().into_inner()));
-    ending
+    match cleared(rt, was_said, open_file(rt, path, new_has_sums)) {
+        Ok(desk) => do_and_close(rt, desk, work, shown),
+        Err(fault) => Ending::Stopped(fault),
+    }
 }
 
 // Does work at a desk, which is then let go with what it keeps.
@@ -158,9 +170,7 @@ fn do_in_file(
         return do_with_log(rt, path, new_has_sums, work, shown);
     }
     let was_said = tell_opening(rt, path, shown);
-    let opened = open_to_look(rt, path);
-    clear_opening(rt, was_said);
-    match opened {
+    match cleared(rt, was_said, open_to_look(rt, path)) {
         Ok(desk) => do_at(rt, desk, work, shown),
         Err(NotSeen::Left) => do_with_log(rt, path, new_has_sums, work, shown),
         Err(NotSeen::Stopped(fault)) => Ending::Stopped(fault),
