@@ -227,6 +227,21 @@ def test_the_gate_tests_no_other_program():
     assert run_gate("echo '5 passed, 0 failed'", tests, ROADLRS="/bin/false") == ("6 passed, 0 failed", 0)
 
 
+def has_memory(gigabytes):
+    """Whether so much memory is free here."""
+    lines = pathlib.Path("/proc/meminfo").read_text().splitlines()
+    return any(line.startswith("MemAvailable:") and int(line.split()[1]) >= 1_000_000 * gigabytes for line in lines)
+
+
+def test_the_gate_uses_all_processors_that_have_memory_for_a_check():
+    """Those of two are left to rt, which knows no other bound there; and so is a number that the environment gives."""
+    rt = "echo \"$((5 + ${RT_JOBS:-0})) passed, 0 failed\""
+    wanted = {"2": 0, "3": 3 if has_memory(15) else 0, "1000": 0}
+    for processors, jobs in wanted.items():
+        assert run_gate(rt, others=[("nproc", f"echo {processors}")]) == (f"{7 + jobs} passed, 0 failed", 0), processors
+    assert run_gate(rt, others=[("nproc", "echo 3")], RT_JOBS="1") == ("8 passed, 0 failed", 0)
+
+
 # what .ci/run looks for, and the packages that have it; it finds nginx and HAProxy by their paths
 INSTALLED = {"cc": "gcc libc6-dev", "sqlite3": "sqlite3", "curl": "curl", "xz": "xz-utils", "chromium": "chromium fonts-dejavu-core", "chromedriver": "chromium-driver"}
 
