@@ -115,6 +115,15 @@ def log_of(path):
     return path.with_name(path.name + "-wal")
 
 
+def test_a_program_that_ends_leaves_all_that_it_committed_in_the_database_file(tmp_path):
+    """The file is closed: it holds the rows without its log, which has no commit any more."""
+    path, alone = tmp_path / "roads.db", tmp_path / "alone.db"
+    ends(edit(path, FIRST), FIRST_REPLIES, 0)
+    assert log_of(path).stat().st_size < 568
+    shutil.copy(path, alone)
+    assert rows_of(alone) == rows_of(path) and rows_of(alone)["edit"]
+
+
 def test_a_log_with_commits_whose_database_is_lost_is_kept():
     with folder() as path, folder() as lost:
         child = subprocess.Popen([PROGRAM, "edit", path, "stdin"], stdin=subprocess.PIPE, stdout=subprocess.PIPE)
