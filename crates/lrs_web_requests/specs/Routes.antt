@@ -1,5 +1,6 @@
 -- The paths that are served.
-use Rattle.std.specs.Prelude.{ℕ, List, [], ◌∷◌, ◌++◌, codes, Option, option_map}
+use Rattle.std.specs.Prelude.{ℕ, Bool, true, false, List, [], ◌∷◌, ◌++◌, codes, filter, Option, option_map}
+use Rattle.matchit.specs.Order.{placed}
 use Rattle.matchit.specs.Rows.{RowsOf, param_token}
 use Rattle.matchit.specs.Router.{RouteOf}
 use Rattle.matchit.specs.Seek.{first}
@@ -25,3 +26,48 @@ rows =
 -- what a path names
 abbrev pub resource_at : List ℕ → Option Resource
 resource_at path = option_map (λ route. route.value) (first rows path)
+
+-- answers about a place, a route or an asset
+abbrev pub is_answer : Resource → Bool
+is_answer At = true
+is_answer Diagram = true
+is_answer Gone = true
+is_answer Segments = true
+is_answer Translate = true
+is_answer Where = true
+is_answer resource = false
+
+-- answers about the whole inventory
+abbrev pub is_summary : Resource → Bool
+is_summary Health = true
+is_summary Lengths = true
+is_summary Log = true
+is_summary Totals = true
+is_summary resource = false
+
+-- lists, and one route
+abbrev pub is_list : Resource → Bool
+is_list Classes = true
+is_list Find = true
+is_list Links = true
+is_list Refs = true
+is_list Route = true
+is_list Routes = true
+is_list Rows = true
+is_list resource = false
+
+-- what takes sheets
+abbrev pub is_sheet : Resource → Bool
+is_sheet Edits = true
+is_sheet Questions = true
+is_sheet Surveys = true
+is_sheet resource = false
+
+-- the rows of some resources
+abbrev pub rows_of : (Resource → Bool) → RowsOf (RouteOf Resource)
+rows_of is = filter (λ row. is row.1.value) rows
+
+-- a router with these rows too, put in one after another
+abbrev pub with_all : RowsOf (RouteOf Resource) → RowsOf (RouteOf Resource) → RowsOf (RouteOf Resource)
+with_all [] router = router
+with_all (row ∷ rest) router = with_all rest (placed row router)

@@ -1,0 +1,12 @@
+use Rattle.matchit.proofs.OnLiterals.{matchit_on_literals}
+use Rattle.lrs_web_requests.specs.Routes.{rows}
+use Rattle.lrs_web_requests.proofs.paths.add_summaries.Goals as goal
+
+pub returns : goal.returns
+unfolding matchit_on_literals rows
+returns c =
+    let i1 = c.in_ok-insert.ensures in
+    let i2 = c.in_ok-insert-2.ensures in
+    let i3 = c.in_ok-insert-3.ensures in
+    let i4 = c.in_ok-insert-4.ensures in
+    rw (i4.1, i3.1, i2.1, i1.1)
