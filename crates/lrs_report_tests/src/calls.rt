@@ -5,7 +5,7 @@ ghost use Rattle.std.specs.List.{list_all};
 ghost use Rattle.lrs_events.specs.Spans.{is_row};
 ghost use Rattle.lrs_events_rows.specs.Joins.{end_by, have_room, is_of_one_class, are_of_one_class};
 
-use lrs_events::{Span, SpanChange};
+use lrs_events::Span;
 use lrs_events_rows::removals::Removal;
 use lrs_events_spans::Spans;
 use lrs_measure::limits::LONGEST_ROUTE;
@@ -62,31 +62,6 @@ pub fn add(spans: &mut Spans, alloc: Global, span: &Span) -> Result<bool, AllocE
     Ok(true)
 }
 
-/// Plans to add the span and makes that change, where it is free.
-pub fn apply_add(spans: &mut Spans, alloc: Global, span: &Span) -> Result<bool, AllocError> {
-    if !is_row(span) || !spans.is_free(span) {
-        return Ok(false);
-    }
-    let change = spans.plan_add(alloc, *span)?;
-    spans.apply(&change)?;
-    Ok(true)
-}
-
-/// Plans to take away what lies on the stretch and makes that change.
-pub fn apply_remove_within(
-    spans: &mut Spans,
-    alloc: Global,
-    low: u64,
-    high: u64,
-) -> Result<bool, AllocError> {
-    if low >= high {
-        return Ok(false);
-    }
-    let removal = spans.plan_remove_within(alloc, low, high)?;
-    spans.apply(&removal.change)?;
-    Ok(true)
-}
-
 /// Takes away what lies on the stretch, if it has a millimetre.
 pub fn remove_within(
     spans: &mut Spans,
@@ -98,19 +73,6 @@ pub fn remove_within(
         return Ok(None);
     }
     let removal = spans.remove_within(alloc, low, high)?;
-    Ok(Some(removal))
-}
-
-/// Takes away what the span's asset has on its stretch, if that has a millimetre.
-pub fn remove_asset_within(
-    spans: &mut Spans,
-    alloc: Global,
-    span: &Span,
-) -> Result<Option<Removal>, AllocError> {
-    if span.from >= span.to {
-        return Ok(None);
-    }
-    let removal = spans.remove_asset_within(alloc, span.class, span.asset, span.from, span.to)?;
     Ok(Some(removal))
 }
 
@@ -138,9 +100,4 @@ pub fn turned(spans: &Spans, alloc: Global, len: u64) -> Result<Option<Spans>, A
     }
     let turned = spans.turned(alloc, len)?;
     Ok(Some(turned))
-}
-
-/// The spans of a list of the same rows.
-pub fn again(spans: &Spans, alloc: Global) -> Result<Spans, AllocError> {
-    Spans::of_rows(alloc, Vec::from_slice(alloc, spans.rows())?)
 }

@@ -8,11 +8,15 @@ ghost use Rattle.std.specs.Prelude.{IsTrue};
 ghost use Rattle.lrs_events.specs.Spans.{are_rows};
 
 use crate::calls;
-use crate::spans::class;
-use lrs_events::{Side, Span};
+use lrs_events::{ClassName, Side, Span};
 use lrs_events_spans::Spans;
 use std::alloc::{AllocError, AllocGlobal, Global};
 use std::process::Abort;
+
+/// The class with this name.
+fn class(rt: &impl Abort, name: &[u8]) -> ClassName {
+    ClassName::new(name).expect(rt, "a name of a class")
+}
 
 /// A row of a sign.
 fn row(rt: &impl Abort, asset: u64, from: u64, to: u64) -> Span {
