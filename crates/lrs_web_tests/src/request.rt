@@ -43,7 +43,6 @@ fn is_answered<K: Keeper + Drop>(rt: &(impl Abort + AllocGlobal), keeper: K) {
     shut(desk);
 }
 
-#[test]
-fn a_request_is_answered(rt: HostRuntime) {
-    is_answered(&rt, Plain::empty(rt.alloc()));
+pub fn a_request_is_answered(rt: &HostRuntime) {
+    is_answered(rt, Plain::empty(rt.alloc()));
 }
