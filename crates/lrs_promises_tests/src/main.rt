@@ -1,12 +1,17 @@
-//! Runs the calls that carry the promises, over an inventory in memory. Each word names a call and the file that it reads,
-//! as `edits:first.csv`, or a position to translate and back, as `trip:int:1/3:abs` on route A1. What each writes is
-//! printed, and then how many edits there are.
+//! Runs the calls that carry the promises, over an inventory in memory; over tables in memory; over files on two empty
+//! disks in memory, which are closed then; and over these files again. Each word names a call and the file that it
+//! reads, as `edits:first.csv`, or a position to translate and back, as `trip:int:1/3:abs` on route A1. What each writes
+//! is printed, and then how many edits there are.
 #![tactic(auto)]
 
-use lrs_desk::{Desk, Keeper, Plain};
+use lrs_desk::{Desk, Keeper, Plain, Staged};
 use lrs_machine::Limits;
 use lrs_position::{EnteredPosition, RouteName, read_expr, read_method, read_target};
 use lrs_promises::{Call, headline, round_trip, rows};
+use lrs_store::{Tables, close_files, open_files};
+use lrs_store_image::Reader;
+use sqlite::{Alter, FileStore, Files, Options};
+use sqlite_disk::{Disk, Memory};
 use std::process::ExitCode;
 use std::{env, fs};
 
@@ -76,10 +81,73 @@ fn open<K: Keeper + Drop>(rt: &HostRuntime, keeper: K) -> Option<Desk<K>> {
     Desk::open(keeper, Limits::full(), rt.alloc()).ok()
 }
 
-/// Does what the words say at a desk over a keeper.
-fn run<K: Keeper + Drop>(rt: &HostRuntime, words: &[String], keeper: K) -> Option<()> {
+/// Does what the words say at a desk over a keeper, and gives it back.
+fn run<K: Keeper + Drop>(rt: &HostRuntime, words: &[String], keeper: K) -> Option<K> {
     let mut desk = open(rt, keeper)?;
-    take(rt, &mut desk, words)
+    take(rt, &mut desk, words)?;
+    Some(desk.into_keeper())
+}
+
+/// The same over tables.
+fn run_tables<S: Alter + Drop>(
+    rt: &HostRuntime,
+    words: &[String],
+    tables: Tables<S, Reader>,
+) -> Option<Tables<S, Reader>> {
+    let keeper = run(rt, words, Staged::over(tables, rt.alloc()))?;
+    Some(keeper.into_inner())
+}
+
+/// The tables in these files, or new ones where they hold none.
+fn open_tables<D: Disk + Drop>(
+    rt: &HostRuntime,
+    files: Files<D>,
+) -> Option<Tables<FileStore<D>, Reader>> {
+    if files.log.may_be_used() && files.db.may_be_used() {
+        open_files(rt.alloc(), files, Options::new(7), Reader).ok()
+    } else {
+        None
+    }
+}
+
+/// Opens files, does what the words say, and closes them.
+fn run_files<D: Disk + Drop>(
+    rt: &HostRuntime,
+    words: &[String],
+    files: Files<D>,
+) -> Option<Files<D>> {
+    let tables = open_tables(rt, files)?;
+    close_files(run_tables(rt, words, tables)?).ok()
+}
+
+/// Over an inventory in memory.
+fn run_plain(rt: &HostRuntime, words: &[String]) -> Option<()> {
+    run(rt, words, Plain::empty(rt.alloc()))?;
+    Some(())
+}
+
+/// Over tables in memory.
+fn run_memory(rt: &HostRuntime, words: &[String]) -> Option<()> {
+    run_tables(rt, words, Tables::in_memory(rt.alloc(), Reader).ok()?)?;
+    Some(())
+}
+
+/// Over files on new disks, and again once they were closed.
+fn run_disks(rt: &HostRuntime, words: &[String]) -> Option<()> {
+    let files = Files {
+        log: Memory::new(rt.alloc()),
+        db: Memory::new(rt.alloc()),
+    };
+    let files = run_files(rt, words, files)?;
+    run_files(rt, words, files)?;
+    Some(())
+}
+
+/// Over each keeper in turn.
+fn run_each(rt: &HostRuntime, words: &[String]) -> Option<()> {
+    run_plain(rt, words)?;
+    run_memory(rt, words)?;
+    run_disks(rt, words)
 }
 
 fn main(rt: HostRuntime) -> ExitCode {
@@ -89,7 +157,7 @@ fn main(rt: HostRuntime) -> ExitCode {
     let Ok(words) = given.skip(1).collect::<Vec<String>>(rt.alloc()) else {
         return ExitCode::from(1);
     };
-    match run(&rt, words.as_slice(), Plain::empty(rt.alloc())) {
+    match run_each(&rt, words.as_slice()) {
         Some(()) => ExitCode::from(0),
         None => ExitCode::from(1),
     }
