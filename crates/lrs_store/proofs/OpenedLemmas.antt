@@ -1,5 +1,7 @@
 -- The content of the rows that files held is kept.
-use Rattle.std.proofs.Common.{◌≢◌, pos, inl, inr, Option, None, Some, IfSome, IsSomeAnd, IsPermutation, Result, refl, sym, subst, ◌∙◌, arith}
+use Rattle.std.proofs.Common.{◌≡◌, ◌≢◌, ◌⊎◌, ◌<◌, ◌≤◌, ℕ, Bool, true, false, pos, [], ◌∷◌, inl, inr, Option, None, Some, IfSome, IsSomeAnd, IsPermutation, Result, refl, sym, subst, ◌∙◌, arith}
+use Rattle.std.specs.Prelude.{nat_lt}
+use Rattle.std.proofs.lemmas.Bool.{ltb-false}
 use Rattle.sqlite_disk.specs.declared.Disk.{Ghosts}
 use Rattle.sqlite_disk.specs.declared.Files.{Files}
 use Rattle.sqlite_trees.proofs.Doubt.{clean_of, no_doubt}
@@ -12,11 +14,12 @@ use Rattle.lrs_store_rows.specs.Tables.{Tables, AreSame}
 use Rattle.lrs_store_rows.specs.Content.{content_of}
 use Rattle.lrs_store_rows.proofs.Stored.{content_is_of_rows}
 use Rattle.sqlite_trees.specs.Objects.{catalog_tree}
+use Rattle.sqlite_catalog.specs.Listing.{Lists}
 use Rattle.sqlite_catalog.proofs.ReadLemmas.{lists_once}
 use Rattle.lrs_store_tables.specs.Schema.{inventory}
 use Rattle.lrs_store_tables.specs.Stored.{stored, LeavesStore}
 use Rattle.lrs_store_tables.specs.Starting.{new_rows, NewRowsHoldNothing}
-use Rattle.lrs_store_tables.specs.Making.{first_rows}
+use Rattle.lrs_store_tables.specs.Making.{no_schema, first_tables, first_rows}
 use Rattle.lrs_store_tables.proofs.MakeLemmas.{all_made}
 use Rattle.lrs_store_tables.specs.Holding.{HoldsOnly}
 use Rattle.lrs_store_keeper.specs.Holding.{MayHold}
@@ -30,7 +33,7 @@ use Rattle.lrs_store_files.specs.Found.{HasFound, IsLeftOf}
 use Rattle.lrs_store.specs.Opened.{HoldsContent, HasOpened}
 use Rattle.lrs_store.specs.declared.files.Left.{Left}
 use Rattle.lrs_store.specs.declared.files.Left.TheVariants as left
-use Rattle.lrs_store.specs.Refused.{WasLookedAt, IsHandedOn, HoldsStill, HoldsEachRow, HoldSecond}
+use Rattle.lrs_store.specs.Refused.{WasLookedAt, IsHandedOn, HoldsStill, HoldsEachRow, HoldSecond, BecomeSecond}
 
 hold_nothing : NewRowsHoldNothing
 unfolding content_of
@@ -77,13 +80,37 @@ module _ (image : wal.Image) (old new : State) (survives : LeavesStore old new) 
   pub each_row : (HasCleanDisk old → HasFound image old) → HasCleanDisk new → HasFound image new
   each_row found clean = still_found (found (omega (arith, clean, survives.clean)))
 
--- files of version 2 are opened as such
+-- the row of the version is among the first tables, if there are some
+first_version : (n : ℕ) → 0 < n → (t : Tables) → (first_rows n t).version ≡ t.version
+first_version n some t = by (nat_lt 0 n) refl
+  where
+    by : (first : Bool) → nat_lt 0 n ≡ first → (first_rows n t).version ≡ t.version
+    by true is = rw is refl
+    by false is = absurd (omega (arith, some, ltb-false 0 n is))
+
+-- files of version 2, and new ones, are opened as such
+pub becomes_second : (image : wal.Image) (s : State) → BecomeSecond image → (HasCleanDisk s → HasFound image s) → IsSecond s
+becomes_second image s second found clean db left = by (second it.trees it.reads)
+  where
+    it : HasFound image s
+    it = found clean
+
+    alone : (t : Tables) → t.version ≡ pos 2 ∷ [] → AreSame t (stored db) → (stored db).version ≡ pos 2 ∷ []
+    alone t two same = alone_again (pos 2) (stored db).version (subst (λ v. IsPermutation v (stored db).version) two same.version)
+
+    by : Lists (it.trees catalog_tree) no_schema ⊎ ((n : ℕ) × (0 < n) × (n ≤ 12) × Lists (it.trees catalog_tree) (first_tables n) × ((stored it.trees).version ≡ pos 2 ∷ [])) → (stored db).version ≡ pos 2 ∷ []
+    by (inl none) = alone new_rows refl (it.made (lists_once (it.trees catalog_tree) it.schema no_schema it.sound.lists none) clean db left)
+    by (inr (n, some, few, lists, two)) =
+        alone (first_rows n (stored it.trees)) (first_version n some (stored it.trees) ∙ two) (it.kept n some few (lists_once (it.trees catalog_tree) it.schema (first_tables n) it.sound.lists lists) clean db left)
+
+-- files of version 2 are among them
+pub second_becomes : (image : wal.Image) → HoldSecond image → BecomeSecond image
+second_becomes image second db found =
+    let held = second db found in
+    inr (12, omega arith, omega arith, subst (Lists (db catalog_tree)) (sym all_made) held.0, held.1)
+
 pub opened_second : (image : wal.Image) (s : State) → HoldSecond image → (HasCleanDisk s → HasFound image s) → IsSecond s
-opened_second image s second found clean db left =
-    let it = found clean in
-    let held = second it.trees it.reads in
-    let is = lists_once (it.trees catalog_tree) it.schema inventory it.sound.lists held.0 in
-    alone_again (pos 2) (stored db).version (subst (λ v. IsPermutation v (stored db).version) held.1 (it.kept 12 (omega arith) (omega arith) (is ∙ sym all_made) clean db left).version)
+opened_second image s second = becomes_second image s (second_becomes image second)
 
 module _ {D : Type 0} {g : Ghosts D} (image : wal.Image) (Began : Files D → Type 0) where
   -- a store that was looked at holds what it held

@@ -1,5 +1,5 @@
 -- Files that no keeper takes.
-use Rattle.std.specs.Prelude.{◌≡◌, ◌<◌, ◌≤◌, ◌⊎◌, pos, [], ◌∷◌, Option, None, Some, Result, Err, ⊤}
+use Rattle.std.specs.Prelude.{◌≡◌, ◌<◌, ◌≤◌, ◌⊎◌, ℕ, pos, [], ◌∷◌, Option, None, Some, Result, Err, ⊤}
 use Rattle.sqlite_disk.specs.declared.Disk.{Ghosts}
 use Rattle.sqlite_disk.specs.declared.Files.{Files}
 use Rattle.sqlite_trees.specs.Tree.{Trees}
@@ -17,11 +17,13 @@ use Rattle.lrs_machine.specs.declared.table.Table.{Table}
 use Rattle.lrs_store_files.specs.declared.files.Untaken.{Untaken}
 use Rattle.lrs_store_files.specs.declared.files.Untaken.TheVariants as untaken
 use Rattle.lrs_store_tables.specs.Schema.{inventory}
+use Rattle.lrs_store_tables.specs.Making.{no_schema, first_tables}
 use Rattle.lrs_store_tables.specs.Stored.{stored}
 use Rattle.lrs_store_files.specs.Found.{HasFound, IsLeftOf}
 use Rattle.lrs_store_files.specs.Refusing.{HasGrounds}
 use Rattle.lrs_store.specs.Judged.{IsUnsoundThere, IsSoundThere}
 use Rattle.lrs_store_keeper.specs.Holding.{MayHold}
+use Rattle.lrs_store_keeper.specs.Opening.{HoldsAnImage}
 use Rattle.lrs_store.specs.declared.files.Left.{Left}
 use Rattle.lrs_store.specs.declared.files.Left.TheVariants as left
 use Rattle.lrs_store.specs.Opened.{HasOpened}
@@ -82,8 +84,13 @@ abbrev pub IsHandedOn : {D : Type 0} {g : Ghosts D} → Option (Untaken D g) →
 IsHandedOn None l = l ≡ left.Nothing
 IsHandedOn {D = D} {g = g} (Some old) l = (new : Untaken D g) × (l ≡ left.Untaken new) × ((new ≡ old) ⊎ WasLookedAt old new)
 
--- Why an opening answers that the store failed: what the kit's sqlite gave back, and was at most looked at since, was refused on grounds; or a call of the disk failed and was counted, of files of version 2 that were taken. Where nothing is left the system did not open the files, of which no clause can speak.
+-- Files whose rows are of version 2 once they are taken: they list no table, so that a new store is made, or some of an inventory's or all, with the row of that version.
+abbrev pub BecomeSecond : wal.Image → Type 0
+BecomeSecond image = (db : Trees) → AreFoundIn image db
+    → Lists (db catalog_tree) no_schema ⊎ ((n : ℕ) × (0 < n) × (n ≤ 12) × Lists (db catalog_tree) (first_tables n) × ((stored db).version ≡ pos 2 ∷ []))
+
+-- Why an opening answers that the store failed: what the kit's sqlite gave back, and was at most looked at since, was refused on grounds; or tables were taken, and a call of the disk failed and was counted, where the rows were of version 2 once they were taken, or hold no image. Where nothing is left the system did not open the files, of which no clause can speak.
 abbrev pub IsRefusedFor : {D : Type 0} {g : Ghosts D} → wal.Image → Left D g → Type 0
 IsRefusedFor {D = D} {g = g} image (left.Untaken new) = (before : Untaken D g) × ((new ≡ before) ⊎ WasLookedAt before new) × HasGrounds image before
-IsRefusedFor image (left.Opened conn) = HasCleanDisk (file_state conn) → HoldSecond image → 0 < (file_state conn).faults
+IsRefusedFor image (left.Opened conn) = HasCleanDisk (file_state conn) → (BecomeSecond image → 0 < (file_state conn).faults) × ((0 < (file_state conn).faults) ⊎ HoldsAnImage (file_state conn))
 IsRefusedFor image left.Nothing = ⊤

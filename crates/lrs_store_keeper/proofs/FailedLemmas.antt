@@ -1,5 +1,6 @@
 -- Why a call of several statements answers an error.
-use Rattle.std.proofs.Common.{◌≡◌, ◌∙◌, inl, inr, true, IsTrue, Ok, Err, Result, sym, subst, arith}
+use Rattle.std.proofs.Common.{◌≡◌, ◌∙◌, inl, inr, true, IsTrue, IsSome, None, Ok, Err, Result, sym, subst, arith}
+use Rattle.std.proofs.lemmas.Bool.{false≢true}
 use Rattle.sqlite_trees.specs.declared.store.Store.{Ghosts}
 use Rattle.sqlite.specs.declared.error.Error.{Error}
 use Rattle.sqlite.specs.declared.error.Error.TheVariants.{SqliteFailure}
@@ -12,6 +13,7 @@ use Rattle.lrs_store_tables.specs.Stored.{IsWriting, LeavesStore}
 use Rattle.lrs_store_tables.specs.Resting.{IsReady}
 use Rattle.lrs_store_tables.specs.Failing.{HasFailed, HasReason, ErrHasReason, ErrInsideHasReason}
 use Rattle.lrs_store_tables.proofs.FailLemmas.{reason_then, reason_after}
+use Rattle.lrs_store_keeper.specs.Holding.{DiskHasFailed}
 use Rattle.lrs_store_keeper.specs.Opening.{IsSecond, IsNotSecond}
 use Rattle.lrs_store_keeper.proofs.RowLemmas.{still}
 use Rattle.lrs_store_keeper.proofs.ReadLemmas.{begins}
@@ -46,6 +48,18 @@ fails_alone {S} {A} g old tx mid last (Err e) is ready one cause two clean = by 
 pub store_failed : (f : LoadFault) (e : Error) (old new : State) → (e ≡ SqliteFailure OutOfMemory → f ≡ Memory) → f ≡ Store → HasReason old new e → HasFailed old new
 store_failed f e old new memory is (inl ran_out) = absurd (let both = sym (memory ran_out) ∙ is in cc)
 store_failed f e old new memory is (inr failed) = failed
+
+-- a store whose statements may take any number of steps fails where its disk does, or where it was shut
+pub disk_has_failed : (old new : State) → old.step_limit ≡ None → HasFailed old new → DiskHasFailed old new
+disk_has_failed old new unlimited (inl more) = inl more
+disk_has_failed old new unlimited (inr (inl shut)) = inr shut
+disk_has_failed old new unlimited (inr (inr limit)) = absurd (false≢true (subst IsSome unlimited limit))
+
+-- behind a call that changed nothing and left the store open
+pub failed_behind : (a b c : State) → LeavesStore a b → IsTrue b.is_open → HasFailed b c → HasFailed a c
+failed_behind a b c first opened (inl more) = inl (omega (arith, first.counts, more))
+failed_behind a b c first opened (inr (inl shut)) = absurd (false≢true (sym shut ∙ opened))
+failed_behind a b c first opened (inr (inr limit)) = inr (inr (subst IsSome first.limit limit))
 
 -- no rows of a store that is open are of version 2 and of another
 pub not_both : {S : Type 0} (g : Ghosts S) (stays : Stays g) (h : Held S) → HasCleanDisk (state g h) → IsTrue (state g h).is_open → IsSecond (state g h) → IsNotSecond (state g h) → ⊥

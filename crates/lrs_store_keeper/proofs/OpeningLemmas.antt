@@ -1,5 +1,5 @@
 -- What bringing rows up to version 2 makes of what an opening may find.
-use Rattle.std.proofs.Common.{◌≡◌, ◌≢◌, ◌⊎◌, inl, inr, List, [], ◌∷◌, map, pos, IsTrue, IfOk, Ok, Err, Result, sym, subst, ◌∙◌, IsPermutation, arith}
+use Rattle.std.proofs.Common.{◌≡◌, ◌≢◌, ◌⊎◌, inl, inr, List, [], ◌∷◌, map, pos, IsTrue, IfOk, Ok, Err, Result, refl, sym, subst, ◌∙◌, IsPermutation, arith}
 use Rattle.std.proofs.lemmas.List.Sorted.{IsPermutation-sym}
 use Rattle.sqlite_value.specs.Order.{Row}
 use Rattle.sqlite_trees.specs.declared.store.Store.{Ghosts}
@@ -35,6 +35,12 @@ found_before a b survives c h =
     let late : HasCleanDisk b = h.0 in
     let early : HasCleanDisk a = omega (arith, late, survives.clean) in
     (early, (h.1.0, before (survives.crash late h.1.0 h.1.1), h.1.2))
+
+-- and an image is held where one was
+pub holds_again : (a b : State) (i : Image) → HoldsImage a i → ((c : Result Image Table) → MayHold b c → MayHold a c) → HoldsImage b i
+holds_again a b i held content clean db left =
+    let was = content (content_of (stored db)) (clean, (db, left, refl)) in
+    sym was.1.2 ∙ held was.0 was.1.0 was.1.1
 
 -- the rows of the version were read, and nothing changed
 pub versions_read : {A : Type 0} (items : A → List Row) (a b : State) (r : Result A Error) → (HasCleanDisk b → IsWriting a → IfOk r (λ rows. HasVersions (items rows) (stored a.now.trees))) → OkDoes r a b IsUnchanged

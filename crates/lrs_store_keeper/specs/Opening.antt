@@ -23,3 +23,7 @@ IsNotSecond s = HasCleanDisk s → (db : Trees) → s.may_leave db → (stored d
 -- whatever rows may be left hold this image
 abbrev pub HoldsImage : State → Image → Type 0
 HoldsImage s i = HasCleanDisk s → (db : Trees) → s.may_leave db → content_of (stored db) ≡ Ok i
+
+-- an image is what they hold
+abbrev pub HoldsAnImage : State → Type 0
+HoldsAnImage s = (i : Image) × HoldsImage s i

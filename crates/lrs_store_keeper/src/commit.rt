@@ -63,6 +63,7 @@ fn write_as<S: Alter>(
     ensures store { result ≡ Err CommitFault.Store → (c : Result Image Table)
         → MayHold (state S.Store conn.new) c → MayHold (state S.Store conn.old) c
         ⊎ IsChangedBy (MayHold (state S.Store conn.old)) changes.now c }
+    ensures limit { (state S.Store conn.new).step_limit ≡ (state S.Store conn.old).step_limit }
 {
     prove_all_texts(changes);
     match write_changes(conn, n, changes) {
@@ -96,6 +97,7 @@ pub(crate) fn write_next<S: Alter>(
     ensures store { result ≡ Err CommitFault.Store → (c : Result Image Table)
         → MayHold (state S.Store conn.new) c → MayHold (state S.Store conn.old) c
         ⊎ IsChangedBy (MayHold (state S.Store conn.old)) changes.now c }
+    ensures limit { (state S.Store conn.new).step_limit ≡ (state S.Store conn.old).step_limit }
 {
     if changes.is_empty() {
         return Ok(edits);

@@ -1,6 +1,6 @@
 //! A store whose rows are not of version 2 is brought up before a keeper takes it.
 
-ghost use Rattle.std.specs.Prelude.{◌≡◌, ◌↔◌, pos, [], ◌∷◌, map, IfOk, OnOk, IsTrue, false, Result, Err};
+ghost use Rattle.std.specs.Prelude.{◌≡◌, ◌⊎◌, ◌↔◌, pos, [], ◌∷◌, map, IfOk, OnOk, IsTrue, false, Result, Err};
 ghost use Rattle.sqlite_trees.specs.Tree.{Trees};
 ghost use Rattle.sqlite.specs.State.{HasCleanDisk};
 ghost use Rattle.sqlite.specs.Held.{state};
@@ -10,7 +10,7 @@ ghost use Rattle.lrs_store_tables.specs.Stored.{stored, version_in, LeavesStore}
 ghost use Rattle.lrs_store_tables.specs.Resting.{IsReady};
 ghost use Rattle.lrs_store_tables.specs.Failing.{ErrHasReason, HasFailed};
 ghost use Rattle.lrs_store_keeper.specs.Holding.{MayHold, IsOpenIfClean};
-ghost use Rattle.lrs_store_keeper.specs.Opening.{HoldsImage, IsSecond, IsNotSecond, HasVersions};
+ghost use Rattle.lrs_store_keeper.specs.Opening.{HoldsImage, HoldsAnImage, IsSecond, IsNotSecond, HasVersions};
 
 use crate::image::{ReadImage, check_open, is_second, read_alone, read_fault};
 use lrs_image::LoadFault;
@@ -92,6 +92,8 @@ fn write_second<S: Alter>(conn: &mut Connection<S>, image: &Image) -> Result<(),
     ensures content { (c : Result ImageRows DeclaredTable) → MayHold (state S.Store conn.new) c
         → MayHold (state S.Store conn.old) c }
     ensures never { (t : DeclaredTable) → result ≡ Err (LoadFault.Unsound t) → ⊥ }
+    ensures still { HoldsImage (state S.Store conn.new) image.now }
+    ensures limit { (state S.Store conn.new).step_limit ≡ (state S.Store conn.old).step_limit }
     ensures untouched { IsSecond (state S.Store conn.old) → IsNotSecond (state S.Store conn.old)
         → LeavesStore (state S.Store conn.old) (state S.Store conn.new) }
 {
@@ -121,6 +123,10 @@ fn rewrite<S: Alter, R: ReadImage>(
         → (c : Result ImageRows DeclaredTable) → MayHold (state S.Store conn.new) c → c ≡ Err t }
     ensures still { (t : DeclaredTable) → result ≡ Err (LoadFault.Unsound t)
         → LeavesStore (state S.Store conn.old) (state S.Store conn.new) }
+    ensures cause { result ≡ Err LoadFault.Store → HasCleanDisk (state S.Store conn.new)
+        → HasFailed (state S.Store conn.old) (state S.Store conn.new)
+        ⊎ HoldsAnImage (state S.Store conn.new) }
+    ensures limit { (state S.Store conn.new).step_limit ≡ (state S.Store conn.old).step_limit }
     ensures untouched { IsSecond (state S.Store conn.old)
         → LeavesStore (state S.Store conn.old) (state S.Store conn.new) }
 {
@@ -152,6 +158,10 @@ pub(crate) fn make_second<S: Alter, R: ReadImage>(
     ensures failed { IsSecond (state S.Store conn.old) → result ≡ Err LoadFault.Store
         → HasCleanDisk (state S.Store conn.new)
         → HasFailed (state S.Store conn.old) (state S.Store conn.new) }
+    ensures cause { result ≡ Err LoadFault.Store → HasCleanDisk (state S.Store conn.new)
+        → HasFailed (state S.Store conn.old) (state S.Store conn.new)
+        ⊎ HoldsAnImage (state S.Store conn.new) }
+    ensures limit { (state S.Store conn.new).step_limit ≡ (state S.Store conn.old).step_limit }
     ensures untouched { IsSecond (state S.Store conn.old)
         → LeavesStore (state S.Store conn.old) (state S.Store conn.new) }
 {

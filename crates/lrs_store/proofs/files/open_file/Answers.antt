@@ -1,11 +1,9 @@
-use Rattle.std.proofs.Common.{true, false, arith}
+use Rattle.std.proofs.Common.{true, false}
 use Rattle.sqlite_std_file.specs.File.{IsFresh}
 use Rattle.sqlite_wal.specs.Files.{image_at}
-use Rattle.sqlite.specs.State.{HasCleanDisk}
 use Rattle.sqlite.specs.Files.{file_state}
 use Rattle.lrs_store.proofs.OpenedLemmas.{has_opened, holds_still, each_row, opened_second, rows_left, still_refused}
-use Rattle.lrs_store_files.proofs.RefusedLemmas.{disk_failed}
-use Rattle.lrs_store.proofs.RefusedLemmas.{refused_for}
+use Rattle.lrs_store.proofs.RefusedLemmas.{refused_for, taken_for}
 use Rattle.lrs_store.proofs.files.open_file.Goals as goal
 
 pub returns-in-Ok-open-clause-found : goal.returns-in-Ok-open-clause-found
@@ -41,9 +39,6 @@ pub returns-in-Err-clause-cause : goal.returns-in-Err-clause-cause
 returns-in-Err-clause-cause g c is = refused_for (image_at g.S.Start) c.in-Err.refusal.left c.not_opened.result.left c.not_opened.ensures.still (c.in-Err.ensures.cause (c.not_opened.ensures.was is))
 
 pub returns-in-Err-open-clause-cause : goal.returns-in-Err-open-clause-cause
-returns-in-Err-open-clause-cause g c is clean second =
-    let old = file_state c.in-Ok.tables.conn in
-    let new = file_state c.in-Err-open.conn in
-    let it = opened_second (image_at g.S.Start) old second c.in-Ok.ensures.found in
-    let early : HasCleanDisk old = omega (arith, clean, (c.in-Err-open.ensures.untouched it).clean) in
-    disk_failed old new (c.in-Ok.ensures.open early) c.in-Ok.ensures.unlimited (c.in-Err-open.ensures.failed it is clean)
+returns-in-Err-open-clause-cause g c is clean =
+    let opened = c.in-Ok.ensures.open (c.in-Err-open.ensures.clean clean) in
+    taken_for (image_at g.S.Start) (file_state c.in-Ok.tables.conn) c.in-Err-open.conn opened c.in-Ok.ensures.found (λ second. c.in-Err-open.ensures.failed second is clean) (c.in-Err-open.ensures.cause is clean)

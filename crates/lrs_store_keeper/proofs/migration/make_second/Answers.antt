@@ -1,6 +1,7 @@
+use Rattle.std.proofs.Common.{inl, inr}
 use Rattle.sqlite.specs.Held.{state}
 use Rattle.lrs_store_keeper.proofs.OpeningLemmas.{found_before, second_still, leaves_then}
-use Rattle.lrs_store_keeper.proofs.FailedLemmas.{not_both}
+use Rattle.lrs_store_keeper.proofs.FailedLemmas.{not_both, failed_behind}
 use Rattle.lrs_store_keeper.proofs.migration.make_second.Goals as goal
 
 pub returns-in-Ok-false-clause-content : goal.returns-in-Ok-false-clause-content
@@ -20,3 +21,11 @@ returns-in-Ok-false-clause-failed g c second is clean =
     let b = state g.S.Store c.has_second.new.conn in
     let early = c.rewrite.ensures.clean clean in
     absurd (not_both g.S.Store g.met.S.Store.stays c.has_second.new.conn early (c.in-Ok-false.ensures.open early) (second_still (state g.S.Store c.args.conn.now) b c.has_second.ensures.survives second) (c.in-Ok-false.ensures.other c.in-Ok-false.field-0-test))
+
+pub returns-in-Ok-false-clause-cause : goal.returns-in-Ok-false-clause-cause
+returns-in-Ok-false-clause-cause g c is clean =
+    let b = state g.S.Store c.has_second.new.conn in
+    elim (c.rewrite.ensures.cause is clean) [
+      | inl failed ↦ inl (failed_behind (state g.S.Store c.args.conn.now) b (state g.S.Store c.rewrite.new.conn) c.has_second.ensures.survives (c.in-Ok-false.ensures.open (c.rewrite.ensures.clean clean)) failed)
+      | inr holds ↦ inr holds
+    ]

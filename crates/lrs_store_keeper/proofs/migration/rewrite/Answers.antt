@@ -1,4 +1,4 @@
-use Rattle.std.proofs.Common.{Ok, Err, Result, ap}
+use Rattle.std.proofs.Common.{Ok, Err, Result, inl, inr, ap, ◌∙◌}
 use Rattle.sqlite.specs.Held.{state}
 use Rattle.lrs_image.specs.declared.keeper.LoadFault.{LoadFault}
 use Rattle.lrs_image.specs.declared.keeper.LoadFault.TheVariants.{Memory}
@@ -21,3 +21,9 @@ returns-in-Ok-clause-untouched g c second =
     let b = state g.S.Store c.held_image.new.conn in
     let read = c.held_image.ensures.survives in
     leaves_then a b (state g.S.Store c.write_second.new.conn) read (c.write_second.ensures.untouched (second_still a b read second) (other_still a b read c.requires.other))
+
+pub returns-in-Ok-clause-cause : goal.returns-in-Ok-clause-cause
+returns-in-Ok-clause-cause g c is clean = inr (c.in-Ok.image, c.write_second.ensures.still)
+
+pub returns-in-Err-clause-cause : goal.returns-in-Err-clause-cause
+returns-in-Err-clause-cause g c is clean = inl (c.held_image.ensures.failed (c.in-Err.is ∙ ap (λ f. Err f) (ap fault_in is)) clean)

@@ -1,7 +1,7 @@
 use Rattle.std.proofs.Common.{arith}
 use Rattle.sqlite.specs.State.{HasCleanDisk}
 use Rattle.sqlite.specs.Held.{state}
-use Rattle.lrs_store_keeper.proofs.OpeningLemmas.{kept, second, nothing_written}
+use Rattle.lrs_store_keeper.proofs.OpeningLemmas.{kept, second, nothing_written, holds_again}
 use Rattle.lrs_store_keeper.proofs.migration.write_second.Goals as goal
 
 pub returns-in-Ok-clause-second : goal.returns-in-Ok-clause-second
@@ -24,3 +24,9 @@ returns-in-Ok-clause-untouched g c = nothing_written g.S.Store g.met.S.Store.sta
 
 pub returns-in-Err-clause-untouched : goal.returns-in-Err-clause-untouched
 returns-in-Err-clause-untouched g c = nothing_written g.S.Store g.met.S.Store.stays c.args.conn.now (state g.S.Store c.bring_up.new.conn) _ (λ db made. made.0) c.bring_up.ensures.crash
+
+pub returns-in-Ok-clause-still : goal.returns-in-Ok-clause-still
+returns-in-Ok-clause-still g c = holds_again (state g.S.Store c.args.conn.now) (state g.S.Store c.bring_up.new.conn) c.args.image.now c.requires.image (returns-in-Ok-clause-content g c)
+
+pub returns-in-Err-clause-still : goal.returns-in-Err-clause-still
+returns-in-Err-clause-still g c = holds_again (state g.S.Store c.args.conn.now) (state g.S.Store c.bring_up.new.conn) c.args.image.now c.requires.image (returns-in-Err-clause-content g c)
