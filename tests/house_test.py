@@ -67,7 +67,7 @@ def test_each_path_in_the_steps_of_a_verb_is_there():
     assert len(steps) == 4
     for crate, step in steps:
         for path in re.findall(r"`((?:src|proofs)/[^`]*)`", step):
-            assert (CRATES / crate / path.replace("NAME", "turn")).exists(), (crate, path)
+            assert (CRATES / crate / path.replace("NAME", "enter")).exists(), (crate, path)
 
 
 def test_the_tables_of_the_map_are_as_they_are_computed():

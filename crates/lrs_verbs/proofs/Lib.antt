@@ -1,6 +1,4 @@
 pub mod InPlace
-pub mod KeptName
-pub mod Going
 pub mod RowsInPlace
 pub mod NewRow
 pub mod NewParts
@@ -15,18 +13,6 @@ pub mod Unmoved
 pub mod NewLink
 pub mod NewClass
 pub mod NewRoute
-pub mod Stopping
-pub mod ChangedRoute
-pub mod Rerouted
-pub mod Recalibrated
-pub mod Renumbered
-pub mod SplitRoute
-pub mod JoinRoutes
-pub mod TurnedRoute
-pub mod Closed
-pub mod RealignChecks
-pub mod MovedReferents
-pub mod RealignRoute
 pub mod Made
 pub mod RouteReferents
 pub mod GoneReferent

@@ -1,16 +1,16 @@
 -- A new route.
-use Rattle.std.proofs.Common.{◌≡◌, ℕ, ◌+◌, ◌≤◌, Bool, true, false, cond, List, [], length, Option, Some, None, Result, Ok, Err, refl, sym, ap, ◌∙◌, subst, arith}
+use Rattle.std.proofs.Common.{◌≡◌, ℕ, ◌+◌, ◌≤◌, Bool, true, false, cond, List, [], length, Option, Some, Result, Ok, Err, refl, sym, ap, ◌∙◌, subst, arith}
 use Rattle.std.specs.List as list
 use Rattle.std.specs.FinMap.{find}
 use Rattle.std.proofs.lemmas.Bool.{false≢true, both_ways, and_parts, and_from, le-leb}
 use Rattle.std.proofs.lemmas.List.{append-nil, length-map}
 use Rattle.std.proofs.lemmas.List.Folds.{list_all-map, flat_map-map}
 use Rattle.std.specs.Prelude.{nat_le, ◌||◌, ◌&&◌, not}
-use Rattle.std.specs.List.{list_any, list_all, position, flat_map, filter_map, AllByRecursion}
+use Rattle.std.specs.List.{list_any, list_all, flat_map, filter_map, AllByRecursion}
 use Rattle.std.specs.Option.{option_map}
 use Rattle.std.specs.Ordering.{eq_by_cmp}
 use Rattle.std.specs.Cmp.Lexicographic.{nat_list_cmp_total}
-use Rattle.lrs_inventory.specs.Prelude.{each_two, Name, name_cmp, same_name, insert_by, Piece, Ground, Mark, Millimetre, expand, course_of, runs_over, meets, is_too_long, IsFilled, is_route_course, have_marks, are_referents, Referent, Place, differs, holds_by_spans, Cause, Image, RouteRow, contains_key, state_of, route_entry, referent_entry, referents_on, holds_on, State, attempt, refuse_at, ◌>>◌, ◌>>=◌, set_route, RouteCourse, is_on_a_link, are_courses, are_spans_of, route_before, IsSound, no_difference, with_difference, IsOrderly, is_run_once}
+use Rattle.lrs_inventory.specs.Prelude.{each_two, Name, name_cmp, same_name, insert_by, Piece, Ground, Mark, Millimetre, expand, course_of, runs_over, meets, is_too_long, IsFilled, is_route_course, have_marks, are_referents, Referent, Place, differs, holds_by_spans, Cause, Image, RouteRow, contains_key, state_of, route_entry, referent_entry, referents_on, holds_on, State, attempt, ◌>>◌, ◌>>=◌, set_route, RouteCourse, is_on_a_link, are_courses, are_spans_of, route_before, IsSound, no_difference, with_difference, IsOrderly, is_run_once}
 use Rattle.lrs_element.specs.Course.{is_at}
 use Rattle.lrs_events_lanes.proofs.Inserted.{length-insert_by}
 use Rattle.lrs_machine.specs.declared.answer.Cause.TheVariants as cause
@@ -24,12 +24,13 @@ use Rattle.lrs_image_laws.proofs.Ordering.{sound_is_orderly}
 use Rattle.lrs_inventory.specs.Changes.{route_on, ground_after}
 use Rattle.lrs_inventory.specs.Plans.{TellsGround, IsPlanOf}
 use Rattle.lrs_inventory.specs.NewCourses.{new_course, new_marks}
-use Rattle.lrs_verbs.specs.Checks.{IsEntryOf, route_plan}
+use Rattle.lrs_verbs.specs.NewRoutes.{IsEntryOf, route_plan}
 use Rattle.lrs_inventory.proofs.NamedEntries.{names_exact}
-use Rattle.lrs_inventory.proofs.Filed.{is_some-find_row, put-insert_by, names_tie}
+use Rattle.lrs_inventory.proofs.Filed.{put-insert_by}
 use Rattle.lrs_image_laws.proofs.InOrder.{none_found, is_false, and_weaker, all-insert_by, each_two-insert_by, before-chain, before-comparable, any-insert_by_other, find-insert_by, each_two-insert_among, made-insert_by_none, all_mapped-insert_by, map-insert_by}
 use Rattle.lrs_image_laws.proofs.Apart.{at_is, apart_too}
 use Rattle.lrs_inventory.proofs.NewCourse.{no_place, fails_at, once, on_links, apart_from, IsMade, made_of, marks_of}
+use Rattle.lrs_verbs_routes.proofs.KnownRoutes.{has_name, ties, knows, nothing_taken}
 use Rattle.lrs_verbs.proofs.Unmoved.{can_differ}
 use Rattle.lrs_inventory.proofs.Grounds.{taken_is}
 
@@ -39,18 +40,6 @@ with_route e i = record i { routes = insert_by route_before e i.routes }
 
 pub with_difference-route : (e : RouteRow) (i : Image) → with_difference (record no_difference { made = Some e }) i ≡ with_route e i
 with_difference-route e i = λ j. record (with_route e i) { entered = append-nil i.entered j; gone = append-nil i.gone j }
-
--- ---- names
-
-abbrev pub has_name : Name → RouteRow → Bool
-has_name name e = same_name e.route.name name
-
-ties : (name : Name) (routes : List RouteRow) → list_any (λ e. eq_by_cmp name_cmp name e.route.name) routes ≡ list_any (has_name name) routes
-ties name routes = names_tie (λ (e : RouteRow). e.route.name) name routes
-
-pub knows : (name : Name) (i : Image) → contains_key (state_of i).routes name ≡ list_any (has_name name) i.routes
-unfolding state_of
-knows name i = is_some-find_row nat_list_cmp_total names_exact route_entry i.routes name ∙ ties name i.routes
 
 -- ---- what the verb does
 
@@ -137,14 +126,6 @@ spans_entry e = record { course = e.route.course; rows = e.spans }
 
 abbrev are_free : RouteCourse → RouteCourse → Bool
 are_free c d = not (meets c.entries d.entries)
-
--- no route runs over a millimetre of the pieces
-pub nothing_taken : (i : Image) (pieces : List Piece) → check_free (state_of i) pieces ≡ Ok tt → position (λ p. is_taken (state_of i) (expand p)) pieces ≡ None
-nothing_taken i pieces h = by (position (λ p. is_taken (state_of i) (expand p)) pieces) refl h
-  where
-    by : (o : Option ℕ) → position (λ p. is_taken (state_of i) (expand p)) pieces ≡ o → refuse_at o cause.Taken ≡ Ok tt → position (λ p. is_taken (state_of i) (expand p)) pieces ≡ None
-    by None e k = e
-    by (Some x) e k = absurd (cc k)
 
 module _ (e : RouteRow) (pieces : List Piece) (i : Image) (fresh : list_any (has_name e.route.name) i.routes ≡ false) (made : IsMade i pieces e.route.course) (free : check_free (state_of i) pieces ≡ Ok tt)
     (no_refs : e.route.refs ≡ []) (no_spans : e.spans ≡ []) (o : IsOrderly i) where

@@ -1,11 +1,6 @@
-pub mod Checks
+pub mod NewRoutes
 pub mod RouteReferents
 pub mod Entering
 pub mod Wanted
 pub mod Taking
 pub mod Superseding
-pub mod Splits
-pub mod Joins
-pub mod Turns
-pub mod Closings
-pub mod Realignments

@@ -2,43 +2,30 @@
 
 ghost use Rattle.lrs_inventory.specs.Plans.{Plans};
 
-mod checks;
 mod class;
-mod close;
 mod enter;
-mod join;
 mod link;
 mod location;
 mod new_referent;
-mod realign;
-mod recalibrate;
 mod referents;
-mod renumber;
 mod retire;
 mod route;
-mod route_changes;
-mod split;
 mod supersede;
-mod turn;
 mod unref;
 
 use class::plan_class;
-use close::plan_close;
 use enter::plan_enter;
-use join::plan_join;
 use link::plan_link;
 use lrs_inventory::{Inventory, Plan, Stop};
 use lrs_machine::Command;
+use lrs_verbs_routes::{
+    plan_close, plan_join, plan_realign, plan_recalibrate, plan_renumber, plan_split, plan_turn,
+};
 use new_referent::plan_ref;
-use realign::plan_realign;
-use recalibrate::plan_recalibrate;
-use renumber::plan_renumber;
 use retire::plan_retire;
 use route::plan_route;
-use split::plan_split;
 use std::alloc::Global;
 use supersede::plan_supersede;
-use turn::plan_turn;
 use unref::plan_unref;
 
 /// What a command would change of an inventory.

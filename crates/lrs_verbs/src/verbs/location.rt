@@ -5,7 +5,6 @@ ghost use Rattle.lrs_machine.specs.Machine.{is_wrong_kind};
 ghost use Rattle.lrs_verbs.specs.Entering.{HasBegun};
 ghost use Rattle.lrs_verbs.specs.Wanted.{is_left_out, IsWanted, IsRefused};
 
-use crate::verbs::checks::is_wrong_kind;
 use lrs_events::Kind;
 use lrs_inventory::{Inventory, RouteStretch, Stop, refuse_if};
 use lrs_machine::{Cause, NewAsset, RouteRow};
@@ -70,5 +69,16 @@ fn is_left_out(only_exclusive: bool, kind: Kind) -> bool
     match kind {
         Kind::Point | Kind::Stretch => only_exclusive,
         Kind::Exclusive => false,
+    }
+}
+
+/// Whether a location is not one of an asset of this kind: a point has no end, and any other one has.
+pub fn is_wrong_kind(kind: Kind, location: EventLocation) -> bool
+    ensures { result ≡ is_wrong_kind kind location.to }
+{
+    let has_end = location.to().is_some();
+    match kind {
+        Kind::Point => has_end,
+        Kind::Stretch | Kind::Exclusive => !has_end,
     }
 }

@@ -7,8 +7,7 @@ ghost use Rattle.lrs_machine.specs.declared.command.Command.TheVariants as verb;
 ghost use Rattle.lrs_inventory.specs.Plans.{Plans};
 ghost use Rattle.lrs_verbs.specs.Taking.{of_asset_within, HasAsset, IsTaking};
 
-use crate::verbs::checks::{is_wrong_kind, route_named};
-use crate::verbs::route_changes::no_change;
+use crate::verbs::location::is_wrong_kind;
 use lrs_events::{Asset, Kind, Span};
 use lrs_events_rows::removals::Removal;
 use lrs_image_laws::taken_away;
@@ -16,6 +15,8 @@ use lrs_inventory::{Inventory, Plan, RouteStretch, Stop, refuse_if};
 use lrs_machine::{AssetNumber, Cause, RouteRow};
 use lrs_measure::Rows;
 use lrs_position::{EventLocation, RouteName};
+use lrs_verbs_routes::checks::route_named;
+use lrs_verbs_routes::route_changes::no_change;
 use std::alloc::{AllocError, Global};
 
 pub fn plan_retire(

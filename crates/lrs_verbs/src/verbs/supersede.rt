@@ -11,7 +11,6 @@ ghost use Rattle.lrs_verbs.specs.Superseding.{with_rows_and_one, IsSuperseding};
 
 use crate::verbs::enter::{asset_of, entered_parts, row_of};
 use crate::verbs::location::wanted_of;
-use crate::verbs::route_changes::no_change;
 use lrs_element::Course;
 use lrs_events::{Kind, Span, SpanChange};
 use lrs_events_rows::removals::Removal;
@@ -21,6 +20,7 @@ use lrs_inventory::{Inventory, Plan, RouteStretch, Stop};
 use lrs_machine::{NewAsset, RouteRow};
 use lrs_measure::Rows;
 use lrs_position::RouteName;
+use lrs_verbs_routes::route_changes::no_change;
 use std::alloc::{AllocError, Global};
 
 pub fn plan_supersede(alloc: Global, inventory: &Inventory, asked: &NewAsset) -> Result<Plan, Stop>

@@ -1,0 +1,15 @@
+pub mod KnownRoutes
+pub mod KeptName
+pub mod Going
+pub mod Stopping
+pub mod ChangedRoute
+pub mod Rerouted
+pub mod Recalibrated
+pub mod Renumbered
+pub mod SplitRoute
+pub mod JoinRoutes
+pub mod TurnedRoute
+pub mod Closed
+pub mod RealignChecks
+pub mod MovedReferents
+pub mod RealignRoute

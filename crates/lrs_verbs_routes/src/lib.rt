@@ -1,0 +1,21 @@
+//! The verbs that change routes that stand, a module each: the checks of a command in their order, and then the plan of
+//! what it changes.
+#![tactic(auto)]
+
+pub mod checks;
+mod close;
+mod join;
+mod realign;
+mod recalibrate;
+mod renumber;
+pub mod route_changes;
+mod split;
+mod turn;
+
+pub use close::plan_close;
+pub use join::plan_join;
+pub use realign::plan_realign;
+pub use recalibrate::plan_recalibrate;
+pub use renumber::plan_renumber;
+pub use split::plan_split;
+pub use turn::plan_turn;
