@@ -1,12 +1,11 @@
 //! Routes and what lies on them, laid where they keep the limits.
 
-ghost use Rattle.std.specs.Prelude.{◌≡◌, true, IsTrue, IfSome, None};
-ghost use Rattle.lrs_element.specs.Course.{are_in_order};
+ghost use Rattle.std.specs.Prelude.{◌≡◌, true, IfSome, None};
 ghost use Rattle.lrs_element.specs.Marks.{bad_mark};
 ghost use Rattle.lrs_events.specs.Spans.{is_row};
 ghost use Rattle.lrs_position.specs.Routes.{are_referents};
 
-use lrs_element::{Course, CourseFault, Link, Mark, Marks, Piece};
+use lrs_element::{Course, Link, Mark, Marks, Piece};
 use lrs_events::Span;
 use lrs_events_spans::Spans;
 use lrs_image_sound::are_links;
@@ -26,35 +25,12 @@ pub fn link(number: u32, length: u32) -> Option<Link> {
     }
 }
 
-/// Lets the course go on over the piece.
-fn go_on(course: &mut Course, alloc: Global, links: &[Link], piece: Piece) -> Option<()>
-    requires { IsTrue (are_in_order links.now) }
-{
-    let next = Course::new(alloc, &[piece], &links).ok()?;
-    course.concat(&next).ok()
-}
-
-/// The course over these pieces of links, which may run over a millimetre twice.
-fn course_by_pieces(alloc: Global, links: &[Link], pieces: &[Piece]) -> Option<Course>
-    requires { IsTrue (are_in_order links.now) }
-{
-    let mut course = Course::new(alloc, &[], &links).ok()?;
-    for piece in pieces {
-        go_on(&mut course, alloc, links, *piece)?;
-    }
-    Some(course)
-}
-
-/// The course over these pieces, also where it runs over a millimetre twice; none where a piece is not of these links.
+/// The course over these pieces; none where a piece is not of these links, or one runs over a millimetre of another.
 pub fn course(alloc: Global, links: &[Link], pieces: &[Piece]) -> Option<Course> {
     if !are_links(links) {
         return None;
     }
-    match Course::new(alloc, pieces, &links) {
-        Ok(course) => Some(course),
-        Err(CourseFault::Twice(_)) => course_by_pieces(alloc, links, pieces),
-        Err(_) => None,
-    }
+    Course::new(alloc, pieces, &links).ok()
 }
 
 /// Marks at both ends of a route of this length, which measure it from 0.
@@ -121,7 +97,7 @@ fn is_row(span: &Span) -> bool
 ///
 /// # Errors
 /// When memory runs out.
-pub fn add(spans: &mut Spans, alloc: Global, span: Span) -> Result<bool, AllocError> {
+fn add(spans: &mut Spans, alloc: Global, span: Span) -> Result<bool, AllocError> {
     if !is_row(&span) || !spans.is_free(&span) {
         return Ok(false);
     }

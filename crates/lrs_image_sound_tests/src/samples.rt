@@ -12,7 +12,7 @@ use std::alloc::AllocGlobal;
 use std::process::Abort;
 
 /// The first unsound table of the image: every test asks by this call.
-pub fn unsound(rt: &(impl Abort + AllocGlobal), image: &Image) -> Option<Table> {
+fn unsound(rt: &(impl Abort + AllocGlobal), image: &Image) -> Option<Table> {
     first_unsound(rt.alloc(), image).expect(rt, "memory")
 }
 
@@ -51,7 +51,7 @@ pub fn long_links(rt: &(impl Abort + AllocGlobal)) -> Rows<Link> {
 }
 
 /// The course over these pieces of the long links.
-pub fn course(rt: &(impl Abort + AllocGlobal), pieces: &[Piece]) -> Course {
+fn course(rt: &(impl Abort + AllocGlobal), pieces: &[Piece]) -> Course {
     let links = long_links(rt);
     layout::course(rt.alloc(), links.as_slice(), pieces).expect(rt, "a course")
 }
@@ -125,7 +125,7 @@ fn line(rt: &(impl Abort + AllocGlobal)) -> Line {
 }
 
 /// An edit with this key.
-pub fn edit(rt: &(impl Abort + AllocGlobal), key: &[u8]) -> Edit {
+fn edit(rt: &(impl Abort + AllocGlobal), key: &[u8]) -> Edit {
     Edit {
         key: Key::new(key).expect(rt, "a key"),
         line: line(rt),
