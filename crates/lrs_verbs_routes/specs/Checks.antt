@@ -2,18 +2,9 @@
 use Rattle.std.specs.Prelude.{List, [], Some, None}
 use Rattle.lrs_inventory.specs.Prelude.{Name, Piece, Mark, RouteChange, RouteKeys, Difference, rerouting}
 use Rattle.lrs_image_laws.specs.Differences.{no_change}
-use Rattle.lrs_inventory.specs.declared.plan.GroundChange.{GroundChange}
 use Rattle.lrs_inventory.specs.declared.plan.Plan.{Plan}
 use Rattle.lrs_verbs_routes.specs.declared.split.Halves.{Halves}
 use Rattle.lrs_inventory.specs.Plans.{plan_of}
-
--- a plan that changes ground too
-abbrev pub over : (ground : GroundChange) → Difference → Plan
-over ground d = record (plan_of d) { ground = Some ground }
-
--- a plan by which ground passes to a route, these pieces
-abbrev pub passing : Name → List Piece → Difference → Plan
-passing route passed d = over (record { route = route; gone = []; passed = passed; come = [] }) d
 
 -- the plan by which a route gets these marks
 abbrev pub recalibrated : Name → List Mark → Plan
@@ -21,11 +12,11 @@ recalibrated route marks = plan_of (rerouting (Some (record (no_change route) { 
 
 -- the plan by which a route gets this name with what lies on it, and its ground, these pieces, passes to it
 abbrev pub renumbered : Name → Name → RouteKeys → List Piece → Plan
-renumbered route name keys passed = passing name passed (rerouting (Some (record (no_change route) { name = name; keys = keys })) None None)
+renumbered route name keys passed = record (plan_of (rerouting (Some (record (no_change route) { name = name; keys = keys })) None None)) { ground = Some (record { route = name; gone = []; passed = passed; come = [] }) }
 
 -- the plan by which a route becomes two, and the ground of its rear, these pieces, passes to the new one
 abbrev pub split_plan : Name → Halves → List Piece → Plan
-split_plan name h passed = passing name passed (rerouting (Some h.front) None (Some h.rear))
+split_plan name h passed = record (plan_of (rerouting (Some h.front) None (Some h.rear))) { ground = Some (record { route = name; gone = []; passed = passed; come = [] }) }
 
 -- the difference by which a route changes and another goes with what lies on it
 abbrev pub joining : RouteChange → Name → RouteKeys → Difference
@@ -33,4 +24,4 @@ joining c second keys = record (rerouting (Some c) (Some second) None) { keys = 
 
 -- the plan by which a route changes and the second goes with what lies on it, and its ground, these pieces, passes to the first
 abbrev pub join_plan : Name → RouteKeys → RouteChange → List Piece → Plan
-join_plan second keys c passed = passing c.name passed (joining c second keys)
+join_plan second keys c passed = record (plan_of (joining c second keys)) { ground = Some (record { route = c.name; gone = []; passed = passed; come = [] }) }
