@@ -24,7 +24,7 @@ use Rattle.lrs_image_laws.proofs.Ordering.{sound_is_orderly}
 use Rattle.lrs_inventory.specs.Changes.{route_on, ground_after}
 use Rattle.lrs_inventory.specs.Plans.{TellsGround, IsPlanOf}
 use Rattle.lrs_inventory.specs.NewCourses.{new_course, new_marks}
-use Rattle.lrs_verbs.specs.NewRoutes.{IsEntryOf, route_plan}
+use Rattle.lrs_verbs_routes.specs.Checks.{IsEntryOf, route_plan}
 use Rattle.lrs_inventory.proofs.NamedEntries.{names_exact}
 use Rattle.lrs_inventory.proofs.Filed.{put-insert_by}
 use Rattle.lrs_image_laws.proofs.InOrder.{none_found, is_false, and_weaker, all-insert_by, each_two-insert_by, before-chain, before-comparable, any-insert_by_other, find-insert_by, each_two-insert_among, made-insert_by_none, all_mapped-insert_by, map-insert_by}

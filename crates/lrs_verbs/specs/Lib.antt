@@ -1,4 +1,3 @@
-pub mod NewRoutes
 pub mod RouteReferents
 pub mod Entering
 pub mod Wanted

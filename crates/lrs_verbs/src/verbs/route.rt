@@ -3,7 +3,7 @@
 ghost use Rattle.std.specs.Prelude.{◌≡◌, None, length};
 ghost use Rattle.lrs_element.specs.Marks.{bad_mark};
 ghost use Rattle.lrs_machine.specs.declared.command.Command.TheVariants as verb;
-ghost use Rattle.lrs_verbs.specs.NewRoutes.{IsEntryOf, route_plan};
+ghost use Rattle.lrs_verbs_routes.specs.Checks.{IsEntryOf, route_plan};
 ghost use Rattle.lrs_inventory.specs.Plans.{Plans};
 
 use lrs_element::{Course, Mark, Marks, Piece};
