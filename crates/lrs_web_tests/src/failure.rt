@@ -185,16 +185,17 @@ fn a_keeper_that_is_not_loaded_is_no_desk<K: Keeper + Drop>(
     is_opening_fault(rt, fault, OpenFault::Keep);
 }
 
-pub fn a_keeper_fails(rt: &HostRuntime) {
+#[test]
+fn a_keeper_fails(rt: HostRuntime) {
     let alloc = rt.alloc();
-    after_a_failed_commit_of_one_questions_go_on(rt, alloc, failing(alloc, Failure::Old));
-    after_want_of_memory_in_a_commit_the_desk_goes_on(rt, alloc, failing(alloc, Failure::Memory));
-    a_command_that_was_kept_is_done_no_second_time(rt, alloc, failing(alloc, Failure::New));
+    after_a_failed_commit_of_one_questions_go_on(&rt, alloc, failing(alloc, Failure::Old));
+    after_want_of_memory_in_a_commit_the_desk_goes_on(&rt, alloc, failing(alloc, Failure::Memory));
+    a_command_that_was_kept_is_done_no_second_time(&rt, alloc, failing(alloc, Failure::New));
     after_a_failed_commit_of_two_questions_ask_for_a_reopening(
-        rt,
+        &rt,
         alloc,
         failing(alloc, Failure::Old),
     );
     let never_loaded = Failing::over(Plain::empty(alloc), 0, 0, Failure::Old);
-    a_keeper_that_is_not_loaded_is_no_desk(rt, alloc, never_loaded);
+    a_keeper_that_is_not_loaded_is_no_desk(&rt, alloc, never_loaded);
 }

@@ -87,8 +87,9 @@ fn no_more_is_taken<K: Keeper + Drop>(rt: &(impl Abort + AllocGlobal), keeper: K
 }
 
 // One record at a time, and together, where groups end at refusals.
-pub fn a_full_inventory_takes_no_more(rt: &HostRuntime) {
+#[test]
+fn a_full_inventory_takes_no_more(rt: HostRuntime) {
     let alloc = rt.alloc();
-    no_more_is_taken(rt, Plain::empty(alloc), false);
-    no_more_is_taken(rt, Plain::empty(alloc), true);
+    no_more_is_taken(&rt, Plain::empty(alloc), false);
+    no_more_is_taken(&rt, Plain::empty(alloc), true);
 }

@@ -1,15 +1,21 @@
 //! Serves connections of a door in memory at a desk over an inventory in memory. Each word lets one more connection wait,
 //! with the request of a file, as `request:totals.http`, or with a first read that fails, as `failing:totals.http`; or it
-//! serves so many, as `serve:3`. What is written to each connection is printed, and then how the service ended. Or a word
-//! names a test of desks and of whole sheets, as `test:failure`.
+//! serves so many, as `serve:3`. What is written to each connection is printed, and then how the service ended. Beside it
+//! stand tests of desks and of whole sheets.
 #![tactic(auto)]
 
+#[cfg(test)]
 mod calls;
+#[cfg(test)]
 mod equality;
+#[cfg(test)]
 mod failure;
+#[cfg(test)]
 mod limits;
 mod memory;
+#[cfg(test)]
 mod request;
+#[cfg(test)]
 mod sheet_memory;
 
 use lrs_desk::{Desk, Keeper, Plain};
@@ -55,30 +61,7 @@ fn serve_word<D: Door, K: Keeper>(
     }
 }
 
-/// Runs the test that a word names. It stops the program where it fails.
-fn test(rt: &HostRuntime, name: &str) -> Option<()> {
-    match name {
-        "failure" => failure::a_keeper_fails(rt),
-        "limits" => limits::a_full_inventory_takes_no_more(rt),
-        "request" => request::a_request_is_answered(rt),
-        "one_by_one" => sheet_memory::a_sheet_of_all_verbs_is_done(rt, 1),
-        "together" => sheet_memory::a_sheet_of_all_verbs_is_done(rt, 10),
-        _ => return None,
-    }
-    println!(rt; "{name} passed").ok()
-}
-
-/// Runs the tests that words name.
-fn run_tests(rt: &HostRuntime, words: &[String]) -> Option<()> {
-    for word in words {
-        if let Some(name) = word.as_str().strip_prefix("test:") {
-            test(rt, name)?;
-        }
-    }
-    Some(())
-}
-
-/// Does what a word says, if it names no test.
+/// Does what a word says.
 fn step<'a, K: Keeper>(
     rt: &'a HostRuntime,
     word: &str,
@@ -90,7 +73,6 @@ fn step<'a, K: Keeper>(
         "request" => wait(rt, rest, false, door),
         "failing" => wait(rt, rest, true, door),
         "serve" => serve_word(rt, rest, door, desk),
-        "test" => Some(()),
         _ => None,
     }
 }
@@ -122,9 +104,6 @@ fn main(rt: HostRuntime) -> ExitCode {
     let Ok(words) = given.skip(1).collect::<Vec<String>>(rt.alloc()) else {
         return ExitCode::from(1);
     };
-    if run_tests(&rt, words.as_slice()).is_none() {
-        return ExitCode::from(1);
-    }
     match run(&rt, words.as_slice(), Plain::empty(rt.alloc())) {
         Some(()) => ExitCode::from(0),
         None => ExitCode::from(1),

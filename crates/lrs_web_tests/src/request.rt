@@ -43,6 +43,7 @@ fn is_answered<K: Keeper + Drop>(rt: &(impl Abort + AllocGlobal), keeper: K) {
     shut(desk);
 }
 
-pub fn a_request_is_answered(rt: &HostRuntime) {
-    is_answered(rt, Plain::empty(rt.alloc()));
+#[test]
+fn a_request_is_answered(rt: HostRuntime) {
+    is_answered(&rt, Plain::empty(rt.alloc()));
 }

@@ -1,8 +1,7 @@
 //! A sheet of all verbs, where a growth is refused: the run ends in want of memory or in a fault of its writer, and the
 //! same sheet with memory, at the same desk, is done: what was done before is answered again, and the rest is done.
 //!
-//! With ample memory nothing here is refused. `tests/refused_growths_test.py` runs this with one allocation refused,
-//! each in turn.
+//! With ample memory nothing here is refused. `tests/refused_growths_test.py` runs this with one allocation refused.
 
 ghost use Rattle.std.specs.Prelude.{◌≤◌};
 
@@ -97,10 +96,14 @@ fn all_verbs_are_done<K: Keeper + Drop>(
     shut(desk);
 }
 
-/// A sheet of all verbs, this many records together.
-pub fn a_sheet_of_all_verbs_is_done(rt: &HostRuntime, together: usize)
-    requires { 1 ≤ together }
-{
+#[test]
+fn a_sheet_of_all_verbs_is_done_one_by_one(rt: HostRuntime) {
     let alloc = rt.alloc();
-    all_verbs_are_done(rt, Plain::empty(alloc), Plain::empty(alloc), together);
+    all_verbs_are_done(&rt, Plain::empty(alloc), Plain::empty(alloc), 1);
+}
+
+#[test]
+fn a_sheet_of_all_verbs_is_done_together(rt: HostRuntime) {
+    let alloc = rt.alloc();
+    all_verbs_are_done(&rt, Plain::empty(alloc), Plain::empty(alloc), 10);
 }
