@@ -103,6 +103,32 @@ def test_files_that_cannot_be_opened(top):
     assert explained("at", str(top / "cut"), "A1", "abs", "5")[0] in ("Open", "Unsound:link")
 
 
+def tables_in_another_order(db, other):
+    """Makes the other file from a store: the same rows, and `class` is the first table that is made."""
+    with sqlite3.connect(db) as store:
+        lines = [line for line in store.iterdump() if line not in ("BEGIN TRANSACTION;", "COMMIT;")]
+    store.close()
+    first = [line for line in lines if line.startswith("CREATE TABLE class")]
+    assert len(first) == 1
+    with sqlite3.connect(other) as made:
+        made.executescript("".join(first + [line for line in lines if line not in first]))
+    made.close()
+
+
+def test_tables_in_another_order_are_named_and_can_be_copied(top):
+    make_full(top / "roads.db")
+    tables_in_another_order(top / "roads.db", top / "OLD.db")
+    fault, said = explained("totals", str(top / "OLD.db"))
+    assert fault == "Open" and "in another order" in said, said
+    (top / "HEADER.csv").write_bytes(FIRST.split(b"\n")[0] + b"\n")
+    page = (TOP / "docs" / "OPERATING.md").read_text()
+    commands = re.search(r"^(\./roadlrs edit NEW\.db HEADER\.csv\n.*?)^```$", page, re.M | re.S)[1]
+    subprocess.run(["bash", "-ec", commands.replace("./roadlrs", str(PROGRAM))], cwd=top, check=True, stdout=subprocess.DEVNULL)
+    for words in (("totals",), ("list", "routes"), ("log",)):
+        command, *rest = words
+        ends(run(command, top / "NEW.db", *rest), run(command, top / "roads.db", *rest).stdout, 0)
+
+
 def test_a_file_that_another_program_has(top):
     db = top / "roads.db"
     make_full(db)

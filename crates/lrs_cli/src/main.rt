@@ -1,22 +1,25 @@
 //! The program `roadlrs`: its words, what it does for them, and how it ends.
 #![tactic(auto)]
 
-mod inventory;
-mod jobs;
-mod server;
+mod files;
 
-use jobs::do_job;
-use lrs_cli_help::{Options, explain, is_reader_gone, keep_job_words, options_of, verb_help};
+use files::StoredFiles;
+use lrs_cli_help::{
+    Options, explain, hint_at, is_reader_gone, keep_job_words, options_of, verb_help,
+};
+use lrs_cli_jobs::do_job;
 use lrs_cli_tasks::{Ending, ProgramFault, Shown, status};
 use lrs_cli_words::{Job, WordsFault, job_of};
 use std::env;
 use std::io::{ErrorKind, IsTerminal};
 use std::process::ExitCode;
 
-// Does a job, and explains the fault that stops it where that is asked for.
+// Does a job. Says what was given for a word that cannot be read, and where that is asked for explains the fault that
+// stops it.
 fn do_explained(rt: &HostRuntime, job: &Job<'_>, options: Options, shown: Shown) -> Ending {
-    let ending = do_job(rt, job, options.existing, shown);
+    let ending = do_job(rt, &StoredFiles, job, options.existing, shown);
     match ending {
+        Ending::Unreadable(word) => hint_at(rt, job, word),
         Ending::Stopped(fault) if options.explain => explain(rt, job, fault),
         _ => {}
     }

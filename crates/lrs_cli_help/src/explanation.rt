@@ -70,6 +70,17 @@ fn explain_open(rt: &HostRuntime, db: &str) {
             );
             say(rt, "name another file; this one was not changed");
         }
+        Found::OtherOrder => {
+            say_of(
+                rt,
+                db,
+                "the tables of an inventory, made in another order or with other columns",
+            );
+            say(
+                rt,
+                "docs/OPERATING.md says how to copy its rows into a new file; this one was not changed",
+            );
+        }
     }
 }
 

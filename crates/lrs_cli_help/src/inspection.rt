@@ -23,7 +23,15 @@ pub(crate) enum Found {
     NoDatabase(String),
     /// A database with these tables.
     Tables(String),
+    /// The tables of an inventory, in another order or with other columns.
+    OtherOrder,
 }
+
+// The tables of an inventory.
+const TABLES: [&str; 12] = [
+    "version", "link", "class", "asset", "piece", "mark", "ref", "span", "entered", "gone", "edit",
+    "origin",
+];
 
 // The fewest bytes of a log that has a commit: its header, and one frame with its header and the smallest page.
 const SHORTEST_LOG: u64 = 32 + 24 + 512;
@@ -60,10 +68,31 @@ fn table_names<S: Alter>(alloc: Global, conn: &Connection<S>) -> Found {
     Found::Tables(names)
 }
 
+// Whether a database has a table of this name.
+fn has_table<S: Alter>(conn: &Connection<S>, name: &str) -> bool {
+    for table in conn.schema().tables.as_slice() {
+        if table.name.as_slice() == name.as_bytes() {
+            return true;
+        }
+    }
+    false
+}
+
+// Whether a database has the tables of an inventory and no other, in whatever order.
+fn has_each_table<S: Alter>(conn: &Connection<S>) -> bool {
+    for name in &TABLES {
+        if !has_table(conn, name) {
+            return false;
+        }
+    }
+    conn.schema().tables.as_slice().len() == TABLES.len()
+}
+
 // What is found where the kit's `sqlite` was to open a file. Over any store, since a function over one that is in files
 // is dear to prove.
 fn found_in<S: Alter + Drop>(alloc: Global, conn: Result<Connection<S>, Error>) -> Found {
     match conn {
+        Ok(conn) if has_each_table(&conn) => Found::OtherOrder,
         Ok(conn) => table_names(alloc, &conn),
         Err(error) => match format!(in alloc; "{error}") {
             Ok(text) => Found::NoDatabase(text),

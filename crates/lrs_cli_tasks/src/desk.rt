@@ -52,18 +52,3 @@ pub fn open_in_memory(alloc: Global) -> Result<Desk<Plain>, ProgramFault>
         Err(_) => Err(ProgramFault::Memory),
     }
 }
-
-/// Opens a desk with full limits over a keeper. It acts on what an opening of the keeper may find, and on nothing else.
-///
-/// # Errors
-/// `Unsound` with the first unsound table of what is kept, `Open` if the keeper fails, and `Memory` if memory runs out.
-pub fn open_desk<K: Keeper + Drop>(keeper: K, alloc: Global) -> Result<Desk<K>, ProgramFault>
-    ensures kept { IfOk result (λ desk. HoldsOnly (K.may_hold desk.keeper) desk.image) }
-    ensures open { IfOk result (λ desk. desk.must_reopen ≡ false) }
-    ensures behind { IfOk result (λ desk. desk.is_ahead ≡ false) }
-    ensures limits { IfOk result (λ desk. (desk.limits.routes ≡ most_routes)
-        × (desk.limits.assets ≡ most_assets) × (desk.limits.edits ≡ most_edits)) }
-    ensures fault { IfErr result (HasNoDesk K.failures K.may_hold keeper) }
-{
-    open_full(keeper, alloc)
-}

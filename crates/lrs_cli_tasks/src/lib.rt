@@ -21,7 +21,7 @@ mod task;
 mod trial;
 
 pub use audit::do_audit;
-pub use desk::{is_in_memory, open_desk, open_in_memory};
+pub use desk::{is_in_memory, open_in_memory};
 pub use endings::{Ending, Missing, status};
 pub use fault::ProgramFault;
 pub use page::do_page;

@@ -2,7 +2,14 @@
 //! disks in memory, which are closed then; and over these files again. Each word names a call and the file that it
 //! reads, as `edits:first.csv`, or a position to translate and back, as `trip:int:1/3:abs` on route A1. What each writes
 //! is printed, and then how many edits there are.
+//!
+//! Behind it connections of a door in memory are served at a desk of its own. A word lets one more connection wait, with
+//! the request of a file, as `waits:totals.http`, or with a first read that fails, as `fails:totals.http`; or so many are
+//! served, as `serves:3`. What is written to each connection is printed, and then how the service ended.
 #![tactic(auto)]
+
+mod door;
+mod services;
 
 use lrs_desk::{Desk, Keeper, Plain, Staged};
 use lrs_machine::Limits;
@@ -10,6 +17,7 @@ use lrs_position::{EnteredPosition, RouteName, read_expr, read_method, read_targ
 use lrs_promises::{Call, headline, round_trip, rows};
 use lrs_store::{Tables, close_files, open_files};
 use lrs_store_image::Reader;
+use services::serve_words;
 use sqlite::{Alter, FileStore, Files, Options};
 use sqlite_disk::{Disk, Memory};
 use std::process::ExitCode;
@@ -143,11 +151,18 @@ fn run_disks(rt: &HostRuntime, words: &[String]) -> Option<()> {
     Some(())
 }
 
-/// Over each keeper in turn.
+/// Serves at a desk over an inventory in memory.
+fn run_services(rt: &HostRuntime, words: &[String]) -> Option<()> {
+    let mut desk = open(rt, Plain::empty(rt.alloc()))?;
+    serve_words(rt, words, &mut desk)
+}
+
+/// Over each keeper in turn, and then the services.
 fn run_each(rt: &HostRuntime, words: &[String]) -> Option<()> {
     run_plain(rt, words)?;
     run_memory(rt, words)?;
-    run_disks(rt, words)
+    run_disks(rt, words)?;
+    run_services(rt, words)
 }
 
 fn main(rt: HostRuntime) -> ExitCode {

@@ -1,5 +1,5 @@
 -- Why a call of several statements answers an error.
-use Rattle.std.proofs.Common.{◌≡◌, ◌∙◌, inl, inr, true, IsTrue, IsSome, None, Ok, Err, Result, sym, subst, arith}
+use Rattle.std.proofs.Common.{◌≡◌, ◌∙◌, inl, inr, true, IsTrue, IsSome, Ok, Err, Result, sym, subst, arith}
 use Rattle.std.proofs.lemmas.Bool.{false≢true}
 use Rattle.sqlite_trees.specs.declared.store.Store.{Ghosts}
 use Rattle.sqlite.specs.declared.error.Error.{Error}
@@ -13,7 +13,6 @@ use Rattle.lrs_store_tables.specs.Stored.{IsWriting, LeavesStore}
 use Rattle.lrs_store_tables.specs.Resting.{IsReady}
 use Rattle.lrs_store_tables.specs.Failing.{HasFailed, HasReason, ErrHasReason, ErrInsideHasReason}
 use Rattle.lrs_store_tables.proofs.FailLemmas.{reason_then, reason_after}
-use Rattle.lrs_store_keeper.specs.Holding.{DiskHasFailed}
 use Rattle.lrs_store_keeper.specs.Opening.{IsSecond, IsNotSecond}
 use Rattle.lrs_store_keeper.proofs.RowLemmas.{still}
 use Rattle.lrs_store_keeper.proofs.ReadLemmas.{begins}
@@ -48,12 +47,6 @@ fails_alone {S} {A} g old tx mid last (Err e) is ready one cause two clean = by 
 pub store_failed : (f : LoadFault) (e : Error) (old new : State) → (e ≡ SqliteFailure OutOfMemory → f ≡ Memory) → f ≡ Store → HasReason old new e → HasFailed old new
 store_failed f e old new memory is (inl ran_out) = absurd (let both = sym (memory ran_out) ∙ is in cc)
 store_failed f e old new memory is (inr failed) = failed
-
--- a store whose statements may take any number of steps fails where its disk does, or where it was shut
-pub disk_has_failed : (old new : State) → old.step_limit ≡ None → HasFailed old new → DiskHasFailed old new
-disk_has_failed old new unlimited (inl more) = inl more
-disk_has_failed old new unlimited (inr (inl shut)) = inr shut
-disk_has_failed old new unlimited (inr (inr limit)) = absurd (false≢true (subst IsSome unlimited limit))
 
 -- behind a call that changed nothing and left the store open
 pub failed_behind : (a b c : State) → LeavesStore a b → IsTrue b.is_open → HasFailed b c → HasFailed a c

@@ -1,7 +1,6 @@
 -- What an opening of the tables of a store may find, and what a keeper over them knows.
-use Rattle.std.specs.Prelude.{◌≡◌, ◌≢◌, ◌⊎◌, ℕ, pos, Bool, true, false, [], ◌∷◌, length, None, Result, Ok, Err, IsTrue, ⊤}
+use Rattle.std.specs.Prelude.{◌≡◌, ◌≢◌, ◌⊎◌, ℕ, pos, Bool, true, false, [], ◌∷◌, length, Result, Ok, Err, IsTrue, ⊤}
 use Rattle.std.proofs.Common.{refl}
-use Rattle.sqlite_disk.specs.Disk.{MoreFaults}
 use Rattle.sqlite_trees.specs.Tree.{Trees}
 use Rattle.sqlite.specs.State.{State, HasCleanDisk}
 use Rattle.lrs_machine.specs.declared.image.Image.{Image}
@@ -30,10 +29,6 @@ finds_left may_leave db clean left = (content_of (stored db), (clean, (db, left,
 -- the store is open, if its disk is clean
 abbrev pub IsOpenIfClean : State → Type 0
 IsOpenIfClean s = HasCleanDisk s → IsTrue s.is_open
-
--- a call of the disk failed and was counted, or the store was shut before
-abbrev pub DiskHasFailed : State → State → Type 0
-DiskHasFailed old new = MoreFaults old.faults new.faults ⊎ (old.is_open ≡ false)
 
 -- rows of version 2 that hold this image
 pub record AreRowsOf (i : Image) (t : Tables) : Type 0 where
@@ -68,10 +63,9 @@ pub record IsAsBefore (edits : ℕ) (old new : State) : Type 0 where
   pub edits_are : HasEdits edits new
   pub content : (c : Result Image Table) → MayHold new c → MayHold old c
 
--- A keeper can use its connection: it is at rest, outside a transaction, its statements may take any number of steps, and its rows are of version 2. Once the image is loaded it is open and the edits are counted.
+-- A keeper can use its connection: it is at rest, outside a transaction, and its rows are of version 2. Once the image is loaded it is open and the edits are counted.
 pub record IsUsable (s : State) (in_transaction is_loaded : Bool) (edits : ℕ) : Type 0 where
   pub autocommit : in_transaction ≡ false
-  pub unlimited : s.step_limit ≡ None
   pub ready : IsReady s
   pub second : IsSecond s
   pub is_open : is_loaded ≡ true → IsOpenIfClean s

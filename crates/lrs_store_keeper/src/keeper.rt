@@ -1,6 +1,6 @@
 //! The tables of a store as a keeper of batches.
 
-ghost use Rattle.std.specs.Prelude.{◌≡◌, ◌⊎◌, ◌≤◌, None, IfOk, IfErr, OnOk, MatchResult, true, false, Ok, Err, Result};
+ghost use Rattle.std.specs.Prelude.{◌≡◌, ◌⊎◌, ◌≤◌, IfOk, IfErr, OnOk, MatchResult, true, false, Ok, Err, Result};
 ghost use Rattle.sqlite.specs.State.{HasCleanDisk};
 ghost use Rattle.sqlite.specs.Held.{state};
 ghost use Rattle.sqlite.specs.Steps.{over_memory};
@@ -11,7 +11,8 @@ ghost use Rattle.lrs_machine.specs.Sound.{IsSound};
 ghost use Rattle.lrs_image.specs.Keeping.{HasRisen, HoldsOnly, HoldsSound};
 ghost use Rattle.lrs_store_tables.specs.Stored.{LeavesStore};
 ghost use Rattle.lrs_store_tables.specs.Resting.{IsReady};
-ghost use Rattle.lrs_store_keeper.specs.Holding.{DiskHasFailed, MayHold, IsOpenIfClean, IsSafe};
+ghost use Rattle.lrs_store_tables.specs.Failing.{HasFailed};
+ghost use Rattle.lrs_store_keeper.specs.Holding.{MayHold, IsOpenIfClean, IsSafe};
 ghost use Rattle.lrs_store_keeper.specs.Opening.{IsSecond, HoldsAnImage};
 
 use crate::commit::write_next;
@@ -67,9 +68,9 @@ impl<S: Alter, R: ReadImage + Drop> Tables<S, R> {
     ///
     /// # Errors
     /// `Unsound` with the first unsound table of rows that are not of version 2, all of which stay as they are; `Store`
-    /// if the store fails, and of rows that are of version 2, or that hold no image, only where the disk failed; and
-    /// `Memory` if memory runs out. The connection is given back, and holds what it held: rows of version 2 stay as
-    /// they are.
+    /// if the store fails, and of rows that are of version 2, or that hold no image, only where the disk failed, or
+    /// statements of the connection may take only so many steps; and `Memory` if memory runs out. The connection is
+    /// given back, and holds what it held: rows of version 2 stay as they are.
     pub fn open(
         alloc: Global,
         mut conn: Connection<S>,
@@ -77,7 +78,6 @@ impl<S: Alter, R: ReadImage + Drop> Tables<S, R> {
     ) -> Result<Tables<S, R>, (LoadFault, Connection<S>)>
         requires autocommit { conn.in_transaction ≡ false }
         requires ready { IsReady (state S.Store conn) }
-        requires unlimited { (state S.Store conn).step_limit ≡ None }
         ensures unloaded { IfOk result (λ k. k.is_loaded ≡ false) }
         ensures usable { IfOk result (λ k. k.is_broken ≡ false) }
         ensures clean { MatchResult result (λ k. HasCleanDisk (state S.Store k.conn)
@@ -95,10 +95,13 @@ impl<S: Alter, R: ReadImage + Drop> Tables<S, R> {
             → LeavesStore (state S.Store conn) (state S.Store e.1)) }
         ensures failed { IsSecond (state S.Store conn) → IfErr result (λ e. e.0 ≡ LoadFault.Store
             → HasCleanDisk (state S.Store e.1)
-            → DiskHasFailed (state S.Store conn) (state S.Store e.1)) }
+            → HasFailed (state S.Store conn) (state S.Store e.1)) }
         ensures cause { IfErr result (λ e. e.0 ≡ LoadFault.Store → HasCleanDisk (state S.Store e.1)
-            → DiskHasFailed (state S.Store conn) (state S.Store e.1)
+            → HasFailed (state S.Store conn) (state S.Store e.1)
             ⊎ HoldsAnImage (state S.Store e.1)) }
+        ensures limit { MatchResult result (λ k. (state S.Store k.conn).step_limit
+            ≡ (state S.Store conn).step_limit) (λ e. (state S.Store e.1).step_limit
+            ≡ (state S.Store conn).step_limit) }
         ensures untouched { IsSecond (state S.Store conn) → MatchResult result (λ k.
             LeavesStore (state S.Store conn) (state S.Store k.conn)) (λ e.
             LeavesStore (state S.Store conn) (state S.Store e.1)) }
@@ -184,7 +187,7 @@ impl<S: Alter, R: ReadImage> Batches for Tables<S, R> {
         ensures open { OnOk result (IsOpenIfClean (state S.Store self.new.conn)) }
         ensures failed { result ≡ Err LoadFault.Store → self.old.is_broken ≡ false
             → HasCleanDisk (state S.Store self.new.conn)
-            → DiskHasFailed (state S.Store self.old.conn) (state S.Store self.new.conn) }
+            → HasFailed (state S.Store self.old.conn) (state S.Store self.new.conn) }
         ensures rows { LeavesStore (state S.Store self.old.conn) (state S.Store self.new.conn) }
     {
         if self.is_broken {

@@ -1,6 +1,6 @@
 //! A new store in memory, which a keeper takes.
 
-ghost use Rattle.std.specs.Prelude.{◌≡◌, None, IfOk, false};
+ghost use Rattle.std.specs.Prelude.{◌≡◌, IfOk, false};
 ghost use Rattle.sqlite.specs.State.{HasCleanDisk};
 ghost use Rattle.sqlite.specs.Held.{state};
 ghost use Rattle.sqlite.specs.Steps.{over_memory};
@@ -16,7 +16,6 @@ use std::alloc::Global;
 /// When memory runs out.
 pub(crate) fn new_store(alloc: Global) -> Result<Connection<MemStore>, StoreFault>
     ensures autocommit { IfOk result (λ conn. conn.in_transaction ≡ false) }
-    ensures unlimited { IfOk result (λ conn. (state over_memory conn).step_limit ≡ None) }
     ensures made { IfOk result (λ conn. IsNew (state over_memory conn)) }
 {
     let Ok(mut conn) = Connection::open_in_memory(alloc) else {

@@ -41,4 +41,4 @@ returns-in-Err-clause-cause g c is = refused_for (image_at g.S.Start) c.in-Err.r
 pub returns-in-Err-open-clause-cause : goal.returns-in-Err-open-clause-cause
 returns-in-Err-open-clause-cause g c is clean =
     let opened = c.in-Ok.ensures.open (c.in-Err-open.ensures.clean clean) in
-    taken_for (image_at g.S.Start) (file_state c.in-Ok.tables.conn) c.in-Err-open.conn opened c.in-Ok.ensures.found (λ second. c.in-Err-open.ensures.failed second is clean) (c.in-Err-open.ensures.cause is clean)
+    taken_for (image_at g.S.Start) (file_state c.in-Ok.tables.conn) c.in-Err-open.conn opened c.in-Ok.ensures.unlimited c.in-Ok.ensures.found (λ second. c.in-Err-open.ensures.failed second is clean) (c.in-Err-open.ensures.cause is clean)

@@ -9,7 +9,6 @@ invariant_of-result g c e =
     let made = c.in_ok-conn.ensures.made in
     record {
       autocommit = c.in_ok-conn.ensures.autocommit;
-      unlimited = c.in_ok-conn.ensures.unlimited;
       ready = λ clean opened. made.rest;
       second = new_second over_memory (λ s db opened same. same) c.in_ok-conn.conn made;
       is_open = λ loaded clean. made.is_open;

@@ -1,6 +1,4 @@
-use Rattle.std.proofs.Common.{Err, inl, inr, ap}
-use Rattle.sqlite.specs.Held.{state}
-use Rattle.lrs_store_keeper.proofs.FailedLemmas.{disk_has_failed}
+use Rattle.std.proofs.Common.{Err, ap}
 use Rattle.lrs_store_keeper.proofs.keeper.Tables.open.Goals as goal
 
 pub returns-in-Err-clause-unsound : goal.returns-in-Err-clause-unsound
@@ -10,12 +8,7 @@ pub returns-in-Err-clause-still : goal.returns-in-Err-clause-still
 returns-in-Err-clause-still g c t e = c.in-Err.ensures.still t (ap (λ f. Err f) e)
 
 pub returns-in-Err-clause-failed : goal.returns-in-Err-clause-failed
-returns-in-Err-clause-failed g c second e clean =
-    disk_has_failed (state g.S.Store c.args.conn) (state g.S.Store c.make_second.new.conn) c.requires.unlimited (c.in-Err.ensures.failed second (ap (λ f. Err f) e) clean)
+returns-in-Err-clause-failed g c second e clean = c.in-Err.ensures.failed second (ap (λ f. Err f) e) clean
 
 pub returns-in-Err-clause-cause : goal.returns-in-Err-clause-cause
-returns-in-Err-clause-cause g c e clean =
-    elim (c.in-Err.ensures.cause (ap (λ f. Err f) e) clean) [
-      | inl failed ↦ inl (disk_has_failed (state g.S.Store c.args.conn) (state g.S.Store c.make_second.new.conn) c.requires.unlimited failed)
-      | inr holds ↦ inr holds
-    ]
+returns-in-Err-clause-cause g c e clean = c.in-Err.ensures.cause (ap (λ f. Err f) e) clean

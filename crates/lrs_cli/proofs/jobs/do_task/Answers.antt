@@ -1,5 +1,0 @@
-use Rattle.std.proofs.Common.{inr, rules}
-use Rattle.lrs_cli.proofs.jobs.do_task.Goals as goal
-
-pub returns-else-is_in_memory : goal.returns-else-is_in_memory
-returns-else-is_in_memory c = rw c.in-Inventory.is (inr ((λ is. search rules), c.do_at_path.ensures))

@@ -1,3 +1,0 @@
-pub mod Services
-pub mod Looking
-pub mod Jobs
