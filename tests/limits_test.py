@@ -71,7 +71,7 @@ def test_a_thousand_pieces_are_cut_joined_and_turned():
     """The piece that was cut is one again when its route is joined, and a route that was turned twice is as it was."""
     whole = {"A": COURSE}, {"A": MARKS}, [(1, "A", 0, 2000, 0), (2, "A", 500, 1000, 1)]
     link, start, end, back = COURSE[499]
-    assert back and len(MARKS) == PIECES - 1
+    assert back and len(MARKS) == PIECES
     cut = (
         {"A": [*COURSE[:499], (link, end - 1, end, back)], "B": [(link, start, end - 1, back), *COURSE[500:]]},
         {"A": [mark for mark in MARKS if mark[0] <= CUT], "B": [(at - CUT, measure) for at, measure in MARKS if at >= CUT]},
