@@ -8,7 +8,7 @@ import queue
 import re
 import subprocess
 
-from program import BUILT, lines, run, sheet_of
+from program import BUILT, lines, sheet_of
 from refusing import RUNS, Refusal, with_each_refused
 from refusing_test import allocations_of_an_opening, fault_of, greatest
 from serving import answer, free_port, reply, request, sheet_reply, started
@@ -210,8 +210,8 @@ def test_a_check_of_a_file_bears_a_refused_growth(tmp_path):
         found[said.stdout] += 1
         assert said.status == 0 and said.stdout == replied or fault_of(said) == "Memory" and replied.startswith(said.stdout), (refusal.number, said)
 
-    with_each_refused("ALLOCATION", test, greatest(is_reached) - LAST, 2)
-    assert found[b""] > 100, found
+    with_each_refused("ALLOCATION", test, greatest(is_reached) - LAST, 4)
+    assert found[b""] > 50, found
 
 
 # ---- a proved test
