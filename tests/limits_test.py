@@ -82,7 +82,8 @@ def test_a_thousand_pieces_are_cut_joined_and_turned():
     with folder() as path:
         ends(edit(path, sheet_of(*LONG)), lines(*(f"{text[:2]},done,{n}" for n, text in enumerate(LONG, 1))), 0)
         has(path, *whole)
-        for number, (text, state) in enumerate([(f"v1,split,A,{CUT},B", cut), ("v2,join,A,B", whole), ("v3,turn,A", around), ("v4,turn,A", whole)], 6):
+        steps = [(f"v1,split,A,{CUT},B", cut), ("v2,join,A,B", whole), ("v3,turn,A", around), ("v4,turn,A", whole)]
+        for number, (text, state) in enumerate(steps, 6):
             does(path, number, text)
             has(path, *state)
 
@@ -125,13 +126,16 @@ def test_joins_of_pieces_up_to_a_thousand():
     )
 
 
-@pytest.mark.parametrize("shared, taken", [([(0, 1)], 1), ([(0, 999)], 999), ([(499, 500)], 500), ([(998, 999)], 999), ([(5, 700), (20, 300)], 300), ([(5, 300), (299, 300)], 300)])
-def test_the_first_of_a_thousand_pieces_that_shares_ground(shared, taken):
-    """A piece is put on the last millimetre of an earlier one."""
-    pieces = list(COURSE)
+SHARED = [[(0, 1)], [(0, 999)], [(499, 500)], [(998, 999)], [(5, 700), (20, 300)], [(0, 2), (1, 3)]]
+
+
+@pytest.mark.parametrize("shared", SHARED, ids=str)
+def test_the_first_of_a_thousand_pieces_that_shares_ground(shared):
+    """Each later piece is put on the last millimetre of an earlier one; the first of them is named."""
+    pieces, taken = list(COURSE), min(later for _, later in shared)
     for earlier, later in shared:
-        _, start, end, back = COURSE[earlier]
-        pieces[later] = (7, end - 1, end + 1, 1 - back) if earlier + 1 == later else (7, end - 1, end, back)
+        _, _, end, back = COURSE[earlier]
+        pieces[later] = (7, end - 1, end, back)
     replies(LINK, (route("r1", "A", pieces), f"r1,refused,Taken:{taken}"), (route("r2", "A", COURSE), "r2,done,2"))
 
 
@@ -182,6 +186,11 @@ def route_over(link, start):
     return [f"INSERT INTO piece VALUES ('C', 0, {link}, {start}, {start + 1}, 0)", "INSERT INTO mark VALUES ('C', 0, 0, 0), ('C', 1, 1, 1)"]
 
 
+def end_mark(name, at):
+    """Moves the last mark of a route a millimetre on."""
+    return f"UPDATE mark SET chainage = {at + 1} WHERE route = '{name}' AND chainage = {at}"
+
+
 def row(asset, name, start, end, side):
     return f"INSERT INTO span VALUES ({asset}, '{name}', {start}, {end}, {side})"
 
@@ -196,8 +205,8 @@ NEIGHBOURS = {
     "a route on the last millimetre of the longest": ("piece", route_over(10, BILLION - 1)),
     "a route beside the pieces": (None, route_over(11, BILLION - 1)),
     "a route on one of the pieces": ("piece", route_over(11, 2 * PIECES - 2)),
-    "a millimetre longer": ("piece", ["INSERT INTO piece VALUES ('A', 10, 12, 0, 1, 0)", f"UPDATE mark SET chainage = {END + 1} WHERE chainage = {END}"]),
-    "one piece more": ("piece", [f"INSERT INTO piece VALUES ('B', {PIECES}, 11, 5000, 5001, 0)", "UPDATE mark SET chainage = 1001 WHERE chainage = 1000"]),
+    "a millimetre longer": ("piece", ["INSERT INTO piece VALUES ('A', 10, 12, 0, 1, 0)", end_mark("A", END)]),
+    "one piece more": ("piece", [f"INSERT INTO piece VALUES ('B', {PIECES}, 11, 5000, 5001, 0)", end_mark("B", PIECES)]),
     "one mark more": ("mark", ["UPDATE mark SET n = 1000 WHERE n = 999", "INSERT INTO mark VALUES ('B', 999, 999, 999)"]),
     "a referent in the last millimetre": (None, [f"UPDATE ref SET place = {END - 1} WHERE route = 'A'"]),
     "a referent behind it": ("ref", [f"UPDATE ref SET place = {END} WHERE route = 'A'"]),
@@ -205,7 +214,7 @@ NEIGHBOURS = {
     "two holders of the last millimetre": ("span", [row(3, "A", END - 1, END, RIGHT)]),
     "two holders, where they may be": ("gone", [row(3, "A", END - 1, END, RIGHT), "UPDATE class SET kind = 1 WHERE name = 'RAIL'"]),
     "one place more than an asset may have": ("entered", [entry(2, 11, 0, 1, LEFT)]),
-    "as many as another asset, which does not hold it": ("gone", [entry(3, 11, 0, 1, LEFT)]),
+    "a place of another asset, which does not hold it": ("gone", [entry(3, 11, 0, 1, LEFT)]),
     "the last millimetre twice": ("entered", [entry(1, 10, BILLION - 1, BILLION, LEFT)]),
     "one past it": ("entered", [entry(1, 10, BILLION, BILLION + 1, LEFT)]),
     "held but for the last millimetre": ("gone", [f"UPDATE span SET hi = {END - 1} WHERE asset = 2"]),
@@ -213,7 +222,7 @@ NEIGHBOURS = {
     "held but for the last of the pieces": ("gone", ["UPDATE span SET hi = 999 WHERE asset = 3"]),
     "held on the other side": ("gone", [f"UPDATE span SET side = {RIGHT} WHERE asset = 3"]),
     "neither held nor gone": ("gone", ["DELETE FROM gone WHERE link = 10"]),
-    "one millimetre of it": ("gone", [f"UPDATE gone SET hi = {BILLION - 1} WHERE link = 10"]),
+    "one millimetre neither held nor gone": ("gone", [f"UPDATE gone SET hi = {BILLION - 1} WHERE link = 10"]),
     "held and never entered": ("gone", [f"DELETE FROM entered WHERE lo = {2 * PIECES - 2}"]),
     "an edit is not there": ("edit", ["DELETE FROM edit WHERE number = 22"]),
     "another edit is named": ("origin", ["UPDATE origin SET edit = 20 WHERE asset = 3"]),
@@ -278,16 +287,16 @@ def names(drawn):
 
 
 def come_and_go(drawn, sheet, rows, enter, leave):
-    """All rows are put in, half of them are taken out, and a half of these are put in again; those that are there now."""
+    """All rows are put in, half of them are taken out, and half of these are put in again: those that stayed, that came again, and that are gone."""
     for each in rows:
         sheet.add(enter(each))
     out = drawn.sample(rows, MANY // 2)
+    again, gone = out[: MANY // 4], out[MANY // 4 :]
     for each in out:
         sheet.add(leave(each))
-    again = drawn.sample(out, MANY // 4)
     for each in again:
         sheet.add(enter(each))
-    return [each for each in rows if each not in out or each in again], [each for each in out if each not in again]
+    return [each for each in rows if each not in out], again, gone
 
 
 def listed(server, name):
@@ -316,17 +325,16 @@ def test_routes_that_come_and_go_in_any_order_are_listed_in_theirs():
     called = names(drawn)
     ground = {name: f"1:{at}:{at + 1}:+" for at, name in enumerate(called)}
     sheet.add("link,1,1000")
-    there, gone = come_and_go(drawn, sheet, called, lambda name: f"route,{name},{ground[name]},0:0 1:1", lambda name: f"close,{name}")
+    stayed, again, gone = come_and_go(drawn, sheet, called, lambda name: f"route,{name},{ground[name]},0:0 1:1", lambda name: f"close,{name}")
     for name in sorted(called):
-        if name in there:
+        if name in gone:
+            sheet.add(f"close,{name}", "NoRoute")
+        else:
             sheet.add(f"route,{name},1:500:501:+,0:0 1:1", "RouteKnown")
             sheet.add(f"route,NEW,{ground[name]},0:0 1:1", "Taken:0")
-        else:
-            sheet.add(f"close,{name}", "NoRoute")
-    assert len(gone) == MANY // 4
     with started() as server:
         sheet.sent_to(server)
-        assert [row["name"] for row in listed(server, "routes")] == sorted(there)
+        assert [row["name"] for row in listed(server, "routes")] == sorted(stayed + again)
 
 
 def test_referents_that_come_and_go_in_any_order_are_listed_in_theirs():
@@ -334,7 +342,7 @@ def test_referents_that_come_and_go_in_any_order_are_listed_in_theirs():
     called = names(drawn)
     sheet.add("link,1,1000")
     sheet.add("route,A,1:0:1000:+,0:0 1000:1000")
-    there, gone = come_and_go(drawn, sheet, called, lambda name: f"ref,{name},A,abs,{called.index(name)}", lambda name: f"unref,{name}")
+    stayed, again, gone = come_and_go(drawn, sheet, called, lambda name: f"ref,{name},A,abs,{called.index(name)}", lambda name: f"unref,{name}")
     for name in sorted(called):
         if name in gone:
             sheet.add(f"unref,{name}", "NoRef")
@@ -342,36 +350,31 @@ def test_referents_that_come_and_go_in_any_order_are_listed_in_theirs():
             sheet.add(f"ref,{name},A,abs,0", "RefKnown")
     with started() as server:
         sheet.sent_to(server)
-        assert [(row["ref"], row["chainage"]) for row in listed(server, "refs")] == [(name, called.index(name)) for name in sorted(there)]
+        found = [(row["ref"], row["chainage"]) for row in listed(server, "refs")]
+        assert found == [(name, called.index(name)) for name in sorted(stayed + again)]
 
 
 def test_assets_that_come_and_go_in_any_order_are_listed_in_theirs():
-    """Each holds a millimetre of its own; it is retired, and entered again there under the next number."""
+    """Each holds a millimetre of its own; what is retired comes again there under the next number."""
     drawn, sheet = random.Random(4), Sheet()
     numbers = [2 * number for number in drawn.sample(range(1, 1_000_000), MANY)]
-    sheet.add("link,1,1000")
-    sheet.add("class,SPEED,exclusive")
-    sheet.add("route,A,1:0:1000:+,0:0 1000:1000")
-    places = {}
+    place, entered = {number: at for at, number in enumerate(numbers)}, set()
+    for text in ("link,1,1000", "class,SPEED,exclusive", "route,A,1:0:1000:+,0:0 1000:1000"):
+        sheet.add(text)
 
     def enter(number):
-        at = numbers.index(number)
-        used = number + (number in places)
-        places[number] = at
-        return f"enter,{used},SPEED,A,L,abs,{at},{at + 1},v,0"
+        name = number + 1 if number in entered else number
+        entered.add(number)
+        return f"enter,{name},SPEED,A,L,abs,{place[number]},{place[number] + 1},v,0"
 
-    def leave(number):
-        return f"retire,{number},A,abs,{places[number]},{places[number] + 1}"
-
-    there, gone = come_and_go(drawn, sheet, numbers, enter, leave)
-    first = {number for text, _ in sheet.rows if ",retire," in text for number in [int(text.split(",")[2])]}
-    now = {number + (number in first): places[number] for number in there}
+    stayed, again, gone = come_and_go(drawn, sheet, numbers, enter, lambda number: f"retire,{number},A,abs,0,1000")
+    held = {**{number: place[number] for number in stayed}, **{number + 1: place[number] for number in again}}
     for number in sorted(numbers):
         sheet.add(f"enter,{number},SPEED,A,L,abs,900,901,v,0", "AssetKnown")
-    for number, at in now.items():
-        sheet.add(f"enter,9,SPEED,A,L,abs,{at},{at + 1},v,0", f"Overlap:{number}")
-    for number in gone:
+    for number, at in held.items():
+        sheet.add(f"enter,1,SPEED,A,L,abs,{at},{at + 1},v,0", f"Overlap:{number}")
+    for number in again + gone:
         sheet.add(f"retire,{number},A,abs,0,1000", "Empty")
     with started() as server:
         sheet.sent_to(server)
-        assert [(row["asset"], row["from"]) for row in listed(server, "rows")] == sorted(now.items())
+        assert [(row["asset"], row["from"]) for row in listed(server, "rows")] == sorted(held.items())

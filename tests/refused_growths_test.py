@@ -93,7 +93,7 @@ class Servers:
             self.ports.put(free_port())
 
     @contextlib.contextmanager
-    def start(self, refusal, known=()):
+    def start(self, refusal):
         port = self.ports.get()
         words = [BUILT, "serve", ":memory:", str(port), "1000000"]
         with refusal.environment() as env, subprocess.Popen(words, env=env, stdout=subprocess.PIPE, stderr=subprocess.DEVNULL) as program:
