@@ -96,14 +96,16 @@ class Servers:
     def start(self, refusal):
         port = self.ports.get()
         words = [BUILT, "serve", ":memory:", str(port), "1000000"]
-        with refusal.environment() as env, subprocess.Popen(words, env=env, stdout=subprocess.PIPE, stderr=subprocess.DEVNULL) as program:
-            try:
-                assert program.stdout.readline() == b"listening %d\n" % port, refusal.number
-                answer(port, posted(FIRST))
-                yield port, pathlib.Path(env["REFUSED_NOTE"])
-            finally:
-                program.kill()
-                self.ports.put(port)
+        try:
+            with refusal.environment() as env, subprocess.Popen(words, env=env, stdout=subprocess.PIPE, stderr=subprocess.DEVNULL) as program:
+                try:
+                    assert program.stdout.readline() == b"listening %d\n" % port, refusal.number
+                    answer(port, posted(FIRST))
+                    yield port, pathlib.Path(env["REFUSED_NOTE"])
+                finally:
+                    program.kill()
+        finally:
+            self.ports.put(port)
 
     def refused_in_the_first_sheet(self, number):
         """Whether the allocation of this number, which is behind those of the opening, is one of the first sheet's."""
