@@ -182,11 +182,11 @@ def test_a_server_goes_on_after_a_refused_growth_in_each_question():
 # ---- a file that is looked at as a whole
 
 # so many allocations at the end of a check: it copies all that the inventory holds and finds it sound, does the sheet, and says what it would do
-LAST = 400
+LAST = 320
 
 
 def test_a_check_of_a_file_bears_a_refused_growth(tmp_path):
-    """It says so, and the file stays as it is."""
+    """It says so, or at its end that it could not write its replies; and the file stays as it is."""
     db = tmp_path / "roads.db"
     make(db, *MORE)
     settle(db)
@@ -210,10 +210,11 @@ def test_a_check_of_a_file_bears_a_refused_growth(tmp_path):
     def test(refusal):
         said = ended(refusal)
         found[said.stdout] += 1
-        assert said.status == 0 and said.stdout == replied or fault_of(said) == "Memory" and replied.startswith(said.stdout), (refusal.number, said)
+        assert replied.startswith(said.stdout), (refusal.number, said)
+        assert said.stdout == replied if said.status == 0 else fault_of(said) in {"Memory", "Write"}, (refusal.number, said)
 
-    with_each_refused("ALLOCATION", test, greatest(is_reached) - LAST, 4)
-    assert found[b""] > 50, found
+    with_each_refused("ALLOCATION", test, greatest(is_reached) - LAST)
+    assert found[b""] > 100, found
 
 
 # ---- a proved test
