@@ -235,13 +235,17 @@ def refused_before_listening(path, number):
     return reached
 
 
-def allocations_of_an_opening(path):
-    """How many allocations there are before a server over this file listens."""
-    least, most = 0, 1_000_000
+def greatest(holds, least=0, most=1_000_000):
+    """The greatest number of which this holds; it holds of all below it."""
     while least < most:
         middle = (least + most + 1) // 2
-        least, most = (middle, most) if refused_before_listening(path, middle) else (least, middle - 1)
+        least, most = (middle, most) if holds(middle) else (least, middle - 1)
     return least
+
+
+def allocations_of_an_opening(path):
+    """How many allocations there are before a server over this file listens."""
+    return greatest(lambda number: refused_before_listening(path, number))
 
 
 def test_a_server_over_a_file_goes_on_after_a_refused_growth(tmp_path):
