@@ -76,7 +76,6 @@ fn joined_marks(first: &Route, second: &Route) -> Result<Marks, Stop>
 }
 
 /// What becomes of a route that continues as another, over this course and with these marks.
-#[tactic(auto, using(crate::proofs::Going::plan_there))]
 fn lengthened(
     alloc: Global,
     front: &RouteRow,

@@ -173,7 +173,6 @@ fn realign_route(
 
 /// All of that but for the course and the marks of the new line, which it lends: what may fail is then made while no
 /// more is owned.
-#[tactic(auto, using(crate::proofs::Going::plan_there))]
 fn realign_stretch(
     alloc: Global,
     edit: u64,

@@ -43,11 +43,11 @@ pub(crate) fn changed(
     route: RouteName,
     course: Option<Course>,
     marks: Option<Marks>,
-    refs: ReferentChange,
+    moved: ReferentChange,
     spans: SpanChange,
 ) -> RouteChange
     ensures { result ≡ record (no_change route) {
-        course = course; marks = marks; refs = refs;
+        course = course; marks = marks; refs = moved;
         spans_gone = spans.gone.items; spans_come = spans.come.items } }
 {
     RouteChange {
@@ -56,7 +56,7 @@ pub(crate) fn changed(
         keys: RouteKeys::none(alloc),
         course,
         marks,
-        refs,
+        refs: moved,
         spans_gone: Rows::from_vec(spans.gone),
         spans_come: Rows::from_vec(spans.come),
     }

@@ -76,7 +76,6 @@ struct Halves {
 }
 
 /// The parts of a route at an inner mark.
-#[tactic(auto, using(crate::proofs::Going::plan_there))]
 fn cut_route(
     alloc: Global,
     route_row: &RouteRow,

@@ -37,7 +37,6 @@ pub fn plan_turn(alloc: Global, inventory: &Inventory, route: RouteName) -> Resu
 }
 
 /// What becomes of a route that is seen from its other end.
-#[tactic(auto, using(crate::proofs::Going::plan_there))]
 fn turn_route(alloc: Global, route_row: &RouteRow) -> Result<RouteChange, AllocError>
     requires { IsTrue (end_by (length route_row.now.route.course) route_row.now.spans) }
     ensures { IfOk result (λ change. IsTurnedBy route_row.now change) }
