@@ -1,9 +1,10 @@
 -- Rows and referents that go are of the route.
-use Rattle.std.proofs.Common.{◌≡◌, Bool, true, inl, inr, List, [], ◌∷◌, map, filter, refl}
+use Rattle.std.proofs.Common.{◌≡◌, Bool, true, inl, inr, List, [], ◌∷◌, map, filter, refl, sym}
 use Rattle.std.proofs.lemmas.Bool.{and_from}
 use Rattle.std.specs.List.{list_any, list_all}
 use Rattle.std.specs.Cmp.Lexicographic.{bytes_decides}
-use Rattle.lrs_inventory.specs.Prelude.{Referent, Span, has_row, IsPlan}
+use Rattle.lrs_inventory.specs.Prelude.{Referent, Span, span_before, has_row, IsPlan, RouteChange, spans_after}
+use Rattle.lrs_events.specs.Changes.{changed, changed_rows}
 use Rattle.lrs_events.specs.declared.change.SpanChange.{SpanChange}
 use Rattle.lrs_events_rows.specs.Order.{In}
 use Rattle.lrs_events_rows.proofs.Differing.{has_in}
@@ -19,6 +20,10 @@ rows_there rows (g ∷ gs) were = and_from (has_row rows g) (list_all (has_row r
 -- the rows that go by a plan were there
 pub plan_there : (rows : List Span) (plan : SpanChange) → IsPlan rows plan → list_all (has_row rows) plan.gone.items ≡ true
 plan_there rows plan is = rows_there rows plan.gone.items is.change.were
+
+-- the rows after a change by a plan
+pub rows_by : (rows : List Span) (c : RouteChange) (plan : SpanChange) → c.spans_gone ≡ plan.gone.items → c.spans_come ≡ plan.come.items → changed_rows plan rows ≡ spans_after c rows
+rows_by rows c plan gone come = λ j. changed span_before (sym gone j) (sym come j) rows
 
 -- each referent of some is named by them
 pub names_there : (refs some : List Referent) → ((q : Referent) → members.In q some → members.In q refs) → list_all (λ name. list_any (refers_to name) refs) (map (λ q. q.name) some) ≡ true

@@ -11,9 +11,9 @@ ghost use Rattle.lrs_verbs_routes.specs.Joins.{joined_course, joined_line, CanGo
 ghost use Rattle.lrs_inventory.specs.Plans.{Answers, Plans};
 
 use crate::checks::route_named;
-use crate::route_changes::{keys_on, no_change, pieces_of};
+use crate::route_changes::{changed, keys_on, pieces_of, rerouted};
 use lrs_element::{Course, JoinFault, Marks, Piece};
-use lrs_image::{RouteChange, RouteKeys};
+use lrs_image::{ReferentChange, RouteChange, RouteKeys};
 use lrs_inventory::{GroundChange, Inventory, Plan, Stop, refuse_if};
 use lrs_machine::{Cause, RouteRow};
 use lrs_measure::Rows;
@@ -76,7 +76,6 @@ fn joined_marks(first: &Route, second: &Route) -> Result<Marks, Stop>
 }
 
 /// What becomes of a route that continues as another, over this course and with these marks.
-#[tactic(auto, using(crate::proofs::Going::plan_there))]
 fn lengthened(
     alloc: Global,
     front: &RouteRow,
@@ -93,13 +92,18 @@ fn lengthened(
     let len = front.route.course.len();
     let refs = refs_on(alloc, rear.route.refs.as_slice(), len)?;
     let spans = front.spans.plan_concat(alloc, &rear.spans, len)?;
-    let mut change = no_change(alloc, front.route.name);
-    change.course = Some(course);
-    change.marks = Some(marks);
-    change.refs.come = refs;
-    change.spans_gone = Rows::from_vec(spans.gone);
-    change.spans_come = Rows::from_vec(spans.come);
-    Ok(change)
+    let moved = ReferentChange {
+        gone: Rows::new(alloc),
+        come: refs,
+    };
+    Ok(changed(
+        alloc,
+        front.route.name,
+        Some(course),
+        Some(marks),
+        moved,
+        spans,
+    ))
 }
 
 /// The referents of a course behind one of this length.
@@ -127,14 +131,14 @@ fn join_plan(
 ) -> Plan
     ensures { result ≡ join_plan second keys change passed }
 {
-    let mut plan = Plan::none(alloc);
+    let route = change.name;
+    let mut plan = rerouted(alloc, change, None);
     plan.ground = Some(GroundChange {
-        route: change.name,
+        route,
         gone: Rows::new(alloc),
         passed,
         come: Rows::new(alloc),
     });
-    plan.difference.changed = Some(change);
     plan.difference.dropped = Some(second);
     plan.difference.keys = keys;
     plan

@@ -1,6 +1,6 @@
 //! A stretch of a route gets other ground.
 
-ghost use Rattle.std.specs.Prelude.{◌≡◌, ◌+◌, ◌≤◌, IsTrue, IfOk, [], true, length, map, nat_lt, slice_range, unwrap_or};
+ghost use Rattle.std.specs.Prelude.{◌≡◌, ◌+◌, ◌≤◌, IsTrue, IfOk, Some, [], true, length, map, nat_lt, slice_range, unwrap_or};
 ghost use Rattle.std.specs.List.{list_all, AllByRecursion};
 ghost use Rattle.lrs_inventory.specs.Prelude.{each_two, course_of, longest_route, IsFilled, differs, end_by, state_of};
 ghost use Rattle.lrs_machine.specs.declared.command.Command.TheVariants as verb;
@@ -10,7 +10,7 @@ ghost use Rattle.lrs_verbs_routes.specs.Splits.{refs_behind};
 ghost use Rattle.lrs_inventory.specs.Plans.{Answers, Plans};
 
 use crate::checks::{check_free, new_marks, route_named};
-use crate::route_changes::{no_change, pieces_of};
+use crate::route_changes::{changed, pieces_of, rerouted};
 use crate::split::names_behind;
 use lrs_element::{Course, JoinFault, Mark, Marks, Piece};
 use lrs_events::Gone;
@@ -150,7 +150,6 @@ struct Realigned {
 }
 
 /// What becomes of a route on a new line, by an edit.
-#[tactic(auto, using(crate::proofs::Going::plan_there))]
 fn realign_route(
     alloc: Global,
     edit: u64,
@@ -166,29 +165,43 @@ fn realign_route(
     requires course { line.course ≡ replaced from to line.come route_row.now.route.course }
     ensures { IfOk result (λ realigned. IsOnNewLine edit route_row.now from to line realigned) }
 {
+    let mut realigned = realign_stretch(alloc, edit, route_row, from, to, &line)?;
+    realigned.change.course = Some(line.course);
+    realigned.change.marks = Some(line.marks);
+    Ok(realigned)
+}
+
+/// All of that but for the course and the marks of the new line, which it lends: what may fail is then made while no
+/// more is owned.
+fn realign_stretch(
+    alloc: Global,
+    edit: u64,
+    route_row: &RouteRow,
+    from: u64,
+    to: u64,
+    line: &NewLine,
+) -> Result<Realigned, AllocError>
+    requires order { from ≤ to }
+    requires inside { to ≤ length route_row.now.route.course }
+    requires once { each_two differs route_row.now.route.course ≡ true }
+    requires ends { IsTrue (end_by (length route_row.now.route.course) route_row.now.spans) }
+    requires course { line.now.course ≡ replaced from to line.now.come route_row.now.route.course }
+    ensures { IfOk result (λ realigned. IsOnNewLine edit route_row.now from to line.now
+        (record realigned { change = record realigned.change {
+            course = Some line.now.course; marks = Some line.now.marks } })) }
+{
     let route = &route_row.route;
-    let NewLine {
-        come,
-        course,
-        marks,
-    } = line;
-    let len = come.len();
+    let len = line.come.len();
     // It is not too long.
-    let _len = course.len();
+    let _len = line.course.len();
     let freed = stretch_of(alloc, &route.course, from, to)?;
-    let come = pieces_of(alloc, &come)?;
+    let come = pieces_of(alloc, &line.come)?;
     let names = names_on(alloc, route.refs.as_slice(), from, to)?;
     let refs = moved_referents(alloc, route.refs.as_slice(), from, to, len)?;
     let RealignedRows { left, change: rows } = plan_rows(alloc, &route_row.spans, from, to, len)?;
     let abandoned = taken_away(alloc, edit, &left, &route.course, true)?;
-    let mut change = no_change(alloc, route.name);
-    change.course = Some(course);
-    change.marks = Some(marks);
-    change.refs = refs;
-    change.spans_gone = Rows::from_vec(rows.gone);
-    change.spans_come = Rows::from_vec(rows.come);
     Ok(Realigned {
-        change,
+        change: changed(alloc, route.name, None, None, refs, rows),
         abandoned,
         freed,
         come,
@@ -278,8 +291,7 @@ fn realigned_plan(alloc: Global, route: RouteName, realigned: Realigned) -> Plan
         come,
         names,
     } = realigned;
-    let mut plan = Plan::none(alloc);
-    plan.difference.changed = Some(change);
+    let mut plan = rerouted(alloc, change, None);
     plan.difference.gone = abandoned;
     plan.ground = Some(GroundChange {
         route,

@@ -6,7 +6,7 @@ ghost use Rattle.lrs_verbs_routes.specs.Checks.{recalibrated};
 ghost use Rattle.lrs_inventory.specs.Plans.{Plans};
 
 use crate::checks::{new_marks, route_named};
-use crate::route_changes::no_change;
+use crate::route_changes::{no_change, rerouted};
 use lrs_element::{Mark, Marks};
 use lrs_inventory::{Inventory, Plan, Stop};
 use lrs_position::RouteName;
@@ -37,7 +37,5 @@ fn recalibrated(alloc: Global, route: RouteName, marks: Marks) -> Plan
 {
     let mut change = no_change(alloc, route);
     change.marks = Some(marks);
-    let mut plan = Plan::none(alloc);
-    plan.difference.changed = Some(change);
-    plan
+    rerouted(alloc, change, None)
 }

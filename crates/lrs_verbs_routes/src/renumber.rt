@@ -6,7 +6,7 @@ ghost use Rattle.lrs_verbs_routes.specs.Checks.{renumbered};
 ghost use Rattle.lrs_inventory.specs.Plans.{Plans};
 
 use crate::checks::route_named;
-use crate::route_changes::{keys_on, no_change, pieces_of};
+use crate::route_changes::{keys_on, no_change, pieces_of, rerouted};
 use lrs_element::Piece;
 use lrs_image::RouteKeys;
 use lrs_inventory::{GroundChange, Inventory, Plan, Stop, refuse_if};
@@ -49,13 +49,12 @@ fn renumbered(
     let mut change = no_change(alloc, route);
     change.name = name;
     change.keys = keys;
-    let mut plan = Plan::none(alloc);
+    let mut plan = rerouted(alloc, change, None);
     plan.ground = Some(GroundChange {
         route: name,
         gone: Rows::new(alloc),
         passed,
         come: Rows::new(alloc),
     });
-    plan.difference.changed = Some(change);
     plan
 }

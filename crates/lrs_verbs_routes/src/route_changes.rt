@@ -1,12 +1,15 @@
 //! What verbs of routes make their plans of.
 
-ghost use Rattle.std.specs.Prelude.{◌≡◌, IfOk, map};
+ghost use Rattle.std.specs.Prelude.{◌≡◌, IfOk, Some, None, map};
 ghost use Rattle.std.specs.List.{AllByRecursion};
-ghost use Rattle.lrs_inventory.specs.Prelude.{course_of, keys_of, IsFilled};
+ghost use Rattle.lrs_inventory.specs.Prelude.{course_of, keys_of, rerouting, IsFilled};
+ghost use Rattle.lrs_inventory.specs.Plans.{plan_of};
 ghost use Rattle.lrs_image_laws.specs.Differences.{no_change};
 
-use lrs_element::{Course, Piece};
-use lrs_image::{ReferentChange, RouteChange, RouteKeys};
+use lrs_element::{Course, Marks, Piece};
+use lrs_events::SpanChange;
+use lrs_image::{Difference, ReferentChange, RouteChange, RouteKeys};
+use lrs_inventory::{Plan, ReferentPlaces};
 use lrs_machine::RouteRow;
 use lrs_measure::Rows;
 use lrs_position::{RefName, Referent, RouteName};
@@ -28,6 +31,58 @@ pub fn no_change(alloc: Global, route: RouteName) -> RouteChange
         },
         spans_gone: Rows::new(alloc),
         spans_come: Rows::new(alloc),
+    }
+}
+
+/// The change of a route that gets this course and these marks, where they are given, and whose referents and rows
+/// change so.
+///
+/// To make it whole is cheaper to prove than to set the fields of one that changes nothing: each of them would be dropped.
+pub(crate) fn changed(
+    alloc: Global,
+    route: RouteName,
+    course: Option<Course>,
+    marks: Option<Marks>,
+    moved: ReferentChange,
+    spans: SpanChange,
+) -> RouteChange
+    ensures { result ≡ record (no_change route) {
+        course = course; marks = marks; refs = moved;
+        spans_gone = spans.gone.items; spans_come = spans.come.items } }
+{
+    RouteChange {
+        route,
+        name: route,
+        keys: RouteKeys::none(alloc),
+        course,
+        marks,
+        refs: moved,
+        spans_gone: Rows::from_vec(spans.gone),
+        spans_come: Rows::from_vec(spans.come),
+    }
+}
+
+/// The plan by which a route changes, and another one comes where one is given.
+pub(crate) fn rerouted(alloc: Global, change: RouteChange, made: Option<RouteRow>) -> Plan
+    ensures { result ≡ plan_of (rerouting (Some change) None made) }
+{
+    Plan {
+        difference: Difference {
+            link: None,
+            class: None,
+            asset: None,
+            changed: Some(change),
+            dropped: None,
+            keys: RouteKeys::none(alloc),
+            made,
+            entered: Rows::new(alloc),
+            gone: Rows::new(alloc),
+        },
+        ground: None,
+        referents: ReferentPlaces {
+            come: None,
+            gone: Rows::new(alloc),
+        },
     }
 }
 

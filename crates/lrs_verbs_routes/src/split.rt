@@ -2,7 +2,9 @@
 
 ghost use Rattle.std.specs.Prelude.{◌≡◌, ◌≤◌, IsTrue, IfOk, map, true, length, nat_eq};
 ghost use Rattle.std.specs.List.{list_any};
-ghost use Rattle.lrs_inventory.specs.Prelude.{is_route};
+ghost use Rattle.lrs_inventory.specs.Prelude.{are_rows, is_route, IsPlan};
+ghost use Rattle.lrs_events.specs.Changes.{changed_rows};
+ghost use Rattle.lrs_events_rows.specs.Cuts.{IsCut};
 ghost use Rattle.lrs_element.specs.Marks.{is_inner_mark};
 ghost use Rattle.lrs_machine.specs.declared.command.Command.TheVariants as verb;
 ghost use Rattle.lrs_image_laws.specs.Splitting.{back_by};
@@ -11,11 +13,12 @@ ghost use Rattle.lrs_verbs_routes.specs.Splits.{is_inside, refs_behind, IsHalved
 ghost use Rattle.lrs_inventory.specs.Plans.{Plans};
 
 use crate::checks::route_named;
-use crate::route_changes::{no_change, pieces_of};
+use crate::route_changes::{changed, pieces_of, rerouted};
 use lrs_element::{Course, Mark, Marks, Piece};
+use lrs_events::SpanChange;
 use lrs_events_rows::cuts::Cut;
 use lrs_events_spans::Spans;
-use lrs_image::RouteChange;
+use lrs_image::{ReferentChange, RouteChange};
 use lrs_inventory::{GroundChange, Inventory, Plan, Stop, refuse_if};
 use lrs_machine::{Cause, RouteRow};
 use lrs_measure::Rows;
@@ -43,7 +46,11 @@ pub fn plan_split(
     let is_inner = is_inside(len, route_row.route.marks.list(), at);
     refuse_if(!is_inner, Cause::NoMark)?;
     let halves = cut_route(alloc, route_row, at, name)?;
-    let passed = pieces_of(alloc, &halves.rear.route.course)?;
+    let Ok(passed) = pieces_of(alloc, &halves.rear.route.course) else {
+        // As a call, the drop is one step to prove, and not one for each part.
+        drop(halves);
+        return Err(Stop::Memory);
+    };
     Ok(split_plan(alloc, name, halves, passed))
 }
 
@@ -69,7 +76,6 @@ struct Halves {
 }
 
 /// The parts of a route at an inner mark.
-#[tactic(auto, using(crate::proofs::Going::plan_there))]
 fn cut_route(
     alloc: Global,
     route_row: &RouteRow,
@@ -81,26 +87,45 @@ fn cut_route(
     ensures { IfOk result (λ halves. IsHalved route_row.now at name halves) }
 {
     let route = &route_row.route;
+    let old = route.refs.as_slice();
+    // What owns most is made last, so that it is dropped in few places.
+    let names = names_behind(alloc, old, at)?;
+    let refs = refs_behind(alloc, old, at)?;
+    let (marks, rear_marks) = route.marks.cut(at)?;
     let (course, rear_course) = route.course.cut(at)?;
+    let CutRows { spans, change } = cut_rows(alloc, &route_row.spans, at)?;
     // Neither is too long.
     let _len = course.len();
     let _rear_len = rear_course.len();
-    let (marks, rear_marks) = route.marks.cut(at)?;
-    let refs = refs_behind(alloc, route.refs.as_slice(), at)?;
-    let names = names_behind(alloc, route.refs.as_slice(), at)?;
-    let Cut { rear, change } = route_row.spans.plan_cut(alloc, at)?;
-    let spans = Spans::of_rows(alloc, rear)?;
-    let mut front = no_change(alloc, route.name);
-    front.course = Some(course);
-    front.marks = Some(marks);
-    front.refs.gone = names;
-    front.spans_gone = Rows::from_vec(change.gone);
-    front.spans_come = Rows::from_vec(change.come);
+    let moved = ReferentChange {
+        gone: names,
+        come: Rows::new(alloc),
+    };
+    let front = changed(alloc, route.name, Some(course), Some(marks), moved, change);
     let route = rear_route(name, rear_course, rear_marks, refs);
     Ok(Halves {
         front,
         rear: RouteRow { route, spans },
     })
+}
+
+/// The rows of a rear, and the change that leaves those before it.
+#[derive(Drop)]
+struct CutRows {
+    spans: Spans,
+    change: SpanChange,
+}
+
+/// The rows of a route at a chainage.
+fn cut_rows(alloc: Global, spans: &Spans, at: u64) -> Result<CutRows, AllocError>
+    ensures plan { IfOk result (λ cut. IsPlan spans.now cut.change) }
+    ensures rear { IfOk result (λ cut. IsTrue (are_rows cut.spans)) }
+    ensures cut { IfOk result (λ cut. IsCut at spans.now
+        (changed_rows cut.change spans.now) cut.spans) }
+{
+    let Cut { rear, change } = spans.plan_cut(alloc, at)?;
+    let spans = Spans::of_rows(alloc, rear)?;
+    Ok(CutRows { spans, change })
 }
 
 /// A route of these parts, which fit.
@@ -153,14 +178,12 @@ fn split_plan(alloc: Global, name: RouteName, halves: Halves, passed: Rows<Piece
     ensures { result ≡ split_plan name halves passed }
 {
     let Halves { front, rear } = halves;
-    let mut plan = Plan::none(alloc);
+    let mut plan = rerouted(alloc, front, Some(rear));
     plan.ground = Some(GroundChange {
         route: name,
         gone: Rows::new(alloc),
         passed,
         come: Rows::new(alloc),
     });
-    plan.difference.changed = Some(front);
-    plan.difference.made = Some(rear);
     plan
 }

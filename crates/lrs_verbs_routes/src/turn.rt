@@ -1,16 +1,16 @@
 //! A route runs the other way.
 
-ghost use Rattle.std.specs.Prelude.{◌≡◌, ◌≤◌, IsTrue, IfOk, Some, None, map, length};
-ghost use Rattle.lrs_inventory.specs.Prelude.{end_by, longest_route, rerouting, IsPlan};
+ghost use Rattle.std.specs.Prelude.{◌≡◌, ◌≤◌, IsTrue, IfOk, map, length};
+ghost use Rattle.lrs_inventory.specs.Prelude.{end_by, longest_route, IsPlan};
 ghost use Rattle.lrs_events_rows.specs.Turns.{IsTurned};
 ghost use Rattle.lrs_events.specs.Changes.{changed_rows};
 ghost use Rattle.lrs_machine.specs.declared.command.Command.TheVariants as verb;
 ghost use Rattle.lrs_image_laws.specs.Turning.{from_end};
 ghost use Rattle.lrs_verbs_routes.specs.Turns.{IsTurnedBy};
-ghost use Rattle.lrs_inventory.specs.Plans.{plan_of, Plans};
+ghost use Rattle.lrs_inventory.specs.Plans.{Plans};
 
 use crate::checks::route_named;
-use crate::route_changes::{names_of, no_change};
+use crate::route_changes::{changed, names_of, rerouted};
 use lrs_events::SpanChange;
 use lrs_events_rows::change::difference;
 use lrs_events_rows::turns::turned;
@@ -31,31 +31,32 @@ pub fn plan_turn(alloc: Global, inventory: &Inventory, route: RouteName) -> Resu
 {
     inventory.prove_sound();
     let route_row = route_named(inventory, &route)?;
+    // It runs over its ground as before, and its referents stay where they stand.
     let change = turn_route(alloc, route_row)?;
-    Ok(turn_plan(alloc, change))
+    Ok(rerouted(alloc, change, None))
 }
 
 /// What becomes of a route that is seen from its other end.
-#[tactic(auto, using(crate::proofs::Going::plan_there))]
 fn turn_route(alloc: Global, route_row: &RouteRow) -> Result<RouteChange, AllocError>
     requires { IsTrue (end_by (length route_row.now.route.course) route_row.now.spans) }
     ensures { IfOk result (λ change. IsTurnedBy route_row.now change) }
 {
     let route = &route_row.route;
     let len = route.length();
+    let marks = route.marks.mirrored()?;
+    let refs = turn_refs(alloc, route.refs.as_slice(), len)?;
+    let rows = turn_spans(alloc, &route_row.spans, len)?;
     let course = route.course.turned()?;
     // It is not too long from there either.
     let _len = course.len();
-    let marks = route.marks.mirrored()?;
-    let refs = turn_refs(alloc, route.refs.as_slice(), len)?;
-    let SpanChange { gone, come } = turn_spans(alloc, &route_row.spans, len)?;
-    let mut change = no_change(alloc, route.name);
-    change.course = Some(course);
-    change.marks = Some(marks);
-    change.refs = refs;
-    change.spans_gone = Rows::from_vec(gone);
-    change.spans_come = Rows::from_vec(come);
-    Ok(change)
+    Ok(changed(
+        alloc,
+        route.name,
+        Some(course),
+        Some(marks),
+        refs,
+        rows,
+    ))
 }
 
 /// The removed and the inserted rows where a route of this length is seen from its other end.
@@ -97,13 +98,4 @@ fn refs_from_end(alloc: Global, refs: &[Referent], len: u64) -> Result<Rows<Refe
         })?;
     }
     Ok(Rows::from_vec(out))
-}
-
-/// The plan by which a route changes so. It runs over its ground as before, and its referents stay where they stand.
-fn turn_plan(alloc: Global, change: RouteChange) -> Plan
-    ensures { result ≡ plan_of (rerouting (Some change) None None) }
-{
-    let mut plan = Plan::none(alloc);
-    plan.difference.changed = Some(change);
-    plan
 }

@@ -60,6 +60,21 @@ returns-in_err-marks c =
     rw (e.1, e.2) (stopped (verb.Join first second) i (joined_line a.route.marks b.route.marks) _ c.in_err-marks.ensures
     (λ d is. refuses_marks first second i a c.in_ok-front.ensures.found b c.in_ok-rear.ensures.found differ short _ d is))
 
+pub returns-in_err-passed : goal.returns-in_err-passed
+returns-in_err-passed c =
+    let e = err_from_is_err_and c.from_residual-in_err-passed.result c.from_residual-in_err-passed.ensures.1 in
+    rw (e.1, e.2) tt
+
+pub returns-in_err-keys : goal.returns-in_err-keys
+returns-in_err-keys c =
+    let e = err_from_is_err_and c.from_residual-in_err-keys.result c.from_residual-in_err-keys.ensures.1 in
+    rw (e.1, e.2) tt
+
+pub returns-in_err-change : goal.returns-in_err-change
+returns-in_err-change c =
+    let e = err_from_is_err_and c.from_residual-in_err-change.result c.from_residual-in_err-change.ensures.1 in
+    rw (e.1, e.2) tt
+
 pub lengthened-requires-clause-rows : goal.lengthened-requires-clause-rows
 lengthened-requires-clause-rows c =
     let i = c.args.inventory.now in
@@ -67,6 +82,18 @@ lengthened-requires-clause-rows c =
     let b = c.in_ok-rear.rear.now in
     let short = (course_is a.route.course b.route.course c.in_ok-course.course c.in_ok-course.ensures).1 in
     can_go_on i a b c.prove_sound.ensures (found_in c.args.first a i.routes c.in_ok-front.ensures.found).0 (found_in c.args.second b i.routes c.in_ok-rear.ensures.found).0 (room_for a.route.course b.route.course short)
+
+pub lengthened-requires-clause-room : goal.lengthened-requires-clause-room
+lengthened-requires-clause-room c =
+    let a = c.in_ok-front.front.now.route.course in
+    let b = c.in_ok-rear.rear.now.route.course in
+    room_for a b (course_is a b c.in_ok-course.course c.in_ok-course.ensures).1
+
+pub lengthened-requires-clause-course : goal.lengthened-requires-clause-course
+lengthened-requires-clause-course c = (course_is c.in_ok-front.front.now.route.course c.in_ok-rear.rear.now.route.course c.in_ok-course.course c.in_ok-course.ensures).0
+
+pub lengthened-requires-clause-marks : goal.lengthened-requires-clause-marks
+lengthened-requires-clause-marks c = (line_is c.in_ok-front.front.now.route.marks c.in_ok-rear.rear.now.route.marks c.in_ok-marks.marks c.in_ok-marks.ensures).marks
 
 pub returns : goal.returns
 returns c =

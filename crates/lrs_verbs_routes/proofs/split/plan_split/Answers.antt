@@ -53,11 +53,6 @@ cut_route-requires-clause-inner c =
     let known = not_false c.is_inside-is_inner.result (passed (not c.is_inside-is_inner.result) cause.NoMark c.refuse_if-2.result _ c.refuse_if-2.ensures c.in_ok-refuse_if-2.was) in
     sym (inside_is_inner r c.args.at) ∙ sym (c.is_inside-is_inner.ensures ∙ (λ j. is_inside (c.len-len.ensures.len j) (c.list.ensures.list j) c.args.at)) ∙ known
 
-pub returns-in_err-passed : goal.returns-in_err-passed
-returns-in_err-passed c =
-    let e = err_from_is_err_and c.from_residual-in_err-passed.result c.from_residual-in_err-passed.ensures.1 in
-    rw (e.1, e.2) tt
-
 pub returns : goal.returns
 returns c =
     let i = c.args.inventory.now in
@@ -68,4 +63,4 @@ returns c =
     let known = not_false c.is_inside-is_inner.result (passed (not c.is_inside-is_inner.result) cause.NoMark c.refuse_if-2.result _ c.refuse_if-2.ensures c.in_ok-refuse_if-2.was) in
     let inside = sym (c.is_inside-is_inner.ensures ∙ (λ j. is_inside (c.len-len.ensures.len j) (c.list.ensures.list j) c.args.at)) ∙ known in
     subst (λ (p : Plan). IsPlanOf (verb.Split c.args.route c.args.at name) i p) (sym c.split_plan.ensures)
-    (splits c.args.route name c.args.at i r c.in_ok-halves.halves c.prove_sound.ensures c.in_ok-route_row.ensures.found fresh inside c.in_ok-halves.ensures c.in_ok-passed.passed c.in_ok-passed.ensures.course c.in_ok-passed.ensures.filled)
+    (splits c.args.route name c.args.at i r c.in_ok-halves.halves c.prove_sound.ensures c.in_ok-route_row.ensures.found fresh inside c.in_ok-halves.ensures c.in-Ok.passed c.in-Ok.ensures.course c.in-Ok.ensures.filled)

@@ -19,5 +19,5 @@ turn_route-requires c = rows_end c.args.inventory.now c.in_ok-route_row.route_ro
 
 pub returns : goal.returns
 returns c =
-    subst (λ (p : Plan). IsPlanOf (verb.Turn c.args.route) c.args.inventory.now p) (sym c.turn_plan.ensures)
+    subst (λ (p : Plan). IsPlanOf (verb.Turn c.args.route) c.args.inventory.now p) (sym c.rerouted.ensures)
     (turns c.args.route c.args.inventory.now c.in_ok-route_row.route_row.now c.in_ok-change.change c.prove_sound.ensures c.in_ok-route_row.ensures.found c.in_ok-change.ensures)
