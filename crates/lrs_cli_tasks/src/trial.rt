@@ -127,7 +127,8 @@ pub fn do_check<R: Runtime<A = Global>, K: Keeper>(
                 outcome,
             },
         ),
-        Err(fault) => Ending::Stopped(fault),
+        // of a trial, whose replies go into memory, that alone can run out
+        Err(_) => Ending::Stopped(ProgramFault::Memory),
     }
 }
 
@@ -210,7 +211,8 @@ fn do_text<R: Runtime<A = Global>, K: Keeper>(
             };
             do_tried(rt, desk, &trial, of_file, shown)
         }
-        Err(fault) => Ending::Stopped(fault),
+        // of a trial memory alone can run out
+        Err(_) => Ending::Stopped(ProgramFault::Memory),
     }
 }
 
