@@ -211,7 +211,7 @@ def test_a_check_of_a_file_bears_a_refused_growth(tmp_path):
         said = ended(refusal)
         found[said.stdout] += 1
         assert replied.startswith(said.stdout), (refusal.number, said)
-        assert said.stdout == replied if said.status == 0 else fault_of(said) in {"Memory", "Write"}, (refusal.number, said)
+        assert said.stdout == replied if said.status == 0 else fault_of(said) == "Memory", (refusal.number, said)
 
     with_each_refused("ALLOCATION", test, greatest(is_reached) - LAST)
     assert found[b""] > 100, found
