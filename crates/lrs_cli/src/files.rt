@@ -3,9 +3,9 @@
 ghost use Rattle.sqlite_wal.specs.Files.{image_at};
 ghost use Rattle.lrs_store_questions.specs.Asked.{HasRead};
 
+use lrs_cli_files::{FileKeeper, FileQuestions, close_file, open_file, open_to_look};
 use lrs_cli_jobs::Files;
 use lrs_desk::{Desk, OpenFault};
-use lrs_cli_files::{FileKeeper, FileQuestions, close_file, open_file, open_to_look};
 use sqlite::{Start, Unknown};
 use std::rt::HostRuntime;
 

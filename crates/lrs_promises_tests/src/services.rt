@@ -58,7 +58,11 @@ fn step<'a, K: Keeper>(
 }
 
 /// Does what the words say, one after another.
-pub fn serve_words<K: Keeper>(rt: &HostRuntime, words: &[String], desk: &mut Desk<K>) -> Option<()> {
+pub fn serve_words<K: Keeper>(
+    rt: &HostRuntime,
+    words: &[String],
+    desk: &mut Desk<K>,
+) -> Option<()> {
     let mut door = MemoryDoor::new(rt, rt.alloc());
     for word in words {
         step(rt, word.as_str(), &mut door, desk)?;

@@ -187,8 +187,12 @@ fn realign_stretch(
     requires ends { IsTrue (end_by (length route_row.now.route.course) route_row.now.spans) }
     requires course { line.now.course ≡ replaced from to line.now.come route_row.now.route.course }
     ensures { IfOk result (λ realigned. IsOnNewLine edit route_row.now from to line.now
-        (record realigned { change = record realigned.change {
-            course = Some line.now.course; marks = Some line.now.marks } })) }
+        (record realigned {
+          change = record realigned.change {
+            course = Some line.now.course;
+            marks = Some line.now.marks;
+          };
+        })) }
 {
     let route = &route_row.route;
     let len = line.come.len();

@@ -47,8 +47,12 @@ pub(crate) fn changed(
     spans: SpanChange,
 ) -> RouteChange
     ensures { result ≡ record (no_change route) {
-        course = course; marks = marks; refs = moved;
-        spans_gone = spans.gone.items; spans_come = spans.come.items } }
+      course = course;
+      marks = marks;
+      refs = moved;
+      spans_gone = spans.gone.items;
+      spans_come = spans.come.items;
+    } }
 {
     RouteChange {
         route,

@@ -49,14 +49,7 @@ fn turn_route(alloc: Global, route_row: &RouteRow) -> Result<RouteChange, AllocE
     let course = route.course.turned()?;
     // It is not too long from there either.
     let _len = course.len();
-    Ok(changed(
-        alloc,
-        route.name,
-        Some(course),
-        Some(marks),
-        refs,
-        rows,
-    ))
+    Ok(changed(alloc, route.name, Some(course), Some(marks), refs, rows))
 }
 
 /// The removed and the inserted rows where a route of this length is seen from its other end.

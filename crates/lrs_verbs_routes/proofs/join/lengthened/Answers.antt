@@ -35,5 +35,5 @@ returns c =
       spans_gone = ap (each_two span_before) gone ∙ plan.in_order;
       spans_there = ap (list_all (has_row a.spans)) gone ∙ plan_there a.spans spans plan;
       join = subst (λ (rows : List Span). IsJoin (length a.route.course) a.spans b.spans rows) after
-        (subst (λ (n : ℕ). IsJoin n a.spans b.spans (changed_rows spans a.spans)) c.len-len.ensures.len c.in_ok-spans.ensures.joined);
+          (subst (λ (n : ℕ). IsJoin n a.spans b.spans (changed_rows spans a.spans)) c.len-len.ensures.len c.in_ok-spans.ensures.joined);
     }

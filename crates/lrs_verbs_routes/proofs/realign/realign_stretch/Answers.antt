@@ -50,7 +50,7 @@ returns c =
       spans_gone = ap (each_two span_before) gone ∙ plan.in_order;
       spans_there = ap (list_all (has_row e.spans)) gone ∙ plan_there e.spans realigned.change plan;
       realigned = subst (λ (rows : List Span). IsRealigned from to (length c.args.line.now.come) e.spans rows) after
-        (subst (λ (n : ℕ). IsRealigned from to n e.spans (changed_rows realigned.change e.spans)) c.len-len.ensures.len c.in_ok-left.ensures.realigned);
+          (subst (λ (n : ℕ). IsRealigned from to n e.spans (changed_rows realigned.change e.spans)) c.len-len.ensures.len c.in_ok-left.ensures.realigned);
       left = realigned.left.items;
       left_are = c.in_ok-left.ensures.left;
       abandoned = subst (λ (rows : List Span). AreGone c.args.edit Abandoned (holds_by_spans e.route.course rows) c.in_ok-abandoned.abandoned) c.deref.ensures.value c.in_ok-abandoned.ensures;

@@ -27,5 +27,5 @@ returns c =
       spans_gone = ap (each_two span_before) gone ∙ plan.in_order;
       spans_there = ap (list_all (has_row e.spans)) gone ∙ plan_there e.spans rows plan;
       turned = subst (λ (new : List Span). IsTurned (length e.route.course) e.spans new) after
-        (subst (λ (n : ℕ). IsTurned n e.spans (changed_rows rows e.spans)) c.length-len.ensures.length c.in_ok-rows.ensures.turned);
+          (subst (λ (n : ℕ). IsTurned n e.spans (changed_rows rows e.spans)) c.length-len.ensures.length c.in_ok-rows.ensures.turned);
     }
