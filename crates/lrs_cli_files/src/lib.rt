@@ -1,10 +1,8 @@
 //! Desks over the inventory in a file: for all work, or for questions alone.
 #![tactic(auto)]
 
-mod closing;
-mod looking;
-mod opening;
+mod file;
+mod questions;
 
-pub use closing::close_file;
-pub use looking::{FileQuestions, open_to_look};
-pub use opening::{FileKeeper, open_file};
+pub use file::{FileKeeper, close_file, open_file};
+pub use questions::{FileQuestions, open_to_look};

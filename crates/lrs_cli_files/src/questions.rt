@@ -7,7 +7,7 @@ ghost use Rattle.lrs_machine.specs.declared.table.Table.{Table as DeclaredTable}
 ghost use Rattle.lrs_image.specs.Keeping.{HoldsOnly};
 ghost use Rattle.lrs_store_questions.specs.Asked.{HasRead};
 
-use crate::opening::desk_over;
+use crate::file::desk_over;
 use lrs_desk::{Desk, Keeper, OpenFault};
 use lrs_store_questions::{Questions, open_for_questions};
 use lrs_store_tables::StoreFault;
@@ -36,7 +36,7 @@ fn look_at<K: Keeper + Drop>(rt: &HostRuntime, keeper: K) -> Result<Option<Desk<
 
 /// Opens the inventory in a file for questions, without a connection. The desk answers of what the file held, and of
 /// nothing else. Where this opening does not take the file, as one that is new or of version 1, there is no desk, and
-/// the file is left to [`open_file`](crate::open_file), which takes it or says why not.
+/// the file is left to `open_file`, which takes it or says why not.
 ///
 /// # Errors
 /// `Unsound` with the first unsound table of the file, and `Memory` if memory runs out.

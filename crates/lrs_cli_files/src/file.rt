@@ -1,4 +1,4 @@
-//! A desk over the inventory in a file and its log.
+//! A desk over the inventory in a file and its log, and how its keeper is closed.
 
 ghost use Rattle.std.specs.Prelude.{◌≡◌, IfErr, IfOk, Err, Result, false};
 ghost use Rattle.sqlite.specs.Files.{file_state};
@@ -10,9 +10,10 @@ ghost use Rattle.lrs_store_keeper.specs.Holding.{MayHold};
 
 use lrs_desk::{Desk, Keeper, OpenFault, Staged};
 use lrs_machine::Limits;
-use lrs_store::{Tables, open_file as open_tables};
+use lrs_store::{ReadImage, Tables, close_files, open_file as open_tables};
 use lrs_store_image::Reader;
 use sqlite::{FileFrom, FileStore, Unknown};
+use sqlite_disk::Disk;
 use std::alloc::Global;
 use std::rt::HostRuntime;
 
@@ -57,4 +58,9 @@ pub fn open_file(
         Ok(tables) => desk_over(Staged::over(tables, rt.alloc()), rt.alloc()),
         Err(refusal) => Err(OpenFault::from(refusal.into_fault())),
     }
+}
+
+/// Closes a keeper, and lets it go. Where that fails, its log still has what was committed.
+pub fn close_file<D: Disk + Drop, R: ReadImage + Drop>(keeper: Staged<Tables<FileStore<D>, R>>) {
+    drop(close_files(keeper.into_inner()));
 }
