@@ -1,9 +1,7 @@
 //! The program `roadlrs`: its words, what it does for them, and how it ends.
 #![tactic(auto)]
 
-mod files;
-
-use files::StoredFiles;
+use lrs_cli_files::StoredFiles;
 use lrs_cli_help::{
     Options, explain, hint_at, is_reader_gone, keep_job_words, options_of, verb_help,
 };

@@ -1,8 +1,9 @@
-//! Desks over the inventory in a file: for all work, or for questions alone.
+//! Desks over inventories in files: for all work, or for questions alone.
 #![tactic(auto)]
 
-mod file;
-mod questions;
+mod desk;
+mod files;
+mod stored;
 
-pub use file::{FileKeeper, close_file, open_file};
-pub use questions::{FileQuestions, open_to_look};
+pub use files::Files;
+pub use stored::StoredFiles;

@@ -4,8 +4,8 @@ ghost use Rattle.std.specs.Prelude.{◌≡◌, ◌⊎◌, ◌↔◌, false, true
 ghost use Rattle.lrs_desk.specs.DeskView.{DeskView};
 ghost use Rattle.lrs_cli_jobs.specs.Jobs.{EndsInFile, EndsInMemory, EndsJob, EndsTask, EndsWithLog, HasWorked, Looks};
 
-use crate::files::Files;
 use crate::service::do_service;
+use lrs_cli_files::Files;
 use lrs_cli_tasks::{
     Ending, Pace, ProgramFault, Shown, Task, Work, do_audit, do_check, do_page, do_question,
     do_questions, do_records, do_report, is_in_memory, open_in_memory, task_of,

@@ -1,11 +1,12 @@
-//! What opens the inventories that a job names by a path.
+//! What opens the inventories in files.
 
 use lrs_desk::{Desk, Keeper, OpenFault};
 use std::rt::HostRuntime;
 
 /// Opens inventories in files, for all work or for questions alone.
 pub trait Files {
-    ghost use Rattle.std.specs.Prelude.{◌≡◌, IfOk, IfSome, Result, false};
+    ghost use Rattle.std.specs.Prelude.{◌≡◌, IfErr, IfOk, IfSome, Result, false};
+    ghost use Rattle.lrs_measure.specs.Limits.{most_assets, most_edits, most_routes};
     ghost use Rattle.lrs_machine.specs.declared.image.Image.{Image};
     ghost use Rattle.lrs_machine.specs.declared.table.Table.{Table};
     ghost use Rattle.lrs_image.specs.Keeping.{HoldsOnly};
@@ -21,6 +22,10 @@ pub trait Files {
 
     /// Opens the inventory in a file, or makes one where there is none. The desk acts on what the file holds, and on
     /// nothing else. A new file gets sums of its pages where that is asked for.
+    ///
+    /// # Errors
+    /// `Unsound` with the first unsound table of the file, `Memory` if memory runs out, and `Keep` if the file cannot be
+    /// opened for another cause.
     fn open(
         &self,
         rt: &HostRuntime,
@@ -28,10 +33,16 @@ pub trait Files {
         new_has_sums: bool,
     ) -> Result<Desk<Self::Kept>, OpenFault>
         ensures kept { IfOk result (λ desk. HoldsOnly (Self.Kept.may_hold desk.keeper) desk.image) }
-        ensures behind { IfOk result (λ desk. desk.is_ahead ≡ false) };
+        ensures open { IfOk result (λ desk. desk.must_reopen ≡ false) }
+        ensures behind { IfOk result (λ desk. desk.is_ahead ≡ false) }
+        ensures limits { IfOk result (λ desk. (desk.limits.routes ≡ most_routes)
+            × (desk.limits.assets ≡ most_assets) × (desk.limits.edits ≡ most_edits)) };
 
     /// Opens the inventory in a file for questions. The desk answers of what the file held, and of nothing else. There
-    /// is none where this opening does not take the file, which is left to `open`.
+    /// is none where this opening does not take the file, as one that is new or of version 1: it is left to `open`.
+    ///
+    /// # Errors
+    /// `Unsound` with the first unsound table of the file, and `Memory` if memory runs out.
     fn open_to_look(
         &self,
         rt: &HostRuntime,
@@ -41,7 +52,9 @@ pub trait Files {
             HoldsOnly (Self.Seen.may_hold desk.keeper) desk.image)) }
         ensures read { IfOk result (λ found. IfSome found (λ desk. (c : Result Image Table)
             → Self.Seen.may_hold desk.keeper c → has_read c)) }
-        ensures behind { IfOk result (λ found. IfSome found (λ desk. desk.is_ahead ≡ false)) };
+        ensures open { IfOk result (λ found. IfSome found (λ desk. desk.must_reopen ≡ false)) }
+        ensures behind { IfOk result (λ found. IfSome found (λ desk. desk.is_ahead ≡ false)) }
+        ensures fault { IfErr result (λ e. e ≡ OpenFault.Keep → ⊥) };
 
     /// Closes a keeper, and lets it go. Where that fails, its log still has what was committed.
     fn close(&self, keeper: Self::Kept);
