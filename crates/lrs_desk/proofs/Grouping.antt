@@ -155,6 +155,11 @@ module _ (commands : List (Name × Command)) where
   none_staged limits n i j given changes so_far few none =
       so_far.no_changes (ap (λ (m : ℕ). records_of (take m commands)) (sym (as_many_given limits n i j given changes so_far few) ∙ none))
 
+  -- ... and nothing is changed
+  pub none_changed : (limits : Limits) (n : ℕ) (i j : Image) (given : List Answer) (changes : List Change) → GoesOn limits (records_of (take n commands)) i j given changes → n ≤ length commands → length given ≡ 0 → j ≡ i
+  none_changed limits n i j given changes so_far few none =
+      so_far.none (ap (λ (m : ℕ). records_of (take m commands)) (sym (as_many_given limits n i j given changes so_far few) ∙ none))
+
   -- at the end of the list
   pub whole_group : (limits : Limits) (n : ℕ) (i j : Image) (given : List Answer) (changes : List Change)
       → GoesOn limits (records_of (take n commands)) i j given changes → length commands ≤ n → 1 ≤ length commands → IsGroup limits (records_of commands) i j given changes

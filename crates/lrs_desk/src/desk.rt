@@ -139,6 +139,8 @@ impl<K: Keeper> Desk<K> {
             return Err((OpenFault::Memory, keeper));
         };
         let Ok(counts) = Counts::of_image(alloc, inventory.kept()) else {
+            // As a call, the drop is one step to prove, and not one for each part.
+            drop(inventory);
             return Err((OpenFault::Memory, keeper));
         };
         Ok(Desk {
@@ -207,7 +209,15 @@ impl<K: Keeper> Desk<K> {
     pub fn into_keeper(self) -> K
         ensures keeper { result ≡ self.keeper }
     {
-        let Desk { keeper, .. } = self;
+        let Desk {
+            keeper,
+            inventory,
+            counts,
+            ..
+        } = self;
+        // As calls, the drops are one step each to prove, and not one for each part.
+        drop(inventory);
+        drop(counts);
         keeper
     }
 }
@@ -369,7 +379,12 @@ fn make<K: Keeper>(
     ensures counted { IsCounted inventory.new counts.new }
 {
     inventory.prove_sound();
-    counts.reserve()?;
+    let Ok(()) = counts.reserve() else {
+        // As calls, the drops are one step each to prove, and not one for each part.
+        drop(plan);
+        drop(edit);
+        return Err(Fault::Memory);
+    };
     let number = inventory.edits() + 1;
     let class = class_of(&plan);
     match inventory.make(alloc, keeper, edit, plan) {

@@ -149,7 +149,12 @@ fn make<K: Keeper>(
     ensures counted { IsCounted inventory.new counts.new }
 {
     inventory.prove_sound();
-    counts.reserve()?;
+    let Ok(()) = counts.reserve() else {
+        // As calls, the drops are one step each to prove, and not one for each part.
+        drop(plan);
+        drop(edit);
+        return Err(AllocError);
+    };
     let number = inventory.edits() + 1;
     let class = class_of(&plan);
     inventory.stage(alloc, keeper, edit, plan)?;

@@ -13,7 +13,7 @@ pub catch_up-requires-clause-behind : goal.catch_up-requires-clause-behind
 catch_up-requires-clause-behind g c = record {
   before = c.args.inventory.now;
   change = change_of c.args.edit c.args.plan;
-  made = c.kept.ensures.image ∙ subst (λ r. OnOk r (c.make.new.self ≡ apply (change_of c.args.edit c.args.plan) c.args.inventory.now)) c.in-Ok.is c.make.ensures.ok;
+  made = c.kept.ensures.image ∙ subst (λ r. OnOk r (c.make.new.self ≡ apply (change_of c.args.edit c.args.plan) c.args.inventory.now)) c.in-Ok-make.is c.make.ensures.ok;
   class_is = c.class_of-class.ensures;
   counted = c.reserve.ensures.same c.args.inventory.now c.requires.counted;
   was_sound = c.prove_sound.ensures;

@@ -1,6 +1,6 @@
 use Rattle.std.proofs.Common.{◌≤◌, length, arith, rules, ◌≡◌, ap, sym, refl, List, ◌∙◌}
 use Rattle.lrs_machine.specs.declared.answer.Answer.{Answer}
-use Rattle.lrs_desk.proofs.Grouping.{goes_on_from, none_staged, group_ends, group_grows, group_stays, whole_group}
+use Rattle.lrs_desk.proofs.Grouping.{goes_on_from, none_staged, none_changed, group_ends, group_grows, group_stays, whole_group}
 use Rattle.lrs_desk.proofs.group.do_first.Goals as goal
 
 pub loop-key-init : goal.loop-key-init
@@ -27,28 +27,69 @@ loop-key-preserved g c = record {
   quiet = c.do_next.ensures.quiet ∙ c.loop-key.invariant.quiet;
 }
 
-pub returns-in-Ok-false-clause-does : goal.returns-in-Ok-false-clause-does
-returns-in-Ok-false-clause-does g c =
-    group_ends c.args.commands.now c.args.limits.now c.loop-key.key-index c.loop-key-item.result c.args.inventory.now c.loop-key.inventory c.do_next.new.inventory
-    c.loop-key.given.items c.do_next.new.given.items (g.K.Keeper.staged c.loop-key.keeper) (g.K.Keeper.staged c.do_next.new.keeper) c.in-Ok-false.field-0
-    c.loop-key-test.true c.loop-key-item.is c.loop-key.invariant.so_far c.in-Ok-false.ensures.does
+pub returns-in-Ok-false : goal.returns-in-Ok-false
+returns-in-Ok-false g c = record {
+  does = group_ends c.args.commands.now c.args.limits.now c.loop-key.key-index c.loop-key-item.result c.args.inventory.now c.loop-key.inventory c.do_next.new.inventory
+      c.loop-key.given.items c.do_next.new.given.items (g.K.Keeper.staged c.loop-key.keeper) (g.K.Keeper.staged c.do_next.new.keeper) c.in-Ok-false.field-0
+      c.loop-key-test.true c.loop-key-item.is c.loop-key.invariant.so_far c.in-Ok-false.ensures.does;
+  memory = tt;
+  not_staged = tt;
+  content = λ x h. c.loop-key.invariant.content x (c.do_next.ensures.content x h);
+  loaded = c.do_next.ensures.loaded ∙ c.loop-key.invariant.loaded;
+  clean = λ h. c.loop-key.invariant.clean (c.do_next.ensures.clean h);
+  «open» = λ h. c.do_next.ensures.«open» (c.loop-key.invariant.reached h);
+  quiet = c.do_next.ensures.quiet ∙ c.loop-key.invariant.quiet;
+  counted = c.do_next.ensures.counted;
+}
 
-pub returns-in-Err-clause-does : goal.returns-in-Err-clause-does
-returns-in-Err-clause-does g c =
+pub returns-in-Err : goal.returns-in-Err
+returns-in-Err g c =
     let within = c.loop-key-test.true in
     let some : 1 ≤ length c.do_next.new.given.items = search rules in
-    group_stays c.args.commands.now c.args.limits.now c.loop-key.key-index c.args.inventory.now c.loop-key.inventory c.do_next.new.inventory
-    c.loop-key.given.items c.do_next.new.given.items (g.K.Keeper.staged c.loop-key.keeper) (g.K.Keeper.staged c.do_next.new.keeper)
-    c.loop-key.invariant.so_far (omega (arith, within)) some c.in-Err.ensures.memory c.in-Err.ensures.given c.in-Err.ensures.not_staged
+    record {
+      does = group_stays c.args.commands.now c.args.limits.now c.loop-key.key-index c.args.inventory.now c.loop-key.inventory c.do_next.new.inventory
+          c.loop-key.given.items c.do_next.new.given.items (g.K.Keeper.staged c.loop-key.keeper) (g.K.Keeper.staged c.do_next.new.keeper)
+          c.loop-key.invariant.so_far (omega (arith, within)) some c.in-Err.ensures.memory c.in-Err.ensures.given c.in-Err.ensures.not_staged;
+      memory = tt;
+      not_staged = tt;
+      content = λ x h. c.loop-key.invariant.content x (c.do_next.ensures.content x h);
+      loaded = c.do_next.ensures.loaded ∙ c.loop-key.invariant.loaded;
+      clean = λ h. c.loop-key.invariant.clean (c.do_next.ensures.clean h);
+      «open» = λ h. c.do_next.ensures.«open» (c.loop-key.invariant.reached h);
+      quiet = c.do_next.ensures.quiet ∙ c.loop-key.invariant.quiet;
+      counted = c.do_next.ensures.counted;
+    }
 
-pub returns-clause-does : goal.returns-clause-does
-returns-clause-does g c =
-    whole_group c.args.commands.now c.args.limits.now c.loop-key.key-index c.args.inventory.now c.loop-key.inventory c.loop-key.given.items (g.K.Keeper.staged c.loop-key.keeper)
-    c.loop-key.invariant.so_far c.loop-key-test.false c.requires.some
-
-pub returns-then-is_empty-clause-not_staged : goal.returns-then-is_empty-clause-not_staged
-returns-then-is_empty-clause-not_staged g c =
+pub returns-then-is_empty : goal.returns-then-is_empty
+returns-then-is_empty g c =
     let within = c.loop-key-test.true in
-    let none : length c.do_next.new.given.items ≡ 0 = search rules in
-    c.in-Err.ensures.not_staged ∙ none_staged c.args.commands.now c.args.limits.now c.loop-key.key-index c.args.inventory.now c.loop-key.inventory c.loop-key.given.items (g.K.Keeper.staged c.loop-key.keeper)
-    c.loop-key.invariant.so_far (omega (arith, within)) (ap (λ (xs : List Answer). length xs) (sym c.in-Err.ensures.given) ∙ none)
+    let few : c.loop-key.key-index ≤ length c.args.commands.now = omega (arith, within) in
+    let empty : length c.do_next.new.given.items ≡ 0 = search rules in
+    let none : length c.loop-key.given.items ≡ 0 = ap (λ (xs : List Answer). length xs) (sym c.in-Err.ensures.given) ∙ empty in
+    record {
+      does = tt;
+      memory = c.in-Err.ensures.memory ∙ none_changed c.args.commands.now c.args.limits.now c.loop-key.key-index c.args.inventory.now c.loop-key.inventory c.loop-key.given.items (g.K.Keeper.staged c.loop-key.keeper)
+          c.loop-key.invariant.so_far few none;
+      not_staged = c.in-Err.ensures.not_staged ∙ none_staged c.args.commands.now c.args.limits.now c.loop-key.key-index c.args.inventory.now c.loop-key.inventory c.loop-key.given.items (g.K.Keeper.staged c.loop-key.keeper)
+          c.loop-key.invariant.so_far few none;
+      content = λ x h. c.loop-key.invariant.content x (c.do_next.ensures.content x h);
+      loaded = c.do_next.ensures.loaded ∙ c.loop-key.invariant.loaded;
+      clean = λ h. c.loop-key.invariant.clean (c.do_next.ensures.clean h);
+      «open» = λ h. c.do_next.ensures.«open» (c.loop-key.invariant.reached h);
+      quiet = c.do_next.ensures.quiet ∙ c.loop-key.invariant.quiet;
+      counted = c.do_next.ensures.counted;
+    }
+
+pub returns : goal.returns
+returns g c = record {
+  does = whole_group c.args.commands.now c.args.limits.now c.loop-key.key-index c.args.inventory.now c.loop-key.inventory c.loop-key.given.items (g.K.Keeper.staged c.loop-key.keeper)
+      c.loop-key.invariant.so_far c.loop-key-test.false c.requires.some;
+  memory = tt;
+  not_staged = tt;
+  content = c.loop-key.invariant.content;
+  loaded = c.loop-key.invariant.loaded;
+  clean = c.loop-key.invariant.clean;
+  «open» = c.loop-key.invariant.reached;
+  quiet = c.loop-key.invariant.quiet;
+  counted = c.loop-key.invariant.counted;
+}

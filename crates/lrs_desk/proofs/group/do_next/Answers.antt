@@ -9,8 +9,8 @@ use Rattle.lrs_machine_stops.specs.Stopped.{IsAccepted}
 use Rattle.lrs_desk.specs.Decide.{IsDecision}
 use Rattle.lrs_desk.proofs.group.do_next.Goals as goal
 
-pub returns-in_ok-answer-in-Make-clause-does : goal.returns-in_ok-answer-in-Make-clause-does
-returns-in_ok-answer-in-Make-clause-does g c =
+pub returns-in_ok-answer-in-Make : goal.returns-in_ok-answer-in-Make
+returns-in_ok-answer-in-Make g c =
     let i = c.args.inventory.now in
     let plan = c.in-Make.plan in
     let d = subst (IsDecision c.args.limits.now c.args.key.now c.args.command.now i) c.in-Make.is c.in_ok-answer.ensures.decided in
@@ -20,13 +20,24 @@ returns-in_ok-answer-in-Make-clause-does g c =
     let answer = ap (λ (o : Outcome). o.answer) d.outcome in
     let can : CanMake (change_of edit plan) i = record { differ = d.is_plan.differ; sound = subst (λ (e : Edit). IsSound (apply (change_of e plan) i)) (sym same) d.sound } in
     record {
-      answered = c.push_in_room-in-Make.ensures.items ∙ (λ j. c.reserve.ensures.items j ++ (made.ensures.answer ∙ sym answer) j ∷ []);
-      state = ap state_of made.ensures.ok ∙ ap (λ (e : Edit). state_of (apply (change_of e plan) i)) same ∙ sym (ap (λ (o : Outcome). o.state) d.outcome);
-      changed = inr (record {
-        change = change_of edit plan;
-        can = can;
-        made = made.ensures.ok;
-        kept = made.ensures.staged;
-      });
-      accepted = λ yes. subst IsAccepted (sym answer) tt;
+      does = record {
+        answered = c.push_in_room-in-Make.ensures.items ∙ (λ j. c.reserve.ensures.items j ++ (made.ensures.answer ∙ sym answer) j ∷ []);
+        state = ap state_of made.ensures.ok ∙ ap (λ (e : Edit). state_of (apply (change_of e plan) i)) same ∙ sym (ap (λ (o : Outcome). o.state) d.outcome);
+        changed = inr (record {
+          change = change_of edit plan;
+          can = can;
+          made = made.ensures.ok;
+          kept = made.ensures.staged;
+        });
+        accepted = λ yes. subst IsAccepted (sym answer) tt;
+      };
+      memory = tt;
+      given = tt;
+      not_staged = tt;
+      content = made.ensures.content;
+      loaded = made.ensures.loaded;
+      clean = made.ensures.clean;
+      «open» = made.ensures.«open»;
+      quiet = made.ensures.quiet;
+      counted = made.ensures.counted;
     }

@@ -1,29 +1,63 @@
-use Rattle.std.proofs.Common.{◌≡◌, true, false, [], ◌∷◌, Err, OnErr, ap, sym, subst, rules, ◌∙◌}
+use Rattle.std.proofs.Common.{◌≡◌, true, false, [], ◌∷◌, Err, IfOk, OnOk, OnErr, ap, sym, subst, rules, ◌∙◌}
+use Rattle.std.proofs.lemmas.Bool.{false≢true}
+use Rattle.lrs_machine.specs.declared.answer.Answer.{Answer}
 use Rattle.lrs_machine.specs.declared.image.Edit.{Edit}
+use Rattle.lrs_machine.specs.Image.{state_of}
+use Rattle.lrs_machine.specs.Machine.{Outcome, step}
+use Rattle.lrs_image.specs.Change.{apply}
 use Rattle.lrs_image.specs.Keeping.{HasRisen}
+use Rattle.lrs_inventory.specs.Plans.{change_of}
 use Rattle.lrs_desk.specs.Decide.{IsDecision}
 use Rattle.lrs_desk.specs.Desk.{IsOldOrNext}
 use Rattle.lrs_desk.specs.DeskView.{DeskView}
-use Rattle.std.proofs.lemmas.Bool.{false≢true}
 use Rattle.lrs_desk.specs.declared.desk.Fault.TheVariants.{Keep}
 use Rattle.lrs_desk.proofs.Deciding.{old_or_next}
 use Rattle.lrs_desk.proofs.Grouping.{kept_after}
+use Rattle.lrs_desk.proofs.Made.{if_ok, on_ok, on_any, kept_then, found_then}
 use Rattle.lrs_desk.proofs.desk.Desk.act.Goals as goal
 
-pub returns-after-matches-clause-keep : goal.returns-after-matches-clause-keep
-returns-after-matches-clause-keep g c = λ e.
+pub returns-after-matches : goal.returns-after-matches
+returns-after-matches g c =
     let i = c.self.inside.inventory in
-    let d = subst (IsDecision c.self.inside.limits c.args.key c.args.command.now i) c.in-Make.is c.in_ok-decision.ensures.decided in
-    let edit : Edit = record { key = c.args.key; line = c.in_ok-line.line } in
-    let same = ap (λ line. let e : Edit = record { key = c.args.key; line = line } in e) c.in_ok-line.ensures in
+    let key = c.args.key in
+    let command = c.args.command.now in
+    let plan = c.in-Make.plan in
+    let made = c.make-made.result in
+    let new = c.make-made.new in
+    let may = g.K.Keeper.may_hold new.keeper in
+    let is = c.make-made.ensures in
+    let d = subst (IsDecision c.self.inside.limits key command i) c.in-Make.is c.in_ok-decision.ensures.decided in
+    let edit : Edit = record { key = key; line = c.in_ok-line.line } in
+    let same = ap (λ line. let e : Edit = record { key = key; line = line } in e) c.in_ok-line.ensures in
+    let seen = c.self.view_is in
+    let content = kept_then may new.inventory (apply (change_of edit plan) i) made is.ok is.ok_kept in
     record {
-      image = subst (λ r. OnErr r (c.make-made.new.inventory ≡ i)) e c.make-made.ensures.err ∙ ap (λ (v : DeskView g.row.K.Denot). v.image) c.self.view_is;
-      content = λ found h.
-          subst (λ (v : DeskView g.row.K.Denot). IsOldOrNext v.limits (record { key = c.args.key; command = c.args.command.now } ∷ []) v.image found) c.self.view_is
-          (old_or_next c.self.inside.limits c.args.key c.args.command.now i c.in-Make.plan edit d same found (c.make-made.ensures.store e found h));
-      must_reopen = search rules;
-      is_ahead = c.self.invariant.behind c.if-self.false;
-      cause = subst (λ (v : DeskView g.row.K.Denot). HasRisen (g.K.Keeper.failures v.keeper) (g.K.Keeper.failures c.make-made.new.keeper)) c.self.view_is (c.make-made.ensures.cause e);
+      answer = subst (λ (v : DeskView g.row.K.Denot). IfOk made (λ (a : Answer). a ≡ (step v.limits key command (state_of v.image)).answer)) seen
+          (if_ok made (λ a e. e ∙ sym (ap (λ (o : Outcome). o.answer) d.outcome)) is.answer);
+      image = subst (λ (v : DeskView g.row.K.Denot). OnOk made (state_of new.inventory ≡ (step v.limits key command (state_of v.image)).state)) seen
+          (on_ok made (λ e. ap state_of e ∙ ap (λ (e : Edit). state_of (apply (change_of e plan) i)) same ∙ sym (ap (λ (o : Outcome). o.state) d.outcome)) is.ok);
+      content = content;
+      found = found_then may new.inventory (g.K.Keeper.is_clean new.keeper) (g.K.Keeper.is_open new.keeper) made content is.reached (g.met.K.Keeper.finds new.keeper);
+      memory = λ e. record {
+        image = subst (λ r. OnErr r (new.inventory ≡ i)) e is.err ∙ ap (λ (v : DeskView g.row.K.Denot). v.image) seen;
+        content = λ found h. subst (λ (v : DeskView g.row.K.Denot). g.K.Keeper.may_hold v.keeper found) seen (is.memory e found h);
+        must_reopen = search rules;
+        is_ahead = ap (λ (v : DeskView g.row.K.Denot). v.is_ahead) seen;
+      };
+      keep = λ e. record {
+        image = subst (λ r. OnErr r (new.inventory ≡ i)) e is.err ∙ ap (λ (v : DeskView g.row.K.Denot). v.image) seen;
+        content = λ found h.
+            subst (λ (v : DeskView g.row.K.Denot). IsOldOrNext v.limits (record { key = key; command = command } ∷ []) v.image found) seen
+            (old_or_next c.self.inside.limits key command i plan edit d same found (is.store e found h));
+        must_reopen = search rules;
+        is_ahead = c.self.invariant.behind c.if-self.false;
+        cause = subst (λ (v : DeskView g.row.K.Denot). HasRisen (g.K.Keeper.failures v.keeper) (g.K.Keeper.failures new.keeper)) seen (is.cause e);
+      };
+      reopen = (λ e. absurd (is.only e), λ yes. absurd (false≢true (sym c.if-self.false ∙ ap (λ (v : DeskView g.row.K.Denot). v.must_reopen) seen ∙ yes)));
+      stays = λ e. absurd (is.only e);
+      limits = ap (λ (v : DeskView g.row.K.Denot). v.limits) seen;
+      «open» = search rules;
+      ahead = on_any made (ap (λ (v : DeskView g.row.K.Denot). v.is_ahead) seen);
     }
 
 pub invariant_of-self : goal.invariant_of-self
