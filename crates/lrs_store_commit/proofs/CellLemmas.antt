@@ -1,13 +1,15 @@
 -- The values of rows that are filled in one row after the other.
-use Rattle.std.proofs.Common.{◌≡◌, ℕ, ◌+◌, ◌*◌, ◌<◌, ◌≤◌, List, [], ◌∷◌, ◌++◌, length, take, sym, ap, ap₂, ◌∙◌, refl, arith, append_assoc, append-nil}
+use Rattle.std.proofs.Common.{◌≡◌, ℕ, pos, ◌+◌, ◌*◌, ◌<◌, ◌≤◌, List, [], ◌∷◌, ◌++◌, map, length, take, set, get_or, sym, ap, ap₂, ◌∙◌, refl, arith, append_assoc, append-nil}
 use Rattle.std.specs.List.{flat_map}
-use Rattle.std.proofs.lemmas.List.{take-map, map-append}
+use Rattle.std.proofs.lemmas.List.{take-map, map-append, take_more, take_more_set}
 use Rattle.std.proofs.lemmas.Grind.{flat_map-append}
 use Rattle.std.proofs.lemmas.Slice.{take-put_mid}
 use borrow.Rule.Slice.PartMut.{put_mid}
 use Rattle.sqlite_value.specs.declared.value.ValueRef.{ValueRef}
+use Rattle.sqlite_value.specs.declared.value.Value.TheVariants.{Int, Text}
+use Rattle.sqlite_value.specs.Value.{owned}
 use Rattle.sqlite_value.specs.Order.{Row}
-use Rattle.sqlite.specs.Values.{bound}
+use Rattle.sqlite.specs.Values.{bound, bound_value}
 use Rattle.lrs_store_rows.specs.Encoding.{numbered}
 use Rattle.lrs_store_tables.specs.Cells.{all_cells}
 
@@ -43,3 +45,15 @@ cells_of_all cells rows n (x ∷ xs) = ap (λ l. flat_map cells (rows x) ++ l) (
 pub cells_of_numbered : {X R : Type 0} (cells : R → Row) (row : ℕ → X → R) (n : ℕ) (xs : List X) → all_cells (λ k x. cells (row k x)) n xs ≡ flat_map cells (numbered row n xs)
 cells_of_numbered cells row n [] = refl
 cells_of_numbered cells row n (x ∷ xs) = ap (λ l. cells (row n x) ++ l) (cells_of_numbered cells row (n + 1) xs)
+
+-- one more number behind others
+pub numbers_more : (i d : ℕ) (ns : List ℕ) (cells : List ValueRef) (v : ValueRef) → i < length ns → length cells ≡ length ns → owned v ≡ Int (pos (get_or ns i d))
+    → take i (bound cells) ≡ map (λ n. Int (pos n)) (take i ns) → take (i + 1) (bound (set cells i v)) ≡ map (λ n. Int (pos n)) (take (i + 1) ns)
+numbers_more i d ns cells v within room own before =
+    take-map _ (i + 1) (set cells i v) ∙ ap bound (take_more_set cells i v (omega (arith, within, room))) ∙ map-append _ (take i cells) (v ∷ [])
+    ∙ ap₂ (λ (a b : Row). a ++ b) (sym (take-map _ i cells) ∙ before) (ap (λ w. bound_value w ∷ []) own)
+    ∙ sym (ap (map (λ n. Int (pos n))) (take_more ns i d within) ∙ map-append (λ n. Int (pos n)) (take i ns) (get_or ns i d ∷ []))
+
+-- the values of a row that begins with a text
+pub behind_text : (a b : List ℕ) (cells : List ValueRef) (row : Row) → a ≡ b → bound cells ≡ row → Text a ∷ bound (cells ++ []) ≡ Text b ∷ row
+behind_text a b cells row text filled = ap₂ (λ (t : List ℕ) (l : Row). Text t ∷ l) text (ap bound (append-nil cells) ∙ filled)

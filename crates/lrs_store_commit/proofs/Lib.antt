@@ -17,6 +17,7 @@ pub mod RenameStatements
 pub mod Updating
 pub mod Renamed
 pub mod Then
+pub mod Leaves
 pub mod Pieces
 pub mod SameName
 pub mod CommitLemmas

@@ -81,8 +81,7 @@ fn put_entered<S: Alter>(tx: &mut Transaction<'_, S>, parts: &Rows<Part>) -> Res
         (Makes (with_entered parts.now)) }
     ensures survives { LeavesStore (state S.Store tx.old.conn.now) (state S.Store tx.new.conn.now) }
 {
-    write_all(tx, &Ledger, parts.as_slice())?;
-    Ok(())
+    write_all(tx, &Ledger, parts.as_slice())
 }
 
 /// Puts rows of the ledger of what is gone.
@@ -92,8 +91,7 @@ fn put_gone<S: Alter>(tx: &mut Transaction<'_, S>, gone: &Rows<Gone>) -> Result<
         (Makes (with_gone gone.now)) }
     ensures survives { LeavesStore (state S.Store tx.old.conn.now) (state S.Store tx.new.conn.now) }
 {
-    write_all(tx, &Ledger, gone.as_slice())?;
-    Ok(())
+    write_all(tx, &Ledger, gone.as_slice())
 }
 
 /// Inserts rows into the ledgers.

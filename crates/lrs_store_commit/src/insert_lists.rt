@@ -4,13 +4,12 @@ ghost use Rattle.std.specs.Prelude.{◌≡◌};
 ghost use Rattle.lrs_store_tables.specs.Changing.{with_pieces, with_marks, with_refs, with_spans, with_entered, with_gone};
 ghost use Rattle.lrs_store_tables.specs.RowLaws.{same_refl, pieces_more, marks_more, refs_more, spans_more, entered_more, gone_more};
 
+use crate::cells::{fill_gone, fill_numbers, fill_part, fill_span};
 use crate::lists::Written;
 use lrs_element::{Mark, Piece};
 use lrs_events::{Gone, Part, Span};
 use lrs_position::{Referent, RouteName};
-use lrs_store_tables::number::{
-    cause_number, direction_number, link_side_number, number, side_number,
-};
+use lrs_store_tables::number::{direction_number, number};
 use sqlite::types::ValueRef;
 use sqlite::{Alter, Error, Transaction};
 
@@ -33,16 +32,11 @@ impl Written<Coming> for Piece {
         of: &Coming,
         n: u64,
     ) -> Result<(), Error> {
-        let route = ValueRef::Text(of.route.bytes());
-        let own = number(n)?;
-        let link = number(self.link as u64)?;
-        let from = number(self.from as u64)?;
-        let to = number(self.to as u64)?;
-        let direction = number(direction_number(self.forward))?;
-        tx.execute(
-            "INSERT INTO piece VALUES (?1, ?2, ?3, ?4, ?5, ?6)",
-            &[route, own, link, from, to, direction],
-        )?;
+        let (link, from, to) = (self.link as u64, self.from as u64, self.to as u64);
+        let direction = direction_number(self.forward);
+        let mut cells = [ValueRef::Text(of.route.bytes()); 6];
+        fill_numbers(&[n, link, from, to, direction], &mut cells[1..])?;
+        tx.execute("INSERT INTO piece VALUES (?1, ?2, ?3, ?4, ?5, ?6)", &cells)?;
         Ok(())
     }
 
@@ -60,14 +54,9 @@ impl Written<Coming> for Mark {
         of: &Coming,
         n: u64,
     ) -> Result<(), Error> {
-        let route = ValueRef::Text(of.route.bytes());
-        let own = number(n)?;
-        let chainage = number(self.chainage)?;
-        let measure = number(self.measure)?;
-        tx.execute(
-            "INSERT INTO mark VALUES (?1, ?2, ?3, ?4)",
-            &[route, own, chainage, measure],
-        )?;
+        let mut cells = [ValueRef::Text(of.route.bytes()); 4];
+        fill_numbers(&[n, self.chainage, self.measure], &mut cells[1..])?;
+        tx.execute("INSERT INTO mark VALUES (?1, ?2, ?3, ?4)", &cells)?;
         Ok(())
     }
 
@@ -106,15 +95,9 @@ impl Written<Coming> for Span {
         of: &Coming,
         _n: u64,
     ) -> Result<(), Error> {
-        let asset = number(self.asset)?;
-        let route = ValueRef::Text(of.route.bytes());
-        let from = number(self.from)?;
-        let to = number(self.to)?;
-        let side = number(side_number(self.side))?;
-        tx.execute(
-            "INSERT INTO span VALUES (?1, ?2, ?3, ?4, ?5)",
-            &[asset, route, from, to, side],
-        )?;
+        let mut cells = [ValueRef::Null; 5];
+        fill_span(&of.route, self, &mut cells)?;
+        tx.execute("INSERT INTO span VALUES (?1, ?2, ?3, ?4, ?5)", &cells)?;
         Ok(())
     }
 
@@ -132,15 +115,11 @@ impl Written<Ledger> for Part {
         _of: &Ledger,
         _n: u64,
     ) -> Result<(), Error> {
-        let edit = number(self.edit)?;
-        let asset = number(self.asset)?;
-        let link = number(self.link as u64)?;
-        let from = number(self.from as u64)?;
-        let to = number(self.to as u64)?;
-        let side = number(link_side_number(self.side))?;
+        let mut cells = [ValueRef::Null; 6];
+        fill_part(self, &mut cells)?;
         tx.execute(
             "INSERT INTO entered VALUES (?1, ?2, ?3, ?4, ?5, ?6)",
-            &[edit, asset, link, from, to, side],
+            &cells,
         )?;
         Ok(())
     }
@@ -159,16 +138,11 @@ impl Written<Ledger> for Gone {
         _of: &Ledger,
         _n: u64,
     ) -> Result<(), Error> {
-        let edit = number(self.part.edit)?;
-        let cause = number(cause_number(self.abandoned))?;
-        let asset = number(self.part.asset)?;
-        let link = number(self.part.link as u64)?;
-        let from = number(self.part.from as u64)?;
-        let to = number(self.part.to as u64)?;
-        let side = number(link_side_number(self.part.side))?;
+        let mut cells = [ValueRef::Null; 7];
+        fill_gone(self, &mut cells)?;
         tx.execute(
             "INSERT INTO gone VALUES (?1, ?2, ?3, ?4, ?5, ?6, ?7)",
-            &[edit, cause, asset, link, from, to, side],
+            &cells,
         )?;
         Ok(())
     }

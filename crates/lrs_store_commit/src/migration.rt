@@ -44,8 +44,7 @@ fn put_origins<S: Alter>(tx: &mut Transaction<'_, S>, assets: &[Asset]) -> Resul
         (Makes (with_origins assets.now)) }
     ensures survives { LeavesStore (state S.Store tx.old.conn.now) (state S.Store tx.new.conn.now) }
 {
-    write_all(tx, &Origins, assets)?;
-    Ok(())
+    write_all(tx, &Origins, assets)
 }
 
 /// All rows go that tell which edits entered assets.

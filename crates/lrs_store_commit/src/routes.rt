@@ -46,8 +46,7 @@ fn put_marks<S: Alter>(
     ensures survives { LeavesStore (state S.Store tx.old.conn.now) (state S.Store tx.new.conn.now) }
 {
     let of = Coming { route: *route };
-    write_all(tx, &of, marks.list())?;
-    Ok(())
+    write_all(tx, &of, marks.list())
 }
 
 /// Puts referents of a route.
@@ -62,8 +61,7 @@ fn put_refs<S: Alter>(
     ensures survives { LeavesStore (state S.Store tx.old.conn.now) (state S.Store tx.new.conn.now) }
 {
     let of = Coming { route: *route };
-    write_all(tx, &of, refs.as_slice())?;
-    Ok(())
+    write_all(tx, &of, refs.as_slice())
 }
 
 /// Puts spans of a route.
@@ -78,8 +76,7 @@ fn put_spans<S: Alter>(
     ensures survives { LeavesStore (state S.Store tx.old.conn.now) (state S.Store tx.new.conn.now) }
 {
     let of = Coming { route: *route };
-    write_all(tx, &of, spans)?;
-    Ok(())
+    write_all(tx, &of, spans)
 }
 
 /// Deletes referents by their names.
@@ -94,8 +91,7 @@ fn take_refs<S: Alter>(
     ensures survives { LeavesStore (state S.Store tx.old.conn.now) (state S.Store tx.new.conn.now) }
 {
     let of = Going { route: *route };
-    write_all(tx, &of, names.as_slice())?;
-    Ok(())
+    write_all(tx, &of, names.as_slice())
 }
 
 /// Deletes spans of a route by their keys.
@@ -110,8 +106,7 @@ fn take_spans<S: Alter>(
     ensures survives { LeavesStore (state S.Store tx.old.conn.now) (state S.Store tx.new.conn.now) }
 {
     let of = Going { route: *route };
-    write_all(tx, &of, spans.as_slice())?;
-    Ok(())
+    write_all(tx, &of, spans.as_slice())
 }
 
 /// Puts other pieces of a route.
@@ -224,8 +219,7 @@ fn rename_refs<S: Alter>(
         route: *route,
         name: *name,
     };
-    write_all(tx, &of, refs.as_slice())?;
-    Ok(())
+    write_all(tx, &of, refs.as_slice())
 }
 
 /// Spans get the new name of their route, by their keys.
@@ -244,8 +238,7 @@ fn rename_spans<S: Alter>(
         route: *route,
         name: *name,
     };
-    write_all(tx, &of, spans.as_slice())?;
-    Ok(())
+    write_all(tx, &of, spans.as_slice())
 }
 
 /// A route gets its new name, with what lies on it.

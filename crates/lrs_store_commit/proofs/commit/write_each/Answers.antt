@@ -5,6 +5,7 @@ use Rattle.sqlite.specs.Held.{state}
 use Rattle.sqlite.proofs.StateLemmas.{survives_then}
 use Rattle.lrs_store_tables.specs.Writing.{WritesEach}
 use Rattle.lrs_store_commit.proofs.CommitLemmas.{writes_behind}
+use Rattle.lrs_store_commit.proofs.Leaves.{leaves_then}
 use Rattle.lrs_store_commit.proofs.commit.write_each.Goals as goal
 
 pub loop-done-preserved : goal.loop-done-preserved
@@ -30,3 +31,12 @@ loop-done-preserved g c =
           subst (λ cs. WritesEach n cs start last) (sym (take-add done count changes)) (writes_behind n (n + done) (take done changes) (take count left) start mid last at some all next);
       survives = survives_then start mid last _ _ (λ _. ⊥) (λ _ db none. none) (λ _ db none. none) c.loop-done.invariant.survives c.write_next.ensures.survives;
     }
+
+pub returns-in_err-done-clause-survives : goal.returns-in_err-done-clause-survives
+returns-in_err-done-clause-survives g c = leaves_then c.loop-done.invariant.survives c.write_next.ensures.survives
+
+pub returns-in_err-done-clause-same_reference : goal.returns-in_err-done-clause-same_reference
+returns-in_err-done-clause-same_reference g c = c.write_next.ensures.same_reference ∙ c.loop-done.invariant.same
+
+pub returns-clause-survives : goal.returns-clause-survives
+returns-clause-survives g c = c.loop-done.invariant.survives

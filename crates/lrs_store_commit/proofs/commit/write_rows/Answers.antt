@@ -9,6 +9,7 @@ use Rattle.lrs_store_tables.specs.Writing.{with_some, with_named, with_routes, c
 use Rattle.lrs_store_tables.proofs.Steady.{steady_some, steady-changed_route, steady-without_route, steady-new_route, steady-with_ledgers, steady-with_edit}
 use Rattle.lrs_store_rows.specs.Tables.{Tables}
 use Rattle.lrs_store_commit.proofs.Then.{makes_on}
+use Rattle.lrs_store_commit.proofs.Leaves.{leaves_then}
 use Rattle.lrs_store_commit.proofs.commit.write_rows.Goals as goal
 
 pub returns-clause-does : goal.returns-clause-does
@@ -36,3 +37,21 @@ returns-clause-does g c clean writing =
     let a5 = makes_on (λ (t : Tables). with_routes d o3.pieces o4.pieces (with_named d t)) (with_ledgers d) s0 s4 s5 (steady-with_ledgers d) a4 (c.in_ok-put_ledgers.ensures.does m5 a4.writing) in
     let a6 = makes_on (λ (t : Tables). with_ledgers d (with_routes d o3.pieces o4.pieces (with_named d t))) (with_edit c.args.n c.args.change.now.edit) s0 s5 s6 (steady-with_edit c.args.n c.args.change.now.edit) a5 (c.in_ok-put_edit.ensures.does clean a5.writing) in
     record { writing = a6.writing; was_open = a5.was_open (c.in_ok-put_edit.ensures.is_open clean a5.writing); rows = record { changed = o3.pieces; changed_are = o3.are; made = o4.pieces; made_are = o4.are; rows = a6.rows } }
+
+pub returns-in_err-drop_some-clause-survives : goal.returns-in_err-drop_some-clause-survives
+returns-in_err-drop_some-clause-survives g c = leaves_then c.put_named.ensures.survives c.drop_some.ensures.survives
+
+pub returns-in_err-change_some-clause-survives : goal.returns-in_err-change_some-clause-survives
+returns-in_err-change_some-clause-survives g c = leaves_then (leaves_then c.put_named.ensures.survives c.drop_some.ensures.survives) c.change_some.ensures.survives
+
+pub returns-in_err-put_some-clause-survives : goal.returns-in_err-put_some-clause-survives
+returns-in_err-put_some-clause-survives g c = leaves_then (leaves_then (leaves_then c.put_named.ensures.survives c.drop_some.ensures.survives) c.change_some.ensures.survives) c.put_some.ensures.survives
+
+pub returns-in_err-put_ledgers-clause-survives : goal.returns-in_err-put_ledgers-clause-survives
+returns-in_err-put_ledgers-clause-survives g c = leaves_then (leaves_then (leaves_then (leaves_then c.put_named.ensures.survives c.drop_some.ensures.survives) c.change_some.ensures.survives) c.put_some.ensures.survives) c.put_ledgers.ensures.survives
+
+pub returns-in_err-put_edit-clause-survives : goal.returns-in_err-put_edit-clause-survives
+returns-in_err-put_edit-clause-survives g c = leaves_then (leaves_then (leaves_then (leaves_then (leaves_then c.put_named.ensures.survives c.drop_some.ensures.survives) c.change_some.ensures.survives) c.put_some.ensures.survives) c.put_ledgers.ensures.survives) c.put_edit.ensures.survives
+
+pub returns-clause-survives : goal.returns-clause-survives
+returns-clause-survives g c = leaves_then (leaves_then (leaves_then (leaves_then (leaves_then c.put_named.ensures.survives c.drop_some.ensures.survives) c.change_some.ensures.survives) c.put_some.ensures.survives) c.put_ledgers.ensures.survives) c.put_edit.ensures.survives

@@ -6,6 +6,7 @@ use Rattle.lrs_image.specs.declared.change.Change.{Change}
 use Rattle.lrs_store_tables.specs.Stored.{Makes}
 use Rattle.lrs_store_commit.specs.NewAssets.{with_others_of}
 use Rattle.lrs_store_commit.proofs.EntryRows.{puts_more_others, others_are}
+use Rattle.lrs_store_commit.proofs.Leaves.{leaves_then}
 use Rattle.lrs_store_commit.proofs.insert_assets.put_others_in_turn.Goals as goal
 
 pub loop-i-preserved : goal.loop-i-preserved
@@ -28,3 +29,12 @@ loop-i-preserved g c =
           subst (λ cs. Makes (with_others_of cs) start last) (sym more) (puts_more_others (take i entries) route_row _ start mid last is all one);
       survives = survives_then start mid last _ _ (λ _. ⊥) (λ _ db none. none) (λ _ db none. none) c.loop-i.invariant.survives c.write_all.ensures.survives;
     }
+
+pub returns-in_err-write_all-clause-survives : goal.returns-in_err-write_all-clause-survives
+returns-in_err-write_all-clause-survives g c = leaves_then c.loop-i.invariant.survives c.write_all.ensures.survives
+
+pub returns-in_err-write_all-clause-same_reference : goal.returns-in_err-write_all-clause-same_reference
+returns-in_err-write_all-clause-same_reference g c = c.write_all.ensures.same_reference ∙ c.loop-i.invariant.same
+
+pub returns-clause-survives : goal.returns-clause-survives
+returns-clause-survives g c = c.loop-i.invariant.survives

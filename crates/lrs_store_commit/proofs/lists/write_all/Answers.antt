@@ -4,6 +4,7 @@ use Rattle.sqlite.specs.Held.{state}
 use Rattle.sqlite.proofs.StateLemmas.{survives_then}
 use Rattle.lrs_store_tables.specs.Stored.{Makes}
 use Rattle.lrs_store_commit.proofs.Then.{makes_then}
+use Rattle.lrs_store_commit.proofs.Leaves.{leaves_then}
 use Rattle.lrs_store_commit.proofs.lists.write_all.Goals as goal
 
 pub loop-i-preserved : goal.loop-i-preserved
@@ -29,3 +30,12 @@ loop-i-preserved g c =
           (λ t u. g.met.R.Written.more of 0 i (take i rows) item t u at) one two);
       survives = survives_then start mid last _ _ (λ _. ⊥) (λ _ db none. none) (λ _ db none. none) c.loop-i.invariant.survives c.write.ensures.survives;
     }
+
+pub returns-in_err-write-clause-survives : goal.returns-in_err-write-clause-survives
+returns-in_err-write-clause-survives g c = leaves_then c.loop-i.invariant.survives c.write.ensures.survives
+
+pub returns-in_err-write-clause-same_reference : goal.returns-in_err-write-clause-same_reference
+returns-in_err-write-clause-same_reference g c = c.write.ensures.same_reference ∙ c.loop-i.invariant.same
+
+pub returns-clause-survives : goal.returns-clause-survives
+returns-clause-survives g c = c.loop-i.invariant.survives

@@ -8,6 +8,7 @@ use Rattle.lrs_store_tables.specs.Stored.{stored}
 use Rattle.lrs_store_tables.specs.Changing.{with_origins, with_version, without_version, without_origins}
 use Rattle.lrs_store_tables.proofs.Steady.{steady-with_origins, steady-without_version, steady-with_version}
 use Rattle.lrs_store_commit.proofs.Then.{makes_on}
+use Rattle.lrs_store_commit.proofs.Leaves.{leaves_then}
 use Rattle.lrs_store_commit.proofs.migration.write_second.Goals as goal
 
 pub returns-clause-does : goal.returns-clause-does
@@ -31,3 +32,15 @@ returns-clause-does g c clean writing =
       was_open = c.in_ok-clear_origins.ensures.is_open m1 writing;
       rows = subst (λ (rows : List OriginRow). AreSame (record (brought_up xs before) { origin = rows }) (stored s4.now.trees)) (append-nil (map origin_row xs)) a4.rows;
     }
+
+pub returns-in_err-put_origins-clause-survives : goal.returns-in_err-put_origins-clause-survives
+returns-in_err-put_origins-clause-survives g c = leaves_then c.clear_origins.ensures.survives c.put_origins.ensures.survives
+
+pub returns-in_err-clear_version-clause-survives : goal.returns-in_err-clear_version-clause-survives
+returns-in_err-clear_version-clause-survives g c = leaves_then (leaves_then c.clear_origins.ensures.survives c.put_origins.ensures.survives) c.clear_version.ensures.survives
+
+pub returns-in_err-put_version-clause-survives : goal.returns-in_err-put_version-clause-survives
+returns-in_err-put_version-clause-survives g c = leaves_then (leaves_then (leaves_then c.clear_origins.ensures.survives c.put_origins.ensures.survives) c.clear_version.ensures.survives) c.put_version.ensures.survives
+
+pub returns-clause-survives : goal.returns-clause-survives
+returns-clause-survives g c = leaves_then (leaves_then (leaves_then c.clear_origins.ensures.survives c.put_origins.ensures.survives) c.clear_version.ensures.survives) c.put_version.ensures.survives

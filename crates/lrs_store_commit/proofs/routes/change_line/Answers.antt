@@ -4,6 +4,7 @@ use Rattle.sqlite.specs.Held.{state}
 use Rattle.lrs_store_tables.specs.Writing.{with_some, new_pieces, new_marks}
 use Rattle.lrs_store_tables.proofs.Steady.{steady_some, steady-new_marks}
 use Rattle.lrs_store_commit.proofs.Then.{makes_on}
+use Rattle.lrs_store_commit.proofs.Leaves.{leaves_then}
 use Rattle.lrs_store_commit.proofs.routes.change_line.Goals as goal
 
 pub returns-clause-does : goal.returns-clause-does
@@ -16,3 +17,9 @@ returns-clause-does g c clean writing =
     let a1 = o1.makes in
     let a2 = makes_on (with_some (new_pieces c.args.change.now.route) o1.pieces) (with_some (new_marks c.args.change.now.route) c.args.change.now.marks) s0 s1 s2 (steady_some (new_marks c.args.change.now.route) (steady-new_marks c.args.change.now.route) c.args.change.now.marks) a1 (c.in_ok-replace_marks.ensures.does clean a1.writing) in
     record { pieces = o1.pieces; are = o1.are; makes = a2 }
+
+pub returns-in_err-replace_marks-clause-survives : goal.returns-in_err-replace_marks-clause-survives
+returns-in_err-replace_marks-clause-survives g c = leaves_then c.replace_pieces.ensures.survives c.replace_marks.ensures.survives
+
+pub returns-clause-survives : goal.returns-clause-survives
+returns-clause-survives g c = leaves_then c.replace_pieces.ensures.survives c.replace_marks.ensures.survives

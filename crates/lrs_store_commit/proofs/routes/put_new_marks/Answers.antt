@@ -4,6 +4,7 @@ use Rattle.sqlite.specs.Held.{state}
 use Rattle.lrs_store_tables.specs.Changing.{without_marks, with_marks}
 use Rattle.lrs_store_tables.proofs.Steady.{steady-with_marks}
 use Rattle.lrs_store_commit.proofs.Then.{makes_on}
+use Rattle.lrs_store_commit.proofs.Leaves.{leaves_then}
 use Rattle.lrs_store_commit.proofs.routes.put_new_marks.Goals as goal
 
 pub returns-clause-does : goal.returns-clause-does
@@ -15,3 +16,9 @@ returns-clause-does g c clean writing =
     let a1 = (c.in_ok-drop_marks.ensures.does m1 writing) in
     let a2 = makes_on (without_marks c.args.route.now) (with_marks c.args.route.now 0 c.args.marks.now) s0 s1 s2 (steady-with_marks c.args.route.now 0 c.args.marks.now) a1 (c.in_ok-put_marks.ensures.does clean a1.writing) in
     a2
+
+pub returns-in_err-put_marks-clause-survives : goal.returns-in_err-put_marks-clause-survives
+returns-in_err-put_marks-clause-survives g c = leaves_then c.drop_marks.ensures.survives c.put_marks.ensures.survives
+
+pub returns-clause-survives : goal.returns-clause-survives
+returns-clause-survives g c = leaves_then c.drop_marks.ensures.survives c.put_marks.ensures.survives

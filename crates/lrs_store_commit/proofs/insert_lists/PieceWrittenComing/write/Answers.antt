@@ -1,9 +1,19 @@
+use Rattle.std.proofs.Common.{Ok, subst, ◌∷◌, [], pos, ap, ◌∙◌}
+use Rattle.sqlite_value.specs.declared.value.Value.TheVariants.{Int}
+use Rattle.sqlite_value.specs.Order.{Row}
+use Rattle.sqlite.specs.State.{ExecutesInside}
 use Rattle.sqlite.specs.Held.{state}
 use Rattle.lrs_store_rows.specs.Encoding.{piece_row}
+use Rattle.lrs_store_tables.specs.Schema.{insert_piece}
 use Rattle.lrs_store_tables.proofs.Inserted.{piece_added}
+use Rattle.lrs_store_commit.proofs.CellLemmas.{behind_text}
 use Rattle.lrs_store_commit.proofs.insert_lists.PieceWrittenComing.write.Goals as goal
 
 pub returns-clause-does : goal.returns-clause-does
 returns-clause-does g c clean writing =
-    piece_added (piece_row c.args.of.now.route c.args.n c.args.self.now) (state g.S.Store c.args.tx.now.conn.now) (state g.S.Store c.execute.new.self.conn.now) c.in_ok-execute.field-0 writing
-    (rw (c.bytes.ensures.text, c.in_ok-own.ensures, c.in_ok-link.ensures, c.in_ok-from.ensures, c.in_ok-to.ensures, c.in_ok-direction.ensures, c.direction_number.ensures) at (c.in_ok-execute.ensures.runs clean writing.begun))
+    let old = state g.S.Store c.args.tx.now.conn.now in
+    let new = state g.S.Store c.execute.new.self.conn.now in
+    let x = c.args.self.now in
+    let given = behind_text _ _ c.fill_numbers.new.cells _ c.bytes.ensures.text (c.in_ok-fill_numbers.ensures.filled ∙ ap (λ d. Int (pos c.args.n) ∷ Int (pos x.link) ∷ Int (pos x.from) ∷ Int (pos x.to) ∷ Int (pos d) ∷ []) c.direction_number-direction.ensures) in
+    piece_added (piece_row c.args.of.now.route c.args.n x) old new c.in_ok-execute.field-0 writing
+    (subst (λ (params : Row). ExecutesInside 0 insert_piece params old new (Ok c.in_ok-execute.field-0)) given (c.in_ok-execute.ensures.runs clean writing.begun))
