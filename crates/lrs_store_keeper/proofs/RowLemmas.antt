@@ -1,5 +1,7 @@
 -- Tables that are read one after the other, and nothing changes.
-use Rattle.std.proofs.Common.{sym, ap, subst, ◌∙◌}
+use Rattle.std.proofs.Common.{◌≡◌, Ok, Err, Result, IfOk, IfErr, sym, ap, subst, ◌∙◌}
+use Rattle.std.specs.Prelude.{IsErrAnd}
+use Rattle.sqlite.specs.declared.error.Error.{Error}
 use Rattle.sqlite.specs.Effect.{Database}
 use Rattle.sqlite.specs.State.{State, IsUnchanged}
 use Rattle.sqlite.proofs.Callers.{unchanged_then}
@@ -20,3 +22,13 @@ reads_then P Q a b c first second = record {
   rows = (first.rows, subst (λ (d : Database). Q (stored d.trees)) first.same.0.now_is second.rows);
   same = unchanged_then a b c first.same second.same;
 }
+
+-- an error that is handed on: nothing was read, and its reason stays
+
+pub none_read : {A : Type 0} (P : A → Type 0) (Q : Error → Type 0) (r : Result A Error) → IsErrAnd r Q → IfOk r P
+none_read P Q (Ok x) h = absurd h
+none_read P Q (Err e) h = tt
+
+pub err_told : {A : Type 0} (P : Error → Type 0) {e : Error} (r : Result A Error) → IsErrAnd r (λ y. y ≡ e) → P e → IfErr r P
+err_told P (Ok x) h told = absurd h
+err_told P (Err y) h told = subst P (sym h) told

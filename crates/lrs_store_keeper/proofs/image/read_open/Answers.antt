@@ -1,10 +1,12 @@
-use Rattle.std.proofs.Common.{rules}
 use Rattle.sqlite.specs.Held.{state}
 use Rattle.lrs_store_rows.specs.Tables.{AreSame}
 use Rattle.lrs_store_tables.specs.Stored.{stored}
 use Rattle.lrs_store_keeper.specs.Rows.{tables_of}
 use Rattle.lrs_store_keeper.proofs.ReadLemmas.{left_before}
 use Rattle.lrs_store_tables.proofs.FailLemmas.{reason_after}
+use Rattle.lrs_store_tables.specs.Failing.{HasReason}
+use Rattle.lrs_store_keeper.proofs.RowLemmas.{err_told}
+use Rattle.lrs_store_keeper.proofs.OpeningLemmas.{leaves_then}
 use Rattle.lrs_store_keeper.proofs.image.read_open.Goals as goal
 
 pub returns-clause-rows : goal.returns-clause-rows
@@ -14,4 +16,19 @@ pub returns-in_err-check_open-clause-cause : goal.returns-in_err-check_open-clau
 returns-in_err-check_open-clause-cause g c clean =
     let h = reason_after (state g.S.Store c.args.conn.now) (state g.S.Store c.read_alone.new.conn) (state g.S.Store c.check_open.new.conn) c.in_err-check_open.field-0.0
     c.read_alone.ensures.survives c.check_open.ensures.survives clean (c.in_err-check_open.ensures.cause clean) in
-    search rules
+    err_told (HasReason (state g.S.Store c.args.conn.now) (state g.S.Store c.check_open.new.conn)) c.from_residual-in_err-check_open.result c.from_residual-in_err-check_open.ensures.1 h
+
+pub returns-in_err-rows-clause-survives : goal.returns-in_err-rows-clause-survives
+returns-in_err-rows-clause-survives g c = c.read_alone.ensures.survives
+
+pub returns-in_err-rows-clause-cause : goal.returns-in_err-rows-clause-cause
+returns-in_err-rows-clause-cause g c clean = err_told (HasReason (state g.S.Store c.args.conn.now) (state g.S.Store c.read_alone.new.conn)) c.from_residual.result c.from_residual.ensures.1 (c.in_err-rows.ensures.cause clean)
+
+pub returns-in_err-check_open-clause-survives : goal.returns-in_err-check_open-clause-survives
+returns-in_err-check_open-clause-survives g c = leaves_then (state g.S.Store c.args.conn.now) (state g.S.Store c.read_alone.new.conn) (state g.S.Store c.check_open.new.conn) c.read_alone.ensures.survives c.check_open.ensures.survives
+
+pub returns-clause-survives : goal.returns-clause-survives
+returns-clause-survives g c = leaves_then (state g.S.Store c.args.conn.now) (state g.S.Store c.read_alone.new.conn) (state g.S.Store c.check_open.new.conn) c.read_alone.ensures.survives c.check_open.ensures.survives
+
+pub returns-clause-cause : goal.returns-clause-cause
+returns-clause-cause g c clean = tt

@@ -1,4 +1,5 @@
-use Rattle.std.proofs.Common.{inl, inr}
+use Rattle.std.proofs.Common.{inl, inr, ◌∙◌, arith}
+use Rattle.sqlite.specs.State.{HasCleanDisk}
 use Rattle.sqlite.specs.Held.{state}
 use Rattle.lrs_store_keeper.proofs.OpeningLemmas.{found_before, second_still, leaves_then}
 use Rattle.lrs_store_keeper.proofs.FailedLemmas.{not_both, failed_behind}
@@ -29,3 +30,60 @@ returns-in-Ok-false-clause-cause g c is clean =
       | inl failed ↦ inl (failed_behind (state g.S.Store c.args.conn.now) b (state g.S.Store c.rewrite.new.conn) c.has_second.ensures.survives (c.in-Ok-false.ensures.open (c.rewrite.ensures.clean clean)) failed)
       | inr holds ↦ inr holds
     ]
+
+pub returns-in-Ok-false-clause-autocommit : goal.returns-in-Ok-false-clause-autocommit
+returns-in-Ok-false-clause-autocommit g c = c.rewrite.ensures.autocommit
+
+pub returns-in-Ok-false-clause-clean : goal.returns-in-Ok-false-clause-clean
+returns-in-Ok-false-clause-clean g c clean = let late : HasCleanDisk (state g.S.Store c.has_second.new.conn) = c.rewrite.ensures.clean clean in omega (arith, late, c.has_second.ensures.survives.clean)
+
+pub returns-in-Ok-false-clause-ready : goal.returns-in-Ok-false-clause-ready
+returns-in-Ok-false-clause-ready g c = c.rewrite.ensures.ready
+
+pub returns-in-Ok-false-clause-open : goal.returns-in-Ok-false-clause-open
+returns-in-Ok-false-clause-open g c = c.rewrite.ensures.open
+
+pub returns-in-Ok-false-clause-second : goal.returns-in-Ok-false-clause-second
+returns-in-Ok-false-clause-second g c = c.rewrite.ensures.second
+
+pub returns-in-Ok-false-clause-unsound : goal.returns-in-Ok-false-clause-unsound
+returns-in-Ok-false-clause-unsound g c = c.rewrite.ensures.unsound
+
+pub returns-in-Ok-false-clause-limit : goal.returns-in-Ok-false-clause-limit
+returns-in-Ok-false-clause-limit g c = c.rewrite.ensures.limit ∙ c.has_second.ensures.survives.limit
+
+pub returns-in-Ok-true-clause-autocommit : goal.returns-in-Ok-true-clause-autocommit
+returns-in-Ok-true-clause-autocommit g c = c.has_second.ensures.autocommit
+
+pub returns-in-Ok-true-clause-clean : goal.returns-in-Ok-true-clause-clean
+returns-in-Ok-true-clause-clean g c clean = omega (arith, clean, c.has_second.ensures.survives.clean)
+
+pub returns-in-Ok-true-clause-content : goal.returns-in-Ok-true-clause-content
+returns-in-Ok-true-clause-content g c = found_before (state g.S.Store c.args.conn.now) (state g.S.Store c.has_second.new.conn) c.has_second.ensures.survives
+
+pub returns-in-Ok-true-clause-still : goal.returns-in-Ok-true-clause-still
+returns-in-Ok-true-clause-still g c t e = c.has_second.ensures.survives
+
+pub returns-in-Ok-true-clause-untouched : goal.returns-in-Ok-true-clause-untouched
+returns-in-Ok-true-clause-untouched g c second = c.has_second.ensures.survives
+
+pub returns-in-Ok-true-clause-limit : goal.returns-in-Ok-true-clause-limit
+returns-in-Ok-true-clause-limit g c = c.has_second.ensures.survives.limit
+
+pub returns-in-Err-clause-autocommit : goal.returns-in-Err-clause-autocommit
+returns-in-Err-clause-autocommit g c = c.has_second.ensures.autocommit
+
+pub returns-in-Err-clause-clean : goal.returns-in-Err-clause-clean
+returns-in-Err-clause-clean g c clean = omega (arith, clean, c.has_second.ensures.survives.clean)
+
+pub returns-in-Err-clause-content : goal.returns-in-Err-clause-content
+returns-in-Err-clause-content g c = found_before (state g.S.Store c.args.conn.now) (state g.S.Store c.has_second.new.conn) c.has_second.ensures.survives
+
+pub returns-in-Err-clause-still : goal.returns-in-Err-clause-still
+returns-in-Err-clause-still g c t e = c.has_second.ensures.survives
+
+pub returns-in-Err-clause-untouched : goal.returns-in-Err-clause-untouched
+returns-in-Err-clause-untouched g c second = c.has_second.ensures.survives
+
+pub returns-in-Err-clause-limit : goal.returns-in-Err-clause-limit
+returns-in-Err-clause-limit g c = c.has_second.ensures.survives.limit

@@ -1,10 +1,11 @@
-use Rattle.std.proofs.Common.{rules, arith, map, IsPermutation}
+use Rattle.std.proofs.Common.{arith, map, IsPermutation, ◌∙◌}
 use Rattle.sqlite.specs.State.{HasCleanDisk}
 use Rattle.sqlite.specs.Held.{state}
 use Rattle.lrs_store_rows.specs.Tables.{Tables}
 use Rattle.lrs_store_tables.specs.Stored.{entered_in, gone_in, edit_in, origin_in}
+use Rattle.lrs_store_tables.specs.Failing.{HasReason}
 use Rattle.lrs_store_keeper.specs.Rows.{HasRead}
-use Rattle.lrs_store_keeper.proofs.RowLemmas.{reads_then, still}
+use Rattle.lrs_store_keeper.proofs.RowLemmas.{reads_then, still, none_read, err_told}
 use Rattle.lrs_store_keeper.proofs.OpeningLemmas.{leaves_then}
 use Rattle.lrs_store_keeper.proofs.FailedLemmas.{fails_after}
 use Rattle.lrs_store_keeper.proofs.rows.read_ledgers.Goals as goal
@@ -39,8 +40,7 @@ returns-in_err-gone-clause-cause g c writing clean =
     let l1 = c.read_gone.ensures.survives in
     let f1 = c.in_err-gone.ensures.cause in
     let f0 = fails_after s0 s1 s2 c.in_err-gone.field-0.0 c.read_entered.ensures.survives c.in_ok-entered.ensures.same l1 f1 in
-    let h = f0 writing clean in
-    search rules
+    err_told (HasReason s0 s2) c.from_residual-in_err-gone.result c.from_residual-in_err-gone.ensures.1 (f0 writing clean)
 
 pub returns-in_err-edit-clause-cause : goal.returns-in_err-edit-clause-cause
 returns-in_err-edit-clause-cause g c writing clean =
@@ -53,8 +53,7 @@ returns-in_err-edit-clause-cause g c writing clean =
     let f1 = fails_after s1 s2 s3 c.in_err-edit.field-0.0 c.read_gone.ensures.survives c.in_ok-gone.ensures.same l2 f2 in
     let l1 = leaves_then s1 s2 s3 c.read_gone.ensures.survives l2 in
     let f0 = fails_after s0 s1 s3 c.in_err-edit.field-0.0 c.read_entered.ensures.survives c.in_ok-entered.ensures.same l1 f1 in
-    let h = f0 writing clean in
-    search rules
+    err_told (HasReason s0 s3) c.from_residual-in_err-edit.result c.from_residual-in_err-edit.ensures.1 (f0 writing clean)
 
 pub returns-in_err-origin-clause-cause : goal.returns-in_err-origin-clause-cause
 returns-in_err-origin-clause-cause g c writing clean =
@@ -70,5 +69,73 @@ returns-in_err-origin-clause-cause g c writing clean =
     let f1 = fails_after s1 s2 s4 c.in_err-origin.field-0.0 c.read_gone.ensures.survives c.in_ok-gone.ensures.same l2 f2 in
     let l1 = leaves_then s1 s2 s4 c.read_gone.ensures.survives l2 in
     let f0 = fails_after s0 s1 s4 c.in_err-origin.field-0.0 c.read_entered.ensures.survives c.in_ok-entered.ensures.same l1 f1 in
-    let h = f0 writing clean in
-    search rules
+    err_told (HasReason s0 s4) c.from_residual-in_err-origin.result c.from_residual-in_err-origin.ensures.1 (f0 writing clean)
+
+pub returns-in_err-entered-clause-same_reference : goal.returns-in_err-entered-clause-same_reference
+returns-in_err-entered-clause-same_reference g c = c.read_entered.ensures.same_reference
+
+pub returns-in_err-entered-clause-read : goal.returns-in_err-entered-clause-read
+returns-in_err-entered-clause-read g c clean writing = none_read _ _ c.from_residual.result c.from_residual.ensures.1
+
+pub returns-in_err-entered-clause-survives : goal.returns-in_err-entered-clause-survives
+returns-in_err-entered-clause-survives g c = c.read_entered.ensures.survives
+
+pub returns-in_err-entered-clause-cause : goal.returns-in_err-entered-clause-cause
+returns-in_err-entered-clause-cause g c writing clean = err_told (HasReason (state g.S.Store c.args.tx.now.conn.now) (state g.S.Store c.read_entered.new.tx.conn.now)) c.from_residual.result c.from_residual.ensures.1 (c.in_err-entered.ensures.cause writing clean)
+
+pub returns-in_err-gone-clause-same_reference : goal.returns-in_err-gone-clause-same_reference
+returns-in_err-gone-clause-same_reference g c = c.read_gone.ensures.same_reference ∙ c.read_entered.ensures.same_reference
+
+pub returns-in_err-gone-clause-read : goal.returns-in_err-gone-clause-read
+returns-in_err-gone-clause-read g c clean writing = none_read _ _ c.from_residual-in_err-gone.result c.from_residual-in_err-gone.ensures.1
+
+pub returns-in_err-gone-clause-survives : goal.returns-in_err-gone-clause-survives
+returns-in_err-gone-clause-survives g c =
+    let s0 = state g.S.Store c.args.tx.now.conn.now in
+    let s1 = state g.S.Store c.read_entered.new.tx.conn.now in
+    let s2 = state g.S.Store c.read_gone.new.tx.conn.now in
+    leaves_then s0 s1 s2 c.read_entered.ensures.survives c.read_gone.ensures.survives
+
+pub returns-in_err-edit-clause-same_reference : goal.returns-in_err-edit-clause-same_reference
+returns-in_err-edit-clause-same_reference g c = c.read_edits.ensures.same_reference ∙ c.read_gone.ensures.same_reference ∙ c.read_entered.ensures.same_reference
+
+pub returns-in_err-edit-clause-read : goal.returns-in_err-edit-clause-read
+returns-in_err-edit-clause-read g c clean writing = none_read _ _ c.from_residual-in_err-edit.result c.from_residual-in_err-edit.ensures.1
+
+pub returns-in_err-edit-clause-survives : goal.returns-in_err-edit-clause-survives
+returns-in_err-edit-clause-survives g c =
+    let s0 = state g.S.Store c.args.tx.now.conn.now in
+    let s1 = state g.S.Store c.read_entered.new.tx.conn.now in
+    let s2 = state g.S.Store c.read_gone.new.tx.conn.now in
+    let s3 = state g.S.Store c.read_edits.new.tx.conn.now in
+    leaves_then s0 s1 s3 c.read_entered.ensures.survives (leaves_then s1 s2 s3 c.read_gone.ensures.survives c.read_edits.ensures.survives)
+
+pub returns-in_err-origin-clause-same_reference : goal.returns-in_err-origin-clause-same_reference
+returns-in_err-origin-clause-same_reference g c = c.read_origins.ensures.same_reference ∙ c.read_edits.ensures.same_reference ∙ c.read_gone.ensures.same_reference ∙ c.read_entered.ensures.same_reference
+
+pub returns-in_err-origin-clause-read : goal.returns-in_err-origin-clause-read
+returns-in_err-origin-clause-read g c clean writing = none_read _ _ c.from_residual-in_err-origin.result c.from_residual-in_err-origin.ensures.1
+
+pub returns-in_err-origin-clause-survives : goal.returns-in_err-origin-clause-survives
+returns-in_err-origin-clause-survives g c =
+    let s0 = state g.S.Store c.args.tx.now.conn.now in
+    let s1 = state g.S.Store c.read_entered.new.tx.conn.now in
+    let s2 = state g.S.Store c.read_gone.new.tx.conn.now in
+    let s3 = state g.S.Store c.read_edits.new.tx.conn.now in
+    let s4 = state g.S.Store c.read_origins.new.tx.conn.now in
+    leaves_then s0 s1 s4 c.read_entered.ensures.survives (leaves_then s1 s2 s4 c.read_gone.ensures.survives (leaves_then s2 s3 s4 c.read_edits.ensures.survives c.read_origins.ensures.survives))
+
+pub returns-clause-same_reference : goal.returns-clause-same_reference
+returns-clause-same_reference g c = c.read_origins.ensures.same_reference ∙ c.read_edits.ensures.same_reference ∙ c.read_gone.ensures.same_reference ∙ c.read_entered.ensures.same_reference
+
+pub returns-clause-cause : goal.returns-clause-cause
+returns-clause-cause g c writing clean = tt
+
+pub returns-clause-survives : goal.returns-clause-survives
+returns-clause-survives g c =
+    let s0 = state g.S.Store c.args.tx.now.conn.now in
+    let s1 = state g.S.Store c.read_entered.new.tx.conn.now in
+    let s2 = state g.S.Store c.read_gone.new.tx.conn.now in
+    let s3 = state g.S.Store c.read_edits.new.tx.conn.now in
+    let s4 = state g.S.Store c.read_origins.new.tx.conn.now in
+    leaves_then s0 s1 s4 c.read_entered.ensures.survives (leaves_then s1 s2 s4 c.read_gone.ensures.survives (leaves_then s2 s3 s4 c.read_edits.ensures.survives c.read_origins.ensures.survives))

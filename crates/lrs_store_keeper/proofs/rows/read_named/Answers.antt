@@ -1,10 +1,11 @@
-use Rattle.std.proofs.Common.{rules, arith, map, IsPermutation}
+use Rattle.std.proofs.Common.{arith, map, IsPermutation, ◌∙◌}
 use Rattle.sqlite.specs.State.{HasCleanDisk}
 use Rattle.sqlite.specs.Held.{state}
 use Rattle.lrs_store_rows.specs.Tables.{Tables}
 use Rattle.lrs_store_tables.specs.Stored.{version_in, link_in, class_in, asset_in}
+use Rattle.lrs_store_tables.specs.Failing.{HasReason}
 use Rattle.lrs_store_keeper.specs.Rows.{HasRead}
-use Rattle.lrs_store_keeper.proofs.RowLemmas.{reads_then, still}
+use Rattle.lrs_store_keeper.proofs.RowLemmas.{reads_then, still, none_read, err_told}
 use Rattle.lrs_store_keeper.proofs.OpeningLemmas.{leaves_then}
 use Rattle.lrs_store_keeper.proofs.FailedLemmas.{fails_after}
 use Rattle.lrs_store_keeper.proofs.rows.read_named.Goals as goal
@@ -39,8 +40,7 @@ returns-in_err-link-clause-cause g c writing clean =
     let l1 = c.read_links.ensures.survives in
     let f1 = c.in_err-link.ensures.cause in
     let f0 = fails_after s0 s1 s2 c.in_err-link.field-0.0 c.read_versions.ensures.survives c.in_ok-version.ensures.same l1 f1 in
-    let h = f0 writing clean in
-    search rules
+    err_told (HasReason s0 s2) c.from_residual-in_err-link.result c.from_residual-in_err-link.ensures.1 (f0 writing clean)
 
 pub returns-in_err-class-clause-cause : goal.returns-in_err-class-clause-cause
 returns-in_err-class-clause-cause g c writing clean =
@@ -53,8 +53,7 @@ returns-in_err-class-clause-cause g c writing clean =
     let f1 = fails_after s1 s2 s3 c.in_err-class.field-0.0 c.read_links.ensures.survives c.in_ok-link.ensures.same l2 f2 in
     let l1 = leaves_then s1 s2 s3 c.read_links.ensures.survives l2 in
     let f0 = fails_after s0 s1 s3 c.in_err-class.field-0.0 c.read_versions.ensures.survives c.in_ok-version.ensures.same l1 f1 in
-    let h = f0 writing clean in
-    search rules
+    err_told (HasReason s0 s3) c.from_residual-in_err-class.result c.from_residual-in_err-class.ensures.1 (f0 writing clean)
 
 pub returns-in_err-asset-clause-cause : goal.returns-in_err-asset-clause-cause
 returns-in_err-asset-clause-cause g c writing clean =
@@ -70,5 +69,73 @@ returns-in_err-asset-clause-cause g c writing clean =
     let f1 = fails_after s1 s2 s4 c.in_err-asset.field-0.0 c.read_links.ensures.survives c.in_ok-link.ensures.same l2 f2 in
     let l1 = leaves_then s1 s2 s4 c.read_links.ensures.survives l2 in
     let f0 = fails_after s0 s1 s4 c.in_err-asset.field-0.0 c.read_versions.ensures.survives c.in_ok-version.ensures.same l1 f1 in
-    let h = f0 writing clean in
-    search rules
+    err_told (HasReason s0 s4) c.from_residual-in_err-asset.result c.from_residual-in_err-asset.ensures.1 (f0 writing clean)
+
+pub returns-in_err-version-clause-same_reference : goal.returns-in_err-version-clause-same_reference
+returns-in_err-version-clause-same_reference g c = c.read_versions.ensures.same_reference
+
+pub returns-in_err-version-clause-read : goal.returns-in_err-version-clause-read
+returns-in_err-version-clause-read g c clean writing = none_read _ _ c.from_residual.result c.from_residual.ensures.1
+
+pub returns-in_err-version-clause-survives : goal.returns-in_err-version-clause-survives
+returns-in_err-version-clause-survives g c = c.read_versions.ensures.survives
+
+pub returns-in_err-version-clause-cause : goal.returns-in_err-version-clause-cause
+returns-in_err-version-clause-cause g c writing clean = err_told (HasReason (state g.S.Store c.args.tx.now.conn.now) (state g.S.Store c.read_versions.new.tx.conn.now)) c.from_residual.result c.from_residual.ensures.1 (c.in_err-version.ensures.cause writing clean)
+
+pub returns-in_err-link-clause-same_reference : goal.returns-in_err-link-clause-same_reference
+returns-in_err-link-clause-same_reference g c = c.read_links.ensures.same_reference ∙ c.read_versions.ensures.same_reference
+
+pub returns-in_err-link-clause-read : goal.returns-in_err-link-clause-read
+returns-in_err-link-clause-read g c clean writing = none_read _ _ c.from_residual-in_err-link.result c.from_residual-in_err-link.ensures.1
+
+pub returns-in_err-link-clause-survives : goal.returns-in_err-link-clause-survives
+returns-in_err-link-clause-survives g c =
+    let s0 = state g.S.Store c.args.tx.now.conn.now in
+    let s1 = state g.S.Store c.read_versions.new.tx.conn.now in
+    let s2 = state g.S.Store c.read_links.new.tx.conn.now in
+    leaves_then s0 s1 s2 c.read_versions.ensures.survives c.read_links.ensures.survives
+
+pub returns-in_err-class-clause-same_reference : goal.returns-in_err-class-clause-same_reference
+returns-in_err-class-clause-same_reference g c = c.read_classes.ensures.same_reference ∙ c.read_links.ensures.same_reference ∙ c.read_versions.ensures.same_reference
+
+pub returns-in_err-class-clause-read : goal.returns-in_err-class-clause-read
+returns-in_err-class-clause-read g c clean writing = none_read _ _ c.from_residual-in_err-class.result c.from_residual-in_err-class.ensures.1
+
+pub returns-in_err-class-clause-survives : goal.returns-in_err-class-clause-survives
+returns-in_err-class-clause-survives g c =
+    let s0 = state g.S.Store c.args.tx.now.conn.now in
+    let s1 = state g.S.Store c.read_versions.new.tx.conn.now in
+    let s2 = state g.S.Store c.read_links.new.tx.conn.now in
+    let s3 = state g.S.Store c.read_classes.new.tx.conn.now in
+    leaves_then s0 s1 s3 c.read_versions.ensures.survives (leaves_then s1 s2 s3 c.read_links.ensures.survives c.read_classes.ensures.survives)
+
+pub returns-in_err-asset-clause-same_reference : goal.returns-in_err-asset-clause-same_reference
+returns-in_err-asset-clause-same_reference g c = c.read_assets.ensures.same_reference ∙ c.read_classes.ensures.same_reference ∙ c.read_links.ensures.same_reference ∙ c.read_versions.ensures.same_reference
+
+pub returns-in_err-asset-clause-read : goal.returns-in_err-asset-clause-read
+returns-in_err-asset-clause-read g c clean writing = none_read _ _ c.from_residual-in_err-asset.result c.from_residual-in_err-asset.ensures.1
+
+pub returns-in_err-asset-clause-survives : goal.returns-in_err-asset-clause-survives
+returns-in_err-asset-clause-survives g c =
+    let s0 = state g.S.Store c.args.tx.now.conn.now in
+    let s1 = state g.S.Store c.read_versions.new.tx.conn.now in
+    let s2 = state g.S.Store c.read_links.new.tx.conn.now in
+    let s3 = state g.S.Store c.read_classes.new.tx.conn.now in
+    let s4 = state g.S.Store c.read_assets.new.tx.conn.now in
+    leaves_then s0 s1 s4 c.read_versions.ensures.survives (leaves_then s1 s2 s4 c.read_links.ensures.survives (leaves_then s2 s3 s4 c.read_classes.ensures.survives c.read_assets.ensures.survives))
+
+pub returns-clause-same_reference : goal.returns-clause-same_reference
+returns-clause-same_reference g c = c.read_assets.ensures.same_reference ∙ c.read_classes.ensures.same_reference ∙ c.read_links.ensures.same_reference ∙ c.read_versions.ensures.same_reference
+
+pub returns-clause-cause : goal.returns-clause-cause
+returns-clause-cause g c writing clean = tt
+
+pub returns-clause-survives : goal.returns-clause-survives
+returns-clause-survives g c =
+    let s0 = state g.S.Store c.args.tx.now.conn.now in
+    let s1 = state g.S.Store c.read_versions.new.tx.conn.now in
+    let s2 = state g.S.Store c.read_links.new.tx.conn.now in
+    let s3 = state g.S.Store c.read_classes.new.tx.conn.now in
+    let s4 = state g.S.Store c.read_assets.new.tx.conn.now in
+    leaves_then s0 s1 s4 c.read_versions.ensures.survives (leaves_then s1 s2 s4 c.read_links.ensures.survives (leaves_then s2 s3 s4 c.read_classes.ensures.survives c.read_assets.ensures.survives))

@@ -1,10 +1,11 @@
-use Rattle.std.proofs.Common.{rules, arith, map, IsPermutation}
+use Rattle.std.proofs.Common.{arith, map, IsPermutation, ◌∙◌}
 use Rattle.sqlite.specs.State.{HasCleanDisk}
 use Rattle.sqlite.specs.Held.{state}
 use Rattle.lrs_store_rows.specs.Tables.{Tables}
 use Rattle.lrs_store_tables.specs.Stored.{piece_in, mark_in, ref_in, span_in}
+use Rattle.lrs_store_tables.specs.Failing.{HasReason}
 use Rattle.lrs_store_keeper.specs.Rows.{HasRead}
-use Rattle.lrs_store_keeper.proofs.RowLemmas.{reads_then, still}
+use Rattle.lrs_store_keeper.proofs.RowLemmas.{reads_then, still, none_read, err_told}
 use Rattle.lrs_store_keeper.proofs.OpeningLemmas.{leaves_then}
 use Rattle.lrs_store_keeper.proofs.FailedLemmas.{fails_after}
 use Rattle.lrs_store_keeper.proofs.rows.read_routes.Goals as goal
@@ -39,8 +40,7 @@ returns-in_err-mark-clause-cause g c writing clean =
     let l1 = c.read_marks.ensures.survives in
     let f1 = c.in_err-mark.ensures.cause in
     let f0 = fails_after s0 s1 s2 c.in_err-mark.field-0.0 c.read_pieces.ensures.survives c.in_ok-piece.ensures.same l1 f1 in
-    let h = f0 writing clean in
-    search rules
+    err_told (HasReason s0 s2) c.from_residual-in_err-mark.result c.from_residual-in_err-mark.ensures.1 (f0 writing clean)
 
 pub returns-in_err-referent-clause-cause : goal.returns-in_err-referent-clause-cause
 returns-in_err-referent-clause-cause g c writing clean =
@@ -53,8 +53,7 @@ returns-in_err-referent-clause-cause g c writing clean =
     let f1 = fails_after s1 s2 s3 c.in_err-referent.field-0.0 c.read_marks.ensures.survives c.in_ok-mark.ensures.same l2 f2 in
     let l1 = leaves_then s1 s2 s3 c.read_marks.ensures.survives l2 in
     let f0 = fails_after s0 s1 s3 c.in_err-referent.field-0.0 c.read_pieces.ensures.survives c.in_ok-piece.ensures.same l1 f1 in
-    let h = f0 writing clean in
-    search rules
+    err_told (HasReason s0 s3) c.from_residual-in_err-referent.result c.from_residual-in_err-referent.ensures.1 (f0 writing clean)
 
 pub returns-in_err-span-clause-cause : goal.returns-in_err-span-clause-cause
 returns-in_err-span-clause-cause g c writing clean =
@@ -70,5 +69,73 @@ returns-in_err-span-clause-cause g c writing clean =
     let f1 = fails_after s1 s2 s4 c.in_err-span.field-0.0 c.read_marks.ensures.survives c.in_ok-mark.ensures.same l2 f2 in
     let l1 = leaves_then s1 s2 s4 c.read_marks.ensures.survives l2 in
     let f0 = fails_after s0 s1 s4 c.in_err-span.field-0.0 c.read_pieces.ensures.survives c.in_ok-piece.ensures.same l1 f1 in
-    let h = f0 writing clean in
-    search rules
+    err_told (HasReason s0 s4) c.from_residual-in_err-span.result c.from_residual-in_err-span.ensures.1 (f0 writing clean)
+
+pub returns-in_err-piece-clause-same_reference : goal.returns-in_err-piece-clause-same_reference
+returns-in_err-piece-clause-same_reference g c = c.read_pieces.ensures.same_reference
+
+pub returns-in_err-piece-clause-read : goal.returns-in_err-piece-clause-read
+returns-in_err-piece-clause-read g c clean writing = none_read _ _ c.from_residual.result c.from_residual.ensures.1
+
+pub returns-in_err-piece-clause-survives : goal.returns-in_err-piece-clause-survives
+returns-in_err-piece-clause-survives g c = c.read_pieces.ensures.survives
+
+pub returns-in_err-piece-clause-cause : goal.returns-in_err-piece-clause-cause
+returns-in_err-piece-clause-cause g c writing clean = err_told (HasReason (state g.S.Store c.args.tx.now.conn.now) (state g.S.Store c.read_pieces.new.tx.conn.now)) c.from_residual.result c.from_residual.ensures.1 (c.in_err-piece.ensures.cause writing clean)
+
+pub returns-in_err-mark-clause-same_reference : goal.returns-in_err-mark-clause-same_reference
+returns-in_err-mark-clause-same_reference g c = c.read_marks.ensures.same_reference ∙ c.read_pieces.ensures.same_reference
+
+pub returns-in_err-mark-clause-read : goal.returns-in_err-mark-clause-read
+returns-in_err-mark-clause-read g c clean writing = none_read _ _ c.from_residual-in_err-mark.result c.from_residual-in_err-mark.ensures.1
+
+pub returns-in_err-mark-clause-survives : goal.returns-in_err-mark-clause-survives
+returns-in_err-mark-clause-survives g c =
+    let s0 = state g.S.Store c.args.tx.now.conn.now in
+    let s1 = state g.S.Store c.read_pieces.new.tx.conn.now in
+    let s2 = state g.S.Store c.read_marks.new.tx.conn.now in
+    leaves_then s0 s1 s2 c.read_pieces.ensures.survives c.read_marks.ensures.survives
+
+pub returns-in_err-referent-clause-same_reference : goal.returns-in_err-referent-clause-same_reference
+returns-in_err-referent-clause-same_reference g c = c.read_refs.ensures.same_reference ∙ c.read_marks.ensures.same_reference ∙ c.read_pieces.ensures.same_reference
+
+pub returns-in_err-referent-clause-read : goal.returns-in_err-referent-clause-read
+returns-in_err-referent-clause-read g c clean writing = none_read _ _ c.from_residual-in_err-referent.result c.from_residual-in_err-referent.ensures.1
+
+pub returns-in_err-referent-clause-survives : goal.returns-in_err-referent-clause-survives
+returns-in_err-referent-clause-survives g c =
+    let s0 = state g.S.Store c.args.tx.now.conn.now in
+    let s1 = state g.S.Store c.read_pieces.new.tx.conn.now in
+    let s2 = state g.S.Store c.read_marks.new.tx.conn.now in
+    let s3 = state g.S.Store c.read_refs.new.tx.conn.now in
+    leaves_then s0 s1 s3 c.read_pieces.ensures.survives (leaves_then s1 s2 s3 c.read_marks.ensures.survives c.read_refs.ensures.survives)
+
+pub returns-in_err-span-clause-same_reference : goal.returns-in_err-span-clause-same_reference
+returns-in_err-span-clause-same_reference g c = c.read_spans.ensures.same_reference ∙ c.read_refs.ensures.same_reference ∙ c.read_marks.ensures.same_reference ∙ c.read_pieces.ensures.same_reference
+
+pub returns-in_err-span-clause-read : goal.returns-in_err-span-clause-read
+returns-in_err-span-clause-read g c clean writing = none_read _ _ c.from_residual-in_err-span.result c.from_residual-in_err-span.ensures.1
+
+pub returns-in_err-span-clause-survives : goal.returns-in_err-span-clause-survives
+returns-in_err-span-clause-survives g c =
+    let s0 = state g.S.Store c.args.tx.now.conn.now in
+    let s1 = state g.S.Store c.read_pieces.new.tx.conn.now in
+    let s2 = state g.S.Store c.read_marks.new.tx.conn.now in
+    let s3 = state g.S.Store c.read_refs.new.tx.conn.now in
+    let s4 = state g.S.Store c.read_spans.new.tx.conn.now in
+    leaves_then s0 s1 s4 c.read_pieces.ensures.survives (leaves_then s1 s2 s4 c.read_marks.ensures.survives (leaves_then s2 s3 s4 c.read_refs.ensures.survives c.read_spans.ensures.survives))
+
+pub returns-clause-same_reference : goal.returns-clause-same_reference
+returns-clause-same_reference g c = c.read_spans.ensures.same_reference ∙ c.read_refs.ensures.same_reference ∙ c.read_marks.ensures.same_reference ∙ c.read_pieces.ensures.same_reference
+
+pub returns-clause-cause : goal.returns-clause-cause
+returns-clause-cause g c writing clean = tt
+
+pub returns-clause-survives : goal.returns-clause-survives
+returns-clause-survives g c =
+    let s0 = state g.S.Store c.args.tx.now.conn.now in
+    let s1 = state g.S.Store c.read_pieces.new.tx.conn.now in
+    let s2 = state g.S.Store c.read_marks.new.tx.conn.now in
+    let s3 = state g.S.Store c.read_refs.new.tx.conn.now in
+    let s4 = state g.S.Store c.read_spans.new.tx.conn.now in
+    leaves_then s0 s1 s4 c.read_pieces.ensures.survives (leaves_then s1 s2 s4 c.read_marks.ensures.survives (leaves_then s2 s3 s4 c.read_refs.ensures.survives c.read_spans.ensures.survives))

@@ -34,3 +34,13 @@ returns-in-Err-Store-clause-store g c e =
 
 pub returns-in-Err-Store-clause-found : goal.returns-in-Err-Store-clause-found
 returns-in-Err-Store-clause-found g c = found_sound (state g.S.Store c.write_next.new.conn)
+
+pub invariant_of-self-in-Ok : goal.invariant_of-self-in-Ok
+invariant_of-self-in-Ok g c e =
+    let wrote = c.in-Ok.ensures in
+    record { autocommit = c.write_next.ensures.autocommit; ready = wrote.ready; second = wrote.second; is_open = λ loaded. wrote.open; loaded = λ loaded. wrote.edits }
+
+pub invariant_of-self-in-Err-Memory : goal.invariant_of-self-in-Err-Memory
+invariant_of-self-in-Err-Memory g c e =
+    let kept = c.write_next.ensures.memory (c.in-Err-Memory.is ∙ ap (λ f. Err f) c.in-Err-Memory.field-0-is) in
+    record { autocommit = c.write_next.ensures.autocommit; ready = kept.ready; second = kept.second; is_open = λ loaded. kept.is_open; loaded = λ loaded. kept.edits_are }
