@@ -1,5 +1,6 @@
 pub mod Whole
 pub mod FirstFaults
 pub mod ClassNames
+pub mod Said
 pub mod Listing
 pub mod Replying

@@ -1,6 +1,6 @@
 -- What is shown has no float.
-use Rattle.std.proofs.Common.{◌≡◌, ℕ, List, [], ◌∷◌, Bool, false, ◌||◌, map, refl, ap, ◌∙◌, Option, None, Some}
-use Rattle.serde_json.specs.Data.{Data}
+use Rattle.std.proofs.Common.{◌≡◌, ℕ, List, [], ◌∷◌, Bool, false, ◌||◌, map, codes, refl, ap, ◌∙◌, Option, None, Some}
+use Rattle.serde_json.specs.Data.{Data, Members, no_members, object, put}
 use Rattle.serde_json.specs.Written.{has_float}
 use Rattle.lrs_measure.specs.Texts.{Name}
 use Rattle.lrs_element.specs.declared.link.Ground.{Ground}
@@ -46,6 +46,16 @@ route_whole d r shows = ap has_float shows.is ∙ route_with r shows.pieces
 
 pub list_whole : {A : Type 0} (d : Data) (name : List ℕ) (shown : A → Data) (xs : List A) → ((x : A) → has_float (shown x) ≡ false) → d ≡ named_list name (map shown xs) → has_float d ≡ false
 list_whole d name shown xs whole is = ap has_float is ∙ neither (has_float (each shown xs)) false (each_whole shown whole xs) refl
+
+-- the members of an object; any other value has none
+members_in : Data → Members
+members_in (object ms) = ms
+members_in _ = no_members
+
+-- an answer at a position, with the positions there
+pub with_positions : (ms : Members) (w : Whereabouts) → object ms ≡ at_data w.route w.found.at w.found.ground w.found.hits → object (put (codes "positions") (each place_data w.positions) ms) ≡ whereabouts_data w
+unfolding members_in
+with_positions ms w is = ap (λ d. object (put (codes "positions") (each place_data w.positions) (members_in d))) is
 
 pub whereabouts_whole : (d : Data) (w : Whereabouts) → d ≡ whereabouts_data w → has_float d ≡ false
 whereabouts_whole d w is =

@@ -2,8 +2,8 @@
 
 ghost use Rattle.std.specs.Prelude.{◌≡◌, ◌++◌, false, map, IfOk, OnOk};
 ghost use Rattle.std.specs.Str.{IsAscii};
-ghost use Rattle.serde_json.specs.Data.{Data};
-ghost use Rattle.serde_json.specs.View.{view};
+ghost use Rattle.serde_json.specs.Data.{Data, object};
+ghost use Rattle.serde_json.specs.View.{members_view, view};
 ghost use Rattle.serde_json.specs.Written.{compact_text, has_float};
 ghost use Rattle.lrs_web_replies.specs.Reports.{lengths_data, named_list, whereabouts_data};
 ghost use Rattle.lrs_web_replies.specs.Answers.{at_data, direction_text, ShowsRoute, segments_data, translated_data, on_link_data, routes_data, totals_data, found_data, error_data};
@@ -11,8 +11,8 @@ ghost use Rattle.lrs_web_replies.specs.Parts.{segments_end, segments_front};
 ghost use Rattle.lrs_machine.specs.Lines.{method_text};
 
 use crate::list::Shown;
-use crate::list_text::{add_name, add_segment_list, add_value, begin};
-use crate::members::{Member, Scalar, members_of, object_of, put_list, scalar_value};
+use crate::list_text::{add_name, add_segment_list, add_text, add_value, begin};
+use crate::members::{Member, Scalar, members_of, object_of, scalar_value, with_list};
 use lrs_answers::{FoundRow, RouteLength, RouteSegments};
 use lrs_element::Ground;
 use lrs_events::Side;
@@ -24,10 +24,10 @@ use lrs_whereabouts::Whereabouts;
 use serde_json::{Map, Value, json};
 use std::alloc::{AllocError, Global};
 
-/// The text of a value without space.
-pub(crate) fn bytes_of(alloc: Global, value: &Value) -> Result<Vec<u8>, AllocError>
-    requires { has_float (view value.now) ≡ false }
-    ensures { IfOk result (λ bytes. bytes.items ≡ compact_text (view value.now)) }
+/// The text of a value without space. It takes the value, so that only here one is dropped.
+pub(crate) fn bytes_of(alloc: Global, value: Value) -> Result<Vec<u8>, AllocError>
+    requires { has_float (view value) ≡ false }
+    ensures { IfOk result (λ bytes. bytes.items ≡ compact_text (view value)) }
 {
     let text = value.to_string(alloc)?;
     Ok(text.into_bytes())
@@ -50,16 +50,18 @@ fn direction_of(forward: bool) -> &'static str
     if forward { "+" } else { "-" }
 }
 
-fn at_value(
+/// The members of an answer at a position.
+fn at_members(
     alloc: Global,
     route: &RouteName,
     at: u64,
     here: Ground,
     hits: &[Hit],
-) -> Result<Value, AllocError>
-    ensures { IfOk result (λ value. view value ≡ at_data route.now at here hits.now) }
+) -> Result<Map<String, Value>, AllocError>
+    ensures { IfOk result (λ map. object (members_view map.entries)
+        ≡ at_data route.now at here hits.now) }
 {
-    let mut members = members_of(
+    let members = members_of(
         alloc,
         &[
             Member("at", Scalar::Whole(at)),
@@ -69,7 +71,19 @@ fn at_value(
             Member("route", Scalar::Route(*route)),
         ],
     )?;
-    put_list(alloc, &mut members, "hits", hits)?;
+    with_list(alloc, members, "hits", hits)
+}
+
+fn at_value(
+    alloc: Global,
+    route: &RouteName,
+    at: u64,
+    here: Ground,
+    hits: &[Hit],
+) -> Result<Value, AllocError>
+    ensures { IfOk result (λ value. view value ≡ at_data route.now at here hits.now) }
+{
+    let members = at_members(alloc, route, at, here, hits)?;
     Ok(Value::Object(members))
 }
 
@@ -89,22 +103,22 @@ pub fn at_json(
         (at_data route.now at here hits.now)) }
 {
     let value = at_value(alloc, route, at, here, hits)?;
-    bytes_of(alloc, &value)
+    bytes_of(alloc, value)
 }
 
 fn route_value(alloc: Global, route: &Route) -> Result<Value, AllocError>
     ensures { IfOk result (λ value. ShowsRoute route.now (view value)) }
 {
-    let mut members = members_of(
+    let members = members_of(
         alloc,
         &[
             Member("length", Scalar::Whole(route.length())),
             Member("name", Scalar::Route(route.name)),
         ],
     )?;
-    put_list(alloc, &mut members, "marks", route.marks.list())?;
-    put_list(alloc, &mut members, "pieces", route.course.pieces())?;
-    put_list(alloc, &mut members, "refs", route.refs.as_slice())?;
+    let members = with_list(alloc, members, "marks", route.marks.list())?;
+    let members = with_list(alloc, members, "pieces", route.course.pieces())?;
+    let members = with_list(alloc, members, "refs", route.refs.as_slice())?;
     Ok(Value::Object(members))
 }
 
@@ -118,16 +132,15 @@ pub fn route_json(alloc: Global, route: &Route) -> Result<Vec<u8>, AllocError>
         × (bytes.items ≡ compact_text json)) }
 {
     let value = route_value(alloc, route)?;
-    bytes_of(alloc, &value)
+    bytes_of(alloc, value)
 }
 
 /// The object of the segments of a route up to their list.
 fn begin_segments(alloc: Global, route: &RouteName) -> Result<Vec<u8>, AllocError>
     ensures { IfOk result (λ bytes. bytes.items ≡ segments_front route.now) }
 {
-    let name = Value::try_from_str(alloc, name_of(route))?;
     let mut bytes = begin(alloc, "route")?;
-    add_value(alloc, &mut bytes, &name)?;
+    add_text(alloc, &mut bytes, name_of(route))?;
     add_name(alloc, &mut bytes, "segments")?;
     Ok(bytes)
 }
@@ -136,9 +149,9 @@ fn begin_segments(alloc: Global, route: &RouteName) -> Result<Vec<u8>, AllocErro
 fn end_segments(alloc: Global, bytes: &mut Vec<u8>, side: Side) -> Result<(), AllocError>
     ensures { OnOk result (bytes.new.items ≡ bytes.old.items ++ segments_end side) }
 {
-    let value = scalar_value(alloc, &Scalar::Side(side))?;
     add_name(alloc, bytes, "side")?;
-    add_value(alloc, bytes, &value)?;
+    let value = scalar_value(alloc, &Scalar::Side(side))?;
+    add_value(alloc, bytes, value)?;
     bytes.push(b'}')?;
     Ok(())
 }
@@ -203,7 +216,7 @@ pub fn translated_json(
         (translated_data route.now expression)) }
 {
     let value = translated_value(alloc, route, &expression)?;
-    bytes_of(alloc, &value)
+    bytes_of(alloc, value)
 }
 
 fn link_value(
@@ -238,14 +251,13 @@ pub fn link_json(
         (on_link_data route.now (link, distance))) }
 {
     let value = link_value(alloc, route, link, distance)?;
-    bytes_of(alloc, &value)
+    bytes_of(alloc, value)
 }
 
 fn list_value_under<T: Shown>(alloc: Global, name: &str, list: &[T]) -> Result<Value, AllocError>
     ensures { IfOk result (λ value. view value ≡ named_list name.now (map T.shown list.now)) }
 {
-    let mut members = Map::new(alloc);
-    put_list(alloc, &mut members, name, list)?;
+    let members = with_list(alloc, Map::new(alloc), name, list)?;
     Ok(Value::Object(members))
 }
 
@@ -256,7 +268,7 @@ fn list_json<T: Shown>(alloc: Global, name: &str, list: &[T]) -> Result<Vec<u8>,
         ≡ compact_text (named_list name.now (map T.shown list.now))) }
 {
     let value = list_value_under(alloc, name, list)?;
-    bytes_of(alloc, &value)
+    bytes_of(alloc, value)
 }
 
 /// The totals of classes, in side millimetres.
@@ -299,22 +311,19 @@ pub fn lengths_json(alloc: Global, lengths: &[ValueLength]) -> Result<Vec<u8>, A
     list_json(alloc, "lengths", lengths)
 }
 
+#[tactic(auto, using(crate::proofs::Whole::with_positions))]
 fn whereabouts_value(alloc: Global, found: &Whereabouts) -> Result<Value, AllocError>
     ensures { IfOk result (λ value. view value ≡ whereabouts_data found.now) }
 {
-    let ground = found.found.ground;
-    let mut members = members_of(
+    let here = &found.found;
+    let members = at_members(
         alloc,
-        &[
-            Member("at", Scalar::Whole(found.found.at)),
-            Member("dir", Scalar::Word(direction_of(ground.forward))),
-            Member("link", Scalar::Whole(u64::from(ground.link))),
-            Member("mm", Scalar::Whole(u64::from(ground.mm))),
-            Member("route", Scalar::Route(found.route)),
-        ],
+        &found.route,
+        here.at,
+        here.ground,
+        here.hits.as_slice(),
     )?;
-    put_list(alloc, &mut members, "hits", found.found.hits.as_slice())?;
-    put_list(alloc, &mut members, "positions", found.positions.as_slice())?;
+    let members = with_list(alloc, members, "positions", found.positions.as_slice())?;
     Ok(Value::Object(members))
 }
 
@@ -327,7 +336,7 @@ pub fn whereabouts_json(alloc: Global, found: &Whereabouts) -> Result<Vec<u8>, A
     ensures { IfOk result (λ bytes. bytes.items ≡ compact_text (whereabouts_data found.now)) }
 {
     let value = whereabouts_value(alloc, found)?;
-    bytes_of(alloc, &value)
+    bytes_of(alloc, value)
 }
 
 fn error_value(alloc: Global, cause: &str) -> Result<Value, AllocError>
@@ -344,5 +353,5 @@ pub fn error_json(alloc: Global, cause: &str) -> Result<Vec<u8>, AllocError>
     ensures { IfOk result (λ bytes. bytes.items ≡ compact_text (error_data cause.now)) }
 {
     let value = error_value(alloc, cause)?;
-    bytes_of(alloc, &value)
+    bytes_of(alloc, value)
 }

@@ -2,7 +2,7 @@
 
 ghost use Rattle.std.specs.Prelude.{◌≡◌, ◌∷◌, ◌++◌, [], List, length, false, IfOk, OnOk};
 ghost use Rattle.std.specs.List.{flat_map};
-ghost use Rattle.serde_json.specs.Data.{Data};
+ghost use Rattle.serde_json.specs.Data.{Data, string};
 ghost use Rattle.serde_json.specs.View.{view};
 ghost use Rattle.serde_json.specs.Written.{compact_text, has_float};
 ghost use Rattle.lrs_machine.specs.Lines.{Text};
@@ -21,28 +21,35 @@ use std::alloc::{AllocError, Global};
 pub(crate) fn begin(alloc: Global, name: &str) -> Result<Vec<u8>, AllocError>
     ensures { IfOk result (λ bytes. bytes.items ≡ front_text name.now) }
 {
-    let name = Value::try_from_str(alloc, name)?;
-    let name = bytes_of(alloc, &name)?;
     let mut bytes = Vec::new(alloc);
     bytes.push(b'{')?;
-    bytes.extend_from_slice(name.as_slice())?;
+    add_text(alloc, &mut bytes, name)?;
     bytes.push(b':')?;
     Ok(bytes)
 }
 
 /// Adds a value.
-pub(crate) fn add_value(alloc: Global, bytes: &mut Vec<u8>, value: &Value) -> Result<(), AllocError>
-    requires { has_float (view value.now) ≡ false }
-    ensures { OnOk result (bytes.new.items ≡ bytes.old.items ++ compact_text (view value.now)) }
+pub(crate) fn add_value(alloc: Global, bytes: &mut Vec<u8>, value: Value) -> Result<(), AllocError>
+    requires { has_float (view value) ≡ false }
+    ensures { OnOk result (bytes.new.items ≡ bytes.old.items ++ compact_text (view value)) }
 {
     let text = bytes_of(alloc, value)?;
     bytes.extend_from_slice(text.as_slice())
 }
 
+/// Adds a text as a value.
+pub(crate) fn add_text(alloc: Global, bytes: &mut Vec<u8>, text: &str) -> Result<(), AllocError>
+    ensures { OnOk result (bytes.new.items
+        ≡ bytes.old.items ++ compact_text (string text.now)) }
+{
+    let value = Value::try_from_str(alloc, text)?;
+    add_value(alloc, bytes, value)
+}
+
 /// Adds an item, with a comma before it.
-pub(crate) fn add_item(alloc: Global, bytes: &mut Vec<u8>, item: &Value) -> Result<(), AllocError>
-    requires { has_float (view item.now) ≡ false }
-    ensures { OnOk result (bytes.new.items ≡ bytes.old.items ++ item_text (view item.now)) }
+pub(crate) fn add_item(alloc: Global, bytes: &mut Vec<u8>, item: Value) -> Result<(), AllocError>
+    requires { has_float (view item) ≡ false }
+    ensures { OnOk result (bytes.new.items ≡ bytes.old.items ++ item_text (view item)) }
 {
     bytes.push(b',')?;
     add_value(alloc, bytes, item)
@@ -53,7 +60,7 @@ pub(crate) fn add_name(alloc: Global, bytes: &mut Vec<u8>, name: &str) -> Result
     ensures { OnOk result (bytes.new.items ≡ bytes.old.items ++ name_text name.now) }
 {
     let name = Value::try_from_str(alloc, name)?;
-    add_item(alloc, bytes, &name)?;
+    add_item(alloc, bytes, name)?;
     bytes.push(b':')?;
     Ok(())
 }
@@ -63,7 +70,7 @@ fn add_one<T: Shown>(alloc: Global, bytes: &mut Vec<u8>, one: &T) -> Result<(), 
     ensures { OnOk result (bytes.new.items ≡ bytes.old.items ++ item_text (T.shown one.now)) }
 {
     let value = one.value(alloc)?;
-    add_item(alloc, bytes, &value)
+    add_item(alloc, bytes, value)
 }
 
 /// Adds each segment, with a comma before it.

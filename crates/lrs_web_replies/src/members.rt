@@ -103,18 +103,20 @@ pub(crate) fn members_of(
     Ok(map)
 }
 
-/// One more member: a list of what is shown.
-pub(crate) fn put_list<T: Shown>(
+/// These members with one more: a list of what is shown. It takes them, so that a caller has none to drop where memory
+/// runs out.
+pub(crate) fn with_list<T: Shown>(
     alloc: Global,
-    map: &mut Map<String, Value>,
+    mut map: Map<String, Value>,
     name: &str,
     list: &[T],
-) -> Result<(), AllocError>
-    ensures { OnOk result (members_view map.new.entries
-        ≡ put_data name.now (each T.shown list.now) (members_view map.old.entries)) }
+) -> Result<Map<String, Value>, AllocError>
+    ensures { IfOk result (λ all. members_view all.entries
+        ≡ put_data name.now (each T.shown list.now) (members_view map.entries)) }
 {
     let value = list_value(alloc, list)?;
-    put(map, alloc, name, value)
+    put(&mut map, alloc, name, value)?;
+    Ok(map)
 }
 
 /// An object of these members, in the order of their names.

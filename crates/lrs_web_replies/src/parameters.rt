@@ -212,11 +212,8 @@ fn number_in(
         × ((number : ℕ) → Said (SaysNumber least greatest) (parameter name.now query.now) number
         → ⊥))) }
 {
-    match value_of(alloc, query, name)? {
-        Some(text) => match read_number(text.as_str(), least, greatest) {
-            Some(number) => Ok(number),
-            None => Err(fault),
-        },
+    match number_if_given(alloc, query, name, least, greatest, fault)? {
+        Some(number) => Ok(number),
         None => Err(fault),
     }
 }
@@ -258,11 +255,8 @@ pub(crate) fn first_edit_in(alloc: Global, query: &[u8]) -> Result<u64, QueryFau
     ensures read { IfOk result (GivesFirstEdit query.now) }
     ensures unread { IfErr result (Lacks Parameter.FirstEdit query.now) }
 {
-    match value_of(alloc, query, "from")? {
-        Some(text) => match read_number(text.as_str(), 1, MOST_EDITS as u64) {
-            Some(number) => Ok(number),
-            None => Err(NO_FIRST_EDIT),
-        },
+    match number_if_given(alloc, query, "from", 1, MOST_EDITS as u64, NO_FIRST_EDIT)? {
+        Some(number) => Ok(number),
         None => Ok(1),
     }
 }

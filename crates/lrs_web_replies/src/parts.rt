@@ -5,7 +5,7 @@ ghost use Rattle.lrs_web_replies.specs.Answers.{value_data};
 ghost use Rattle.lrs_web_replies.specs.Members.{scalar_data};
 
 use crate::list::{Shown, list_value};
-use crate::members::{Member, Scalar, members_of, object_of, put_list, scalar_value};
+use crate::members::{Member, Scalar, members_of, object_of, scalar_value, with_list};
 use lrs_answers::{FoundRow, RouteLength};
 use lrs_element::{Mark, Piece};
 use lrs_events::Value as AssetValue;
@@ -107,14 +107,14 @@ impl Shown for Segment {
     ghost shown = { segment_data };
 
     fn value(&self, alloc: Global) -> Result<Value, AllocError> {
-        let mut members = members_of(
+        let members = members_of(
             alloc,
             &[
                 Member("from", Scalar::Whole(self.from)),
                 Member("to", Scalar::Whole(self.to)),
             ],
         )?;
-        put_list(alloc, &mut members, "values", self.values.as_slice())?;
+        let members = with_list(alloc, members, "values", self.values.as_slice())?;
         Ok(Value::Object(members))
     }
 }

@@ -51,7 +51,7 @@ fn health_json(alloc: Global, kept: &KeptImage) -> Result<Vec<u8>, AllocError>
     ensures { IfOk result (λ bytes. bytes.items ≡ compact_text (health_data (image_of kept.now))) }
 {
     let value = health_value(alloc, kept)?;
-    bytes_of(alloc, &value)
+    bytes_of(alloc, value)
 }
 
 fn links_json(alloc: Global, kept: &KeptImage) -> Result<Vec<u8>, AllocError>
@@ -83,7 +83,7 @@ fn add_ref(
     ensures { OnOk result (bytes.new.items ≡ bytes.old.items ++ ref_part route.now referent.now) }
 {
     let value = ref_value(alloc, route, referent)?;
-    add_item(alloc, bytes, &value)
+    add_item(alloc, bytes, value)
 }
 
 fn add_refs_on(
@@ -145,7 +145,7 @@ fn add_row(
         ≡ bytes.old.items ++ item_text (row_data assets.now.rows route.now row.now)) }
 {
     let value = row_value(alloc, asset_numbered(assets, row.asset), route, row)?;
-    add_item(alloc, bytes, &value)
+    add_item(alloc, bytes, value)
 }
 
 /// Adds a row where it is asked for.
@@ -281,7 +281,7 @@ fn add_part(
         ≡ bytes.old.items ++ item_text (gone_data assets.now.rows gone.now)) }
 {
     let value = gone_value(alloc, asset_numbered(assets, gone.part.asset), gone)?;
-    add_item(alloc, bytes, &value)
+    add_item(alloc, bytes, value)
 }
 
 /// Adds a part where it is asked for.
