@@ -24,7 +24,7 @@ use lrs_whereabouts::Whereabouts;
 use serde_json::{Map, Value, json};
 use std::alloc::{AllocError, Global};
 
-/// The text of a value without space. It takes the value, so that only here one is dropped.
+/// The text of a value without space. It takes the value, so that no caller has one to drop.
 pub(crate) fn bytes_of(alloc: Global, value: Value) -> Result<Vec<u8>, AllocError>
     requires { has_float (view value) ≡ false }
     ensures { IfOk result (λ bytes. bytes.items ≡ compact_text (view value)) }
