@@ -1,6 +1,6 @@
 use Rattle.std.proofs.Common.{refl}
 use Rattle.lrs_cli_tasks.proofs.Trying.{compared}
-use Rattle.lrs_cli_tasks.proofs.audit.audit_at.Goals as goal
+use Rattle.lrs_cli_tasks.proofs.audit.made_differs.Goals as goal
 
 pub returns-clause-audited : goal.returns-clause-audited
 returns-clause-audited g c =
