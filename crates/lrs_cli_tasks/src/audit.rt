@@ -94,8 +94,10 @@ fn made_differs<R: Runtime<A = Global>, K: Keeper>(
     ensures audited { IfOk result (IsAudited inventory.now) }
     ensures memory { IfErr result (λ e. e ≡ ProgramFault.Memory) }
 {
-    run_log(rt.alloc(), log, desk)?;
-    Ok(difference_from(rt, inventory, desk))
+    match run_log(rt.alloc(), log, desk) {
+        Ok(()) => Ok(difference_from(rt, inventory, desk)),
+        Err(fault) => Err(fault),
+    }
 }
 
 // The same, at a desk that goes with it. What may fail only borrows the desk, and it is dropped by a call: a function
@@ -143,8 +145,10 @@ fn audit<R: Runtime<A = Global>>(
     ensures audited { IfOk result (IsAudited inventory.now) }
     ensures memory { IfErr result (λ e. e ≡ ProgramFault.Memory) }
 {
-    let log = log_of(rt.alloc(), inventory)?;
-    audit_log(rt, inventory, log.as_slice())
+    match log_of(rt.alloc(), inventory) {
+        Ok(log) => audit_log(rt, inventory, log.as_slice()),
+        Err(fault) => Err(fault),
+    }
 }
 
 // Says that an inventory is as its log says, and how the program ends with that.
