@@ -1,5 +1,5 @@
 -- A run of a sheet over a writer that is put before another and taken away again.
-use Rattle.std.proofs.Common.{◌≡◌, ◌∙◌, ℕ, List, ◌++◌, length, Option, Some, None, [], Result, Ok, Err, refl, ap, inl, inr, subst, sym}
+use Rattle.std.proofs.Common.{◌≡◌, ◌∙◌, ◌≤◌, ℕ, List, ◌++◌, ◌∷◌, length, arith, Option, Some, None, [], Result, Ok, Err, refl, ap, inl, inr, subst, sym}
 use Rattle.std.specs.Prelude.{IfSome}
 use Rattle.std.specs.Io.KnownBytes.{Appends, Keeps}
 use Rattle.lrs_machine.specs.State.{State}
@@ -13,8 +13,10 @@ use Rattle.lrs_sheet_records.specs.declared.sheet.Sheet.{Sheet}
 use Rattle.lrs_machine.specs.declared.image.Image.{Image}
 use Rattle.lrs_machine.specs.declared.table.Table.{Table}
 use Rattle.lrs_desk.specs.DeskView.{DeskView}
-use Rattle.lrs_sheet.specs.Sheets.{AreAnswered, HasFailedToKeep, HasStopped, IsAfterCommands, LeavesDesk, RunsBehind, StandAtFront}
+use Rattle.lrs_sheet.specs.Sheets.{AreAnswered, HasFailedToKeep, HasStopped, IsAfterCommands, LeavesDesk, Runs, RunsBehind, StandAtFront}
 use Rattle.lrs_machine.specs.Image.{state_of}
+use Rattle.lrs_cli_tasks.specs.declared.sheets.Pace.{Pace}
+use Rattle.lrs_cli_tasks.specs.declared.sheets.Pace.TheVariants.{LineByLine, AsTheyArrive, InGroups, InPieces}
 use Rattle.lrs_cli_tasks.specs.declared.sheets.Way.{Way}
 use Rattle.lrs_cli_tasks.specs.Sheets.{GoesOnOrBreaks, HasRun, together_at}
 
@@ -110,3 +112,36 @@ either_left holds old new (Err (fault.Desk stop.MustReopen)) left = inl left.0
 -- where nothing is done, no command is
 pub none_done : (limits : Limits) (s : State) → IsAfterCommands limits s s
 none_done limits s = ([], refl)
+
+-- at each pace one record at least is done together
+pub some_together : (pace : Pace) → 1 ≤ together_at pace
+some_together LineByLine = omega (arith)
+some_together AsTheyArrive = omega (arith)
+some_together InGroups = omega (arith)
+some_together InPieces = omega (arith)
+
+no_items : {A : Type 0} (xs : List A) → length xs ≡ 0 → xs ≡ []
+no_items [] none = refl
+no_items (x ∷ xs) none = absurd (omega (arith, none))
+
+module _ {K : Type 0} (holds : K → Result Image Table → Type 0) (way : Way) (before after : DeskView K) (old new : Option (List ℕ)) (outcome : Result Tally SheetFault) where
+  -- what is run with so many records together as the pace says
+  pub ran_together : (known : Option (List ℕ)) (together : ℕ) → together ≡ together_at way.pace
+      → IfSome known (λ input. (front : List (List (List ℕ))) → StandAtFront input front → length front ≡ way.passed → RunsBehind front way.kind together before.limits input (state_of before.image) (state_of after.image) old new outcome)
+      → LeavesDesk holds before after outcome → HasRun holds way known before after old new outcome
+  ran_together known together same runs left = record {
+    runs = subst (λ (n : ℕ). IfSome known (λ input. (front : List (List (List ℕ))) → StandAtFront input front → length front ≡ way.passed → RunsBehind front way.kind n before.limits input (state_of before.image) (state_of after.image) old new outcome)) same runs;
+    desk = left;
+  }
+
+  behind_none : (known : Option (List ℕ)) → way.passed ≡ 0
+      → IfSome known (λ input. Runs way.kind 1 before.limits input (state_of before.image) (state_of after.image) old new outcome)
+      → IfSome known (λ input. (front : List (List (List ℕ))) → StandAtFront input front → length front ≡ way.passed → RunsBehind front way.kind 1 before.limits input (state_of before.image) (state_of after.image) old new outcome)
+  behind_none None none runs = tt
+  behind_none (Some input) none runs = λ front at count. subst (λ (f : List (List (List ℕ))). RunsBehind f way.kind 1 before.limits input (state_of before.image) (state_of after.image) old new outcome) (sym (no_items front (count ∙ none))) runs
+
+  -- a sheet that is run one by one from its start is run behind no record
+  pub ran_whole : (known : Option (List ℕ)) → 1 ≡ together_at way.pace → way.passed ≡ 0
+      → IfSome known (λ input. Runs way.kind 1 before.limits input (state_of before.image) (state_of after.image) old new outcome)
+      → LeavesDesk holds before after outcome → HasRun holds way known before after old new outcome
+  ran_whole known one none runs left = ran_together known 1 one (behind_none known none runs) left

@@ -1,5 +1,5 @@
 -- A sheet that is tried at a copy of an inventory, and one that is done on the empty inventory.
-use Rattle.std.proofs.Common.{◌≡◌, ◌⊎◌, ℕ, List, Option, Some, Result, Ok, Err, IfOk, IfErr, refl, subst, inl, inr}
+use Rattle.std.proofs.Common.{◌≡◌, ◌⊎◌, ℕ, List, Option, Some, None, Result, Ok, Err, IfOk, IfErr, refl, subst, sym, inl, inr}
 use Rattle.lrs_measure.specs.Limits.{most_assets, most_edits, most_routes}
 use Rattle.lrs_machine.specs.Image.{nothing, state_of}
 use Rattle.lrs_machine.specs.declared.image.Image.{Image}
@@ -13,7 +13,9 @@ use Rattle.lrs_log.specs.Differences.{IsFirstDifference}
 use Rattle.lrs_cli_tasks.specs.declared.fault.ProgramFault.{ProgramFault}
 use Rattle.lrs_cli_tasks.specs.declared.fault.ProgramFault.TheVariants as program
 use Rattle.lrs_cli_tasks.specs.declared.sheets.Pace.TheVariants.{InPieces}
-use Rattle.lrs_cli_tasks.specs.Auditing.{IsAudited, IsMadeBy, log_of}
+use Rattle.lrs_cli_tasks.specs.declared.endings.Ending.{Ending}
+use Rattle.lrs_cli_tasks.specs.declared.endings.Ending.TheVariants.{Done, Stopped}
+use Rattle.lrs_cli_tasks.specs.Auditing.{EndsAudit, IsAudited, IsMadeBy, log_of}
 use Rattle.lrs_cli_tasks.specs.Sheets.{HasRun, IsUnwritten}
 use Rattle.lrs_cli_tasks.specs.Trials.{IsFull, IsTried}
 
@@ -75,3 +77,8 @@ compared i made left right text differs same_left same_right same_log is first =
 
 pub audited_as : (i j : Image) (d e : Option Table) → i ≡ j → d ≡ e → IsAudited i d → IsAudited j e
 audited_as i j d e same equal is = subst (λ (x : Option Table). IsAudited j x) equal (subst (λ (x : Image). IsAudited x d) same is)
+
+-- an inventory is as its log says, and that is said, or the writer failed
+pub sound_ends : (i : Image) (ending : Ending) → IsAudited i None → (ending ≡ Done) ⊎ (ending ≡ Stopped program.Write) → EndsAudit i ending
+sound_ends i ending is (inl same) = subst (λ (e : Ending). EndsAudit i e) (sym same) is
+sound_ends i ending is (inr same) = subst (λ (e : Ending). EndsAudit i e) (sym same) (inr refl)

@@ -25,24 +25,31 @@ fn lines_of(alloc: Global, trial: &Trial<'_>) -> Result<Vec<u8>, AllocError> {
     Ok(lines)
 }
 
-// What to do about each record that is refused, and about the sheet where it cannot be read on; and how many records
-// there are of each kind.
+// Writes what to do about each record that is refused, and about the sheet where it cannot be read on; and how many
+// records there are of each kind.
+fn write_said(
+    alloc: Global,
+    said: &mut Vec<u8>,
+    trial: &Trial<'_>,
+    lines: &[u8],
+) -> Result<(), AdviceFault> {
+    write_advice(alloc, said, trial.kind, trial.text, lines)?;
+    let flaw = match trial.outcome {
+        Ok(tally) => return write_summary(said, tally.done, tally.again, tally.refused),
+        Err(SheetFault::BadHeader) => SheetFlaw::Header,
+        Err(SheetFault::BadCsv) => SheetFlaw::Width,
+        Err(_) => return Ok(()),
+    };
+    write_fault_advice(alloc, said, flaw, trial.kind, trial.text)
+}
+
+// The same as a text. Whatever may fail only borrows it, so that there is one place where it is dropped.
 fn advice_on(alloc: Global, trial: &Trial<'_>) -> Result<Vec<u8>, AdviceFault> {
     let Ok(lines) = lines_of(alloc, trial) else {
         return Err(AdviceFault::Memory);
     };
     let mut said = Vec::new(alloc);
-    write_advice(alloc, &mut said, trial.kind, trial.text, lines.as_slice())?;
-    let flaw = match trial.outcome {
-        Ok(tally) => {
-            write_summary(&mut said, tally.done, tally.again, tally.refused)?;
-            return Ok(said);
-        }
-        Err(SheetFault::BadHeader) => SheetFlaw::Header,
-        Err(SheetFault::BadCsv) => SheetFlaw::Width,
-        Err(_) => return Ok(said),
-    };
-    write_fault_advice(alloc, &mut said, flaw, trial.kind, trial.text)?;
+    write_said(alloc, &mut said, trial, lines.as_slice())?;
     Ok(said)
 }
 

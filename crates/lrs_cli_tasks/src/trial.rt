@@ -63,13 +63,10 @@ fn try_at<K: Keeper + Drop>(
 {
     let mut copy = desk;
     let pace = Pace::InPieces;
-    write_replies(
-        alloc,
-        Way { kind, pace, passed },
-        text,
-        Vec::new(alloc),
-        &mut copy,
-    )
+    let way = Way { kind, pace, passed };
+    let tried = write_replies(alloc, way, text, Vec::new(alloc), &mut copy);
+    drop(copy);
+    tried
 }
 
 /// Runs a sheet's bytes behind these records at a copy of a desk's inventory, and gives the lines of its replies.
@@ -102,6 +99,31 @@ fn print_trial<R: Runtime<A = Global>>(rt: &R, trial: &Trial<'_>) -> Ending
     ending_of(trial.outcome)
 }
 
+// Prints what a sheet of these bytes would be answered at a desk, and advises on what would be refused.
+fn check_text<R: Runtime<A = Global>, K: Keeper>(
+    rt: &R,
+    desk: &Desk<K>,
+    kind: Sheet,
+    text: &[u8],
+) -> Ending
+    ensures { EndsCheck kind desk.now.image result }
+{
+    match try_sheet(rt.alloc(), desk, kind, 0, text) {
+        Ok((replies, outcome)) => {
+            let trial = Trial {
+                kind,
+                text,
+                passed: 0,
+                replies: replies.as_slice(),
+                outcome,
+            };
+            print_trial(rt, &trial)
+        }
+        // of a trial, whose replies go into memory, that alone can run out
+        Err(_) => Ending::Stopped(ProgramFault::Memory),
+    }
+}
+
 /// Prints what a sheet would be answered at a desk, and on standard error what to do about each record that would be
 /// refused. Nothing is done: the sheet is tried at a copy of the inventory.
 pub fn do_check<R: Runtime<A = Global>, K: Keeper>(
@@ -112,23 +134,9 @@ pub fn do_check<R: Runtime<A = Global>, K: Keeper>(
 ) -> Ending
     ensures { EndsCheck kind desk.now.image result }
 {
-    let text = match read_whole(rt, sheet) {
-        Ok(text) => text,
-        Err(error) => return unopened(rt, sheet, error),
-    };
-    match try_sheet(rt.alloc(), desk, kind, 0, text.as_slice()) {
-        Ok((replies, outcome)) => print_trial(
-            rt,
-            &Trial {
-                kind,
-                text: text.as_slice(),
-                passed: 0,
-                replies: replies.as_slice(),
-                outcome,
-            },
-        ),
-        // of a trial, whose replies go into memory, that alone can run out
-        Err(_) => Ending::Stopped(ProgramFault::Memory),
+    match read_whole(rt, sheet) {
+        Ok(text) => check_text(rt, desk, kind, text.as_slice()),
+        Err(error) => unopened(rt, sheet, error),
     }
 }
 

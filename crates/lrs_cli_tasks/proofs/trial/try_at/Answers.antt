@@ -5,10 +5,10 @@ use Rattle.lrs_cli_tasks.proofs.trial.try_at.Goals as goal
 
 pub returns-clause-tried : goal.returns-clause-tried
 returns-clause-tried g c =
-    subst (λ (xs : List ℕ). IfOk c.write_replies.result (λ done. IsTried c.args.kind c.args.passed c.args.text.now c.args.desk.image (Some xs) (Some done.0.items) done.1))
+    subst (λ (xs : List ℕ). IfOk c.write_replies-tried.result (λ done. IsTried c.args.kind c.args.passed c.args.text.now c.args.desk.image (Some xs) (Some done.0.items) done.1))
     c.new.ensures.items
-    (tried_to _ (λ w. Some w.items) c.args.kind c.args.passed c.args.text.now c.args.desk.image _ _ (Some c.new.result.items) c.write_replies.result
-    refl c.requires.full c.write_replies.ensures.ran)
+    (tried_to _ (λ w. Some w.items) c.args.kind c.args.passed c.args.text.now c.args.desk.image _ _ (Some c.new.result.items) c.write_replies-tried.result
+    refl c.requires.full c.write_replies-tried.ensures.ran)
 
 pub returns-clause-faults : goal.returns-clause-faults
-returns-clause-faults g c = two_faults _ _ _ c.write_replies.result c.write_replies.ensures.unwritten
+returns-clause-faults g c = two_faults _ _ _ c.write_replies-tried.result c.write_replies-tried.ensures.unwritten
