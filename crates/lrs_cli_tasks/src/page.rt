@@ -19,16 +19,11 @@ fn make_folder<R: Runtime<A = Global>>(rt: &R, dir: &str) -> io::Result<()> {
     }
 }
 
-// Makes a file of this path that has the page.
-fn write_file<R: Runtime<A = Global>>(rt: &R, path: Path<'_>) -> io::Result<()> {
-    let mut file = fs::create(rt, path)?;
-    write_page(&mut file)
-}
-
 fn make_page<R: Runtime<A = Global>>(rt: &R, dir: &str) -> io::Result<()> {
-    make_folder(rt, dir)?;
     let path = Path::new(dir).join(rt.alloc(), "index.html")?;
-    write_file(rt, path.as_path())
+    make_folder(rt, dir)?;
+    let mut file = fs::create(rt, path.as_path())?;
+    write_page(&mut file)
 }
 
 /// Writes the web page into a folder, as `index.html`. A folder that is missing is made, but none above it.
