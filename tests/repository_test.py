@@ -236,9 +236,11 @@ def has_memory(gigabytes):
 def test_the_gate_uses_all_processors_that_have_memory_for_a_check():
     """Those of two are left to rt, which knows no other bound there; and so is a number that the environment gives."""
     rt = "echo \"$((5 + ${RT_JOBS:-0})) passed, 0 failed\""
-    wanted = {"2": 0, "3": 3 if has_memory(15) else 0, "1000": 0}
-    for processors, jobs in wanted.items():
-        assert run_gate(rt, others=[("nproc", f"echo {processors}")]) == (f"{7 + jobs} passed, 0 failed", 0), processors
+    for processors in ("2", "1000"):
+        assert run_gate(rt, others=[("nproc", f"echo {processors}")]) == ("7 passed, 0 failed", 0), processors
+    # (what is free may pass the bound while the gate runs)
+    before, told, after = has_memory(15), run_gate(rt, others=[("nproc", "echo 3")]), has_memory(15)
+    assert told in [(f"{10 if found else 7} passed, 0 failed", 0) for found in (before, after)], told
     assert run_gate(rt, others=[("nproc", "echo 3")], RT_JOBS="1") == ("8 passed, 0 failed", 0)
 
 
