@@ -1,5 +1,5 @@
 """Want of memory where a program goes on: a server over an inventory in memory is refused one allocation, each in turn, while it does each
-verb and answers each question. And the proved test of lrs_web_tests, run so."""
+verb and answers each question. And the proved tests of lrs_events_tests and lrs_web_tests, run so."""
 
 import collections
 import contextlib
@@ -248,3 +248,9 @@ def refused_calls(crate, module="memory"):
 
 def test_a_sheet_of_all_verbs_bears_a_refused_growth():
     assert refused_calls("lrs_web_tests", "sheet_memory") >= {"run_sheet"}
+
+
+def test_spans_bear_a_refused_growth():
+    changes = ("add", "remove_within", "remove_asset_within", "remove_class_places", "cut", "concat", "turned")
+    calls = (*changes, "of_rows", "copy", "at", "met")
+    assert refused_calls("lrs_events_tests") == {f"Spans::{call}" for call in calls}

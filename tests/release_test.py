@@ -112,7 +112,7 @@ def test_a_byte_of_any_source_makes_it_other_sources(clone):
     before = sum_of_sources(TOP)
     assert before == sum_of_sources(clone)
     sources = [clone / "crates.txt", clone / "HANDLES"]
-    for crate in ["lrs_measure", "lrs_cli"]:
+    for crate in ["lrs_measure", "lrs_cli_jobs"]:
         for part in ["src", "specs", "proofs"]:
             sources += sorted((clone / "crates" / crate / part).rglob("*.*t"))[-1:]
     assert {path.name for path in sources} > {"crates.txt", "HANDLES"} and len(sources) > 6, sources
