@@ -64,7 +64,7 @@ def test_each_module_on_the_map_is_there():
 
 def test_each_path_in_the_steps_of_a_verb_is_there():
     steps = re.findall(r"^\d\. (lrs_\w+): (.*)$", MAP.read_text(), re.M)
-    assert len(steps) == 4
+    assert len(steps) == 5
     for crate, step in steps:
         for path in re.findall(r"`((?:src|proofs)/[^`]*)`", step):
             assert (CRATES / crate / path.replace("NAME", "enter")).exists(), (crate, path)

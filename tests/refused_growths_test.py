@@ -1,5 +1,5 @@
 """Want of memory where a program goes on: a server over an inventory in memory is refused one allocation, each in turn, while it does each
-verb and answers each question. And the proved tests of lrs_events_tests and lrs_web_tests, run so."""
+verb and answers each question. And the proved tests of lrs_events_tests, run so."""
 
 import collections
 import contextlib
@@ -244,10 +244,6 @@ def refused_calls(crate, module="memory"):
 
         assert with_each_refused("ALLOCATION", test) > 0, (crate, name)
     return refused
-
-
-def test_a_sheet_of_all_verbs_bears_a_refused_growth():
-    assert refused_calls("lrs_web_tests", "sheet_memory") >= {"run_sheet"}
 
 
 def test_spans_bear_a_refused_growth():

@@ -1,6 +1,6 @@
 //! Answers, written without taking memory.
 
-ghost use Rattle.std.specs.Prelude.{◌≡◌, ◌++◌, OnOk};
+ghost use Rattle.std.specs.Prelude.{OnOk};
 ghost use Rattle.std.specs.List.{flat_map};
 ghost use Rattle.std.specs.Io.KnownBytes.{Appends};
 ghost use Rattle.lrs_answers.specs.Lines.{at_text, expression_line, found_text, hit_text, length_text, lengths_text, link_position_text, place_text, route_text, row_text, told_text, total_text, totals_text};

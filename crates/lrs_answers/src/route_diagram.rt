@@ -1,6 +1,6 @@
 //! Diagrams of routes that a question names.
 
-ghost use Rattle.std.specs.Prelude.{◌≡◌, ◌<◌, ◌≤◌, ◌^◌, Some, map, true, length, IfOk, IfErr, IfSome, IfNone};
+ghost use Rattle.std.specs.Prelude.{◌≡◌, ◌<◌, ◌^◌, Some, map, true, length, IfOk, IfErr, IfSome, IfNone};
 ghost use Rattle.lrs_machine.specs.Sound.{IsSound, asset_before, class_before};
 ghost use Rattle.lrs_measure.specs.Lists.{each_two};
 ghost use Rattle.lrs_image.specs.Kept.{image_of};

@@ -6,7 +6,8 @@ use lrs_cli_help::{
     Options, explain, hint_at, is_reader_gone, keep_job_words, options_of, verb_help,
 };
 use lrs_cli_jobs::do_job;
-use lrs_cli_tasks::{Ending, ProgramFault, Shown, status};
+use lrs_cli_sheets::Shown;
+use lrs_cli_tasks::{Ending, ProgramFault, status};
 use lrs_cli_words::{Job, WordsFault, job_of};
 use std::env;
 use std::io::{ErrorKind, IsTerminal};

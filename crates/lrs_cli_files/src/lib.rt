@@ -1,9 +1,8 @@
-//! Desks over inventories in files: for all work, or for questions alone.
+//! Keepers of inventories in files of the system: for all work, or for questions alone.
 #![tactic(auto)]
 
-mod desk;
-mod files;
+mod keeper;
 mod stored;
 
-pub use files::Files;
+pub use keeper::FileKeeper;
 pub use stored::StoredFiles;

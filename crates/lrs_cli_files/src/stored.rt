@@ -3,22 +3,20 @@
 ghost use Rattle.sqlite_wal.specs.Files.{image_at};
 ghost use Rattle.lrs_store_questions.specs.Asked.{HasRead};
 
-use crate::desk::{desk_over, look_at};
-use crate::files::Files;
-use lrs_desk::{Desk, OpenFault, Staged};
-use lrs_store::{Tables, close_files, open_file};
+use crate::keeper::FileKeeper;
+use lrs_desk::{Files, OpenFault, Staged};
+use lrs_store::{close_files, open_file};
 use lrs_store_image::Reader;
 use lrs_store_questions::{Questions, open_for_questions};
 use lrs_store_tables::StoreFault;
 use sqlite::{FileFrom, FileStore, Start, Unknown};
 use std::rt::HostRuntime;
 
-/// Opens a file and its log at a path of the system. A desk over what is in files is dear to prove, so nothing else
-/// names its type.
+/// Opens a file and its log at a path of the system.
 pub struct StoredFiles;
 
 impl Files for StoredFiles {
-    type Kept = Staged<Tables<FileStore<FileFrom<Unknown>>, Reader>>;
+    type Kept = FileKeeper;
 
     type Seen = Questions<FileStore<FileFrom<Unknown>>>;
 
@@ -29,20 +27,18 @@ impl Files for StoredFiles {
         rt: &HostRuntime,
         path: &str,
         new_has_sums: bool,
-    ) -> Result<Desk<Self::Kept>, OpenFault> {
+    ) -> Result<Self::Kept, OpenFault> {
         match open_file(rt, path, new_has_sums, Unknown, Reader) {
-            Ok(tables) => desk_over(Staged::over(tables, rt.alloc()), rt.alloc()),
+            Ok(tables) => Ok(FileKeeper {
+                inner: Staged::over(tables, rt.alloc()),
+            }),
             Err(refusal) => Err(OpenFault::from(refusal.into_fault())),
         }
     }
 
-    fn open_to_look(
-        &self,
-        rt: &HostRuntime,
-        path: &str,
-    ) -> Result<Option<Desk<Self::Seen>>, OpenFault> {
+    fn open_to_look(&self, rt: &HostRuntime, path: &str) -> Result<Option<Self::Seen>, OpenFault> {
         match open_for_questions(rt, path, Unknown) {
-            Ok(keeper) => look_at(rt, keeper),
+            Ok(keeper) => Ok(Some(keeper)),
             Err(refusal) => match refusal.into_fault() {
                 StoreFault::Memory => Err(OpenFault::Memory),
                 StoreFault::Store => Ok(None),
@@ -51,6 +47,6 @@ impl Files for StoredFiles {
     }
 
     fn close(&self, keeper: Self::Kept) {
-        drop(close_files(keeper.into_inner()));
+        drop(close_files(keeper.inner.into_inner()));
     }
 }

@@ -12,10 +12,10 @@ use Rattle.lrs_cli_words.specs.declared.job.Job.{Job}
 use Rattle.lrs_cli_words.specs.declared.question.QuestionFault.{QuestionFault}
 use Rattle.lrs_cli_words.specs.declared.question.QuestionFault.TheVariants as unread
 use Rattle.lrs_cli_tasks.specs.Asking.{EndsTold}
-use Rattle.lrs_cli_tasks.specs.QuestionSheets.{EndsQuestions}
-use Rattle.lrs_cli_tasks.specs.Trials.{EndsCheck, EndsRecords}
+use Rattle.lrs_cli_sheets.specs.QuestionSheets.{EndsQuestions}
+use Rattle.lrs_cli_sheets.specs.Trials.{EndsCheck, EndsRecords}
 use Rattle.lrs_cli_tasks.specs.Reporting.{EndsReport}
-use Rattle.lrs_cli_tasks.specs.Auditing.{EndsAudit}
+use Rattle.lrs_cli_sheets.specs.Auditing.{EndsAudit}
 use Rattle.lrs_cli_tasks.specs.Faults.{fault_of_open}
 use Rattle.lrs_cli_tasks.specs.Tasks.{IsTaskOf}
 use Rattle.lrs_cli_tasks.specs.declared.endings.Ending.{Ending}

@@ -1,17 +1,18 @@
 //! What is done with an inventory, in memory or in a file.
 
-ghost use Rattle.std.specs.Prelude.{◌≡◌, ◌⊎◌, ◌↔◌, false, true, IsTrue};
+ghost use Rattle.std.specs.Prelude.{◌≡◌, ◌↔◌, false, true, IsTrue};
 ghost use Rattle.lrs_desk.specs.DeskView.{DeskView};
 ghost use Rattle.lrs_cli_jobs.specs.Jobs.{EndsInFile, EndsInMemory, EndsJob, EndsTask, EndsWithLog, HasWorked, Looks};
 
+use crate::desk::{open_desk, open_desk_to_look};
 use crate::service::do_service;
-use lrs_cli_files::Files;
+use lrs_cli_sheets::{Pace, Shown, do_audit, do_check, do_questions, do_records};
 use lrs_cli_tasks::{
-    Ending, Pace, ProgramFault, Shown, Task, Work, do_audit, do_check, do_page, do_question,
-    do_questions, do_records, do_report, is_in_memory, open_in_memory, task_of,
+    Ending, ProgramFault, Task, Work, do_page, do_question, do_report, is_in_memory,
+    open_in_memory, task_of,
 };
 use lrs_cli_words::{Job, QuestionFault, new_has_sums};
-use lrs_desk::{Desk, Keeper, Plain};
+use lrs_desk::{Desk, Files, Keeper, Plain};
 use std::alloc::Global;
 use std::fs;
 use std::net::Net;
@@ -112,7 +113,7 @@ fn do_with_log<F: Files>(
     ensures { EndsWithLog F.Kept.may_hold work.entry result }
 {
     let was_said = tell_opening(rt, path, shown);
-    match cleared(rt, was_said, files.open(rt, path, new_has_sums)) {
+    match cleared(rt, was_said, open_desk(rt, files, path, new_has_sums)) {
         Ok(desk) => do_and_close(rt, files, desk, work, shown),
         Err(fault) => Ending::Stopped(ProgramFault::from(fault)),
     }
@@ -170,7 +171,7 @@ fn do_in_file<F: Files>(
         return do_with_log(rt, files, path, new_has_sums, work, shown);
     }
     let was_said = tell_opening(rt, path, shown);
-    match cleared(rt, was_said, files.open_to_look(rt, path)) {
+    match cleared(rt, was_said, open_desk_to_look(rt, files, path)) {
         Ok(Some(desk)) => do_at(rt, desk, work, shown),
         Ok(None) => do_with_log(rt, files, path, new_has_sums, work, shown),
         Err(fault) => Ending::Stopped(ProgramFault::from(fault)),

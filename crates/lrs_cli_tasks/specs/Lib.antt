@@ -1,12 +1,8 @@
 pub mod Asking
 pub mod Endings
 pub mod Faults
-pub mod Sheets
 pub mod Tasks
-pub mod Trials
 pub mod Listings
 pub mod Places
-pub mod QuestionSheets
 pub mod Lengths
 pub mod Reporting
-pub mod Auditing

@@ -12,7 +12,7 @@ use std::io::{BufWriter, Write};
 const PIECE: usize = 65_536;
 
 /// A buffer in front of a writer.
-pub(crate) fn buffered<W: Write + Drop>(alloc: Global, to: W) -> Result<BufWriter<W>, ProgramFault>
+pub fn buffered<W: Write + Drop>(alloc: Global, to: W) -> Result<BufWriter<W>, ProgramFault>
     ensures same { IfOk result (λ b. writer_contents W.contents b ≡ W.contents to) }
     ensures memory { IfErr result (λ e. e ≡ ProgramFault.Memory) }
 {
@@ -23,7 +23,7 @@ pub(crate) fn buffered<W: Write + Drop>(alloc: Global, to: W) -> Result<BufWrite
 }
 
 /// The writer behind a buffer, once all of it is written.
-pub(crate) fn behind<W: Write + Drop>(writer: BufWriter<W>) -> Result<W, ProgramFault>
+pub fn behind<W: Write + Drop>(writer: BufWriter<W>) -> Result<W, ProgramFault>
     ensures same { IfOk result (λ w. Keeps (writer_contents W.contents writer) (W.contents w)) }
     ensures write { IfErr result (λ e. e ≡ ProgramFault.Write) }
 {

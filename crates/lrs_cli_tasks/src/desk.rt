@@ -21,7 +21,7 @@ pub fn is_in_memory(db: &str) -> bool
 }
 
 /// Opens a desk with full limits over a keeper.
-pub(crate) fn open_full<K: Keeper + Drop>(keeper: K, alloc: Global) -> Result<Desk<K>, ProgramFault>
+pub fn open_full<K: Keeper + Drop>(keeper: K, alloc: Global) -> Result<Desk<K>, ProgramFault>
     ensures kept { IfOk result (λ desk. HoldsOnly (K.may_hold desk.keeper) desk.image) }
     ensures content { IfOk result (λ desk. (c : Result Image Table)
         → K.may_hold desk.keeper c → K.may_hold keeper c) }

@@ -5,7 +5,7 @@ ghost use Rattle.lrs_cli_tasks.specs.Faults.{table_text};
 
 use lrs_desk::{Fault, OpenFault};
 use lrs_machine::Table;
-use lrs_sheet::SheetFault;
+use lrs_sheet_records::SheetFault;
 use std::fmt;
 
 /// Why the program stopped before its job was done.

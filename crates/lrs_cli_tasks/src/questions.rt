@@ -1,7 +1,6 @@
 //! Questions: asked of a desk, and their answers printed.
 
-ghost use Rattle.std.specs.Prelude.{◌≡◌, ◌⊎◌, IfOk, IfErr, OnOk, Err, false};
-ghost use Rattle.std.specs.Io.KnownBytes.{Appends};
+ghost use Rattle.std.specs.Prelude.{◌≡◌, ◌⊎◌, IfOk, IfErr, Err, false};
 ghost use Rattle.lrs_answers.specs.Lines.{told_text};
 ghost use Rattle.lrs_answers.specs.Told.{IsTold};
 ghost use Rattle.lrs_cli_tasks.specs.Asking.{EndsTold, HasAnswered, IsPrinted, ending_of, stop_of};

@@ -6,7 +6,7 @@ ghost use Rattle.lrs_cli_tasks.specs.Tasks.{IsTaskOf, kind_checked};
 
 use lrs_cli_words::{Job, QuestionFault, Report, Service, question_of, report_of, service_of};
 use lrs_machine::Question;
-use lrs_sheet::Sheet;
+use lrs_sheet_records::Sheet;
 use std::alloc::Global;
 
 /// What is done with an inventory.

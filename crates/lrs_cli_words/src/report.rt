@@ -1,6 +1,6 @@
 //! Which report a job asks for.
 
-ghost use Rattle.std.specs.Prelude.{◌≡◌, ◌⊎◌, IfOk, IfErr, IfNone, IfSome, option_map};
+ghost use Rattle.std.specs.Prelude.{IfOk, IfErr, IfNone, IfSome, option_map};
 ghost use Rattle.lrs_cli_words.specs.Questions.{Cannot, CannotIfGiven, CannotLink, CannotLog, CannotPlace, CannotRows, CannotWhere, IsFaultOf, SaysAsset, SaysClass, SaysEdit, SaysIfGiven, SaysKey, SaysLink, SaysList, SaysRoute};
 ghost use Rattle.lrs_cli_words.specs.Reports.{AreWanted, AsksLog, IsOnLink, IsOnRoute, IsPlace, Reports, ReportsNothing};
 

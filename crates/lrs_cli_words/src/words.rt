@@ -1,6 +1,6 @@
 //! Which job the words ask for.
 
-ghost use Rattle.std.specs.Prelude.{◌≡◌, ◌≢◌, ◌↔◌, IsTrue, IfOk, Err, IfSome, IfNone, IsSome, IsOkAnd, Some, None, [], codes, is_some, map, true, unwrap_or};
+ghost use Rattle.std.specs.Prelude.{◌≡◌, ◌≢◌, ◌↔◌, IsTrue, IfOk, Err, IfSome, IfNone, Some, None, [], is_some, map, true, unwrap_or};
 ghost use Rattle.clap.specs.Words.{all_of, first_of, found_of, kind_of, rows_of, subcommand_rows_of};
 ghost use Rattle.lrs_cli_words.specs.Words.{AreGiven, AsksForHelp, AsksForVersion, HasJobWords, HasWords, IsJobOf, IsMet, IsMisused, IsSet, job_name, rules_of};
 

@@ -4,8 +4,8 @@ use Rattle.lrs_machine.specs.declared.answer.Answer.{Answer}
 use Rattle.lrs_machine.specs.declared.image.Image.{Image}
 use Rattle.lrs_machine.specs.declared.table.Table.{Table}
 use Rattle.lrs_image.specs.Keeping.{HoldsOnly}
-use Rattle.lrs_desk.specs.declared.desk.Fault.{Fault}
-use Rattle.lrs_desk.specs.declared.desk.Fault.TheVariants.{Keep}
+use Rattle.lrs_machine_stops.specs.declared.fault.Fault.{Fault}
+use Rattle.lrs_machine_stops.specs.declared.fault.Fault.TheVariants.{Keep}
 use Rattle.lrs_desk.proofs.Grouping.{held}
 
 pub if_ok : {P Q : Answer → Type 0} (made : Result Answer Fault) → ((a : Answer) → P a → Q a) → IfOk made P → IfOk made Q

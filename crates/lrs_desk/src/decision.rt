@@ -9,9 +9,9 @@ ghost use Rattle.lrs_machine.specs.declared.command.Command.{Command as CommandS
 ghost use Rattle.lrs_machine_stops.specs.Known.{edit_of};
 ghost use Rattle.lrs_desk.specs.Decide.{IsDecision, HasRoom, LacksRoom};
 
+use crate::commands::plan_command;
 use lrs_inventory::{Inventory, Plan, Stop};
 use lrs_machine::{Answer, Cause, Command, Edit, Key, Limits, Line, What};
-use lrs_verbs::plan_command;
 use std::alloc::{AllocError, Global};
 
 /// What becomes of a command.

@@ -18,36 +18,9 @@ use lrs_answers_totals::Counts;
 use lrs_image::{CommitFault, Keeper, LoadFault};
 use lrs_inventory::{Inventory, Plan};
 use lrs_machine::{Answer, Command, Edit, Key, Limits, Table};
-use std::alloc::{AllocError, AllocFailed, Global};
+use lrs_machine_stops::Fault;
+use std::alloc::Global;
 use std::marker::Model;
-
-/// Why a desk did not answer.
-#[derive(Clone, Copy, Debug, PartialEq, Eq)]
-pub enum Fault {
-    Memory,
-    Keep,
-    MustReopen,
-}
-
-impl From<AllocError> for Fault {
-    ghost use Rattle.lrs_desk.specs.declared.desk.Fault.TheVariants.{Memory};
-
-    ghost from_gives = { λ _ e. e ≡ Memory };
-
-    fn from(_: AllocError) -> Self {
-        Fault::Memory
-    }
-}
-
-impl<T: Drop> From<AllocFailed<T>> for Fault {
-    ghost use Rattle.lrs_desk.specs.declared.desk.Fault.TheVariants.{Memory};
-
-    ghost from_gives = { λ _ e. e ≡ Memory };
-
-    fn from(_: AllocFailed<T>) -> Self {
-        Fault::Memory
-    }
-}
 
 /// Why a desk is not opened.
 #[derive(Clone, Copy, Debug, PartialEq, Eq)]

@@ -15,8 +15,8 @@ use Rattle.lrs_image.specs.Keeping.{HoldsOnly}
 use Rattle.lrs_machine_stops.specs.Stopped.{Step, Open, Act, Unserved, StopWithin, Stop, Moment, at_rest, IsRun, IsAccepted}
 use Rattle.lrs_machine_stops.specs.Laws.{IsMadeBy}
 use Rattle.lrs_machine_stops.proofs.Stopping.{joined, stored_is_fold}
-use Rattle.lrs_desk.specs.declared.desk.Fault.{Fault}
-use Rattle.lrs_desk.specs.declared.desk.Fault.TheVariants.{Memory, Keep, MustReopen}
+use Rattle.lrs_machine_stops.specs.declared.fault.Fault.{Fault}
+use Rattle.lrs_machine_stops.specs.declared.fault.Fault.TheVariants.{Memory, Keep, MustReopen}
 use Rattle.lrs_desk.specs.Desk.{IsUnchanged, IsOldOrNext, HasBroken, DoesFirst, BreaksAmid}
 use Rattle.lrs_desk.specs.DeskView.{DeskView}
 use Rattle.lrs_desk_laws.specs.Steps.{MayFind, AreActs, AreInFlight, AreStepsOf, step_of, IsAtRest, acting, IsInRun}

@@ -9,8 +9,8 @@ use Rattle.lrs_machine.specs.Image.{state_of}
 use Rattle.lrs_machine.specs.Machine.{Record}
 use Rattle.lrs_machine.specs.State.{State}
 use Rattle.lrs_machine_stops.specs.Stopped.{Step, Act, Unserved, StopWithin, at_rest, IsRun}
-use Rattle.lrs_desk.specs.declared.desk.Fault.{Fault}
-use Rattle.lrs_desk.specs.declared.desk.Fault.TheVariants.{Memory, Keep, MustReopen}
+use Rattle.lrs_machine_stops.specs.declared.fault.Fault.{Fault}
+use Rattle.lrs_machine_stops.specs.declared.fault.Fault.TheVariants.{Memory, Keep, MustReopen}
 use Rattle.lrs_desk.specs.DeskView.{DeskView}
 
 -- each of the first of these commands gets its answer, one after another

@@ -1,8 +1,8 @@
 //! The axis of a diagram: chainage in metres, measures at the marks, referents, and the links that the route runs over.
 
-ghost use Rattle.std.specs.Prelude.{◌≡◌, ◌≤◌, ◌<◌, ◌^◌, OnOk, codes};
+ghost use Rattle.std.specs.Prelude.{◌≡◌, ◌<◌, OnOk};
 ghost use Rattle.std.specs.Io.KnownBytes.{Appends};
-ghost use Rattle.lrs_diagram.specs.Axis.{axis_head, axis_labels, axis_lines, axis_names, axis_text, links_text, shown_tick, tick_at, tick_line, tick_metres, tick_start, tick_text, ticks_text};
+ghost use Rattle.lrs_diagram.specs.Axis.{axis_head, axis_labels, axis_lines, axis_text, links_text, shown_tick, tick_at, tick_line, tick_metres, tick_start, tick_text, ticks_text};
 
 use crate::diagram::Diagram;
 use crate::labels::write_labels;

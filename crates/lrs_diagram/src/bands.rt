@@ -1,6 +1,6 @@
 //! The bands of classes: one on each side of the axis.
 
-ghost use Rattle.std.specs.Prelude.{◌≡◌, ◌<◌, ◌≤◌, ◌^◌, ◌*◌, ◌+◌, length, OnOk};
+ghost use Rattle.std.specs.Prelude.{◌≡◌, ◌<◌, ◌^◌, ◌+◌, length, OnOk};
 ghost use Rattle.std.specs.Io.KnownBytes.{Appends};
 ghost use Rattle.lrs_diagram.specs.Bands.{band_group, band_head, band_middle, band_name, band_style, band_text, bands_text, class_head, class_text, classes_text};
 

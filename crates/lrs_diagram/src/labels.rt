@@ -1,8 +1,7 @@
 //! Labels: texts beside what is drawn, of which no two overlap.
 
-ghost use Rattle.std.specs.Prelude.{◌≡◌, ◌≤◌, ◌^◌, ◌<◌, IfOk, OnOk};
+ghost use Rattle.std.specs.Prelude.{◌≡◌, ◌^◌, ◌<◌, IfOk, OnOk};
 ghost use Rattle.std.specs.Io.KnownBytes.{Appends};
-ghost use Rattle.lrs_measure.specs.Texts.{Name};
 ghost use Rattle.lrs_diagram.specs.Labels.{fits, label_text, labels_text, next_free, text_if, room_for};
 
 use crate::Scale;

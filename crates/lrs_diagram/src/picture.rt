@@ -1,8 +1,8 @@
 //! A diagram as an SVG picture (SVG 1.1).
 
-ghost use Rattle.std.specs.Prelude.{◌≡◌, ◌<◌, ◌^◌, OnOk, codes};
+ghost use Rattle.std.specs.Prelude.{◌≡◌, ◌<◌, ◌^◌, OnOk};
 ghost use Rattle.std.specs.Io.KnownBytes.{Appends};
-ghost use Rattle.lrs_diagram.specs.Drawing.{bands_height, bar_label, bar_line, bar_text, data_text, diagram_text, head_text, heading_text, name_text, page_text, parts_text, range_text, root_text, start_text, style_text, title_text};
+ghost use Rattle.lrs_diagram.specs.Drawing.{bands_height, bar_label, bar_line, bar_text, data_text, diagram_text, head_text, heading_text, name_text, page_text, parts_text, range_text, root_text, start_text, title_text};
 
 use crate::axis::write_axis;
 use crate::bands::{FIRST_TOP, PITCH, write_bands};

@@ -1,6 +1,6 @@
 //! Shapes: what is drawn along a line, one behind the other.
 
-ghost use Rattle.std.specs.Prelude.{◌≡◌, ◌++◌, OnOk, codes};
+ghost use Rattle.std.specs.Prelude.{◌≡◌, OnOk};
 ghost use Rattle.std.specs.List.{flat_map};
 ghost use Rattle.std.specs.Io.KnownBytes.{Appends};
 ghost use Rattle.lrs_diagram.specs.Shapes.{direction_text, link_from, link_text, link_to, piece_title, row_start, row_title, value_text};

@@ -5,7 +5,7 @@ ghost use Rattle.lrs_element.specs.Course.{are_in_order};
 ghost use Rattle.lrs_element.specs.declared.link.Link.{Link};
 
 use crate::link::Link;
-use lrs_ordered::{Chunked, Keyed, Ordered, OrderedRows};
+use lrs_measure::{Keyed, Ordered};
 use std::cmp;
 
 /// Known links, found by their number.
@@ -71,7 +71,7 @@ impl Ordered for Link {
 
 impl Keyed<u32> for Link {
     ghost use Rattle.std.specs.Ordering.{nat_cmp};
-    ghost use Rattle.lrs_ordered.specs.Laws.{number_after};
+    ghost use Rattle.lrs_measure.specs.Keyed.{number_after};
 
     ghost key_order = { λ link number. nat_cmp link.number number };
 
@@ -84,20 +84,4 @@ impl Keyed<u32> for Link {
     }
 
     ghost rises = { λ a b n before from. number_after a.number b.number n before from };
-}
-
-impl KnownLinks for Chunked<Link> {
-    ghost links = { λ all. all.rows };
-
-    fn link(&self, number: u32) -> Option<Link> {
-        self.find(&number).copied()
-    }
-}
-
-impl KnownLinks for OrderedRows<Link> {
-    ghost links = { λ rows. rows };
-
-    fn link(&self, number: u32) -> Option<Link> {
-        self.all.link(number)
-    }
 }

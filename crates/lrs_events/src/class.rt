@@ -4,9 +4,8 @@ ghost use Rattle.std.specs.Prelude.{◌≡◌, IsTrue};
 ghost use Rattle.std.specs.Option.{SomeIff};
 ghost use Rattle.lrs_events.specs.Names;
 
-use lrs_measure::Text;
 use lrs_measure::alphabet::{are_capitals, are_word_bytes, has_length, is_lone_dash};
-use lrs_ordered::{Keyed, Ordered, name_rank};
+use lrs_measure::{Keyed, Ordered, Text, name_rank};
 use std::marker::Model;
 use std::{cmp, fmt};
 
@@ -181,7 +180,7 @@ impl Ordered for Class {
 
 impl Keyed<ClassName> for Class {
     ghost use Rattle.lrs_measure.specs.Texts.{name_cmp};
-    ghost use Rattle.lrs_ordered.specs.Laws.{name_after};
+    ghost use Rattle.lrs_measure.specs.Keyed.{name_after};
 
     ghost key_order = { λ class name. name_cmp class.name name };
 
@@ -223,7 +222,7 @@ impl Ordered for Asset {
 
 impl Keyed<u64> for Asset {
     ghost use Rattle.std.specs.Ordering.{nat_cmp};
-    ghost use Rattle.lrs_ordered.specs.Laws.{number_after};
+    ghost use Rattle.lrs_measure.specs.Keyed.{number_after};
 
     ghost key_order = { λ asset number. nat_cmp asset.number number };
 

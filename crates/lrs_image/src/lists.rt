@@ -2,8 +2,8 @@
 
 ghost use Rattle.std.specs.Prelude.{◌≡◌, ◌+◌, ◌<◌, ◌≤◌, [], ◌∷◌, ◌++◌, length, IfOk, OnOk, vec_len, vec_capacity};
 
-use lrs_measure::{Rows, TryCopy};
-use lrs_ordered::{Chunked, Ordered};
+use lrs_measure::{Ordered, Rows, TryCopy};
+use lrs_ordered::Chunked;
 use std::alloc::{AllocError, Global};
 
 /// Makes room for more elements.

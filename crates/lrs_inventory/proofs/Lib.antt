@@ -9,3 +9,7 @@ pub mod FirstHolder
 pub mod Known
 pub mod Grounds
 pub mod Indexing
+pub mod KnownRoutes
+pub mod KeptName
+pub mod Going
+pub mod Stopping

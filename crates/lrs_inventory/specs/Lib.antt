@@ -7,3 +7,4 @@ pub mod Inventory
 pub mod Plans
 pub mod NewCourses
 pub mod Extents
+pub mod NewRoutes

@@ -5,7 +5,7 @@ ghost use Rattle.std.specs.List.{flat_map};
 ghost use Rattle.lrs_inventory.specs.Prelude.{Millimetre, Stretches, is_run_once, IsGroundOf};
 ghost use Rattle.lrs_position_index.specs.Ground.{route_over};
 ghost use Rattle.lrs_inventory.specs.Changes.{CanChange, CanChangeGround};
-ghost use Rattle.lrs_inventory.specs.Indexes.{IsReady, IsReadyFor, AreWholeFor, made_by, ground_made};
+ghost use Rattle.lrs_inventory.specs.Indexes.{IsReady, IsReadyFor, AreWholeFor, ground_made};
 
 use crate::plan::GroundChange;
 use lrs_machine::RouteRow;

@@ -14,7 +14,7 @@ use Rattle.lrs_measure.specs.Texts.{Name, name_cmp}
 use Rattle.lrs_machine.specs.declared.image.RouteRow.{RouteRow}
 use Rattle.lrs_machine.specs.Sound.{route_before}
 use Rattle.lrs_image.specs.Change.{is_named}
-use Rattle.lrs_ordered.specs.Laws.{name_after}
+use Rattle.lrs_measure.specs.Keyed.{name_after}
 
 -- a line for each entry that is asked for, and nothing for the others
 pub texts_of_chosen : {A : Type 0} (asked : A → Bool) (text : A → List ℕ) (xs : List A) → flat_map (λ x. if asked x then text x else []) xs ≡ flat_map text (filter asked xs)

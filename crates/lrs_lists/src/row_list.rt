@@ -1,6 +1,6 @@
 //! The list of rows.
 
-ghost use Rattle.std.specs.Prelude.{◌≡◌, ◌++◌, [], OnOk, filter, true};
+ghost use Rattle.std.specs.Prelude.{◌≡◌, [], OnOk, filter, true};
 ghost use Rattle.std.specs.List.{flat_map};
 ghost use Rattle.std.specs.Option.{option_map, option_map_or};
 ghost use Rattle.std.specs.Io.KnownBytes.{Appends};

@@ -3,7 +3,6 @@ pub mod Plain
 pub mod Padding
 pub mod Reading
 pub mod Redoing
-pub mod Again
 pub mod Pieces
 pub mod Each
 pub mod Tables

@@ -5,4 +5,7 @@
 #![tactic(auto)]
 
 pub mod examples;
+mod fault;
 pub mod laws;
+
+pub use fault::Fault;

@@ -8,5 +8,6 @@ pub mod Texts
 pub mod Lists
 pub mod Numerals
 pub mod Ordered
+pub mod Keyed
 pub mod Maximal
 pub mod Limits

@@ -10,11 +10,13 @@ pub mod laws;
 pub mod limits;
 mod metres;
 mod numerals;
+mod order;
 mod rows;
 mod text;
 
 pub use fraction::{Frac, gcd};
 pub use metres::Metres;
 pub use numerals::{read_digits, read_fraction, read_signed};
+pub use order::{Keyed, Ordered, name_rank};
 pub use rows::{Rows, TryCopy};
 pub use text::Text;

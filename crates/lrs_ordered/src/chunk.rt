@@ -5,7 +5,7 @@ ghost use Rattle.std.specs.Option.{option_map};
 ghost use Rattle.lrs_measure.specs.Ordered.{place_by, insert_by};
 ghost use Rattle.lrs_ordered.specs.Ordered.{is_split_by, is_filled};
 
-use crate::order::Ordered;
+use lrs_measure::Ordered;
 use std::alloc::{AllocError, Global};
 use std::marker::Model;
 

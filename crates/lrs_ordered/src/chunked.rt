@@ -12,10 +12,9 @@ use crate::chunk::Chunk;
 use crate::firsts::Firsts;
 use crate::insertion::{put, put_last};
 use crate::iter::RowsIter;
-use crate::order::{Keyed, Ordered};
 use crate::removal::remove_among;
 use crate::search::find_among;
-use lrs_measure::TryCopy;
+use lrs_measure::{Keyed, Ordered, TryCopy};
 use std::alloc::{AllocError, Global};
 use std::marker::Model;
 

@@ -4,7 +4,7 @@
 //! halves. So they have no clauses.
 
 use crate::chunk::Chunk;
-use crate::order::Ordered;
+use lrs_measure::Ordered;
 use std::alloc::{AllocError, Global};
 
 /// For each chunk the rank of its first row.

@@ -8,7 +8,7 @@ ghost use Rattle.lrs_ordered.specs.Ordered.{is_split_by, joined, first_passes, i
 
 use crate::chunk::{Chunk, HALF, MOST};
 use crate::firsts::Firsts;
-use crate::order::Ordered;
+use lrs_measure::Ordered;
 
 // Whether a row comes before a chunk's first.
 fn comes_before<T: Ordered>(row: &T, chunk: &Chunk<T>) -> bool

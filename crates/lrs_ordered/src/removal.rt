@@ -7,8 +7,8 @@ ghost use Rattle.lrs_ordered.specs.Ordered.{joined, rises_by, none_by, are_fille
 
 use crate::chunk::Chunk;
 use crate::firsts::Firsts;
-use crate::order::Keyed;
 use crate::search::{chunk_of, place_of_key};
+use lrs_measure::Keyed;
 
 // Takes the row of a key out of a chunk, if there is one.
 fn remove_in<K, T: Keyed<K> + Drop>(chunk: &mut Chunk<T>, key: &K) -> Option<T>

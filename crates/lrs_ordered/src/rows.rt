@@ -8,8 +8,7 @@ ghost use Rattle.lrs_measure.specs.Lists.{each_two};
 
 use crate::chunked::Chunked;
 use crate::iter::RowsIter;
-use crate::order::{Keyed, Ordered};
-use lrs_measure::TryCopy;
+use lrs_measure::{Keyed, Ordered, TryCopy};
 use std::alloc::{AllocError, Global};
 use std::marker::Model;
 

@@ -9,7 +9,7 @@ ghost use Rattle.lrs_ordered.specs.Ordered.{joined, first_passes, rises_by, none
 
 use crate::chunk::Chunk;
 use crate::firsts::Firsts;
-use crate::order::Keyed;
+use lrs_measure::Keyed;
 
 // Whether a row has a key.
 fn has_key<K, T: Keyed<K>>(row: &T, key: &K) -> bool

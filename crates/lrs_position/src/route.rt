@@ -7,8 +7,7 @@ ghost use Rattle.lrs_position.specs.Routes.{is_route};
 
 use crate::name::{RefName, RouteName};
 use lrs_element::{Course, Marks};
-use lrs_measure::Rows;
-use lrs_ordered::{Keyed, Ordered, name_rank};
+use lrs_measure::{Keyed, Ordered, Rows, name_rank};
 use std::alloc::{AllocError, Global};
 use std::cmp;
 
@@ -90,7 +89,7 @@ impl Ordered for Referent {
 
 impl Keyed<RefName> for Referent {
     ghost use Rattle.lrs_measure.specs.Texts.{name_cmp};
-    ghost use Rattle.lrs_ordered.specs.Laws.{name_after};
+    ghost use Rattle.lrs_measure.specs.Keyed.{name_after};
 
     ghost key_order = { λ referent name. name_cmp referent.name name };
 

@@ -16,9 +16,10 @@ use Rattle.lrs_sheet_records.specs.declared.sheet.Sheet.{Sheet}
 use Rattle.lrs_sheet_records.specs.declared.sheet.Sheet.TheVariants as sheet
 use Rattle.lrs_sheet.specs.Replies.{lines_of, tally_of}
 use Rattle.lrs_sheet.specs.Resuming.{Resumes}
-use Rattle.lrs_sheet.specs.Sheets.{AreAnswered, BeginsWith, Runs, RunsBehind, records_together}
-use Rattle.lrs_sheet.specs.declared.fault.SheetFault.{SheetFault}
-use Rattle.lrs_sheet.specs.declared.fault.SheetFault.TheVariants as fault
+use Rattle.lrs_sheet_records.specs.Rows.{BeginsWith}
+use Rattle.lrs_sheet.specs.Sheets.{AreAnswered, Runs, RunsBehind, records_together}
+use Rattle.lrs_sheet_records.specs.declared.fault.SheetFault.{SheetFault}
+use Rattle.lrs_sheet_records.specs.declared.fault.SheetFault.TheVariants as fault
 use Rattle.lrs_sheet.specs.declared.reply.Reply.{Reply}
 use Rattle.lrs_sheet.specs.declared.reply.Tally.{Tally}
 use Rattle.lrs_sheet.proofs.Determined.{one-run}

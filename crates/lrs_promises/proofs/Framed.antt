@@ -7,9 +7,9 @@ use Rattle.csv.specs.declared.parser.Config.{Config}
 use Rattle.csv.specs.declared.parser.State.{State as Place}
 use Rattle.csv.specs.declared.parser.State.TheVariants as st
 use Rattle.lrs_machine.specs.Lines.{Text}
-use Rattle.lrs_sheet.specs.Sheets.{AreAll, BeginsWith}
-use Rattle.lrs_sheet.specs.declared.fault.SheetFault.{SheetFault}
-use Rattle.lrs_sheet.specs.declared.fault.SheetFault.TheVariants as fault
+use Rattle.lrs_sheet_records.specs.Rows.{AreAll, BeginsWith}
+use Rattle.lrs_sheet_records.specs.declared.fault.SheetFault.{SheetFault}
+use Rattle.lrs_sheet_records.specs.declared.fault.SheetFault.TheVariants as fault
 use Rattle.lrs_sheet.proofs.Determined.{all-one}
 use Rattle.lrs_sheet.proofs.Resuming.{no_first, one_first, reached_front}
 

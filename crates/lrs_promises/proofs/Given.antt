@@ -18,8 +18,8 @@ use Rattle.lrs_sheet.specs.Laws.{Say}
 use Rattle.lrs_sheet.specs.Replies.{Replied}
 use Rattle.lrs_sheet.specs.Resuming.{IsNotBegun, Resumes}
 use Rattle.lrs_sheet.specs.Sheets.{GoesAlong, LeavesDesk, RunsBehind, records_together}
-use Rattle.lrs_sheet.specs.declared.fault.SheetFault.{SheetFault}
-use Rattle.lrs_sheet.specs.declared.fault.SheetFault.TheVariants as fault
+use Rattle.lrs_sheet_records.specs.declared.fault.SheetFault.{SheetFault}
+use Rattle.lrs_sheet_records.specs.declared.fault.SheetFault.TheVariants as fault
 use Rattle.lrs_sheet.specs.declared.reply.Reply.{Reply}
 use Rattle.lrs_sheet.specs.declared.reply.Tally.{Tally}
 use Rattle.lrs_sheet.proofs.Done.{stays, along}

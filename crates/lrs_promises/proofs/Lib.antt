@@ -1,4 +1,5 @@
 pub mod Given
+pub mod Again
 pub mod Laws
 pub mod After
 pub mod Amid

@@ -22,8 +22,8 @@ use Rattle.lrs_store_tables.specs.Resting.{IsReady}
 use Rattle.lrs_store_tables.specs.Schema.{inventory}
 use Rattle.lrs_store_tables.specs.Stored.{stored}
 use Rattle.lrs_store_tables.proofs.MakeLemmas.{all_made}
-use Rattle.lrs_store_keeper.specs.Holding.{MayHold}
-use Rattle.lrs_store.specs.Opened.{HasOpened}
+use Rattle.lrs_store_tables.specs.Holding.{MayHold}
+use Rattle.lrs_store_files.specs.Opened.{HasOpened}
 
 -- the first twelve tables are all
 all_rows : (t : Tables) → first_rows 12 t ≡ t

@@ -14,9 +14,10 @@ use Rattle.lrs_sheet_records.specs.declared.sheet.Sheet.{Sheet}
 use Rattle.lrs_sheet_records.specs.declared.sheet.Sheet.TheVariants as sheet
 use Rattle.lrs_sheet.specs.Laws.{Say}
 use Rattle.lrs_sheet.specs.Resuming.{IsDecidedBy}
-use Rattle.lrs_sheet.specs.Sheets.{AreAll, BeginsWith, LeavesDesk, Runs}
-use Rattle.lrs_sheet.specs.declared.fault.SheetFault.{SheetFault}
-use Rattle.lrs_sheet.specs.declared.fault.SheetFault.TheVariants as fault
+use Rattle.lrs_sheet_records.specs.Rows.{AreAll, BeginsWith}
+use Rattle.lrs_sheet.specs.Sheets.{LeavesDesk, Runs}
+use Rattle.lrs_sheet_records.specs.declared.fault.SheetFault.{SheetFault}
+use Rattle.lrs_sheet_records.specs.declared.fault.SheetFault.TheVariants as fault
 use Rattle.lrs_sheet.specs.declared.reply.Tally.{Tally}
 use Rattle.lrs_sheet.specs.declared.resumption.Decided.{Decided}
 use Rattle.lrs_web_requests.specs.Request.{Asked, Asks, refused, not_allowed, query, sheet as posted}

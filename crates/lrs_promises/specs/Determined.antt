@@ -11,7 +11,7 @@ use Rattle.lrs_desk.specs.DeskView.{DeskView}
 use Rattle.lrs_sheet_records.specs.declared.sheet.Sheet.{Sheet}
 use Rattle.lrs_sheet.specs.Resuming.{Resumes}
 use Rattle.lrs_sheet.specs.Sheets.{Runs}
-use Rattle.lrs_sheet.specs.declared.fault.SheetFault.{SheetFault}
+use Rattle.lrs_sheet_records.specs.declared.fault.SheetFault.{SheetFault}
 use Rattle.lrs_sheet.specs.declared.reply.Tally.{Tally}
 use Rattle.lrs_questions.specs.Answering.{RunsQuestions}
 use Rattle.lrs_questions.specs.declared.tally.QuestionTally.{QuestionTally}

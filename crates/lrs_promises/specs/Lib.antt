@@ -5,3 +5,4 @@ pub mod Rows
 pub mod RoundTrip
 pub mod Stops
 pub mod Safe
+pub mod Redone

@@ -12,12 +12,12 @@ use Rattle.lrs_machine.specs.declared.table.Table.{Table}
 use Rattle.lrs_image.specs.Keeping.{HoldsOnly}
 use Rattle.lrs_desk.specs.Desk.{HasBroken, IsUnchanged}
 use Rattle.lrs_desk.specs.DeskView.{DeskView}
-use Rattle.lrs_desk.specs.declared.desk.Fault.{Fault}
-use Rattle.lrs_desk.specs.declared.desk.Fault.TheVariants as stop
+use Rattle.lrs_machine_stops.specs.declared.fault.Fault.{Fault}
+use Rattle.lrs_machine_stops.specs.declared.fault.Fault.TheVariants as stop
 use Rattle.lrs_sheet_records.specs.declared.sheet.Sheet.{Sheet}
 use Rattle.lrs_sheet.specs.Sheets.{BreaksOff, GoesAlong, IsAfterCommands, LeavesDesk, MustReopen, Runs, StandsForEither}
-use Rattle.lrs_sheet.specs.declared.fault.SheetFault.{SheetFault}
-use Rattle.lrs_sheet.specs.declared.fault.SheetFault.TheVariants as fault
+use Rattle.lrs_sheet_records.specs.declared.fault.SheetFault.{SheetFault}
+use Rattle.lrs_sheet_records.specs.declared.fault.SheetFault.TheVariants as fault
 use Rattle.lrs_sheet.specs.declared.reply.Tally.{Tally}
 use Rattle.lrs_web_requests.specs.Request.{Asked}
 use Rattle.lrs_web_requests.specs.Text.{Answer as Reply}

@@ -14,8 +14,8 @@ use Rattle.lrs_machine.specs.declared.table.Table.{Table}
 use Rattle.lrs_machine_stops.specs.Laws.{AgainWhereKept, AllAgainWhereKept, AnswersAreOfFold, NoneIsDoubled, NoneIsLost, StoredIsFold, StoredIsLawful}
 use Rattle.lrs_machine_stops.specs.Resumed.{NewKeysGoOn}
 use Rattle.lrs_store_tables.specs.Resting.{IsReady}
-use Rattle.lrs_store_keeper.specs.Holding.{MayHold}
-use Rattle.lrs_store.specs.Opened.{HasOpened}
+use Rattle.lrs_store_tables.specs.Holding.{MayHold}
+use Rattle.lrs_store_files.specs.Opened.{HasOpened}
 
 -- What is so of every run that stops, wherever it does.
 pub record LoseNoneAndDoubleNone : Type 0 where

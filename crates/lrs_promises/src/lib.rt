@@ -5,6 +5,7 @@ mod call_list;
 mod calls;
 mod canonical_rows;
 pub mod determinism;
+pub mod log;
 mod restart;
 pub mod safe;
 mod translation;

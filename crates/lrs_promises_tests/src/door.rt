@@ -1,7 +1,7 @@
 //! A door and its connections in memory. They tell all: the door its connections, and these the bytes that are left of
 //! their requests and those that are written to them.
 
-ghost use Rattle.std.specs.Prelude.{◌≡◌, Some};
+ghost use Rattle.std.specs.Prelude.{Some};
 
 use lrs_web::{Door, DoorFault};
 use std::alloc::Global;

@@ -6,50 +6,31 @@
 //! Behind it connections of a door in memory are served at a desk of its own. A word lets one more connection wait, with
 //! the request of a file, as `waits:totals.http`, or with a first read that fails, as `fails:totals.http`; or so many are
 //! served, as `serves:3`. What is written to each connection is printed, and then how the service ended.
+//!
+//! At the end desks of few limits do the calls of words as `few:edits:few.csv`, and of `group:`; and desks whose keeper
+//! fails those of `broken:`, and of `split:`, before and after an opening.
 #![tactic(auto)]
 
 mod door;
+mod failure;
+mod limits;
 mod services;
+mod words;
 
+use failure::run_failing;
+use limits::run_limited;
 use lrs_desk::{Desk, Keeper, Plain, Staged};
 use lrs_machine::Limits;
 use lrs_position::{EnteredPosition, RouteName, read_expr, read_method, read_target};
-use lrs_promises::{Call, headline, round_trip, rows};
+use lrs_promises::{round_trip, rows};
 use lrs_store::{Tables, close_files, open_files};
 use lrs_store_image::Reader;
 use services::serve_words;
 use sqlite::{Alter, FileStore, Files, Options};
 use sqlite_disk::{Disk, Memory};
+use std::env;
 use std::process::ExitCode;
-use std::{env, fs};
-
-/// The call that a word names.
-fn call_of(rt: &HostRuntime, kind: &str, path: &str) -> Option<Call> {
-    let bytes = fs::read(rt, path).ok()?;
-    match kind {
-        "edits" => Some(Call::Edits(bytes)),
-        "survey" => Some(Call::Survey(bytes)),
-        "request" => Some(Call::Request(bytes)),
-        _ => None,
-    }
-}
-
-/// The calls that words name, in order, up to the first that names none.
-fn calls_of(rt: &HostRuntime, words: &[String]) -> Vec<Call> {
-    let mut calls = Vec::new(rt.alloc());
-    for word in words {
-        let Some((kind, path)) = word.as_str().split_once(':') else {
-            break;
-        };
-        let Some(call) = call_of(rt, kind, path) else {
-            break;
-        };
-        if calls.push(call).is_err() {
-            break;
-        }
-    }
-    calls
-}
+use words::{do_calls, open};
 
 /// Translates a position on A1 by the words of a trip, and back, and prints both.
 fn take_trip<K: Keeper>(rt: &HostRuntime, desk: &Desk<K>, words: &str) -> Option<()> {
@@ -63,18 +44,9 @@ fn take_trip<K: Keeper>(rt: &HostRuntime, desk: &Desk<K>, words: &str) -> Option
     println!(rt; "{} {}", trip.there, trip.back).ok()
 }
 
-fn print(rt: &HostRuntime, bytes: &[u8]) -> Option<()> {
-    let text = str::from_utf8(bytes).ok()?;
-    rt.print(text).ok()
-}
-
 /// Does the calls, and then the trips.
 fn take<K: Keeper>(rt: &HostRuntime, desk: &mut Desk<K>, words: &[String]) -> Option<()> {
-    let calls = calls_of(rt, words);
-    let written = headline(rt.alloc(), calls.as_slice(), desk).ok()?;
-    for text in written.iter() {
-        print(rt, text.as_slice())?;
-    }
+    do_calls(rt, words, "", desk)?;
     rows(desk);
     for word in words {
         if let Some(trip) = word.as_str().strip_prefix("trip:") {
@@ -84,14 +56,9 @@ fn take<K: Keeper>(rt: &HostRuntime, desk: &mut Desk<K>, words: &[String]) -> Op
     println!(rt; "{}", desk.inventory().edits()).ok()
 }
 
-/// A desk over a keeper.
-fn open<K: Keeper + Drop>(rt: &HostRuntime, keeper: K) -> Option<Desk<K>> {
-    Desk::open(keeper, Limits::full(), rt.alloc()).ok()
-}
-
 /// Does what the words say at a desk over a keeper, and gives it back.
 fn run<K: Keeper + Drop>(rt: &HostRuntime, words: &[String], keeper: K) -> Option<K> {
-    let mut desk = open(rt, keeper)?;
+    let mut desk = open(rt, Limits::full(), keeper)?;
     take(rt, &mut desk, words)?;
     Some(desk.into_keeper())
 }
@@ -153,16 +120,18 @@ fn run_disks(rt: &HostRuntime, words: &[String]) -> Option<()> {
 
 /// Serves at a desk over an inventory in memory.
 fn run_services(rt: &HostRuntime, words: &[String]) -> Option<()> {
-    let mut desk = open(rt, Plain::empty(rt.alloc()))?;
+    let mut desk = open(rt, Limits::full(), Plain::empty(rt.alloc()))?;
     serve_words(rt, words, &mut desk)
 }
 
-/// Over each keeper in turn, and then the services.
+/// Over each keeper in turn, and then the services, the desks of few limits and those whose keeper fails.
 fn run_each(rt: &HostRuntime, words: &[String]) -> Option<()> {
     run_plain(rt, words)?;
     run_memory(rt, words)?;
     run_disks(rt, words)?;
-    run_services(rt, words)
+    run_services(rt, words)?;
+    run_limited(rt, words)?;
+    run_failing(rt, words)
 }
 
 fn main(rt: HostRuntime) -> ExitCode {

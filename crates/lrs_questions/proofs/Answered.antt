@@ -10,11 +10,11 @@ use Rattle.csv.specs.declared.reader.Reader.{Reader}
 use Rattle.lrs_machine.specs.Keys.{is_key}
 use Rattle.lrs_machine.specs.declared.image.Image.{Image}
 use Rattle.lrs_sheet_records.specs.Records.{text_at}
-use Rattle.lrs_sheet.proofs.Done.{begins, gave-more, gave-none}
-use Rattle.lrs_sheet.specs.Rows.{EndsAfter, Gave, IsPlain, IsReadFault, NextDiffers}
-use Rattle.lrs_sheet.specs.Sheets.{max_records}
-use Rattle.lrs_sheet.specs.declared.fault.SheetFault.{SheetFault}
-use Rattle.lrs_sheet.specs.declared.fault.SheetFault.TheVariants as fault
+use Rattle.lrs_sheet_records.proofs.ReadRows.{begins, gave-more, gave-none}
+use Rattle.lrs_sheet_records.specs.Rows.{EndsAfter, Gave, IsPlain, IsReadFault, NextDiffers}
+use Rattle.lrs_sheet_records.specs.Rows.{max_records}
+use Rattle.lrs_sheet_records.specs.declared.fault.SheetFault.{SheetFault}
+use Rattle.lrs_sheet_records.specs.declared.fault.SheetFault.TheVariants as fault
 use Rattle.lrs_questions.specs.Answering.{HaveWidth, width}
 use Rattle.lrs_questions.specs.Replies.{AreReplied, IsReplied, Reply, counted, key_of, lines_of, reply_count, tally_of}
 use Rattle.lrs_questions.specs.Rows.{AnswersRows, AnswersSome, HasAnswered}

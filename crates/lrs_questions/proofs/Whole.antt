@@ -6,9 +6,9 @@ use Rattle.csv.proofs.WriteFacts.{appends-none}
 use Rattle.csv.specs.Reading.{expected_len}
 use Rattle.csv.specs.declared.reader.Reader.{Reader}
 use Rattle.lrs_machine.specs.declared.image.Image.{Image}
-use Rattle.lrs_sheet.specs.Rows.{EndsAfter, Gave, HasRead, IsReadFault}
-use Rattle.lrs_sheet.specs.declared.fault.SheetFault.{SheetFault}
-use Rattle.lrs_sheet.specs.declared.fault.SheetFault.TheVariants as fault
+use Rattle.lrs_sheet_records.specs.Rows.{EndsAfter, Gave, HasRead, IsReadFault}
+use Rattle.lrs_sheet_records.specs.declared.fault.SheetFault.{SheetFault}
+use Rattle.lrs_sheet_records.specs.declared.fault.SheetFault.TheVariants as fault
 use Rattle.lrs_sheet_records.specs.Questions.{IsQuestionHeader}
 use Rattle.lrs_questions.specs.Answering.{AnswersRecords, RunsQuestions, WritesAnswers}
 use Rattle.lrs_questions.specs.Replies.{tally_of}

@@ -4,9 +4,9 @@ use Rattle.std.specs.List.{AllByRecursion}
 use Rattle.std.specs.Io.KnownBytes.{Appends, Keeps}
 use Rattle.lrs_machine.specs.Lines.{Text}
 use Rattle.lrs_machine.specs.declared.image.Image.{Image}
-use Rattle.lrs_sheet.specs.Sheets.{AreAll, BeginsWith, max_records}
-use Rattle.lrs_sheet.specs.declared.fault.SheetFault.{SheetFault}
-use Rattle.lrs_sheet.specs.declared.fault.SheetFault.TheVariants as fault
+use Rattle.lrs_sheet_records.specs.Rows.{AreAll, BeginsWith, max_records}
+use Rattle.lrs_sheet_records.specs.declared.fault.SheetFault.{SheetFault}
+use Rattle.lrs_sheet_records.specs.declared.fault.SheetFault.TheVariants as fault
 use Rattle.lrs_sheet_records.specs.Questions.{IsQuestionHeader, question_header}
 use Rattle.lrs_questions.specs.Replies.{AreReplied, Reply, lines_of, tally_of}
 use Rattle.lrs_questions.specs.declared.tally.QuestionTally.{QuestionTally}

@@ -4,10 +4,10 @@ use Rattle.csv.specs.Reading.{expected_len}
 use Rattle.csv.specs.declared.reader.Reader.{Reader}
 use Rattle.lrs_machine.specs.Lines.{Text}
 use Rattle.lrs_machine.specs.declared.image.Image.{Image}
-use Rattle.lrs_sheet.specs.Rows.{Begins, EndsAfter, Gave, IsPlain, NextDiffers}
-use Rattle.lrs_sheet.specs.Sheets.{max_records}
-use Rattle.lrs_sheet.specs.declared.fault.SheetFault.{SheetFault}
-use Rattle.lrs_sheet.specs.declared.fault.SheetFault.TheVariants as fault
+use Rattle.lrs_sheet_records.specs.Rows.{Begins, EndsAfter, Gave, IsPlain, NextDiffers}
+use Rattle.lrs_sheet_records.specs.Rows.{max_records}
+use Rattle.lrs_sheet_records.specs.declared.fault.SheetFault.{SheetFault}
+use Rattle.lrs_sheet_records.specs.declared.fault.SheetFault.TheVariants as fault
 use Rattle.lrs_questions.specs.Answering.{AreAnswered, width}
 use Rattle.lrs_questions.specs.Replies.{Reply, reply_count, tally_of}
 use Rattle.lrs_questions.specs.declared.tally.QuestionTally.{QuestionTally}

@@ -12,8 +12,9 @@ use csv::ByteRecord;
 use lrs_answers::{AskCause, AskFault, Told, cause_of};
 use lrs_desk::{Desk, Keeper};
 use lrs_machine::{Field, Key};
-use lrs_sheet::SheetFault;
-use lrs_sheet_records::{ReadFault, Sheet, SheetRecord, column_name, question_in, text_at};
+use lrs_sheet_records::{
+    ReadFault, Sheet, SheetFault, SheetRecord, column_name, question_in, text_at,
+};
 use std::alloc::Global;
 use std::io;
 use std::io::Write;

@@ -3,7 +3,7 @@
 ghost use Rattle.std.specs.Prelude.{◌≡◌, IfSome, Some, false};
 ghost use Rattle.std.specs.Io.KnownBytes.{Keeps};
 ghost use Rattle.csv.specs.Reading.{expected_len};
-ghost use Rattle.lrs_sheet.specs.Rows.{IsPlain};
+ghost use Rattle.lrs_sheet_records.specs.Rows.{IsPlain};
 ghost use Rattle.lrs_questions.specs.Answering.{RunsQuestions, WritesAnswers, width};
 ghost use Rattle.lrs_questions.specs.Rows.{AnswersRows};
 
@@ -11,9 +11,8 @@ use crate::answer::answer_row;
 use crate::tally::QuestionTally;
 use csv::{ByteRecord, Reader};
 use lrs_desk::{Desk, Keeper};
-use lrs_sheet::SheetFault;
-use lrs_sheet::rows::{Arrival, Arriving, Whole, next_row, open};
-use lrs_sheet_records::is_question_header;
+use lrs_sheet_records::rows::{Arrival, Arriving, Whole, next_row, open};
+use lrs_sheet_records::{SheetFault, is_question_header};
 use std::alloc::Global;
 use std::io::{self, Read, Write};
 

@@ -7,7 +7,8 @@ ghost use Rattle.std.specs.Ordering.{is_eq, is_ge};
 ghost use Rattle.lrs_measure.specs.Lists.{each_two};
 ghost use Rattle.lrs_measure.specs.Ordered.{place_by};
 
-use lrs_ordered::{Chunked, Keyed};
+use lrs_measure::Keyed;
+use lrs_ordered::Chunked;
 
 /// Known rows, found by their key.
 pub trait KnownRows<T: Keyed<K>, K> {

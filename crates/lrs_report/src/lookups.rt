@@ -1,6 +1,6 @@
 //! Classes and assets, found by search, and why segments are refused.
 
-ghost use Rattle.std.specs.Prelude.{◌≡◌, true, not, position, IfSome};
+ghost use Rattle.std.specs.Prelude.{◌≡◌, true, not, position};
 ghost use Rattle.lrs_measure.specs.Lists.{each_two};
 ghost use Rattle.lrs_machine.specs.Sound.{asset_before, class_before};
 ghost use Rattle.lrs_machine.specs.Segments.{is_class, is_exclusive, is_exclusive_class, segment_fault};

@@ -5,7 +5,7 @@ ghost use Rattle.std.specs.List.{AllByRecursion, list_all};
 ghost use Rattle.lrs_measure.specs.Lists.{each_two};
 ghost use Rattle.lrs_events.specs.declared.side.LinkSide.{LinkSide as DeclaredSide};
 ghost use Rattle.lrs_machine.specs.Sound.{asset_before, class_before, is_span};
-ghost use Rattle.lrs_machine.specs.Segments.{is_exclusive_class, segment_fault, segments_of, value_of, values_of};
+ghost use Rattle.lrs_machine.specs.Segments.{segment_fault, segments_of, value_of, values_of};
 ghost use Rattle.lrs_events_spans.specs.Search.{one_side};
 ghost use Rattle.lrs_report.specs.Along.{is_holder, holders_along, HasOneHolder, AreExclusive, IsAnswer};
 ghost use Rattle.lrs_report.specs.Columns.{IsColumn, value_at, values_at};

@@ -5,7 +5,7 @@ ghost use Rattle.std.specs.Ordering.{is_eq, is_ge};
 ghost use Rattle.lrs_measure.specs.Lists.{each_two};
 ghost use Rattle.lrs_measure.specs.Ordered.{place_by};
 ghost use Rattle.lrs_machine.specs.Sound.{asset_before};
-ghost use Rattle.lrs_report.specs.ListTotals.{part_length, row_length};
+ghost use Rattle.lrs_report.specs.ListTotals.{row_length};
 ghost use Rattle.lrs_report.specs.Tally.{are_by_class, class_order, kept_sum, no_total, raised, raised_of, sum_of, with_entered, with_gone, with_part, with_routes, with_rows};
 
 use crate::lookups::asset_class;

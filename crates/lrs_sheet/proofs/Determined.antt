@@ -21,7 +21,8 @@ use Rattle.lrs_sheet_records.specs.Verbs.{all_verbs, shapes_of}
 use Rattle.lrs_sheet_records.specs.declared.sheet.Sheet.{Sheet}
 use Rattle.lrs_sheet_records.specs.Kinds.{edit_record}
 use Rattle.lrs_sheet.specs.Replies.{IsAnswered, IsReplied, Replied, lines_of, tally_of}
-use Rattle.lrs_sheet.specs.Sheets.{AnswersAll, AreAll}
+use Rattle.lrs_sheet_records.specs.Rows.{AreAll}
+use Rattle.lrs_sheet.specs.Sheets.{AnswersAll}
 
 -- a text has one list of records
 one-list : (cfg : Config) (s s1 s2 : Place) (xs y1 y2 : List ℕ) (a b : List (List (List ℕ))) → Reached cfg s xs a s1 y1 → next_record cfg s1 [] [] y1 ≡ None

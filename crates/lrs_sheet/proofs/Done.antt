@@ -1,5 +1,5 @@
 -- Records done one after the other.
-use Rattle.std.proofs.Common.{◌≡◌, ℕ, Ok, Err, List, [], ◌∷◌, ◌++◌, ◌+◌, ◌≤◌, Option, Some, Bool, length, refl, sym, ap, subst, ◌∙◌, append_assoc, length-append, arith}
+use Rattle.std.proofs.Common.{◌≡◌, ℕ, Ok, Err, List, [], ◌∷◌, ◌++◌, ◌+◌, ◌≤◌, Option, Some, Bool, length, refl, sym, ap, subst, ◌∙◌, length-append, arith}
 use Rattle.std.specs.Prelude.{count_by}
 use Rattle.std.proofs.Common.{cond}
 use Rattle.std.proofs.lemmas.List.Sums.{sum_by-append}
@@ -16,16 +16,19 @@ use Rattle.lrs_machine.specs.declared.answer.Limits.{Limits}
 use Rattle.lrs_machine.specs.declared.answer.Answer.{Answer}
 use Rattle.lrs_machine.specs.declared.answer.Answer.TheVariants.{Done, Again, Refused}
 use Rattle.lrs_desk.specs.DeskView.{DeskView}
-use Rattle.lrs_desk.specs.declared.desk.Fault.TheVariants as stop
+use Rattle.lrs_machine_stops.specs.declared.fault.Fault.TheVariants as stop
 use Rattle.lrs_sheet.specs.declared.reply.Reply.{Reply}
 use Rattle.lrs_sheet.specs.declared.reply.Tally.{Tally}
-use Rattle.lrs_sheet.specs.declared.fault.SheetFault.{SheetFault}
-use Rattle.lrs_sheet.specs.declared.fault.SheetFault.TheVariants as fault
+use Rattle.lrs_sheet_records.specs.declared.fault.SheetFault.{SheetFault}
+use Rattle.lrs_sheet_records.specs.declared.fault.SheetFault.TheVariants as fault
 use Rattle.lrs_sheet_records.specs.declared.sheet.Sheet.{Sheet}
 use Rattle.lrs_sheet_records.specs.Kinds.{edit_record, width_of}
+use Rattle.lrs_sheet_records.proofs.ReadRows.{begins, gave-more, gave-none}
 use Rattle.lrs_sheet.specs.Replies.{IsReplied, Replied, answer_count, counted, is_again, is_done, is_refused, lines_of, reply_text, tally_of}
-use Rattle.lrs_sheet.specs.Sheets.{GoesAlong, HaveWidth, max_records, LeavesDesk}
-use Rattle.lrs_sheet.specs.Rows.{AnswersSome, Begins, DoesRow, DoesRows, EndsAfter, Gave, HasDone, IsPlain, IsReadFault, NextDiffers}
+use Rattle.lrs_sheet_records.specs.Rows.{max_records}
+use Rattle.lrs_sheet.specs.Sheets.{GoesAlong, HaveWidth, LeavesDesk}
+use Rattle.lrs_sheet_records.specs.Rows.{Begins, EndsAfter, Gave, IsPlain, IsReadFault, NextDiffers}
+use Rattle.lrs_sheet.specs.Rows.{AnswersSome, DoesRow, DoesRows, HasDone}
 
 -- one more record, answered
 pub Replied-more : (sheet : Sheet) (limits : Limits) (before middle after : State) (records : List (List (List ℕ))) (replies : List Reply) (fields : List (List ℕ)) (reply : Reply)
@@ -86,10 +89,6 @@ stays desk = record { limits = refl; kept = λ kept. kept; reopen = refl; ahead 
 pub along : {K : Type 0} {holds : K → Result Image Table → Type 0} (a b c : DeskView K) → GoesAlong holds a b → GoesAlong holds b c → GoesAlong holds a c
 along a b c first next = record { limits = next.limits ∙ first.limits; kept = λ kept. next.kept (first.kept kept); reopen = next.reopen ∙ first.reopen; ahead = next.ahead ∙ first.ahead }
 
--- nothing is read
-pub gave-none : {R : Type 0} (rem : R → Option (List ℕ)) (rows : Reader R) → Gave rem rows rows []
-gave-none rem rows = λ input before h. rw (append-nil before) h
-
 -- before the first turn
 pub start-done : {K : Type 0} {holds : K → Result Image Table → Type 0} {R : Type 0} (sheet : Sheet) (rem : R → Option (List ℕ)) (rows : Reader R) (desk : DeskView K) (contents : Option (List ℕ)) (tally : Tally)
     → IsPlain rows → expected_len rows ≡ Some (width_of sheet) → tally ≡ tally_of [] → HasDone sheet holds rem rows rows desk desk contents contents tally 0
@@ -106,10 +105,6 @@ start-done sheet rem rows desk contents tally plain width none = record {
   few = rw none refl;
   in_turn = refl;
 }
-
--- what a reader gave, and then gave more
-pub gave-more : {R : Type 0} (rem : R → Option (List ℕ)) (a b c : Reader R) (records more : List (List (List ℕ))) → Gave rem a b records → Gave rem b c more → Gave rem a c (records ++ more)
-gave-more rem a b c records more first second = λ input before h. rw (← append_assoc before records more) (second input (before ++ records) (first input before h))
 
 -- one more turn
 pub more-done : {K : Type 0} {holds : K → Result Image Table → Type 0} {R : Type 0} (sheet : Sheet) (rem : R → Option (List ℕ)) (rows now next : Reader R) (before middle after : DeskView K) (old mid new : Option (List ℕ)) (tally counts : Tally) (turns : ℕ) (fields : List (List ℕ))
@@ -132,12 +127,6 @@ more-done sheet rem rows now next before middle after old mid new tally counts t
   few = ap answer_count counted' ∙ count-more-answer tally reply.answer ∙ ap (λ (n : ℕ). n + 1) done.few;
   in_turn = length-append done.records (fields ∷ []) ∙ ap (λ (n : ℕ). n + 1) done.in_turn;
 }
-
--- what a reader gave, it goes on with
-pub begins : {R : Type 0} (rem : R → Option (List ℕ)) (a b : Reader R) (records : List (List (List ℕ))) → Gave rem a b records → Begins rem a records
-begins rem a b records gave = λ input before h.
-    let (rest, source, reached) = gave input before h in
-    (b.state, rest, reached)
 
 -- the turns so far are answered
 pub some-answered : {K : Type 0} {holds : K → Result Image Table → Type 0} {R : Type 0} (sheet : Sheet) (rem : R → Option (List ℕ)) (rows now : Reader R) (before after : DeskView K) (old new : Option (List ℕ)) (tally : Tally) (turns : ℕ)

@@ -24,7 +24,7 @@ use Rattle.lrs_sheet.specs.declared.reply.Reply.{Reply}
 use Rattle.lrs_sheet.specs.Laws.{HasBegun, HasNewKeys, IsRestOf, Outcome, ResumedIsUnstopped, Say}
 use Rattle.lrs_sheet.specs.Replies.{Replied, lines_of}
 use Rattle.lrs_sheet.specs.Resuming.{EndInEdit, IsEdit, IsNoEdit}
-use Rattle.lrs_sheet.specs.Sheets.{AreAll, BeginsWith}
+use Rattle.lrs_sheet_records.specs.Rows.{AreAll, BeginsWith}
 use Rattle.lrs_sheet.proofs.Determined.{all-one, one-run}
 use Rattle.lrs_sheet.proofs.Resuming.{no_first, one_first}
 

@@ -1,4 +1,3 @@
-pub mod ReadRows
 pub mod Done
 pub mod Whole
 pub mod Determined

@@ -19,13 +19,14 @@ use Rattle.lrs_sheet_records.specs.Kinds.{IsHeader, edit_record, width_of}
 use Rattle.lrs_sheet_records.specs.Records.{FirstMalformed, SaysCommand, place_of}
 use Rattle.lrs_sheet_records.specs.Verbs.{all_verbs}
 use Rattle.lrs_sheet_records.specs.declared.sheet.Sheet.{Sheet}
-use Rattle.lrs_sheet.specs.declared.fault.SheetFault.{SheetFault}
-use Rattle.lrs_sheet.specs.declared.fault.SheetFault.TheVariants as fault
+use Rattle.lrs_sheet_records.specs.declared.fault.SheetFault.{SheetFault}
+use Rattle.lrs_sheet_records.specs.declared.fault.SheetFault.TheVariants as fault
 use Rattle.lrs_sheet.specs.declared.resumption.Decided.{Decided}
 use Rattle.lrs_sheet.specs.Resuming.{HasFound, HasSearched, IsDecidedBy, IsEdit, IsNoEdit, decided_next}
-use Rattle.lrs_sheet.specs.Rows.{EndsAfter, Gave, HasRead, IsPlain, IsReadFault, NextDiffers}
-use Rattle.lrs_sheet.specs.Sheets.{AreAll, BeginsWith, HaveWidth}
-use Rattle.lrs_sheet.proofs.Done.{gave-more, gave-none}
+use Rattle.lrs_sheet_records.specs.Rows.{EndsAfter, Gave, HasRead, IsPlain, IsReadFault, NextDiffers}
+use Rattle.lrs_sheet_records.specs.Rows.{AreAll, BeginsWith}
+use Rattle.lrs_sheet.specs.Sheets.{HaveWidth}
+use Rattle.lrs_sheet_records.proofs.ReadRows.{gave-more, gave-none}
 
 -- ---- one record
 

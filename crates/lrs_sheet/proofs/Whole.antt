@@ -13,14 +13,15 @@ use Rattle.lrs_machine.specs.declared.answer.Limits.{Limits}
 use Rattle.lrs_machine.specs.declared.image.Image.{Image}
 use Rattle.lrs_machine.specs.declared.table.Table.{Table}
 use Rattle.lrs_sheet.specs.declared.reply.Tally.{Tally}
-use Rattle.lrs_sheet.specs.declared.fault.SheetFault.{SheetFault}
-use Rattle.lrs_sheet.specs.declared.fault.SheetFault.TheVariants as fault
-use Rattle.lrs_desk.specs.declared.desk.Fault.TheVariants as stop
+use Rattle.lrs_sheet_records.specs.declared.fault.SheetFault.{SheetFault}
+use Rattle.lrs_sheet_records.specs.declared.fault.SheetFault.TheVariants as fault
+use Rattle.lrs_machine_stops.specs.declared.fault.Fault.TheVariants as stop
 use Rattle.lrs_sheet.specs.Replies.{tally_of}
 use Rattle.lrs_sheet_records.specs.declared.sheet.Sheet.{Sheet}
 use Rattle.lrs_sheet_records.specs.Kinds.{IsHeader}
 use Rattle.lrs_sheet.specs.Sheets.{BreaksOffBehind, HasAnsweredSome, HasDoneUpTo, HasFailedToKeep, HasStopped, RunsBehind, StandAtFront}
-use Rattle.lrs_sheet.specs.Rows.{AnswersSome, BreaksAfter, DoesRows, DoesUpTo, EndsAfter, Gave, FailsToKeep, HasRead, Stops}
+use Rattle.lrs_sheet_records.specs.Rows.{EndsAfter, Gave, HasRead}
+use Rattle.lrs_sheet.specs.Rows.{AnswersSome, BreaksAfter, DoesRows, DoesUpTo, FailsToKeep, Stops}
 
 keeps-same : (contents : Option (List ℕ)) → Keeps contents contents
 keeps-same None = tt

@@ -13,7 +13,8 @@ use Rattle.lrs_sheet_records.specs.Kinds.{edit_record}
 use Rattle.lrs_sheet_records.specs.Records.{FirstMalformed, SaysCommand, place_of}
 use Rattle.lrs_sheet.specs.Replies.{Replied, lines_of}
 use Rattle.lrs_sheet.specs.Resuming.{Resumes}
-use Rattle.lrs_sheet.specs.Sheets.{AreAll, BeginsWith, Runs}
+use Rattle.lrs_sheet_records.specs.Rows.{AreAll, BeginsWith}
+use Rattle.lrs_sheet.specs.Sheets.{Runs}
 
 -- what a run without a fault leaves, from what a writer had to what it has
 pub record Outcome : Type 0 where

@@ -11,16 +11,17 @@ use Rattle.lrs_machine.specs.declared.command.Command.{Command}
 use Rattle.lrs_machine.specs.declared.image.Image.{Image}
 use Rattle.lrs_machine.specs.declared.table.Table.{Table}
 use Rattle.lrs_machine_stops.specs.Known.{is_edit}
-use Rattle.lrs_desk.specs.declared.desk.Fault.TheVariants as stop
+use Rattle.lrs_machine_stops.specs.declared.fault.Fault.TheVariants as stop
 use Rattle.lrs_sheet_records.specs.declared.sheet.Sheet.{Sheet}
 use Rattle.lrs_sheet_records.specs.Kinds.{IsHeader, edit_record, width_of}
 use Rattle.lrs_sheet_records.specs.Records.{SaysCommand}
-use Rattle.lrs_sheet.specs.declared.fault.SheetFault.{SheetFault}
-use Rattle.lrs_sheet.specs.declared.fault.SheetFault.TheVariants as fault
+use Rattle.lrs_sheet_records.specs.declared.fault.SheetFault.{SheetFault}
+use Rattle.lrs_sheet_records.specs.declared.fault.SheetFault.TheVariants as fault
 use Rattle.lrs_sheet.specs.declared.reply.Tally.{Tally}
 use Rattle.lrs_sheet.specs.declared.resumption.Decided.{Decided}
-use Rattle.lrs_sheet.specs.Rows.{EndsAfter, Gave, IsPlain, NextDiffers}
-use Rattle.lrs_sheet.specs.Sheets.{BeginsWith, BreaksOffBehind, HaveWidth, RunsBehind, StandAtFront}
+use Rattle.lrs_sheet_records.specs.Rows.{EndsAfter, Gave, IsPlain, NextDiffers}
+use Rattle.lrs_sheet_records.specs.Rows.{BeginsWith}
+use Rattle.lrs_sheet.specs.Sheets.{BreaksOffBehind, HaveWidth, RunsBehind, StandAtFront}
 
 -- The record says a command that is an edit of the state, under this key.
 abbrev pub IsEdit : Sheet → State → Text → List Text → Type 0

@@ -14,23 +14,16 @@ use Rattle.lrs_machine.specs.declared.image.Image.{Image}
 use Rattle.lrs_machine.specs.declared.table.Table.{Table}
 use Rattle.lrs_desk.specs.DeskView.{DeskView}
 use Rattle.lrs_image.specs.Keeping.{HoldsOnly}
-use Rattle.lrs_desk.specs.declared.desk.Fault.TheVariants as stop
+use Rattle.lrs_machine_stops.specs.declared.fault.Fault.TheVariants as stop
 use Rattle.lrs_sheet.specs.declared.reply.Reply.{Reply}
 use Rattle.lrs_sheet.specs.declared.reply.Tally.{Tally}
-use Rattle.lrs_sheet.specs.declared.fault.SheetFault.{SheetFault}
-use Rattle.lrs_sheet.specs.declared.fault.SheetFault.TheVariants as fault
+use Rattle.lrs_sheet_records.specs.declared.fault.SheetFault.{SheetFault}
+use Rattle.lrs_sheet_records.specs.declared.fault.SheetFault.TheVariants as fault
 use Rattle.lrs_sheet_records.specs.declared.sheet.Sheet.{Sheet}
 use Rattle.lrs_sheet_records.specs.declared.sheet.Sheet.TheVariants.{Edits, Survey}
 use Rattle.lrs_sheet_records.specs.Kinds.{IsHeader, width_of}
+use Rattle.lrs_sheet_records.specs.Rows.{AreAll, BeginsWith, max_records}
 use Rattle.lrs_sheet.specs.Replies.{Replied, lines_of, tally_of}
-
--- The records of the input begin with these, by the rules of `csv`.
-abbrev pub BeginsWith : Text → List (List Text) → Type 0
-BeginsWith input records = (state : Place) × (rest : Text) × Reached default_config st.StartRecord (strip_bom input) records state rest
-
--- These are the records of the input.
-abbrev pub AreAll : Text → List (List Text) → Type 0
-AreAll input records = AreRecords default_config st.StartRecord (strip_bom input) records
 
 -- These records stand at the front of the input, under some header; or they are none.
 abbrev pub StandAtFront : Text → List (List Text) → Type 0
@@ -39,10 +32,6 @@ StandAtFront input records = (records ≡ []) ⊎ ((header : List Text) × Begin
 -- each record has as many fields as the header
 abbrev pub HaveWidth : Sheet → List (List Text) → Type 0
 HaveWidth sheet records = AllByRecursion (λ fields. length fields ≡ width_of sheet) records
-
--- the most records of a sheet after its header
-abbrev pub max_records : ℕ
-max_records = 100_000_000
 
 -- how many records are done together, of a sheet that is there as a whole
 abbrev pub records_together : ℕ

@@ -14,17 +14,19 @@ use Rattle.lrs_machine.specs.declared.image.Image.{Image}
 use Rattle.lrs_machine.specs.declared.table.Table.{Table}
 use Rattle.lrs_desk.specs.Desk.{records_of}
 use Rattle.lrs_desk.specs.DeskView.{DeskView}
-use Rattle.lrs_desk.specs.declared.desk.Fault.TheVariants as stop
-use Rattle.lrs_sheet.specs.declared.fault.SheetFault.{SheetFault}
-use Rattle.lrs_sheet.specs.declared.fault.SheetFault.TheVariants as fault
+use Rattle.lrs_machine_stops.specs.declared.fault.Fault.TheVariants as stop
+use Rattle.lrs_sheet_records.specs.declared.fault.SheetFault.{SheetFault}
+use Rattle.lrs_sheet_records.specs.declared.fault.SheetFault.TheVariants as fault
 use Rattle.csv.specs.Reading.{expected_len}
 use Rattle.csv.specs.declared.reader.Reader.{Reader}
 use Rattle.lrs_sheet_records.specs.declared.sheet.Sheet.{Sheet}
 use Rattle.lrs_sheet_records.specs.Kinds.{edit_record, width_of}
 use Rattle.lrs_sheet_records.specs.Records.{SaysCommand}
 use Rattle.lrs_sheet.specs.Replies.{IsReplied, answer_count, counted, lines_of, tally_of}
-use Rattle.lrs_sheet.specs.Sheets.{AreAnswered, GoesAlong, HaveWidth, StandsForEither, max_records}
-use Rattle.lrs_sheet.specs.Rows.{DoesRow, EndsAfter, Gave, IsPlain, IsReadFault}
+use Rattle.lrs_sheet_records.specs.Rows.{max_records}
+use Rattle.lrs_sheet.specs.Sheets.{AreAnswered, GoesAlong, HaveWidth, StandsForEither}
+use Rattle.lrs_sheet_records.specs.Rows.{EndsAfter, Gave, IsPlain, IsReadFault}
+use Rattle.lrs_sheet.specs.Rows.{DoesRow}
 
 -- the reply of an answer, under the key of its command
 abbrev pub reply_of : Text × Command → Answer → Reply

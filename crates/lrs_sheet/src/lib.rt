@@ -2,17 +2,13 @@
 //! after the other or some together, so that nothing grows with the number of records.
 #![tactic(auto)]
 
-mod arrival;
-mod fault;
 pub mod laws;
 mod queue;
 mod reply;
 mod resumption;
-pub mod rows;
 mod run;
 
-pub use fault::SheetFault;
-pub use lrs_sheet_records::{ReadFault, Sheet, command_of, survey_of};
+pub use lrs_sheet_records::{ReadFault, Sheet, SheetFault, command_of, survey_of};
 pub use reply::{Reply, Tally};
 pub use resumption::{Decided, last_edit, resume_sheet};
 pub use run::{RECORDS_TOGETHER, run_arriving, run_behind, run_edits, run_sheet, run_survey};

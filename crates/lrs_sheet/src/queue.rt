@@ -3,9 +3,6 @@
 ghost use Rattle.std.specs.Prelude.{◌≡◌, ◌≤◌, ◌<◌, ◌+◌, ◌^◌, ◌∷◌, ◌++◌, [], Err, Result, length, take, IfOk, IfErr, OnOk};
 ghost use Rattle.std.specs.Io.KnownBytes.{Appends};
 ghost use Rattle.lrs_machine.specs.Image.{state_of};
-ghost use Rattle.lrs_machine.specs.declared.image.Image.{Image as ImageRows};
-ghost use Rattle.lrs_machine.specs.declared.table.Table.{Table};
-ghost use Rattle.lrs_desk.specs.Desk.{records_of};
 ghost use Rattle.lrs_sheet.specs.Replies.{answer_count, counted, lines_of, reply_text};
 ghost use Rattle.lrs_sheet.specs.Waiting.{reply_of, replies_of, counted_all, DoesAll, StopsAtFirst, StopsAmong, StopsTaking, Takes};
 ghost use Rattle.csv.specs.Records.{fields_of};
@@ -13,11 +10,10 @@ ghost use Rattle.lrs_sheet_records.specs.Kinds.{edit_fields, width_of};
 ghost use Rattle.lrs_sheet_records.specs.Records.{FirstMalformed, place_of};
 ghost use Rattle.lrs_sheet.specs.Sheets.{LeavesDesk};
 
-use crate::fault::SheetFault;
 use crate::reply::{Reply, Tally};
 use lrs_desk::{Desk, Keeper};
 use lrs_machine::{Answer, Cause, Command, Field, Key};
-use lrs_sheet_records::{ReadFault, SheetRecord, command_in, text_at};
+use lrs_sheet_records::{ReadFault, SheetFault, SheetRecord, command_in, text_at};
 use std::alloc::Global;
 use std::io::Write;
 

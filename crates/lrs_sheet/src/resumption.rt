@@ -13,17 +13,16 @@ ghost use Rattle.lrs_machine.specs.declared.image.Image.{Image as ImageRows};
 ghost use Rattle.lrs_machine.specs.declared.table.Table.{Table};
 ghost use Rattle.lrs_sheet_records.specs.Kinds.{width_of};
 ghost use Rattle.lrs_sheet.specs.Resuming.{BreaksOffResumed, HasFound, IsDecidedBy, IsEdit, IsNoEdit, IsSearchFault, Resumes, decided_next};
-ghost use Rattle.lrs_sheet.specs.Rows.{IsPlain};
+ghost use Rattle.lrs_sheet_records.specs.Rows.{IsPlain};
 ghost use Rattle.lrs_sheet.specs.Sheets.{IsAfterCommands, LeavesDesk};
 
-use crate::fault::SheetFault;
 use crate::reply::Tally;
-use crate::rows::{next_row, open};
 use crate::run::{MAX_RECORDS, run_behind};
 use csv::{ByteRecord, Reader};
 use lrs_desk::{Desk, Fault, Keeper};
 use lrs_machine::Key;
-use lrs_sheet_records::{ReadFault, Sheet, SheetRecord, command_in, is_header};
+use lrs_sheet_records::rows::{next_row, open};
+use lrs_sheet_records::{ReadFault, Sheet, SheetFault, SheetRecord, command_in, is_header};
 use std::alloc::Global;
 use std::io::{Read, Write};
 

@@ -9,17 +9,16 @@ ghost use Rattle.lrs_machine.specs.Lines.{Text};
 ghost use Rattle.lrs_sheet_records.specs.Kinds.{width_of};
 ghost use Rattle.lrs_sheet.specs.Replies.{tally_of};
 ghost use Rattle.lrs_sheet.specs.Sheets.{Runs, RunsBehind, RunsEdits, RunsSurvey, LeavesDesk, BreaksOff, BreaksOffBehind, HasBrokenOff, SurveyHasBrokenOff, IsAfterCommands, StandAtFront};
-ghost use Rattle.lrs_sheet.specs.Rows.{IsPlain, DoesRows, BreaksAfter};
+ghost use Rattle.lrs_sheet_records.specs.Rows.{IsPlain};
+ghost use Rattle.lrs_sheet.specs.Rows.{DoesRows, BreaksAfter};
 ghost use Rattle.lrs_sheet.specs.Waiting.{HasTaken};
 
-use crate::arrival::{Arrival, Arriving, Whole};
-use crate::fault::SheetFault;
 use crate::queue::{Queue, settle, take_row};
 use crate::reply::Tally;
-use crate::rows::{next_row, open, skip_rows};
 use csv::{ByteRecord, Reader};
 use lrs_desk::{Desk, Fault, Keeper};
-use lrs_sheet_records::{Sheet, SheetRecord, is_header};
+use lrs_sheet_records::rows::{Arrival, Arriving, Whole, next_row, open, skip_rows};
+use lrs_sheet_records::{Sheet, SheetFault, SheetRecord, is_header};
 use std::alloc::Global;
 use std::io::{Read, Write};
 

@@ -1,3 +1,4 @@
+pub mod ReadRows
 pub mod Wording
 pub mod Misfits
 pub mod Surveyed

@@ -4,6 +4,7 @@ pub mod Verbs
 pub mod Records
 pub mod Surveys
 pub mod Kinds
+pub mod Rows
 pub mod CanonicalRecords
 pub mod Questions
 pub mod Fields

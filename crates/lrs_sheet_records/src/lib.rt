@@ -3,6 +3,7 @@
 #![tactic(auto)]
 
 mod arguments;
+mod arrival;
 mod fault;
 mod header;
 pub mod laws;
@@ -10,11 +11,12 @@ mod list;
 mod place;
 mod question;
 mod record;
+pub mod rows;
 mod shape;
 mod sheet;
 mod verb;
 
-pub use fault::ReadFault;
+pub use fault::{ReadFault, SheetFault};
 pub use header::{is_header, is_question_header};
 pub use question::{column_name, question_in};
 pub use record::{command_in, command_of, survey_of};

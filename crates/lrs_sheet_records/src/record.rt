@@ -1,6 +1,6 @@
 //! A record as a command.
 
-ghost use Rattle.std.specs.Prelude.{◌≡◌, ◌≤◌, length, IfOk, IfErr};
+ghost use Rattle.std.specs.Prelude.{◌≤◌, length, IfOk, IfErr};
 ghost use Rattle.csv.specs.Records.{fields_of};
 ghost use Rattle.lrs_sheet_records.specs.Kinds.{edit_fields, width_of};
 ghost use Rattle.lrs_sheet_records.specs.Records.{SaysCommand, Refuses};

@@ -1,6 +1,6 @@
 //! Which verb a record has.
 
-ghost use Rattle.std.specs.Prelude.{◌≡◌, ◌≤◌, ◌↔◌, Contains, IsTrue, length};
+ghost use Rattle.std.specs.Prelude.{◌≤◌, ◌↔◌, Contains, IsTrue, length};
 ghost use Rattle.lrs_sheet_records.specs.Kinds.{edit_fields};
 ghost use Rattle.lrs_sheet_records.specs.Fields.{ReadsArguments, ReadsCommand};
 ghost use Rattle.lrs_sheet_records.specs.Verbs.{IsVerb, asset_verbs, editing_verbs, ground_verbs, laying_verbs, routing_verbs, working_verbs};

@@ -11,14 +11,14 @@ use Rattle.sqlite_trees.specs.View.{View, IsClean, IsRolledBack}
 use Rattle.lrs_machine.specs.declared.table.Table.{Table}
 use Rattle.lrs_store_rows.specs.Tables.{Tables}
 use Rattle.lrs_store_rows.specs.Content.{content_of}
-use Rattle.lrs_store_keeper.specs.declared.rows.StoredRows.{StoredRows}
-use Rattle.lrs_store_keeper.specs.Rows.{tables_of}
+use Rattle.lrs_store_tables.specs.declared.stored_rows.StoredRows.{StoredRows}
+use Rattle.lrs_store_tables.specs.Rows.{tables_of}
 use Rattle.lrs_store_tables.specs.Stored.{stored}
 use Rattle.lrs_store_tables.specs.Making.{first_tables, first_rows}
 use Rattle.lrs_store_files.specs.declared.table_list.Known.{Known}
 use Rattle.lrs_store_files.specs.declared.table_list.Known.TheVariants as known
 use Rattle.lrs_store_files.proofs.FirstTables.{same_count}
-use Rattle.lrs_store.specs.Seeing.{HasSeen}
+use Rattle.lrs_store_files.specs.Seeing.{HasSeen}
 use Rattle.lrs_store.specs.Judged.{AreFirst, ListsKnown, ListsOthers, HasRows, HasFound, IsUnsoundIn, IsUnsoundThere, IsSoundThere}
 
 open_there : (v : View) → (v.is_open ≡ false → IsTrue v.is_broken) → v.is_broken ≡ false → IsTrue v.is_open
@@ -27,9 +27,6 @@ open_there v shut sound = go v.is_open refl
     go : (b : Bool) → v.is_open ≡ b → IsTrue v.is_open
     go true is = is
     go false is = absurd (true≢false (sym (shut is) ∙ sound))
-
-pub lists_it : (o : Option Schema) (found : Schema) (catalog : List Row) → o ≡ Some found → MatchOption o ((s : Schema) → Lists catalog s → ⊥) (Lists catalog) → Lists catalog found
-lists_it o found catalog is = subst (λ o. MatchOption o ((s : Schema) → Lists catalog s → ⊥) (Lists catalog)) is
 
 -- what a catalog lists that was read
 pub lists_known : (k : Known) (found : Schema) (catalog : List Row) → Lists catalog found → ((n : ℕ) → (k ≡ known.First n) ↔ ((n ≤ 12) × (found ≡ first_tables n))) → ListsKnown k catalog

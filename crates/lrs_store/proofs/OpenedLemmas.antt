@@ -22,7 +22,7 @@ use Rattle.lrs_store_tables.specs.Starting.{new_rows, NewRowsHoldNothing}
 use Rattle.lrs_store_tables.specs.Making.{no_schema, first_tables, first_rows}
 use Rattle.lrs_store_tables.proofs.MakeLemmas.{all_made}
 use Rattle.lrs_store_tables.specs.Holding.{HoldsOnly}
-use Rattle.lrs_store_keeper.specs.Holding.{MayHold}
+use Rattle.lrs_store_tables.specs.Holding.{MayHold}
 use Rattle.lrs_store_keeper.specs.Opening.{IsSecond}
 use Rattle.lrs_store_keeper.proofs.Next.{alone_again}
 use Rattle.lrs_store_keeper.proofs.ReadLemmas.{left_before}
@@ -30,7 +30,7 @@ use Rattle.sqlite.specs.declared.file.Leftover.TheVariants as leftover
 use Rattle.lrs_store_files.specs.declared.files.Untaken.{Untaken}
 use Rattle.lrs_store_files.specs.declared.files.Untaken.TheVariants as untaken
 use Rattle.lrs_store_files.specs.Found.{HasFound, IsLeftOf}
-use Rattle.lrs_store.specs.Opened.{HoldsContent, HasOpened}
+use Rattle.lrs_store_files.specs.Opened.{HoldsContent, HasOpened}
 use Rattle.lrs_store.specs.declared.files.Left.{Left}
 use Rattle.lrs_store.specs.declared.files.Left.TheVariants as left
 use Rattle.lrs_store.specs.Refused.{WasLookedAt, IsHandedOn, HoldsStill, HoldsEachRow, HoldSecond, BecomeSecond}

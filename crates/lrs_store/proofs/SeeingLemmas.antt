@@ -2,7 +2,7 @@
 use Rattle.std.proofs.Common.{ap, subst, ◌∙◌, arith}
 use Rattle.sqlite_trees.specs.Tree.{Trees}
 use Rattle.sqlite_trees.specs.View.{View, IsClean}
-use Rattle.lrs_store.specs.Seeing.{HasSeen}
+use Rattle.lrs_store_files.specs.Seeing.{HasSeen}
 
 module _ {S : Type 0} {view : S → View} {recovers : S → Trees → Type 0} where
   was_clean : {P : Trees → Type 0} {a b : S} → HasSeen view recovers P a b → IsClean (view b) → IsClean (view a)

@@ -12,8 +12,8 @@ use Rattle.lrs_store_tables.specs.Stored.{stored}
 use Rattle.lrs_store_tables.specs.Making.{first_tables, first_rows}
 use Rattle.lrs_store_files.specs.declared.table_list.Known.{Known}
 use Rattle.lrs_store_files.specs.declared.table_list.Known.TheVariants as known
-use Rattle.lrs_store_keeper.specs.declared.rows.StoredRows.{StoredRows}
-use Rattle.lrs_store_keeper.specs.Rows.{tables_of}
+use Rattle.lrs_store_tables.specs.declared.stored_rows.StoredRows.{StoredRows}
+use Rattle.lrs_store_tables.specs.Rows.{tables_of}
 
 -- the catalog lists no table of an inventory, or others too
 abbrev pub ListsOthers : List Row → Type 0

@@ -1,4 +1,2 @@
-pub mod Seeing
 pub mod Judged
-pub mod Opened
 pub mod Refused

@@ -22,11 +22,11 @@ use Rattle.lrs_store_tables.specs.Stored.{stored}
 use Rattle.lrs_store_files.specs.Found.{HasFound, IsLeftOf}
 use Rattle.lrs_store_files.specs.Refusing.{HasGrounds}
 use Rattle.lrs_store.specs.Judged.{IsUnsoundThere, IsSoundThere}
-use Rattle.lrs_store_keeper.specs.Holding.{MayHold}
+use Rattle.lrs_store_tables.specs.Holding.{MayHold}
 use Rattle.lrs_store_keeper.specs.Opening.{HoldsAnImage}
 use Rattle.lrs_store.specs.declared.files.Left.{Left}
 use Rattle.lrs_store.specs.declared.files.Left.TheVariants as left
-use Rattle.lrs_store.specs.Opened.{HasOpened}
+use Rattle.lrs_store_files.specs.Opened.{HasOpened}
 
 -- a store that no connection takes is left, and this is its first unsound table
 abbrev pub IsUnsoundLeft : {D : Type 0} {g : Ghosts D} → Table → Untaken D g → Type 0

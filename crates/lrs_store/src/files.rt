@@ -11,13 +11,14 @@ ghost use Rattle.lrs_store_keeper.specs.Holding.{IsOpenIfClean};
 ghost use Rattle.lrs_store_keeper.specs.Opening.{IsSecond};
 ghost use Rattle.lrs_machine.specs.declared.table.Table.{Table};
 ghost use Rattle.lrs_store_files.specs.Found.{HasFound};
-ghost use Rattle.lrs_store.specs.Opened.{HasOpened};
+ghost use Rattle.lrs_store_files.specs.Opened.{HasOpened};
 ghost use Rattle.lrs_store.specs.Refused.{IsRefusedFor, IsUnsoundLeft, IsSoundLeft, WasLookedAt, IsHandedOn, HoldsUnsound, HoldsNoUnsound, HoldsStill, HoldsEachRow, HoldSecond};
 
 use crate::verdict::judge;
 use lrs_image::LoadFault;
 use lrs_store_files::{CloseFault, Refusal, Untaken, close_tables, open_tables, open_tables_at};
-use lrs_store_keeper::{ReadImage, Tables};
+use lrs_store_keeper::Tables;
+use lrs_store_tables::stored_rows::ReadImage;
 use lrs_store_tables::{StoreFault, TableStore};
 use sqlite::{Connection, FileFrom, FileStore, Files, Leftover, Options, Start};
 use sqlite_disk::Disk;

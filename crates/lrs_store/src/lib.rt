@@ -11,5 +11,6 @@ mod verdict;
 
 pub use files::{Left, NotOpened, close_files, open_file, open_files};
 pub use lrs_store_files::{CloseFault, Untaken};
-pub use lrs_store_keeper::{ReadImage, Tables};
+pub use lrs_store_keeper::Tables;
 pub use lrs_store_tables::StoreFault;
+pub use lrs_store_tables::stored_rows::ReadImage;

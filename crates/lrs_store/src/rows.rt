@@ -2,11 +2,11 @@
 
 ghost use Rattle.std.specs.Prelude.{◌≡◌, IfOk, IfErr};
 ghost use Rattle.lrs_store_tables.specs.Stored.{stored};
-ghost use Rattle.lrs_store_keeper.specs.Rows.{tables_of};
-ghost use Rattle.lrs_store.specs.Seeing.{HasSeen, HasStopped, HasNamed, HasRoutes, HasLedgers};
+ghost use Rattle.lrs_store_tables.specs.Rows.{tables_of};
+ghost use Rattle.lrs_store_files.specs.Seeing.{HasSeen, HasStopped, HasNamed, HasRoutes, HasLedgers};
 
 use crate::trees::read_tree;
-use lrs_store_keeper::rows::{LedgerRows, NamedRows, RouteRows, StoredRows};
+use lrs_store_tables::stored_rows::{LedgerRows, NamedRows, RouteRows, StoredRows};
 use sqlite_trees::error::StoreError;
 use sqlite_trees::store::Store;
 use std::alloc::Global;

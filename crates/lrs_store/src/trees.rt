@@ -3,7 +3,7 @@
 ghost use Rattle.std.specs.Prelude.{◌≡◌, map, IfOk, IfErr};
 ghost use Rattle.sqlite_value.specs.Order.{column};
 ghost use Rattle.lrs_store_tables.specs.Stored.{rows_of};
-ghost use Rattle.lrs_store.specs.Seeing.{HasSeen, HasStopped};
+ghost use Rattle.lrs_store_files.specs.Seeing.{HasSeen, HasStopped};
 
 use sqlite::Row;
 use sqlite_exec::check::all_rows;

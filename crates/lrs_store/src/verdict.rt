@@ -7,15 +7,14 @@ ghost use Rattle.sqlite_trees.specs.Objects.{catalog_tree};
 ghost use Rattle.lrs_machine.specs.declared.table.Table.{Table as DeclaredTable};
 ghost use Rattle.lrs_store_rows.specs.Content.{content_of};
 ghost use Rattle.lrs_store_tables.specs.Making.{first_rows};
-ghost use Rattle.lrs_store_keeper.specs.Rows.{tables_of};
-ghost use Rattle.lrs_store.specs.Seeing.{HasSeen, StopsFor, HasStopped};
+ghost use Rattle.lrs_store_tables.specs.Rows.{tables_of};
+ghost use Rattle.lrs_store_files.specs.Seeing.{HasSeen, StopsFor, HasStopped};
 ghost use Rattle.lrs_store.specs.Judged.{AreFirst, ListsKnown, HasFound, IsUnsoundThere, IsSoundThere};
 
 use crate::rows::read_trees;
 use lrs_image::LoadFault;
 use lrs_store_files::{Known, wanted, which};
-use lrs_store_keeper::ReadImage;
-use lrs_store_keeper::rows::{LedgerRows, NamedRows, RouteRows, StoredRows};
+use lrs_store_tables::stored_rows::{LedgerRows, NamedRows, ReadImage, RouteRows, StoredRows};
 use sqlite::Row;
 use sqlite_catalog::load::load;
 use sqlite_trees::error::StoreError;

@@ -1,6 +1,6 @@
 //! Which changes are entries: they only enter an asset, with one span of it.
 
-ghost use Rattle.std.specs.Prelude.{◌≡◌, None, Some, [], length, IsTrue};
+ghost use Rattle.std.specs.Prelude.{None, Some, IsTrue};
 ghost use Rattle.std.specs.List.{AllByRecursion};
 ghost use Rattle.lrs_store_commit.specs.NewAssets.{IsNewAsset, BringsOneSpan, BringsOneAsset, HasTwoParts};
 

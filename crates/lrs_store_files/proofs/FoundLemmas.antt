@@ -35,6 +35,10 @@ use Rattle.lrs_store_files.specs.declared.files.Untaken.TheVariants as untaken
 use Rattle.lrs_store_files.specs.Opening.{HasNumbers, IsTaken, LeavesFound}
 use Rattle.lrs_store_files.specs.Found.{HasFound, IsLeftOf}
 
+-- what a catalog lists that was read
+pub lists_it : (o : Option Schema) (found : Schema) (catalog : List Row) → o ≡ Some found → MatchOption o ((s : Schema) → Lists catalog s → ⊥) (Lists catalog) → Lists catalog found
+lists_it o found catalog is = subst (λ o. MatchOption o ((s : Schema) → Lists catalog s → ⊥) (Lists catalog)) is
+
 int_of : (v : Value) → is_int v ≡ true → Int (id_in v) ≡ v
 int_of (Int n) h = refl
 int_of v h = absurd cc

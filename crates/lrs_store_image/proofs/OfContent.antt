@@ -12,8 +12,8 @@ use Rattle.lrs_image.specs.declared.keeper.LoadFault.TheVariants.{Memory, Store,
 use Rattle.lrs_store_rows.specs.Tables.{Tables}
 use Rattle.lrs_store_rows.specs.Content.{read, version_of, image_of, has_no_rows, content_of}
 use Rattle.lrs_store_tables.specs.Stored.{version_in, link_in, class_in, asset_in, piece_in, mark_in, ref_in, span_in}
-use Rattle.lrs_store_keeper.specs.declared.rows.NamedRows.{NamedRows}
-use Rattle.lrs_store_keeper.specs.declared.rows.RouteRows.{RouteRows}
+use Rattle.lrs_store_tables.specs.declared.stored_rows.NamedRows.{NamedRows}
+use Rattle.lrs_store_tables.specs.declared.stored_rows.RouteRows.{RouteRows}
 use Rattle.lrs_store_image.specs.Loading.{Reads}
 use Rattle.lrs_store_image.proofs.InSteps.{no_version}
 use Rattle.lrs_store_image.specs.declared.steps.Registers.{Registers}
@@ -22,7 +22,7 @@ use Rattle.lrs_store_image.specs.declared.steps.Begun.TheVariants as begun
 use Rattle.lrs_store_image.specs.declared.steps.Ledgers.{Ledgers}
 use Rattle.lrs_store_image.specs.declared.steps.Held.{Held}
 use Rattle.lrs_store_image.specs.Steps.{LedgerTables, EditTables, tables_with, have_no_first, have_no_ledgers, have_no_edits, content_of_begun, image_of_registers, Begins, WithLedgers}
-use Rattle.lrs_store_keeper.specs.Holding.{Tells}
+use Rattle.lrs_store_tables.specs.Rows.{Tells}
 
 without_rows : (t : Tables) → has_no_rows t ≡ true → content_of t ≡ Ok nothing
 unfolding content_of

@@ -17,8 +17,8 @@ use Rattle.lrs_store_rows.specs.Tables.{Tables, EnteredRow, GoneRow, EditRow, Or
 use Rattle.lrs_store_rows.specs.Decoding.{each_sorted, part_of, gone_of, origin_of}
 use Rattle.lrs_store_rows.specs.Content.{◌>>=◌, read, edits_of, with_edit, origin_before, has_origins, content_of}
 use Rattle.lrs_store_tables.specs.Stored.{version_in, link_in, class_in, asset_in, piece_in, mark_in, ref_in, span_in, edit_in, origin_in}
-use Rattle.lrs_store_keeper.specs.declared.rows.NamedRows.{NamedRows}
-use Rattle.lrs_store_keeper.specs.declared.rows.RouteRows.{RouteRows}
+use Rattle.lrs_store_tables.specs.declared.stored_rows.NamedRows.{NamedRows}
+use Rattle.lrs_store_tables.specs.declared.stored_rows.RouteRows.{RouteRows}
 use Rattle.lrs_store_image.specs.declared.steps.Registers.{Registers}
 use Rattle.lrs_store_image.specs.declared.steps.Begun.{Begun}
 use Rattle.lrs_store_image.specs.declared.steps.Begun.TheVariants as begun

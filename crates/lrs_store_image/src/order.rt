@@ -1,6 +1,6 @@
 //! Rows are sorted by their keys.
 
-ghost use Rattle.std.specs.Prelude.{◌≡◌, IsPermutation};
+ghost use Rattle.std.specs.Prelude.{IsPermutation};
 ghost use Rattle.std.specs.List.Sorted.{IsSortedBy};
 ghost use Rattle.lrs_events.specs.Parts.{part_before};
 ghost use Rattle.lrs_machine.specs.Sound.{link_before, class_before, asset_before, gone_before};

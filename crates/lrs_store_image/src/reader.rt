@@ -1,13 +1,9 @@
 //! The reader of the image that the tables of a store hold.
 
-ghost use Rattle.lrs_store_keeper.specs.Rows.{tables_of};
-ghost use Rattle.lrs_store_keeper.specs.Holding.{Tells};
-
 use crate::steps::{begin, finish, with_ledgers};
 use lrs_image::LoadFault;
 use lrs_machine::Image;
-use lrs_store_keeper::ReadImage;
-use lrs_store_keeper::rows::{LedgerRows, StoredRows};
+use lrs_store_tables::stored_rows::{LedgerRows, ReadImage, StoredRows};
 use std::alloc::Global;
 
 /// Reads the image that the rows of a store hold, each table beside those before it.

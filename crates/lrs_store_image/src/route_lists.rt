@@ -13,7 +13,7 @@ use crate::routes::{courses, measured, routes, spans};
 use lrs_image::LoadFault;
 use lrs_machine::RouteRow;
 use lrs_measure::Rows;
-use lrs_store_keeper::rows::RouteRows;
+use lrs_store_tables::stored_rows::RouteRows;
 use std::alloc::Global;
 
 /// The routes in the order of their names, with their courses, marks, referents and spans. The rows of a table

@@ -4,7 +4,6 @@
 ghost use Rattle.std.specs.Prelude.{◌≡◌, map, true, IfOk, Err};
 ghost use Rattle.lrs_measure.specs.Lists.{each_two};
 ghost use Rattle.lrs_machine.specs.Sound.{asset_before};
-ghost use Rattle.lrs_machine.specs.declared.image.Edit.{Edit as DeclaredEdit};
 ghost use Rattle.lrs_machine.specs.declared.table.Table.{Table as DeclaredTable};
 ghost use Rattle.lrs_store_rows.specs.Content.{image_of};
 ghost use Rattle.lrs_store_tables.specs.Stored.{entered_in, gone_in};
@@ -19,7 +18,7 @@ use lrs_events::{Gone, Part};
 use lrs_image::LoadFault;
 use lrs_machine::{Edit, Image, RouteRow, Table};
 use lrs_measure::Rows;
-use lrs_store_keeper::rows::{NamedRows, RouteRows};
+use lrs_store_tables::stored_rows::{NamedRows, RouteRows};
 use sqlite::Row;
 use std::alloc::{AllocError, Global};
 

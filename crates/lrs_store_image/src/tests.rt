@@ -1,7 +1,7 @@
 //! What the rows of a table say, in whatever order they were read: put in order, and tested beside the tables
 //! before it.
 
-ghost use Rattle.std.specs.Prelude.{◌≡◌, ◌&&◌, Some, true, IfOk};
+ghost use Rattle.std.specs.Prelude.{◌≡◌, ◌&&◌, Some, true};
 ghost use Rattle.std.specs.List.{list_all};
 ghost use Rattle.lrs_measure.specs.Lists.{each_two};
 ghost use Rattle.lrs_events.specs.Parts.{part_before};

@@ -16,7 +16,8 @@ use Rattle.lrs_store_tables.specs.Writing.{AreWritten}
 use Rattle.lrs_store_tables.specs.Resting.{IsReady}
 use Rattle.lrs_store_keeper.specs.Texts.{HaveTexts}
 use Rattle.lrs_store_commit.specs.Undone.{LeavesUndone}
-use Rattle.lrs_store_keeper.specs.Holding.{MayHold, HoldEdits, HasEdits, IsOpenIfClean, IsStillOpen, IsAsBefore}
+use Rattle.lrs_store_tables.specs.Holding.{MayHold}
+use Rattle.lrs_store_keeper.specs.Holding.{HoldEdits, HasEdits, IsOpenIfClean, IsStillOpen, IsAsBefore}
 use Rattle.lrs_store_keeper.specs.Opening.{IsSecond}
 use Rattle.lrs_store_keeper.proofs.Next.{rows_after_all, all_more}
 use Rattle.lrs_store_keeper.proofs.ReadLemmas.{IsSettled, before}

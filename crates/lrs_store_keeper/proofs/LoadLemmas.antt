@@ -9,7 +9,8 @@ use Rattle.lrs_store_rows.specs.Tables.{Tables, AreSame}
 use Rattle.lrs_store_rows.specs.Content.{content_of}
 use Rattle.lrs_store_rows.proofs.Stored.{content_is_of_rows}
 use Rattle.lrs_store_tables.specs.Stored.{stored}
-use Rattle.lrs_store_keeper.specs.Holding.{AreRowsOf, HasEdits, HoldNone, MayHold}
+use Rattle.lrs_store_tables.specs.Holding.{MayHold}
+use Rattle.lrs_store_keeper.specs.Holding.{AreRowsOf, HasEdits, HoldNone}
 use Rattle.lrs_store_keeper.specs.Opening.{IsSecond}
 use Rattle.lrs_store_keeper.proofs.Next.{alone_again}
 

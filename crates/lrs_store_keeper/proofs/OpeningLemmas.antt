@@ -20,8 +20,9 @@ use Rattle.lrs_store_rows.specs.Laws.{brought_up}
 use Rattle.lrs_store_rows.proofs.Stored.{content_is_of_rows}
 use Rattle.lrs_store_tables.specs.Stored.{stored, version_in, IsWriting, OkDoes, LeavesStore}
 use Rattle.lrs_store_tables.specs.Resting.{IsReady}
-use Rattle.lrs_store_keeper.specs.Rows.{HasRead}
-use Rattle.lrs_store_keeper.specs.Holding.{MayHold, Tells}
+use Rattle.lrs_store_tables.specs.Rows.{HasRead}
+use Rattle.lrs_store_tables.specs.Holding.{MayHold}
+use Rattle.lrs_store_tables.specs.Rows.{Tells}
 use Rattle.lrs_store_keeper.specs.Opening.{HoldsImage, IsSecond, IsNotSecond, HasVersions}
 use Rattle.lrs_store_keeper.proofs.Next.{alone_again}
 use Rattle.lrs_store_keeper.proofs.ReadLemmas.{IsSettled, before, left_before}

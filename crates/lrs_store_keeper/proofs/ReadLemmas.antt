@@ -9,7 +9,7 @@ use Rattle.sqlite.specs.declared.error.Error.{Error}
 use Rattle.lrs_store_rows.specs.Tables.{Tables}
 use Rattle.lrs_store_tables.specs.Stored.{stored, IsWriting, HasTables, LeavesStore}
 use Rattle.lrs_store_tables.specs.Resting.{IsReady, IsAtRest}
-use Rattle.lrs_store_keeper.specs.Rows.{HasRead}
+use Rattle.lrs_store_tables.specs.Rows.{HasRead}
 
 -- a transaction that begins is over the tables
 pub begins : {S : Type 0} (g : Ghosts S) (old : Held S) → IsReady (state g old) → HasCleanDisk (state g old) → IsWriting (state g (record old { in_transaction = true }))

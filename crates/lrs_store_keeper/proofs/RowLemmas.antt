@@ -7,7 +7,7 @@ use Rattle.sqlite.specs.State.{State, IsUnchanged}
 use Rattle.sqlite.proofs.Callers.{unchanged_then}
 use Rattle.lrs_store_rows.specs.Tables.{Tables}
 use Rattle.lrs_store_tables.specs.Stored.{stored, IsWriting, HasTables}
-use Rattle.lrs_store_keeper.specs.Rows.{HasRead}
+use Rattle.lrs_store_tables.specs.Rows.{HasRead}
 
 -- where nothing has changed, the connection is still inside the transaction
 pub still : (a b : State) → IsWriting a → IsUnchanged a b → IsWriting b

@@ -9,7 +9,7 @@ use Rattle.lrs_store_rows.specs.Tables.{Tables}
 use Rattle.lrs_store_rows.specs.Content.{content_of}
 use Rattle.lrs_store_rows.proofs.Contents.{content_is_sound}
 use Rattle.lrs_store_tables.specs.Stored.{stored}
-use Rattle.lrs_store_keeper.specs.Holding.{MayHold}
+use Rattle.lrs_store_tables.specs.Holding.{MayHold}
 
 held_sound : (t : Tables) (c : Result Image Table) → content_of t ≡ c → IfOk c IsSound
 held_sound t (Ok image) e = content_is_sound t image e

@@ -1,21 +1,16 @@
--- What an opening of the tables of a store may find, and what a keeper over them knows.
-use Rattle.std.specs.Prelude.{◌≡◌, ◌≢◌, ◌⊎◌, ℕ, pos, Bool, true, false, [], ◌∷◌, length, Result, Ok, Err, IsTrue, ⊤}
+-- What a keeper over the tables of a store knows of them.
+use Rattle.std.specs.Prelude.{◌≡◌, ◌≢◌, ◌⊎◌, ℕ, pos, Bool, true, false, [], ◌∷◌, length, Result, Ok, Err, IsTrue}
 use Rattle.std.proofs.Common.{refl}
 use Rattle.sqlite_trees.specs.Tree.{Trees}
 use Rattle.sqlite.specs.State.{State, HasCleanDisk}
 use Rattle.lrs_machine.specs.declared.image.Image.{Image}
 use Rattle.lrs_machine.specs.declared.table.Table.{Table}
-use Rattle.lrs_image.specs.declared.keeper.LoadFault.{LoadFault}
-use Rattle.lrs_image.specs.declared.keeper.LoadFault.TheVariants.{Memory, Store, Unsound}
 use Rattle.lrs_store_rows.specs.Tables.{Tables}
 use Rattle.lrs_store_rows.specs.Content.{content_of}
 use Rattle.lrs_store_tables.specs.Stored.{stored}
+use Rattle.lrs_store_tables.specs.Holding.{MayHold}
 use Rattle.lrs_store_tables.specs.Resting.{IsReady}
 use Rattle.lrs_store_keeper.specs.Opening.{IsSecond}
-
--- An opening at this moment, after a crash too, may find this: the disk gives back what it was given, and these are the contents of rows that may be left.
-abbrev pub MayHold : State → Result Image Table → Type 0
-MayHold s c = HasCleanDisk s × ((db : Trees) × s.may_leave db × (content_of (stored db) ≡ c))
 
 -- The store finds something: it is open, and its disk is clean.
 pub record IsSafe (s : State) : Type 0 where
@@ -70,10 +65,3 @@ pub record IsUsable (s : State) (in_transaction is_loaded : Bool) (edits : ℕ) 
   pub second : IsSecond s
   pub is_open : is_loaded ≡ true → IsOpenIfClean s
   pub loaded : is_loaded ≡ true → HasEdits edits s
-
--- What an image is read as: what the rows hold, unless memory runs out.
-abbrev pub Tells : Result Image LoadFault → Tables → Type 0
-Tells (Ok image) t = content_of t ≡ Ok image
-Tells (Err Memory) t = ⊤
-Tells (Err Store) t = ⊥
-Tells (Err (Unsound table)) t = content_of t ≡ Err table

@@ -1,14 +1,14 @@
 //! Changes are committed to the tables of a store as its next edits.
 
 ghost use Rattle.std.specs.Prelude.{◌≡◌, ◌+◌, ◌<◌, ◌^◌, ◌⊎◌, length, IfOk, OnOk, Result, Err, false};
-ghost use Rattle.sqlite.specs.State.{HasCleanDisk};
 ghost use Rattle.sqlite.specs.Held.{state};
 ghost use Rattle.lrs_machine.specs.declared.image.Image.{Image};
 ghost use Rattle.lrs_machine.specs.declared.table.Table.{Table};
 ghost use Rattle.lrs_image.specs.Together.{CanMakeAll, IsChangedBy};
 ghost use Rattle.lrs_store_tables.specs.Resting.{IsReady};
 ghost use Rattle.lrs_store_tables.specs.Stored.{LeavesStore};
-ghost use Rattle.lrs_store_keeper.specs.Holding.{MayHold, HasEdits, IsOpenIfClean, IsStillOpen, IsAsBefore};
+ghost use Rattle.lrs_store_tables.specs.Holding.{MayHold};
+ghost use Rattle.lrs_store_keeper.specs.Holding.{HasEdits, IsOpenIfClean, IsStillOpen, IsAsBefore};
 ghost use Rattle.lrs_store_keeper.specs.Opening.{IsSecond};
 
 use crate::image::check_open;

@@ -11,26 +11,18 @@ ghost use Rattle.lrs_store_rows.specs.Tables.{AreSame};
 ghost use Rattle.lrs_store_tables.specs.Stored.{stored, version_in, LeavesStore};
 ghost use Rattle.lrs_store_tables.specs.Resting.{IsReady};
 ghost use Rattle.lrs_store_tables.specs.Failing.{ErrHasReason, HasFailed};
-ghost use Rattle.lrs_store_keeper.specs.Rows.{tables_of};
-ghost use Rattle.lrs_store_keeper.specs.Holding.{AreRowsOf, MayHold, HasEdits, HoldNone, IsOpenIfClean, Tells};
+ghost use Rattle.lrs_store_tables.specs.Rows.{tables_of};
+ghost use Rattle.lrs_store_tables.specs.Holding.{MayHold};
+ghost use Rattle.lrs_store_keeper.specs.Holding.{AreRowsOf, HasEdits, HoldNone, IsOpenIfClean};
 ghost use Rattle.lrs_store_keeper.specs.Opening.{IsSecond};
 
-use crate::rows::{StoredRows, read_rows};
+use crate::rows::read_rows;
 use lrs_image::LoadFault;
 use lrs_machine::{Image, Table};
+use lrs_store_tables::stored_rows::{ReadImage, StoredRows};
 use sqlite::types::ValueRef;
 use sqlite::{Alter, Connection, Error, ErrorCode, Row};
 use std::alloc::Global;
-
-/// Reads the image that the rows of a store hold.
-pub trait ReadImage {
-    /// The image that the rows hold.
-    ///
-    /// # Errors
-    /// `Unsound` with the first unsound table, or `Memory`; never `Store`.
-    fn read(&self, alloc: Global, rows: StoredRows) -> Result<Image, LoadFault>
-        ensures { Tells result (tables_of rows) };
-}
 
 /// The rows of all tables, read in a transaction of its own, which is rolled back.
 pub(crate) fn read_alone<S: Alter>(conn: &mut Connection<S>) -> Result<StoredRows, Error>

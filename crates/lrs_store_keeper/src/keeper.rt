@@ -12,16 +12,18 @@ ghost use Rattle.lrs_image.specs.Keeping.{HasRisen, HoldsOnly, HoldsSound};
 ghost use Rattle.lrs_store_tables.specs.Stored.{LeavesStore};
 ghost use Rattle.lrs_store_tables.specs.Resting.{IsReady};
 ghost use Rattle.lrs_store_tables.specs.Failing.{HasFailed};
-ghost use Rattle.lrs_store_keeper.specs.Holding.{MayHold, IsOpenIfClean, IsSafe};
+ghost use Rattle.lrs_store_tables.specs.Holding.{MayHold};
+ghost use Rattle.lrs_store_keeper.specs.Holding.{IsOpenIfClean, IsSafe};
 ghost use Rattle.lrs_store_keeper.specs.Opening.{IsSecond, HoldsAnImage};
 
 use crate::commit::write_next;
-use crate::image::{ReadImage, Unloaded, load_from};
+use crate::image::{Unloaded, load_from};
 use crate::memory::new_store;
 use crate::migration::make_second;
 use lrs_image::{Batches, Change, CommitFault, LoadFault};
 use lrs_machine::{Image, Table};
 use lrs_store_tables::StoreFault;
+use lrs_store_tables::stored_rows::ReadImage;
 use sqlite::{Alter, Connection, MemStore};
 use std::alloc::Global;
 use std::marker::Model;
@@ -155,7 +157,8 @@ impl<S: Alter, R: ReadImage> Batches for Tables<S, R> {
     ghost use Rattle.sqlite.specs.Held.{state};
     ghost use Rattle.std.specs.Prelude.{IsTrue};
     ghost use Rattle.sqlite.specs.State.{HasCleanDisk};
-    ghost use Rattle.lrs_store_keeper.specs.Holding.{MayHold, finds_left};
+    ghost use Rattle.lrs_store_tables.specs.Holding.{MayHold};
+    ghost use Rattle.lrs_store_keeper.specs.Holding.{finds_left};
 
     ghost may_hold = { λ k c. MayHold (state S.Store k.conn) c };
 

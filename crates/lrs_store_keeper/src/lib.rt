@@ -6,8 +6,7 @@ mod image;
 mod keeper;
 mod memory;
 mod migration;
-pub mod rows;
+mod rows;
 mod texts;
 
-pub use image::ReadImage;
 pub use keeper::Tables;

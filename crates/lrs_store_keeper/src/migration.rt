@@ -1,22 +1,24 @@
 //! A store whose rows are not of version 2 is brought up before a keeper takes it.
 
-ghost use Rattle.std.specs.Prelude.{◌≡◌, ◌⊎◌, ◌↔◌, pos, [], ◌∷◌, map, IfOk, OnOk, IsTrue, false, Result, Err};
+ghost use Rattle.std.specs.Prelude.{◌≡◌, ◌⊎◌, IfOk, OnOk, IsTrue, false, Result, Err};
 ghost use Rattle.sqlite_trees.specs.Tree.{Trees};
 ghost use Rattle.sqlite.specs.State.{HasCleanDisk};
 ghost use Rattle.sqlite.specs.Held.{state};
 ghost use Rattle.lrs_machine.specs.declared.image.Image.{Image as ImageRows};
 ghost use Rattle.lrs_machine.specs.declared.table.Table.{Table as DeclaredTable};
-ghost use Rattle.lrs_store_tables.specs.Stored.{stored, version_in, LeavesStore};
+ghost use Rattle.lrs_store_tables.specs.Stored.{stored, LeavesStore};
 ghost use Rattle.lrs_store_tables.specs.Resting.{IsReady};
 ghost use Rattle.lrs_store_tables.specs.Failing.{ErrHasReason, HasFailed};
-ghost use Rattle.lrs_store_keeper.specs.Holding.{MayHold, IsOpenIfClean};
+ghost use Rattle.lrs_store_tables.specs.Holding.{MayHold};
+ghost use Rattle.lrs_store_keeper.specs.Holding.{IsOpenIfClean};
 ghost use Rattle.lrs_store_keeper.specs.Opening.{HoldsImage, HoldsAnImage, IsSecond, IsNotSecond, HasVersions};
 
-use crate::image::{ReadImage, check_open, is_second, read_alone, read_fault};
+use crate::image::{check_open, is_second, read_alone, read_fault};
 use lrs_image::LoadFault;
 use lrs_machine::Image;
 use lrs_store_commit::bring_up;
 use lrs_store_tables::select::read_versions;
+use lrs_store_tables::stored_rows::ReadImage;
 use sqlite::{Alter, Connection, Error, Row};
 use std::alloc::Global;
 

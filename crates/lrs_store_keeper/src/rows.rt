@@ -1,4 +1,4 @@
-//! All rows of a store, table by table.
+//! All rows of a store, read table by table.
 
 ghost use Rattle.std.specs.Prelude.{◌≡◌, IfOk};
 ghost use Rattle.sqlite.specs.State.{HasCleanDisk};
@@ -6,48 +6,14 @@ ghost use Rattle.sqlite.specs.Held.{state};
 ghost use Rattle.lrs_store_rows.specs.Tables.{AreSame};
 ghost use Rattle.lrs_store_tables.specs.Stored.{IsWriting, LeavesStore};
 ghost use Rattle.lrs_store_tables.specs.Failing.{ErrInsideHasReason};
-ghost use Rattle.lrs_store_keeper.specs.Rows.{HasRead, AreNamed, AreOfRoutes, AreOfLedgers, tables_of};
+ghost use Rattle.lrs_store_tables.specs.Rows.{HasRead, AreNamed, AreOfRoutes, AreOfLedgers, tables_of};
 
 use lrs_store_tables::select::{
     read_assets, read_classes, read_edits, read_entered, read_gone, read_links, read_marks,
     read_origins, read_pieces, read_refs, read_spans, read_versions,
 };
-use sqlite::{Alter, Error, Row, Transaction};
-
-/// Rows of the version, and of what has names and numbers of its own.
-#[derive(Drop)]
-pub struct NamedRows {
-    pub version: Vec<Row>,
-    pub link: Vec<Row>,
-    pub class: Vec<Row>,
-    pub asset: Vec<Row>,
-}
-
-/// Rows of routes.
-#[derive(Drop)]
-pub struct RouteRows {
-    pub piece: Vec<Row>,
-    pub mark: Vec<Row>,
-    pub referent: Vec<Row>,
-    pub span: Vec<Row>,
-}
-
-/// Rows of the ledgers, of edits, and of the edits that entered assets.
-#[derive(Drop)]
-pub struct LedgerRows {
-    pub entered: Vec<Row>,
-    pub gone: Vec<Row>,
-    pub edit: Vec<Row>,
-    pub origin: Vec<Row>,
-}
-
-/// The rows of each table, in whatever order the store gave them.
-#[derive(Drop)]
-pub struct StoredRows {
-    pub named: NamedRows,
-    pub routes: RouteRows,
-    pub ledgers: LedgerRows,
-}
+use lrs_store_tables::stored_rows::{LedgerRows, NamedRows, RouteRows, StoredRows};
+use sqlite::{Alter, Error, Transaction};
 
 /// The rows of links, classes and assets, and of the version.
 fn read_named<S: Alter>(tx: &mut Transaction<'_, S>) -> Result<NamedRows, Error>

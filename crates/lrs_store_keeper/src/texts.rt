@@ -1,9 +1,7 @@
 //! For the prover alone: each text of a change is of its kind, as its type says. No function here changes anything.
 
 ghost use Rattle.std.specs.Prelude.{IsTrue, IfSome};
-ghost use Rattle.std.specs.List.{list_all};
 ghost use Rattle.std.specs.Str.{IsUtf8};
-ghost use Rattle.lrs_position.specs.Names.{is_route_name, is_referent_name};
 ghost use Rattle.lrs_events.specs.Names.{is_class_name, is_value};
 ghost use Rattle.lrs_machine.specs.Keys.{is_key};
 ghost use Rattle.lrs_store_keeper.specs.Texts.{HasTexts, HaveTexts, AreNames, MakesTexts, ChangesTexts};

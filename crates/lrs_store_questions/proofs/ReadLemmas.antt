@@ -13,9 +13,9 @@ use Rattle.lrs_store_rows.specs.Tables.{Tables}
 use Rattle.lrs_store_rows.specs.Content.{content_of}
 use Rattle.lrs_store_rows.proofs.Contents.{content_is_sound}
 use Rattle.lrs_store_tables.specs.Stored.{stored, rows_of, version_in, link_in, class_in, asset_in, piece_in, mark_in, ref_in, span_in, entered_in, gone_in, edit_in, origin_in, entered_places, gone_places, edit_places, origin_places}
-use Rattle.lrs_store_keeper.specs.declared.rows.NamedRows.{NamedRows}
-use Rattle.lrs_store_keeper.specs.declared.rows.RouteRows.{RouteRows}
-use Rattle.lrs_store.specs.Seeing.{HasSeen}
+use Rattle.lrs_store_tables.specs.declared.stored_rows.NamedRows.{NamedRows}
+use Rattle.lrs_store_tables.specs.declared.stored_rows.RouteRows.{RouteRows}
+use Rattle.lrs_store_files.specs.Seeing.{HasSeen}
 use Rattle.lrs_store_image.specs.Loading.{Reads}
 use Rattle.lrs_store_image.specs.declared.steps.Begun.{Begun}
 use Rattle.lrs_store_image.specs.declared.steps.Held.{Held}

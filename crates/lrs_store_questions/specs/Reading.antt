@@ -13,9 +13,9 @@ use Rattle.lrs_image.specs.declared.keeper.LoadFault.TheVariants.{Memory, Store,
 use Rattle.lrs_store_rows.specs.Content.{content_of}
 use Rattle.lrs_store_tables.specs.Schema.{inventory}
 use Rattle.lrs_store_tables.specs.Stored.{stored, rows_of, entered_places, gone_places, edit_places, origin_places}
-use Rattle.lrs_store_keeper.specs.declared.rows.NamedRows.{NamedRows}
-use Rattle.lrs_store_keeper.specs.declared.rows.RouteRows.{RouteRows}
-use Rattle.lrs_store.specs.Seeing.{HasNamed, HasRoutes}
+use Rattle.lrs_store_tables.specs.declared.stored_rows.NamedRows.{NamedRows}
+use Rattle.lrs_store_tables.specs.declared.stored_rows.RouteRows.{RouteRows}
+use Rattle.lrs_store_files.specs.Seeing.{HasNamed, HasRoutes}
 
 -- the trees list the tables of an inventory and no others
 abbrev pub ListInventory : Trees → Type 0

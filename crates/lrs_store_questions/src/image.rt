@@ -5,7 +5,7 @@ ghost use Rattle.sqlite_trees.specs.View.{IsClean};
 ghost use Rattle.lrs_machine.specs.declared.image.Image.{Image as ImageRows};
 ghost use Rattle.lrs_machine.specs.declared.table.Table.{Table as DeclaredTable};
 ghost use Rattle.lrs_machine.specs.Sound.{IsSound};
-ghost use Rattle.lrs_store.specs.Seeing.{HasSeen};
+ghost use Rattle.lrs_store_files.specs.Seeing.{HasSeen};
 ghost use Rattle.lrs_store_questions.specs.Reading.{ListInventory, HasFirst, HasContent, Says, WasLookedAt, HoldsThere, IsTold};
 
 use crate::rows::{read_edits, read_ledgers, read_named, read_routes};
@@ -13,7 +13,7 @@ use lrs_image::LoadFault;
 use lrs_machine::Image;
 use lrs_store_files::{Known, wanted, which};
 use lrs_store_image::{begin, finish, with_ledgers};
-use lrs_store_keeper::rows::{NamedRows, RouteRows};
+use lrs_store_tables::stored_rows::{NamedRows, RouteRows};
 use sqlite_catalog::load::load;
 use sqlite_trees::error::StoreError;
 use sqlite_trees::store::Alter;

@@ -1,6 +1,6 @@
 //! Stores of tables and of indexes alone, without REAL columns, whose keys rise by their bytes.
 
-ghost use Rattle.std.specs.Prelude.{◌≡◌, ◌==◌, map, IfOk, IsTrue, length};
+ghost use Rattle.std.specs.Prelude.{◌≡◌, ◌==◌, map, IfOk, IsTrue};
 ghost use Rattle.sqlite_value.specs.Order.{column};
 ghost use Rattle.std.specs.List.{list_all};
 ghost use Rattle.sqlite_schema.specs.Rules.{table_reals};

@@ -1,11 +1,11 @@
 //! The rows of tables, read from the trees of a store.
 
 ghost use Rattle.std.specs.Prelude.{IfOk};
-ghost use Rattle.lrs_store.specs.Seeing.{HasSeen, HasNamed, HasRoutes};
+ghost use Rattle.lrs_store_files.specs.Seeing.{HasSeen, HasNamed, HasRoutes};
 ghost use Rattle.lrs_store_questions.specs.Reading.{HasLedgers, HasEdits, WasLookedAt};
 
 use crate::trees::read_tree;
-use lrs_store_keeper::rows::{NamedRows, RouteRows};
+use lrs_store_tables::stored_rows::{NamedRows, RouteRows};
 use sqlite::Row;
 use sqlite_trees::error::StoreError;
 use sqlite_trees::store::Store;

@@ -3,7 +3,7 @@
 ghost use Rattle.std.specs.Prelude.{◌≡◌, map, IfOk};
 ghost use Rattle.sqlite_value.specs.Order.{column};
 ghost use Rattle.lrs_store_tables.specs.Stored.{rows_of};
-ghost use Rattle.lrs_store.specs.Seeing.{HasSeen};
+ghost use Rattle.lrs_store_files.specs.Seeing.{HasSeen};
 ghost use Rattle.lrs_store_questions.specs.Reading.{WasLookedAt};
 
 use crate::values::take_values;

@@ -1,6 +1,6 @@
 //! Whether the rows of a route are canonical.
 
-ghost use Rattle.std.specs.Prelude.{◌≡◌, ◌&&◌, true, IsPermutation, IfOk};
+ghost use Rattle.std.specs.Prelude.{◌≡◌, ◌&&◌, true, IsPermutation};
 ghost use Rattle.std.specs.List.{list_all};
 ghost use Rattle.std.specs.List.Sorted.{IsSortedBy};
 ghost use Rattle.std.specs.Option.{option_map};

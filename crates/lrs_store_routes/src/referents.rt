@@ -1,11 +1,11 @@
 //! The referents of routes.
 
-ghost use Rattle.std.specs.Prelude.{◌≡◌, ◌++◌, true, not, nat_lt, map, Ok, Err, IfOk, IsPermutation};
+ghost use Rattle.std.specs.Prelude.{◌≡◌, true, nat_lt, map, Ok, Err, IfOk, IsPermutation};
 ghost use Rattle.std.specs.List.{list_all, flat_map};
 ghost use Rattle.std.specs.List.Sorted.{IsSortedBy};
 ghost use Rattle.std.specs.Option.{option_map};
 ghost use Rattle.lrs_measure.specs.Lists.{each_two};
-ghost use Rattle.lrs_measure.specs.Texts.{same_name, name_before};
+ghost use Rattle.lrs_measure.specs.Texts.{name_before};
 ghost use Rattle.lrs_position.specs.Names.{is_referent_name};
 ghost use Rattle.lrs_position.specs.Routes.{are_referents};
 ghost use Rattle.lrs_machine.specs.declared.table.Table.{Table as DeclaredTable};

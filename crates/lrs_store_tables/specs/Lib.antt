@@ -9,3 +9,4 @@ pub mod Resting
 pub mod Starting
 pub mod Holding
 pub mod Failing
+pub mod Rows

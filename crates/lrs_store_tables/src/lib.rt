@@ -7,6 +7,7 @@ pub mod insert;
 mod new_store;
 pub mod number;
 pub mod select;
+pub mod stored_rows;
 mod tables;
 
 pub use create::{TABLES, make_tables};

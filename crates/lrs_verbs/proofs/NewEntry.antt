@@ -27,7 +27,7 @@ use Rattle.lrs_machine.specs.Entered.{is_asset_number, is_lateral_offset}
 use Rattle.lrs_machine.specs.Sound.{is_asset, are_assets, spans_of, is_part, share_nothing, pairs_of, are_parts, parts_of, is_named_by, are_all_marks, are_all_referents, RouteMarks, RouteReferents}
 use Rattle.lrs_machine.proofs.Members.{In, any_found, any_of, all_at, all_weaker, all_of}
 use Rattle.lrs_machine.proofs.SoundImages.{and_three}
-use Rattle.lrs_ordered.specs.Laws.{numbers_agree}
+use Rattle.lrs_measure.specs.Keyed.{numbers_agree}
 use Rattle.lrs_image.specs.Change.{routes_after}
 use Rattle.lrs_image.proofs.Tables.{passes, routes_in_order}
 use Rattle.lrs_image_laws.specs.Orderly.{is_filled, share_nothing_in_an_edit}

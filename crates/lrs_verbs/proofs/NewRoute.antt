@@ -24,13 +24,13 @@ use Rattle.lrs_image_laws.proofs.Ordering.{sound_is_orderly}
 use Rattle.lrs_inventory.specs.Changes.{route_on, ground_after}
 use Rattle.lrs_inventory.specs.Plans.{TellsGround, IsPlanOf}
 use Rattle.lrs_inventory.specs.NewCourses.{new_course, new_marks}
-use Rattle.lrs_verbs_routes.specs.Checks.{IsEntryOf, route_plan}
+use Rattle.lrs_inventory.specs.NewRoutes.{IsEntryOf, route_plan}
 use Rattle.lrs_inventory.proofs.NamedEntries.{names_exact}
 use Rattle.lrs_inventory.proofs.Filed.{put-insert_by}
 use Rattle.lrs_image_laws.proofs.InOrder.{none_found, is_false, and_weaker, all-insert_by, each_two-insert_by, before-chain, before-comparable, any-insert_by_other, find-insert_by, each_two-insert_among, made-insert_by_none, all_mapped-insert_by, map-insert_by}
 use Rattle.lrs_image_laws.proofs.Apart.{at_is, apart_too}
 use Rattle.lrs_inventory.proofs.NewCourse.{no_place, fails_at, once, on_links, apart_from, IsMade, made_of, marks_of}
-use Rattle.lrs_verbs_routes.proofs.KnownRoutes.{has_name, ties, knows, nothing_taken}
+use Rattle.lrs_inventory.proofs.KnownRoutes.{has_name, ties, knows, nothing_taken}
 use Rattle.lrs_verbs.proofs.Unmoved.{can_differ}
 use Rattle.lrs_inventory.proofs.Grounds.{taken_is}
 

@@ -22,7 +22,7 @@ use Rattle.lrs_inventory.specs.Changes.{route_on, referents_after, IsNewReferent
 use Rattle.lrs_inventory.specs.Plans.{TellsGround, IsPlanOf}
 use Rattle.lrs_verbs.specs.RouteReferents.{change_of_referents, difference_of_referents, plan_of_referents}
 use Rattle.lrs_image_laws.proofs.FromReferents.{other_names, refs_of}
-use Rattle.lrs_verbs_routes.proofs.KeptName.{keeps_name}
+use Rattle.lrs_inventory.proofs.KeptName.{keeps_name}
 use Rattle.lrs_verbs.proofs.InPlace.{DifferAt, found_by_name, in_place, map_same, any_same, all_still, names_stay, ground_stays}
 
 some_is : (a b : RouteRow) → Some a ≡ Some b → a ≡ b

@@ -12,7 +12,7 @@ use Rattle.lrs_image.specs.Change.{routes_after, are_rows_of}
 use Rattle.lrs_image.proofs.Becoming.{has_become}
 use Rattle.lrs_image_laws.specs.Differences.{no_change}
 use Rattle.lrs_inventory.specs.Changes.{route_on}
-use Rattle.lrs_verbs_routes.proofs.KeptName.{keeps_name}
+use Rattle.lrs_inventory.proofs.KeptName.{keeps_name}
 use Rattle.lrs_inventory.specs.Plans.{plan_of, TellsGround}
 use Rattle.lrs_verbs.proofs.InPlace.{DifferAt, made_same, in_place, names_stay, ground_stays}
 

@@ -30,7 +30,7 @@ use Rattle.lrs_verbs.proofs.NewEntry.{IsEntry, IsOpen, is_entry, is_open}
 use Rattle.lrs_verbs.proofs.RowsInPlace as rows
 use Rattle.lrs_verbs.proofs.TakenInPlace.{IsTakenSo, among_at, held_lies}
 use Rattle.lrs_verbs.proofs.TakenInPlace as taken
-use Rattle.lrs_verbs_routes.proofs.Going.{rows_there}
+use Rattle.lrs_inventory.proofs.Going.{rows_there}
 
 -- ---- lists
 

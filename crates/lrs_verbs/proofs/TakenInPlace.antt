@@ -43,7 +43,7 @@ use Rattle.lrs_image_laws.proofs.Holding.{IsAlone, alone, picked_at, rows_held_a
 use Rattle.lrs_verbs.proofs.InPlace.{DifferAt, map_same, made_same, any_same, all_still, in_place}
 use Rattle.lrs_inventory.proofs.Located.{route_in}
 use Rattle.lrs_verbs.proofs.RowsInPlace.{routes_are, can, tells}
-use Rattle.lrs_verbs_routes.proofs.Going.{rows_there}
+use Rattle.lrs_inventory.proofs.Going.{rows_there}
 
 -- ---- places beside a course
 

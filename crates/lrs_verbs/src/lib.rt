@@ -4,4 +4,7 @@
 pub mod laws;
 mod verbs;
 
-pub use verbs::plan_command;
+pub use verbs::{
+    plan_class, plan_enter, plan_link, plan_ref, plan_retire, plan_route, plan_supersede,
+    plan_unref,
+};

@@ -35,7 +35,7 @@ use Rattle.lrs_inventory.specs.Changes.{route_on}
 use Rattle.lrs_verbs_routes.specs.Checks.{joining, join_plan}
 use Rattle.lrs_verbs_routes.specs.Joins.{joined_course, joined_line, CanGoOn, GoesOn}
 use Rattle.lrs_inventory.specs.Plans.{IsPlanOf}
-use Rattle.lrs_verbs_routes.proofs.KeptName.{keeps_name}
+use Rattle.lrs_inventory.proofs.KeptName.{keeps_name}
 use Rattle.lrs_inventory.proofs.Known.{route_value}
 
 -- ---- what the checks say

@@ -1,7 +1,3 @@
-pub mod KnownRoutes
-pub mod KeptName
-pub mod Going
-pub mod Stopping
 pub mod ChangedRoute
 pub mod Rerouted
 pub mod Recalibrated

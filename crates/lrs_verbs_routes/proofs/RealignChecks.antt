@@ -26,7 +26,7 @@ use Rattle.lrs_inventory.specs.NewCourses.{new_course, new_marks}
 use Rattle.lrs_inventory.specs.Plans.{Answers}
 use Rattle.lrs_verbs_routes.specs.Realignments.{check_stretch, short_course, free_course, new_line}
 use Rattle.lrs_inventory.proofs.Known.{route_value}
-use Rattle.lrs_verbs_routes.proofs.Stopping.{refusal}
+use Rattle.lrs_inventory.proofs.Stopping.{refusal}
 
 -- ---- one answer after another
 

@@ -37,16 +37,16 @@ use Rattle.lrs_image_laws.proofs.Replaced.{three_parts, replaced_length}
 use Rattle.lrs_verbs_routes.specs.declared.realign.NewLine.{NewLine}
 use Rattle.lrs_verbs_routes.specs.declared.realign.Realigned.{Realigned}
 use Rattle.lrs_inventory.specs.Changes.{route_on}
-use Rattle.lrs_verbs_routes.proofs.KeptName.{keeps_name}
+use Rattle.lrs_inventory.proofs.KeptName.{keeps_name}
 use Rattle.lrs_inventory.specs.Plans.{IsPlanOf}
 use Rattle.lrs_verbs_routes.specs.Realignments.{check_stretch, new_line, refs_on, referents_moved, realigned_plan, IsOnNewLine}
 use Rattle.lrs_image_laws.proofs.FromReferents.{ground_there}
 use Rattle.lrs_verbs_routes.proofs.MovedReferents as moved
 use Rattle.lrs_inventory.proofs.NewCourse.{no_place, fails_at, once, on_links, apart_from, IsMade, made_of, marks_of, good_line, fits_alone}
-use Rattle.lrs_verbs_routes.proofs.KnownRoutes.{nothing_taken}
+use Rattle.lrs_inventory.proofs.KnownRoutes.{nothing_taken}
 use Rattle.lrs_inventory.proofs.Grounds.{taken_is}
 use Rattle.lrs_verbs_routes.proofs.RealignChecks.{IsLine, line_is, lies, free_is, writes}
-use Rattle.lrs_verbs_routes.proofs.Going.{names_kept}
+use Rattle.lrs_inventory.proofs.Going.{names_kept}
 use Rattle.lrs_image_laws.specs.Splitting.{is_ahead}
 
 module _ (route : Name) (from to : ℕ) (given : Option (List Piece)) (marks : List Mark) (i : Image) (r : RouteRow) (l : NewLine) (h : Realigned) (s : IsSound i) (found : find (is_named route) i.routes ≡ Some r)

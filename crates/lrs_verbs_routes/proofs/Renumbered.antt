@@ -20,7 +20,7 @@ use Rattle.lrs_verbs_routes.specs.Checks.{renumbered}
 use Rattle.lrs_inventory.specs.Plans.{IsPlanOf}
 use Rattle.lrs_verbs_routes.proofs.ChangedRoute.{new, at, own_name, image_is, differs_so}
 use Rattle.lrs_inventory.proofs.Known.{route_value}
-use Rattle.lrs_verbs_routes.proofs.KnownRoutes.{knows}
+use Rattle.lrs_inventory.proofs.KnownRoutes.{knows}
 use Rattle.lrs_verbs_routes.proofs.Rerouted.{relabelled, after, same, new_name, new_marks_are, can_become}
 
 -- ---- what the verb does

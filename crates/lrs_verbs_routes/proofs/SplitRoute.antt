@@ -30,13 +30,13 @@ use Rattle.lrs_image_laws.proofs.Running.{runs_there}
 use Rattle.lrs_image_laws.proofs.Splitting.{split_makes, moves, front_order, same_state}
 use Rattle.lrs_verbs_routes.specs.declared.split.Halves.{Halves}
 use Rattle.lrs_inventory.specs.Changes.{route_on}
-use Rattle.lrs_verbs_routes.proofs.KeptName.{keeps_name}
+use Rattle.lrs_inventory.proofs.KeptName.{keeps_name}
 use Rattle.lrs_inventory.specs.Plans.{IsPlanOf}
 use Rattle.lrs_verbs_routes.specs.Checks.{split_plan}
 use Rattle.lrs_verbs_routes.specs.Splits.{is_inside, refs_behind, IsHalved}
 use Rattle.lrs_inventory.proofs.Known.{route_value}
-use Rattle.lrs_verbs_routes.proofs.KnownRoutes.{knows}
-use Rattle.lrs_verbs_routes.proofs.Going.{names_kept}
+use Rattle.lrs_inventory.proofs.KnownRoutes.{knows}
+use Rattle.lrs_inventory.proofs.Going.{names_kept}
 
 -- ---- what the verb does
 

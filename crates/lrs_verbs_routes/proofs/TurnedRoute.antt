@@ -27,12 +27,12 @@ use Rattle.lrs_image_laws.proofs.Naming.{found_in}
 use Rattle.lrs_image_laws.proofs.Rewriting.{old_spans}
 use Rattle.lrs_image_laws.proofs.Turning.{alike, turn_makes, turned_is_route, turned_has_rows}
 use Rattle.lrs_machine.proofs.Pairs.{each_two-map}
-use Rattle.lrs_verbs_routes.proofs.KeptName.{keeps_name}
+use Rattle.lrs_inventory.proofs.KeptName.{keeps_name}
 use Rattle.lrs_inventory.specs.Plans.{plan_of, IsPlanOf}
 use Rattle.lrs_verbs_routes.specs.Turns.{IsTurnedBy}
 use Rattle.lrs_verbs_routes.proofs.ChangedRoute.{after, new, at, plans_alike}
 use Rattle.lrs_inventory.proofs.Known.{route_value}
-use Rattle.lrs_verbs_routes.proofs.Going.{names_there}
+use Rattle.lrs_inventory.proofs.Going.{names_there}
 
 -- ---- what the verb does
 

@@ -1,30 +1,18 @@
 -- The plans that verbs of routes make of the courses and marks that passed their checks.
-use Rattle.std.specs.Prelude.{◌≡◌, List, [], Some, None}
-use Rattle.lrs_inventory.specs.Prelude.{Name, Piece, Ground, Mark, RouteRow, RouteChange, RouteKeys, Difference, no_difference, rerouting}
+use Rattle.std.specs.Prelude.{List, [], Some, None}
+use Rattle.lrs_inventory.specs.Prelude.{Name, Piece, Mark, RouteChange, RouteKeys, Difference, rerouting}
 use Rattle.lrs_image_laws.specs.Differences.{no_change}
 use Rattle.lrs_inventory.specs.declared.plan.Plan.{Plan}
 use Rattle.lrs_verbs_routes.specs.declared.split.Halves.{Halves}
 use Rattle.lrs_inventory.specs.Plans.{plan_of}
-
--- a route of this name, ground and measure line, on which nothing lies
-pub record IsEntryOf (route : Name) (ground : List Ground) (line : List Mark) (e : RouteRow) : Type 0 where
-  pub name : e.route.name ≡ route
-  pub course : e.route.course ≡ ground
-  pub marks : e.route.marks ≡ line
-  pub refs : e.route.refs ≡ []
-  pub spans : e.spans ≡ []
-
--- the plan by which this route comes, over these pieces
-abbrev pub route_plan : Name → RouteRow → List Piece → Plan
-route_plan name e pieces = record (plan_of (record no_difference { made = Some e })) { ground = Some (record { route = name; gone = []; passed = []; come = pieces }) }
 
 -- the plan by which a route gets these marks
 abbrev pub recalibrated : Name → List Mark → Plan
 recalibrated route marks = plan_of (rerouting (Some (record (no_change route) { marks = Some marks })) None None)
 
 -- the plan by which a route gets this name with what lies on it, and its ground, these pieces, passes to it
-abbrev pub renumbered : Name → Name → RouteKeys → List Piece → Plan
-renumbered route name keys passed = record (plan_of (rerouting (Some (record (no_change route) { name = name; keys = keys })) None None)) { ground = Some (record { route = name; gone = []; passed = passed; come = [] }) }
+abbrev pub renumbered : Name → Name → RouteKeys → (ground : List Piece) → Plan
+renumbered route name keys ground = record (plan_of (rerouting (Some (record (no_change route) { name = name; keys = keys })) None None)) { ground = Some (record { route = name; gone = []; passed = ground; come = [] }) }
 
 -- the plan by which a route becomes two, and the ground of its rear, these pieces, passes to the new one
 abbrev pub split_plan : Name → Halves → List Piece → Plan

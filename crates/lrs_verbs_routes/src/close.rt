@@ -5,12 +5,12 @@ ghost use Rattle.lrs_machine.specs.declared.command.Command.TheVariants as verb;
 ghost use Rattle.lrs_verbs_routes.specs.Closings.{closing};
 ghost use Rattle.lrs_inventory.specs.Plans.{Plans};
 
-use crate::checks::route_named;
-use crate::route_changes::{keys_on, names_of, pieces_of};
 use lrs_element::Piece;
 use lrs_events::Gone;
 use lrs_image::RouteKeys;
 use lrs_image_laws::taken_away;
+use lrs_inventory::checks::route_named;
+use lrs_inventory::route_changes::{keys_on, names_of, pieces_of};
 use lrs_inventory::{GroundChange, Inventory, Plan, Stop};
 use lrs_measure::Rows;
 use lrs_position::{RefName, RouteName};

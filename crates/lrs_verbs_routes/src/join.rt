@@ -10,10 +10,10 @@ ghost use Rattle.lrs_verbs_routes.specs.Checks.{join_plan};
 ghost use Rattle.lrs_verbs_routes.specs.Joins.{joined_course, joined_line, CanGoOn, GoesOn};
 ghost use Rattle.lrs_inventory.specs.Plans.{Answers, Plans};
 
-use crate::checks::route_named;
-use crate::route_changes::{changed, keys_on, pieces_of, rerouted};
 use lrs_element::{Course, JoinFault, Marks, Piece};
 use lrs_image::{ReferentChange, RouteChange, RouteKeys};
+use lrs_inventory::checks::route_named;
+use lrs_inventory::route_changes::{changed, keys_on, pieces_of, rerouted};
 use lrs_inventory::{GroundChange, Inventory, Plan, Stop, refuse_if};
 use lrs_machine::{Cause, RouteRow};
 use lrs_measure::Rows;

@@ -2,13 +2,11 @@
 //! what it changes.
 #![tactic(auto)]
 
-pub mod checks;
 mod close;
 mod join;
 mod realign;
 mod recalibrate;
 mod renumber;
-pub mod route_changes;
 mod split;
 mod turn;
 

@@ -5,9 +5,9 @@ ghost use Rattle.lrs_machine.specs.declared.command.Command.TheVariants as verb;
 ghost use Rattle.lrs_verbs_routes.specs.Checks.{recalibrated};
 ghost use Rattle.lrs_inventory.specs.Plans.{Plans};
 
-use crate::checks::{new_marks, route_named};
-use crate::route_changes::{no_change, rerouted};
 use lrs_element::{Mark, Marks};
+use lrs_inventory::checks::{new_marks, route_named};
+use lrs_inventory::route_changes::{no_change, rerouted};
 use lrs_inventory::{Inventory, Plan, Stop};
 use lrs_position::RouteName;
 use std::alloc::Global;

@@ -5,10 +5,10 @@ ghost use Rattle.lrs_machine.specs.declared.command.Command.TheVariants as verb;
 ghost use Rattle.lrs_verbs_routes.specs.Checks.{renumbered};
 ghost use Rattle.lrs_inventory.specs.Plans.{Plans};
 
-use crate::checks::route_named;
-use crate::route_changes::{keys_on, no_change, pieces_of, rerouted};
 use lrs_element::Piece;
 use lrs_image::RouteKeys;
+use lrs_inventory::checks::route_named;
+use lrs_inventory::route_changes::{keys_on, no_change, pieces_of, rerouted};
 use lrs_inventory::{GroundChange, Inventory, Plan, Stop, refuse_if};
 use lrs_machine::Cause;
 use lrs_measure::Rows;

@@ -12,13 +12,13 @@ ghost use Rattle.lrs_verbs_routes.specs.Checks.{split_plan};
 ghost use Rattle.lrs_verbs_routes.specs.Splits.{is_inside, refs_behind, IsHalved};
 ghost use Rattle.lrs_inventory.specs.Plans.{Plans};
 
-use crate::checks::route_named;
-use crate::route_changes::{changed, pieces_of, rerouted};
 use lrs_element::{Course, Mark, Marks, Piece};
 use lrs_events::SpanChange;
 use lrs_events_rows::cuts::Cut;
 use lrs_events_spans::Spans;
 use lrs_image::{ReferentChange, RouteChange};
+use lrs_inventory::checks::route_named;
+use lrs_inventory::route_changes::{changed, pieces_of, rerouted};
 use lrs_inventory::{GroundChange, Inventory, Plan, Stop, refuse_if};
 use lrs_machine::{Cause, RouteRow};
 use lrs_measure::Rows;

@@ -9,13 +9,13 @@ ghost use Rattle.lrs_image_laws.specs.Turning.{from_end};
 ghost use Rattle.lrs_verbs_routes.specs.Turns.{IsTurnedBy};
 ghost use Rattle.lrs_inventory.specs.Plans.{Plans};
 
-use crate::checks::route_named;
-use crate::route_changes::{changed, names_of, rerouted};
 use lrs_events::SpanChange;
 use lrs_events_rows::change::difference;
 use lrs_events_rows::turns::turned;
 use lrs_events_spans::Spans;
 use lrs_image::{ReferentChange, RouteChange};
+use lrs_inventory::checks::route_named;
+use lrs_inventory::route_changes::{changed, names_of, rerouted};
 use lrs_inventory::{Inventory, Plan, Stop};
 use lrs_machine::RouteRow;
 use lrs_measure::Rows;

@@ -4,7 +4,7 @@ use Rattle.lrs_machine.specs.State.{State}
 use Rattle.lrs_machine.specs.declared.answer.Limits.{Limits}
 use Rattle.lrs_machine.specs.declared.image.Image.{Image}
 use Rattle.lrs_machine.specs.declared.table.Table.{Table}
-use Rattle.lrs_sheet.specs.declared.fault.SheetFault.{SheetFault}
+use Rattle.lrs_sheet_records.specs.declared.fault.SheetFault.{SheetFault}
 use Rattle.lrs_sheet.specs.declared.reply.Tally.{Tally}
 use Rattle.lrs_sheet.specs.Resuming.{BreaksOffResumed, Resumes}
 use Rattle.lrs_sheet.specs.Sheets.{BreaksOff, Runs}

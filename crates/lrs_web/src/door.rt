@@ -1,8 +1,7 @@
 //! Connections are served one after another.
 
-ghost use Rattle.std.specs.Prelude.{ℕ, ◌≡◌, ◌+◌, IfOk, IfErr, IsOkAnd, OnErr, IsTrue};
+ghost use Rattle.std.specs.Prelude.{ℕ, ◌≡◌, ◌+◌, IfOk, IsOkAnd, OnErr, IsTrue};
 ghost use Rattle.lrs_web_requests.specs.Routes.{rows};
-ghost use Rattle.lrs_web_requests.specs.Request.{Asked};
 ghost use Rattle.lrs_web.specs.Door.{HasRisen};
 ghost use Rattle.lrs_web.specs.Visits.{IsCut, IsFull, Visited};
 

@@ -1,7 +1,7 @@
 //! Sheets of questions are answered at a desk.
 
-ghost use Rattle.std.specs.Prelude.{◌≡◌, ◌⊎◌, false, true};
-ghost use Rattle.lrs_web_requests.specs.Text.{answer_of, empty_answer};
+ghost use Rattle.std.specs.Prelude.{◌≡◌, false};
+ghost use Rattle.lrs_web_requests.specs.Text.{answer_of};
 ghost use Rattle.lrs_web.specs.Questions.{AnswersQuestions, RepliesToQuestions};
 
 use crate::sheet::reply_after;

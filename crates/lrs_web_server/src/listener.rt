@@ -1,7 +1,5 @@
 //! A door over a port.
 
-ghost use Rattle.std.specs.Prelude.{◌≡◌};
-
 use crate::connection::{ReplyWriter, RequestReader};
 use crate::hall::Hall;
 use lrs_web::{Door, DoorFault};

@@ -7,7 +7,7 @@ ghost use Rattle.lrs_whereabouts.specs.Places.{place_along, place_of, place_on_l
 use crate::fault::WhereFault;
 use crate::ground::place_over;
 use crate::spot::Spot;
-use lrs_element::{KnownLinks, Link};
+use lrs_element::Link;
 use lrs_inventory::Inventory;
 use lrs_machine::RouteRow;
 use lrs_position::RouteName;
@@ -39,7 +39,7 @@ fn place_on_route<'a>(
 fn link_of(inventory: &Inventory, number: u32) -> Option<Link>
     ensures { result ≡ find (λ link. nat_eq link.number number) inventory.now.links }
 {
-    inventory.kept().links.link(number)
+    inventory.kept().links.find(&number).copied()
 }
 
 /// The route that runs over a millimetre of a known link, and its chainage there.

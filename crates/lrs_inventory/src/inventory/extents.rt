@@ -1,6 +1,6 @@
 //! Where positions are on a route of an inventory, and what lies there.
 
-ghost use Rattle.std.specs.Prelude.{◌≡◌, ◌<◌, ◌≤◌, nat_le, length, IfOk};
+ghost use Rattle.std.specs.Prelude.{◌≡◌, ◌<◌, ◌≤◌, length, IfOk};
 ghost use Rattle.lrs_inventory.specs.Prelude.{alignment_of, places_on, state_of, extent_of, part_of};
 ghost use Rattle.lrs_measure.specs.Fraction.{IsLowest};
 ghost use Rattle.lrs_position.specs.Translating.{IsOnRoute};

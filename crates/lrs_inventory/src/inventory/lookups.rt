@@ -12,6 +12,7 @@ ghost use Rattle.lrs_inventory.specs.NewCourses.{new_course};
 ghost use Rattle.lrs_inventory.specs.Plans.{Answers};
 
 use crate::inventory::Inventory;
+use crate::link_rows::LinkRows;
 use crate::plan::Stop;
 use lrs_element::{Course, CourseFault, Piece};
 use lrs_events::{Asset, ClassName, Kind};
@@ -123,7 +124,10 @@ impl Inventory {
     pub fn course(&self, alloc: Global, pieces: &[Piece]) -> Result<Course, Stop>
         ensures { Answers (new_course (state_of self.now) pieces.now) result }
     {
-        match Course::new(alloc, pieces, &self.kept.links) {
+        let links = LinkRows {
+            rows: &self.kept.links,
+        };
+        match Course::new(alloc, pieces, &links) {
             Ok(course) => Ok(course),
             Err(CourseFault::NoLink(_)) => Err(Stop::Refused(Cause::NoLink)),
             Err(CourseFault::BadPiece(i)) => Err(Stop::Refused(Cause::BadPiece(i as u64))),

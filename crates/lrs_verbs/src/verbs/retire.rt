@@ -11,12 +11,12 @@ use crate::verbs::location::is_wrong_kind;
 use lrs_events::{Asset, Kind, Span};
 use lrs_events_rows::removals::Removal;
 use lrs_image_laws::taken_away;
+use lrs_inventory::checks::route_named;
+use lrs_inventory::route_changes::no_change;
 use lrs_inventory::{Inventory, Plan, RouteStretch, Stop, refuse_if};
 use lrs_machine::{AssetNumber, Cause, RouteRow};
 use lrs_measure::Rows;
 use lrs_position::{EventLocation, RouteName};
-use lrs_verbs_routes::checks::route_named;
-use lrs_verbs_routes::route_changes::no_change;
 use std::alloc::{AllocError, Global};
 
 pub fn plan_retire(

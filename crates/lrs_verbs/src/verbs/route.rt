@@ -3,17 +3,17 @@
 ghost use Rattle.std.specs.Prelude.{◌≡◌, None, length};
 ghost use Rattle.lrs_element.specs.Marks.{bad_mark};
 ghost use Rattle.lrs_machine.specs.declared.command.Command.TheVariants as verb;
-ghost use Rattle.lrs_verbs_routes.specs.Checks.{IsEntryOf, route_plan};
+ghost use Rattle.lrs_inventory.specs.NewRoutes.{IsEntryOf, route_plan};
 ghost use Rattle.lrs_inventory.specs.Plans.{Plans};
 
 use lrs_element::{Course, Mark, Marks, Piece};
 use lrs_events_spans::Spans;
+use lrs_inventory::checks::{check_free, new_marks};
+use lrs_inventory::route_changes::pieces_of;
 use lrs_inventory::{GroundChange, Inventory, Plan, Stop, refuse_if};
 use lrs_machine::{Cause, RouteRow};
 use lrs_measure::Rows;
 use lrs_position::{Route, RouteName};
-use lrs_verbs_routes::checks::{check_free, new_marks};
-use lrs_verbs_routes::route_changes::pieces_of;
 use std::alloc::Global;
 
 pub fn plan_route(

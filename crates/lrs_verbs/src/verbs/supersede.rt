@@ -16,11 +16,11 @@ use lrs_events::{Kind, Span, SpanChange};
 use lrs_events_rows::removals::Removal;
 use lrs_image::RouteChange;
 use lrs_image_laws::taken_away;
+use lrs_inventory::route_changes::no_change;
 use lrs_inventory::{Inventory, Plan, RouteStretch, Stop};
 use lrs_machine::{NewAsset, RouteRow};
 use lrs_measure::Rows;
 use lrs_position::RouteName;
-use lrs_verbs_routes::route_changes::no_change;
 use std::alloc::{AllocError, Global};
 
 pub fn plan_supersede(alloc: Global, inventory: &Inventory, asked: &NewAsset) -> Result<Plan, Stop>

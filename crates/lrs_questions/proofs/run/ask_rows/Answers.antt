@@ -2,7 +2,7 @@ use Rattle.std.proofs.Common.{rules, arith}
 use Rattle.csv.specs.Records.{fields_of}
 use Rattle.lrs_questions.proofs.Answered.{all-answered, more-answered, start-answered, stop-ask, stop-read}
 use Rattle.lrs_questions.proofs.run.ask_rows.Goals as goal
-use Rattle.lrs_sheet.specs.declared.fault.SheetFault.TheVariants as fault
+use Rattle.lrs_sheet_records.specs.declared.fault.SheetFault.TheVariants as fault
 
 pub loop-turn-init : goal.loop-turn-init
 loop-turn-init g c = start-answered c.args.desk.now.image g.R.Read.remaining c.args.rows.now (g.W.Write.contents c.args.writer.now) c.default-tally.result c.requires.plain c.requires.wide (search rules)

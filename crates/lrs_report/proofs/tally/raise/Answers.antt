@@ -3,7 +3,7 @@ use Rattle.std.specs.Ordering.{is_eq, is_ge}
 use Rattle.std.proofs.lemmas.List.{get_or_default}
 use Rattle.lrs_measure.specs.Ordered.{place_by}
 use Rattle.lrs_machine.specs.declared.total.Total.{Total}
-use Rattle.lrs_ordered.specs.Laws.{name_after}
+use Rattle.lrs_measure.specs.Keyed.{name_after}
 use Rattle.lrs_report.specs.Tally.{are_by_class, class_order, raised, total_before}
 use Rattle.lrs_report.proofs.Keyed.{changed, unchanged, missed, beyond}
 use Rattle.lrs_report.proofs.Tallied.{order_stays}

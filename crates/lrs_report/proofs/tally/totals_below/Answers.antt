@@ -3,7 +3,7 @@ use Rattle.std.specs.Prelude.{not}
 use Rattle.std.specs.Ordering.{is_ge}
 use Rattle.std.proofs.lemmas.List.Sorted.{IsPartitionPoint-from_clause}
 use Rattle.lrs_machine.specs.declared.total.Total.{Total}
-use Rattle.lrs_ordered.specs.Laws.{name_after}
+use Rattle.lrs_measure.specs.Keyed.{name_after}
 use Rattle.lrs_ordered.proofs.Places.{parted, placed}
 use Rattle.lrs_report.specs.Tally.{class_order, total_before}
 use Rattle.lrs_report.proofs.Keyed.{below_first}

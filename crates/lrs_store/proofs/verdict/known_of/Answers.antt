@@ -1,5 +1,6 @@
 use Rattle.sqlite_trees.specs.Objects.{catalog_tree}
-use Rattle.lrs_store.proofs.JudgedLemmas.{lists_it, lists_known, lists_others}
+use Rattle.lrs_store_files.proofs.FoundLemmas.{lists_it}
+use Rattle.lrs_store.proofs.JudgedLemmas.{lists_known, lists_others}
 use Rattle.lrs_store.proofs.verdict.known_of.Goals as goal
 
 pub returns-in_default-clause-known : goal.returns-in_default-clause-known

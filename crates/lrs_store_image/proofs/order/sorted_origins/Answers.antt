@@ -1,7 +1,7 @@
 use Rattle.std.proofs.Common.{◌≡◌, ◌∙◌, sym, ap, is_lt, rules}
 use Rattle.std.specs.Ordering.{nat_cmp}
 use Rattle.std.proofs.lemmas.List.Sorted.{answers_always}
-use Rattle.lrs_ordered.specs.Laws.{numbers_agree}
+use Rattle.lrs_measure.specs.Keyed.{numbers_agree}
 use Rattle.lrs_store_rows.specs.Content.{origin_before}
 use Rattle.lrs_store_rows.proofs.Orders.{origins_rank}
 use Rattle.lrs_store_image.proofs.order.sorted_origins.Goals as goal

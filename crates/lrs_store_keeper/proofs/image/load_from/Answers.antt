@@ -1,7 +1,7 @@
 use Rattle.std.proofs.Common.{Err, ap}
 use Rattle.sqlite.specs.Held.{state}
 use Rattle.lrs_store_rows.proofs.Contents.{content_is_sound}
-use Rattle.lrs_store_keeper.specs.Rows.{tables_of}
+use Rattle.lrs_store_tables.specs.Rows.{tables_of}
 use Rattle.lrs_store_keeper.proofs.LoadLemmas.{loaded_edits, loaded_image, loaded_none}
 use Rattle.lrs_store_keeper.proofs.OpeningLemmas.{second_still}
 use Rattle.lrs_store_keeper.proofs.image.load_from.Goals as goal

@@ -1,7 +1,7 @@
 use Rattle.std.proofs.Common.{rules}
 use Rattle.sqlite.specs.Held.{state}
 use Rattle.lrs_store_rows.specs.Tables.{AreSame}
-use Rattle.lrs_store_keeper.specs.Rows.{tables_of}
+use Rattle.lrs_store_tables.specs.Rows.{tables_of}
 use Rattle.lrs_store_keeper.proofs.ReadLemmas.{told_if, rests_if}
 use Rattle.lrs_store_keeper.proofs.FailedLemmas.{fails_alone}
 use Rattle.lrs_store_keeper.proofs.image.read_alone.Goals as goal

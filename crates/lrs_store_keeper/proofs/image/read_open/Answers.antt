@@ -1,7 +1,7 @@
 use Rattle.sqlite.specs.Held.{state}
 use Rattle.lrs_store_rows.specs.Tables.{AreSame}
 use Rattle.lrs_store_tables.specs.Stored.{stored}
-use Rattle.lrs_store_keeper.specs.Rows.{tables_of}
+use Rattle.lrs_store_tables.specs.Rows.{tables_of}
 use Rattle.lrs_store_keeper.proofs.ReadLemmas.{left_before}
 use Rattle.lrs_store_tables.proofs.FailLemmas.{reason_after}
 use Rattle.lrs_store_tables.specs.Failing.{HasReason}

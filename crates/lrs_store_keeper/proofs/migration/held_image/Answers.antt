@@ -1,7 +1,7 @@
 use Rattle.std.proofs.Common.{subst}
 use Rattle.sqlite.specs.Held.{state}
-use Rattle.lrs_store_keeper.specs.Holding.{Tells}
-use Rattle.lrs_store_keeper.specs.Rows.{tables_of}
+use Rattle.lrs_store_tables.specs.Rows.{Tells}
+use Rattle.lrs_store_tables.specs.Rows.{tables_of}
 use Rattle.lrs_store_keeper.proofs.OpeningLemmas.{told_image, told_unsound}
 use Rattle.lrs_store_keeper.proofs.migration.held_image.Goals as goal
 

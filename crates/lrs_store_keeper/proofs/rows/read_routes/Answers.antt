@@ -4,7 +4,7 @@ use Rattle.sqlite.specs.Held.{state}
 use Rattle.lrs_store_rows.specs.Tables.{Tables}
 use Rattle.lrs_store_tables.specs.Stored.{piece_in, mark_in, ref_in, span_in}
 use Rattle.lrs_store_tables.specs.Failing.{HasReason}
-use Rattle.lrs_store_keeper.specs.Rows.{HasRead}
+use Rattle.lrs_store_tables.specs.Rows.{HasRead}
 use Rattle.lrs_store_keeper.proofs.RowLemmas.{reads_then, still, none_read, err_told}
 use Rattle.lrs_store_keeper.proofs.OpeningLemmas.{leaves_then}
 use Rattle.lrs_store_keeper.proofs.FailedLemmas.{fails_after}

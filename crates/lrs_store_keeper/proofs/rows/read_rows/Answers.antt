@@ -2,7 +2,7 @@ use Rattle.std.proofs.Common.{arith, ◌∙◌}
 use Rattle.sqlite.specs.State.{HasCleanDisk}
 use Rattle.sqlite.specs.Held.{state}
 use Rattle.lrs_store_tables.specs.Failing.{HasReason}
-use Rattle.lrs_store_keeper.specs.Rows.{AreNamed, AreOfRoutes, AreOfLedgers}
+use Rattle.lrs_store_tables.specs.Rows.{AreNamed, AreOfRoutes, AreOfLedgers}
 use Rattle.lrs_store_keeper.proofs.RowLemmas.{reads_then, still, none_read, err_told}
 use Rattle.lrs_store_keeper.proofs.OpeningLemmas.{leaves_then}
 use Rattle.lrs_store_keeper.proofs.FailedLemmas.{fails_after}

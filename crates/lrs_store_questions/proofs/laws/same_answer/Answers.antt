@@ -12,8 +12,8 @@ use Rattle.lrs_store_rows.specs.Content.{content_of}
 use Rattle.lrs_store_tables.specs.Schema.{inventory}
 use Rattle.lrs_store_tables.specs.Stored.{stored}
 use Rattle.lrs_store_tables.proofs.MakeLemmas.{all_made}
-use Rattle.lrs_store_keeper.specs.Holding.{MayHold}
-use Rattle.lrs_store.specs.Opened.{HasOpened}
+use Rattle.lrs_store_tables.specs.Holding.{MayHold}
+use Rattle.lrs_store_files.specs.Opened.{HasOpened}
 use Rattle.lrs_store_questions.specs.Asked.{HasRead}
 use Rattle.lrs_store_questions.proofs.laws.same_answer.Goals as goal
 

@@ -5,7 +5,7 @@ use Rattle.lrs_inventory.specs.Prelude.{each_two, longest_route, Referent, Span,
 use Rattle.lrs_events.specs.Changes.{changed_rows}
 use Rattle.lrs_events_rows.specs.Joins.{IsJoin}
 use Rattle.lrs_image_laws.specs.Joining.{on_by}
-use Rattle.lrs_verbs_routes.proofs.Going.{plan_there, rows_by}
+use Rattle.lrs_inventory.proofs.Going.{plan_there, rows_by}
 use Rattle.lrs_verbs_routes.proofs.JoinRoutes.{refs_have_room}
 use Rattle.lrs_verbs_routes.proofs.join.lengthened.Goals as goal
 

@@ -7,7 +7,7 @@ use Rattle.lrs_inventory.specs.declared.plan.Plan.{Plan}
 use Rattle.lrs_inventory.specs.declared.plan.Stop.{Stop}
 use Rattle.lrs_verbs_routes.specs.Joins.{joined_course, joined_line}
 use Rattle.lrs_inventory.specs.Plans.{IsPlanOf, Plans}
-use Rattle.lrs_verbs_routes.proofs.Stopping.{refused, passed, stopped}
+use Rattle.lrs_inventory.proofs.Stopping.{refused, passed, stopped}
 use Rattle.lrs_verbs_routes.proofs.JoinRoutes.{course_is, line_is, room_for, can_go_on, refuses_first, refuses_second, refuses_same, refuses_course, refuses_marks, makes_one}
 use Rattle.lrs_verbs_routes.proofs.join.plan_join.Goals as goal
 

@@ -11,7 +11,7 @@ use Rattle.lrs_inventory.specs.Plans.{IsPlanOf, Plans}
 use Rattle.lrs_verbs_routes.specs.Realignments.{check_stretch, new_line, IsOnNewLine}
 use Rattle.lrs_verbs_routes.proofs.RealignChecks.{refuses_route, refuses_stretch, refuses_line, line_is, end_there}
 use Rattle.lrs_verbs_routes.proofs.RealignRoute.{realigns}
-use Rattle.lrs_verbs_routes.proofs.Stopping.{stopped}
+use Rattle.lrs_inventory.proofs.Stopping.{stopped}
 use Rattle.lrs_verbs_routes.proofs.realign.plan_realign.Goals as goal
 
 pub returns-in_err-route_row : goal.returns-in_err-route_row

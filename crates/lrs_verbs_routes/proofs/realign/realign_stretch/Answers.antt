@@ -6,7 +6,7 @@ use Rattle.lrs_events.specs.Changes.{changed_rows}
 use Rattle.lrs_events_spans.specs.Realigning.{IsRealigned}
 use Rattle.lrs_machine.specs.State.{Abandoned}
 use Rattle.lrs_verbs_routes.specs.Realignments.{refs_on, referents_moved}
-use Rattle.lrs_verbs_routes.proofs.Going.{plan_there, rows_by}
+use Rattle.lrs_inventory.proofs.Going.{plan_there, rows_by}
 use Rattle.lrs_events_spans.specs.Realigning.{have_room_behind}
 use Rattle.lrs_verbs_routes.proofs.RealignChecks.{limit, room, in_limits}
 use Rattle.lrs_verbs_routes.proofs.realign.realign_stretch.Goals as goal

@@ -5,7 +5,7 @@ use Rattle.lrs_inventory.specs.declared.plan.Plan.{Plan}
 use Rattle.lrs_inventory.specs.declared.plan.Stop.{Stop}
 use Rattle.lrs_inventory.specs.NewCourses.{new_marks}
 use Rattle.lrs_inventory.specs.Plans.{IsPlanOf, Plans}
-use Rattle.lrs_verbs_routes.proofs.Stopping.{stopped}
+use Rattle.lrs_inventory.proofs.Stopping.{stopped}
 use Rattle.lrs_verbs_routes.proofs.Recalibrated.{refuses_route, refuses_marks, recalibrates}
 use Rattle.lrs_verbs_routes.proofs.recalibrate.plan_recalibrate.Goals as goal
 

@@ -8,7 +8,7 @@ use Rattle.lrs_inventory.specs.declared.plan.Plan.{Plan}
 use Rattle.lrs_inventory.specs.declared.plan.Stop.{Stop}
 use Rattle.lrs_inventory.specs.Plans.{IsPlanOf, Plans}
 use Rattle.lrs_inventory.proofs.Known.{same_known}
-use Rattle.lrs_verbs_routes.proofs.Stopping.{refused, passed}
+use Rattle.lrs_inventory.proofs.Stopping.{refused, passed}
 use Rattle.lrs_verbs_routes.proofs.Renumbered.{refuses_route, refuses_known, renumbers}
 use Rattle.lrs_verbs_routes.proofs.renumber.plan_renumber.Goals as goal
 

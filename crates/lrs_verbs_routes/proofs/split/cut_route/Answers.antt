@@ -5,7 +5,7 @@ use Rattle.lrs_events_rows.specs.Cuts.{IsCut}
 use Rattle.lrs_image_laws.specs.Splitting.{back_by}
 use Rattle.lrs_image_laws.proofs.Halved.{parts_are_routes}
 use Rattle.lrs_verbs_routes.specs.Splits.{refs_behind}
-use Rattle.lrs_verbs_routes.proofs.Going.{plan_there, rows_by}
+use Rattle.lrs_inventory.proofs.Going.{plan_there, rows_by}
 use Rattle.lrs_verbs_routes.proofs.split.cut_route.Goals as goal
 
 pub rear_route-route-requires : goal.rear_route-route-requires

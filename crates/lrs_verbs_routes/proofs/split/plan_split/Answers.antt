@@ -11,7 +11,7 @@ use Rattle.lrs_inventory.specs.declared.plan.Stop.{Stop}
 use Rattle.lrs_inventory.specs.Plans.{IsPlanOf, Plans}
 use Rattle.lrs_verbs_routes.specs.Splits.{is_inside}
 use Rattle.lrs_inventory.proofs.Known.{same_known}
-use Rattle.lrs_verbs_routes.proofs.Stopping.{refused, passed}
+use Rattle.lrs_inventory.proofs.Stopping.{refused, passed}
 use Rattle.lrs_verbs_routes.proofs.SplitRoute.{inside_is_inner, refuses_route, refuses_known, refuses_mark, splits}
 use Rattle.lrs_verbs_routes.proofs.split.plan_split.Goals as goal
 

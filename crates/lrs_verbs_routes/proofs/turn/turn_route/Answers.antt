@@ -4,7 +4,7 @@ use Rattle.lrs_inventory.specs.Prelude.{each_two, is_too_long, Referent, Span, h
 use Rattle.lrs_events.specs.Changes.{changed_rows}
 use Rattle.lrs_events_rows.specs.Turns.{IsTurned}
 use Rattle.lrs_image_laws.specs.Turning.{from_end}
-use Rattle.lrs_verbs_routes.proofs.Going.{plan_there, rows_by}
+use Rattle.lrs_inventory.proofs.Going.{plan_there, rows_by}
 use Rattle.lrs_verbs_routes.proofs.turn.turn_route.Goals as goal
 
 pub returns : goal.returns

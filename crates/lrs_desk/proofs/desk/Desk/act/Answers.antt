@@ -10,7 +10,7 @@ use Rattle.lrs_inventory.specs.Plans.{change_of}
 use Rattle.lrs_desk.specs.Decide.{IsDecision}
 use Rattle.lrs_desk.specs.Desk.{IsOldOrNext}
 use Rattle.lrs_desk.specs.DeskView.{DeskView}
-use Rattle.lrs_desk.specs.declared.desk.Fault.TheVariants.{Keep}
+use Rattle.lrs_machine_stops.specs.declared.fault.Fault.TheVariants.{Keep}
 use Rattle.lrs_desk.proofs.Deciding.{old_or_next}
 use Rattle.lrs_desk.proofs.Grouping.{kept_after}
 use Rattle.lrs_desk.proofs.Made.{if_ok, on_ok, on_any, kept_then, found_then}

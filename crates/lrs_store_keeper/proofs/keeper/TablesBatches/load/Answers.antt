@@ -5,7 +5,7 @@ use Rattle.lrs_machine.specs.declared.table.Table.{Table}
 use Rattle.lrs_image.specs.declared.keeper.LoadFault.{LoadFault}
 use Rattle.lrs_image.specs.declared.keeper.LoadFault.TheVariants.{Memory}
 use Rattle.lrs_store_tables.specs.Stored.{LeavesStore}
-use Rattle.lrs_store_keeper.specs.Holding.{MayHold}
+use Rattle.lrs_store_tables.specs.Holding.{MayHold}
 use Rattle.lrs_store_keeper.specs.KeeperView.{KeeperView}
 use Rattle.lrs_store_keeper.proofs.OpeningLemmas.{found_before}
 use Rattle.lrs_store_keeper.proofs.Sound.{found_sound}

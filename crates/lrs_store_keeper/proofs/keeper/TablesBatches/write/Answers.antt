@@ -3,7 +3,7 @@ use Rattle.sqlite.specs.Held.{state}
 use Rattle.lrs_machine.specs.declared.image.Image.{Image}
 use Rattle.lrs_machine.specs.declared.table.Table.{Table}
 use Rattle.lrs_image.specs.Together.{IsChangedBy}
-use Rattle.lrs_store_keeper.specs.Holding.{MayHold}
+use Rattle.lrs_store_tables.specs.Holding.{MayHold}
 use Rattle.lrs_store_keeper.specs.KeeperView.{KeeperView}
 use Rattle.lrs_store_keeper.proofs.Sound.{found_sound}
 use Rattle.lrs_store_keeper.proofs.keeper.TablesBatches.write.Goals as goal

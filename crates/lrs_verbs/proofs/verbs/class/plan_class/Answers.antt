@@ -5,7 +5,7 @@ use Rattle.lrs_machine.specs.declared.answer.Cause.TheVariants as cause
 use Rattle.lrs_machine.specs.declared.command.Command.TheVariants as verb
 use Rattle.lrs_inventory.specs.declared.plan.Plan.{Plan}
 use Rattle.lrs_inventory.specs.Plans.{IsPlanOf}
-use Rattle.lrs_verbs_routes.proofs.Stopping.{refused, passed}
+use Rattle.lrs_inventory.proofs.Stopping.{refused, passed}
 use Rattle.lrs_verbs.proofs.NewClass.{refuses_known, makes}
 use Rattle.lrs_verbs.proofs.verbs.class.plan_class.Goals as goal
 

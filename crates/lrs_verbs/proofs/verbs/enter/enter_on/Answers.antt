@@ -4,7 +4,7 @@ use Rattle.lrs_machine.specs.declared.command.Command.TheVariants as verb
 use Rattle.lrs_inventory.specs.Prelude.{state_of}
 use Rattle.lrs_image_laws.proofs.Tables.{few_edits}
 use Rattle.lrs_verbs.specs.Entering.{IsEntering}
-use Rattle.lrs_verbs_routes.proofs.Stopping.{stopped}
+use Rattle.lrs_inventory.proofs.Stopping.{stopped}
 use Rattle.lrs_inventory.proofs.Located.{route_in}
 use Rattle.lrs_image_laws.proofs.Holding.{alone}
 use Rattle.lrs_verbs.proofs.EntryChecks.{then_held}

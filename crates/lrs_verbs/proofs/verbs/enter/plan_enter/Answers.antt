@@ -4,7 +4,7 @@ use Rattle.lrs_inventory.specs.Prelude.{state_of}
 use Rattle.lrs_machine.specs.Machine.{wanted_of}
 use Rattle.lrs_verbs.specs.Wanted.{is_left_out}
 use Rattle.lrs_verbs.proofs.EntryChecks.{enter_refused}
-use Rattle.lrs_verbs_routes.proofs.Stopping.{stopped}
+use Rattle.lrs_inventory.proofs.Stopping.{stopped}
 use Rattle.lrs_verbs.proofs.verbs.enter.plan_enter.Goals as goal
 
 pub returns-in-Err : goal.returns-in-Err

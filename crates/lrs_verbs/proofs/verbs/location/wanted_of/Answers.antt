@@ -7,7 +7,7 @@ use Rattle.lrs_machine.specs.declared.answer.Cause.TheVariants as cause
 use Rattle.lrs_machine.specs.Register.{get}
 use Rattle.lrs_machine.specs.Machine.{wanted_of}
 use Rattle.lrs_verbs.specs.Wanted.{is_left_out}
-use Rattle.lrs_verbs_routes.proofs.Stopping.{answers_refused, passed}
+use Rattle.lrs_inventory.proofs.Stopping.{answers_refused, passed}
 use Rattle.lrs_inventory.proofs.Known.{none_found, same_known}
 use Rattle.lrs_verbs.proofs.EntryChecks.{refuses_known, refuses_class, refuses_route}
 use Rattle.lrs_verbs.proofs.verbs.location.wanted_of.Goals as goal

@@ -14,7 +14,7 @@ use Rattle.lrs_inventory.specs.Plans.{Answers, IsPlanOf}
 use Rattle.lrs_verbs.specs.RouteReferents.{plan_of_referents, with_one, standing_at}
 use Rattle.lrs_inventory.proofs.Located.{route_in}
 use Rattle.lrs_verbs.proofs.NewReferent.{refuses_known, refuses_route, refuses_position, puts, makes}
-use Rattle.lrs_verbs_routes.proofs.Stopping.{refused, passed, stopped}
+use Rattle.lrs_inventory.proofs.Stopping.{refused, passed, stopped}
 use Rattle.lrs_verbs.proofs.verbs.new_referent.plan_ref.Goals as goal
 
 -- what is told where a route is looked for, and where it is found

@@ -6,7 +6,7 @@ use Rattle.lrs_machine.specs.declared.answer.Cause.TheVariants as cause
 use Rattle.lrs_machine.specs.declared.command.Command.TheVariants as verb
 use Rattle.lrs_image_laws.proofs.Tables.{few_edits}
 use Rattle.lrs_verbs.specs.Taking.{IsTaking}
-use Rattle.lrs_verbs_routes.proofs.Stopping.{refused, passed, stopped}
+use Rattle.lrs_inventory.proofs.Stopping.{refused, passed, stopped}
 use Rattle.lrs_inventory.proofs.Located.{route_in}
 use Rattle.lrs_image_laws.proofs.Holding.{alone}
 use Rattle.lrs_verbs.proofs.Retirement.{refuses_kind, refuses_extent, refuses_empty, refuses_bare, retires}

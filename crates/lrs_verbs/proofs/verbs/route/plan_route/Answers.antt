@@ -9,7 +9,7 @@ use Rattle.lrs_inventory.specs.declared.plan.Plan.{Plan}
 use Rattle.lrs_inventory.specs.NewCourses.{new_course, new_marks}
 use Rattle.lrs_inventory.specs.Plans.{IsPlanOf, Answers}
 use Rattle.lrs_inventory.proofs.Known.{same_known}
-use Rattle.lrs_verbs_routes.proofs.Stopping.{refused, passed, stopped}
+use Rattle.lrs_inventory.proofs.Stopping.{refused, passed, stopped}
 use Rattle.lrs_inventory.proofs.NewCourse.{good_line}
 use Rattle.lrs_verbs.proofs.NewRoute.{refuses_known, refuses_pieces, refuses_ground, refuses_marks, makes}
 use Rattle.lrs_verbs.proofs.verbs.route.plan_route.Goals as goal

@@ -1,0 +1,3 @@
+pub mod Between
+pub mod BetweenQuestions
+pub mod Trying

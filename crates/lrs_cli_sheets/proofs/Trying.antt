@@ -1,0 +1,84 @@
+-- A sheet that is tried at a copy of an inventory, and one that is done on the empty inventory.
+use Rattle.std.proofs.Common.{◌≡◌, ◌⊎◌, ℕ, List, Option, Some, None, Result, Ok, Err, IfOk, IfErr, refl, subst, sym, inl, inr}
+use Rattle.lrs_measure.specs.Limits.{most_assets, most_edits, most_routes}
+use Rattle.lrs_machine.specs.Image.{nothing, state_of}
+use Rattle.lrs_machine.specs.declared.image.Image.{Image}
+use Rattle.lrs_machine.specs.declared.table.Table.{Table}
+use Rattle.lrs_desk.specs.DeskView.{DeskView}
+use Rattle.lrs_sheet_records.specs.declared.sheet.Sheet.{Sheet}
+use Rattle.lrs_sheet.specs.Sheets.{RunsBehind, RunsEdits}
+use Rattle.lrs_sheet_records.specs.declared.fault.SheetFault.{SheetFault}
+use Rattle.lrs_sheet.specs.declared.reply.Tally.{Tally}
+use Rattle.lrs_log.specs.Differences.{IsFirstDifference}
+use Rattle.lrs_cli_tasks.specs.declared.fault.ProgramFault.{ProgramFault}
+use Rattle.lrs_cli_tasks.specs.declared.fault.ProgramFault.TheVariants as program
+use Rattle.lrs_cli_sheets.specs.declared.sheets.Pace.TheVariants.{InPieces}
+use Rattle.lrs_cli_tasks.specs.declared.endings.Ending.{Ending}
+use Rattle.lrs_cli_tasks.specs.declared.endings.Ending.TheVariants.{Done, Stopped}
+use Rattle.lrs_cli_sheets.specs.Auditing.{EndsAudit, IsAudited, IsMadeBy, log_of}
+use Rattle.lrs_cli_sheets.specs.Sheets.{HasRun, IsUnwritten}
+use Rattle.lrs_cli_sheets.specs.Trials.{IsFull, IsTried}
+
+-- what is run in pieces at a desk with full limits over this image is tried
+tried : {K : Type 0} (holds : K → Result Image Table → Type 0) (kind : Sheet) (passed : ℕ) (text : List ℕ) (image : Image) (before after : DeskView K) (old new : Option (List ℕ)) (outcome : Result Tally SheetFault)
+    → before.image ≡ image → IsFull before.limits → HasRun holds (record { kind = kind; pace = InPieces; passed = passed }) (Some text) before after old new outcome
+    → IsTried kind passed text image old new outcome
+tried holds kind passed text image before after old new outcome same full ran = record {
+  limits = before.limits;
+  full = full;
+  after = state_of after.image;
+  runs = λ front at count. subst (λ (i : Image). RunsBehind front kind 1 before.limits text (state_of i) (state_of after.image) old new outcome) same (ran.runs front at count);
+}
+
+-- the same where the writer is given back
+pub tried_to : {K W : Type 0} (holds : K → Result Image Table → Type 0) (contents : W → Option (List ℕ)) (kind : Sheet) (passed : ℕ) (text : List ℕ) (image : Image) (before after : DeskView K) (first : Option (List ℕ)) (result : Result (W × Result Tally SheetFault) ProgramFault)
+    → before.image ≡ image → IsFull before.limits
+    → IfOk result (λ done. HasRun holds (record { kind = kind; pace = InPieces; passed = passed }) (Some text) before after first (contents done.0) done.1)
+    → IfOk result (λ done. IsTried kind passed text image first (contents done.0) done.1)
+tried_to holds contents kind passed text image before after first (Ok done) same full ran = tried holds kind passed text image before after first (contents done.0) done.1 same full ran
+tried_to holds contents kind passed text image before after first (Err fault) same full ran = tt
+
+-- replies are not written for want of memory, or since the writer failed
+pub two_faults : {K X : Type 0} (holds : K → Result Image Table → Type 0) (before after : DeskView K) (result : Result X ProgramFault)
+    → IfErr result (IsUnwritten holds before after) → IfErr result (λ e. (e ≡ program.Memory) ⊎ (e ≡ program.Write))
+two_faults holds before after (Ok x) unwritten = tt
+two_faults holds before after (Err program.Memory) unwritten = inl refl
+two_faults holds before after (Err program.Write) unwritten = inr refl
+two_faults holds before after (Err program.Open) unwritten = absurd unwritten
+two_faults holds before after (Err (program.Unsound t)) unwritten = absurd unwritten
+two_faults holds before after (Err program.Keep) unwritten = absurd unwritten
+two_faults holds before after (Err program.MustReopen) unwritten = absurd unwritten
+two_faults holds before after (Err program.Read) unwritten = absurd unwritten
+two_faults holds before after (Err program.BadHeader) unwritten = absurd unwritten
+two_faults holds before after (Err program.BadCsv) unwritten = absurd unwritten
+two_faults holds before after (Err program.Door) unwritten = absurd unwritten
+
+-- what an edit sheet makes at a desk with full limits over the empty inventory
+pub made : {K : Type 0} (sheet : List ℕ) (before after : DeskView K) (old new : Option (List ℕ)) (outcome : Result Tally SheetFault)
+    → before.image ≡ nothing → (before.limits.routes ≡ most_routes) × (before.limits.assets ≡ most_assets) × (before.limits.edits ≡ most_edits)
+    → RunsEdits before.limits sheet (state_of before.image) (state_of after.image) old new outcome → IsMadeBy sheet after.image
+made sheet before after old new outcome fresh (routes, assets, edits) runs = record {
+  limits = before.limits;
+  full = record { routes = routes; assets = assets; edits = edits };
+  old = old;
+  new = new;
+  outcome = outcome;
+  runs = subst (λ (i : Image). RunsEdits before.limits sheet (state_of i) (state_of after.image) old new outcome) fresh runs;
+}
+
+-- an image is compared with what its log makes
+pub compared : (i made left right : Image) (text : List ℕ) (differs : Option Table) → left ≡ i → right ≡ made → text ≡ log_of i → IsMadeBy text made
+    → IsFirstDifference left right differs → IsAudited i differs
+compared i made left right text differs same_left same_right same_log is first = record {
+  made = made;
+  is_made = subst (λ (t : List ℕ). IsMadeBy t made) same_log is;
+  compared = subst (λ (x : Image). IsFirstDifference i x differs) same_right (subst (λ (x : Image). IsFirstDifference x right differs) same_left first);
+}
+
+pub audited_as : (i j : Image) (d e : Option Table) → i ≡ j → d ≡ e → IsAudited i d → IsAudited j e
+audited_as i j d e same equal is = subst (λ (x : Option Table). IsAudited j x) equal (subst (λ (x : Image). IsAudited x d) same is)
+
+-- an inventory is as its log says, and that is said, or the writer failed
+pub sound_ends : (i : Image) (ending : Ending) → IsAudited i None → (ending ≡ Done) ⊎ (ending ≡ Stopped program.Write) → EndsAudit i ending
+sound_ends i ending is (inl same) = subst (λ (e : Ending). EndsAudit i e) (sym same) is
+sound_ends i ending is (inr same) = subst (λ (e : Ending). EndsAudit i e) (sym same) (inr refl)

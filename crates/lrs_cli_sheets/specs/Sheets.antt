@@ -1,0 +1,83 @@
+-- What a sheet's run gives, what it leaves of the desk, and how the program ends with it.
+use Rattle.std.specs.Prelude.{◌≡◌, ◌==◌, ◌⊎◌, ℕ, Bool, true, false, List, length, Option, Some, Result, Ok, Err, IfSome, if◌then◌else◌}
+use Rattle.lrs_machine.specs.Image.{state_of}
+use Rattle.lrs_machine.specs.Lines.{Text}
+use Rattle.lrs_machine.specs.declared.image.Image.{Image}
+use Rattle.lrs_machine.specs.declared.table.Table.{Table}
+use Rattle.lrs_desk.specs.DeskView.{DeskView}
+use Rattle.lrs_sheet_records.specs.declared.sheet.Sheet.{Sheet}
+use Rattle.lrs_sheet_records.specs.declared.fault.SheetFault.{SheetFault}
+use Rattle.lrs_sheet.specs.declared.reply.Tally.{Tally}
+use Rattle.lrs_sheet.specs.declared.resumption.Decided.{Decided}
+use Rattle.lrs_sheet.specs.Resuming.{IsDecidedBy}
+use Rattle.lrs_sheet.specs.Sheets.{GoesAlong, LeavesDesk, MustReopen, RunsBehind, StandAtFront, records_together}
+use Rattle.lrs_cli_tasks.specs.declared.endings.Ending.{Ending}
+use Rattle.lrs_cli_tasks.specs.declared.endings.Ending.TheVariants.{Done, RecordsRefused, Stopped}
+use Rattle.lrs_cli_tasks.specs.declared.fault.ProgramFault.{ProgramFault}
+use Rattle.lrs_cli_tasks.specs.declared.fault.ProgramFault.TheVariants.{Memory, Read, Write}
+use Rattle.lrs_cli_sheets.specs.declared.sheets.Pace.{Pace}
+use Rattle.lrs_cli_sheets.specs.declared.sheets.Pace.TheVariants.{LineByLine, AsTheyArrive, InGroups, InPieces}
+use Rattle.lrs_cli_sheets.specs.declared.sheets.Way.{Way}
+use Rattle.lrs_cli_tasks.specs.Faults.{fault_of_sheet}
+
+-- how many records are done together at a pace
+abbrev pub together_at : Pace → ℕ
+together_at LineByLine = 1
+together_at AsTheyArrive = records_together
+together_at InGroups = records_together
+together_at InPieces = 1
+
+-- done where no record was refused; or some were; or the sheet's fault stops the program
+abbrev pub ending_of_sheet : Result Tally SheetFault → Ending
+ending_of_sheet (Ok tally) = if tally.refused == 0 then Done else RecordsRefused
+ending_of_sheet (Err fault) = Stopped (fault_of_sheet fault)
+
+module _ {K : Type 0} (holds : K → Result Image Table → Type 0) where
+  -- The desk goes along with its keeper, or a commit of it has failed.
+  abbrev pub GoesOnOrBreaks : DeskView K → DeskView K → Type 0
+  GoesOnOrBreaks before after = GoesAlong holds before after ⊎ MustReopen before after
+
+  -- A sheet was run so: the reply to its bytes, where they are known, is done and written, but for the records that are passed over.
+  pub record HasRun (way : Way) (known : Option Text) (before after : DeskView K) (old new : Option Text) (outcome : Result Tally SheetFault) : Type 0 where
+    pub runs : IfSome known (λ input. (front : List (List Text)) → StandAtFront input front → length front ≡ way.passed
+        → RunsBehind front way.kind (together_at way.pace) before.limits input (state_of before.image) (state_of after.image) old new outcome)
+    pub desk : LeavesDesk holds before after outcome
+
+  -- there is no memory for the replies, and nothing is done; or not all of them are written
+  abbrev pub IsUnwritten : DeskView K → DeskView K → ProgramFault → Type 0
+  IsUnwritten before after Memory = after ≡ before
+  IsUnwritten before after Write = GoesOnOrBreaks before after
+  IsUnwritten before after other = ⊥
+
+  -- A sheet was run, whatever it was written to, and the program ends as it ended.
+  pub record EndsAsRun (way : Way) (known : Option Text) (before after : DeskView K) (ending : Ending) : Type 0 where
+    pub old : Option Text
+    pub new : Option Text
+    pub outcome : Result Tally SheetFault
+    pub ran : HasRun way known before after old new outcome
+    pub ends : ending ≡ ending_of_sheet outcome
+
+  -- ... or it has no replies, or not all
+  abbrev pub EndsRun : Way → Option Text → DeskView K → DeskView K → Ending → Type 0
+  EndsRun way known before after ending =
+      EndsAsRun way known before after ending ⊎ ((fault : ProgramFault) × (ending ≡ Stopped fault) × IsUnwritten before after fault)
+
+  -- the sheet is not opened, and nothing is done
+  abbrev pub IsUnopened : DeskView K → DeskView K → Ending → Type 0
+  IsUnopened before after ending = (after ≡ before) × ((ending ≡ Stopped Read) ⊎ (ending ≡ Stopped Memory))
+
+  -- it is not known behind which record the sheet goes on, and nothing is done
+  abbrev pub IsUnsearched : DeskView K → DeskView K → Ending → Type 0
+  IsUnsearched before after ending = (after ≡ before) × ((fault : SheetFault) × (ending ≡ Stopped (fault_of_sheet fault)))
+
+  -- the sheet was run behind the records that are decided
+  abbrev pub EndsResumed : Sheet → DeskView K → DeskView K → Ending → Type 0
+  EndsResumed kind before after ending =
+      (pace : Pace) × (text : Text) × (d : Decided) × (front : List (List Text)) × IsDecidedBy kind (state_of before.image) text d front
+      × EndsRun (record { kind = kind; pace = pace; passed = d.records }) (Some text) before after ending
+
+  -- How the program ends with a sheet of a name, done as a whole or gone on with: what is read under it, no contract can say.
+  abbrev pub EndsSheet : Sheet → Bool → DeskView K → DeskView K → Ending → Type 0
+  EndsSheet kind false before after ending =
+      ((pace : Pace) × (known : Option Text) × EndsRun (record { kind = kind; pace = pace; passed = 0 }) known before after ending) ⊎ IsUnopened before after ending
+  EndsSheet kind true before after ending = EndsResumed kind before after ending ⊎ (IsUnsearched before after ending ⊎ IsUnopened before after ending)

@@ -1,0 +1,173 @@
+//! Whether an inventory is what its log makes.
+
+ghost use Rattle.std.specs.Prelude.{◌≡◌, ◌⊎◌, IfOk, IfErr};
+ghost use Rattle.lrs_measure.specs.Limits.{most_assets, most_edits, most_routes};
+ghost use Rattle.lrs_machine.specs.Image.{nothing};
+ghost use Rattle.lrs_image.specs.Kept.{image_of};
+ghost use Rattle.lrs_log.specs.Differences.{IsFirstDifference};
+ghost use Rattle.lrs_cli_sheets.specs.Auditing.{EndsAudit, IsAudited, IsMadeBy, log_of};
+
+use crate::difference::tell_row;
+use crate::sheets::{Pace, Way, run};
+use lrs_cli_tasks::{Ending, ProgramFault, open_in_memory};
+use lrs_desk::{Desk, Keeper};
+use lrs_image::KeptImage;
+use lrs_inventory::Inventory;
+use lrs_log::{first_difference, write_log};
+use lrs_machine::Table;
+use lrs_sheet::{Sheet, SheetFault};
+use std::alloc::Global;
+use std::io;
+use std::rt::Runtime;
+
+// The whole log of an inventory.
+fn log_of(alloc: Global, inventory: &Inventory) -> Result<Vec<u8>, ProgramFault>
+    ensures log { IfOk result (λ text. text.items ≡ log_of inventory.now) }
+    ensures memory { IfErr result (λ e. e ≡ ProgramFault.Memory) }
+{
+    let mut text = Vec::new(alloc);
+    match write_log(&mut text, inventory.kept(), 1) {
+        Ok(()) => Ok(text),
+        Err(_) => Err(ProgramFault::Memory),
+    }
+}
+
+// Does an edit sheet at a desk with full limits over the empty inventory. The desk is of any keeper, here and below: a
+// function that has one over an image in memory is dear to prove.
+fn run_log<K: Keeper>(alloc: Global, sheet: &[u8], desk: &mut Desk<K>) -> Result<(), ProgramFault>
+    requires fresh { desk.old.image ≡ nothing }
+    requires limits { (desk.old.limits.routes ≡ most_routes)
+        × (desk.old.limits.assets ≡ most_assets) × (desk.old.limits.edits ≡ most_edits) }
+    ensures made { IfOk result (λ _. IsMadeBy sheet.now desk.new.image) }
+    ensures memory { IfErr result (λ e. e ≡ ProgramFault.Memory) }
+{
+    let mut replies = io::sink();
+    let way = Way {
+        kind: Sheet::Edits,
+        pace: Pace::InPieces,
+        passed: 0,
+    };
+    match run(alloc, way, sheet, &mut replies, desk) {
+        Err(SheetFault::Memory | SheetFault::Desk(_)) => Err(ProgramFault::Memory),
+        _ => Ok(()),
+    }
+}
+
+// The first table in which two images differ, if there is one. Its first row that is another is told on standard error.
+fn told_difference<R: Runtime<A = Global>>(
+    rt: &R,
+    kept: &KeptImage,
+    made: &KeptImage,
+) -> Option<Table>
+    ensures { IsFirstDifference (image_of kept.now) (image_of made.now) result }
+{
+    let differs = first_difference(kept, made);
+    if let Some(table) = differs {
+        tell_row(rt, kept, made, table);
+    }
+    differs
+}
+
+fn difference_from<R: Runtime<A = Global>, K: Keeper>(
+    rt: &R,
+    inventory: &Inventory,
+    made: &Desk<K>,
+) -> Option<Table>
+    ensures { IsFirstDifference inventory.now made.now.image result }
+{
+    told_difference(rt, inventory.kept(), made.inventory().kept())
+}
+
+// The first table in which an inventory is not what this log of it makes at such a desk, if there is one.
+fn made_differs<R: Runtime<A = Global>, K: Keeper>(
+    rt: &R,
+    inventory: &Inventory,
+    log: &[u8],
+    desk: &mut Desk<K>,
+) -> Result<Option<Table>, ProgramFault>
+    requires whole { log.now ≡ log_of inventory.now }
+    requires fresh { desk.old.image ≡ nothing }
+    requires limits { (desk.old.limits.routes ≡ most_routes)
+        × (desk.old.limits.assets ≡ most_assets) × (desk.old.limits.edits ≡ most_edits) }
+    ensures audited { IfOk result (IsAudited inventory.now) }
+    ensures memory { IfErr result (λ e. e ≡ ProgramFault.Memory) }
+{
+    match run_log(rt.alloc(), log, desk) {
+        Ok(()) => Ok(difference_from(rt, inventory, desk)),
+        Err(fault) => Err(fault),
+    }
+}
+
+// The same, at a desk that goes with it. What may fail only borrows the desk, and it is dropped by a call: a function
+// that drops one in several places is dear to prove.
+fn audit_at<R: Runtime<A = Global>, K: Keeper + Drop>(
+    rt: &R,
+    inventory: &Inventory,
+    log: &[u8],
+    desk: Desk<K>,
+) -> Result<Option<Table>, ProgramFault>
+    requires whole { log.now ≡ log_of inventory.now }
+    requires fresh { desk.image ≡ nothing }
+    requires limits { (desk.limits.routes ≡ most_routes) × (desk.limits.assets ≡ most_assets)
+        × (desk.limits.edits ≡ most_edits) }
+    ensures audited { IfOk result (IsAudited inventory.now) }
+    ensures memory { IfErr result (λ e. e ≡ ProgramFault.Memory) }
+{
+    let mut made = desk;
+    let differs = made_differs(rt, inventory, log, &mut made);
+    drop(made);
+    differs
+}
+
+// The same, at a desk in memory.
+fn audit_log<R: Runtime<A = Global>>(
+    rt: &R,
+    inventory: &Inventory,
+    log: &[u8],
+) -> Result<Option<Table>, ProgramFault>
+    requires whole { log.now ≡ log_of inventory.now }
+    ensures audited { IfOk result (IsAudited inventory.now) }
+    ensures memory { IfErr result (λ e. e ≡ ProgramFault.Memory) }
+{
+    match open_in_memory(rt.alloc()) {
+        Ok(desk) => audit_at(rt, inventory, log, desk),
+        Err(fault) => Err(fault),
+    }
+}
+
+// The first table in which an inventory is not what its log makes, if there is one.
+fn audit<R: Runtime<A = Global>>(
+    rt: &R,
+    inventory: &Inventory,
+) -> Result<Option<Table>, ProgramFault>
+    ensures audited { IfOk result (IsAudited inventory.now) }
+    ensures memory { IfErr result (λ e. e ≡ ProgramFault.Memory) }
+{
+    match log_of(rt.alloc(), inventory) {
+        Ok(log) => audit_log(rt, inventory, log.as_slice()),
+        Err(fault) => Err(fault),
+    }
+}
+
+// Says that an inventory is as its log says, and how the program ends with that.
+fn say_sound<R: Runtime<A = Global>>(rt: &R) -> Ending
+    ensures { (result ≡ Ending.Done) ⊎ (result ≡ Ending.Stopped ProgramFault.Write) }
+{
+    match println!(rt; "sound, and as its log says") {
+        Ok(()) => Ending::Done,
+        Err(_) => Ending::Stopped(ProgramFault::Write),
+    }
+}
+
+/// Does the log of a desk's inventory again on the empty inventory in memory, and compares what it makes with the
+/// inventory, table by table. It changes nothing. Of a table that differs, its first row that is another is told on
+/// standard error: as it is kept, and as the log makes it.
+pub fn do_audit<R: Runtime<A = Global>, K: Keeper>(rt: &R, desk: &Desk<K>) -> Ending
+    ensures { EndsAudit desk.now.image result }
+{
+    match audit(rt, desk.inventory()) {
+        Ok(None) => say_sound(rt),
+        Ok(Some(table)) => Ending::Differs(table),
+        Err(fault) => Ending::Stopped(fault),
+    }
+}

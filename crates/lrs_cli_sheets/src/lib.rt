@@ -1,0 +1,17 @@
+//! What the program does with sheets, whatever keeps the inventory: they are done, tried, and asked; and an inventory is
+//! compared with what its log makes.
+#![tactic(auto)]
+
+mod advice;
+mod audit;
+mod difference;
+mod progress;
+mod question_sheets;
+mod sheets;
+mod trial;
+
+pub use audit::do_audit;
+pub use progress::Shown;
+pub use question_sheets::{QuestionPace, answer_sheet, do_questions};
+pub use sheets::Pace;
+pub use trial::{do_check, do_records};

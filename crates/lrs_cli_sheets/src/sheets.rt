@@ -1,0 +1,326 @@
+//! Sheets, from a file or the standard input, and their replies.
+
+ghost use Rattle.std.specs.Prelude.{◌≡◌, ◌⊎◌, IfOk, IfErr, IfSome, false, true};
+ghost use Rattle.lrs_machine.specs.Image.{state_of};
+ghost use Rattle.lrs_sheet.specs.Sheets.{IsAfterCommands, LeavesDesk, Runs};
+ghost use Rattle.lrs_cli_sheets.specs.Sheets.{EndsRun, EndsSheet, HasRun, IsUnwritten, ending_of_sheet, together_at};
+
+use crate::progress::{Progress, Shown};
+use lrs_cli_tasks::{Ending, ProgramFault, behind, buffered};
+use lrs_desk::{Desk, Keeper};
+use lrs_sheet::{
+    Decided, RECORDS_TOGETHER, Sheet, SheetFault, Tally, last_edit, run_arriving, run_behind,
+    run_edits, run_survey,
+};
+use std::alloc::Global;
+use std::io::{ErrorKind, LineWriter, Read, Write};
+use std::rt::Runtime;
+use std::{fs, io};
+
+// How many records are done together, and when their reply lines are handed to the operating system.
+#[derive(Clone, Copy, Debug, PartialEq, Eq)]
+pub enum Pace {
+    // One, and its line before the next record is read: whoever sends the records may wait for it.
+    LineByLine,
+    // Those that have arrived, and their lines before more is read: so too he may wait for each of them.
+    AsTheyArrive,
+    // Those of a group, and their lines before more are done.
+    InGroups,
+    // One, and the lines of many at once.
+    InPieces,
+}
+
+// How a sheet is done: of which kind, at which pace, and behind how many of its records.
+#[derive(Clone, Copy)]
+pub struct Way {
+    pub kind: Sheet,
+    pub pace: Pace,
+    pub passed: u32,
+}
+
+// How many records are done together at a pace.
+fn together_at(pace: Pace) -> usize
+    ensures { result ≡ together_at pace }
+{
+    match pace {
+        Pace::LineByLine | Pace::InPieces => 1,
+        Pace::AsTheyArrive | Pace::InGroups => RECORDS_TOGETHER,
+    }
+}
+
+// Runs a sheet's bytes, one record after another.
+fn run_one_by_one<S: Read + Drop, W: Write, K: Keeper>(
+    alloc: Global,
+    kind: Sheet,
+    sheet: S,
+    writer: &mut W,
+    desk: &mut Desk<K>,
+) -> Result<Tally, SheetFault>
+    ensures runs { IfSome (S.remaining sheet) (λ input. Runs kind 1 desk.old.limits input
+        (state_of desk.old.image) (state_of desk.new.image) (W.contents writer.old)
+        (W.contents writer.new) result) }
+    ensures desk { LeavesDesk K.may_hold desk.old desk.new result }
+    ensures left { IsAfterCommands desk.old.limits (state_of desk.old.image)
+        (state_of desk.new.image) }
+{
+    match kind {
+        Sheet::Edits => run_edits(alloc, sheet, writer, desk),
+        Sheet::Survey => run_survey(alloc, sheet, writer, desk),
+    }
+}
+
+// Runs a sheet's bytes in this way.
+pub(crate) fn run<S: Read + Drop, W: Write, K: Keeper>(
+    alloc: Global,
+    way: Way,
+    sheet: S,
+    writer: &mut W,
+    desk: &mut Desk<K>,
+) -> Result<Tally, SheetFault>
+    ensures ran { HasRun K.may_hold way (S.remaining sheet) desk.old desk.new
+        (W.contents writer.old) (W.contents writer.new) result }
+    ensures left { IsAfterCommands desk.old.limits (state_of desk.old.image)
+        (state_of desk.new.image) }
+{
+    let together = together_at(way.pace);
+    if together == 1 && way.passed == 0 {
+        return run_one_by_one(alloc, way.kind, sheet, writer, desk);
+    }
+    if way.pace == Pace::AsTheyArrive {
+        return run_arriving(alloc, way.kind, together, way.passed, sheet, writer, desk);
+    }
+    run_behind(alloc, way.kind, together, way.passed, sheet, writer, desk)
+}
+
+// Runs a sheet's bytes, writes the lines of its replies as they come, and gives the writer back with all of them. So a
+// fault of the sheet is handed out beside the writer; what fails here is the writing, or there is no memory for it.
+#[tactic(auto, using(crate::proofs::Between::either_left, crate::proofs::Between::none_done))]
+fn write_lines<S: Read + Drop, W: Write + Drop, K: Keeper>(
+    alloc: Global,
+    way: Way,
+    sheet: S,
+    to: W,
+    desk: &mut Desk<K>,
+) -> Result<(W, Result<Tally, SheetFault>), ProgramFault>
+    ensures ran { IfOk result (λ done. HasRun K.may_hold way (S.remaining sheet)
+        desk.old desk.new (W.contents to) (W.contents done.0) done.1) }
+    ensures unwritten { IfErr result (IsUnwritten K.may_hold desk.old desk.new) }
+    ensures left { IsAfterCommands desk.old.limits (state_of desk.old.image)
+        (state_of desk.new.image) }
+{
+    let Ok(mut lines) = LineWriter::new(alloc, to) else {
+        return Err(ProgramFault::Memory);
+    };
+    let outcome = run(alloc, way, sheet, &mut lines, desk);
+    match lines.into_inner() {
+        Ok(to) => Ok((to, outcome)),
+        Err(_) => Err(ProgramFault::Write),
+    }
+}
+
+// The same, with the lines of many replies in a piece.
+#[tactic(auto, using(crate::proofs::Between::either_left, crate::proofs::Between::none_done))]
+fn write_pieces<S: Read + Drop, W: Write + Drop, K: Keeper>(
+    alloc: Global,
+    way: Way,
+    sheet: S,
+    to: W,
+    desk: &mut Desk<K>,
+) -> Result<(W, Result<Tally, SheetFault>), ProgramFault>
+    ensures ran { IfOk result (λ done. HasRun K.may_hold way (S.remaining sheet)
+        desk.old desk.new (W.contents to) (W.contents done.0) done.1) }
+    ensures unwritten { IfErr result (IsUnwritten K.may_hold desk.old desk.new) }
+    ensures left { IsAfterCommands desk.old.limits (state_of desk.old.image)
+        (state_of desk.new.image) }
+{
+    let mut pieces = buffered(alloc, to)?;
+    let outcome = run(alloc, way, sheet, &mut pieces, desk);
+    Ok((behind(pieces)?, outcome))
+}
+
+// The same, with the lines as they go out at this pace.
+pub(crate) fn write_replies<S: Read + Drop, W: Write + Drop, K: Keeper>(
+    alloc: Global,
+    way: Way,
+    sheet: S,
+    to: W,
+    desk: &mut Desk<K>,
+) -> Result<(W, Result<Tally, SheetFault>), ProgramFault>
+    ensures ran { IfOk result (λ done. HasRun K.may_hold way (S.remaining sheet)
+        desk.old desk.new (W.contents to) (W.contents done.0) done.1) }
+    ensures unwritten { IfErr result (IsUnwritten K.may_hold desk.old desk.new) }
+    ensures left { IsAfterCommands desk.old.limits (state_of desk.old.image)
+        (state_of desk.new.image) }
+{
+    match way.pace {
+        Pace::LineByLine | Pace::AsTheyArrive | Pace::InGroups => write_lines(
+            alloc, way, sheet, to, desk,
+        ),
+        Pace::InPieces => write_pieces(alloc, way, sheet, to, desk),
+    }
+}
+
+// How the program ends where a sheet ended so.
+pub(crate) fn ending_of(outcome: Result<Tally, SheetFault>) -> Ending
+    ensures { result ≡ ending_of_sheet outcome }
+{
+    match outcome {
+        Ok(tally) if tally.refused == 0 => Ending::Done,
+        Ok(_) => Ending::RecordsRefused,
+        Err(fault) => Ending::Stopped(ProgramFault::from(fault)),
+    }
+}
+
+// Does the sheet that a reader gives, and prints its replies.
+pub(crate) fn print_replies<R: Runtime<A = Global>, S: Read + Drop, K: Keeper>(
+    rt: &R,
+    way: Way,
+    sheet: S,
+    desk: &mut Desk<K>,
+    shown: Shown,
+) -> Ending
+    ensures ended { EndsRun K.may_hold way (S.remaining sheet) desk.old desk.new result }
+    ensures left { IsAfterCommands desk.old.limits (state_of desk.old.image)
+        (state_of desk.new.image) }
+{
+    let progress = Progress::new(io::writer(rt), rt, shown);
+    match write_replies(rt.alloc(), way, sheet, progress, desk) {
+        Ok((_, outcome)) => ending_of(outcome),
+        Err(fault) => Ending::Stopped(fault),
+    }
+}
+
+// The pace of a sheet that is sent bit by bit. Over a file, those records are kept together that have arrived.
+fn pace_of_sent(of_file: Pace) -> Pace {
+    match of_file {
+        Pace::InGroups => Pace::AsTheyArrive,
+        _ => Pace::LineByLine,
+    }
+}
+
+// Only a file has all its records already; on a pipe or a terminal they may come one by one.
+pub(crate) fn is_whole<R: Runtime<A = Global>>(rt: &R, sheet: &str) -> bool {
+    match fs::metadata(rt, sheet) {
+        Ok(metadata) => metadata.is_file(),
+        Err(_) => false,
+    }
+}
+
+fn pace_of<R: Runtime<A = Global>>(rt: &R, sheet: &str, of_file: Pace) -> Pace {
+    if is_whole(rt, sheet) {
+        of_file
+    } else {
+        pace_of_sent(of_file)
+    }
+}
+
+// Why a sheet is not read. Who wrote `-` for the standard input is told how it is written.
+pub(crate) fn unopened<R: Runtime<A = Global>>(rt: &R, sheet: &str, error: io::Error) -> Ending
+    ensures { (result ≡ Ending.Stopped ProgramFault.Read)
+        ⊎ (result ≡ Ending.Stopped ProgramFault.Memory) }
+{
+    if sheet == "-" {
+        let _ = eprintln!(rt; "hint: standard input is written stdin");
+    }
+    if error.kind() == ErrorKind::OutOfMemory {
+        Ending::Stopped(ProgramFault::Memory)
+    } else {
+        Ending::Stopped(ProgramFault::Read)
+    }
+}
+
+// Does a whole sheet.
+#[tactic(auto, using(crate::proofs::Between::none_done))]
+fn do_whole<R: Runtime<A = Global>, K: Keeper>(
+    rt: &R,
+    desk: &mut Desk<K>,
+    kind: Sheet,
+    sheet: &str,
+    of_file: Pace,
+    shown: Shown,
+) -> Ending
+    ensures ended { EndsSheet K.may_hold kind false desk.old desk.new result }
+    ensures left { IsAfterCommands desk.old.limits (state_of desk.old.image)
+        (state_of desk.new.image) }
+{
+    let passed = 0;
+    if sheet == "stdin" {
+        let pace = pace_of_sent(of_file);
+        return print_replies(rt, Way { kind, pace, passed }, rt.reader(), desk, shown);
+    }
+    match fs::open(rt, sheet) {
+        Ok(file) => {
+            let pace = pace_of(rt, sheet, of_file);
+            print_replies(rt, Way { kind, pace, passed }, file, desk, shown)
+        }
+        Err(error) => unopened(rt, sheet, error),
+    }
+}
+
+// The bytes of a sheet.
+pub(crate) fn read_whole<R: Runtime<A = Global>>(rt: &R, sheet: &str) -> io::Result<Vec<u8>> {
+    if sheet != "stdin" {
+        return fs::read(rt, sheet);
+    }
+    let mut text = Vec::new(rt.alloc());
+    rt.reader().read_to_end(&mut text)?;
+    Ok(text)
+}
+
+// Tells on standard error behind which record a sheet goes on. Where that takes nothing, it goes on all the same.
+pub(crate) fn tell<R: Runtime<A = Global>>(rt: &R, decided: &Decided) {
+    let _ = match decided.key {
+        Some(key) => eprintln!(rt; "resumes behind record {}, key {key}", decided.records),
+        None => eprintln!(rt; "resumes at the first record"),
+    };
+}
+
+// Goes on with a sheet behind its last record that is an edit. It is read as a whole before.
+#[tactic(auto, using(crate::proofs::Between::none_done))]
+fn go_on<R: Runtime<A = Global>, K: Keeper>(
+    rt: &R,
+    desk: &mut Desk<K>,
+    kind: Sheet,
+    sheet: &str,
+    pace: Pace,
+    shown: Shown,
+) -> Ending
+    ensures ended { EndsSheet K.may_hold kind true desk.old desk.new result }
+    ensures left { IsAfterCommands desk.old.limits (state_of desk.old.image)
+        (state_of desk.new.image) }
+{
+    let text = match read_whole(rt, sheet) {
+        Ok(text) => text,
+        Err(error) => return unopened(rt, sheet, error),
+    };
+    let decided = match last_edit(rt.alloc(), kind, text.as_slice(), desk) {
+        Ok(decided) => decided,
+        Err(fault) => return Ending::Stopped(ProgramFault::from(fault)),
+    };
+    tell(rt, &decided);
+    let passed = decided.records;
+    print_replies(rt, Way { kind, pace, passed }, text.as_slice(), desk, shown)
+}
+
+/// Does a sheet of this kind at a desk, or goes on with it behind its last record that is an edit, and prints its replies:
+/// those to a sheet in a file at the pace `of_file`. Whatever fails, the desk's image stands for the state after some
+/// commands in order, and its keeper goes along, unless a commit failed.
+pub fn do_sheet<R: Runtime<A = Global>, K: Keeper>(
+    rt: &R,
+    desk: &mut Desk<K>,
+    kind: Sheet,
+    resumes: bool,
+    sheet: &str,
+    of_file: Pace,
+    shown: Shown,
+) -> Ending
+    ensures ended { EndsSheet K.may_hold kind resumes desk.old desk.new result }
+    ensures left { IsAfterCommands desk.old.limits (state_of desk.old.image)
+        (state_of desk.new.image) }
+{
+    if resumes {
+        go_on(rt, desk, kind, sheet, of_file, shown)
+    } else {
+        do_whole(rt, desk, kind, sheet, of_file, shown)
+    }
+}

@@ -1,0 +1,266 @@
+//! Sheets that are tried at a copy of the inventory, in memory.
+
+ghost use Rattle.std.specs.Prelude.{◌≡◌, ◌⊎◌, IfOk, IfErr, Ok, Some, [], true};
+ghost use Rattle.lrs_machine.specs.Image.{state_of};
+ghost use Rattle.lrs_sheet.specs.Sheets.{IsAfterCommands};
+ghost use Rattle.lrs_cli_sheets.specs.Sheets.{ending_of_sheet};
+ghost use Rattle.lrs_cli_sheets.specs.Trials.{ArePassed, EndsAll, EndsCheck, EndsRecords, EndsTried, IsFull, IsTried};
+
+use crate::advice::{Trial, advise};
+use crate::progress::Shown;
+use crate::sheets::{
+    Pace, Way, do_sheet, ending_of, print_replies, read_whole, tell, unopened, write_replies,
+};
+use lrs_cli_tasks::{Ending, ProgramFault, open_full};
+use lrs_desk::{Desk, Inventory, Keeper, Plain};
+use lrs_sheet::{Sheet, SheetFault, Tally, last_edit};
+use std::alloc::Global;
+use std::io;
+use std::io::Write;
+use std::rt::Runtime;
+
+// A copy of an inventory, in memory.
+fn copy_of(alloc: Global, inventory: &Inventory) -> Result<Plain, ProgramFault>
+    ensures content { IfOk result (λ plain. plain.content ≡ Ok inventory.now) }
+    ensures memory { IfErr result (λ e. e ≡ ProgramFault.Memory) }
+{
+    let Ok(image) = inventory.image(alloc) else {
+        return Err(ProgramFault::Memory);
+    };
+    match Plain::new(image, alloc) {
+        Ok(plain) => Ok(plain),
+        Err(_) => Err(ProgramFault::Memory),
+    }
+}
+
+/// A desk with full limits over a copy of the inventory of another, in memory.
+fn copy_desk<K: Keeper>(alloc: Global, desk: &Desk<K>) -> Result<Desk<Plain>, ProgramFault>
+    ensures image { IfOk result (λ copy. copy.image ≡ desk.now.image) }
+    ensures limits { IfOk result (λ copy. IsFull copy.limits) }
+    ensures memory { IfErr result (λ e. e ≡ ProgramFault.Memory) }
+{
+    let plain = copy_of(alloc, desk.inventory())?;
+    match open_full(plain, alloc) {
+        Ok(copy) => Ok(copy),
+        Err(_) => Err(ProgramFault::Memory),
+    }
+}
+
+// Runs a sheet's bytes behind these records at a desk, and gives the lines of its replies.
+fn try_at<K: Keeper + Drop>(
+    alloc: Global,
+    desk: Desk<K>,
+    kind: Sheet,
+    passed: u32,
+    text: &[u8],
+) -> Result<(Vec<u8>, Result<Tally, SheetFault>), ProgramFault>
+    requires full { IsFull desk.limits }
+    ensures tried { IfOk result (λ done. IsTried kind passed text.now desk.image
+        (Some []) (Some done.0.items) done.1) }
+    ensures faults { IfErr result (λ e. (e ≡ ProgramFault.Memory) ⊎ (e ≡ ProgramFault.Write)) }
+{
+    let mut copy = desk;
+    let pace = Pace::InPieces;
+    let way = Way { kind, pace, passed };
+    let tried = write_replies(alloc, way, text, Vec::new(alloc), &mut copy);
+    drop(copy);
+    tried
+}
+
+/// Runs a sheet's bytes behind these records at a copy of a desk's inventory, and gives the lines of its replies.
+fn try_sheet<K: Keeper>(
+    alloc: Global,
+    desk: &Desk<K>,
+    kind: Sheet,
+    passed: u32,
+    text: &[u8],
+) -> Result<(Vec<u8>, Result<Tally, SheetFault>), ProgramFault>
+    ensures tried { IfOk result (λ done. IsTried kind passed text.now desk.now.image
+        (Some []) (Some done.0.items) done.1) }
+    ensures faults { IfErr result (λ e. (e ≡ ProgramFault.Memory) ⊎ (e ≡ ProgramFault.Write)) }
+{
+    match copy_desk(alloc, desk) {
+        Ok(copy) => try_at(alloc, copy, kind, passed, text),
+        Err(fault) => Err(fault),
+    }
+}
+
+// Prints the replies to a sheet that was tried, and advises on what is refused.
+fn print_trial<R: Runtime<A = Global>>(rt: &R, trial: &Trial<'_>) -> Ending
+    ensures { (result ≡ ending_of_sheet trial.now.outcome)
+        ⊎ (result ≡ Ending.Stopped ProgramFault.Write) }
+{
+    if io::writer(rt).write_all(trial.replies).is_err() {
+        return Ending::Stopped(ProgramFault::Write);
+    }
+    advise(rt, trial);
+    ending_of(trial.outcome)
+}
+
+// Prints what a sheet of these bytes would be answered at a desk, and advises on what would be refused.
+fn check_text<R: Runtime<A = Global>, K: Keeper>(
+    rt: &R,
+    desk: &Desk<K>,
+    kind: Sheet,
+    text: &[u8],
+) -> Ending
+    ensures { EndsCheck kind desk.now.image result }
+{
+    match try_sheet(rt.alloc(), desk, kind, 0, text) {
+        Ok((replies, outcome)) => {
+            let trial = Trial {
+                kind,
+                text,
+                passed: 0,
+                replies: replies.as_slice(),
+                outcome,
+            };
+            print_trial(rt, &trial)
+        }
+        // of a trial, whose replies go into memory, that alone can run out
+        Err(_) => Ending::Stopped(ProgramFault::Memory),
+    }
+}
+
+/// Prints what a sheet would be answered at a desk, and on standard error what to do about each record that would be
+/// refused. Nothing is done: the sheet is tried at a copy of the inventory.
+pub fn do_check<R: Runtime<A = Global>, K: Keeper>(
+    rt: &R,
+    desk: &Desk<K>,
+    kind: Sheet,
+    sheet: &str,
+) -> Ending
+    ensures { EndsCheck kind desk.now.image result }
+{
+    match read_whole(rt, sheet) {
+        Ok(text) => check_text(rt, desk, kind, text.as_slice()),
+        Err(error) => unopened(rt, sheet, error),
+    }
+}
+
+// How many records of a sheet are passed over: none, or those that are decided where it goes on.
+fn passed_of<R: Runtime<A = Global>, K: Keeper>(
+    rt: &R,
+    desk: &Desk<K>,
+    kind: Sheet,
+    resumes: bool,
+    text: &[u8],
+) -> Result<u32, SheetFault>
+    ensures passed { IfOk result (ArePassed kind resumes desk.now.image text.now) }
+    ensures fault { IfErr result (λ _. resumes ≡ true) }
+{
+    if !resumes {
+        return Ok(0);
+    }
+    let decided = last_edit(rt.alloc(), kind, text, desk)?;
+    tell(rt, &decided);
+    Ok(decided.records)
+}
+
+// Does a sheet that was tried, if no record of it was refused. Else nothing is done, and standard error says what to do
+// about it.
+fn do_tried<R: Runtime<A = Global>, K: Keeper>(
+    rt: &R,
+    desk: &mut Desk<K>,
+    trial: &Trial<'_>,
+    pace: Pace,
+    shown: Shown,
+) -> Ending
+    ensures ended { EndsTried K.may_hold
+        (record { kind = trial.now.kind; pace = pace; passed = trial.now.passed })
+        trial.now.text.now trial.now.outcome desk.old desk.new result }
+    ensures left { IsAfterCommands desk.old.limits (state_of desk.old.image)
+        (state_of desk.new.image) }
+{
+    match trial.outcome {
+        Ok(tally) if tally.refused == 0 => {
+            let way = Way {
+                kind: trial.kind,
+                pace,
+                passed: trial.passed,
+            };
+            print_replies(rt, way, trial.text, desk, shown)
+        }
+        _ => {
+            advise(rt, trial);
+            ending_of(trial.outcome)
+        }
+    }
+}
+
+// Does the bytes of a sheet, or goes on with them, only if no record of them is refused.
+fn do_text<R: Runtime<A = Global>, K: Keeper>(
+    rt: &R,
+    desk: &mut Desk<K>,
+    kind: Sheet,
+    resumes: bool,
+    text: &[u8],
+    of_file: Pace,
+    shown: Shown,
+) -> Ending
+    ensures ended { EndsAll K.may_hold kind resumes desk.old desk.new result }
+    ensures left { IsAfterCommands desk.old.limits (state_of desk.old.image)
+        (state_of desk.new.image) }
+{
+    let passed = match passed_of(rt, desk, kind, resumes, text) {
+        Ok(passed) => passed,
+        Err(fault) => return Ending::Stopped(ProgramFault::from(fault)),
+    };
+    match try_sheet(rt.alloc(), desk, kind, passed, text) {
+        Ok((replies, outcome)) => {
+            let trial = Trial {
+                kind,
+                text,
+                passed,
+                replies: replies.as_slice(),
+                outcome,
+            };
+            do_tried(rt, desk, &trial, of_file, shown)
+        }
+        // of a trial memory alone can run out
+        Err(_) => Ending::Stopped(ProgramFault::Memory),
+    }
+}
+
+/// Does a sheet of this kind at a desk, or goes on with it, only if no record of it is refused: it is tried first at a
+/// copy of the inventory. Where something is refused, nothing is done, and standard error says what to do about it.
+fn do_all<R: Runtime<A = Global>, K: Keeper>(
+    rt: &R,
+    desk: &mut Desk<K>,
+    kind: Sheet,
+    resumes: bool,
+    sheet: &str,
+    of_file: Pace,
+    shown: Shown,
+) -> Ending
+    ensures ended { EndsAll K.may_hold kind resumes desk.old desk.new result }
+    ensures left { IsAfterCommands desk.old.limits (state_of desk.old.image)
+        (state_of desk.new.image) }
+{
+    match read_whole(rt, sheet) {
+        Ok(text) => do_text(rt, desk, kind, resumes, text.as_slice(), of_file, shown),
+        Err(error) => unopened(rt, sheet, error),
+    }
+}
+
+/// Does a sheet of this kind at a desk: with `all` only if no record of it is refused, and else each record by itself.
+pub fn do_records<R: Runtime<A = Global>, K: Keeper>(
+    rt: &R,
+    desk: &mut Desk<K>,
+    kind: Sheet,
+    resumes: bool,
+    all: bool,
+    sheet: &str,
+    of_file: Pace,
+    shown: Shown,
+) -> Ending
+    ensures ended { EndsRecords K.may_hold kind resumes all desk.old desk.new result }
+    ensures left { IsAfterCommands desk.old.limits (state_of desk.old.image)
+        (state_of desk.new.image) }
+{
+    if all {
+        do_all(rt, desk, kind, resumes, sheet, of_file, shown)
+    } else {
+        do_sheet(rt, desk, kind, resumes, sheet, of_file, shown)
+    }
+}

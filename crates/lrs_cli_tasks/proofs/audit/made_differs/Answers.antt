@@ -1,8 +1,0 @@
-use Rattle.std.proofs.Common.{refl}
-use Rattle.lrs_cli_tasks.proofs.Trying.{compared}
-use Rattle.lrs_cli_tasks.proofs.audit.made_differs.Goals as goal
-
-pub returns-in-Ok-clause-audited : goal.returns-in-Ok-clause-audited
-returns-in-Ok-clause-audited g c =
-    compared c.args.inventory.now c.run_log.new.desk.image _ _ _ c.difference_from.result refl refl
-    c.requires.whole c.in-Ok.ensures.made c.difference_from.ensures

@@ -1,0 +1,46 @@
+//! What opens the inventories in files.
+
+use crate::desk::OpenFault;
+use lrs_image::Keeper;
+use std::rt::HostRuntime;
+
+/// Opens the keepers of inventories in files, for all work or for questions alone.
+pub trait Files {
+    ghost use Rattle.std.specs.Prelude.{◌≡◌, IfErr, IfOk, IfSome, Result};
+    ghost use Rattle.lrs_machine.specs.declared.image.Image.{Image};
+    ghost use Rattle.lrs_machine.specs.declared.table.Table.{Table};
+
+    /// Keeps an inventory in a file.
+    type Kept: Keeper + Drop;
+
+    /// Keeps an inventory in a file for questions alone.
+    type Seen: Keeper + Drop;
+
+    /// What an opening that only looks may have read in the file at a path.
+    ghost has_read: { Result Image Table → Type 0 };
+
+    /// Opens the file of an inventory, or makes one where there is none. A new file gets sums of its pages where that
+    /// is asked for.
+    ///
+    /// # Errors
+    /// `Memory` if memory runs out, and `Keep` if the file cannot be opened for another cause.
+    fn open(
+        &self,
+        rt: &HostRuntime,
+        path: &str,
+        new_has_sums: bool,
+    ) -> Result<Self::Kept, OpenFault>;
+
+    /// Opens the file of an inventory for questions. What is kept is what the file held, and nothing else. There is
+    /// nothing where this opening does not take the file, as one that is new or of version 1: it is left to `open`.
+    ///
+    /// # Errors
+    /// `Memory` if memory runs out.
+    fn open_to_look(&self, rt: &HostRuntime, path: &str) -> Result<Option<Self::Seen>, OpenFault>
+        ensures read { IfOk result (λ found. IfSome found (λ keeper. (c : Result Image Table)
+            → Self.Seen.may_hold keeper c → has_read c)) }
+        ensures fault { IfErr result (λ e. e ≡ OpenFault.Memory) };
+
+    /// Closes a keeper, and lets it go. Where that fails, its log still has what was committed.
+    fn close(&self, keeper: Self::Kept);
+}

@@ -1,5 +1,0 @@
-use Rattle.lrs_log.proofs.Again.{log_makes_state}
-use Rattle.lrs_log.proofs.laws.a_log_makes_the_state.Goals as goal
-
-pub returns : goal.returns
-returns c = log_makes_state

@@ -1,0 +1,82 @@
+//! Desks whose keeper fails at the second commit, or wants memory there, or is not loaded.
+
+use crate::words::{call_named, open, print};
+use lrs_desk::{Desk, Failing, Failure, Fault, Keeper, Plain};
+use lrs_machine::Limits;
+use lrs_promises::{Call, CallFault, headline};
+use lrs_sheet::SheetFault;
+
+/// What a fault is called.
+fn name_of(fault: CallFault) -> &'static str {
+    match fault {
+        CallFault::Sheet(SheetFault::Desk(Fault::Keep)) => "Keep",
+        CallFault::Sheet(SheetFault::Desk(Fault::MustReopen)) => "MustReopen",
+        CallFault::Sheet(SheetFault::Desk(Fault::Memory)) => "Memory",
+        CallFault::Unavailable => "Unavailable",
+        _ => "another fault",
+    }
+}
+
+/// Does a call, and prints what it writes, or its fault.
+fn do_one<K: Keeper>(rt: &HostRuntime, call: Call, desk: &mut Desk<K>) -> Option<()> {
+    match headline(rt.alloc(), &[call], desk) {
+        Ok(written) => {
+            for text in written.iter() {
+                print(rt, text.as_slice())?;
+            }
+            Some(())
+        }
+        Err(fault) => println!(rt; "{}", name_of(fault)).ok(),
+    }
+}
+
+/// Does the call of each word with this prefix, whatever became of the one before it, and prints how many links there are.
+fn do_each<K: Keeper>(
+    rt: &HostRuntime,
+    words: &[String],
+    prefix: &str,
+    desk: &mut Desk<K>,
+) -> Option<()> {
+    for word in words {
+        if let Some(named) = word.as_str().strip_prefix(prefix) {
+            do_one(rt, call_named(rt, named)?, desk)?;
+        }
+    }
+    println!(rt; "{} links", desk.inventory().links()).ok()
+}
+
+/// Does them at a desk over a keeper, and again at the next one over it.
+fn run_broken<K: Keeper + Drop>(
+    rt: &HostRuntime,
+    words: &[String],
+    prefix: &str,
+    keeper: K,
+) -> Option<()> {
+    let mut desk = open(rt, Limits::full(), keeper)?;
+    do_each(rt, words, prefix, &mut desk)?;
+    let mut next = open(rt, Limits::full(), desk.into_keeper())?;
+    do_each(rt, words, prefix, &mut next)
+}
+
+/// With one record in each commit, and with two.
+fn run_failure(rt: &HostRuntime, words: &[String], failure: Failure) -> Option<()> {
+    for prefix in ["broken:", "split:"] {
+        let keeper = Failing::over(Plain::empty(rt.alloc()), 2, 1, failure);
+        run_broken(rt, words, prefix, keeper)?;
+    }
+    Some(())
+}
+
+/// Whether a desk is opened over a keeper.
+fn is_opened<K: Keeper + Drop>(rt: &HostRuntime, keeper: K) -> bool {
+    open(rt, Limits::full(), keeper).is_some()
+}
+
+/// Over a keeper that fails, for each way in which it does, and over one that is not loaded.
+pub fn run_failing(rt: &HostRuntime, words: &[String]) -> Option<()> {
+    run_failure(rt, words, Failure::Old)?;
+    run_failure(rt, words, Failure::New)?;
+    run_failure(rt, words, Failure::Memory)?;
+    let keeper = Failing::over(Plain::empty(rt.alloc()), 0, 0, Failure::Old);
+    println!(rt; "opened: {}", is_opened(rt, keeper)).ok()
+}
