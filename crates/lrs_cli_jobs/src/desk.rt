@@ -31,7 +31,11 @@ pub(crate) fn open_desk<F: Files>(
     let keeper = files.open(rt, path, new_has_sums)?;
     match Desk::open(keeper, Limits::full(), rt.alloc()) {
         Ok(desk) => Ok(desk),
-        Err((fault, _)) => Err(fault),
+        Err((fault, keeper)) => {
+            // As a call, the drop is one step to prove, and not one for each part.
+            drop(keeper);
+            Err(fault)
+        }
     }
 }
 
@@ -58,7 +62,12 @@ pub(crate) fn open_desk_to_look<F: Files>(
     };
     match Desk::open(keeper, Limits::full(), rt.alloc()) {
         Ok(desk) => Ok(Some(desk)),
-        Err((OpenFault::Keep, _)) => Ok(None),
-        Err((fault, _)) => Err(fault),
+        Err((fault, keeper)) => {
+            drop(keeper);
+            match fault {
+                OpenFault::Keep => Ok(None),
+                fault => Err(fault),
+            }
+        }
     }
 }

@@ -54,7 +54,12 @@ fn do_in_memory<R: Runtime<A = Global> + Net>(rt: &R, work: Work<'_>, shown: Sho
     ensures { EndsInMemory ⟦<Plain as Keeper>⟧.may_hold work.entry result }
 {
     match open_in_memory(rt.alloc()) {
-        Ok(mut desk) => do_work(rt, &mut desk, work, Pace::InPieces, shown),
+        Ok(mut desk) => {
+            let ending = do_work(rt, &mut desk, work, Pace::InPieces, shown);
+            // As a call, the drop is one step to prove, and not one for each part.
+            drop(desk);
+            ending
+        }
         Err(fault) => Ending::Stopped(fault),
     }
 }
@@ -129,7 +134,9 @@ fn do_at<K: Keeper + Drop>(
     requires behind { desk.is_ahead ≡ false }
     ensures { (after : DeskView K) × HasWorked K.may_hold work.entry desk after result }
 {
-    do_work(rt, &mut desk, work, Pace::InGroups, shown)
+    let ending = do_work(rt, &mut desk, work, Pace::InGroups, shown);
+    drop(desk);
+    ending
 }
 
 // Whether a file with a byte is at a path. One that is missing or empty may stand beside a log with commits, which must

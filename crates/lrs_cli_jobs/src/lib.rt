@@ -1,8 +1,10 @@
-//! What the program does for a job, in memory or in a file, whatever opens its files.
+//! What the program does for its words: a job, in memory or in a file, whatever opens its files.
 #![tactic(auto)]
 
 mod desk;
 mod jobs;
+mod program;
 mod service;
 
 pub use jobs::do_job;
+pub use program::run;

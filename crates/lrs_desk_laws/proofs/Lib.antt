@@ -6,3 +6,13 @@ pub mod Undone
 pub mod RowsBack
 pub mod Stepping
 pub mod Never
+pub mod OwnRows
+pub mod Routes
+pub mod Runs
+pub mod Maximal
+pub mod Under
+pub mod Fewest
+pub mod Apart
+pub mod Left
+pub mod Witness
+pub mod Overlapping

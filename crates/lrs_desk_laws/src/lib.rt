@@ -1,5 +1,5 @@
-//! Laws of a desk: its calls are steps of runs that may stop, and what its inventory says of the ground determines its
-//! rows.
+//! Laws of a desk: its calls are steps of runs that may stop; and of the rows of an inventory: they are a function of the
+//! courses of its routes and of what is held, and no list of rows that stands for the same is shorter.
 #![tactic(auto)]
 
 pub mod row_laws;

@@ -1,8 +1,9 @@
-//! One side of what lies on a stretch is removed from canonical rows.
+//! Sides: what has one, and one side of what lies on a stretch removed from canonical rows.
 
 ghost use Rattle.std.specs.Prelude.{◌≡◌, ◌≤◌, ◌++◌, IsTrue, IfOk, OnOk};
 ghost use Rattle.std.specs.List.{flat_map};
 ghost use Rattle.lrs_measure.specs.Lists.{each_two};
+ghost use Rattle.lrs_events.specs.Members.{has_side};
 ghost use Rattle.lrs_events.specs.Spans.{are_rows, span_before};
 ghost use Rattle.lrs_events_rows.specs.Sides.{shared_side, side_less, clip_on, side_part, side_rest, ClearsSide};
 
@@ -10,9 +11,19 @@ use crate::change::difference;
 use crate::clips::push_clip;
 use crate::merger::merged;
 use crate::removals::Removal;
-use lrs_events::{Side, Span};
+use lrs_events::{LinkSide, Side, Span};
 use lrs_measure::limits::LONGEST_ROUTE;
 use std::alloc::{AllocError, Global};
+
+/// Whether a side of the route or both have this side of it.
+pub fn has_side(side: Side, of: LinkSide) -> bool
+    ensures { result ≡ has_side side of }
+{
+    match (side, of) {
+        (Side::B, _) | (Side::L, LinkSide::Left) | (Side::R, LinkSide::Right) => true,
+        (Side::L, LinkSide::Right) | (Side::R, LinkSide::Left) => false,
+    }
+}
 
 /// What two sides share.
 fn shared_side(a: Side, b: Side) -> Option<Side>

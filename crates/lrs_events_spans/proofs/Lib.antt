@@ -7,4 +7,4 @@ mod Finding
 mod SearchFree
 mod Behind
 mod Gathering
-pub mod GoneOn
+pub mod Said

@@ -1,16 +1,11 @@
 -- Rows of a route of which a stretch is replaced by other ground.
-use Rattle.std.specs.Prelude.{◌≡◌, ℕ, ◌+◌, ◌-◌, ◌<◌, Bool, true, false, nat_le, List}
+use Rattle.std.specs.Prelude.{◌≡◌, ℕ, ◌+◌, ◌-◌, ◌<◌, Bool, false, nat_le, List}
 use Rattle.std.specs.List.{list_all}
 use Rattle.lrs_measure.specs.Texts.{Name}
 use Rattle.lrs_measure.specs.Limits.{longest_route}
 use Rattle.lrs_events.specs.declared.side.LinkSide.{LinkSide}
 use Rattle.lrs_events.specs.declared.span.Span.{Span}
-use Rattle.lrs_events.specs.Changes.{changed_rows}
 use Rattle.lrs_events.specs.Members.{is_member}
-use Rattle.lrs_events.specs.Spans.{are_rows}
-use Rattle.lrs_events_rows.specs.Removals.{is_within, IsThat}
-use Rattle.lrs_events_spans.specs.Plans.{IsPlan}
-use Rattle.lrs_events_spans.specs.declared.realignment.Realigned.{Realigned}
 
 -- Where len millimetres come for those from `from` up to `to`, what lay before stays, nothing lies on them, and what lay behind goes on behind them.
 pub record IsRealigned (from to len : ℕ) (rows new : List Span) : Type 0 where
@@ -21,10 +16,3 @@ pub record IsRealigned (from to len : ℕ) (rows new : List Span) : Type 0 where
 -- whether no row ends beyond the longest route where what lies behind `to` begins at another chainage
 abbrev pub have_room_behind : ℕ → ℕ → List Span → Bool
 have_room_behind to at rows = list_all (λ r. nat_le ((r.to - to) + at) longest_route) rows
-
--- The change makes canonical rows of what stays, and what lay on the stretch is handed back as canonical rows.
-pub record IsRealigning (from to len : ℕ) (rows : List Span) (r : Realigned) : Type 0 where
-  pub plan : IsPlan rows r.change
-  pub realigned : IsRealigned from to len rows (changed_rows r.change rows)
-  pub left_rows : are_rows r.left.items ≡ true
-  pub left : IsThat (λ class asset j s. is_within from to j) rows r.left.items

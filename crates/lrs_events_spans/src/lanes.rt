@@ -6,7 +6,6 @@ ghost use Rattle.lrs_measure.specs.Lists.{each_two};
 ghost use Rattle.lrs_measure.specs.Texts.{Name};
 ghost use Rattle.lrs_events.specs.declared.span.Span.{Span as DeclaredSpan};
 ghost use Rattle.lrs_events.specs.Changes.{has_row, changed};
-ghost use Rattle.lrs_events.specs.Members.{has_side};
 ghost use Rattle.lrs_events.specs.Spans.{span_before};
 ghost use Rattle.lrs_events_lanes.specs.Order.{place_before};
 ghost use Rattle.lrs_events_spans.specs.declared.lanes.ClassLanes.{ClassLanes as DeclaredLanes};
@@ -15,6 +14,7 @@ ghost use Rattle.lrs_events_spans.specs.Opened.{HasLaneRoom, SameClass, SameLane
 
 use lrs_events::{ClassName, LinkSide, Side, Span};
 use lrs_events_lanes::Lane;
+use lrs_events_rows::sides::has_side;
 use std::alloc::{AllocError, Global};
 
 /// The lanes of a class: of each side of the route the rows with that side or both.
@@ -23,16 +23,6 @@ pub struct ClassLanes {
     pub class: ClassName,
     pub left: Lane,
     pub right: Lane,
-}
-
-/// Whether a side of the route or both have this side of it.
-fn has_side(side: Side, of: LinkSide) -> bool
-    ensures { result ≡ has_side side of }
-{
-    match (side, of) {
-        (Side::B, _) | (Side::L, LinkSide::Left) | (Side::R, LinkSide::Right) => true,
-        (Side::L, LinkSide::Right) | (Side::R, LinkSide::Left) => false,
-    }
 }
 
 /// Whether the row is of the class and on the side.

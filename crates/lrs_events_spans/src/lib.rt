@@ -9,7 +9,6 @@ mod open_spans;
 mod overlaps;
 mod plans;
 mod queries;
-pub mod realignment;
 mod search;
 mod spans;
 

@@ -76,11 +76,12 @@ impl TryCopy for RouteChange {
             route: self.route,
             name: self.name,
             keys: self.keys.copy(alloc)?,
-            course: copy_course(&self.course)?,
-            marks: copy_marks(&self.marks)?,
             refs: self.refs.copy(alloc)?,
             spans_gone: self.spans_gone.copy(alloc)?,
             spans_come: self.spans_come.copy(alloc)?,
+            // last, since they have most parts, and what is alive where another fails is dropped there
+            marks: copy_marks(&self.marks)?,
+            course: copy_course(&self.course)?,
         })
     }
 }

@@ -55,15 +55,33 @@ impl KeptImage {
     pub fn of_image(alloc: Global, image: Image) -> Result<KeptImage, AllocError>
         ensures { IfOk result (λ kept. image_of kept ≡ image) }
     {
-        Ok(KeptImage {
-            links: chunks_of(alloc, image.links.into_vec())?,
-            classes: chunks_of(alloc, image.classes.into_vec())?,
-            assets: chunks_of(alloc, image.assets.into_vec())?,
-            routes: chunks_of(alloc, image.routes.into_vec())?,
-            entered: image.entered.into_vec(),
-            gone: image.gone.into_vec(),
-            edits: image.edits.into_vec(),
-        })
+        let Image {
+            links,
+            classes,
+            assets,
+            routes,
+            entered,
+            gone,
+            edits,
+        } = image;
+        match named_chunks(alloc, links, classes, assets, routes) {
+            Ok((links, classes, assets, routes)) => Ok(KeptImage {
+                links,
+                classes,
+                assets,
+                routes,
+                entered: entered.into_vec(),
+                gone: gone.into_vec(),
+                edits: edits.into_vec(),
+            }),
+            Err(AllocError) => {
+                // As calls, the drops are one step each to prove, and not one for each part.
+                drop(entered);
+                drop(gone);
+                drop(edits);
+                Err(AllocError)
+            }
+        }
     }
 
     /// An equal image.
@@ -77,12 +95,40 @@ impl KeptImage {
             links: rows_of(alloc, &self.links)?,
             classes: rows_of(alloc, &self.classes)?,
             assets: rows_of(alloc, &self.assets)?,
-            routes: copies_of(alloc, &self.routes)?,
             entered: Rows::from_vec(Vec::from_slice(alloc, &self.entered)?),
             gone: Rows::from_vec(Vec::from_slice(alloc, &self.gone)?),
             edits: copied_edits(alloc, &self.edits)?,
+            routes: copies_of(alloc, &self.routes)?,
         })
     }
+}
+
+/// The lists in which rows come and go anywhere, in chunks.
+fn named_chunks(
+    alloc: Global,
+    links: Rows<Link>,
+    classes: Rows<Class>,
+    assets: Rows<Asset>,
+    routes: Rows<RouteRow>,
+) -> Result<
+    (
+        Chunked<Link>,
+        Chunked<Class>,
+        Chunked<Asset>,
+        Chunked<RouteRow>,
+    ),
+    AllocError,
+>
+    ensures links { IfOk result (λ lists. lists.0.rows ≡ links) }
+    ensures classes { IfOk result (λ lists. lists.1.rows ≡ classes) }
+    ensures assets { IfOk result (λ lists. lists.2.rows ≡ assets) }
+    ensures routes { IfOk result (λ lists. lists.3.rows ≡ routes) }
+{
+    let routes = chunks_of(alloc, routes.into_vec())?;
+    let assets = chunks_of(alloc, assets.into_vec())?;
+    let classes = chunks_of(alloc, classes.into_vec())?;
+    let links = chunks_of(alloc, links.into_vec())?;
+    Ok((links, classes, assets, routes))
 }
 
 fn copied_edits(alloc: Global, edits: &[Edit]) -> Result<Rows<Edit>, AllocError>
@@ -174,9 +220,17 @@ impl KeptImage {
         ensures ok { OnOk result (image_of self.new ≡ apply change (image_of self.old)) }
         ensures err { OnErr result (image_of self.new ≡ image_of self.old) }
     {
-        let opened = self.prepare(alloc, &change.difference)?;
-        self.finish(opened, change);
-        Ok(())
+        match self.prepare(alloc, &change.difference) {
+            Ok(opened) => {
+                self.finish(opened, change);
+                Ok(())
+            }
+            Err(AllocError) => {
+                // As a call, the drop is one step to prove, and not one for each part.
+                drop(change);
+                Err(AllocError)
+            }
+        }
     }
 
     /// Makes changes, each of what those before it made.

@@ -28,7 +28,7 @@ use Rattle.lrs_events.specs.Spans.{are_rows, holds_by_spans}
 use Rattle.lrs_events_rows.proofs.Rows.{rows_from}
 use Rattle.lrs_events_rows.proofs.Unique.{some_side}
 use Rattle.lrs_events_spans.specs.Realigning.{IsRealigned}
-use Rattle.lrs_events_spans.proofs.GoneOn.{its_end, said_by}
+use Rattle.lrs_events_spans.proofs.Said.{its_end, said_by}
 use Rattle.lrs_machine.specs.declared.command.Command.TheVariants as verb
 use Rattle.lrs_machine.specs.declared.image.RouteRow.{RouteRow}
 use Rattle.lrs_machine.specs.declared.image.Image.{Image}

@@ -13,6 +13,7 @@ use lrs_image_sound::first_unsound;
 use lrs_machine::{Image, Table};
 use std::alloc::{AllocError, Global};
 use std::marker::Model;
+use std::mem;
 
 #[derive(Drop)]
 enum Content {
@@ -88,7 +89,7 @@ impl Plain {
     {
         self.changes.clear();
         self.kept = 0;
-        self.base = Content::Sound(made);
+        drop(mem::replace(&mut self.base, Content::Sound(made)));
     }
 }
 
@@ -119,9 +120,16 @@ impl Keeper for Plain {
             Content::Unsound(table) => return Err(LoadFault::Unsound(*table)),
         };
         let made = made_of(alloc, base, &self.changes)?;
-        let image = made.image(alloc)?;
-        self.fold(made);
-        Ok(image)
+        match made.image(alloc) {
+            Ok(image) => {
+                self.fold(made);
+                Ok(image)
+            }
+            Err(AllocError) => {
+                drop(made);
+                Err(LoadFault::Memory)
+            }
+        }
     }
 
     fn stage(&mut self, change: Change) -> Result<(), AllocError> {
@@ -143,6 +151,11 @@ fn made_of(alloc: Global, base: &KeptImage, changes: &[Change]) -> Result<KeptIm
 {
     let image = base.image(alloc)?;
     let mut made = KeptImage::of_image(alloc, image)?;
-    made.change_all(alloc, changes)?;
-    Ok(made)
+    match made.change_all(alloc, changes) {
+        Ok(()) => Ok(made),
+        Err(AllocError) => {
+            drop(made);
+            Err(AllocError)
+        }
+    }
 }

@@ -1,6 +1,6 @@
 //! Rows in order, in chunks.
 
-ghost use Rattle.std.specs.Prelude.{◌≡◌, ◌+◌, ◌<◌, ◌≤◌, [], ◌∷◌, ◌++◌, length, filter, not, true, IsTrue, ◌↔◌, IfOk, OnOk, OnErr, vec_len, vec_capacity};
+ghost use Rattle.std.specs.Prelude.{◌≡◌, ◌+◌, ◌<◌, ◌≤◌, [], ◌∷◌, ◌++◌, length, filter, not, true, IsTrue, ◌↔◌, OnOk, OnErr, vec_len, vec_capacity};
 ghost use Rattle.std.specs.List.{find};
 ghost use Rattle.std.specs.Option.{option_map};
 ghost use Rattle.std.specs.Ordering.{is_eq};
@@ -14,7 +14,7 @@ use crate::insertion::{put, put_last};
 use crate::iter::RowsIter;
 use crate::removal::remove_among;
 use crate::search::find_among;
-use lrs_measure::{Keyed, Ordered, TryCopy};
+use lrs_measure::{Keyed, Ordered};
 use std::alloc::{AllocError, Global};
 use std::marker::Model;
 
@@ -146,38 +146,6 @@ impl<T: Ordered + Drop> Chunked<T> {
         self.len += 1;
         self.room -= 1;
         Ok(())
-    }
-}
-
-impl<T: Ordered + Copy + Drop> Chunked<T> {
-    /// Equal rows, with no room for more.
-    ///
-    /// # Errors
-    /// When memory runs out.
-    pub fn copy(&self, alloc: Global) -> Result<Chunked<T>, AllocError>
-        ensures { IfOk result (λ all. all.rows ≡ self.now.rows) }
-    {
-        let mut all = Chunked::new(alloc);
-        for row in self.iter() {
-            all.push(*row)?;
-        }
-        Ok(all)
-    }
-}
-
-impl<T: Ordered + TryCopy + Drop> Chunked<T> {
-    /// Equal rows, of copies, with no room for more.
-    ///
-    /// # Errors
-    /// When memory runs out.
-    pub fn copy_each(&self, alloc: Global) -> Result<Chunked<T>, AllocError>
-        ensures { IfOk result (λ all. all.rows ≡ self.now.rows) }
-    {
-        let mut all = Chunked::new(alloc);
-        for row in self.iter() {
-            all.push(row.copy(alloc)?)?;
-        }
-        Ok(all)
     }
 }
 

@@ -19,5 +19,4 @@ pub mod Agreeing
 pub mod Ends
 pub mod Fewest
 pub mod Trips
-pub mod Reopened
 pub mod Leaving

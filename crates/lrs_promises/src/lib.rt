@@ -6,12 +6,12 @@ mod calls;
 mod canonical_rows;
 pub mod determinism;
 pub mod log;
-mod restart;
 pub mod safe;
+mod stop;
 mod translation;
 
 pub use call_list::headline;
 pub use calls::{Call, CallFault};
 pub use canonical_rows::rows;
-pub use restart::{NotReopened, close_and_open, stops};
+pub use stop::stops;
 pub use translation::{Trip, round_trip};

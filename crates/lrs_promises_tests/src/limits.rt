@@ -18,7 +18,10 @@ fn run_few<K: Keeper + Drop>(
     keeper: K,
 ) -> Option<()> {
     let mut desk = open(rt, FEW, keeper)?;
-    do_calls(rt, words, prefix, &mut desk)
+    let done = do_calls(rt, words, prefix, &mut desk);
+    // As a call, the drop is one step to prove, and not one for each part.
+    drop(desk);
+    done
 }
 
 /// One record at a time, and together, where groups end at refusals.

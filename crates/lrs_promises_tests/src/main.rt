@@ -23,7 +23,7 @@ use lrs_desk::{Desk, Keeper, Plain, Staged};
 use lrs_machine::Limits;
 use lrs_position::{EnteredPosition, RouteName, read_expr, read_method, read_target};
 use lrs_promises::{round_trip, rows};
-use lrs_store::{Tables, close_files, open_files};
+use lrs_store::{Tables, close_and_open, close_files, open_files};
 use lrs_store_image::Reader;
 use services::serve_words;
 use sqlite::{Alter, FileStore, Files, Options};
@@ -59,8 +59,15 @@ fn take<K: Keeper>(rt: &HostRuntime, desk: &mut Desk<K>, words: &[String]) -> Op
 /// Does what the words say at a desk over a keeper, and gives it back.
 fn run<K: Keeper + Drop>(rt: &HostRuntime, words: &[String], keeper: K) -> Option<K> {
     let mut desk = open(rt, Limits::full(), keeper)?;
-    take(rt, &mut desk, words)?;
-    Some(desk.into_keeper())
+    let done = take(rt, &mut desk, words);
+    let keeper = desk.into_keeper();
+    match done {
+        Some(()) => Some(keeper),
+        None => {
+            drop(keeper);
+            None
+        }
+    }
 }
 
 /// The same over tables.
@@ -79,31 +86,37 @@ fn open_tables<D: Disk + Drop>(
     files: Files<D>,
 ) -> Option<Tables<FileStore<D>, Reader>> {
     if files.log.may_be_used() && files.db.may_be_used() {
-        open_files(rt.alloc(), files, Options::new(7), Reader).ok()
-    } else {
-        None
+        return open_files(rt.alloc(), files, Options::new(7), Reader).ok();
     }
+    drop(files);
+    None
 }
 
-/// Opens files, does what the words say, and closes them.
-fn run_files<D: Disk + Drop>(
+/// Closes the files of tables, and opens them again.
+fn reopen<D: Disk + Drop>(
     rt: &HostRuntime,
-    words: &[String],
-    files: Files<D>,
-) -> Option<Files<D>> {
-    let tables = open_tables(rt, files)?;
-    close_files(run_tables(rt, words, tables)?).ok()
+    tables: Tables<FileStore<D>, Reader>,
+) -> Option<Tables<FileStore<D>, Reader>> {
+    close_and_open(rt.alloc(), tables, Options::new(7), Reader).ok()
+}
+
+/// Opens files, does what the words say, closes and opens them, does it again, and closes them.
+fn run_files<D: Disk + Drop>(rt: &HostRuntime, words: &[String], files: Files<D>) -> Option<()> {
+    let tables = run_tables(rt, words, open_tables(rt, files)?)?;
+    let tables = run_tables(rt, words, reopen(rt, tables)?)?;
+    drop(close_files(tables).ok()?);
+    Some(())
 }
 
 /// Over an inventory in memory.
 fn run_plain(rt: &HostRuntime, words: &[String]) -> Option<()> {
-    run(rt, words, Plain::empty(rt.alloc()))?;
+    drop(run(rt, words, Plain::empty(rt.alloc()))?);
     Some(())
 }
 
 /// Over tables in memory.
 fn run_memory(rt: &HostRuntime, words: &[String]) -> Option<()> {
-    run_tables(rt, words, Tables::in_memory(rt.alloc(), Reader).ok()?)?;
+    drop(run_tables(rt, words, Tables::in_memory(rt.alloc(), Reader).ok()?)?);
     Some(())
 }
 
@@ -113,15 +126,16 @@ fn run_disks(rt: &HostRuntime, words: &[String]) -> Option<()> {
         log: Memory::new(rt.alloc()),
         db: Memory::new(rt.alloc()),
     };
-    let files = run_files(rt, words, files)?;
-    run_files(rt, words, files)?;
-    Some(())
+    run_files(rt, words, files)
 }
 
 /// Serves at a desk over an inventory in memory.
 fn run_services(rt: &HostRuntime, words: &[String]) -> Option<()> {
     let mut desk = open(rt, Limits::full(), Plain::empty(rt.alloc()))?;
-    serve_words(rt, words, &mut desk)
+    let served = serve_words(rt, words, &mut desk);
+    // As a call, the drop is one step to prove, and not one for each part.
+    drop(desk);
+    served
 }
 
 /// Over each keeper in turn, and then the services, the desks of few limits and those whose keeper fails.

@@ -5,6 +5,7 @@
 #![tactic(auto)]
 
 mod files;
+mod restart;
 mod rows;
 mod trees;
 mod verdict;
@@ -14,3 +15,4 @@ pub use lrs_store_files::{CloseFault, Untaken};
 pub use lrs_store_keeper::Tables;
 pub use lrs_store_tables::StoreFault;
 pub use lrs_store_tables::stored_rows::ReadImage;
+pub use restart::{NotReopened, close_and_open};

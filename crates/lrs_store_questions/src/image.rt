@@ -76,12 +76,19 @@ fn read_content<S: Alter>(alloc: Global, store: &mut S) -> Result<Image, LoadFau
     let begun = begin(alloc, named, routes)?;
     let (entered, gone) = match read_ledgers(alloc, store) {
         Ok(rows) => rows,
-        Err(error) => return Err(fault_of(error)),
+        Err(error) => {
+            // As a call, the drop is one step to prove, and not one for each part.
+            drop(begun);
+            return Err(fault_of(error));
+        }
     };
     let held = with_ledgers(alloc, begun, entered, gone)?;
     match read_edits(alloc, store) {
         Ok((edits, origins)) => finish(alloc, held, edits, origins),
-        Err(error) => Err(fault_of(error)),
+        Err(error) => {
+            drop(held);
+            Err(fault_of(error))
+        }
     }
 }
 

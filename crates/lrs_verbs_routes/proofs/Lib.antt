@@ -8,4 +8,5 @@ pub mod TurnedRoute
 pub mod Closed
 pub mod RealignChecks
 pub mod MovedReferents
+pub mod GoneOn
 pub mod RealignRoute

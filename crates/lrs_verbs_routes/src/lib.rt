@@ -5,6 +5,7 @@
 mod close;
 mod join;
 mod realign;
+mod realigned_rows;
 mod recalibrate;
 mod renumber;
 mod split;

@@ -9,10 +9,10 @@ ghost use Rattle.lrs_verbs_routes.specs.Realignments.{check_stretch, free_course
 ghost use Rattle.lrs_verbs_routes.specs.Splits.{refs_behind};
 ghost use Rattle.lrs_inventory.specs.Plans.{Answers, Plans};
 
+use crate::realigned_rows::{RealignedRows, plan_rows};
 use crate::split::names_behind;
 use lrs_element::{Course, JoinFault, Mark, Marks, Piece};
 use lrs_events::Gone;
-use lrs_events_spans::realignment::{Realigned as RealignedRows, plan_realign as plan_rows};
 use lrs_image::{ReferentChange, RouteChange};
 use lrs_image_laws::taken_away;
 use lrs_inventory::checks::{check_free, new_marks, route_named};

@@ -11,13 +11,13 @@ use Rattle.lrs_events_spans.specs.Realigning.{have_room_behind}
 use Rattle.lrs_verbs_routes.proofs.RealignChecks.{limit, room, in_limits}
 use Rattle.lrs_verbs_routes.proofs.realign.realign_stretch.Goals as goal
 
-pub plan_realign-requires-clause-room : goal.plan_realign-requires-clause-room
-plan_realign-requires-clause-room c =
+pub plan_rows-requires-clause-room : goal.plan_rows-requires-clause-room
+plan_rows-requires-clause-room c =
     subst (λ (n : ℕ). have_room_behind c.args.to (c.args.from + n) c.args.route_row.now.spans ≡ true) (sym c.len-len.ensures.len)
     (room c.args.route_row.now.route.course c.args.line.now.come c.args.line.now.course c.args.from c.args.to c.requires.order c.requires.inside c.requires.course c.len-len-2.ensures.limits c.args.route_row.now.spans c.requires.ends)
 
-pub plan_realign-requires-clause-limit : goal.plan_realign-requires-clause-limit
-plan_realign-requires-clause-limit c =
+pub plan_rows-requires-clause-limit : goal.plan_rows-requires-clause-limit
+plan_rows-requires-clause-limit c =
     subst (λ (n : ℕ). c.args.from + n ≤ longest_route) (sym c.len-len.ensures.len)
     (limit c.args.route_row.now.route.course c.args.line.now.come c.args.line.now.course c.args.from c.args.to c.requires.order c.requires.inside c.requires.course c.len-len-2.ensures.limits)
 

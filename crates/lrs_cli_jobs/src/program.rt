@@ -1,0 +1,130 @@
+//! The program: its words, what it does for them, and how it ends.
+
+use crate::jobs::do_job;
+use lrs_cli_help::{
+    Options, explain, hint_at, is_reader_gone, keep_job_words, options_of, verb_help,
+};
+use lrs_cli_sheets::Shown;
+use lrs_cli_tasks::{Ending, ProgramFault, status};
+use lrs_cli_words::{Job, WordsFault, job_of};
+use lrs_desk::Files;
+use std::env;
+use std::io::{ErrorKind, IsTerminal};
+use std::process::ExitCode;
+use std::rt::HostRuntime;
+
+// Does a job. Says what was given for a word that cannot be read, and where that is asked for explains the fault that
+// stops it.
+fn do_explained<F: Files>(
+    rt: &HostRuntime,
+    files: &F,
+    job: &Job<'_>,
+    options: Options,
+    shown: Shown,
+) -> Ending {
+    let ending = do_job(rt, files, job, options.existing, shown);
+    match ending {
+        Ending::Unreadable(word) => hint_at(rt, job, word),
+        Ending::Stopped(fault) if options.explain => explain(rt, job, fault),
+        _ => {}
+    }
+    ending
+}
+
+fn show(rt: &HostRuntime, text: String) -> Ending {
+    match rt.print(text) {
+        Ok(()) => Ending::Done,
+        Err(_) => Ending::Stopped(ProgramFault::Write),
+    }
+}
+
+fn show_text(rt: &HostRuntime, text: &str) -> Ending {
+    match rt.print(text) {
+        Ok(()) => Ending::Done,
+        Err(_) => Ending::Stopped(ProgramFault::Write),
+    }
+}
+
+// The help on a verb, where the words ask for it: `help` and its name.
+fn help_on_verb(words: &[&str]) -> Option<&'static str> {
+    if words.len() == 2 && words[0] == "help" {
+        verb_help(words[1])
+    } else {
+        None
+    }
+}
+
+// Says why the words are no job. Where the standard error takes nothing, the status alone says it.
+fn answer_words(rt: &HostRuntime, fault: WordsFault) -> Ending {
+    match fault {
+        WordsFault::Memory => Ending::Stopped(ProgramFault::Memory),
+        WordsFault::Help(text) => show(rt, text),
+        WordsFault::Version(text) => show(rt, text),
+        WordsFault::Usage(text) => {
+            let _ = rt.eprint(text);
+            Ending::Misused
+        }
+    }
+}
+
+// Does the job that the words say; or shows the help on a verb.
+fn do_given<F: Files>(
+    rt: &HostRuntime,
+    files: &F,
+    words: &[&str],
+    options: Options,
+    shown: Shown,
+) -> Ending {
+    if let Some(text) = help_on_verb(words) {
+        return show_text(rt, text);
+    }
+    match job_of(rt.alloc(), words) {
+        Ok(job) => do_explained(rt, files, &job, options, shown),
+        Err(fault) => answer_words(rt, fault),
+    }
+}
+
+fn do_words<F: Files>(rt: &HostRuntime, files: &F, shown: Shown) -> Ending {
+    let given = match env::args(rt) {
+        Ok(given) => given,
+        Err(error) if error.kind() == ErrorKind::OutOfMemory => {
+            return Ending::Stopped(ProgramFault::Memory);
+        }
+        Err(_) => {
+            let _ = rt.eprintln("error: a word is not UTF-8");
+            return Ending::Misused;
+        }
+    };
+    let Ok(given) = given.collect::<Vec<String>>(rt.alloc()) else {
+        return Ending::Stopped(ProgramFault::Memory);
+    };
+    let mut words = Vec::new(rt.alloc());
+    for word in given.iter().skip(1) {
+        if words.push(word.as_str()).is_err() {
+            return Ending::Stopped(ProgramFault::Memory);
+        }
+    }
+    let options = options_of(words.as_slice());
+    keep_job_words(&mut words);
+    do_given(rt, files, words.as_slice(), options, shown)
+}
+
+// Says how the program ends. Where the reader of its output has gone, as `head` goes, the status alone tells.
+fn tell_ending(rt: &HostRuntime, ending: Ending) {
+    if ending == Ending::Stopped(ProgramFault::Write) && is_reader_gone(rt) {
+        return;
+    }
+    let _ = eprint!(rt; "{ending}");
+}
+
+/// Does what the words of the program say, over what opens its files, and gives its status.
+pub fn run<F: Files>(rt: &HostRuntime, files: &F) -> ExitCode {
+    let shown = match (rt.stderr().is_terminal(), rt.stdout().is_terminal()) {
+        (false, _) => Shown::Nowhere,
+        (true, false) => Shown::Alone,
+        (true, true) => Shown::BetweenLines,
+    };
+    let ending = do_words(rt, files, shown);
+    tell_ending(rt, ending);
+    ExitCode::from(status(ending))
+}
