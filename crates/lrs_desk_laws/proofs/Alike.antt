@@ -15,7 +15,8 @@ use Rattle.lrs_machine.specs.Sound.{IsSound}
 use Rattle.lrs_machine.proofs.Members.{In}
 use Rattle.lrs_image_laws.proofs.Holding.{alone}
 use Rattle.lrs_desk_laws.specs.Rows.{SayAlike, RowsAreDetermined}
-use Rattle.lrs_desk_laws.proofs.Owned.{own, class_at, its_rows, ends, classes}
+use Rattle.lrs_desk_laws.proofs.OwnRows.{own, its_rows, ends}
+use Rattle.lrs_desk_laws.proofs.RowClasses.{class_at, classes}
 
 abbrev course_of_route : RouteRow → Name × List Ground
 course_of_route e = (e.route.name, e.route.course)

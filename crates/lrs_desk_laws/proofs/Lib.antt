@@ -1,4 +1,4 @@
-pub mod Owned
+pub mod RowClasses
 pub mod Alike
 pub mod Rewritten
 pub mod MarksBack

@@ -1,6 +1,6 @@
 //! Desks whose keeper fails at the second commit, or wants memory there, or is not loaded.
 
-use crate::words::{call_named, open, print_all};
+use crate::words::{call_named, open, print};
 use lrs_desk::{Desk, Failing, Failure, Fault, Keeper, Plain};
 use lrs_machine::Limits;
 use lrs_promises::{Call, CallFault, headline};
@@ -21,9 +21,10 @@ fn name_of(fault: CallFault) -> &'static str {
 fn do_one<K: Keeper>(rt: &HostRuntime, call: Call, desk: &mut Desk<K>) -> Option<()> {
     match headline(rt.alloc(), &[call], desk) {
         Ok(written) => {
-            let printed = print_all(rt, written.as_slice());
-            drop(written);
-            printed
+            for text in written.iter() {
+                print(rt, text.as_slice())?;
+            }
+            Some(())
         }
         Err(fault) => println!(rt; "{}", name_of(fault)).ok(),
     }
@@ -44,25 +45,6 @@ fn do_each<K: Keeper>(
     println!(rt; "{} links", desk.inventory().links()).ok()
 }
 
-/// Does them at a desk over a keeper, and gives it back.
-fn run_once<K: Keeper + Drop>(
-    rt: &HostRuntime,
-    words: &[String],
-    prefix: &str,
-    keeper: K,
-) -> Option<K> {
-    let mut desk = open(rt, Limits::full(), keeper)?;
-    let done = do_each(rt, words, prefix, &mut desk);
-    let keeper = desk.into_keeper();
-    match done {
-        Some(()) => Some(keeper),
-        None => {
-            drop(keeper);
-            None
-        }
-    }
-}
-
 /// Does them at a desk over a keeper, and again at the next one over it.
 fn run_broken<K: Keeper + Drop>(
     rt: &HostRuntime,
@@ -70,9 +52,10 @@ fn run_broken<K: Keeper + Drop>(
     prefix: &str,
     keeper: K,
 ) -> Option<()> {
-    let keeper = run_once(rt, words, prefix, keeper)?;
-    drop(run_once(rt, words, prefix, keeper)?);
-    Some(())
+    let mut desk = open(rt, Limits::full(), keeper)?;
+    do_each(rt, words, prefix, &mut desk)?;
+    let mut next = open(rt, Limits::full(), desk.into_keeper())?;
+    do_each(rt, words, prefix, &mut next)
 }
 
 /// With one record in each commit, and with two.
@@ -86,13 +69,7 @@ fn run_failure(rt: &HostRuntime, words: &[String], failure: Failure) -> Option<(
 
 /// Whether a desk is opened over a keeper.
 fn is_opened<K: Keeper + Drop>(rt: &HostRuntime, keeper: K) -> bool {
-    match open(rt, Limits::full(), keeper) {
-        Some(desk) => {
-            drop(desk);
-            true
-        }
-        None => false,
-    }
+    open(rt, Limits::full(), keeper).is_some()
 }
 
 /// Over a keeper that fails, for each way in which it does, and over one that is not loaded.

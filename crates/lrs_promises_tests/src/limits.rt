@@ -18,10 +18,7 @@ fn run_few<K: Keeper + Drop>(
     keeper: K,
 ) -> Option<()> {
     let mut desk = open(rt, FEW, keeper)?;
-    let done = do_calls(rt, words, prefix, &mut desk);
-    // As a call, the drop is one step to prove, and not one for each part.
-    drop(desk);
-    done
+    do_calls(rt, words, prefix, &mut desk)
 }
 
 /// One record at a time, and together, where groups end at refusals.

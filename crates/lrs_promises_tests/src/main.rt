@@ -59,15 +59,8 @@ fn take<K: Keeper>(rt: &HostRuntime, desk: &mut Desk<K>, words: &[String]) -> Op
 /// Does what the words say at a desk over a keeper, and gives it back.
 fn run<K: Keeper + Drop>(rt: &HostRuntime, words: &[String], keeper: K) -> Option<K> {
     let mut desk = open(rt, Limits::full(), keeper)?;
-    let done = take(rt, &mut desk, words);
-    let keeper = desk.into_keeper();
-    match done {
-        Some(()) => Some(keeper),
-        None => {
-            drop(keeper);
-            None
-        }
-    }
+    take(rt, &mut desk, words)?;
+    Some(desk.into_keeper())
 }
 
 /// The same over tables.
@@ -86,10 +79,10 @@ fn open_tables<D: Disk + Drop>(
     files: Files<D>,
 ) -> Option<Tables<FileStore<D>, Reader>> {
     if files.log.may_be_used() && files.db.may_be_used() {
-        return open_files(rt.alloc(), files, Options::new(7), Reader).ok();
+        open_files(rt.alloc(), files, Options::new(7), Reader).ok()
+    } else {
+        None
     }
-    drop(files);
-    None
 }
 
 /// Closes the files of tables, and opens them again.
@@ -104,19 +97,19 @@ fn reopen<D: Disk + Drop>(
 fn run_files<D: Disk + Drop>(rt: &HostRuntime, words: &[String], files: Files<D>) -> Option<()> {
     let tables = run_tables(rt, words, open_tables(rt, files)?)?;
     let tables = run_tables(rt, words, reopen(rt, tables)?)?;
-    drop(close_files(tables).ok()?);
+    close_files(tables).ok()?;
     Some(())
 }
 
 /// Over an inventory in memory.
 fn run_plain(rt: &HostRuntime, words: &[String]) -> Option<()> {
-    drop(run(rt, words, Plain::empty(rt.alloc()))?);
+    run(rt, words, Plain::empty(rt.alloc()))?;
     Some(())
 }
 
 /// Over tables in memory.
 fn run_memory(rt: &HostRuntime, words: &[String]) -> Option<()> {
-    drop(run_tables(rt, words, Tables::in_memory(rt.alloc(), Reader).ok()?)?);
+    run_tables(rt, words, Tables::in_memory(rt.alloc(), Reader).ok()?)?;
     Some(())
 }
 
@@ -132,10 +125,7 @@ fn run_disks(rt: &HostRuntime, words: &[String]) -> Option<()> {
 /// Serves at a desk over an inventory in memory.
 fn run_services(rt: &HostRuntime, words: &[String]) -> Option<()> {
     let mut desk = open(rt, Limits::full(), Plain::empty(rt.alloc()))?;
-    let served = serve_words(rt, words, &mut desk);
-    // As a call, the drop is one step to prove, and not one for each part.
-    drop(desk);
-    served
+    serve_words(rt, words, &mut desk)
 }
 
 /// Over each keeper in turn, and then the services, the desks of few limits and those whose keeper fails.

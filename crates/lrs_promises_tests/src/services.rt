@@ -57,27 +57,15 @@ fn step<'a, K: Keeper>(
     }
 }
 
-/// Does what the words say at a door, one after another.
-fn do_words<'a, K: Keeper>(
-    rt: &'a HostRuntime,
-    words: &[String],
-    door: &mut MemoryDoor<'a, HostRuntime>,
-    desk: &mut Desk<K>,
-) -> Option<()> {
-    for word in words {
-        step(rt, word.as_str(), door, desk)?;
-    }
-    Some(())
-}
-
-/// Does what the words say at a door in memory, one after another.
+/// Does what the words say, one after another.
 pub fn serve_words<K: Keeper>(
     rt: &HostRuntime,
     words: &[String],
     desk: &mut Desk<K>,
 ) -> Option<()> {
     let mut door = MemoryDoor::new(rt, rt.alloc());
-    let served = do_words(rt, words, &mut door, desk);
-    drop(door);
-    served
+    for word in words {
+        step(rt, word.as_str(), &mut door, desk)?;
+    }
+    Some(())
 }

@@ -45,20 +45,13 @@ pub fn print(rt: &HostRuntime, bytes: &[u8]) -> Option<()> {
     rt.print(text).ok()
 }
 
-/// Prints each of these texts.
-pub fn print_all(rt: &HostRuntime, texts: &[Vec<u8>]) -> Option<()> {
-    for text in texts {
-        print(rt, text.as_slice())?;
-    }
-    Some(())
-}
-
 /// Does these calls in one list, and prints what each writes.
 pub fn do_list<K: Keeper>(rt: &HostRuntime, calls: &[Call], desk: &mut Desk<K>) -> Option<()> {
     let written = headline(rt.alloc(), calls, desk).ok()?;
-    let printed = print_all(rt, written.as_slice());
-    drop(written);
-    printed
+    for text in written.iter() {
+        print(rt, text.as_slice())?;
+    }
+    Some(())
 }
 
 /// Does the calls that words with this prefix name, in one list.
@@ -69,9 +62,7 @@ pub fn do_calls<K: Keeper>(
     desk: &mut Desk<K>,
 ) -> Option<()> {
     let calls = calls_of(rt, words, prefix);
-    let done = do_list(rt, calls.as_slice(), desk);
-    drop(calls);
-    done
+    do_list(rt, calls.as_slice(), desk)
 }
 
 /// A desk over a keeper.
