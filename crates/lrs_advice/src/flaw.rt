@@ -5,7 +5,7 @@ use crate::slot::Slot;
 use lrs_position::Method;
 
 /// What is seen in a malformed text.
-#[derive(Clone, Copy, Debug, PartialEq, Eq)]
+#[derive(Clone, Copy, PartialEq, Eq)]
 pub(crate) enum Flaw {
     Unused,
     SpaceFirst,
@@ -28,7 +28,7 @@ pub(crate) enum Flaw {
 }
 
 /// What a field wants: what can be wrong with its text.
-#[derive(Clone, Copy, Debug, PartialEq, Eq)]
+#[derive(Clone, Copy, PartialEq, Eq)]
 enum Sort {
     Number,
     /// A name of at most so many bytes.

@@ -7,7 +7,7 @@ use crate::verb::Verb;
 use lrs_machine::Field;
 
 /// What a field is for. A position has the field of its method.
-#[derive(Clone, Copy, Debug, PartialEq, Eq)]
+#[derive(Clone, Copy, PartialEq, Eq)]
 pub(crate) enum Slot {
     Key,
     VerbName,

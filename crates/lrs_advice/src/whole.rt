@@ -13,7 +13,7 @@ use std::alloc::{AllocError, Global};
 use std::io::Write;
 
 /// What is wrong with a whole sheet.
-#[derive(Clone, Copy, Debug, PartialEq, Eq)]
+#[derive(Clone, Copy, PartialEq, Eq)]
 pub enum SheetFlaw {
     /// The first record is not the header: the fault `BadHeader` of a sheet.
     Header,
@@ -25,7 +25,7 @@ pub enum SheetFlaw {
 const MOST_FIELDS: usize = 12;
 
 /// A record that has another number of fields than is wanted.
-#[derive(Clone, Copy, Debug, PartialEq, Eq)]
+#[derive(Clone, Copy, PartialEq, Eq)]
 struct WrongWidth {
     byte: u64,
     found: u64,

@@ -9,7 +9,7 @@ use lrs_position::PlaceFault;
 use std::fmt;
 
 /// Why a question is refused. A number is the index of a class that was asked for, which begins at 0.
-#[derive(Clone, Copy, Debug, PartialEq, Eq)]
+#[derive(Clone, Copy, PartialEq, Eq)]
 pub enum AskCause {
     NoRoute,
     NoAsset,

@@ -5,7 +5,7 @@ use lrs_position::PlaceFault;
 use std::alloc::AllocError;
 
 /// Why a question is refused.
-#[derive(Clone, Copy, Debug, PartialEq, Eq)]
+#[derive(Clone, Copy, PartialEq, Eq)]
 pub enum AskFault {
     /// No route has this name.
     NoRoute,

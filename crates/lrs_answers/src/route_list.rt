@@ -13,7 +13,7 @@ use lrs_position::RouteName;
 use std::alloc::{AllocError, Global};
 
 /// A route, and its length in millimetres.
-#[derive(Clone, Copy, Debug, PartialEq, Eq)]
+#[derive(Clone, Copy, PartialEq, Eq)]
 pub struct RouteLength {
     pub route: RouteName,
     pub length: u64,

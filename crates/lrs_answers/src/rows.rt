@@ -9,7 +9,7 @@ use std::alloc::AllocError;
 
 /// A stretch of a route that an asset holds, from chainage `from` up to `to` in millimetres, on a side seen along the
 /// route.
-#[derive(Clone, Copy, Debug, PartialEq, Eq)]
+#[derive(Clone, Copy, PartialEq, Eq)]
 pub struct FoundRow {
     pub route: RouteName,
     pub from: u64,

@@ -1,2 +1,4 @@
 pub mod Counts
 pub mod Running
+pub mod ListTotals
+pub mod ListTally

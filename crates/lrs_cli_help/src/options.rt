@@ -5,7 +5,7 @@ ghost use Rattle.std.specs.List.{list_any};
 ghost use Rattle.lrs_cli_help.specs.Options.{existing, explain, is_job_word, is_option};
 
 /// The options that go with every job.
-#[derive(Clone, Copy, Debug, PartialEq, Eq)]
+#[derive(Clone, Copy, PartialEq, Eq)]
 pub struct Options {
     /// An inventory that is not there is a fault, and is not made.
     pub existing: bool,

@@ -13,7 +13,7 @@ const FIRST_LINES: u64 = 10_000;
 const PAUSE_MILLIS: u64 = 200;
 
 /// Where progress is shown.
-#[derive(Clone, Copy, Debug, PartialEq, Eq)]
+#[derive(Clone, Copy, PartialEq, Eq)]
 pub enum Shown {
     Nowhere,
     /// On a terminal that has nothing else.

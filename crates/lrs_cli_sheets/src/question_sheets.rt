@@ -14,7 +14,7 @@ use std::rt::Runtime;
 use std::{fs, io};
 
 /// When the answers to a sheet of questions are handed to the operating system.
-#[derive(Clone, Copy, Debug, PartialEq, Eq)]
+#[derive(Clone, Copy, PartialEq, Eq)]
 pub enum QuestionPace {
     /// Those to the questions that have arrived, before more is read: whoever sends them may wait for each of them.
     AsTheyArrive,

@@ -18,7 +18,7 @@ use std::rt::Runtime;
 use std::{fs, io};
 
 // How many records are done together, and when their reply lines are handed to the operating system.
-#[derive(Clone, Copy, Debug, PartialEq, Eq)]
+#[derive(Clone, Copy, PartialEq, Eq)]
 pub enum Pace {
     // One, and its line before the next record is read: whoever sends the records may wait for it.
     LineByLine,

@@ -10,7 +10,7 @@ use lrs_machine::Table;
 use std::fmt;
 
 /// What a report names, and the inventory does not have.
-#[derive(Clone, Copy, Debug, PartialEq, Eq)]
+#[derive(Clone, Copy, PartialEq, Eq)]
 pub enum Missing {
     Route,
     Class,
@@ -42,7 +42,7 @@ impl fmt::Display for Missing {
 }
 
 /// How the program ends.
-#[derive(Clone, Copy, Debug, PartialEq, Eq)]
+#[derive(Clone, Copy, PartialEq, Eq)]
 pub enum Ending {
     Done,
     /// A record of a sheet was refused, as its reply line says.

@@ -9,7 +9,7 @@ use lrs_sheet_records::SheetFault;
 use std::fmt;
 
 /// Why the program stopped before its job was done.
-#[derive(Clone, Copy, Debug, PartialEq, Eq)]
+#[derive(Clone, Copy, PartialEq, Eq)]
 pub enum ProgramFault {
     /// The inventory cannot be opened.
     Open,

@@ -20,7 +20,7 @@ const GREATEST_PORT: u64 = 65_535;
 const MOST_CONNECTIONS: u64 = 1_000_000;
 
 /// Where an inventory is served: a port of this machine, for a number of connections; and how.
-#[derive(Clone, Copy, Debug, PartialEq, Eq)]
+#[derive(Clone, Copy, PartialEq, Eq)]
 pub struct Service {
     pub port: u16,
     pub max: u32,
@@ -31,7 +31,7 @@ pub struct Service {
 }
 
 /// A word that cannot be read.
-#[derive(Clone, Copy, Debug, PartialEq, Eq)]
+#[derive(Clone, Copy, PartialEq, Eq)]
 pub enum BadWord {
     Route,
     Method,
@@ -87,7 +87,7 @@ impl fmt::Display for BadWord {
 }
 
 /// Why a job's words are no question.
-#[derive(Clone, Copy, Debug, PartialEq, Eq)]
+#[derive(Clone, Copy, PartialEq, Eq)]
 pub enum QuestionFault {
     Unreadable(BadWord),
     Memory,

@@ -13,7 +13,7 @@ use lrs_measure::limits::{GREATEST_LINK, LONGEST_LINK, LONGEST_ROUTE, MOST_EDITS
 use lrs_position::RouteName;
 
 /// What is listed.
-#[derive(Clone, Copy, Debug, PartialEq, Eq)]
+#[derive(Clone, Copy, PartialEq, Eq)]
 pub enum Listed {
     Routes,
     Links,
@@ -22,7 +22,7 @@ pub enum Listed {
 }
 
 /// A place that is asked for.
-#[derive(Clone, Copy, Debug, PartialEq, Eq)]
+#[derive(Clone, Copy, PartialEq, Eq)]
 pub enum Place {
     /// A chainage of a route, in millimetres.
     OnRoute { route: RouteName, chainage: u64 },
@@ -31,7 +31,7 @@ pub enum Place {
 }
 
 /// What is reported of an inventory.
-#[derive(Clone, Copy, Debug, PartialEq, Eq)]
+#[derive(Clone, Copy, PartialEq, Eq)]
 pub enum Report {
     /// What is at a place, and its position by each method.
     Where(Place),
@@ -42,7 +42,7 @@ pub enum Report {
 }
 
 /// What is printed line by line.
-#[derive(Clone, Copy, Debug, PartialEq, Eq)]
+#[derive(Clone, Copy, PartialEq, Eq)]
 pub enum Listing {
     /// All of one kind.
     List(Listed),

@@ -11,7 +11,7 @@ use clap::{ArgMatches, Error};
 use std::alloc::{AllocError, Global};
 
 /// Why the words are no job.
-#[derive(Debug, Drop)]
+#[derive(Drop)]
 pub enum WordsFault {
     Memory,
     /// Help was asked for: its text.

@@ -10,7 +10,7 @@ use lrs_position::{Referent, RouteName};
 
 /// A stretch that an asset holds, from chainage `from` up to `to` in millimetres, on one side of the route. It has no
 /// value where the asset is not known.
-#[derive(Clone, Copy, Debug, PartialEq, Eq)]
+#[derive(Clone, Copy, PartialEq, Eq)]
 pub struct DrawnRow {
     pub from: u64,
     pub to: u64,
@@ -21,7 +21,7 @@ pub struct DrawnRow {
 }
 
 /// A piece of a link, and where along the route it lies, in millimetres.
-#[derive(Clone, Copy, Debug, PartialEq, Eq)]
+#[derive(Clone, Copy, PartialEq, Eq)]
 pub struct DrawnPiece {
     pub from: u64,
     pub to: u64,

@@ -16,7 +16,7 @@ use std::io::Write;
 const RIGHT_LIMIT: u64 = 11_960;
 
 /// Where a label begins and ends, in units of the page, and where it has to end.
-#[derive(Clone, Copy, Debug, PartialEq, Eq)]
+#[derive(Clone, Copy, PartialEq, Eq)]
 pub(crate) struct LabelPlace {
     pub is_wanted: bool,
     pub start: u64,

@@ -51,7 +51,7 @@ fn first_from(numbers: &[u64], least: u64) -> Option<u64>
 }
 
 /// The stretch of a route that a diagram shows, from a chainage to another in millimetres.
-#[derive(Clone, Copy, Debug, PartialEq, Eq)]
+#[derive(Clone, Copy, PartialEq, Eq)]
 pub struct Scale {
     pub from: u64,
     pub to: u64,

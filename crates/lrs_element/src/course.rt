@@ -10,34 +10,16 @@ use crate::link::{Ground, Piece};
 use crate::pieces::{fewest_of, one_meets, push_range, starts_of, starts_up_to, turned_pieces};
 use lrs_measure::limits::{LONGEST_ROUTE, MOST_PIECES};
 use std::alloc::{AllocError, Global};
-use std::error::Error;
-use std::fmt;
 use std::marker::Model;
 
 /// Why courses are not joined.
-#[derive(Clone, Copy, Debug, PartialEq, Eq)]
+#[derive(Clone, Copy, PartialEq, Eq)]
 pub enum JoinFault {
     /// The result would have above 1,000 pieces or 10,000,000,000 mm.
     TooLong,
     /// There is too little memory.
     Memory,
 }
-
-impl fmt::Display for JoinFault {
-    ghost use Rattle.std.specs.Prelude.{Some};
-    ghost use Rattle.lrs_element.specs.Faults.{join_fault_text};
-
-    ghost output = { λ fault. Some (join_fault_text fault) };
-
-    fn fmt<W: fmt::Write>(&self, f: &mut fmt::Formatter<W>) -> fmt::Result {
-        match self {
-            JoinFault::TooLong => write!(f, "too long a course"),
-            JoinFault::Memory => write!(f, "out of memory"),
-        }
-    }
-}
-
-impl Error for JoinFault {}
 
 impl From<AllocError> for JoinFault {
     ghost use Rattle.std.specs.Prelude.{◌≡◌};
@@ -51,7 +33,7 @@ impl From<AllocError> for JoinFault {
 }
 
 /// What is wrong with the pieces of a course: the first check that fails, at the first piece that fails it.
-#[derive(Clone, Copy, Debug, PartialEq, Eq)]
+#[derive(Clone, Copy, PartialEq, Eq)]
 pub enum CourseFault {
     /// The piece is of no link.
     NoLink(usize),
@@ -64,25 +46,6 @@ pub enum CourseFault {
     /// There is too little memory.
     Memory,
 }
-
-impl fmt::Display for CourseFault {
-    ghost use Rattle.std.specs.Prelude.{Some};
-    ghost use Rattle.lrs_element.specs.Faults.{course_fault_text};
-
-    ghost output = { λ fault. Some (course_fault_text fault) };
-
-    fn fmt<W: fmt::Write>(&self, f: &mut fmt::Formatter<W>) -> fmt::Result {
-        match self {
-            CourseFault::NoLink(i) => write!(f, "piece {i} is of no link"),
-            CourseFault::BadPiece(i) => write!(f, "piece {i} is no part of its link"),
-            CourseFault::Twice(i) => write!(f, "piece {i} shares ground with one before it"),
-            CourseFault::TooLong => write!(f, "too long a course"),
-            CourseFault::Memory => write!(f, "out of memory"),
-        }
-    }
-}
-
-impl Error for CourseFault {}
 
 impl From<AllocError> for CourseFault {
     ghost use Rattle.std.specs.Prelude.{◌≡◌};

@@ -6,7 +6,7 @@ ghost use Rattle.lrs_measure.specs.Limits.{is_link};
 /// A permanent linear element of fixed length (ISO 19148, linear element).
 ///
 /// Its number is from 1 to 999,999, its length from 1 to 1,000,000,000 mm.
-#[derive(Clone, Copy, Debug, PartialEq, Eq)]
+#[derive(Clone, Copy, PartialEq, Eq)]
 pub struct Link {
     pub number: u32,
     pub length: u32,
@@ -14,7 +14,7 @@ pub struct Link {
 }
 
 /// The millimetres `from <= k < to` of a link, run forwards or backwards.
-#[derive(Clone, Copy, Debug, PartialEq, Eq)]
+#[derive(Clone, Copy, PartialEq, Eq)]
 pub struct Piece {
     pub link: u32,
     pub from: u32,
@@ -23,7 +23,7 @@ pub struct Piece {
 }
 
 /// One millimetre of a link, and the direction in which a course runs over it.
-#[derive(Clone, Copy, Debug, PartialEq, Eq)]
+#[derive(Clone, Copy, PartialEq, Eq)]
 pub struct Ground {
     pub link: u32,
     pub mm: u32,

@@ -7,34 +7,18 @@ ghost use Rattle.lrs_element.specs.Marks.{is_out_of_order, first_bad_mark, bad_m
 
 use lrs_measure::limits::{GREATEST_MEASURE, MOST_MARKS};
 use std::alloc::{AllocError, Global};
-use std::error::Error;
-use std::fmt;
 use std::marker::Model;
 
 /// A measure at a chainage, which is in millimetres from the start of a route.
-#[derive(Clone, Copy, Debug, PartialEq, Eq)]
+#[derive(Clone, Copy, PartialEq, Eq)]
 pub struct Mark {
     pub chainage: u64,
     pub measure: u64,
 }
 
 /// The first mark that breaks a rule: 0 for fewer than two marks, 1,000 for more than that.
-#[derive(Clone, Copy, Debug, PartialEq, Eq)]
+#[derive(Clone, Copy, PartialEq, Eq)]
 pub struct MarkFault(pub usize);
-
-impl fmt::Display for MarkFault {
-    ghost use Rattle.std.specs.Prelude.{Some};
-    ghost use Rattle.lrs_element.specs.Faults.{mark_fault_text};
-
-    ghost output = { λ fault. Some (mark_fault_text fault) };
-
-    fn fmt<W: fmt::Write>(&self, f: &mut fmt::Formatter<W>) -> fmt::Result {
-        let MarkFault(i) = self;
-        write!(f, "bad mark {i}")
-    }
-}
-
-impl Error for MarkFault {}
 
 /// Whether a mark is not above the one before it in both, or where it is the first, not at chainage 0.
 fn is_out_of_order(before: Option<Mark>, mark: Mark) -> bool

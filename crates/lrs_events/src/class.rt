@@ -22,7 +22,7 @@ fn is_value(bytes: &[u8]) -> bool
 }
 
 /// The name of a class: 1 to 8 bytes of `A-Z0-9`.
-#[derive(Clone, Copy, Debug, PartialEq, Eq, PartialOrd, Ord)]
+#[derive(Clone, Copy, PartialEq, Eq, PartialOrd, Ord)]
 pub struct ClassName {
     text: Text<8>,
 }
@@ -78,7 +78,7 @@ impl fmt::Display for ClassName {
 }
 
 /// What an asset tells of the places that it holds: 1 to 12 bytes of `A-Za-z0-9._-`, not `-` alone.
-#[derive(Clone, Copy, Debug, PartialEq, Eq, PartialOrd, Ord)]
+#[derive(Clone, Copy, PartialEq, Eq, PartialOrd, Ord)]
 pub struct Value {
     text: Text<12>,
 }
@@ -135,7 +135,7 @@ impl fmt::Display for Value {
 
 /// Where the assets of a class lie: at points, over stretches, or over stretches of which no two of the
 /// class lie on one place.
-#[derive(Clone, Copy, Debug, PartialEq, Eq)]
+#[derive(Clone, Copy, PartialEq, Eq)]
 pub enum Kind {
     Point,
     Stretch,
@@ -158,7 +158,7 @@ impl fmt::Display for Kind {
 }
 
 /// A class of assets.
-#[derive(Clone, Copy, Debug, PartialEq, Eq)]
+#[derive(Clone, Copy, PartialEq, Eq)]
 pub struct Class {
     pub name: ClassName,
     pub kind: Kind,
@@ -197,7 +197,7 @@ impl Keyed<ClassName> for Class {
 
 /// An asset of the inventory. Its lateral offset is in millimetres from the linear element; `entered_by` is
 /// the number of the edit that entered it.
-#[derive(Clone, Copy, Debug, PartialEq, Eq)]
+#[derive(Clone, Copy, PartialEq, Eq)]
 pub struct Asset {
     pub number: u64,
     pub class: ClassName,

@@ -4,7 +4,7 @@ use crate::side::LinkSide;
 
 /// The millimetres `from <= k < to` of a link on one side of it, which an edit entered for an asset or took
 /// away from it.
-#[derive(Clone, Copy, Debug, PartialEq, Eq)]
+#[derive(Clone, Copy, PartialEq, Eq)]
 pub struct Part {
     pub edit: u64,
     pub asset: u64,
@@ -15,7 +15,7 @@ pub struct Part {
 }
 
 /// A part that was taken away: abandoned with its ground, or else retired.
-#[derive(Clone, Copy, Debug, PartialEq, Eq)]
+#[derive(Clone, Copy, PartialEq, Eq)]
 pub struct Gone {
     pub part: Part,
     pub abandoned: bool,

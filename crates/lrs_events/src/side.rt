@@ -7,7 +7,7 @@ ghost use Rattle.lrs_events.specs.Names.{side_text};
 use std::fmt;
 
 /// A side of a route, seen along it: left, right or both.
-#[derive(Clone, Copy, Debug, PartialEq, Eq)]
+#[derive(Clone, Copy, PartialEq, Eq)]
 pub enum Side {
     L,
     R,
@@ -15,7 +15,7 @@ pub enum Side {
 }
 
 /// One side of a link, seen along it.
-#[derive(Clone, Copy, Debug, PartialEq, Eq)]
+#[derive(Clone, Copy, PartialEq, Eq)]
 pub enum LinkSide {
     Left,
     Right,

@@ -8,7 +8,7 @@ use crate::side::Side;
 
 /// A stretch of a route that an asset holds, from chainage `from` up to `to` in millimetres. Its side is
 /// seen along the route.
-#[derive(Clone, Copy, Debug, PartialEq, Eq)]
+#[derive(Clone, Copy, PartialEq, Eq)]
 pub struct Span {
     pub asset: u64,
     pub class: ClassName,

@@ -9,7 +9,7 @@ use lrs_events::Span;
 use std::cmp::Ordering;
 
 /// An order of rows.
-#[derive(Clone, Copy, Debug, PartialEq, Eq)]
+#[derive(Clone, Copy, PartialEq, Eq)]
 pub enum RowOrder {
     /// By class, then asset, then start.
     ByAsset,

@@ -9,7 +9,7 @@ use lrs_events::{LinkSide, Side, Span};
 use std::alloc::{AllocError, Global};
 
 /// The millimetres of a route from chainage `from` up to chainage `to`, which an asset holds on one side.
-#[derive(Clone, Copy, Debug, PartialEq, Eq)]
+#[derive(Clone, Copy, PartialEq, Eq)]
 pub struct Run {
     pub asset: u64,
     pub from: u64,

@@ -1,3 +1,4 @@
+mod Pushes
 mod Putting
 mod Holding
 mod Tying

@@ -72,17 +72,78 @@ pub struct RouteChange {
 
 impl TryCopy for RouteChange {
     fn copy(&self, alloc: Global) -> Result<RouteChange, AllocError> {
-        Ok(RouteChange {
-            route: self.route,
-            name: self.name,
-            keys: self.keys.copy(alloc)?,
-            refs: self.refs.copy(alloc)?,
-            spans_gone: self.spans_gone.copy(alloc)?,
-            spans_come: self.spans_come.copy(alloc)?,
-            // last, since they have most parts, and what is alive where another fails is dropped there
-            marks: copy_marks(&self.marks)?,
-            course: copy_course(&self.course)?,
-        })
+        // One value holds the lists, and a drop is a call: each is then one step to prove, and not one for each part.
+        let lists = copy_route_lists(self, alloc)?;
+        match copy_marks(&self.marks) {
+            Ok(marks) => match copy_course(&self.course) {
+                Ok(course) => {
+                    let (keys, refs, spans_gone, spans_come) = lists;
+                    Ok(RouteChange {
+                        route: self.route,
+                        name: self.name,
+                        keys,
+                        course,
+                        marks,
+                        refs,
+                        spans_gone,
+                        spans_come,
+                    })
+                }
+                Err(fault) => {
+                    drop(lists);
+                    drop(marks);
+                    Err(fault)
+                }
+            },
+            Err(fault) => {
+                drop(lists);
+                Err(fault)
+            }
+        }
+    }
+}
+
+/// The keys, referents and rows of a change.
+type RouteLists = (RouteKeys, ReferentChange, Rows<Span>, Rows<Span>);
+
+fn copy_route_lists(change: &RouteChange, alloc: Global) -> Result<RouteLists, AllocError>
+    ensures { IfOk result (λ lists. (lists.0 ≡ change.now.keys) × (lists.1 ≡ change.now.refs)
+        × (lists.2 ≡ change.now.spans_gone) × (lists.3 ≡ change.now.spans_come)) }
+{
+    let keys = change.keys.copy(alloc)?;
+    match change.refs.copy(alloc) {
+        Ok(refs) => match copy_rows(&change.spans_gone, &change.spans_come, alloc) {
+            Ok((spans_gone, spans_come)) => Ok((keys, refs, spans_gone, spans_come)),
+            Err(fault) => {
+                drop(keys);
+                drop(refs);
+                Err(fault)
+            }
+        },
+        Err(fault) => {
+            drop(keys);
+            Err(fault)
+        }
+    }
+}
+
+/// A pair of two lists.
+type RowPair<T, U> = (Rows<T>, Rows<U>);
+
+fn copy_rows<T: Copy, U: Copy>(
+    first: &Rows<T>,
+    second: &Rows<U>,
+    alloc: Global,
+) -> Result<RowPair<T, U>, AllocError>
+    ensures { IfOk result (λ pair. (pair.0 ≡ first.now) × (pair.1 ≡ second.now)) }
+{
+    let first = first.copy(alloc)?;
+    match second.copy(alloc) {
+        Ok(second) => Ok((first, second)),
+        Err(fault) => {
+            drop(first);
+            Err(fault)
+        }
     }
 }
 
@@ -150,17 +211,54 @@ impl Difference {
 
 impl TryCopy for Difference {
     fn copy(&self, alloc: Global) -> Result<Difference, AllocError> {
-        Ok(Difference {
-            link: self.link,
-            class: self.class,
-            asset: self.asset,
-            dropped: self.dropped,
-            keys: self.keys.copy(alloc)?,
-            entered: self.entered.copy(alloc)?,
-            gone: self.gone.copy(alloc)?,
-            made: copy_some(&self.made, alloc)?,
-            changed: copy_some(&self.changed, alloc)?,
-        })
+        let lists = copy_difference_lists(self, alloc)?;
+        match copy_some(&self.made, alloc) {
+            Ok(made) => match copy_some(&self.changed, alloc) {
+                Ok(changed) => {
+                    let (keys, entered, gone) = lists;
+                    Ok(Difference {
+                        link: self.link,
+                        class: self.class,
+                        asset: self.asset,
+                        changed,
+                        dropped: self.dropped,
+                        keys,
+                        made,
+                        entered,
+                        gone,
+                    })
+                }
+                Err(fault) => {
+                    drop(lists);
+                    drop(made);
+                    Err(fault)
+                }
+            },
+            Err(fault) => {
+                drop(lists);
+                Err(fault)
+            }
+        }
+    }
+}
+
+/// The keys of what lies on the route that goes, and the rows of both ledgers.
+type DifferenceLists = (RouteKeys, Rows<Part>, Rows<Gone>);
+
+fn copy_difference_lists(
+    difference: &Difference,
+    alloc: Global,
+) -> Result<DifferenceLists, AllocError>
+    ensures { IfOk result (λ lists. (lists.0 ≡ difference.now.keys)
+        × (lists.1 ≡ difference.now.entered) × (lists.2 ≡ difference.now.gone)) }
+{
+    let keys = difference.keys.copy(alloc)?;
+    match copy_rows(&difference.entered, &difference.gone, alloc) {
+        Ok((entered, gone)) => Ok((keys, entered, gone)),
+        Err(fault) => {
+            drop(keys);
+            Err(fault)
+        }
     }
 }
 

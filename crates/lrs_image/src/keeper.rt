@@ -5,7 +5,7 @@ use lrs_machine::{Image, Table};
 use std::alloc::{AllocError, Global};
 
 /// Why an image is not loaded.
-#[derive(Clone, Copy, Debug, PartialEq, Eq)]
+#[derive(Clone, Copy, PartialEq, Eq)]
 pub enum LoadFault {
     /// There is too little memory.
     Memory,
@@ -27,7 +27,7 @@ impl From<AllocError> for LoadFault {
 }
 
 /// Why a change is not made, or what is staged is not kept.
-#[derive(Clone, Copy, Debug, PartialEq, Eq)]
+#[derive(Clone, Copy, PartialEq, Eq)]
 pub enum CommitFault {
     /// There is too little memory. What is kept is as it was.
     Memory,

@@ -13,3 +13,5 @@ pub mod KnownRoutes
 pub mod KeptName
 pub mod Going
 pub mod Stopping
+pub mod ChangedRoute
+pub mod Rerouted

@@ -147,15 +147,28 @@ impl Inventory {
             referents,
         } = plan;
         let key = edit.key;
+        let change = Change { edit, difference };
         let place = self.kept.edits.as_slice().len() as u64;
-        self.indexes.put_in(&key, place, &ground, &referents.come)?;
-        match stage_change(alloc, &mut self.kept, keeper, Change { edit, difference }) {
+        match self.indexes.put_in(&key, place, &ground, &referents.come) {
+            Ok(()) => {}
+            Err(fault) => {
+                drop(change);
+                drop(ground);
+                drop(referents);
+                return Err(fault);
+            }
+        }
+        match stage_change(alloc, &mut self.kept, keeper, change) {
             Ok(()) => {
                 self.indexes.let_go(&ground, referents.gone.as_slice());
+                drop(ground);
+                drop(referents);
                 Ok(())
             }
             Err(fault) => {
                 self.indexes.take_out(&key, place, &ground, &referents.come);
+                drop(ground);
+                drop(referents);
                 Err(fault)
             }
         }
@@ -200,15 +213,28 @@ impl Inventory {
             referents,
         } = plan;
         let key = edit.key;
+        let change = Change { edit, difference };
         let place = self.kept.edits.as_slice().len() as u64;
-        self.indexes.put_in(&key, place, &ground, &referents.come)?;
-        match make_change(alloc, &mut self.kept, keeper, Change { edit, difference }) {
+        match self.indexes.put_in(&key, place, &ground, &referents.come) {
+            Ok(()) => {}
+            Err(fault) => {
+                drop(change);
+                drop(ground);
+                drop(referents);
+                return Err(CommitFault::from(fault));
+            }
+        }
+        match make_change(alloc, &mut self.kept, keeper, change) {
             Ok(()) => {
                 self.indexes.let_go(&ground, referents.gone.as_slice());
+                drop(ground);
+                drop(referents);
                 Ok(())
             }
             Err(fault) => {
                 self.indexes.take_out(&key, place, &ground, &referents.come);
+                drop(ground);
+                drop(referents);
                 Err(fault)
             }
         }

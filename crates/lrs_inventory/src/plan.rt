@@ -11,7 +11,7 @@ use lrs_position::{RefName, RouteName};
 use std::alloc::{AllocError, AllocFailed, Global};
 
 /// Why a verb does not act.
-#[derive(Clone, Copy, Debug, PartialEq, Eq)]
+#[derive(Clone, Copy, PartialEq, Eq)]
 pub enum Stop {
     /// The first check of the verb that fails.
     Refused(Cause),

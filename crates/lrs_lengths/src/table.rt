@@ -15,7 +15,7 @@ use std::alloc::{AllocError, Global};
 
 /// How much of the routes the assets of one class and one value hold, in millimetres: on the left side, on the right side, and
 /// on either side, each millimetre of a route once, however many of these assets hold it.
-#[derive(Clone, Copy, Debug, PartialEq, Eq)]
+#[derive(Clone, Copy, PartialEq, Eq)]
 pub struct ValueLength {
     pub class: ClassName,
     pub value: Value,

@@ -8,7 +8,7 @@ use lrs_position::RouteName;
 
 /// What is asked of rows: to lie on a route, to have a millimetre at or behind chainage `from` and before chainage `to`, to be
 /// of a class, and of an asset. What is not asked leaves out nothing.
-#[derive(Clone, Copy, Debug, PartialEq, Eq)]
+#[derive(Clone, Copy, PartialEq, Eq)]
 pub struct RowsWanted {
     pub route: Option<RouteName>,
     pub from: Option<u64>,

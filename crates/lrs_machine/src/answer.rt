@@ -7,7 +7,7 @@ use lrs_measure::limits::{MOST_ASSETS, MOST_EDITS, MOST_ROUTES};
 use std::fmt;
 
 /// A field of a record.
-#[derive(Clone, Copy, Debug, PartialEq, Eq)]
+#[derive(Clone, Copy, PartialEq, Eq)]
 pub enum Field {
     Key,
     Verb,
@@ -23,7 +23,7 @@ pub enum Field {
 }
 
 /// What there can be too many of.
-#[derive(Clone, Copy, Debug, PartialEq, Eq)]
+#[derive(Clone, Copy, PartialEq, Eq)]
 pub enum What {
     Edits,
     Assets,
@@ -71,7 +71,7 @@ impl fmt::Display for What {
 
 /// Why a command is refused. Numbers are of edits in `KeyUsed`, of assets in `Overlap`, and else indices
 /// into a list of the command, which begin at 0.
-#[derive(Clone, Copy, Debug, PartialEq, Eq)]
+#[derive(Clone, Copy, PartialEq, Eq)]
 pub enum Cause {
     Malformed(Field),
     KeyUsed(u64),
@@ -139,7 +139,7 @@ impl fmt::Display for Cause {
 }
 
 /// The answer to a command: done as this edit, done before as this edit, or refused.
-#[derive(Clone, Copy, Debug, PartialEq, Eq)]
+#[derive(Clone, Copy, PartialEq, Eq)]
 pub enum Answer {
     Done(u64),
     Again(u64),
@@ -166,7 +166,7 @@ impl fmt::Display for Answer {
 /// 10,000, 1,000,000 and 10,000,000.
 ///
 /// In a specification the ghost field of literal bounds is `bounds = refl`.
-#[derive(Clone, Copy, Debug, PartialEq, Eq)]
+#[derive(Clone, Copy, PartialEq, Eq)]
 pub struct Limits {
     pub routes: u64,
     pub assets: u64,

@@ -22,8 +22,8 @@ pub struct RouteRow {
 impl TryCopy for RouteRow {
     fn copy(&self, alloc: Global) -> Result<RouteRow, AllocError> {
         Ok(RouteRow {
-            route: self.route.copy(alloc)?,
             spans: self.spans.copy(alloc)?,
+            route: self.route.copy(alloc)?,
         })
     }
 }
@@ -122,10 +122,11 @@ impl Image {
             links: self.links.copy(alloc)?,
             classes: self.classes.copy(alloc)?,
             assets: self.assets.copy(alloc)?,
-            routes: self.routes.copy_each(alloc)?,
             entered: self.entered.copy(alloc)?,
             gone: self.gone.copy(alloc)?,
+            // last, since they have most parts, and what is alive where another fails is dropped there
             edits: self.edits.copy_each(alloc)?,
+            routes: self.routes.copy_each(alloc)?,
         })
     }
 }

@@ -29,7 +29,7 @@ fn is_key(bytes: &[u8]) -> bool
 }
 
 /// The key of a command: 1 to 40 bytes of `A-Za-z0-9.:_-`, not `-` alone.
-#[derive(Clone, Copy, Debug, PartialEq, Eq, PartialOrd, Ord)]
+#[derive(Clone, Copy, PartialEq, Eq, PartialOrd, Ord)]
 pub struct Key {
     text: Text<40>,
 }

@@ -58,7 +58,7 @@ fn are_entered_marks(marks: &[Mark]) -> bool
 }
 
 /// The number of an asset: 1 to 1,000,000,000,000.
-#[derive(Clone, Copy, Debug, PartialEq, Eq)]
+#[derive(Clone, Copy, PartialEq, Eq)]
 pub struct AssetNumber {
     number: u64,
 }
@@ -99,7 +99,7 @@ impl AssetNumber {
 }
 
 /// A distance in millimetres from the start of a route, as a command states it: at most 10,000,000,000.
-#[derive(Clone, Copy, Debug, PartialEq, Eq)]
+#[derive(Clone, Copy, PartialEq, Eq)]
 pub struct Chainage {
     distance: u64,
 }
@@ -140,7 +140,7 @@ impl Chainage {
 }
 
 /// A lateral offset (ISO 19148) in millimetres: at most 100,000.
-#[derive(Clone, Copy, Debug, PartialEq, Eq)]
+#[derive(Clone, Copy, PartialEq, Eq)]
 pub struct LateralOffset {
     distance: u32,
 }

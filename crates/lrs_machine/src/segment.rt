@@ -12,7 +12,7 @@ pub struct Segment {
 }
 
 /// Why segments are refused, in the order of the checks; an index is that of the class asked for.
-#[derive(Clone, Copy, Debug, PartialEq, Eq)]
+#[derive(Clone, Copy, PartialEq, Eq)]
 pub enum SegFault {
     NoClass(u64),
     NotExclusive(u64),

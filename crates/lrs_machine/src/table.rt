@@ -1,7 +1,7 @@
 //! The tables of an inventory.
 
 /// The tables of a store, in the order in which an unsound one is named.
-#[derive(Clone, Copy, Debug, PartialEq, Eq)]
+#[derive(Clone, Copy, PartialEq, Eq)]
 pub enum Table {
     Version,
     Link,

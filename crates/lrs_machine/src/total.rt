@@ -4,7 +4,7 @@ use lrs_events::ClassName;
 
 /// What was entered, retired and abandoned of a class, and what of it is present, in side millimetres: a
 /// stretch on both sides counts once on each, and a point counts 1 for each side.
-#[derive(Clone, Copy, Debug, PartialEq, Eq)]
+#[derive(Clone, Copy, PartialEq, Eq)]
 pub struct Total {
     pub class: ClassName,
     pub entered: u64,

@@ -9,7 +9,7 @@ use std::cmp::Ordering;
 use std::marker::Model;
 
 /// A text of at most `N` bytes, ordered by its bytes.
-#[derive(Clone, Copy, Debug)]
+#[derive(Clone, Copy)]
 pub struct Text<const N: usize> {
     bytes: [u8; N],
     len: usize,

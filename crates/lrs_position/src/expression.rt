@@ -48,7 +48,7 @@ impl fmt::Display for Expr {
 }
 
 /// A linear referencing method (ISO 19148).
-#[derive(Clone, Copy, Debug, PartialEq, Eq)]
+#[derive(Clone, Copy, PartialEq, Eq)]
 pub enum Method {
     Abs,
     Rel,

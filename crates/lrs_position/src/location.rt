@@ -17,7 +17,7 @@ use lrs_measure::Frac;
 use lrs_measure::limits::{FINEST, FINEST_PROPORTION};
 
 /// Why a position expression is refused, in the order of the checks.
-#[derive(Clone, Copy, Debug, PartialEq, Eq)]
+#[derive(Clone, Copy, PartialEq, Eq)]
 pub enum PlaceFault {
     /// The referent is not on this route.
     NoRef,

@@ -35,7 +35,7 @@ fn is_referent_name(bytes: &[u8]) -> bool
 }
 
 /// The name of a route: 1 to 12 bytes of `A-Z0-9-`, the first not `-`.
-#[derive(Clone, Copy, Debug, PartialEq, Eq, PartialOrd, Ord)]
+#[derive(Clone, Copy, PartialEq, Eq, PartialOrd, Ord)]
 pub struct RouteName {
     text: Text<12>,
 }
@@ -78,7 +78,7 @@ impl RouteName {
 }
 
 /// The name of a referent: 1 to 12 bytes of `A-Z0-9`.
-#[derive(Clone, Copy, Debug, PartialEq, Eq, PartialOrd, Ord)]
+#[derive(Clone, Copy, PartialEq, Eq, PartialOrd, Ord)]
 pub struct RefName {
     text: Text<12>,
 }

@@ -22,7 +22,7 @@ pub enum Call {
 }
 
 /// Why a list of calls is not done to its end.
-#[derive(Debug, Clone, Copy, PartialEq, Eq)]
+#[derive(Clone, Copy, PartialEq, Eq)]
 pub enum CallFault {
     /// A sheet was not done to its end, for no fault of its own.
     Sheet(SheetFault),

@@ -4,7 +4,7 @@ ghost use Rattle.std.specs.Prelude.{◌≡◌, ◌<◌, ◌+◌, ◌^◌};
 ghost use Rattle.lrs_questions.specs.Replies.{counted, reply_count};
 
 /// How many questions were answered, and how many refused.
-#[derive(Clone, Copy, Debug, Default, PartialEq, Eq)]
+#[derive(Clone, Copy, Default, PartialEq, Eq)]
 pub struct QuestionTally {
     pub answered: u64,
     pub refused: u64,

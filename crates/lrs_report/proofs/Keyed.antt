@@ -1,5 +1,5 @@
 -- The row of a key among rows in the order of their keys: where the rows that are not below the key begin, or nowhere.
-use Rattle.std.proofs.Common.{◌≡◌, ℕ, zero, suc, ◌+◌, ◌<◌, ◌≤◌, Bool, true, false, cond, Some, None, Option, List, [], ◌∷◌, length, map, get_or, set, refl, sym, ap, ◌∙◌, arith}
+use Rattle.std.proofs.Common.{◌≡◌, ℕ, zero, suc, ◌+◌, ◌<◌, ◌≤◌, Bool, true, false, cond, Some, None, List, [], ◌∷◌, length, get_or, refl, sym, ap, ◌∙◌, arith}
 use Rattle.std.specs.Prelude.{◌||◌, not}
 use Rattle.std.specs.List.{find, list_all}
 use Rattle.std.specs.declared.cmp.Ordering.{Ordering}
@@ -11,15 +11,15 @@ use Rattle.lrs_measure.specs.Ordered.{place_by}
 use Rattle.lrs_ordered.specs.Ordered.{is_parted}
 use Rattle.lrs_ordered.proofs.Places.{two_passing}
 
-place_first : (b : Bool) (n : ℕ) → cond b 0 (n + 1) ≡ 0 → b ≡ true
+pub place_first : (b : Bool) (n : ℕ) → cond b 0 (n + 1) ≡ 0 → b ≡ true
 place_first true n h = refl
 place_first false n h = absurd (omega (arith, h))
 
-place_later : (b : Bool) (n k : ℕ) → cond b 0 (n + 1) ≡ suc k → (b ≡ false) × (n ≡ k)
+pub place_later : (b : Bool) (n k : ℕ) → cond b 0 (n + 1) ≡ suc k → (b ≡ false) × (n ≡ k)
 place_later true n k h = absurd (omega (arith, h))
 place_later false n k h = (refl, omega (arith, h))
 
-not_from : (r : Ordering) → is_ge r ≡ false → is_eq r ≡ false
+pub not_from : (r : Ordering) → is_ge r ≡ false → is_eq r ≡ false
 not_from Less h = refl
 not_from Equal h = absurd (false≢true (sym h))
 not_from Greater h = refl
@@ -51,24 +51,13 @@ module _ {X : Type 0} (order : X → Ordering) where
       let later = place_later (is_ge (order x)) (place_by (λ y. is_ge (order y)) xs) k (sym e) in
       ap (λ b. cond b (Some x) (find (λ y. is_eq (order y)) xs)) (not_from (order x) later.0) ∙ beyond xs k (sym later.1) (omega (arith, within))
 
-  not_here : (b : Bool) (x : X) (o : Option X) → cond b (Some x) o ≡ None → (b ≡ false) × (o ≡ None)
-  not_here true x o h = absurd cc
-  not_here false x o h = (refl, h)
-
-  -- where none is found, a change of the rows of the key changes nothing
-  pub unchanged : (f : X → X) (xs : List X) → find (λ x. is_eq (order x)) xs ≡ None → xs ≡ map (λ x. cond (is_eq (order x)) (f x) x) xs
-  unchanged f [] h = refl
-  unchanged f (x ∷ xs) h =
-      let both = not_here (is_eq (order x)) x (find (λ y. is_eq (order y)) xs) h in
-      let rest = unchanged f xs both.1 in
-      λ i. cond (sym both.0 i) (f x) x ∷ rest i
-
   module _ (before : X → X → Bool) (rises : (a b : X) → before a b ≡ true → is_lt (order a) ≡ false → order b ≡ Greater) where
     -- the rows that are below a key are a front of all
     pub below_first : (xs : List X) → each_two before xs ≡ true → is_parted (λ x. is_ge (order x)) xs ≡ true
     below_first xs h = two_passing before (λ a b. not (is_ge (order a)) || is_ge (order b)) (λ a b first. stays_from (order a) (order b) (rises a b first)) xs h
 
-    none_above : (x : X) (xs : List X) → is_ge (order x) ≡ true → list_all (before x) xs ≡ true → find (λ y. is_eq (order y)) xs ≡ None
+    -- behind a row that is not below the key, none has it, if the rows there are behind it in their order
+    pub none_above : (x : X) (xs : List X) → is_ge (order x) ≡ true → list_all (before x) xs ≡ true → find (λ y. is_eq (order y)) xs ≡ None
     none_above x [] from h = refl
     none_above x (y ∷ ys) from h =
         let both = and_parts (before x y) (list_all (before x) ys) h in
@@ -84,16 +73,3 @@ module _ {X : Type 0} (order : X → Ordering) where
         let later = place_later (is_ge (order x)) (place_by (λ y. is_ge (order y)) xs) k (sym e) in
         ap (λ b. cond b (Some x) (find (λ y. is_eq (order y)) xs)) (not_from (order x) later.0)
         ∙ missed xs k d (and_parts (list_all (before x) xs) (each_two before xs) h).1 (sym later.1) (omega (arith, within)) here
-
-    -- to change the row where those below a key end is to change all of the key, if it has the key
-    pub changed : (f : X → X) (xs : List X) (k : ℕ) (d y : X) → each_two before xs ≡ true → k ≡ place_by (λ x. is_ge (order x)) xs → k < length xs → is_eq (order (get_or xs k d)) ≡ true → y ≡ f (get_or xs k d)
-        → set xs k y ≡ map (λ x. cond (is_eq (order x)) (f x) x) xs
-    changed f [] k d y h e within here same = absurd (omega (arith, within))
-    changed f (x ∷ xs) zero d y h e within here same =
-        let from = place_first (is_ge (order x)) (place_by (λ z. is_ge (order z)) xs) (sym e) in
-        let rest = unchanged f xs (none_above x xs from (and_parts (list_all (before x) xs) (each_two before xs) h).0) in
-        λ i. cond (sym here i) (same i) x ∷ rest i
-    changed f (x ∷ xs) (suc k) d y h e within here same =
-        let later = place_later (is_ge (order x)) (place_by (λ z. is_ge (order z)) xs) k (sym e) in
-        let rest = changed f xs k d y (and_parts (list_all (before x) xs) (each_two before xs) h).1 (sym later.1) (omega (arith, within)) here same in
-        λ i. cond (sym (not_from (order x) later.0) i) (f x) x ∷ rest i

@@ -7,5 +7,4 @@ pub mod Lanes
 pub mod Writing
 pub mod States
 pub mod Keyed
-pub mod Tallied
 pub mod Taking

@@ -1,6 +1,7 @@
 -- What columns have along their first stretches, and behind them.
 use Rattle.std.proofs.Common.{◌≡◌, ℕ, zero, suc, ◌+◌, ◌<◌, ◌≤◌, Bool, ◌⊎◌, inl, inr, List, [], ◌∷◌, ◌++◌, length, map, take, drop, get_or, refl, sym, ap, subst, ◌∙◌, arith}
 use Rattle.std.proofs.Math.ListN.{set}
+use Rattle.std.proofs.Math.Seq.{take-suc}
 use Rattle.std.specs.Prelude.{if◌then◌else◌}
 use Rattle.std.specs.List.{AllByRecursion}
 use Rattle.std.proofs.lemmas.Bool.{lt-ltb, le-ltb, le-leb, lt-leb, cases_lt}
@@ -41,6 +42,53 @@ pub next_put : {A B : Type 0} → (f : A → B) (i : ℕ) (xs : List A) (ys zs :
 next_put f i xs ys zs x w e h so k is =
     let n : suc i ≡ i + 1 = omega arith in
     (λ t. set (so t) i (is t)) ∙ put_next f i xs ys x e h k ∙ ap (λ m. map f (take m xs) ++ drop m ys) n
+
+-- ---- elements that are put behind others, one for each
+
+pub next_same : {A : Type 0} → (i : ℕ) (xs ys : List A) (x w : A) → i < length xs → ys ≡ take i xs → x ≡ get_or xs i x → w ≡ x → ys ++ w ∷ [] ≡ take (i + 1) xs
+next_same i xs ys x w h so k is =
+    let n : suc i ≡ i + 1 = omega arith in
+    (λ t. so t ++ (is ∙ k) t ∷ []) ∙ sym (take-suc xs i x h) ∙ ap (λ m. take m xs) n
+
+push_next : {A B : Type 0} → (f : A → B) (i : ℕ) (xs : List A) (x : A) → i < length xs → x ≡ get_or xs i x → map f (take i xs) ++ f x ∷ [] ≡ map f (take (suc i) xs)
+push_next f zero [] x h k = absurd (omega (arith, h))
+push_next f zero (a ∷ xs) x h k = ap (λ z. f z ∷ []) k
+push_next f (suc i) [] x h k = absurd (omega (arith, h))
+push_next f (suc i) (a ∷ xs) x h k = ap (λ zs. f a ∷ zs) (push_next f i xs x (omega (arith, h)) k)
+
+pub next_pushed : {A B : Type 0} → (f : A → B) (i : ℕ) (xs : List A) (ys : List B) (x : A) (w : B) → i < length xs → ys ≡ map f (take i xs) → x ≡ get_or xs i x → w ≡ f x → ys ++ w ∷ [] ≡ map f (take (i + 1) xs)
+next_pushed f i xs ys x w h so k is =
+    let n : suc i ≡ i + 1 = omega arith in
+    (λ t. so t ++ is t ∷ []) ∙ push_next f i xs x h k ∙ ap (λ m. map f (take m xs)) n
+
+map_pushed : {A B : Type 0} → (f : A → B) (xs : List A) (x : A) → map f (xs ++ x ∷ []) ≡ map f xs ++ f x ∷ []
+map_pushed f [] x = refl
+map_pushed f (y ∷ ys) x = ap (λ zs. f y ∷ zs) (map_pushed f ys x)
+
+-- ... where what each gives is read off by another map
+pub next_read : {A B C : Type 0} → (f : A → C) (read : B → C) (i : ℕ) (xs : List A) (ys zs : List B) (x : A) (w : B) → i < length xs → map read ys ≡ map f (take i xs) → x ≡ get_or xs i x → read w ≡ f x → zs ≡ ys ++ w ∷ []
+    → map read zs ≡ map f (take (i + 1) xs)
+next_read f read i xs ys zs x w h so k is put = ap (map read) put ∙ map_pushed read ys w ∙ next_pushed f i xs (map read ys) x (read w) h so k is
+
+all_pushed : {A : Type 0} → (P : A → Type 0) (xs : List A) (x : A) → AllByRecursion P xs → P x → AllByRecursion P (xs ++ x ∷ [])
+all_pushed P [] x h k = (k, tt)
+all_pushed P (y ∷ ys) x h k = (h.0, all_pushed P ys x h.1 k)
+
+-- what is so of all is so of one more
+pub next_all : {A : Type 0} → (P : A → Type 0) (xs ys : List A) (x : A) → AllByRecursion P xs → P x → ys ≡ xs ++ x ∷ [] → AllByRecursion P ys
+next_all P xs ys x h k put = subst (AllByRecursion P) (sym put) (all_pushed P xs x h k)
+
+all_behind : {A : Type 0} → (P : A → Type 0) (i : ℕ) (xs : List A) → AllByRecursion P (drop i xs) → AllByRecursion P (drop (suc i) xs)
+all_behind P zero [] h = h
+all_behind P zero (x ∷ xs) h = h.1
+all_behind P (suc i) [] h = h
+all_behind P (suc i) (x ∷ xs) h = all_behind P i xs h
+
+-- ... and of those that are left
+pub next_left : {A : Type 0} → (P : A → Type 0) (i : ℕ) (xs : List A) → AllByRecursion P (drop i xs) → AllByRecursion P (drop (i + 1) xs)
+next_left P i xs h =
+    let n : suc i ≡ i + 1 = omega arith in
+    subst (λ m. AllByRecursion P (drop m xs)) n (all_behind P i xs h)
 
 -- ---- one column
 

@@ -79,6 +79,9 @@ metres_aligned mm text e =
 
 -- ---- lines
 
+pub title_parts : (name side metres : List ℕ) → name ++ 32 ∷ (side ++ 32 ∷ (metres ++ 10 ∷ [])) ≡ name ++ 32 ∷ side ++ 32 ∷ metres ++ 10 ∷ []
+title_parts name side metres = simp append_assoc
+
 pub heading_parts : (from to others : List ℕ) → ((from ++ to) ++ others) ++ 10 ∷ [] ≡ from ++ (to ++ others) ++ 10 ∷ []
 heading_parts from to others = simp append_assoc
 

@@ -12,7 +12,7 @@ use lrs_events::{Asset, Span, Value};
 use std::marker::Model;
 
 /// A value or none up to a chainage, from where the stretch before it ended.
-#[derive(Clone, Copy, Debug, PartialEq, Eq)]
+#[derive(Clone, Copy, PartialEq, Eq)]
 pub struct ValueStretch {
     pub to: u64,
     pub value: Option<Value>,

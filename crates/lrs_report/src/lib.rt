@@ -1,8 +1,7 @@
-//! Linear segments of a route by one sweep over the rows of its classes, the strip that shows them (ISO 19148: linear segment),
-//! and totals of classes by one pass over the rows of an inventory.
+//! Linear segments of a route by one sweep over the rows of its classes, and the strip that shows them (ISO 19148: linear
+//! segment).
 #![tactic(auto)]
 
-mod class_totals;
 mod columns;
 mod known_rows;
 pub mod laws;
@@ -10,9 +9,7 @@ mod lookups;
 mod segmentation;
 mod strip_text;
 mod sweep;
-mod tally;
 
-pub use class_totals::totals;
 pub use known_rows::KnownRows;
 pub use segmentation::{segments, sweep_segments};
 pub use strip_text::{strip, strip_of};

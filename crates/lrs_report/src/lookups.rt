@@ -5,7 +5,6 @@ ghost use Rattle.lrs_measure.specs.Lists.{each_two};
 ghost use Rattle.lrs_machine.specs.Sound.{asset_before, class_before};
 ghost use Rattle.lrs_machine.specs.Segments.{is_class, is_exclusive, is_exclusive_class, segment_fault};
 ghost use Rattle.lrs_report.specs.Along.{asset_value};
-ghost use Rattle.lrs_report.specs.ListTotals.{asset_class};
 
 use crate::known_rows::KnownRows;
 use lrs_events::{Asset, Class, ClassName, Kind, Side, Value};
@@ -89,17 +88,6 @@ pub(crate) fn asset_value<A: KnownRows<Asset, u64>>(assets: &A, number: u64) -> 
 {
     match assets.row(&number) {
         Some(asset) => Some(asset.value),
-        None => None,
-    }
-}
-
-/// The class of the asset of a number.
-pub(crate) fn asset_class<A: KnownRows<Asset, u64>>(assets: &A, number: u64) -> Option<ClassName>
-    requires { each_two asset_before (A.rows assets.now) ≡ true }
-    ensures { result ≡ asset_class (A.rows assets.now) number }
-{
-    match assets.row(&number) {
-        Some(asset) => Some(asset.class),
         None => None,
     }
 }

@@ -4,7 +4,7 @@ use lrs_machine::{Answer, Key};
 use std::fmt;
 
 /// The answer to a record, under its key where that is well formed.
-#[derive(Clone, Copy, Debug, PartialEq, Eq)]
+#[derive(Clone, Copy, PartialEq, Eq)]
 pub struct Reply {
     pub key: Option<Key>,
     pub answer: Answer,
@@ -26,7 +26,7 @@ impl fmt::Display for Reply {
 }
 
 /// How many replies there were of each kind.
-#[derive(Clone, Copy, Debug, Default, PartialEq, Eq)]
+#[derive(Clone, Copy, Default, PartialEq, Eq)]
 pub struct Tally {
     pub done: u64,
     pub again: u64,

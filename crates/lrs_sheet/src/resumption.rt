@@ -27,7 +27,7 @@ use std::alloc::Global;
 use std::io::{Read, Write};
 
 /// How much of a sheet is decided: so many records, up to the last one that is an edit, which has this key.
-#[derive(Clone, Copy, Debug, PartialEq, Eq)]
+#[derive(Clone, Copy, PartialEq, Eq)]
 pub struct Decided {
     pub records: u32,
     pub key: Option<Key>,

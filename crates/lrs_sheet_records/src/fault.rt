@@ -4,7 +4,7 @@ use lrs_machine::Field;
 use lrs_machine_stops::Fault;
 
 /// Why a record says no command.
-#[derive(Clone, Copy, Debug, PartialEq, Eq)]
+#[derive(Clone, Copy, PartialEq, Eq)]
 pub enum ReadFault {
     /// The first field that is malformed.
     Field(Field),
@@ -12,7 +12,7 @@ pub enum ReadFault {
 }
 
 /// Why a sheet was not answered to its end. The records before the fault are done.
-#[derive(Clone, Copy, Debug, PartialEq, Eq)]
+#[derive(Clone, Copy, PartialEq, Eq)]
 pub enum SheetFault {
     /// The reader failed, or there are too many records.
     Read,

@@ -9,7 +9,7 @@ ghost use Rattle.lrs_sheet_records.specs.Surveys.{as_edit};
 use csv::ByteRecord;
 
 /// Which kind a sheet is.
-#[derive(Clone, Copy, Debug, PartialEq, Eq)]
+#[derive(Clone, Copy, PartialEq, Eq)]
 pub enum Sheet {
     /// Commands of all verbs.
     Edits,

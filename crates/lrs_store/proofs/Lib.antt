@@ -1,4 +1,4 @@
-pub mod SeeingLemmas
+pub mod RowLemmas
 pub mod JudgedLemmas
 pub mod OpenedLemmas
 pub mod RefusedLemmas

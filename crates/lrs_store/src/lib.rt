@@ -7,7 +7,6 @@
 mod files;
 mod restart;
 mod rows;
-mod trees;
 mod verdict;
 
 pub use files::{Left, NotOpened, close_files, open_file, open_files};

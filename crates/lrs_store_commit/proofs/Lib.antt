@@ -18,7 +18,7 @@ pub mod Updating
 pub mod Renamed
 pub mod Then
 pub mod Leaves
-pub mod Pieces
+pub mod Last
 pub mod SameName
 pub mod CommitLemmas
 pub mod OneSchema

@@ -5,7 +5,7 @@ ghost use Rattle.sqlite.specs.State.{HasCleanDisk, Survives};
 ghost use Rattle.sqlite.specs.Held.{state};
 ghost use Rattle.lrs_store_tables.specs.Stored.{IsWriting, Makes, stored, OkDoes, LeavesStore};
 ghost use Rattle.lrs_store_tables.specs.Writing.{MakesOf, Writes, WritesEach, AreWritten, with_some, changed_course, changed_route, new_course, new_route, with_ledgers};
-ghost use Rattle.lrs_store_tables.specs.Changing.{without_route, with_entered, with_gone};
+ghost use Rattle.lrs_store_tables.specs.Changing.{without_route};
 ghost use Rattle.lrs_store_tables.specs.Resting.{IsReady};
 ghost use Rattle.lrs_store_commit.specs.Undone.{GoesBack, LeavesUndone};
 
@@ -15,10 +15,8 @@ use crate::insert_named::put_named;
 use crate::lists::write_all;
 use crate::new_assets::are_new_assets;
 use crate::routes::{change_route, drop_route, put_route};
-use lrs_events::{Gone, Part};
 use lrs_image::{Change, Difference, RouteChange, RouteKeys};
 use lrs_machine::RouteRow;
-use lrs_measure::Rows;
 use lrs_position::RouteName;
 use lrs_store_tables::insert::put_edit;
 use sqlite::{Alter, Connection, Error, Transaction};
@@ -74,26 +72,6 @@ fn put_some<S: Alter>(
     }
 }
 
-/// Puts rows of the ledger of what was entered.
-fn put_entered<S: Alter>(tx: &mut Transaction<'_, S>, parts: &Rows<Part>) -> Result<(), Error>
-    ensures same_reference { tx.new.conn.ghost_name ≡ tx.old.conn.ghost_name }
-    ensures does { OkDoes result (state S.Store tx.old.conn.now) (state S.Store tx.new.conn.now)
-        (Makes (with_entered parts.now)) }
-    ensures survives { LeavesStore (state S.Store tx.old.conn.now) (state S.Store tx.new.conn.now) }
-{
-    write_all(tx, &Ledger, parts.as_slice())
-}
-
-/// Puts rows of the ledger of what is gone.
-fn put_gone<S: Alter>(tx: &mut Transaction<'_, S>, gone: &Rows<Gone>) -> Result<(), Error>
-    ensures same_reference { tx.new.conn.ghost_name ≡ tx.old.conn.ghost_name }
-    ensures does { OkDoes result (state S.Store tx.old.conn.now) (state S.Store tx.new.conn.now)
-        (Makes (with_gone gone.now)) }
-    ensures survives { LeavesStore (state S.Store tx.old.conn.now) (state S.Store tx.new.conn.now) }
-{
-    write_all(tx, &Ledger, gone.as_slice())
-}
-
 /// Inserts rows into the ledgers.
 fn put_ledgers<S: Alter>(tx: &mut Transaction<'_, S>, difference: &Difference) -> Result<(), Error>
     ensures same_reference { tx.new.conn.ghost_name ≡ tx.old.conn.ghost_name }
@@ -101,9 +79,8 @@ fn put_ledgers<S: Alter>(tx: &mut Transaction<'_, S>, difference: &Difference) -
         (Makes (with_ledgers difference.now)) }
     ensures survives { LeavesStore (state S.Store tx.old.conn.now) (state S.Store tx.new.conn.now) }
 {
-    put_entered(tx, &difference.entered)?;
-    put_gone(tx, &difference.gone)?;
-    Ok(())
+    write_all(tx, &Ledger, difference.entered.as_slice())?;
+    write_all(tx, &Ledger, difference.gone.as_slice())
 }
 
 /// Writes the rows of a change, whose edit has this number. The removed route is deleted first: the route that
@@ -120,8 +97,7 @@ fn write_rows<S: Alter>(tx: &mut Transaction<'_, S>, n: u64, change: &Change) ->
     change_some(tx, &difference.changed)?;
     put_some(tx, &difference.made)?;
     put_ledgers(tx, difference)?;
-    put_edit(tx, n, &change.edit)?;
-    Ok(())
+    put_edit(tx, n, &change.edit)
 }
 
 /// Writes the rows of the first changes: of eight, if these are entries, and else of one. The edit of the first has

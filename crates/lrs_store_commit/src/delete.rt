@@ -53,8 +53,8 @@ impl Written<Going> for Span {
         _n: u64,
     ) -> Result<(), Error> {
         let asset = number(self.asset)?;
-        let route = ValueRef::Text(of.route.bytes());
         let from = number(self.from)?;
+        let route = ValueRef::Text(of.route.bytes());
         tx.execute(
             "DELETE FROM span WHERE asset = ?1 AND route = ?2 AND lo = ?3",
             &[asset, route, from],

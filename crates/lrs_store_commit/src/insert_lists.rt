@@ -73,9 +73,9 @@ impl Written<Coming> for Referent {
         of: &Coming,
         _n: u64,
     ) -> Result<(), Error> {
+        let at = number(self.at)?;
         let name = ValueRef::Text(self.name.bytes());
         let route = ValueRef::Text(of.route.bytes());
-        let at = number(self.at)?;
         tx.execute("INSERT INTO ref VALUES (?1, ?2, ?3)", &[name, route, at])?;
         Ok(())
     }

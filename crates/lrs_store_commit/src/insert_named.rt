@@ -46,8 +46,7 @@ fn put_entered_asset<S: Alter>(tx: &mut Transaction<'_, S>, asset: &Asset) -> Re
     ensures survives { LeavesStore (state S.Store tx.old.conn.now) (state S.Store tx.new.conn.now) }
 {
     put_asset(tx, asset)?;
-    put_origin(tx, asset)?;
-    Ok(())
+    put_origin(tx, asset)
 }
 
 /// Puts the rows of a new asset.
@@ -75,6 +74,5 @@ pub fn put_named<S: Alter>(
 {
     put_some_link(tx, &difference.link)?;
     put_some_class(tx, &difference.class)?;
-    put_some_asset(tx, &difference.asset)?;
-    Ok(())
+    put_some_asset(tx, &difference.asset)
 }

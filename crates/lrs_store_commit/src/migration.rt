@@ -37,16 +37,6 @@ impl Written<Origins> for Asset {
     ghost more = { λ of n k xs x t u at same. origins_more xs x t u same };
 }
 
-/// Puts the rows that tell which edits entered these assets.
-fn put_origins<S: Alter>(tx: &mut Transaction<'_, S>, assets: &[Asset]) -> Result<(), Error>
-    ensures same_reference { tx.new.conn.ghost_name ≡ tx.old.conn.ghost_name }
-    ensures does { OkDoes result (state S.Store tx.old.conn.now) (state S.Store tx.new.conn.now)
-        (Makes (with_origins assets.now)) }
-    ensures survives { LeavesStore (state S.Store tx.old.conn.now) (state S.Store tx.new.conn.now) }
-{
-    write_all(tx, &Origins, assets)
-}
-
 /// All rows go that tell which edits entered assets.
 fn clear_origins<S: Alter>(tx: &mut Transaction<'_, S>) -> Result<(), Error>
     ensures same_reference { tx.new.conn.ghost_name ≡ tx.old.conn.ghost_name }
@@ -80,10 +70,9 @@ fn write_second<S: Alter>(tx: &mut Transaction<'_, S>, assets: &[Asset]) -> Resu
     ensures survives { LeavesStore (state S.Store tx.old.conn.now) (state S.Store tx.new.conn.now) }
 {
     clear_origins(tx)?;
-    put_origins(tx, assets)?;
+    write_all(tx, &Origins, assets)?;
     clear_version(tx)?;
-    put_version(tx, 2)?;
-    Ok(())
+    put_version(tx, 2)
 }
 
 /// Brings a store up to version 2, with the edits that entered these assets, in one transaction.

@@ -3,7 +3,7 @@
 ghost use Rattle.std.specs.Prelude.{◌≡◌, Some};
 ghost use Rattle.sqlite.specs.Held.{state};
 ghost use Rattle.lrs_store_tables.specs.Stored.{Makes, OkDoes, LeavesStore};
-ghost use Rattle.lrs_store_tables.specs.Changing.{with_pieces, with_marks, with_refs, with_spans, without_route, less_spans, less_refs, renamed_refs, renamed_spans, renamed_route};
+ghost use Rattle.lrs_store_tables.specs.Changing.{without_route, renamed_route};
 ghost use Rattle.lrs_store_tables.specs.Writing.{MakesOf, with_some, new_pieces, new_marks, changed_refs, changed_spans, changed_line, changed_route, new_route};
 
 use crate::delete::{Going, drop_marks, drop_pieces};
@@ -11,103 +11,10 @@ use crate::insert_lists::Coming;
 use crate::lists::write_all;
 use crate::update::{Renaming, rename_marks, rename_pieces};
 use lrs_element::{Course, Marks};
-use lrs_events::Span;
 use lrs_image::{ReferentChange, RouteChange, RouteKeys};
 use lrs_machine::RouteRow;
-use lrs_measure::Rows;
-use lrs_position::{RefName, Referent, RouteName};
+use lrs_position::RouteName;
 use sqlite::{Alter, Error, Transaction};
-
-/// Puts the pieces of a route.
-fn put_pieces<S: Alter>(
-    tx: &mut Transaction<'_, S>,
-    route: &RouteName,
-    course: &Course,
-) -> Result<(), Error>
-    ensures same_reference { tx.new.conn.ghost_name ≡ tx.old.conn.ghost_name }
-    ensures does { OkDoes result (state S.Store tx.old.conn.now) (state S.Store tx.new.conn.now)
-        (MakesOf (Some course.now) (with_some (with_pieces route.now 0))) }
-    ensures survives { LeavesStore (state S.Store tx.old.conn.now) (state S.Store tx.new.conn.now) }
-{
-    let of = Coming { route: *route };
-    write_all(tx, &of, course.pieces())?;
-    Ok(())
-}
-
-/// Puts the marks of a route.
-fn put_marks<S: Alter>(
-    tx: &mut Transaction<'_, S>,
-    route: &RouteName,
-    marks: &Marks,
-) -> Result<(), Error>
-    ensures same_reference { tx.new.conn.ghost_name ≡ tx.old.conn.ghost_name }
-    ensures does { OkDoes result (state S.Store tx.old.conn.now) (state S.Store tx.new.conn.now)
-        (Makes (with_marks route.now 0 marks.now)) }
-    ensures survives { LeavesStore (state S.Store tx.old.conn.now) (state S.Store tx.new.conn.now) }
-{
-    let of = Coming { route: *route };
-    write_all(tx, &of, marks.list())
-}
-
-/// Puts referents of a route.
-fn put_refs<S: Alter>(
-    tx: &mut Transaction<'_, S>,
-    route: &RouteName,
-    refs: &Rows<Referent>,
-) -> Result<(), Error>
-    ensures same_reference { tx.new.conn.ghost_name ≡ tx.old.conn.ghost_name }
-    ensures does { OkDoes result (state S.Store tx.old.conn.now) (state S.Store tx.new.conn.now)
-        (Makes (with_refs route.now refs.now)) }
-    ensures survives { LeavesStore (state S.Store tx.old.conn.now) (state S.Store tx.new.conn.now) }
-{
-    let of = Coming { route: *route };
-    write_all(tx, &of, refs.as_slice())
-}
-
-/// Puts spans of a route.
-fn put_spans<S: Alter>(
-    tx: &mut Transaction<'_, S>,
-    route: &RouteName,
-    spans: &[Span],
-) -> Result<(), Error>
-    ensures same_reference { tx.new.conn.ghost_name ≡ tx.old.conn.ghost_name }
-    ensures does { OkDoes result (state S.Store tx.old.conn.now) (state S.Store tx.new.conn.now)
-        (Makes (with_spans route.now spans.now)) }
-    ensures survives { LeavesStore (state S.Store tx.old.conn.now) (state S.Store tx.new.conn.now) }
-{
-    let of = Coming { route: *route };
-    write_all(tx, &of, spans)
-}
-
-/// Deletes referents by their names.
-fn take_refs<S: Alter>(
-    tx: &mut Transaction<'_, S>,
-    route: &RouteName,
-    names: &Rows<RefName>,
-) -> Result<(), Error>
-    ensures same_reference { tx.new.conn.ghost_name ≡ tx.old.conn.ghost_name }
-    ensures does { OkDoes result (state S.Store tx.old.conn.now) (state S.Store tx.new.conn.now)
-        (Makes (less_refs names.now)) }
-    ensures survives { LeavesStore (state S.Store tx.old.conn.now) (state S.Store tx.new.conn.now) }
-{
-    let of = Going { route: *route };
-    write_all(tx, &of, names.as_slice())
-}
-
-/// Deletes spans of a route by their keys.
-fn take_spans<S: Alter>(
-    tx: &mut Transaction<'_, S>,
-    route: &RouteName,
-    spans: &Rows<Span>,
-) -> Result<(), Error>
-    ensures same_reference { tx.new.conn.ghost_name ≡ tx.old.conn.ghost_name }
-    ensures does { OkDoes result (state S.Store tx.old.conn.now) (state S.Store tx.new.conn.now)
-        (Makes (less_spans route.now spans.now)) }
-    ensures survives { LeavesStore (state S.Store tx.old.conn.now) (state S.Store tx.new.conn.now) }
-{
-    let of = Going { route: *route };
-    write_all(tx, &of, spans.as_slice())
-}
 
 /// Puts other pieces of a route.
 fn put_new_pieces<S: Alter>(
@@ -121,8 +28,8 @@ fn put_new_pieces<S: Alter>(
     ensures survives { LeavesStore (state S.Store tx.old.conn.now) (state S.Store tx.new.conn.now) }
 {
     drop_pieces(tx, route)?;
-    put_pieces(tx, route, course)?;
-    Ok(())
+    let coming = Coming { route: *route };
+    write_all(tx, &coming, course.pieces())
 }
 
 /// Puts other pieces of a route, where its course changes.
@@ -154,8 +61,8 @@ fn put_new_marks<S: Alter>(
     ensures survives { LeavesStore (state S.Store tx.old.conn.now) (state S.Store tx.new.conn.now) }
 {
     drop_marks(tx, route)?;
-    put_marks(tx, route, marks)?;
-    Ok(())
+    let coming = Coming { route: *route };
+    write_all(tx, &coming, marks.list())
 }
 
 /// Puts other marks of a route, where they change.
@@ -186,9 +93,10 @@ fn change_refs<S: Alter>(
         (Makes (changed_refs route.now refs.now)) }
     ensures survives { LeavesStore (state S.Store tx.old.conn.now) (state S.Store tx.new.conn.now) }
 {
-    take_refs(tx, route, &refs.gone)?;
-    put_refs(tx, route, &refs.come)?;
-    Ok(())
+    let going = Going { route: *route };
+    write_all(tx, &going, refs.gone.as_slice())?;
+    let coming = Coming { route: *route };
+    write_all(tx, &coming, refs.come.as_slice())
 }
 
 /// Deletes the removed spans and puts the inserted ones.
@@ -198,47 +106,14 @@ fn change_spans<S: Alter>(tx: &mut Transaction<'_, S>, change: &RouteChange) -> 
         (Makes (changed_spans change.now)) }
     ensures survives { LeavesStore (state S.Store tx.old.conn.now) (state S.Store tx.new.conn.now) }
 {
-    take_spans(tx, &change.route, &change.spans_gone)?;
-    put_spans(tx, &change.route, change.spans_come.as_slice())?;
-    Ok(())
-}
-
-/// Referents get the new name of their route, by their names.
-fn rename_refs<S: Alter>(
-    tx: &mut Transaction<'_, S>,
-    route: &RouteName,
-    name: &RouteName,
-    refs: &Rows<RefName>,
-) -> Result<(), Error>
-    ensures same_reference { tx.new.conn.ghost_name ≡ tx.old.conn.ghost_name }
-    ensures does { OkDoes result (state S.Store tx.old.conn.now) (state S.Store tx.new.conn.now)
-        (Makes (renamed_refs route.now name.now refs.now)) }
-    ensures survives { LeavesStore (state S.Store tx.old.conn.now) (state S.Store tx.new.conn.now) }
-{
-    let of = Renaming {
-        route: *route,
-        name: *name,
+    let going = Going {
+        route: change.route,
     };
-    write_all(tx, &of, refs.as_slice())
-}
-
-/// Spans get the new name of their route, by their keys.
-fn rename_spans<S: Alter>(
-    tx: &mut Transaction<'_, S>,
-    route: &RouteName,
-    name: &RouteName,
-    spans: &Rows<Span>,
-) -> Result<(), Error>
-    ensures same_reference { tx.new.conn.ghost_name ≡ tx.old.conn.ghost_name }
-    ensures does { OkDoes result (state S.Store tx.old.conn.now) (state S.Store tx.new.conn.now)
-        (Makes (renamed_spans route.now name.now spans.now)) }
-    ensures survives { LeavesStore (state S.Store tx.old.conn.now) (state S.Store tx.new.conn.now) }
-{
-    let of = Renaming {
-        route: *route,
-        name: *name,
+    write_all(tx, &going, change.spans_gone.as_slice())?;
+    let coming = Coming {
+        route: change.route,
     };
-    write_all(tx, &of, spans.as_slice())
+    write_all(tx, &coming, change.spans_come.as_slice())
 }
 
 /// A route gets its new name, with what lies on it.
@@ -255,9 +130,12 @@ fn rename_route<S: Alter>(
 {
     rename_pieces(tx, route, name)?;
     rename_marks(tx, route, name)?;
-    rename_refs(tx, route, name, &keys.refs)?;
-    rename_spans(tx, route, name, &keys.spans)?;
-    Ok(())
+    let renaming = Renaming {
+        route: *route,
+        name: *name,
+    };
+    write_all(tx, &renaming, keys.refs.as_slice())?;
+    write_all(tx, &renaming, keys.spans.as_slice())
 }
 
 /// A route gets its new name, if it has one.
@@ -275,8 +153,7 @@ fn rename_if_new<S: Alter>(
     if route == name {
         return Ok(());
     }
-    rename_route(tx, route, name, keys)?;
-    Ok(())
+    rename_route(tx, route, name, keys)
 }
 
 /// Puts other pieces and marks of a route, where they change.
@@ -287,8 +164,7 @@ fn change_line<S: Alter>(tx: &mut Transaction<'_, S>, change: &RouteChange) -> R
     ensures survives { LeavesStore (state S.Store tx.old.conn.now) (state S.Store tx.new.conn.now) }
 {
     replace_pieces(tx, &change.route, &change.course)?;
-    replace_marks(tx, &change.route, &change.marks)?;
-    Ok(())
+    replace_marks(tx, &change.route, &change.marks)
 }
 
 /// A route that stays changes, with what lies on it.
@@ -304,8 +180,7 @@ pub fn change_route<S: Alter>(
     change_line(tx, change)?;
     change_refs(tx, &change.route, &change.refs)?;
     change_spans(tx, change)?;
-    rename_if_new(tx, &change.route, &change.name, &change.keys)?;
-    Ok(())
+    rename_if_new(tx, &change.route, &change.name, &change.keys)
 }
 
 /// A route goes, with what lies on it.
@@ -321,9 +196,9 @@ pub fn drop_route<S: Alter>(
 {
     drop_pieces(tx, route)?;
     drop_marks(tx, route)?;
-    take_refs(tx, route, &keys.refs)?;
-    take_spans(tx, route, &keys.spans)?;
-    Ok(())
+    let going = Going { route: *route };
+    write_all(tx, &going, keys.refs.as_slice())?;
+    write_all(tx, &going, keys.spans.as_slice())
 }
 
 /// A route comes, with what lies on it.
@@ -334,9 +209,9 @@ pub fn put_route<S: Alter>(tx: &mut Transaction<'_, S>, route_row: &RouteRow) ->
     ensures survives { LeavesStore (state S.Store tx.old.conn.now) (state S.Store tx.new.conn.now) }
 {
     let route = &route_row.route;
-    put_pieces(tx, &route.name, &route.course)?;
-    put_marks(tx, &route.name, &route.marks)?;
-    put_refs(tx, &route.name, &route.refs)?;
-    put_spans(tx, &route.name, route_row.spans.rows())?;
-    Ok(())
+    let coming = Coming { route: route.name };
+    write_all(tx, &coming, route.course.pieces())?;
+    write_all(tx, &coming, route.marks.list())?;
+    write_all(tx, &coming, route.refs.as_slice())?;
+    write_all(tx, &coming, route_row.spans.rows())
 }

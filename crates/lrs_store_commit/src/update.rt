@@ -64,8 +64,8 @@ impl Written<Renaming> for Span {
         _n: u64,
     ) -> Result<(), Error> {
         let asset = number(self.asset)?;
-        let old = ValueRef::Text(of.route.bytes());
         let from = number(self.from)?;
+        let old = ValueRef::Text(of.route.bytes());
         let new = ValueRef::Text(of.name.bytes());
         tx.execute(
             "UPDATE span SET route = ?4 WHERE asset = ?1 AND route = ?2 AND lo = ?3",

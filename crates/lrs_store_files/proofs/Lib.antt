@@ -3,3 +3,4 @@ pub mod FirstTables
 pub mod OpenLemmas
 pub mod FoundLemmas
 pub mod RefusedLemmas
+pub mod SeeingLemmas

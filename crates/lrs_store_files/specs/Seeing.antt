@@ -1,5 +1,6 @@
 -- Rows that are read from the trees of a store.
-use Rattle.std.specs.Prelude.{◌≡◌, ◌≤◌, ◌⊎◌, ℕ, false, IsTrue}
+use Rattle.std.specs.Prelude.{◌≡◌, ◌≤◌, ◌⊎◌, ℕ, false, List, IsTrue}
+use Rattle.sqlite_value.specs.Order.{Row}
 use Rattle.sqlite_trees.specs.Tree.{Trees}
 use Rattle.sqlite_trees.specs.View.{View, doubt, IsClean}
 use Rattle.sqlite_trees.specs.declared.error.StoreError.{StoreError}
@@ -8,7 +9,6 @@ use Rattle.sqlite_exec.specs.Calls.{OnlyReads}
 use Rattle.lrs_store_tables.specs.Stored.{rows_of, version_places, link_places, class_places, asset_places, piece_places, mark_places, ref_places, span_places, entered_places, gone_places, edit_places, origin_places}
 use Rattle.lrs_store_tables.specs.declared.stored_rows.NamedRows.{NamedRows}
 use Rattle.lrs_store_tables.specs.declared.stored_rows.RouteRows.{RouteRows}
-use Rattle.lrs_store_tables.specs.declared.stored_rows.LedgerRows.{LedgerRows}
 
 -- A store was read: this holds of its trees, none of them has changed, and a crash has no new outcome.
 pub record HasSeen {S : Type 0} (view : S → View) (recovers : S → Trees → Type 0) (P : Trees → Type 0) (old new : S) : Type 0 where
@@ -17,6 +17,11 @@ pub record HasSeen {S : Type 0} (view : S → View) (recovers : S → Trees → 
   pub same : IsClean (view new) → OnlyReads (view old) (view new)
   pub sound : IsClean (view new) → (view old).is_broken ≡ false
   pub seen : IsClean (view new) → P (view old).trees
+
+-- A store was looked at: no doubt of its disk is forgotten, and a later opening finds there what it might have found before.
+pub record WasLookedAt {S : Type 0} (view : S → View) (recovers : S → Trees → Type 0) (old new : S) : Type 0 where
+  pub clean : doubt (view old).is_clean ≤ doubt (view new).is_clean
+  pub outcomes : (db : Trees) → recovers new db → recovers old db
 
 -- why a store is not read whose disk has not failed: memory ran out, or the store was broken
 abbrev pub StopsFor : View → StoreError → Type 0
@@ -43,8 +48,12 @@ pub record HasRoutes (r : RouteRows) (db : Trees) : Type 0 where
   pub referent : r.referent.items ≡ rows_of db 9 ref_places
   pub span : r.span.items ≡ rows_of db 11 span_places
 
-pub record HasLedgers (r : LedgerRows) (db : Trees) : Type 0 where
-  pub entered : r.entered.items ≡ rows_of db 13 entered_places
-  pub gone : r.gone.items ≡ rows_of db 15 gone_places
-  pub edit : r.edit.items ≡ rows_of db 17 edit_places
-  pub origin : r.origin.items ≡ rows_of db 19 origin_places
+-- these are the rows of both ledgers
+pub record HasLedgers (parts left : List Row) (db : Trees) : Type 0 where
+  pub entered : parts ≡ rows_of db 13 entered_places
+  pub gone : left ≡ rows_of db 15 gone_places
+
+-- these are the rows of edits and of origins
+pub record HasEdits (edits origins : List Row) (db : Trees) : Type 0 where
+  pub edit : edits ≡ rows_of db 17 edit_places
+  pub origin : origins ≡ rows_of db 19 origin_places

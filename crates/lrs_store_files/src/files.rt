@@ -154,7 +154,7 @@ pub fn open_tables_at<S: Start>(
 }
 
 /// Why a store is not closed.
-#[derive(Clone, Copy, Debug, PartialEq, Eq)]
+#[derive(Clone, Copy, PartialEq, Eq)]
 pub enum CloseFault {
     /// There is too little memory.
     Memory,

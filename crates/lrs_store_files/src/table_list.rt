@@ -13,7 +13,7 @@ use std::alloc::{AllocError, Global};
 const INDEXES: [usize; TABLES + 1] = [0, 0, 0, 1, 1, 2, 3, 4, 5, 6, 7, 8, 8];
 
 /// What a store has.
-#[derive(Clone, Copy, Debug, PartialEq, Eq)]
+#[derive(Clone, Copy, PartialEq, Eq)]
 pub enum Known {
     /// The first of the tables, in the order in which they are made: none, some or all. Those of version 1 are all but
     /// the last, which tells origins.

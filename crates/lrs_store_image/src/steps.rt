@@ -191,13 +191,35 @@ fn read_image(
     ensures { Reads (image_of_ledgers held (edits_in edits.items origins.items)) result }
 {
     let version = held.first.version;
-    let entered = held.entered.as_slice();
-    let said = rows::edits(alloc, entered, held.gone.as_slice(), edits)?;
-    let image = with_edits(alloc, held, said)?;
+    let said = match rows::edits(alloc, held.entered.as_slice(), held.gone.as_slice(), edits) {
+        Ok(said) => said,
+        Err(fault) => {
+            drop(held);
+            drop(origins);
+            return Err(fault);
+        }
+    };
+    let image = match with_edits(alloc, held, said) {
+        Ok(image) => image,
+        Err(fault) => {
+            drop(origins);
+            return Err(LoadFault::from(fault));
+        }
+    };
     let assets = image.assets.as_slice();
     let entered = image.entered.as_slice();
-    rows::origins(alloc, version, assets, entered, origins.as_slice())?;
-    Ok(image)
+    match rows::origins(alloc, version, assets, entered, origins.as_slice()) {
+        Ok(found) => {
+            drop(found);
+            drop(origins);
+            Ok(image)
+        }
+        Err(fault) => {
+            drop(image);
+            drop(origins);
+            Err(fault)
+        }
+    }
 }
 
 /// Reads the rows of edits and of origins beside what was read in both steps.

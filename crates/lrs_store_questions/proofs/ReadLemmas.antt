@@ -15,12 +15,13 @@ use Rattle.lrs_store_rows.proofs.Contents.{content_is_sound}
 use Rattle.lrs_store_tables.specs.Stored.{stored, rows_of, version_in, link_in, class_in, asset_in, piece_in, mark_in, ref_in, span_in, entered_in, gone_in, edit_in, origin_in, entered_places, gone_places, edit_places, origin_places}
 use Rattle.lrs_store_tables.specs.declared.stored_rows.NamedRows.{NamedRows}
 use Rattle.lrs_store_tables.specs.declared.stored_rows.RouteRows.{RouteRows}
-use Rattle.lrs_store_files.specs.Seeing.{HasSeen}
+use Rattle.lrs_store_files.specs.Seeing.{HasSeen, WasLookedAt, HasLedgers, HasEdits}
+use Rattle.lrs_store_files.proofs.SeeingLemmas.{seen_so}
 use Rattle.lrs_store_image.specs.Loading.{Reads}
 use Rattle.lrs_store_image.specs.declared.steps.Begun.{Begun}
 use Rattle.lrs_store_image.specs.declared.steps.Held.{Held}
 use Rattle.lrs_store_image.specs.Steps.{LedgerTables, EditTables, edits_in, tables_with, content_of_begun, content_of_held, Begins, WithLedgers}
-use Rattle.lrs_store_questions.specs.Reading.{ListInventory, HasFirst, HasLedgers, HasEdits, HasContent, Says, WasLookedAt, HoldsThere, MayTell, IsTold}
+use Rattle.lrs_store_questions.specs.Reading.{ListInventory, HasFirst, HasContent, Says, HoldsThere, MayTell, IsTold}
 
 -- the rows of the ledgers that a store has, and of edits and origins
 
@@ -145,23 +146,6 @@ module _ {S : Type 0} (view : S → View) (recovers : S → Trees → Type 0) wh
   -- what may be found after a look might be found before it
   pub told_before : (old new : S) → WasLookedAt view recovers old new → (c : Result Image Table) → MayTell view recovers c new → MayTell view recovers c old
   told_before old new looked c may = (omega (arith, may.0, looked.clean), (may.1.0, looked.outcomes may.1.0 may.1.1, may.1.2))
-
--- trees of which this holds were seen, so this holds of them too
-seen_so : {S : Type 0} {view : S → View} {recovers : S → Trees → Type 0} {old new : S} (P Q : Trees → Type 0) → ((db : Trees) → P db → Q db) → HasSeen view recovers P old new → HasSeen view recovers Q old new
-seen_so {view = view} {old = old} P Q so seen = record { clean = seen.clean; outcomes = seen.outcomes; same = seen.same; sound = seen.sound; seen = λ clean. so (view old).trees (seen.seen clean) }
-
--- what is seen one after the other is seen of the same trees
-pub seen_both : {S : Type 0} {view : S → View} {recovers : S → Trees → Type 0} {old mid new : S} (P Q : Trees → Type 0) → HasSeen view recovers P old mid → HasSeen view recovers Q mid new → HasSeen view recovers (λ db. P db × Q db) old new
-seen_both {view = view} {old = old} {mid = mid} {new = new} P Q first second = record {
-  clean = omega (arith, first.clean, second.clean);
-  outcomes = λ db h. first.outcomes db (second.outcomes db h);
-  same = λ clean. second.same clean ∙ ap (λ (v : View). record v { cursors = (view new).cursors }) (first.same (early clean));
-  sound = λ clean. first.sound (early clean);
-  seen = λ clean. (first.seen (early clean), subst Q (ap (λ (v : View). v.trees) (first.same (early clean))) (second.seen clean));
-}
-  where
-    early : IsClean (view new) → IsClean (view mid)
-    early clean = omega (arith, clean, second.clean)
 
 module _ {S : Type 0} {view : S → View} {recovers : S → Trees → Type 0} {old new : S} (n : NamedRows) (r : RouteRows) where
   -- the content is said by a first step that failed

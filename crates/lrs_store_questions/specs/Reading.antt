@@ -1,9 +1,8 @@
 -- What is read of a store without a connection.
-use Rattle.std.specs.Prelude.{◌≡◌, ◌≤◌, List, Result, Ok, Err, IsTrue}
+use Rattle.std.specs.Prelude.{◌≡◌, Result, Ok, Err, IsTrue}
 use Rattle.std.proofs.Common.{refl}
-use Rattle.sqlite_value.specs.Order.{Row}
 use Rattle.sqlite_trees.specs.Tree.{Trees}
-use Rattle.sqlite_trees.specs.View.{View, doubt, IsClean}
+use Rattle.sqlite_trees.specs.View.{View, IsClean}
 use Rattle.sqlite_trees.specs.Objects.{catalog_tree}
 use Rattle.sqlite_catalog.specs.Listing.{Lists}
 use Rattle.lrs_machine.specs.declared.image.Image.{Image}
@@ -12,7 +11,7 @@ use Rattle.lrs_image.specs.declared.keeper.LoadFault.{LoadFault}
 use Rattle.lrs_image.specs.declared.keeper.LoadFault.TheVariants.{Memory, Store, Unsound}
 use Rattle.lrs_store_rows.specs.Content.{content_of}
 use Rattle.lrs_store_tables.specs.Schema.{inventory}
-use Rattle.lrs_store_tables.specs.Stored.{stored, rows_of, entered_places, gone_places, edit_places, origin_places}
+use Rattle.lrs_store_tables.specs.Stored.{stored}
 use Rattle.lrs_store_tables.specs.declared.stored_rows.NamedRows.{NamedRows}
 use Rattle.lrs_store_tables.specs.declared.stored_rows.RouteRows.{RouteRows}
 use Rattle.lrs_store_files.specs.Seeing.{HasNamed, HasRoutes}
@@ -27,16 +26,6 @@ pub record HasFirst (n : NamedRows) (r : RouteRows) (db : Trees) : Type 0 where
   pub named : HasNamed n db
   pub routes : HasRoutes r db
 
--- these are the rows of both ledgers
-pub record HasLedgers (parts left : List Row) (db : Trees) : Type 0 where
-  pub entered : parts ≡ rows_of db 13 entered_places
-  pub gone : left ≡ rows_of db 15 gone_places
-
--- these are the rows of edits and of origins
-pub record HasEdits (edits origins : List Row) (db : Trees) : Type 0 where
-  pub edit : edits ≡ rows_of db 17 edit_places
-  pub origin : origins ≡ rows_of db 19 origin_places
-
 -- The trees list the tables of an inventory, whose rows hold this image, or whose first unsound table this is.
 pub record HasContent (c : Result Image Table) (db : Trees) : Type 0 where
   pub lists : ListInventory db
@@ -50,11 +39,6 @@ Says (Err Memory) c = ⊥
 Says (Err Store) c = ⊥
 
 module _ {S : Type 0} (view : S → View) (recovers : S → Trees → Type 0) where
-  -- A store was looked at: no doubt of its disk is forgotten, and a later opening finds there what it might have found before.
-  pub record WasLookedAt (old new : S) : Type 0 where
-    pub clean : doubt (view old).is_clean ≤ doubt (view new).is_clean
-    pub outcomes : (db : Trees) → recovers new db → recovers old db
-
   -- this is the content of whatever an opening may find of this store, if its disk is clean
   abbrev pub HoldsThere : Result Image Table → S → Type 0
   HoldsThere c s = IsClean (view s) → (db : Trees) → recovers s db → HasContent c db

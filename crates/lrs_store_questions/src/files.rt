@@ -11,7 +11,7 @@ ghost use Rattle.lrs_store_questions.specs.Opened.{HasListed, IsOpened};
 
 use crate::look::look;
 use crate::plain::{list_plain, plain_layouts};
-use crate::values::take_values;
+use lrs_store_files::values::take_values;
 use sqlite::{Leftover, Options};
 use sqlite_disk::{Disk, Files};
 use sqlite_pager::Pager;

@@ -5,12 +5,12 @@ ghost use Rattle.sqlite_trees.specs.View.{IsClean};
 ghost use Rattle.lrs_machine.specs.declared.image.Image.{Image as ImageRows};
 ghost use Rattle.lrs_machine.specs.declared.table.Table.{Table as DeclaredTable};
 ghost use Rattle.lrs_machine.specs.Sound.{IsSound};
-ghost use Rattle.lrs_store_files.specs.Seeing.{HasSeen};
-ghost use Rattle.lrs_store_questions.specs.Reading.{ListInventory, HasFirst, HasContent, Says, WasLookedAt, HoldsThere, IsTold};
+ghost use Rattle.lrs_store_files.specs.Seeing.{HasSeen, WasLookedAt};
+ghost use Rattle.lrs_store_questions.specs.Reading.{ListInventory, HasFirst, HasContent, Says, HoldsThere, IsTold};
 
-use crate::rows::{read_edits, read_ledgers, read_named, read_routes};
 use lrs_image::LoadFault;
 use lrs_machine::Image;
+use lrs_store_files::table_rows::{read_edits, read_ledgers, read_named, read_routes};
 use lrs_store_files::{Known, wanted, which};
 use lrs_store_image::{begin, finish, with_ledgers};
 use lrs_store_tables::stored_rows::{NamedRows, RouteRows};

@@ -60,7 +60,8 @@ impl<S: Alter> Keeper for Questions<S> {
         }
     }
 
-    fn stage(&mut self, _change: Change) -> Result<(), AllocError> {
+    fn stage(&mut self, change: Change) -> Result<(), AllocError> {
+        drop(change);
         Err(AllocError)
     }
 

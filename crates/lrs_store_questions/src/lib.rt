@@ -11,9 +11,6 @@ mod keeper;
 mod laws;
 mod look;
 mod plain;
-mod rows;
-mod trees;
-mod values;
 
 pub use access::{NotOpened, files_for_questions, open_for_questions};
 pub use keeper::Questions;

@@ -4,7 +4,7 @@ use lrs_machine::Table;
 use std::alloc::AllocError;
 
 /// Why rows give no part of an image.
-#[derive(Clone, Copy, Debug, PartialEq, Eq)]
+#[derive(Clone, Copy, PartialEq, Eq)]
 pub enum RowsFault {
     /// There is too little memory.
     Memory,

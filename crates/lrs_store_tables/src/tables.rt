@@ -18,7 +18,7 @@ pub struct TableStore<S: Alter> {
 }
 
 /// Why a store is not opened.
-#[derive(Clone, Copy, Debug, PartialEq, Eq)]
+#[derive(Clone, Copy, PartialEq, Eq)]
 pub enum StoreFault {
     /// There is too little memory.
     Memory,

@@ -17,3 +17,6 @@ pub mod Made
 pub mod RouteReferents
 pub mod GoneReferent
 pub mod NewReferent
+pub mod Closed
+pub mod Renumbered
+pub mod TurnedRoute

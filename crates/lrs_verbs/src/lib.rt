@@ -5,6 +5,6 @@ pub mod laws;
 mod verbs;
 
 pub use verbs::{
-    plan_class, plan_enter, plan_link, plan_ref, plan_retire, plan_route, plan_supersede,
-    plan_unref,
+    plan_class, plan_close, plan_enter, plan_link, plan_ref, plan_renumber, plan_retire,
+    plan_route, plan_supersede, plan_turn, plan_unref,
 };

@@ -1,11 +1,6 @@
-pub mod ChangedRoute
-pub mod Rerouted
 pub mod Recalibrated
-pub mod Renumbered
 pub mod SplitRoute
 pub mod JoinRoutes
-pub mod TurnedRoute
-pub mod Closed
 pub mod RealignChecks
 pub mod MovedReferents
 pub mod GoneOn

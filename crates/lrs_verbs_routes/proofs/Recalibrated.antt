@@ -15,10 +15,10 @@ use Rattle.lrs_image_laws.proofs.Renaming.{recalibrate_makes, alike}
 use Rattle.lrs_inventory.specs.NewCourses.{new_marks}
 use Rattle.lrs_verbs_routes.specs.Checks.{recalibrated}
 use Rattle.lrs_inventory.specs.Plans.{IsPlanOf}
-use Rattle.lrs_verbs_routes.proofs.ChangedRoute.{new, at, own_name, plans_alike}
+use Rattle.lrs_inventory.proofs.ChangedRoute.{new, at, own_name, plans_alike}
 use Rattle.lrs_inventory.proofs.Known.{route_value}
 use Rattle.lrs_inventory.proofs.NewCourse.{marks_of, good_line}
-use Rattle.lrs_verbs_routes.proofs.Rerouted.{relabelled, after, same, new_name, new_marks_are, can_become}
+use Rattle.lrs_inventory.proofs.Rerouted.{relabelled, after, same, new_name, new_marks_are, can_become}
 
 -- ---- what the verb does
 

@@ -10,18 +10,14 @@ use Rattle.lrs_inventory.specs.Plans.{plan_of}
 abbrev pub recalibrated : Name → List Mark → Plan
 recalibrated route marks = plan_of (rerouting (Some (record (no_change route) { marks = Some marks })) None None)
 
--- the plan by which a route gets this name with what lies on it, and its ground, these pieces, passes to it
-abbrev pub renumbered : Name → Name → RouteKeys → (ground : List Piece) → Plan
-renumbered route name keys ground = record (plan_of (rerouting (Some (record (no_change route) { name = name; keys = keys })) None None)) { ground = Some (record { route = name; gone = []; passed = ground; come = [] }) }
-
 -- the plan by which a route becomes two, and the ground of its rear, these pieces, passes to the new one
-abbrev pub split_plan : Name → Halves → List Piece → Plan
-split_plan name h passed = record (plan_of (rerouting (Some h.front) None (Some h.rear))) { ground = Some (record { route = name; gone = []; passed = passed; come = [] }) }
+abbrev pub split_plan : Name → Halves → (ground : List Piece) → Plan
+split_plan name h ground = record (plan_of (rerouting (Some h.front) None (Some h.rear))) { ground = Some (record { route = name; gone = []; passed = ground; come = [] }) }
 
 -- the difference by which a route changes and another goes with what lies on it
 abbrev pub joining : RouteChange → Name → RouteKeys → Difference
 joining c second keys = record (rerouting (Some c) (Some second) None) { keys = keys }
 
 -- the plan by which a route changes and the second goes with what lies on it, and its ground, these pieces, passes to the first
-abbrev pub join_plan : Name → RouteKeys → RouteChange → List Piece → Plan
-join_plan second keys c passed = record (plan_of (joining c second keys)) { ground = Some (record { route = c.name; gone = []; passed = passed; come = [] }) }
+abbrev pub join_plan : Name → RouteKeys → RouteChange → (ground : List Piece) → Plan
+join_plan second keys c ground = record (plan_of (joining c second keys)) { ground = Some (record { route = c.name; gone = []; passed = ground; come = [] }) }

@@ -13,7 +13,7 @@ use std::alloc::Global;
 use std::io::{Read, Write};
 
 /// A door gave no connection.
-#[derive(Debug, Clone, Copy, PartialEq, Eq)]
+#[derive(Clone, Copy, PartialEq, Eq)]
 pub struct DoorFault;
 
 /// Where connections come from.
@@ -59,7 +59,7 @@ pub trait Door {
 
 /// How many connections were served in full, and how many were cut off: their request or its reply did not go through,
 /// or the reply was a 503.
-#[derive(Debug, Clone, Copy, PartialEq, Eq)]
+#[derive(Clone, Copy, PartialEq, Eq)]
 pub struct Served {
     pub full: u32,
     pub cut: u32,

@@ -29,7 +29,7 @@ use std::alloc::{AllocError, Global};
 use std::io::{Read, Write};
 
 /// Why a request has no reply.
-#[derive(Debug, Clone, Copy, PartialEq, Eq)]
+#[derive(Clone, Copy, PartialEq, Eq)]
 pub enum WebFault {
     /// The reader failed, and nothing was done.
     Read,

@@ -15,7 +15,7 @@ use lrs_position::RouteName;
 use lrs_whereabouts::WhereFault;
 
 /// What a report names, and an inventory does not have.
-#[derive(Clone, Copy, Debug, PartialEq, Eq)]
+#[derive(Clone, Copy, PartialEq, Eq)]
 pub enum Missing {
     Route,
     Class,

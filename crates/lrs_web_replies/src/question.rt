@@ -16,7 +16,7 @@ use lrs_web_requests::Resource;
 use std::alloc::{AllocError, AllocFailed, Global};
 
 /// A parameter of a query.
-#[derive(Clone, Copy, Debug, PartialEq, Eq)]
+#[derive(Clone, Copy, PartialEq, Eq)]
 pub enum Parameter {
     Route,
     /// The route of rows, which may be left out for all.
@@ -73,7 +73,7 @@ impl Parameter {
 }
 
 /// Why nothing is asked.
-#[derive(Clone, Copy, Debug, PartialEq, Eq)]
+#[derive(Clone, Copy, PartialEq, Eq)]
 pub enum QueryFault {
     /// The first parameter that is missing or cannot be read.
     Malformed(Parameter),

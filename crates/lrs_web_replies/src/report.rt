@@ -16,7 +16,7 @@ use lrs_whereabouts::Spot;
 use std::alloc::Global;
 
 /// What is reported.
-#[derive(Clone, Copy, Debug, PartialEq, Eq)]
+#[derive(Clone, Copy, PartialEq, Eq)]
 pub enum Report {
     /// How many edits were accepted.
     Health,

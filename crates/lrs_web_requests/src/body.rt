@@ -9,7 +9,7 @@ use std::alloc::{AllocError, Global};
 use std::io::{self, Read};
 
 /// Why a body was not read.
-#[derive(Debug, Drop)]
+#[derive(Drop)]
 pub enum BodyFault {
     Memory,
     Read(io::Error),

@@ -10,7 +10,7 @@ use httparse::{Error, Status};
 use std::io::{self, Read};
 
 /// How the head of a request came out.
-#[derive(Debug, Clone, Copy)]
+#[derive(Clone, Copy)]
 pub enum Outcome {
     /// A whole head, at these places of what was read.
     Complete(RequestSpans),
@@ -21,7 +21,7 @@ pub enum Outcome {
 }
 
 /// What was read, and how it came out.
-#[derive(Debug, Clone, Copy)]
+#[derive(Clone, Copy)]
 pub struct Reading {
     pub filled: usize,
     pub outcome: Outcome,

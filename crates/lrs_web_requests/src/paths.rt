@@ -7,7 +7,7 @@ use matchit::{InsertError, Router};
 use std::alloc::Global;
 
 /// What can be asked for.
-#[derive(Debug, Clone, Copy, PartialEq, Eq)]
+#[derive(Clone, Copy, PartialEq, Eq)]
 pub enum Resource {
     At,
     Route,

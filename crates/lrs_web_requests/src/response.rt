@@ -11,7 +11,7 @@ use std::alloc::{AllocError, Global};
 use std::io::{self, Write};
 
 /// What a body is.
-#[derive(Debug, Clone, Copy, PartialEq, Eq)]
+#[derive(Clone, Copy, PartialEq, Eq)]
 pub enum ContentType {
     Json,
     Csv,
@@ -31,7 +31,7 @@ impl ContentType {
 }
 
 /// A method that some path serves.
-#[derive(Debug, Clone, Copy, PartialEq, Eq)]
+#[derive(Clone, Copy, PartialEq, Eq)]
 pub enum Verb {
     Get,
     Post,

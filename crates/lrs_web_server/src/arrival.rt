@@ -23,7 +23,7 @@ const PIECE: usize = 8_192;
 const MOST_PIECES: u32 = 64;
 
 /// What stands behind the bytes that have come.
-#[derive(Debug, Clone, Copy, PartialEq, Eq)]
+#[derive(Clone, Copy, PartialEq, Eq)]
 pub(crate) enum Behind {
     /// Nothing that is asked for.
     Nothing,

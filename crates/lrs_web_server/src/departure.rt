@@ -22,7 +22,7 @@ const MOST_PIECES: u32 = 1_024;
 const PIECE: usize = 4_096;
 
 /// How far a reply has gone.
-#[derive(Debug, Clone, Copy, PartialEq, Eq)]
+#[derive(Clone, Copy, PartialEq, Eq)]
 pub(crate) enum Stage {
     /// Some of it is still kept.
     Sending,

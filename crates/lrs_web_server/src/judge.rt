@@ -43,7 +43,7 @@ impl<'a> Read for Front<'a> {
 }
 
 /// What its reader makes of the front of a request.
-#[derive(Debug, Clone, Copy)]
+#[derive(Clone, Copy)]
 pub(crate) enum Finding {
     /// It asks for nothing more: the request is whole, or is refused.
     Whole,

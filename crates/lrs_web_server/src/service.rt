@@ -15,7 +15,7 @@ use std::net::{Ipv4Addr, Net, SocketAddr, SocketAddrV4};
 use std::rt::Runtime;
 
 /// How a desk is served.
-#[derive(Debug, Clone, Copy, PartialEq, Eq)]
+#[derive(Clone, Copy, PartialEq, Eq)]
 pub struct Manner {
     /// A line on standard error tells of each request.
     pub logs: bool,
@@ -24,7 +24,7 @@ pub struct Manner {
 }
 
 /// Why a service ended before its last connection.
-#[derive(Debug, Clone, Copy, PartialEq, Eq)]
+#[derive(Clone, Copy, PartialEq, Eq)]
 pub enum ServiceFault {
     /// The port cannot be listened on, or gives no connections any more.
     Door,

@@ -3,7 +3,7 @@
 use std::alloc::AllocError;
 
 /// Why nothing is at a place.
-#[derive(Clone, Copy, Debug, PartialEq, Eq)]
+#[derive(Clone, Copy, PartialEq, Eq)]
 pub enum WhereFault {
     /// No route has this name.
     NoRoute,

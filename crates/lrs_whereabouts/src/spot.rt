@@ -3,7 +3,7 @@
 use lrs_position::RouteName;
 
 /// A place that is asked for.
-#[derive(Clone, Copy, Debug, PartialEq, Eq)]
+#[derive(Clone, Copy, PartialEq, Eq)]
 pub enum Spot {
     /// A chainage of the route of a name, in millimetres from 0 to the route's length.
     OnRoute { route: RouteName, chainage: u64 },

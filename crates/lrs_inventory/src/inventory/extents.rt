@@ -17,7 +17,7 @@ use lrs_position::{EnteredPosition, EventLocation, PlaceFault, cell, locate, sna
 use std::marker::Model;
 
 /// The millimetres of a route from one chainage up to another.
-#[derive(Clone, Copy, Debug, PartialEq, Eq)]
+#[derive(Clone, Copy, PartialEq, Eq)]
 pub struct RouteStretch {
     from: u64,
     to: u64,

@@ -1,7 +1,7 @@
 //! An asset that enters.
 
-ghost use Rattle.std.specs.Prelude.{◌≡◌, ◌<◌, false, if◌then◌else◌, IfOk, IsTrue, None, true, length};
-ghost use Rattle.lrs_inventory.specs.Prelude.{each_two, differs, places_on, state_of, part_of, refuse_at};
+ghost use Rattle.std.specs.Prelude.{◌≡◌, ◌<◌, false, if◌then◌else◌, IfOk, IsTrue, None, Some, true, length};
+ghost use Rattle.lrs_inventory.specs.Prelude.{each_two, differs, no_difference, places_on, state_of, part_of, refuse_at};
 ghost use Rattle.lrs_events.specs.Spans.{is_row};
 ghost use Rattle.lrs_machine.specs.Segments.{is_exclusive};
 ghost use Rattle.lrs_machine.specs.declared.answer.Cause.TheVariants as cause;
@@ -9,15 +9,15 @@ ghost use Rattle.lrs_machine.specs.declared.command.Command.TheVariants as verb;
 ghost use Rattle.lrs_machine.specs.Machine.{first_holder};
 ghost use Rattle.lrs_verbs.specs.Entering.{asset_of, row_of, with_row, AreInLimits, AreEntered, IsEntering};
 ghost use Rattle.lrs_inventory.specs.Extents.{IsRouteIn, EndsBy};
-ghost use Rattle.lrs_inventory.specs.Plans.{Answers, Plans};
+ghost use Rattle.lrs_inventory.specs.Plans.{Answers, Plans, plan_of};
 ghost use Rattle.lrs_verbs.specs.Wanted.{IsWanted};
 
 use crate::verbs::location::wanted_of;
 use lrs_element::Course;
-use lrs_events::{Asset, Kind, Part, Span};
+use lrs_events::{Asset, Gone, Kind, Part, Span};
 use lrs_events_parts::parts;
-use lrs_image::{ReferentChange, RouteChange, RouteKeys};
-use lrs_inventory::{Inventory, Plan, RouteStretch, Stop};
+use lrs_image::{Difference, ReferentChange, RouteChange, RouteKeys};
+use lrs_inventory::{Inventory, Plan, ReferentPlaces, RouteStretch, Stop};
 use lrs_machine::{Cause, NewAsset, RouteRow};
 use lrs_measure::Rows;
 use lrs_position::RouteName;
@@ -91,14 +91,54 @@ fn entering(
     ensures limits { IfOk result (λ _. AreInLimits asked.now) }
 {
     let row = row_of(asked, stretch);
-    let route = asked.route;
     let entered = entered_parts(alloc, edit, &row, course)?;
-    let changed = with_row(alloc, route, &row)?;
-    let mut plan = Plan::none(alloc);
-    plan.difference.asset = Some(asset_of(edit, asked));
-    plan.difference.changed = Some(changed);
-    plan.difference.entered = Rows::from_vec(entered);
-    Ok(plan)
+    match with_row(alloc, asked.route, &row) {
+        Ok(changed) => {
+            let asset = Some(asset_of(edit, asked));
+            Ok(asset_plan(alloc, asset, changed, entered, Rows::new(alloc)))
+        }
+        Err(fault) => {
+            drop(entered);
+            Err(fault)
+        }
+    }
+}
+
+/// The plan by which a route changes, and an asset enters or gives something up.
+///
+/// To make it whole is cheaper to prove than to set the fields of one that changes nothing: each would be dropped.
+pub fn asset_plan(
+    alloc: Global,
+    asset: Option<Asset>,
+    changed: RouteChange,
+    entered: Vec<Part>,
+    gone: Rows<Gone>,
+) -> Plan
+    ensures { result ≡ plan_of (record no_difference {
+      asset = asset;
+      changed = Some changed;
+      entered = entered.items;
+      gone = gone;
+    }) }
+{
+    Plan {
+        difference: Difference {
+            link: None,
+            class: None,
+            asset,
+            changed: Some(changed),
+            dropped: None,
+            keys: RouteKeys::none(alloc),
+            made: None,
+            entered: Rows::from_vec(entered),
+            gone,
+        },
+        ground: None,
+        referents: ReferentPlaces {
+            come: None,
+            gone: Rows::new(alloc),
+        },
+    }
 }
 
 /// The asset that an edit enters.

@@ -7,12 +7,14 @@ ghost use Rattle.lrs_machine.specs.declared.command.Command.TheVariants as verb;
 ghost use Rattle.lrs_inventory.specs.Plans.{Plans};
 ghost use Rattle.lrs_verbs.specs.Taking.{of_asset_within, HasAsset, IsTaking};
 
+use crate::verbs::enter::asset_plan;
 use crate::verbs::location::is_wrong_kind;
 use lrs_events::{Asset, Kind, Span};
 use lrs_events_rows::removals::Removal;
+use lrs_image::ReferentChange;
 use lrs_image_laws::taken_away;
 use lrs_inventory::checks::route_named;
-use lrs_inventory::route_changes::no_change;
+use lrs_inventory::route_changes::changed;
 use lrs_inventory::{Inventory, Plan, RouteStretch, Stop, refuse_if};
 use lrs_machine::{AssetNumber, Cause, RouteRow};
 use lrs_measure::Rows;
@@ -104,12 +106,20 @@ fn retiring(
 {
     let route = &route_row.route;
     let Removal { left, change } = removal;
-    let gone = taken_away(alloc, edit, &left, &route.course, false)?;
-    let mut changed = no_change(alloc, route.name);
-    changed.spans_gone = Rows::from_vec(change.gone);
-    changed.spans_come = Rows::from_vec(change.come);
-    let mut plan = Plan::none(alloc);
-    plan.difference.changed = Some(changed);
-    plan.difference.gone = gone;
-    Ok(plan)
+    match taken_away(alloc, edit, &left, &route.course, false) {
+        Ok(gone) => {
+            drop(left);
+            let kept = ReferentChange {
+                gone: Rows::new(alloc),
+                come: Rows::new(alloc),
+            };
+            let changed = changed(alloc, route.name, None, None, kept, change);
+            Ok(asset_plan(alloc, None, changed, Vec::new(alloc), gone))
+        }
+        Err(fault) => {
+            drop(left);
+            drop(change);
+            Err(fault)
+        }
+    }
 }

@@ -9,14 +9,14 @@ ghost use Rattle.lrs_inventory.specs.Plans.{Plans};
 ghost use Rattle.lrs_verbs.specs.Wanted.{IsWanted};
 ghost use Rattle.lrs_verbs.specs.Superseding.{with_rows_and_one, IsSuperseding};
 
-use crate::verbs::enter::{asset_of, entered_parts, row_of};
+use crate::verbs::enter::{asset_of, asset_plan, entered_parts, row_of};
 use crate::verbs::location::wanted_of;
 use lrs_element::Course;
 use lrs_events::{Kind, Span, SpanChange};
 use lrs_events_rows::removals::Removal;
-use lrs_image::RouteChange;
+use lrs_image::{ReferentChange, RouteChange};
 use lrs_image_laws::taken_away;
-use lrs_inventory::route_changes::no_change;
+use lrs_inventory::route_changes::changed;
 use lrs_inventory::{Inventory, Plan, RouteStretch, Stop};
 use lrs_machine::{NewAsset, RouteRow};
 use lrs_measure::Rows;
@@ -74,16 +74,35 @@ fn superseding(
     ensures limits { IfOk result (λ _. AreInLimits asked.now) }
 {
     let row = row_of(asked, stretch);
-    let entered = entered_parts(alloc, edit, &row, course)?;
     let Removal { left, change } = removal;
-    let gone = taken_away(alloc, edit, &left, course, false)?;
-    let changed = with_rows_and_one(alloc, asked.route, change, row)?;
-    let mut plan = Plan::none(alloc);
-    plan.difference.asset = Some(asset_of(edit, asked));
-    plan.difference.changed = Some(changed);
-    plan.difference.entered = Rows::from_vec(entered);
-    plan.difference.gone = gone;
-    Ok(plan)
+    let gone = match taken_away(alloc, edit, &left, course, false) {
+        Ok(gone) => gone,
+        Err(fault) => {
+            drop(left);
+            drop(change);
+            return Err(fault);
+        }
+    };
+    drop(left);
+    let entered = match entered_parts(alloc, edit, &row, course) {
+        Ok(entered) => entered,
+        Err(fault) => {
+            drop(gone);
+            drop(change);
+            return Err(fault);
+        }
+    };
+    match with_rows_and_one(alloc, asked.route, change, row) {
+        Ok(changed) => {
+            let asset = Some(asset_of(edit, asked));
+            Ok(asset_plan(alloc, asset, changed, entered, gone))
+        }
+        Err(fault) => {
+            drop(gone);
+            drop(entered);
+            Err(fault)
+        }
+    }
 }
 
 /// A route of which these rows go and come, and one more comes. Its asset has no other, so that it merges with
@@ -97,9 +116,14 @@ fn with_rows_and_one(
     ensures { IfOk result (λ changed. changed ≡ with_rows_and_one route change row) }
 {
     let SpanChange { gone, mut come } = change;
-    come.push(row)?;
-    let mut changed = no_change(alloc, route);
-    changed.spans_gone = Rows::from_vec(gone);
-    changed.spans_come = Rows::from_vec(come);
-    Ok(changed)
+    if let Err(fault) = come.push(row) {
+        drop(gone);
+        drop(come);
+        return Err(AllocError::from(fault));
+    }
+    let kept = ReferentChange {
+        gone: Rows::new(alloc),
+        come: Rows::new(alloc),
+    };
+    Ok(changed(alloc, route, None, None, kept, SpanChange { gone, come }))
 }

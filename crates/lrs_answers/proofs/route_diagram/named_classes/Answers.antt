@@ -1,4 +1,5 @@
-use Rattle.std.proofs.Common.{◌∙◌, Some, inr, ap, sym, refl}
+use Rattle.std.proofs.Common.{arith, ◌∙◌, Some, inr, ap, sym, refl}
+use Rattle.std.proofs.lemmas.Grind.{common_steps}
 use Rattle.std.specs.Option.{option_map}
 use Rattle.std.proofs.lemmas.Option.{slice_get-map}
 use Rattle.lrs_answers.specs.Drawn.{class_named}
@@ -19,3 +20,9 @@ returns-in_default-clause-unknown c =
       },
       refl,
     )
+
+pub loop-at-preserved : goal.loop-at-preserved
+loop-at-preserved c = grind (arith, common_steps)
+
+pub returns : goal.returns
+returns c = grind (arith, common_steps)

@@ -1,4 +1,5 @@
 use Rattle.std.proofs.Common.{◌∷◌, [], arith, length-append, ◌∙◌, sym, subst}
+use Rattle.std.proofs.lemmas.Grind.{common_steps}
 use Rattle.lrs_image_laws.proofs.Tables.{few_edits}
 use Rattle.lrs_machine.specs.Sound.{IsSound}
 use Rattle.lrs_image.specs.Change.{apply}
@@ -19,3 +20,6 @@ catch_up-requires-clause-behind g c = record {
   was_sound = c.prove_sound.ensures;
   sound = subst IsSound (sym c.kept.ensures.image) c.kept.ensures.sound;
 }
+
+pub returns : goal.returns
+returns c = grind (arith, common_steps)

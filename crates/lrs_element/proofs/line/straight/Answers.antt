@@ -1,4 +1,5 @@
 use Rattle.std.proofs.Common.{◌≡◌, ℕ, ◌+◌, ◌-◌, ◌*◌, ◌≤◌, pos, to_z, arith, Option, Some, None}
+use Rattle.std.proofs.lemmas.Grind.{common_steps}
 use Rattle.std.specs.Int.{w128}
 use Rattle.std.specs.Option.{IsSomeAnd, IsSome, IfSome}
 use Rattle.std.proofs.lemmas.Int.{to_z_pos, ints}
@@ -33,3 +34,6 @@ in_range c = record {
 
 pub returns-clause-value : goal.returns-clause-value
 returns-clause-value c = some_and _ _ (c.new.ensures.in_range.1 (rw (given_is c.before) (in_range c.before))) (rw (given_is c.before) at c.new.ensures.value)
+
+pub returns-clause-lowest : goal.returns-clause-lowest
+returns-clause-lowest c = grind (arith, common_steps)

@@ -1,4 +1,5 @@
 use Rattle.std.proofs.Common.{◌++◌, map, drop, ap, sym, ◌∙◌, arith}
+use Rattle.std.proofs.lemmas.Grind.{common_steps}
 use Rattle.lrs_element.specs.declared.marks.Mark.{Mark}
 use Rattle.lrs_element.specs.Lines.{moved_on}
 use Rattle.lrs_element.specs.Marks.{first_mark}
@@ -22,3 +23,6 @@ pub returns : goal.returns
 returns c = map_done _ c.args.second.now c.loop-i.i _ _ c.loop-i-test.false c.loop-i.invariant
     ∙ ap (λ (m : Mark). c.args.first.now ++ map (moved_on c.last_mark-end.result m) (drop 1 c.args.second.now)) (sym (first_mark_is c.args.second.now))
     ∙ ap (λ (m : Mark). c.args.first.now ++ map (moved_on m (first_mark c.args.second.now)) (drop 1 c.args.second.now)) c.last_mark-end.ensures
+
+pub loop-i-preserved : goal.loop-i-preserved
+loop-i-preserved c = grind (arith, common_steps)

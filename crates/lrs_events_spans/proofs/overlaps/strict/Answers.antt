@@ -1,4 +1,5 @@
-use Rattle.std.proofs.Common.{◌+◌, List, [], ◌∷◌, ◌++◌, sym, ap, subst, ◌∙◌}
+use Rattle.std.proofs.Common.{arith, ◌+◌, List, [], ◌∷◌, ◌++◌, sym, ap, subst, ◌∙◌}
+use Rattle.std.proofs.lemmas.Grind.{common_steps}
 use Rattle.lrs_events.specs.declared.span.Span.{Span}
 use Rattle.lrs_events_spans.specs.Meeting.{goes_before}
 use Rattle.lrs_events_spans.proofs.Gathering.{AreGathered, sorting_ranks, gathered_more, gathered_same}
@@ -21,3 +22,9 @@ loop-i-preserved c =
           subst P (sym (ap (λ z. z.items) w.found-is))
           (gathered_same before (sorting_ranks c.args.by) rows c.requires.sorted c.requires.ranked i found c.loop-i-test.true (λ d. sym (c.is_new.ensures d) ∙ w.if-is_new.false) c.loop-i.invariant)
     ]
+
+pub returns-clause-order : goal.returns-clause-order
+returns-clause-order c = grind (arith, common_steps)
+
+pub returns-clause-same : goal.returns-clause-same
+returns-clause-same c = grind (arith, common_steps)

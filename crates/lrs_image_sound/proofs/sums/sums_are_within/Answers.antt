@@ -1,4 +1,5 @@
 use Rattle.std.proofs.Common.{◌≡◌, ◌+◌, ◌-◌, subst, arith, get_or}
+use Rattle.std.proofs.lemmas.Grind.{common_steps}
 use Rattle.lrs_events.specs.declared.part.Part.{Part}
 use Rattle.lrs_events.specs.declared.side.LinkSide.TheVariants.{Left}
 use Rattle.lrs_image_sound.proofs.Summed.{IsSummed, summed_more, beyond, carried_within}
@@ -28,3 +29,6 @@ loop-part-preserved c =
     subst (λ n. IsSummed xs c.args.most (i + 1) x.asset n) sum
     (summed_more xs c.args.most i c.loop-part.last c.loop-part.sum c.carried-before.result none c.loop-part-test.true c.requires.order c.loop-part.invariant c.carried-before.ensures.same c.carried-before.ensures.other
     (omega (arith, within, size, test)))
+
+pub returns : goal.returns
+returns c = grind (arith, common_steps)

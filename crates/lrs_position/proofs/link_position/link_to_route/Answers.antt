@@ -1,9 +1,11 @@
-use Rattle.std.proofs.Common.{Err, rules}
-use Rattle.lrs_position.specs.declared.location.PlaceFault.TheVariants.{OffRoute}
-use Rattle.lrs_position.specs.LinkPositions.{IsRoutePosition}
+use Rattle.std.proofs.Common.{arith, rules}
+use Rattle.std.proofs.lemmas.Grind.{common_steps}
 use Rattle.lrs_position.proofs.Entries.{is_route_position}
 use Rattle.lrs_position.proofs.Returning.{comes_back}
 use Rattle.lrs_position.proofs.link_position.link_to_route.Goals as goal
+
+pub across-requires-clause-behind : goal.across-requires-clause-behind
+across-requires-clause-behind c = rw c.from.ensures c.in-Ok.ensures.behind
 
 pub across-requires-clause-inside : goal.across-requires-clause-inside
 across-requires-clause-inside c = rw c.from.ensures c.in-Ok.ensures.inside
@@ -16,12 +18,20 @@ returns-in-Some-across-clause-answer c =
 pub returns-in-Some-across-clause-back : goal.returns-in-Some-across-clause-back
 returns-in-Some-across-clause-back c = comes_back c.args.routes.now c.args.link c.args.position _ (returns-in-Some-across-clause-answer c)
 
+pub returns-in-None-clause-answer : goal.returns-in-None-clause-answer
+returns-in-None-clause-answer c = search rules
+
 pub returns-in-None-clause-back : goal.returns-in-None-clause-back
-returns-in-None-clause-back c =
-    let answer : IsRoutePosition c.args.routes.now c.args.link c.args.position (Err OffRoute) = search rules in
-    comes_back c.args.routes.now c.args.link c.args.position (Err OffRoute) answer
+returns-in-None-clause-back c = comes_back c.args.routes.now c.args.link c.args.position _ (returns-in-None-clause-answer c)
+
+pub returns-in-Err-clause-answer : goal.returns-in-Err-clause-answer
+returns-in-Err-clause-answer c = search rules
 
 pub returns-in-Err-clause-back : goal.returns-in-Err-clause-back
-returns-in-Err-clause-back c =
-    let answer : IsRoutePosition c.args.routes.now c.args.link c.args.position (Err c.in-Err.fault) = search rules in
-    comes_back c.args.routes.now c.args.link c.args.position (Err c.in-Err.fault) answer
+returns-in-Err-clause-back c = comes_back c.args.routes.now c.args.link c.args.position _ (returns-in-Err-clause-answer c)
+
+pub returns-in-None-across-clause-answer : goal.returns-in-None-across-clause-answer
+returns-in-None-across-clause-answer c = grind (arith, common_steps)
+
+pub returns-in-None-across-clause-back : goal.returns-in-None-across-clause-back
+returns-in-None-across-clause-back c = grind (arith, common_steps)

@@ -1,4 +1,5 @@
 use Rattle.std.proofs.Common.{◌≡◌, ◌*◌, ◌+ℤ◌, pos, to_z, of_z, arith, sym, ◌∙◌, ap}
+use Rattle.std.proofs.lemmas.Grind.{common_steps}
 use Rattle.std.specs.Int.{w128}
 use Rattle.lrs_position.specs.Translating.{alignment_of, referent_at}
 use Rattle.lrs_position.proofs.Answering.{distance_is, distance_given, distance_answer}
@@ -15,3 +16,18 @@ pub returns-else-den-gt-FINEST-clause-answer : goal.returns-else-den-gt-FINEST-c
 returns-else-den-gt-FINEST-clause-answer c =
     distance_is (alignment_of c.args.route.now) (referent_at c.args.route.now.refs) c.args.name c.args.distance c.in-Some.at c.on_route.result (sym c.referent.ensures ∙ c.in-Some.is) (omega arith)
     (distance_answer _ _ c.in-Some.at c.args.distance.den _ c.args.distance.num _ c.on_route.result c.length.ensures.length c.den-den.ensures (given c) c.on_route.ensures)
+
+pub returns-in-None-clause-answer : goal.returns-in-None-clause-answer
+returns-in-None-clause-answer c = grind (arith, common_steps)
+
+pub returns-in-None-clause-number : goal.returns-in-None-clause-number
+returns-in-None-clause-number c = grind (arith, common_steps)
+
+pub returns-then-den-gt-FINEST-clause-answer : goal.returns-then-den-gt-FINEST-clause-answer
+returns-then-den-gt-FINEST-clause-answer c = grind (arith, common_steps)
+
+pub returns-then-den-gt-FINEST-clause-number : goal.returns-then-den-gt-FINEST-clause-number
+returns-then-den-gt-FINEST-clause-number c = grind (arith, common_steps)
+
+pub returns-else-den-gt-FINEST-clause-number : goal.returns-else-den-gt-FINEST-clause-number
+returns-else-den-gt-FINEST-clause-number c = grind (arith, common_steps)

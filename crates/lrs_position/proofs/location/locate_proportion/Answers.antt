@@ -1,4 +1,5 @@
 use Rattle.std.proofs.Common.{arith, rules}
+use Rattle.std.proofs.lemmas.Grind.{common_steps}
 use Rattle.lrs_position.specs.Translating.{alignment_of, referent_at}
 use Rattle.lrs_position.proofs.Answering.{IsSound-from_route, natural_read, product_ok, product_in_range}
 use Rattle.lrs_position.proofs.location.locate_proportion.Goals as goal
@@ -12,3 +13,15 @@ returns-in-Some-clause-answer c =
 pub returns-in-None-clause-answer : goal.returns-in-None-clause-answer
 returns-in-None-clause-answer c =
     absurd (cc (c.in-None.ensures.in_range.1 (product_in_range _ c.length-length.result c.den-den.result (rw c.den-den.ensures c.num-num.ensures.in_range.positive) c.length-length.ensures.longest (omega arith) c.if-num-den.false)))
+
+pub returns-then-num-lt0-clause-answer : goal.returns-then-num-lt0-clause-answer
+returns-then-num-lt0-clause-answer c = grind (arith, common_steps)
+
+pub returns-then-num-lt0-clause-number : goal.returns-then-num-lt0-clause-number
+returns-then-num-lt0-clause-number c = grind (arith, common_steps)
+
+pub returns-in-Some-clause-number : goal.returns-in-Some-clause-number
+returns-in-Some-clause-number c = grind (arith, common_steps)
+
+pub returns-in-None-clause-number : goal.returns-in-None-clause-number
+returns-in-None-clause-number c = grind (arith, common_steps)

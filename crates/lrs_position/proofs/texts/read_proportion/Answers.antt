@@ -1,4 +1,5 @@
 use Rattle.std.proofs.Common.{◌≡◌, ◌<◌, unsigned_abs, arith, rules, refl, ap, ◌∙◌}
+use Rattle.std.proofs.lemmas.Grind.{common_steps}
 use Rattle.std.specs.Int.{w128}
 use Rattle.std.proofs.lemmas.Int.{to_z-of_z}
 use Rattle.lrs_position.proofs.Stated.{same_proportion, no_proportion}
@@ -13,3 +14,9 @@ returns-then-unsigned_abs-den-clause-found c =
 pub returns-clause-found : goal.returns-clause-found
 returns-clause-found c =
     λ expression s. same_proportion c.args.bytes.now c.in_ok-proportion.proportion expression (c.in_ok-proportion.ensures.fraction.0 refl) c.in_ok-proportion.ensures.value c.in_ok-proportion.ensures.lowest s
+
+pub returns-then-unsigned_abs-den-clause-read : goal.returns-then-unsigned_abs-den-clause-read
+returns-then-unsigned_abs-den-clause-read c = grind (arith, common_steps)
+
+pub returns-clause-read : goal.returns-clause-read
+returns-clause-read c = grind (arith, common_steps)

@@ -1,4 +1,5 @@
 use Rattle.std.proofs.Common.{◌≡◌, map, sym, ap, ◌∙◌, arith}
+use Rattle.std.proofs.lemmas.Grind.{common_steps}
 use Rattle.lrs_report.specs.Columns.{first_value}
 use Rattle.lrs_report.proofs.Passing.{least_ahead, one_step, step_more}
 use Rattle.lrs_report.proofs.Swept.{values_equal}
@@ -22,3 +23,15 @@ loop-to-preserved g c =
     c.loop-to.invariant
     (one_step c.loop-to.to c.args.len c.go_on-to-in-loop-to.result c.args.values.now c.loop-to.columns.items c.go_on-to-in-loop-to.new.columns.items c.loop-to.invariant.columns c.loop-to-test.true same
     c.go_on-to-in-loop-to.ensures.end c.go_on-to-in-loop-to.ensures.columns)
+
+pub returns-else-have-clause-passed : goal.returns-else-have-clause-passed
+returns-else-have-clause-passed g c = grind (arith, common_steps)
+
+pub returns-else-have-clause-other : goal.returns-else-have-clause-other
+returns-else-have-clause-other g c = grind (arith, common_steps)
+
+pub returns-after-loop-to-clause-passed : goal.returns-after-loop-to-clause-passed
+returns-after-loop-to-clause-passed g c = grind (arith, common_steps)
+
+pub returns-after-loop-to-clause-other : goal.returns-after-loop-to-clause-other
+returns-after-loop-to-clause-other g c = grind (arith, common_steps)

@@ -1,4 +1,5 @@
 use Rattle.std.proofs.Common.{◌++◌, ◌∷◌, [], ap, ◌∙◌, refl, Some, length-append, arith}
+use Rattle.std.proofs.lemmas.Grind.{common_steps}
 use Rattle.csv.specs.Records.{fields_of}
 use Rattle.lrs_sheet_records.proofs.ReadRows.{gave-more, gave-none}
 use Rattle.lrs_sheet_records.proofs.rows.skip_rows.Goals as goal
@@ -26,3 +27,6 @@ loop-turn-preserved g c =
         gave-more g.R.Read.remaining c.args.rows.now c.loop-turn.rows c.next_row.new.rows records (fields_of c.next_row.new.row ∷ []) gave (c.in-Ok-true.ensures.found found),
       );
     }
+
+pub returns : goal.returns
+returns c = grind (arith, common_steps)

@@ -1,16 +1,22 @@
-use Rattle.std.proofs.Common.{arith}
+use Rattle.std.proofs.Common.{IsTrue, Result, Ok, Err, OnOk, arith}
 use Rattle.sqlite.specs.State.{HasCleanDisk}
 use Rattle.sqlite.specs.Held.{state}
 use Rattle.lrs_measure.specs.Texts.{Name}
 use Rattle.lrs_image.specs.declared.change.RouteChange.{RouteChange}
 use Rattle.lrs_machine.specs.declared.image.RouteRow.{RouteRow}
 use Rattle.lrs_store_tables.specs.Changing.{without_route, with_edit}
-use Rattle.lrs_store_tables.specs.Writing.{with_some, with_named, with_routes, changed_route, new_route, with_ledgers}
+use Rattle.lrs_store_tables.specs.Stored.{Makes}
+use Rattle.lrs_store_tables.specs.Writing.{Writes, with_some, with_named, with_routes, changed_route, new_route, with_ledgers}
 use Rattle.lrs_store_tables.proofs.Steady.{steady_some, steady-changed_route, steady-without_route, steady-new_route, steady-with_ledgers, steady-with_edit}
 use Rattle.lrs_store_rows.specs.Tables.{Tables}
 use Rattle.lrs_store_commit.proofs.Then.{makes_on}
 use Rattle.lrs_store_commit.proofs.Leaves.{leaves_then}
 use Rattle.lrs_store_commit.proofs.commit.write_rows.Goals as goal
+
+-- two facts of what the last call answers, where it is Ok
+both_on : {A E : Type 0} (answer : Result A E) (P Q R : Type 0) → (P → Q → R) → OnOk answer P → OnOk answer Q → OnOk answer R
+both_on (Ok x) P Q R step p q = step p q
+both_on (Err e) P Q R step p q = tt
 
 pub returns-clause-does : goal.returns-clause-does
 returns-clause-does g c clean writing =
@@ -35,8 +41,11 @@ returns-clause-does g c clean writing =
     let o4 = (c.in_ok-put_some.ensures.does m4 a3.writing) in
     let a4 = makes_on (λ (t : Tables). with_some (λ (r : RouteChange). changed_route r o3.pieces) d.changed (with_some gone d.dropped (with_named d t))) (with_some (λ (e : RouteRow). new_route e o4.pieces) d.made) s0 s3 s4 (steady_some (λ (e : RouteRow). new_route e o4.pieces) (λ e. steady-new_route e o4.pieces) d.made) a3 o4.makes in
     let a5 = makes_on (λ (t : Tables). with_routes d o3.pieces o4.pieces (with_named d t)) (with_ledgers d) s0 s4 s5 (steady-with_ledgers d) a4 (c.in_ok-put_ledgers.ensures.does m5 a4.writing) in
-    let a6 = makes_on (λ (t : Tables). with_ledgers d (with_routes d o3.pieces o4.pieces (with_named d t))) (with_edit c.args.n c.args.change.now.edit) s0 s5 s6 (steady-with_edit c.args.n c.args.change.now.edit) a5 (c.in_ok-put_edit.ensures.does clean a5.writing) in
-    record { writing = a6.writing; was_open = a5.was_open (c.in_ok-put_edit.ensures.is_open clean a5.writing); rows = record { changed = o3.pieces; changed_are = o3.are; made = o4.pieces; made_are = o4.are; rows = a6.rows } }
+    both_on c.put_edit.result (Makes (with_edit c.args.n c.args.change.now.edit) s5 s6) (IsTrue s5.is_open) (Writes c.args.n c.args.change.now s0 s6)
+    (λ put was.
+    let a6 = makes_on (λ (t : Tables). with_ledgers d (with_routes d o3.pieces o4.pieces (with_named d t))) (with_edit c.args.n c.args.change.now.edit) s0 s5 s6 (steady-with_edit c.args.n c.args.change.now.edit) a5 put in
+    record { writing = a6.writing; was_open = a5.was_open was; rows = record { changed = o3.pieces; changed_are = o3.are; made = o4.pieces; made_are = o4.are; rows = a6.rows } })
+    (c.put_edit.ensures.does clean a5.writing) (c.put_edit.ensures.is_open clean a5.writing)
 
 pub returns-in_err-drop_some-clause-survives : goal.returns-in_err-drop_some-clause-survives
 returns-in_err-drop_some-clause-survives g c = leaves_then c.put_named.ensures.survives c.drop_some.ensures.survives
@@ -49,9 +58,6 @@ returns-in_err-put_some-clause-survives g c = leaves_then (leaves_then (leaves_t
 
 pub returns-in_err-put_ledgers-clause-survives : goal.returns-in_err-put_ledgers-clause-survives
 returns-in_err-put_ledgers-clause-survives g c = leaves_then (leaves_then (leaves_then (leaves_then c.put_named.ensures.survives c.drop_some.ensures.survives) c.change_some.ensures.survives) c.put_some.ensures.survives) c.put_ledgers.ensures.survives
-
-pub returns-in_err-put_edit-clause-survives : goal.returns-in_err-put_edit-clause-survives
-returns-in_err-put_edit-clause-survives g c = leaves_then (leaves_then (leaves_then (leaves_then (leaves_then c.put_named.ensures.survives c.drop_some.ensures.survives) c.change_some.ensures.survives) c.put_some.ensures.survives) c.put_ledgers.ensures.survives) c.put_edit.ensures.survives
 
 pub returns-clause-survives : goal.returns-clause-survives
 returns-clause-survives g c = leaves_then (leaves_then (leaves_then (leaves_then (leaves_then c.put_named.ensures.survives c.drop_some.ensures.survives) c.change_some.ensures.survives) c.put_some.ensures.survives) c.put_ledgers.ensures.survives) c.put_edit.ensures.survives

@@ -3,7 +3,7 @@ use Rattle.sqlite.specs.State.{HasCleanDisk}
 use Rattle.sqlite.specs.Held.{state}
 use Rattle.lrs_store_tables.specs.Changing.{with_asset_row, with_origin}
 use Rattle.lrs_store_tables.proofs.Steady.{steady-with_origin}
-use Rattle.lrs_store_commit.proofs.Then.{makes_on}
+use Rattle.lrs_store_commit.proofs.Last.{makes_last}
 use Rattle.lrs_store_commit.proofs.Leaves.{leaves_then}
 use Rattle.lrs_store_commit.proofs.insert_named.put_entered_asset.Goals as goal
 
@@ -14,11 +14,7 @@ returns-clause-does g c clean writing =
     let s2 = state g.S.Store c.put_origin.new.tx.conn.now in
     let m1 : HasCleanDisk s1 = omega (arith, c.put_origin.ensures.survives.clean) in
     let a1 = (c.in_ok-put_asset.ensures.does m1 writing) in
-    let a2 = makes_on (with_asset_row c.args.asset.now) (with_origin c.args.asset.now) s0 s1 s2 (steady-with_origin c.args.asset.now) a1 (c.in_ok-put_origin.ensures.does clean a1.writing) in
-    a2
-
-pub returns-in_err-put_origin-clause-survives : goal.returns-in_err-put_origin-clause-survives
-returns-in_err-put_origin-clause-survives g c = leaves_then c.put_asset.ensures.survives c.put_origin.ensures.survives
+    makes_last c.put_origin.result (with_asset_row c.args.asset.now) (with_origin c.args.asset.now) s0 s1 s2 (steady-with_origin c.args.asset.now) a1 (c.put_origin.ensures.does clean a1.writing)
 
 pub returns-clause-survives : goal.returns-clause-survives
 returns-clause-survives g c = leaves_then c.put_asset.ensures.survives c.put_origin.ensures.survives

@@ -1,9 +1,9 @@
 use Rattle.std.proofs.Common.{arith}
 use Rattle.sqlite.specs.State.{HasCleanDisk}
 use Rattle.sqlite.specs.Held.{state}
-use Rattle.lrs_store_tables.specs.Writing.{with_some, new_pieces, new_marks}
+use Rattle.lrs_store_tables.specs.Writing.{with_some, new_pieces, new_marks, changed_line}
 use Rattle.lrs_store_tables.proofs.Steady.{steady_some, steady-new_marks}
-use Rattle.lrs_store_commit.proofs.Then.{makes_on}
+use Rattle.lrs_store_commit.proofs.Last.{makes_last, makes_of_last}
 use Rattle.lrs_store_commit.proofs.Leaves.{leaves_then}
 use Rattle.lrs_store_commit.proofs.routes.change_line.Goals as goal
 
@@ -15,11 +15,8 @@ returns-clause-does g c clean writing =
     let m1 : HasCleanDisk s1 = omega (arith, c.replace_marks.ensures.survives.clean) in
     let o1 = (c.in_ok-replace_pieces.ensures.does m1 writing) in
     let a1 = o1.makes in
-    let a2 = makes_on (with_some (new_pieces c.args.change.now.route) o1.pieces) (with_some (new_marks c.args.change.now.route) c.args.change.now.marks) s0 s1 s2 (steady_some (new_marks c.args.change.now.route) (steady-new_marks c.args.change.now.route) c.args.change.now.marks) a1 (c.in_ok-replace_marks.ensures.does clean a1.writing) in
-    record { pieces = o1.pieces; are = o1.are; makes = a2 }
-
-pub returns-in_err-replace_marks-clause-survives : goal.returns-in_err-replace_marks-clause-survives
-returns-in_err-replace_marks-clause-survives g c = leaves_then c.replace_pieces.ensures.survives c.replace_marks.ensures.survives
+    makes_of_last c.replace_marks.result c.args.change.now.course (changed_line c.args.change.now) o1.pieces s0 s2 o1.are
+    (makes_last c.replace_marks.result (with_some (new_pieces c.args.change.now.route) o1.pieces) (with_some (new_marks c.args.change.now.route) c.args.change.now.marks) s0 s1 s2 (steady_some (new_marks c.args.change.now.route) (steady-new_marks c.args.change.now.route) c.args.change.now.marks) a1 (c.replace_marks.ensures.does clean a1.writing))
 
 pub returns-clause-survives : goal.returns-clause-survives
 returns-clause-survives g c = leaves_then c.replace_pieces.ensures.survives c.replace_marks.ensures.survives

@@ -1,4 +1,5 @@
-use Rattle.std.proofs.Common.{◌≡◌, ◌<◌, ◌+◌, ◌∙◌, length, take, Some, Option, sym, ap, subst, rules}
+use Rattle.std.proofs.Common.{arith, ◌≡◌, ◌<◌, ◌+◌, ◌∙◌, length, take, Some, Option, sym, ap, subst, rules}
+use Rattle.std.proofs.lemmas.Grind.{common_steps}
 use Rattle.sqlite_value.specs.Order.{Row as Cells}
 use Rattle.lrs_machine.specs.declared.image.Edit.{Edit}
 use Rattle.lrs_store_rows.specs.Decoding.{each_of, edit_of, Numbered}
@@ -23,3 +24,6 @@ loop-row-preserved c =
     let bound : i < length rows = search rules in
     let more = each_of-more of rows i c.row-item.result c.in-Some.edit c.loop-row.found.items bound c.loop-row.invariant (ap of (sym c.row-item.is) ∙ sym c.in_ok-edit.ensures ∙ c.in-Some.is) in
     subst (λ zs. each_of of (take (i + 1) rows) ≡ Some zs) (sym c.in_ok-push.ensures.items) more
+
+pub returns : goal.returns
+returns c = grind (arith, common_steps)

@@ -1,4 +1,5 @@
-use Rattle.std.proofs.Common.{◌∙◌, ◌<◌, length, sym, rules}
+use Rattle.std.proofs.Common.{arith, ◌∙◌, ◌<◌, length, sym, rules}
+use Rattle.std.proofs.lemmas.Grind.{common_steps}
 use Rattle.lrs_store_routes.proofs.Fewest.{filled_all, some_ground, none_where_unfilled, none_where_other, some_where_fewest}
 use Rattle.lrs_store_routes.proofs.courses.course_in_fewest.Goals as goal
 
@@ -20,3 +21,9 @@ returns-then-not-needs c =
 pub returns : goal.returns
 returns c =
     some_where_fewest c.args.links.now c.args.pieces.now c.in-Some.course (sym c.in-Some.is ∙ c.in_ok-course.ensures) (sym c.needs.ensures ∙ c.if-not-needs.false)
+
+pub returns-then-is_empty : goal.returns-then-is_empty
+returns-then-is_empty c = grind (arith, common_steps)
+
+pub returns-in_default : goal.returns-in_default
+returns-in_default c = grind (arith, common_steps)

@@ -1,4 +1,5 @@
-use Rattle.std.proofs.Common.{◌≡◌, ◌<◌, ◌+◌, ◌∙◌, length, take, Some, sym, ap, subst, rules}
+use Rattle.std.proofs.Common.{arith, ◌≡◌, ◌<◌, ◌+◌, ◌∙◌, length, take, Some, sym, ap, subst, rules}
+use Rattle.std.proofs.lemmas.Grind.{common_steps}
 use Rattle.lrs_store_rows.specs.Decoding.{each_of}
 use Rattle.lrs_store_routes.specs.Courses.{good_route}
 use Rattle.lrs_store_routes.proofs.Each.{each_of-more, each_of-at}
@@ -20,3 +21,6 @@ loop-name-preserved c =
     let good = good_route c.args.links.now c.args.rows.now in
     let more = each_of-more good names i c.name-item.result c.in-Some.course c.loop-name.courses.items bound c.loop-name.invariant (ap good (sym c.name-item.is) ∙ sym c.in_ok-course.ensures ∙ c.in-Some.is) in
     subst (λ zs. each_of good (take (i + 1) names) ≡ Some zs) (sym c.in_ok-push.ensures.items) more
+
+pub returns : goal.returns
+returns c = grind (arith, common_steps)

@@ -1,4 +1,5 @@
-use Rattle.std.proofs.Common.{◌≡◌, ◌<◌, ◌+◌, ◌∙◌, length, take, Some, sym, ap, subst, rules}
+use Rattle.std.proofs.Common.{arith, ◌≡◌, ◌<◌, ◌+◌, ◌∙◌, length, take, Some, sym, ap, subst, rules}
+use Rattle.std.proofs.lemmas.Grind.{common_steps}
 use Rattle.lrs_store_rows.specs.Decoding.{each_of, piece_of}
 use Rattle.lrs_store_routes.proofs.Each.{each_of-more, each_of-at}
 use Rattle.lrs_store_routes.proofs.decode.pieces_said.Goals as goal
@@ -17,3 +18,6 @@ loop-row-preserved c =
     let bound : i < length rows = search rules in
     let more = each_of-more piece_of rows i c.row-item.result c.in-Some.said c.loop-row.found.items bound c.loop-row.invariant (ap piece_of (sym c.row-item.is) ∙ sym c.piece_of.ensures ∙ c.in-Some.is) in
     subst (λ zs. each_of piece_of (take (i + 1) rows) ≡ Some zs) (sym c.in_ok-push.ensures.items) more
+
+pub returns : goal.returns
+returns c = grind (arith, common_steps)

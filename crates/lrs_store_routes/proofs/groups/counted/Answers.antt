@@ -1,4 +1,5 @@
 use Rattle.std.proofs.Common.{◌≡◌, ◌<◌, ◌+◌, ◌∙◌, ◌++◌, ◌∷◌, [], suc, length, take, Some, sym, ap, subst, rules, arith}
+use Rattle.std.proofs.lemmas.Grind.{common_steps}
 use Rattle.lrs_store_rows.specs.Decoding.{Numbered, counted}
 use Rattle.lrs_store_routes.proofs.Grouped.{counted_fails, counted_more}
 use Rattle.lrs_store_routes.proofs.groups.counted.Goals as goal
@@ -29,3 +30,6 @@ loop-row-preserved g c =
           (more ∙ ap (λ r. Some (c.loop-row.found.items ++ r ∷ [])) (ap (λ (r : Numbered g.row.T.Denot). r.said) (sym c.row-item.is) ∙ said) ∙ ap (λ l. Some l) (sym c.in_ok-push.ensures.items)),
       omega (arith, own),
     )
+
+pub returns : goal.returns
+returns g c = grind (arith, common_steps)

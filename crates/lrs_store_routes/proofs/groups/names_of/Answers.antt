@@ -1,4 +1,5 @@
-use Rattle.std.proofs.Common.{◌≡◌, ◌∙◌, ◌<◌, length, take, true, ap, sym, subst, rules}
+use Rattle.std.proofs.Common.{arith, ◌≡◌, ◌∙◌, ◌<◌, length, take, true, ap, sym, subst, rules}
+use Rattle.std.proofs.lemmas.Grind.{common_steps}
 use Rattle.lrs_measure.specs.Lists.{each_two}
 use Rattle.lrs_measure.specs.Texts.{name_before}
 use Rattle.lrs_store_rows.specs.Content.{with_name, routes_named}
@@ -23,3 +24,6 @@ loop-row-preserved g c =
     let bound : i < length rows = search rules in
     let view : c.row-item.result.route ≡ c.row.inside.route = search rules in
     c.in_ok-push_name.ensures ∙ ap (with_name c.row.inside.route) c.loop-row.invariant ∙ ap (λ a. with_name a (routes_named (take i rows))) (sym view) ∙ sym (named_more rows c.requires i c.row-item.result bound c.row-item.is)
+
+pub returns : goal.returns
+returns g c = grind (arith, common_steps)

@@ -1,4 +1,5 @@
-use Rattle.std.proofs.Common.{◌≡◌, ◌<◌, ◌+◌, ◌∙◌, length, take, Some, sym, ap, subst, rules}
+use Rattle.std.proofs.Common.{arith, ◌≡◌, ◌<◌, ◌+◌, ◌∙◌, length, take, Some, sym, ap, subst, rules}
+use Rattle.std.proofs.lemmas.Grind.{common_steps}
 use Rattle.lrs_store_rows.specs.Decoding.{each_of, mark_of}
 use Rattle.lrs_store_routes.specs.Measuring.{known, is_name_of}
 use Rattle.lrs_store_routes.proofs.Each.{each_of-more, each_of-at}
@@ -20,3 +21,6 @@ loop-row-preserved c =
     let said = known mark_of (is_name_of c.args.names.now) in
     let more = each_of-more said rows i c.row-item.result c.in-Some.said c.loop-row.found.items bound c.loop-row.invariant (ap said (sym c.row-item.is) ∙ sym c.known_mark.ensures ∙ c.in-Some.is) in
     subst (λ zs. each_of said (take (i + 1) rows) ≡ Some zs) (sym c.in_ok-push.ensures.items) more
+
+pub returns : goal.returns
+returns c = grind (arith, common_steps)

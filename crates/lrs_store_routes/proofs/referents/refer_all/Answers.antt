@@ -1,4 +1,5 @@
-use Rattle.std.proofs.Common.{◌≡◌, ◌∷◌, ◌∙◌, Some, true, sym, ap}
+use Rattle.std.proofs.Common.{arith, ◌≡◌, ◌∷◌, ◌∙◌, Some, true, sym, ap}
+use Rattle.std.proofs.lemmas.Grind.{common_steps}
 use Rattle.std.specs.List.{list_all}
 use Rattle.std.proofs.lemmas.Bool.{and_parts}
 use Rattle.lrs_store_rows.specs.Decoding.{each_of}
@@ -19,3 +20,9 @@ loop-route-preserved c =
       ready = (and_parts (is_measured c.in-Some.route) (list_all is_measured left) ready).1;
       left = c.loop-route.invariant.left ∙ ap (λ rest. and_then found (each_of said rest)) e ∙ left_more said found c.in-Some.route left c.in-Some-2.referred is ∙ sym (ap (λ zs. and_then zs (each_of said left)) c.in_ok-push.ensures.items);
     }
+
+pub returns-in_default : goal.returns-in_default
+returns-in_default c = grind (arith, common_steps)
+
+pub returns : goal.returns
+returns c = grind (arith, common_steps)

@@ -1,0 +1,13 @@
+use Rattle.std.proofs.Common.{arith}
+use Rattle.std.proofs.lemmas.Grind.{common_steps}
+use Rattle.std.proofs.lemmas.Result.{err_from_is_err_and}
+use Rattle.lrs_store_image.proofs.entering_edits.without_edits.Goals as goal
+
+pub returns-in_err-found : goal.returns-in_err-found
+returns-in_err-found c = rw (err_from_is_err_and c.from_residual.result c.from_residual.ensures.1).1 tt
+
+pub returns-in_err-push : goal.returns-in_err-push
+returns-in_err-push c = rw (err_from_is_err_and c.from_residual-in_err-push.result c.from_residual-in_err-push.ensures.1).1 tt
+
+pub loop-asset-preserved : goal.loop-asset-preserved
+loop-asset-preserved c = grind (arith, common_steps)
