@@ -12,7 +12,7 @@ use Rattle.lrs_events.specs.Names.{side_text}
 use Rattle.lrs_machine.specs.declared.total.Total.{Total}
 use Rattle.lrs_machine.specs.declared.hit.Hit.{Hit}
 use Rattle.lrs_machine.specs.Lines.{Text, words}
-use Rattle.lrs_report.specs.Strips.{strip_text}
+use Rattle.lrs_diagram.specs.Strips.{strip_text}
 use Rattle.lrs_diagram.specs.Drawing.{diagram_text}
 use Rattle.lrs_answers.specs.declared.rows.FoundRow.{FoundRow}
 use Rattle.lrs_answers.specs.declared.hits.AtAnswer.{AtAnswer}

@@ -6,11 +6,10 @@ ghost use Rattle.std.specs.Io.KnownBytes.{Appends};
 ghost use Rattle.lrs_answers.specs.Lines.{at_text, expression_line, found_text, hit_text, length_text, lengths_text, link_position_text, place_text, route_text, row_text, told_text, total_text, totals_text};
 
 use crate::{AtAnswer, FoundRow, RouteLength, Told};
-use lrs_diagram::write_diagram;
+use lrs_diagram::{strip_of, write_diagram};
 use lrs_machine::{Hit, Total};
 use lrs_measure::{Frac, Metres};
 use lrs_position::{Expr, Route, RouteName};
-use lrs_report::strip_of;
 use std::io;
 use std::io::Write;
 

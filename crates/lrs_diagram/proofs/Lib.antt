@@ -4,3 +4,4 @@ pub mod Searching
 pub mod Ordered
 pub mod Apart
 pub mod Plain
+pub mod StripColumns

@@ -5,3 +5,4 @@ pub mod Bands
 pub mod Axis
 pub mod Drawing
 pub mod Laws
+pub mod Strips

@@ -53,9 +53,13 @@ fn run_broken<K: Keeper + Drop>(
     keeper: K,
 ) -> Option<()> {
     let mut desk = open(rt, Limits::full(), keeper)?;
-    do_each(rt, words, prefix, &mut desk)?;
-    let mut next = open(rt, Limits::full(), desk.into_keeper())?;
-    do_each(rt, words, prefix, &mut next)
+    let done = do_each(rt, words, prefix, &mut desk);
+    let keeper = desk.into_keeper();
+    done?;
+    let mut next = open(rt, Limits::full(), keeper)?;
+    let done = do_each(rt, words, prefix, &mut next);
+    drop(next);
+    done
 }
 
 /// With one record in each commit, and with two.
@@ -69,7 +73,13 @@ fn run_failure(rt: &HostRuntime, words: &[String], failure: Failure) -> Option<(
 
 /// Whether a desk is opened over a keeper.
 fn is_opened<K: Keeper + Drop>(rt: &HostRuntime, keeper: K) -> bool {
-    open(rt, Limits::full(), keeper).is_some()
+    match open(rt, Limits::full(), keeper) {
+        Some(desk) => {
+            drop(desk);
+            true
+        }
+        None => false,
+    }
 }
 
 /// Over a keeper that fails, for each way in which it does, and over one that is not loaded.

@@ -18,7 +18,9 @@ fn run_few<K: Keeper + Drop>(
     keeper: K,
 ) -> Option<()> {
     let mut desk = open(rt, FEW, keeper)?;
-    do_calls(rt, words, prefix, &mut desk)
+    let done = do_calls(rt, words, prefix, &mut desk);
+    drop(desk);
+    done
 }
 
 /// One record at a time, and together, where groups end at refusals.

@@ -23,7 +23,7 @@ use lrs_desk::{Desk, Keeper, Plain, Staged};
 use lrs_machine::Limits;
 use lrs_position::{EnteredPosition, RouteName, read_expr, read_method, read_target};
 use lrs_promises::{round_trip, rows};
-use lrs_store::{Tables, close_and_open, close_files, open_files};
+use lrs_store::{NotReopened, Tables, close_and_open, close_files, open_files};
 use lrs_store_image::Reader;
 use services::serve_words;
 use sqlite::{Alter, FileStore, Files, Options};
@@ -59,8 +59,9 @@ fn take<K: Keeper>(rt: &HostRuntime, desk: &mut Desk<K>, words: &[String]) -> Op
 /// Does what the words say at a desk over a keeper, and gives it back.
 fn run<K: Keeper + Drop>(rt: &HostRuntime, words: &[String], keeper: K) -> Option<K> {
     let mut desk = open(rt, Limits::full(), keeper)?;
-    take(rt, &mut desk, words)?;
-    Some(desk.into_keeper())
+    let taken = take(rt, &mut desk, words);
+    let keeper = desk.into_keeper();
+    taken.map(|()| keeper)
 }
 
 /// The same over tables.
@@ -79,7 +80,13 @@ fn open_tables<D: Disk + Drop>(
     files: Files<D>,
 ) -> Option<Tables<FileStore<D>, Reader>> {
     if files.log.may_be_used() && files.db.may_be_used() {
-        open_files(rt.alloc(), files, Options::new(7), Reader).ok()
+        match open_files(rt.alloc(), files, Options::new(7), Reader) {
+            Ok(tables) => Some(tables),
+            Err(refusal) => {
+                let _fault = refusal.into_fault();
+                None
+            }
+        }
     } else {
         None
     }
@@ -90,20 +97,36 @@ fn reopen<D: Disk + Drop>(
     rt: &HostRuntime,
     tables: Tables<FileStore<D>, Reader>,
 ) -> Option<Tables<FileStore<D>, Reader>> {
-    close_and_open(rt.alloc(), tables, Options::new(7), Reader).ok()
+    match close_and_open(rt.alloc(), tables, Options::new(7), Reader) {
+        Ok(tables) => Some(tables),
+        Err(NotReopened::Unclosed(_)) => None,
+        Err(NotReopened::Unopened(refusal)) => {
+            let _fault = refusal.into_fault();
+            None
+        }
+    }
+}
+
+/// The same over tables in files. It stands by itself: what ties such tables to their store is dear to prove.
+fn run_stored<D: Disk + Drop>(
+    rt: &HostRuntime,
+    words: &[String],
+    tables: Tables<FileStore<D>, Reader>,
+) -> Option<Tables<FileStore<D>, Reader>> {
+    run_tables(rt, words, tables)
 }
 
 /// Opens files, does what the words say, closes and opens them, does it again, and closes them.
 fn run_files<D: Disk + Drop>(rt: &HostRuntime, words: &[String], files: Files<D>) -> Option<()> {
-    let tables = run_tables(rt, words, open_tables(rt, files)?)?;
-    let tables = run_tables(rt, words, reopen(rt, tables)?)?;
+    let tables = run_stored(rt, words, open_tables(rt, files)?)?;
+    let tables = run_stored(rt, words, reopen(rt, tables)?)?;
     close_files(tables).ok()?;
     Some(())
 }
 
 /// Over an inventory in memory.
 fn run_plain(rt: &HostRuntime, words: &[String]) -> Option<()> {
-    run(rt, words, Plain::empty(rt.alloc()))?;
+    drop(run(rt, words, Plain::empty(rt.alloc()))?);
     Some(())
 }
 
@@ -125,7 +148,9 @@ fn run_disks(rt: &HostRuntime, words: &[String]) -> Option<()> {
 /// Serves at a desk over an inventory in memory.
 fn run_services(rt: &HostRuntime, words: &[String]) -> Option<()> {
     let mut desk = open(rt, Limits::full(), Plain::empty(rt.alloc()))?;
-    serve_words(rt, words, &mut desk)
+    let served = serve_words(rt, words, &mut desk);
+    drop(desk);
+    served
 }
 
 /// Over each keeper in turn, and then the services, the desks of few limits and those whose keeper fails.

@@ -11,7 +11,7 @@ use Rattle.lrs_events.specs.declared.side.Side.{Side}
 use Rattle.lrs_machine.specs.Lines.{Text, fields, method_text}
 use Rattle.lrs_machine.specs.declared.hit.Hit.{Hit}
 use Rattle.lrs_machine.specs.declared.segment.Segment.{Segment}
-use Rattle.lrs_report.specs.Strips.{value_text}
+use Rattle.lrs_diagram.specs.Strips.{value_text}
 use Rattle.lrs_answers.specs.Lines.{direction_text}
 use Rattle.lrs_answers.specs.declared.hits.AtAnswer.{AtAnswer}
 use Rattle.lrs_answers.specs.declared.rows.FoundRow.{FoundRow}

@@ -2,4 +2,3 @@ pub mod Columns
 pub mod Sweep
 pub mod Along
 pub mod InState
-pub mod Strips

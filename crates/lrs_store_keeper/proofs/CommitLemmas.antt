@@ -14,7 +14,7 @@ use Rattle.lrs_store_rows.specs.Content.{content_of}
 use Rattle.lrs_store_tables.specs.Stored.{stored, LeavesStore}
 use Rattle.lrs_store_tables.specs.Writing.{AreWritten}
 use Rattle.lrs_store_tables.specs.Resting.{IsReady}
-use Rattle.lrs_store_keeper.specs.Texts.{HaveTexts}
+use Rattle.lrs_store_laws.specs.Texts.{HaveTexts}
 use Rattle.lrs_store_commit.specs.Undone.{LeavesUndone}
 use Rattle.lrs_store_tables.specs.Holding.{MayHold}
 use Rattle.lrs_store_keeper.specs.Holding.{HoldEdits, HasEdits, IsOpenIfClean, IsStillOpen, IsAsBefore}

@@ -6,24 +6,16 @@ use Rattle.sqlite.specs.declared.error.Error.{Error}
 use Rattle.sqlite.specs.declared.error.Error.TheVariants.{SqliteFailure}
 use Rattle.sqlite.specs.declared.error.ErrorCode.TheVariants.{OutOfMemory}
 use Rattle.sqlite.specs.Held.{Held, state}
-use Rattle.sqlite.specs.State.{State, HasCleanDisk, IsUnchanged}
+use Rattle.sqlite.specs.State.{State, HasCleanDisk}
 use Rattle.lrs_image.specs.declared.keeper.LoadFault.{LoadFault}
 use Rattle.lrs_image.specs.declared.keeper.LoadFault.TheVariants.{Memory, Store}
 use Rattle.lrs_store_tables.specs.Stored.{IsWriting, LeavesStore}
 use Rattle.lrs_store_tables.specs.Resting.{IsReady}
 use Rattle.lrs_store_tables.specs.Failing.{HasFailed, HasReason, ErrHasReason, ErrInsideHasReason}
-use Rattle.lrs_store_tables.proofs.FailLemmas.{reason_then, reason_after}
+use Rattle.lrs_store_tables.proofs.FailLemmas.{reason_then}
 use Rattle.lrs_store_keeper.specs.Opening.{IsSecond, IsNotSecond}
-use Rattle.lrs_store_keeper.proofs.RowLemmas.{still}
 use Rattle.lrs_store_keeper.proofs.ReadLemmas.{begins}
 use Rattle.lrs_store_keeper.proofs.CommitLemmas.{Stays}
-
--- a call inside a transaction that fails behind one that changed nothing
-pub fails_after : (a b c : State) (e : Error) → LeavesStore a b → (HasCleanDisk b → IsWriting a → IsUnchanged a b) → LeavesStore b c → (IsWriting b → HasCleanDisk c → HasReason b c e)
-    → IsWriting a → HasCleanDisk c → HasReason a c e
-fails_after a b c e first same last later writing clean =
-    let early : HasCleanDisk b = omega (arith, clean, last.clean) in
-    reason_after a b c e first last clean (later (still a b writing (same early writing)) clean)
 
 -- a call that fails in a transaction of its own, which is rolled back
 pub fails_alone : {S A : Type 0} (g : Ghosts S) (old tx mid : Held S) (last : State) (r : Result A Error) → tx ≡ record old { in_transaction = true } → IsReady (state g old)

@@ -4,7 +4,6 @@ pub mod ReadLemmas
 pub mod CommitLemmas
 pub mod Sound
 pub mod NewLemmas
-pub mod RowLemmas
 pub mod LoadLemmas
 pub mod BroughtUp
 pub mod OpeningLemmas

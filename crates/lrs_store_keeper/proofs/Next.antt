@@ -18,7 +18,7 @@ use Rattle.lrs_store_laws.proofs.Named.{content_has_texts}
 use Rattle.lrs_store_laws.proofs.Restored.{encoded_holds}
 use Rattle.lrs_store_tables.specs.Writing.{IsWritten, AreWritten}
 use Rattle.lrs_store_laws.proofs.ChangeWritten.{written_is_encoded}
-use Rattle.lrs_store_keeper.specs.Texts.{HasTexts, HaveTexts}
+use Rattle.lrs_store_laws.specs.Texts.{HasTexts, HaveTexts}
 use Rattle.lrs_store_keeper.specs.Holding.{AreRowsOf}
 use Rattle.lrs_store_keeper.proofs.TextLemmas.{texts_after}
 

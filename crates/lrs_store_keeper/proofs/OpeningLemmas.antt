@@ -8,7 +8,7 @@ use Rattle.sqlite.specs.Effect.{Database}
 use Rattle.sqlite.specs.Held.{Held, state}
 use Rattle.sqlite.specs.State.{State, HasCleanDisk, IsUnchanged, Survives}
 use Rattle.sqlite.specs.declared.error.Error.{Error}
-use Rattle.sqlite.proofs.StateLemmas.{survives_then, survives_weaker}
+use Rattle.sqlite.proofs.StateLemmas.{survives_weaker}
 use Rattle.lrs_events.specs.declared.class.Asset.{Asset}
 use Rattle.lrs_machine.specs.declared.image.Image.{Image}
 use Rattle.lrs_machine.specs.declared.table.Table.{Table}
@@ -67,9 +67,6 @@ module _ (a b : State) (survives : LeavesStore a b) where
 
   pub other_still : IsNotSecond a → IsNotSecond b
   other_still = left_before a b survives (λ db. (stored db).version ≢ pos 2 ∷ [])
-
-pub leaves_then : (a b c : State) → LeavesStore a b → LeavesStore b c → LeavesStore a c
-leaves_then a b c = survives_then a b c (λ _. ⊥) (λ _. ⊥) (λ _. ⊥) (λ clean db none. none) (λ clean db none. none)
 
 -- what is written only over a store that is open, is not written over one whose rows would be of version 2 and of another
 pub nothing_written : {S : Type 0} (g : Ghosts S) (stays : Stays g) (old : Held S) (b : State) (Commits : Trees → Type 0) → ((db : Trees) → Commits db → IsTrue (state g old).is_open)

@@ -26,8 +26,8 @@ use Rattle.lrs_image.specs.declared.change.RouteChange.{RouteChange}
 use Rattle.lrs_image.specs.declared.change.Change.{Change}
 use Rattle.lrs_image.specs.Change.{apply, changed_refs, fits_after, route_if, entry_after, is_named, without, without_some, routes_after}
 use Rattle.lrs_store_laws.specs.ImageLaws.{HasTexts}
-use Rattle.lrs_store_keeper.specs.Texts as coming
-use Rattle.lrs_store_keeper.specs.Texts.{AreNames, MakesTexts, ChangesTexts}
+use Rattle.lrs_store_laws.specs.Texts as coming
+use Rattle.lrs_store_laws.specs.Texts.{AreNames, MakesTexts, ChangesTexts}
 
 module _ {X : Type 0} (p : X → Bool) where
   all_inserted : (before : X → X → Bool) (x : X) (xs : List X) → p x ≡ true → list_all p xs ≡ true → list_all p (insert_by before x xs) ≡ true

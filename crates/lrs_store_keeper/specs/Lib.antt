@@ -1,4 +1,3 @@
-pub mod Texts
 pub mod Opening
 pub mod Holding
 pub mod KeeperView

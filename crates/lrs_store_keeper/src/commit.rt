@@ -12,9 +12,9 @@ ghost use Rattle.lrs_store_keeper.specs.Holding.{HasEdits, IsOpenIfClean, IsStil
 ghost use Rattle.lrs_store_keeper.specs.Opening.{IsSecond};
 
 use crate::image::check_open;
-use crate::texts::prove_all_texts;
 use lrs_image::{Change, CommitFault};
 use lrs_store_commit::write_changes;
+use lrs_store_laws::texts::prove_all_texts;
 use sqlite::{Alter, Connection, Error, ErrorCode};
 
 /// Why changes were not written: memory ran out and the store is open all the same, or the store failed.

@@ -16,9 +16,9 @@ ghost use Rattle.lrs_store_tables.specs.Holding.{MayHold};
 ghost use Rattle.lrs_store_keeper.specs.Holding.{AreRowsOf, HasEdits, HoldNone, IsOpenIfClean};
 ghost use Rattle.lrs_store_keeper.specs.Opening.{IsSecond};
 
-use crate::rows::read_rows;
 use lrs_image::LoadFault;
 use lrs_machine::{Image, Table};
+use lrs_store_tables::all_rows::read_rows;
 use lrs_store_tables::stored_rows::{ReadImage, StoredRows};
 use sqlite::types::ValueRef;
 use sqlite::{Alter, Connection, Error, ErrorCode, Row};

@@ -6,7 +6,5 @@ mod image;
 mod keeper;
 mod memory;
 mod migration;
-mod rows;
-mod texts;
 
 pub use keeper::Tables;

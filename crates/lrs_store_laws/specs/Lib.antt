@@ -1,2 +1,3 @@
 pub mod ImageLaws
 pub mod ChangeLaws
+pub mod Texts

@@ -4,3 +4,4 @@
 
 pub mod change_laws;
 pub mod image_laws;
+pub mod texts;

@@ -15,3 +15,4 @@ pub mod AloneStatements
 pub mod FailLemmas
 pub mod CreateFails
 pub mod InsertFails
+pub mod RowLemmas

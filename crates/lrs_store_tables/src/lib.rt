@@ -1,6 +1,7 @@
 //! The tables of a store: created, read, and their rows decoded.
 #![tactic(auto)]
 
+pub mod all_rows;
 mod create;
 pub mod decode;
 pub mod insert;

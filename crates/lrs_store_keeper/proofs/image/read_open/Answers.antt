@@ -5,8 +5,8 @@ use Rattle.lrs_store_tables.specs.Rows.{tables_of}
 use Rattle.lrs_store_keeper.proofs.ReadLemmas.{left_before}
 use Rattle.lrs_store_tables.proofs.FailLemmas.{reason_after}
 use Rattle.lrs_store_tables.specs.Failing.{HasReason}
-use Rattle.lrs_store_keeper.proofs.RowLemmas.{err_told}
-use Rattle.lrs_store_keeper.proofs.OpeningLemmas.{leaves_then}
+use Rattle.lrs_store_tables.proofs.RowLemmas.{err_told}
+use Rattle.lrs_store_tables.proofs.RowLemmas.{leaves_then}
 use Rattle.lrs_store_keeper.proofs.image.read_open.Goals as goal
 
 pub returns-clause-rows : goal.returns-clause-rows

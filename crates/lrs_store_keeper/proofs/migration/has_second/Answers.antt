@@ -3,11 +3,12 @@ use Rattle.std.proofs.lemmas.Bool.{false≢true}
 use Rattle.sqlite.specs.Held.{state}
 use Rattle.lrs_store_tables.specs.Stored.{stored, version_in}
 use Rattle.lrs_store_keeper.specs.Opening.{HasVersions}
-use Rattle.lrs_store_keeper.proofs.OpeningLemmas.{second_read, other_read, leaves_then}
+use Rattle.lrs_store_tables.proofs.RowLemmas.{leaves_then}
+use Rattle.lrs_store_keeper.proofs.OpeningLemmas.{second_read, other_read}
 use Rattle.lrs_store_keeper.proofs.ReadLemmas.{left_before}
 use Rattle.lrs_store_tables.proofs.FailLemmas.{reason_after}
 use Rattle.lrs_store_tables.specs.Failing.{HasReason}
-use Rattle.lrs_store_keeper.proofs.RowLemmas.{err_told}
+use Rattle.lrs_store_tables.proofs.RowLemmas.{err_told}
 use Rattle.lrs_store_keeper.proofs.migration.has_second.Goals as goal
 
 pub returns-clause-second : goal.returns-clause-second

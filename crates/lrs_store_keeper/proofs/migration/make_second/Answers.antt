@@ -1,7 +1,8 @@
 use Rattle.std.proofs.Common.{inl, inr, ◌∙◌, arith}
 use Rattle.sqlite.specs.State.{HasCleanDisk}
 use Rattle.sqlite.specs.Held.{state}
-use Rattle.lrs_store_keeper.proofs.OpeningLemmas.{found_before, second_still, leaves_then}
+use Rattle.lrs_store_tables.proofs.RowLemmas.{leaves_then}
+use Rattle.lrs_store_keeper.proofs.OpeningLemmas.{found_before, second_still}
 use Rattle.lrs_store_keeper.proofs.FailedLemmas.{not_both, failed_behind}
 use Rattle.lrs_store_keeper.proofs.migration.make_second.Goals as goal
 

@@ -3,7 +3,8 @@ use Rattle.sqlite.specs.State.{HasCleanDisk}
 use Rattle.sqlite.specs.Held.{state}
 use Rattle.lrs_image.specs.declared.keeper.LoadFault.{LoadFault}
 use Rattle.lrs_image.specs.declared.keeper.LoadFault.TheVariants.{Memory}
-use Rattle.lrs_store_keeper.proofs.OpeningLemmas.{found_before, second_still, other_still, leaves_then}
+use Rattle.lrs_store_tables.proofs.RowLemmas.{leaves_then}
+use Rattle.lrs_store_keeper.proofs.OpeningLemmas.{found_before, second_still, other_still}
 use Rattle.lrs_store_keeper.proofs.migration.rewrite.Goals as goal
 
 abbrev fault_in : {A : Type 0} → Result A LoadFault → LoadFault
