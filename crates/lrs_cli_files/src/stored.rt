@@ -5,12 +5,19 @@ ghost use Rattle.lrs_store_questions.specs.Asked.{HasRead};
 
 use crate::keeper::FileKeeper;
 use lrs_desk::{Files, OpenFault, Staged};
-use lrs_store::{close_files, open_file};
+use lrs_store::{Tables, close_files, open_file};
 use lrs_store_image::Reader;
 use lrs_store_questions::{Questions, open_for_questions};
 use lrs_store_tables::StoreFault;
+use lrs_store_tables::stored_rows::ReadImage;
 use sqlite::{FileFrom, FileStore, Start, Unknown};
+use sqlite_disk::Disk;
 use std::rt::HostRuntime;
+
+/// Closes the files of a keeper, and lets them go. It is over any disk, since of a certain one it is dear to prove.
+fn close_staged<D: Disk + Drop, R: ReadImage + Drop>(keeper: Staged<Tables<FileStore<D>, R>>) {
+    drop(close_files(keeper.into_inner()));
+}
 
 /// Opens a file and its log at a path of the system.
 pub struct StoredFiles;
@@ -47,6 +54,6 @@ impl Files for StoredFiles {
     }
 
     fn close(&self, keeper: Self::Kept) {
-        drop(close_files(keeper.inner.into_inner()));
+        close_staged(keeper.inner);
     }
 }
