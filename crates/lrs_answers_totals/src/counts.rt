@@ -48,6 +48,11 @@ impl Counts {
         Ok(counts)
     }
 
+    /// Lets them go. As a call of this crate it is one step to prove for a caller.
+    pub fn discard(self) {
+        drop(self);
+    }
+
     /// Makes room for the count of one more class. What is counted stays.
     ///
     /// # Errors

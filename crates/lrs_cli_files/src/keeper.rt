@@ -1,16 +1,47 @@
 //! The keeper of an inventory in a file of the system, as a type of its own: what is told of it above is one plain type,
-//! and not all that it is made of, which would be more than the prover can compare.
+//! and not all that it is made of, which would be more than the prover can compare. So are its tables.
 
-use lrs_desk::{Change, CommitFault, Image, Keeper, LoadFault, Staged};
+use lrs_desk::{Batches, Change, CommitFault, Image, Keeper, LoadFault, Staged};
 use lrs_store::Tables;
 use lrs_store_image::Reader;
 use sqlite::{FileFrom, FileStore, Unknown};
 use std::alloc::{AllocError, Global};
 
-/// Keeps an inventory in a file and its log, at a path of the system.
-#[derive(Drop)]
+/// Keeps an inventory in the tables of a file and its log, at a path of the system.
+pub struct FileTables {
+    pub(crate) tables: Tables<FileStore<FileFrom<Unknown>>, Reader>,
+}
+
+impl Batches for FileTables {
+    ghost use Rattle.std.specs.Prelude.{refl};
+    ghost use Rattle.std.proofs.Common.{inl};
+    ghost use Rattle.sqlite_store.specs.Laws.{stays_at};
+    ghost use Rattle.lrs_store_keeper.specs.Holding.{finds_left};
+
+    ghost may_hold = { λ k. ⟦<Tables<FileStore<FileFrom<Unknown>>, Reader> as Batches>⟧.may_hold k.tables };
+
+    ghost is_clean = { λ k. ⟦<Tables<FileStore<FileFrom<Unknown>>, Reader> as Batches>⟧.is_clean k.tables };
+
+    ghost is_open = { λ k. ⟦<Tables<FileStore<FileFrom<Unknown>>, Reader> as Batches>⟧.is_open k.tables };
+
+    ghost is_loaded = { λ k. ⟦<Tables<FileStore<FileFrom<Unknown>>, Reader> as Batches>⟧.is_loaded k.tables };
+
+    ghost failures = { λ k. ⟦<Tables<FileStore<FileFrom<Unknown>>, Reader> as Batches>⟧.failures k.tables };
+
+    fn load(&mut self, alloc: Global) -> Result<Image, LoadFault> {
+        self.tables.load(alloc)
+    }
+
+    fn write(&mut self, changes: &[Change]) -> Result<(), CommitFault> {
+        self.tables.write(changes)
+    }
+
+    ghost finds = { λ k clean opened. finds_left _ _ clean (stays_at k.tables.conn.store (λ f. inl refl) opened) };
+}
+
+/// The same, with the changes that are staged for its tables.
 pub struct FileKeeper {
-    pub(crate) inner: Staged<Tables<FileStore<FileFrom<Unknown>>, Reader>>,
+    pub(crate) inner: Staged<FileTables>,
 }
 
 impl Keeper for FileKeeper {
@@ -19,17 +50,17 @@ impl Keeper for FileKeeper {
     ghost use Rattle.sqlite_store.specs.Laws.{stays_at};
     ghost use Rattle.lrs_store_keeper.specs.Holding.{finds_left};
 
-    ghost may_hold = { λ k. ⟦<Staged<Tables<FileStore<FileFrom<Unknown>>, Reader>> as Keeper>⟧.may_hold k.inner };
+    ghost may_hold = { λ k. ⟦<Staged<FileTables> as Keeper>⟧.may_hold k.inner };
 
-    ghost is_clean = { λ k. ⟦<Staged<Tables<FileStore<FileFrom<Unknown>>, Reader>> as Keeper>⟧.is_clean k.inner };
+    ghost is_clean = { λ k. ⟦<Staged<FileTables> as Keeper>⟧.is_clean k.inner };
 
-    ghost is_open = { λ k. ⟦<Staged<Tables<FileStore<FileFrom<Unknown>>, Reader>> as Keeper>⟧.is_open k.inner };
+    ghost is_open = { λ k. ⟦<Staged<FileTables> as Keeper>⟧.is_open k.inner };
 
-    ghost is_loaded = { λ k. ⟦<Staged<Tables<FileStore<FileFrom<Unknown>>, Reader>> as Keeper>⟧.is_loaded k.inner };
+    ghost is_loaded = { λ k. ⟦<Staged<FileTables> as Keeper>⟧.is_loaded k.inner };
 
-    ghost failures = { λ k. ⟦<Staged<Tables<FileStore<FileFrom<Unknown>>, Reader>> as Keeper>⟧.failures k.inner };
+    ghost failures = { λ k. ⟦<Staged<FileTables> as Keeper>⟧.failures k.inner };
 
-    ghost staged = { λ k. ⟦<Staged<Tables<FileStore<FileFrom<Unknown>>, Reader>> as Keeper>⟧.staged k.inner };
+    ghost staged = { λ k. ⟦<Staged<FileTables> as Keeper>⟧.staged k.inner };
 
     fn load(&mut self, alloc: Global) -> Result<Image, LoadFault> {
         self.inner.load(alloc)
@@ -43,5 +74,5 @@ impl Keeper for FileKeeper {
         self.inner.commit()
     }
 
-    ghost finds = { λ k clean opened. finds_left _ _ clean (stays_at k.inner.batches.conn.store (λ f. inl refl) opened) };
+    ghost finds = { λ k clean opened. finds_left _ _ clean (stays_at k.inner.batches.tables.conn.store (λ f. inl refl) opened) };
 }

@@ -1,11 +1,12 @@
 //! Inventories in files of the system.
 
 ghost use Rattle.sqlite_wal.specs.Files.{image_at};
+ghost use Rattle.lrs_store_files.specs.Opened.{IsContentOf};
 ghost use Rattle.lrs_store_questions.specs.Asked.{HasRead};
 
-use crate::keeper::FileKeeper;
+use crate::keeper::{FileKeeper, FileTables};
 use lrs_desk::{Files, OpenFault, Staged};
-use lrs_store::{Tables, close_files, open_file};
+use lrs_store::{Tables, close_files, discard_files, open_file};
 use lrs_store_image::Reader;
 use lrs_store_questions::{Questions, open_for_questions};
 use lrs_store_tables::StoreFault;
@@ -14,9 +15,16 @@ use sqlite::{FileFrom, FileStore, Start, Unknown};
 use sqlite_disk::Disk;
 use std::rt::HostRuntime;
 
-/// Closes the files of a keeper, and lets them go. It is over any disk, since of a certain one it is dear to prove.
-fn close_staged<D: Disk + Drop, R: ReadImage + Drop>(keeper: Staged<Tables<FileStore<D>, R>>) {
-    drop(close_files(keeper.into_inner()));
+/// Closes the files of tables, and lets them go. It is over any disk, since of a certain one it is dear to prove.
+fn close_tables<D: Disk + Drop, R: ReadImage + Drop>(tables: Tables<FileStore<D>, R>) {
+    drop(close_files(tables));
+}
+
+/// The tables of a keeper.
+fn tables_of(keeper: FileKeeper) -> Tables<FileStore<FileFrom<Unknown>>, Reader> {
+    let FileKeeper { inner } = keeper;
+    let FileTables { tables } = inner.into_inner();
+    tables
 }
 
 /// Opens a file and its log at a path of the system.
@@ -26,6 +34,8 @@ impl Files for StoredFiles {
     type Kept = FileKeeper;
 
     type Seen = Questions<FileStore<FileFrom<Unknown>>>;
+
+    ghost has_opened = { IsContentOf (image_at ⟦<Unknown as Start>⟧) };
 
     ghost has_read = { HasRead (image_at ⟦<Unknown as Start>⟧) };
 
@@ -37,7 +47,7 @@ impl Files for StoredFiles {
     ) -> Result<Self::Kept, OpenFault> {
         match open_file(rt, path, new_has_sums, Unknown, Reader) {
             Ok(tables) => Ok(FileKeeper {
-                inner: Staged::over(tables, rt.alloc()),
+                inner: Staged::over(FileTables { tables }, rt.alloc()),
             }),
             Err(refusal) => Err(OpenFault::from(refusal.into_fault())),
         }
@@ -54,6 +64,14 @@ impl Files for StoredFiles {
     }
 
     fn close(&self, keeper: Self::Kept) {
-        close_staged(keeper.inner);
+        close_tables(tables_of(keeper));
+    }
+
+    fn discard(&self, keeper: Self::Kept) {
+        discard_files(tables_of(keeper));
+    }
+
+    fn discard_seen(&self, keeper: Self::Seen) {
+        keeper.discard();
     }
 }

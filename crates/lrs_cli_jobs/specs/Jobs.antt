@@ -52,9 +52,9 @@ IsFresh desk = desk.image ≡ nothing
 abbrev pub ActsOnKept : {K : Type 0} → (K → Result Image Table → Type 0) → DeskView K → Type 0
 ActsOnKept holds desk = HoldsOnly (holds desk.keeper) desk.image
 
--- and the keeper may hold what was read of the file at the path, and nothing else
-abbrev pub ActsOnRead : {K : Type 0} → (K → Result Image Table → Type 0) → (Result Image Table → Type 0) → DeskView K → Type 0
-ActsOnRead holds has_read desk = ActsOnKept holds desk × ((c : Result Image Table) → holds desk.keeper c → has_read c)
+-- and the keeper may hold what was found in the file at the path, and nothing else
+abbrev pub ActsOnFound : {K : Type 0} → (K → Result Image Table → Type 0) → (Result Image Table → Type 0) → DeskView K → Type 0
+ActsOnFound holds was_found desk = ActsOnKept holds desk × ((c : Result Image Table) → holds desk.keeper c → was_found c)
 
 -- nothing was opened, for a fault of an opening
 abbrev pub IsNotOpened : Ending → Type 0
@@ -86,15 +86,15 @@ abbrev pub EndsInMemory : {M : Type 0} → (M → Result Image Table → Type 0)
 EndsInMemory memory w ending = (ending ≡ Stopped Memory) ⊎ HasWorkedFrom memory IsFresh w ending
 
 -- in a file and its log: work was done on what they hold, or nothing was opened
-abbrev pub EndsWithLog : {F : Type 0} → (F → Result Image Table → Type 0) → Work → Ending → Type 0
-EndsWithLog file w ending = IsNotOpened ending ⊎ HasWorkedFrom file (ActsOnKept file) w ending
+abbrev pub EndsWithLog : {F : Type 0} → (F → Result Image Table → Type 0) → (Result Image Table → Type 0) → Work → Ending → Type 0
+EndsWithLog file has_opened w ending = IsNotOpened ending ⊎ HasWorkedFrom file (ActsOnFound file has_opened) w ending
 
-module _ {M F Q : Type 0} (memory : M → Result Image Table → Type 0) (file : F → Result Image Table → Type 0) (looked : Q → Result Image Table → Type 0) (has_read : Result Image Table → Type 0) where
+module _ {M F Q : Type 0} (memory : M → Result Image Table → Type 0) (file : F → Result Image Table → Type 0) (looked : Q → Result Image Table → Type 0) (has_opened has_read : Result Image Table → Type 0) where
   -- in a file: work was done on what it holds; or what only looks was answered of what it held, or a sheet was tried in an empty inventory; or nothing was opened
   abbrev pub EndsInFile : Work → Ending → Type 0
   EndsInFile w ending =
-      EndsWithLog file w ending
-      ⊎ (Looks w × HasWorkedFrom looked (ActsOnRead looked has_read) w ending)
+      EndsWithLog file has_opened w ending
+      ⊎ (Looks w × HasWorkedFrom looked (ActsOnFound looked has_read) w ending)
       ⊎ (Tries w × EndsInMemory memory w ending)
 
   -- `:memory:` is an inventory in memory, and every other name that of a file

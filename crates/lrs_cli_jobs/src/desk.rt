@@ -23,6 +23,8 @@ pub(crate) fn open_desk<F: Files>(
     new_has_sums: bool,
 ) -> Result<Desk<F::Kept>, OpenFault>
     ensures kept { IfOk result (λ desk. HoldsOnly (F.Kept.may_hold desk.keeper) desk.image) }
+    ensures opened { IfOk result (λ desk. (c : Result ImageRows DeclaredTable)
+        → F.Kept.may_hold desk.keeper c → F.has_opened c) }
     ensures open { IfOk result (λ desk. desk.must_reopen ≡ false) }
     ensures behind { IfOk result (λ desk. desk.is_ahead ≡ false) }
     ensures limits { IfOk result (λ desk. (desk.limits.routes ≡ most_routes)
@@ -32,8 +34,7 @@ pub(crate) fn open_desk<F: Files>(
     match Desk::open(keeper, Limits::full(), rt.alloc()) {
         Ok(desk) => Ok(desk),
         Err((fault, keeper)) => {
-            // As a call, the drop is one step to prove, and not one for each part.
-            drop(keeper);
+            files.discard(keeper);
             Err(fault)
         }
     }
@@ -63,7 +64,7 @@ pub(crate) fn open_desk_to_look<F: Files>(
     match Desk::open(keeper, Limits::full(), rt.alloc()) {
         Ok(desk) => Ok(Some(desk)),
         Err((fault, keeper)) => {
-            drop(keeper);
+            files.discard_seen(keeper);
             match fault {
                 OpenFault::Keep => Ok(None),
                 fault => Err(fault),

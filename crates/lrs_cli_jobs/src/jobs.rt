@@ -56,8 +56,7 @@ fn do_in_memory<R: Runtime<A = Global> + Net>(rt: &R, work: Work<'_>, shown: Sho
     match open_in_memory(rt.alloc()) {
         Ok(mut desk) => {
             let ending = do_work(rt, &mut desk, work, Pace::InPieces, shown);
-            // As a call, the drop is one step to prove, and not one for each part.
-            drop(desk);
+            desk.into_keeper().discard();
             ending
         }
         Err(fault) => Ending::Stopped(fault),
@@ -115,7 +114,7 @@ fn do_with_log<F: Files>(
     work: Work<'_>,
     shown: Shown,
 ) -> Ending
-    ensures { EndsWithLog F.Kept.may_hold work.entry result }
+    ensures { EndsWithLog F.Kept.may_hold F.has_opened work.entry result }
 {
     let was_said = tell_opening(rt, path, shown);
     match cleared(rt, was_said, open_desk(rt, files, path, new_has_sums)) {
@@ -124,18 +123,19 @@ fn do_with_log<F: Files>(
     }
 }
 
-// Does work at a desk, which is then let go with what it keeps.
-fn do_at<K: Keeper + Drop>(
+// Answers what only looks, at a desk that is then let go with what it keeps.
+fn look<F: Files>(
     rt: &HostRuntime,
-    mut desk: Desk<K>,
+    files: &F,
+    mut desk: Desk<F::Seen>,
     work: Work<'_>,
     shown: Shown,
 ) -> Ending
     requires behind { desk.is_ahead ≡ false }
-    ensures { (after : DeskView K) × HasWorked K.may_hold work.entry desk after result }
+    ensures { (after : DeskView F.Seen) × HasWorked F.Seen.may_hold work.entry desk after result }
 {
     let ending = do_work(rt, &mut desk, work, Pace::InGroups, shown);
-    drop(desk);
+    files.discard_seen(desk.into_keeper());
     ending
 }
 
@@ -168,7 +168,7 @@ fn do_in_file<F: Files>(
     work: Work<'_>,
     shown: Shown,
 ) -> Ending
-    ensures { EndsInFile ⟦<Plain as Keeper>⟧.may_hold F.Kept.may_hold F.Seen.may_hold F.has_read
+    ensures { EndsInFile ⟦<Plain as Keeper>⟧.may_hold F.Kept.may_hold F.Seen.may_hold F.has_opened F.has_read
         work.entry result }
 {
     if !looks(&work) {
@@ -179,7 +179,7 @@ fn do_in_file<F: Files>(
     }
     let was_said = tell_opening(rt, path, shown);
     match cleared(rt, was_said, open_desk_to_look(rt, files, path)) {
-        Ok(Some(desk)) => do_at(rt, desk, work, shown),
+        Ok(Some(desk)) => look(rt, files, desk, work, shown),
         Ok(None) => do_with_log(rt, files, path, new_has_sums, work, shown),
         Err(fault) => Ending::Stopped(ProgramFault::from(fault)),
     }
@@ -212,7 +212,7 @@ fn do_at_path<F: Files>(
     work: Work<'_>,
     shown: Shown,
 ) -> Ending
-    ensures { EndsInFile ⟦<Plain as Keeper>⟧.may_hold F.Kept.may_hold F.Seen.may_hold F.has_read
+    ensures { EndsInFile ⟦<Plain as Keeper>⟧.may_hold F.Kept.may_hold F.Seen.may_hold F.has_opened F.has_read
         work.entry result }
 {
     let wants_file = existing
@@ -235,7 +235,7 @@ fn do_task<F: Files>(
     existing: bool,
     shown: Shown,
 ) -> Ending
-    ensures { EndsTask ⟦<Plain as Keeper>⟧.may_hold F.Kept.may_hold F.Seen.may_hold F.has_read
+    ensures { EndsTask ⟦<Plain as Keeper>⟧.may_hold F.Kept.may_hold F.Seen.may_hold F.has_opened F.has_read
         task.entry result }
 {
     match task {
@@ -258,7 +258,7 @@ pub fn do_job<F: Files>(
     existing: bool,
     shown: Shown,
 ) -> Ending
-    ensures { EndsJob ⟦<Plain as Keeper>⟧.may_hold F.Kept.may_hold F.Seen.may_hold F.has_read
+    ensures { EndsJob ⟦<Plain as Keeper>⟧.may_hold F.Kept.may_hold F.Seen.may_hold F.has_opened F.has_read
         job.now result }
 {
     match task_of(rt.alloc(), job) {

@@ -98,25 +98,24 @@ fn made_differs<R: Runtime<A = Global>, K: Keeper>(
     }
 }
 
-// The same, at a desk that goes with it. What may fail only borrows the desk, and it is dropped by a call: a function
-// that drops one in several places is dear to prove.
-fn audit_at<R: Runtime<A = Global>, K: Keeper + Drop>(
+// The same, at a desk that goes with it, whose keeper is given back. What may fail only borrows the desk: a function that
+// lets one go in several places is dear to prove.
+fn audit_at<R: Runtime<A = Global>, K: Keeper>(
     rt: &R,
     inventory: &Inventory,
     log: &[u8],
     desk: Desk<K>,
-) -> Result<Option<Table>, ProgramFault>
+) -> (K, Result<Option<Table>, ProgramFault>)
     requires whole { log.now ≡ log_of inventory.now }
     requires fresh { desk.image ≡ nothing }
     requires limits { (desk.limits.routes ≡ most_routes) × (desk.limits.assets ≡ most_assets)
         × (desk.limits.edits ≡ most_edits) }
-    ensures audited { IfOk result (IsAudited inventory.now) }
-    ensures memory { IfErr result (λ e. e ≡ ProgramFault.Memory) }
+    ensures audited { IfOk result.1 (IsAudited inventory.now) }
+    ensures memory { IfErr result.1 (λ e. e ≡ ProgramFault.Memory) }
 {
     let mut made = desk;
     let differs = made_differs(rt, inventory, log, &mut made);
-    drop(made);
-    differs
+    (made.into_keeper(), differs)
 }
 
 // The same, at a desk in memory.
@@ -130,7 +129,11 @@ fn audit_log<R: Runtime<A = Global>>(
     ensures memory { IfErr result (λ e. e ≡ ProgramFault.Memory) }
 {
     match open_in_memory(rt.alloc()) {
-        Ok(desk) => audit_at(rt, inventory, log, desk),
+        Ok(desk) => {
+            let (plain, differs) = audit_at(rt, inventory, log, desk);
+            plain.discard();
+            differs
+        }
         Err(fault) => Err(fault),
     }
 }

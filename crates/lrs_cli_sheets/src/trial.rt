@@ -42,29 +42,34 @@ fn copy_desk<K: Keeper>(alloc: Global, desk: &Desk<K>) -> Result<Desk<Plain>, Pr
     let plain = copy_of(alloc, desk.inventory())?;
     match open_full(plain, alloc) {
         Ok(copy) => Ok(copy),
-        Err(_) => Err(ProgramFault::Memory),
+        Err((_, plain)) => {
+            plain.discard();
+            Err(ProgramFault::Memory)
+        }
     }
 }
 
-// Runs a sheet's bytes behind these records at a desk, and gives the lines of its replies.
-fn try_at<K: Keeper + Drop>(
+// Runs a sheet's bytes behind these records at a desk, and gives its keeper and the lines of its replies.
+fn try_at<K: Keeper>(
     alloc: Global,
     desk: Desk<K>,
     kind: Sheet,
     passed: u32,
     text: &[u8],
-) -> Result<(Vec<u8>, Result<Tally, SheetFault>), ProgramFault>
+) -> (
+    K,
+    Result<(Vec<u8>, Result<Tally, SheetFault>), ProgramFault>,
+)
     requires full { IsFull desk.limits }
-    ensures tried { IfOk result (λ done. IsTried kind passed text.now desk.image
+    ensures tried { IfOk result.1 (λ done. IsTried kind passed text.now desk.image
         (Some []) (Some done.0.items) done.1) }
-    ensures faults { IfErr result (λ e. (e ≡ ProgramFault.Memory) ⊎ (e ≡ ProgramFault.Write)) }
+    ensures faults { IfErr result.1 (λ e. (e ≡ ProgramFault.Memory) ⊎ (e ≡ ProgramFault.Write)) }
 {
     let mut copy = desk;
     let pace = Pace::InPieces;
     let way = Way { kind, pace, passed };
     let tried = write_replies(alloc, way, text, Vec::new(alloc), &mut copy);
-    drop(copy);
-    tried
+    (copy.into_keeper(), tried)
 }
 
 /// Runs a sheet's bytes behind these records at a copy of a desk's inventory, and gives the lines of its replies.
@@ -80,7 +85,11 @@ fn try_sheet<K: Keeper>(
     ensures faults { IfErr result (λ e. (e ≡ ProgramFault.Memory) ⊎ (e ≡ ProgramFault.Write)) }
 {
     match copy_desk(alloc, desk) {
-        Ok(copy) => try_at(alloc, copy, kind, passed, text),
+        Ok(copy) => {
+            let (plain, tried) = try_at(alloc, copy, kind, passed, text);
+            plain.discard();
+            tried
+        }
         Err(fault) => Err(fault),
     }
 }

@@ -20,8 +20,8 @@ pub fn is_in_memory(db: &str) -> bool
     db == ":memory:"
 }
 
-/// Opens a desk with full limits over a keeper.
-pub fn open_full<K: Keeper + Drop>(keeper: K, alloc: Global) -> Result<Desk<K>, ProgramFault>
+/// Opens a desk with full limits over a keeper, or gives the keeper back.
+pub fn open_full<K: Keeper>(keeper: K, alloc: Global) -> Result<Desk<K>, (ProgramFault, K)>
     ensures kept { IfOk result (λ desk. HoldsOnly (K.may_hold desk.keeper) desk.image) }
     ensures content { IfOk result (λ desk. (c : Result Image Table)
         → K.may_hold desk.keeper c → K.may_hold keeper c) }
@@ -29,11 +29,11 @@ pub fn open_full<K: Keeper + Drop>(keeper: K, alloc: Global) -> Result<Desk<K>, 
     ensures behind { IfOk result (λ desk. desk.is_ahead ≡ false) }
     ensures limits { IfOk result (λ desk. (desk.limits.routes ≡ most_routes)
         × (desk.limits.assets ≡ most_assets) × (desk.limits.edits ≡ most_edits)) }
-    ensures fault { IfErr result (HasNoDesk K.failures K.may_hold keeper) }
+    ensures fault { IfErr result (λ e. HasNoDesk K.failures K.may_hold keeper e.0) }
 {
     match Desk::open(keeper, Limits::full(), alloc) {
         Ok(desk) => Ok(desk),
-        Err((fault, _)) => Err(ProgramFault::from(fault)),
+        Err((fault, keeper)) => Err((ProgramFault::from(fault), keeper)),
     }
 }
 
@@ -49,6 +49,9 @@ pub fn open_in_memory(alloc: Global) -> Result<Desk<Plain>, ProgramFault>
 {
     match open_full(Plain::empty(alloc), alloc) {
         Ok(desk) => Ok(desk),
-        Err(_) => Err(ProgramFault::Memory),
+        Err((_, plain)) => {
+            plain.discard();
+            Err(ProgramFault::Memory)
+        }
     }
 }

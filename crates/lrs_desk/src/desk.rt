@@ -112,8 +112,7 @@ impl<K: Keeper> Desk<K> {
             return Err((OpenFault::Memory, keeper));
         };
         let Ok(counts) = Counts::of_image(alloc, inventory.kept()) else {
-            // As a call, the drop is one step to prove, and not one for each part.
-            drop(inventory);
+            inventory.discard();
             return Err((OpenFault::Memory, keeper));
         };
         Ok(Desk {
@@ -188,9 +187,8 @@ impl<K: Keeper> Desk<K> {
             counts,
             ..
         } = self;
-        // As calls, the drops are one step each to prove, and not one for each part.
-        drop(inventory);
-        drop(counts);
+        inventory.discard();
+        counts.discard();
         keeper
     }
 }
@@ -353,8 +351,7 @@ fn make<K: Keeper>(
 {
     inventory.prove_sound();
     let Ok(()) = counts.reserve() else {
-        // As calls, the drops are one step each to prove, and not one for each part.
-        drop(plan);
+        plan.discard();
         drop(edit);
         return Err(Fault::Memory);
     };

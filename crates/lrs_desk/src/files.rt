@@ -11,16 +11,19 @@ pub trait Files {
     ghost use Rattle.lrs_machine.specs.declared.table.Table.{Table};
 
     /// Keeps an inventory in a file.
-    type Kept: Keeper + Drop;
+    type Kept: Keeper;
 
     /// Keeps an inventory in a file for questions alone.
-    type Seen: Keeper + Drop;
+    type Seen: Keeper;
+
+    /// What an opening for all work may find in the file at a path.
+    ghost has_opened: { Result Image Table → Type 0 };
 
     /// What an opening that only looks may have read in the file at a path.
     ghost has_read: { Result Image Table → Type 0 };
 
-    /// Opens the file of an inventory, or makes one where there is none. A new file gets sums of its pages where that
-    /// is asked for.
+    /// Opens the file of an inventory, or makes one where there is none. What is kept is what the file held, and nothing
+    /// else. A new file gets sums of its pages where that is asked for.
     ///
     /// # Errors
     /// `Memory` if memory runs out, and `Keep` if the file cannot be opened for another cause.
@@ -29,7 +32,9 @@ pub trait Files {
         rt: &HostRuntime,
         path: &str,
         new_has_sums: bool,
-    ) -> Result<Self::Kept, OpenFault>;
+    ) -> Result<Self::Kept, OpenFault>
+        ensures opened { IfOk result (λ keeper. (c : Result Image Table)
+            → Self.Kept.may_hold keeper c → has_opened c) };
 
     /// Opens the file of an inventory for questions. What is kept is what the file held, and nothing else. There is
     /// nothing where this opening does not take the file, as one that is new or of version 1: it is left to `open`.
@@ -43,4 +48,10 @@ pub trait Files {
 
     /// Closes a keeper, and lets it go. Where that fails, its log still has what was committed.
     fn close(&self, keeper: Self::Kept);
+
+    /// Lets a keeper go, which is not closed: what was committed may be in its log alone, where the next opening finds it.
+    fn discard(&self, keeper: Self::Kept);
+
+    /// Lets go a keeper for questions.
+    fn discard_seen(&self, keeper: Self::Seen);
 }

@@ -150,8 +150,7 @@ fn make<K: Keeper>(
 {
     inventory.prove_sound();
     let Ok(()) = counts.reserve() else {
-        // As calls, the drops are one step each to prove, and not one for each part.
-        drop(plan);
+        plan.discard();
         drop(edit);
         return Err(AllocError);
     };

@@ -26,9 +26,7 @@ impl<B: Batches> Staged<B> {
             staged: Vec::new(alloc),
         }
     }
-}
 
-impl<B: Batches + Drop> Staged<B> {
     /// Gives back what the changes were for. What is staged is dropped.
     pub fn into_inner(self) -> B
         ensures { result ≡ self.batches }

@@ -73,6 +73,11 @@ impl Plain {
         }
     }
 
+    /// Lets it go. As a call of this crate it is one step to prove for a caller, and not one for each part.
+    pub fn discard(self) {
+        drop(self);
+    }
+
     /// Drops what is staged.
     pub fn drop_staged(&mut self)
         ensures same { self.new ≡ record self.old { staged = [] } }

@@ -53,6 +53,11 @@ impl Inventory {
         Ok(Inventory { kept, indexes })
     }
 
+    /// Lets it go. As a call of this crate it is one step to prove for a caller, and not one for each part.
+    pub fn discard(self) {
+        drop(self);
+    }
+
     /// A copy of the image.
     ///
     /// # Errors

@@ -110,4 +110,9 @@ impl Plan {
             },
         }
     }
+
+    /// Lets it go. As a call of this crate it is one step to prove for a caller, and not one for each part.
+    pub fn discard(self) {
+        drop(self);
+    }
 }

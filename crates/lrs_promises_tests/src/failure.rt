@@ -1,7 +1,8 @@
 //! Desks whose keeper fails at the second commit, or wants memory there, or is not loaded.
 
+use crate::keeper::{Failing, Failure};
 use crate::words::{call_named, open, print};
-use lrs_desk::{Desk, Failing, Failure, Fault, Keeper, Plain};
+use lrs_desk::{Desk, Fault, Keeper, Plain};
 use lrs_machine::Limits;
 use lrs_promises::{Call, CallFault, headline};
 use lrs_sheet::SheetFault;
@@ -45,40 +46,52 @@ fn do_each<K: Keeper>(
     println!(rt; "{} links", desk.inventory().links()).ok()
 }
 
-/// Does them at a desk over a keeper, and again at the next one over it.
-fn run_broken<K: Keeper + Drop>(
+/// Does them at a desk over a keeper, and gives the keeper back.
+fn run_broken<K: Keeper>(
     rt: &HostRuntime,
     words: &[String],
     prefix: &str,
     keeper: K,
-) -> Option<()> {
-    let mut desk = open(rt, Limits::full(), keeper)?;
-    let done = do_each(rt, words, prefix, &mut desk);
-    let keeper = desk.into_keeper();
-    done?;
-    let mut next = open(rt, Limits::full(), keeper)?;
-    let done = do_each(rt, words, prefix, &mut next);
-    drop(next);
-    done
+) -> (K, Option<()>) {
+    match open(rt, Limits::full(), keeper) {
+        Ok(mut desk) => {
+            let done = do_each(rt, words, prefix, &mut desk);
+            (desk.into_keeper(), done)
+        }
+        Err(keeper) => (keeper, None),
+    }
+}
+
+/// Does them at a desk over a keeper, and again at the next one over it.
+fn run_again<K: Keeper>(
+    rt: &HostRuntime,
+    words: &[String],
+    prefix: &str,
+    keeper: K,
+) -> (K, Option<()>) {
+    let (keeper, done) = run_broken(rt, words, prefix, keeper);
+    if done.is_none() {
+        return (keeper, None);
+    }
+    run_broken(rt, words, prefix, keeper)
 }
 
 /// With one record in each commit, and with two.
 fn run_failure(rt: &HostRuntime, words: &[String], failure: Failure) -> Option<()> {
     for prefix in ["broken:", "split:"] {
         let keeper = Failing::over(Plain::empty(rt.alloc()), 2, 1, failure);
-        run_broken(rt, words, prefix, keeper)?;
+        let (keeper, done) = run_again(rt, words, prefix, keeper);
+        keeper.discard();
+        done?;
     }
     Some(())
 }
 
-/// Whether a desk is opened over a keeper.
-fn is_opened<K: Keeper + Drop>(rt: &HostRuntime, keeper: K) -> bool {
+/// Whether a desk is opened over a keeper, which is given back.
+fn is_opened<K: Keeper>(rt: &HostRuntime, keeper: K) -> (K, bool) {
     match open(rt, Limits::full(), keeper) {
-        Some(desk) => {
-            drop(desk);
-            true
-        }
-        None => false,
+        Ok(desk) => (desk.into_keeper(), true),
+        Err(keeper) => (keeper, false),
     }
 }
 
@@ -88,5 +101,7 @@ pub fn run_failing(rt: &HostRuntime, words: &[String]) -> Option<()> {
     run_failure(rt, words, Failure::New)?;
     run_failure(rt, words, Failure::Memory)?;
     let keeper = Failing::over(Plain::empty(rt.alloc()), 0, 0, Failure::Old);
-    println!(rt; "opened: {}", is_opened(rt, keeper)).ok()
+    let (keeper, is_opened) = is_opened(rt, keeper);
+    keeper.discard();
+    println!(rt; "opened: {is_opened}").ok()
 }

@@ -13,6 +13,7 @@
 
 mod door;
 mod failure;
+mod keeper;
 mod limits;
 mod services;
 mod words;
@@ -23,7 +24,7 @@ use lrs_desk::{Desk, Keeper, Plain, Staged};
 use lrs_machine::Limits;
 use lrs_position::{EnteredPosition, RouteName, read_expr, read_method, read_target};
 use lrs_promises::{round_trip, rows};
-use lrs_store::{NotReopened, Tables, close_and_open, close_files, open_files};
+use lrs_store::{NotReopened, Tables, close_and_open, close_files, discard_files, open_files};
 use lrs_store_image::Reader;
 use services::serve_words;
 use sqlite::{Alter, FileStore, Files, Options};
@@ -57,21 +58,24 @@ fn take<K: Keeper>(rt: &HostRuntime, desk: &mut Desk<K>, words: &[String]) -> Op
 }
 
 /// Does what the words say at a desk over a keeper, and gives it back.
-fn run<K: Keeper + Drop>(rt: &HostRuntime, words: &[String], keeper: K) -> Option<K> {
-    let mut desk = open(rt, Limits::full(), keeper)?;
-    let taken = take(rt, &mut desk, words);
-    let keeper = desk.into_keeper();
-    taken.map(|()| keeper)
+fn run<K: Keeper>(rt: &HostRuntime, words: &[String], keeper: K) -> (K, Option<()>) {
+    match open(rt, Limits::full(), keeper) {
+        Ok(mut desk) => {
+            let done = take(rt, &mut desk, words);
+            (desk.into_keeper(), done)
+        }
+        Err(keeper) => (keeper, None),
+    }
 }
 
 /// The same over tables.
-fn run_tables<S: Alter + Drop>(
+fn run_tables<S: Alter>(
     rt: &HostRuntime,
     words: &[String],
     tables: Tables<S, Reader>,
-) -> Option<Tables<S, Reader>> {
-    let keeper = run(rt, words, Staged::over(tables, rt.alloc()))?;
-    Some(keeper.into_inner())
+) -> (Tables<S, Reader>, Option<()>) {
+    let (keeper, done) = run(rt, words, Staged::over(tables, rt.alloc()));
+    (keeper.into_inner(), done)
 }
 
 /// The tables in these files, or new ones where they hold none.
@@ -112,28 +116,39 @@ fn run_stored<D: Disk + Drop>(
     rt: &HostRuntime,
     words: &[String],
     tables: Tables<FileStore<D>, Reader>,
-) -> Option<Tables<FileStore<D>, Reader>> {
+) -> (Tables<FileStore<D>, Reader>, Option<()>) {
     run_tables(rt, words, tables)
 }
 
 /// Opens files, does what the words say, closes and opens them, does it again, and closes them.
 fn run_files<D: Disk + Drop>(rt: &HostRuntime, words: &[String], files: Files<D>) -> Option<()> {
-    let tables = run_stored(rt, words, open_tables(rt, files)?)?;
-    let tables = run_stored(rt, words, reopen(rt, tables)?)?;
-    close_files(tables).ok()?;
-    Some(())
+    let (tables, done) = run_stored(rt, words, open_tables(rt, files)?);
+    if done.is_none() {
+        discard_files(tables);
+        return None;
+    }
+    let (tables, done) = run_stored(rt, words, reopen(rt, tables)?);
+    match close_files(tables) {
+        Ok(_) => done,
+        Err(_) => None,
+    }
 }
 
 /// Over an inventory in memory.
 fn run_plain(rt: &HostRuntime, words: &[String]) -> Option<()> {
-    drop(run(rt, words, Plain::empty(rt.alloc()))?);
-    Some(())
+    let (plain, done) = run(rt, words, Plain::empty(rt.alloc()));
+    plain.discard();
+    done
 }
 
 /// Over tables in memory.
 fn run_memory(rt: &HostRuntime, words: &[String]) -> Option<()> {
-    run_tables(rt, words, Tables::in_memory(rt.alloc(), Reader).ok()?)?;
-    Some(())
+    let Ok(tables) = Tables::in_memory(rt.alloc(), Reader) else {
+        return None;
+    };
+    let (tables, done) = run_tables(rt, words, tables);
+    drop(tables);
+    done
 }
 
 /// Over files on new disks, and again once they were closed.
@@ -147,10 +162,17 @@ fn run_disks(rt: &HostRuntime, words: &[String]) -> Option<()> {
 
 /// Serves at a desk over an inventory in memory.
 fn run_services(rt: &HostRuntime, words: &[String]) -> Option<()> {
-    let mut desk = open(rt, Limits::full(), Plain::empty(rt.alloc()))?;
-    let served = serve_words(rt, words, &mut desk);
-    drop(desk);
-    served
+    match open(rt, Limits::full(), Plain::empty(rt.alloc())) {
+        Ok(mut desk) => {
+            let served = serve_words(rt, words, &mut desk);
+            desk.into_keeper().discard();
+            served
+        }
+        Err(plain) => {
+            plain.discard();
+            None
+        }
+    }
 }
 
 /// Over each keeper in turn, and then the services, the desks of few limits and those whose keeper fails.

@@ -65,7 +65,10 @@ pub fn do_calls<K: Keeper>(
     do_list(rt, calls.as_slice(), desk)
 }
 
-/// A desk over a keeper.
-pub fn open<K: Keeper + Drop>(rt: &HostRuntime, limits: Limits, keeper: K) -> Option<Desk<K>> {
-    Desk::open(keeper, limits, rt.alloc()).ok()
+/// A desk over a keeper, or the keeper back.
+pub fn open<K: Keeper>(rt: &HostRuntime, limits: Limits, keeper: K) -> Result<Desk<K>, K> {
+    match Desk::open(keeper, limits, rt.alloc()) {
+        Ok(desk) => Ok(desk),
+        Err((_, keeper)) => Err(keeper),
+    }
 }

@@ -16,7 +16,6 @@ use Rattle.lrs_store_rows.proofs.Stored.{content_is_of_rows}
 use Rattle.sqlite_trees.specs.Objects.{catalog_tree}
 use Rattle.sqlite_catalog.specs.Listing.{Lists}
 use Rattle.sqlite_catalog.proofs.ReadLemmas.{lists_once}
-use Rattle.lrs_store_tables.specs.Schema.{inventory}
 use Rattle.lrs_store_tables.specs.Stored.{stored, LeavesStore}
 use Rattle.lrs_store_tables.specs.Starting.{new_rows, NewRowsHoldNothing}
 use Rattle.lrs_store_tables.specs.Making.{no_schema, first_tables, first_rows}
@@ -30,7 +29,7 @@ use Rattle.sqlite.specs.declared.file.Leftover.TheVariants as leftover
 use Rattle.lrs_store_files.specs.declared.files.Untaken.{Untaken}
 use Rattle.lrs_store_files.specs.declared.files.Untaken.TheVariants as untaken
 use Rattle.lrs_store_files.specs.Found.{HasFound, IsLeftOf}
-use Rattle.lrs_store_files.specs.Opened.{HoldsContent, HasOpened}
+use Rattle.lrs_store_files.specs.Opened.{HoldsContent, HasOpened, IsContentOf}
 use Rattle.lrs_store.specs.declared.files.Left.{Left}
 use Rattle.lrs_store.specs.declared.files.Left.TheVariants as left
 use Rattle.lrs_store.specs.Refused.{WasLookedAt, IsHandedOn, HoldsStill, HoldsEachRow, HoldSecond, BecomeSecond}
@@ -59,6 +58,19 @@ has_opened image old new found content = record {
 -- a connection that took files keeps what they held, whatever else it refuses
 pub holds_still : (image : wal.Image) (old new : State) → (HasCleanDisk old → HasFound image old) → ((c : Result Image Table) → MayHold new c → MayHold old c) → (c : Result Image Table) → MayHold new c → HasOpened image new
 holds_still image old new found content c may = has_opened image old new (found (content c may).0) content
+
+-- what may be held is what the files held
+pub content_opened : (image : wal.Image) (s : State) → HasOpened image s → (c : Result Image Table) → MayHold s c → IsContentOf image c
+content_opened image s found c may = record {
+  trees = found.trees;
+  schema = found.schema;
+  reads = found.reads;
+  holds = found.holds;
+  sound = found.sound;
+  known = found.known;
+  made = λ is. found.made is c may;
+  kept = λ n some few is. found.kept n some few is c may;
+}
 
 -- where no row changes all rows stay that were found
 module _ (image : wal.Image) (old new : State) (survives : LeavesStore old new) where

@@ -10,7 +10,7 @@ use Rattle.sqlite_wal.specs.Recovery as wal
 use Rattle.sqlite_store.specs.declared.store.FileStore.{FileStore}
 use Rattle.sqlite_store.specs.FileStore.{view, faults, recovers}
 use Rattle.sqlite.specs.declared.file.Leftover.TheVariants as leftover
-use Rattle.sqlite.specs.State.{HasCleanDisk}
+use Rattle.sqlite.specs.State.{HasCleanDisk, State}
 use Rattle.sqlite.specs.Files.{AreFoundIn, file_state}
 use Rattle.lrs_machine.specs.declared.image.Image.{Image}
 use Rattle.lrs_machine.specs.declared.table.Table.{Table}
@@ -42,10 +42,22 @@ IsSoundLeft (untaken.Refused (leftover.Unopened files)) = ⊤
 IsSoundLeft (untaken.Refused (leftover.Files files)) = ⊤
 IsSoundLeft (untaken.Connected conn) = ⊤
 
+-- this table is the first unsound one of what these tables may hold
+abbrev pub AreUnsound : Table → State → Type 0
+AreUnsound t s = (c : Result Image Table) → MayHold s c → c ≡ Err t
+
+-- these tables have each row of files with this image, if their disk is clean
+abbrev pub HaveRowsOf : wal.Image → State → Type 0
+HaveRowsOf image s = HasCleanDisk s → HasFound image s
+
+-- these tables have the content of files with this image, if they may hold any
+abbrev pub HaveContentOf : wal.Image → State → Type 0
+HaveContentOf image s = (c : Result Image Table) → MayHold s c → HasOpened image s
+
 -- this table is the first unsound one of whatever a later opening may find in what is left
 abbrev pub HoldsUnsound : {D : Type 0} {g : Ghosts D} → Table → Left D g → Type 0
 HoldsUnsound t (left.Untaken untaken) = IsUnsoundLeft t untaken
-HoldsUnsound t (left.Opened conn) = (c : Result Image Table) → MayHold (file_state conn) c → c ≡ Err t
+HoldsUnsound t (left.Opened conn) = AreUnsound t (file_state conn)
 HoldsUnsound t left.Nothing = ⊥
 
 -- where no tables were taken, none is unsound
@@ -57,13 +69,13 @@ HoldsNoUnsound left.Nothing = ⊤
 -- What is left holds what the files held with which the opening began: their tables were not taken, or they were, and the content is what it was.
 abbrev pub HoldsStill : {D : Type 0} {g : Ghosts D} → wal.Image → (Files D → Type 0) → Left D g → Type 0
 HoldsStill image Began (left.Untaken untaken) = IsLeftOf image Began untaken
-HoldsStill image Began (left.Opened conn) = (c : Result Image Table) → MayHold (file_state conn) c → HasOpened image (file_state conn)
+HoldsStill image Began (left.Opened conn) = HaveContentOf image (file_state conn)
 HoldsStill image Began left.Nothing = ⊤
 
 -- The same of each row: their tables were not taken, or they were, and all rows of the files are there.
 abbrev pub HoldsEachRow : {D : Type 0} {g : Ghosts D} → wal.Image → (Files D → Type 0) → Left D g → Type 0
 HoldsEachRow image Began (left.Untaken untaken) = IsLeftOf image Began untaken
-HoldsEachRow image Began (left.Opened conn) = HasCleanDisk (file_state conn) → HasFound image (file_state conn)
+HoldsEachRow image Began (left.Opened conn) = HaveRowsOf image (file_state conn)
 HoldsEachRow image Began left.Nothing = ⊤
 
 -- Files that hold a store of version 2: it has the tables, and the row of that version.
@@ -89,8 +101,12 @@ abbrev pub BecomeSecond : wal.Image → Type 0
 BecomeSecond image = (db : Trees) → AreFoundIn image db
     → Lists (db catalog_tree) no_schema ⊎ ((n : ℕ) × (0 < n) × (n ≤ 12) × Lists (db catalog_tree) (first_tables n) × ((stored db).version ≡ pos 2 ∷ []))
 
--- Why an opening answers that the store failed: what the kit's sqlite gave back, and was at most looked at since, was refused on grounds; or tables were taken, and a call of the disk failed and was counted, where the rows were of version 2 once they were taken, or hold no image. Where nothing is left the system did not open the files, of which no clause can speak.
+-- Why tables that were taken of files with this image are given up: a call of the disk failed and was counted, where the rows were of version 2 once they were taken, or hold no image.
+abbrev pub AreGivenUpFor : wal.Image → State → Type 0
+AreGivenUpFor image s = HasCleanDisk s → (BecomeSecond image → 0 < s.faults) × ((0 < s.faults) ⊎ HoldsAnImage s)
+
+-- Why an opening answers that the store failed: what the kit's sqlite gave back, and was at most looked at since, was refused on grounds; or tables were taken, and given up. Where nothing is left the system did not open the files, of which no clause can speak.
 abbrev pub IsRefusedFor : {D : Type 0} {g : Ghosts D} → wal.Image → Left D g → Type 0
 IsRefusedFor {D = D} {g = g} image (left.Untaken new) = (before : Untaken D g) × ((new ≡ before) ⊎ WasLookedAt before new) × HasGrounds image before
-IsRefusedFor image (left.Opened conn) = HasCleanDisk (file_state conn) → (BecomeSecond image → 0 < (file_state conn).faults) × ((0 < (file_state conn).faults) ⊎ HoldsAnImage (file_state conn))
+IsRefusedFor image (left.Opened conn) = AreGivenUpFor image (file_state conn)
 IsRefusedFor image left.Nothing = ⊤

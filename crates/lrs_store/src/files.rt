@@ -1,8 +1,9 @@
 //! A keeper over a store in files: opened, and closed.
 
-ghost use Rattle.std.specs.Prelude.{◌≡◌, ◌≢◌, ◌⊎◌, false, true, IfOk, IfErr, IsTrue, MatchResult};
+ghost use Rattle.std.specs.Prelude.{◌≡◌, ◌≢◌, ◌⊎◌, false, true, None, IfOk, IfErr, IsTrue, MatchResult};
 ghost use Rattle.sqlite_std_file.specs.File.{IsFresh};
 ghost use Rattle.sqlite_wal.specs.Files.{image_at};
+ghost use Rattle.sqlite_wal.specs.Recovery.{Image};
 ghost use Rattle.sqlite_wal.specs.Reads.{AreClean};
 ghost use Rattle.sqlite.specs.State.{HasCleanDisk};
 ghost use Rattle.sqlite.specs.Files.{file_state, image_of};
@@ -10,9 +11,10 @@ ghost use Rattle.sqlite.specs.Closing.{IsCopied};
 ghost use Rattle.lrs_store_keeper.specs.Holding.{IsOpenIfClean};
 ghost use Rattle.lrs_store_keeper.specs.Opening.{IsSecond};
 ghost use Rattle.lrs_machine.specs.declared.table.Table.{Table};
+ghost use Rattle.lrs_store_tables.specs.Resting.{IsReady};
 ghost use Rattle.lrs_store_files.specs.Found.{HasFound};
 ghost use Rattle.lrs_store_files.specs.Opened.{HasOpened};
-ghost use Rattle.lrs_store.specs.Refused.{IsRefusedFor, IsUnsoundLeft, IsSoundLeft, WasLookedAt, IsHandedOn, HoldsUnsound, HoldsNoUnsound, HoldsStill, HoldsEachRow, HoldSecond};
+ghost use Rattle.lrs_store.specs.Refused.{IsRefusedFor, IsUnsoundLeft, IsSoundLeft, WasLookedAt, IsHandedOn, HoldsUnsound, HoldsNoUnsound, HoldsStill, HoldsEachRow, HoldSecond, HaveRowsOf, HaveContentOf, AreUnsound, AreGivenUpFor};
 
 use crate::verdict::judge;
 use lrs_image::LoadFault;
@@ -39,7 +41,6 @@ fn fault_of(fault: StoreFault) -> LoadFault
 }
 
 /// What an opening that failed gives back of the files.
-#[derive(Drop)]
 pub enum Left<D: Disk> {
     /// What is left of files whose tables are not taken.
     Untaken(Untaken<D>),
@@ -50,7 +51,6 @@ pub enum Left<D: Disk> {
 }
 
 /// Why files are not opened as a keeper, and what is left of them.
-#[derive(Drop)]
 pub struct NotOpened<D: Disk> {
     pub fault: LoadFault,
     pub left: Left<D>,
@@ -62,7 +62,11 @@ impl<D: Disk + Drop> NotOpened<D> {
         ensures { result ≡ self.fault }
     {
         let NotOpened { fault, left } = self;
-        drop(left);
+        match left {
+            Left::Untaken(untaken) => untaken.discard(),
+            Left::Opened(conn) => Untaken::Connected(conn).discard(),
+            Left::Nothing => {}
+        }
         fault
     }
 }
@@ -117,6 +121,42 @@ fn not_opened<D: Disk + Drop, R: ReadImage>(
     }
 }
 
+/// The keeper of tables that were opened in files, or why there is none, and the connection that took them: of each
+/// image that these files may have had. It stands by itself, since a call over any store is dear to prove of one in files.
+fn keep<D: Disk + Drop, R: ReadImage + Drop>(
+    alloc: Global,
+    tables: TableStore<FileStore<D>>,
+    reader: R,
+) -> Result<Tables<FileStore<D>, R>, (LoadFault, Connection<FileStore<D>>)>
+    requires autocommit { tables.conn.in_transaction ≡ false }
+    requires ready { IsReady (file_state tables.conn) }
+    requires open { HasCleanDisk (file_state tables.conn)
+        → IsTrue (file_state tables.conn).is_open }
+    requires unlimited { (file_state tables.conn).step_limit ≡ None }
+    ensures unloaded { IfOk result (λ k. k.is_loaded ≡ false) }
+    ensures usable { IfOk result (λ k. k.is_broken ≡ false) }
+    ensures open { IfOk result (λ k. IsOpenIfClean (file_state k.conn)) }
+    ensures second { IfOk result (λ k. IsSecond (file_state k.conn)) }
+    ensures found { IfOk result (λ k. (image : Image) → HaveRowsOf image (file_state tables.conn)
+        → HasCleanDisk (file_state k.conn) → HasOpened image (file_state k.conn)) }
+    ensures unsound { IfErr result (λ e. (t : Table) → e.0 ≡ LoadFault.Unsound t
+        → AreUnsound t (file_state e.1)) }
+    ensures cause { IfErr result (λ e. e.0 ≡ LoadFault.Store → (image : Image)
+        → HaveRowsOf image (file_state tables.conn) → AreGivenUpFor image (file_state e.1)) }
+    ensures still { IfErr result (λ e. (image : Image) → HaveRowsOf image (file_state tables.conn)
+        → HaveContentOf image (file_state e.1)) }
+    ensures rows { IfErr result (λ e. (t : Table) → e.0 ≡ LoadFault.Unsound t → (image : Image)
+        → HaveRowsOf image (file_state tables.conn) → HaveRowsOf image (file_state e.1)) }
+    ensures untouched { (image : Image) → HoldSecond image
+        → HaveRowsOf image (file_state tables.conn) → MatchResult result (λ k.
+        HaveRowsOf image (file_state k.conn)) (λ e. HaveRowsOf image (file_state e.1)) }
+{
+    match Tables::open(alloc, tables.conn, reader) {
+        Ok(keeper) => Ok(keeper),
+        Err((fault, conn)) => Err((fault, conn)),
+    }
+}
+
 /// Opens the keeper of the inventory in these files, or of a new one where they hold none. Nothing is loaded yet.
 ///
 /// # Errors
@@ -155,7 +195,7 @@ pub fn open_files<D: Disk + Drop, R: ReadImage + Drop>(
         Ok(tables) => tables,
         Err(refusal) => return Err(not_opened(alloc, refusal, &reader)),
     };
-    match Tables::open(alloc, tables.conn, reader) {
+    match keep(alloc, tables, reader) {
         Ok(keeper) => Ok(keeper),
         Err((fault, conn)) => Err(NotOpened {
             fault,
@@ -203,13 +243,22 @@ pub fn open_file<S: Start, R: ReadImage + Drop>(
         Ok(tables) => tables,
         Err(refusal) => return Err(not_opened(rt.alloc(), refusal, &reader)),
     };
-    match Tables::open(rt.alloc(), tables.conn, reader) {
+    match keep(rt.alloc(), tables, reader) {
         Ok(keeper) => Ok(keeper),
         Err((fault, conn)) => Err(NotOpened {
             fault,
             left: Left::Opened(conn),
         }),
     }
+}
+
+/// The connection of a keeper. It stands by itself, as `keep` does.
+fn connection_of<D: Disk + Drop, R: ReadImage + Drop>(
+    keeper: Tables<FileStore<D>, R>,
+) -> Connection<FileStore<D>>
+    ensures { result ≡ keeper.conn }
+{
+    keeper.into_connection()
 }
 
 /// Closes a keeper and gives its files back. What was committed last is in the database file, and the log says
@@ -226,6 +275,12 @@ pub fn close_files<D: Disk + Drop, R: ReadImage + Drop>(
         → IsCopied keeper.conn files) }
 {
     close_tables(TableStore {
-        conn: keeper.into_connection(),
+        conn: connection_of(keeper),
     })
+}
+
+/// Lets a keeper go, which is not closed: what was committed last may be in the log alone, where the next opening finds
+/// it.
+pub fn discard_files<D: Disk + Drop, R: ReadImage + Drop>(keeper: Tables<FileStore<D>, R>) {
+    Untaken::Connected(connection_of(keeper)).discard();
 }

@@ -1,35 +1,24 @@
 //! Files that are closed and opened again.
 
-ghost use Rattle.std.specs.Prelude.{IfOk, IsTrue};
+ghost use Rattle.std.specs.Prelude.{IfOk};
 ghost use Rattle.sqlite.specs.Files.{file_state};
-ghost use Rattle.sqlite.specs.Held.{state};
-ghost use Rattle.sqlite.specs.State.{HasCleanDisk};
 ghost use Rattle.lrs_store.specs.Reopened.{IsReopened};
 
 use crate::files::{NotOpened, close_files, open_files};
 use lrs_store_files::CloseFault;
 use lrs_store_keeper::Tables;
 use lrs_store_tables::stored_rows::ReadImage;
-use sqlite::{Alter, FileStore, Options};
+use sqlite::{FileStore, Options};
 use sqlite_disk::Disk;
 use std::alloc::Global;
 
 /// Why files are not opened again.
-#[derive(Drop)]
 pub enum NotReopened<D: Disk> {
     /// They were not closed; the log has what the database lacks.
     Unclosed(CloseFault),
     /// They were closed, and not opened.
     Unopened(NotOpened<D>),
 }
-
-/// What was committed last is found, where the disk is clean.
-fn prove_found<S: Alter, R: ReadImage>(tables: &Tables<S, R>)
-    ensures { HasCleanDisk (state S.Store tables.now.conn)
-        → IsTrue (state S.Store tables.now.conn).is_open
-        → (state S.Store tables.now.conn).may_leave
-        (state S.Store tables.now.conn).committed.trees }
-{}
 
 /// Closes the files of an inventory, and opens these files again: what was committed last is found.
 ///
@@ -43,7 +32,6 @@ pub fn close_and_open<D: Disk + Drop, R: ReadImage + Drop>(
 ) -> Result<Tables<FileStore<D>, R>, NotReopened<D>>
     ensures { IfOk result (λ opened. IsReopened tables.conn (file_state opened.conn)) }
 {
-    prove_found(&tables);
     let files = match close_files(tables) {
         Ok(files) => files,
         Err(fault) => return Err(NotReopened::Unclosed(fault)),

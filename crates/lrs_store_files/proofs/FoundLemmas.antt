@@ -33,7 +33,7 @@ use Rattle.lrs_store_tables.specs.Stored.{AreNumbered}
 use Rattle.lrs_store_files.specs.declared.files.Untaken.{Untaken}
 use Rattle.lrs_store_files.specs.declared.files.Untaken.TheVariants as untaken
 use Rattle.lrs_store_files.specs.Opening.{HasNumbers, IsTaken, LeavesFound}
-use Rattle.lrs_store_files.specs.Found.{HasFound, IsLeftOf}
+use Rattle.lrs_store_files.specs.Found.{HasFound, IsLeftOf, LeavesRead}
 
 -- what a catalog lists that was read
 pub lists_it : (o : Option Schema) (found : Schema) (catalog : List Row) → o ≡ Some found → MatchOption o ((s : Schema) → Lists catalog s → ⊥) (Lists catalog) → Lists catalog found
@@ -133,9 +133,9 @@ module _ {D : Type 0} {g : Ghosts D} where
       subst (λ o. IfSome o (IsLeftOf image (λ files. Log files.log × Db files.db))) (sym is) (λ clean. (files, same files log db, (log, db), (leaves clean).1))
 
   -- a connection that took no tables leaves what it found, or what tables that were to be made hold
-  pub left_connected : (image : Image) (Began : Files D → Type 0) (conn back : Held (FileStore D g)) → (HasCleanDisk (file_state conn) → Opens (file_state conn) × IsLive (file_state conn))
-      → (HasCleanDisk (file_state conn) → AreFoundIn image (file_state conn).committed.trees) → LeavesFound (file_state conn) (file_state back) → IsLeftOf image Began (untaken.Connected back)
-  left_connected image Began conn back opened found leaves clean db may =
+  pub left_connected : (image : Image) (conn back : Held (FileStore D g)) → (HasCleanDisk (file_state conn) → Opens (file_state conn) × IsLive (file_state conn))
+      → (HasCleanDisk (file_state conn) → AreFoundIn image (file_state conn).committed.trees) → LeavesFound (file_state conn) (file_state back) → LeavesRead image (file_state back)
+  left_connected image conn back opened found leaves clean db may =
       let early = leaves.clean clean in
       let opens = opened early in
       let same : (file_state conn).now.trees ≡ (file_state conn).committed.trees = ap (λ (d : Database). d.trees) opens.0.clean in

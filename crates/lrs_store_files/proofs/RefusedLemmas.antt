@@ -20,7 +20,7 @@ use Rattle.lrs_store_tables.specs.Failing.{HasFailed, HasReason}
 use Rattle.lrs_store_tables.specs.declared.tables.StoreFault.{StoreFault}
 use Rattle.lrs_store_tables.specs.declared.tables.StoreFault.TheVariants as fault
 use Rattle.lrs_store_files.specs.Opening.{IsKnown, LeavesFound}
-use Rattle.lrs_store_files.specs.Refusing.{HasGrounds}
+use Rattle.lrs_store_files.specs.Refusing.{HasGrounds, HasFailedOn}
 use Rattle.lrs_store_files.specs.declared.files.Untaken.{Untaken}
 use Rattle.lrs_store_files.specs.declared.files.Untaken.TheVariants as untaken
 
@@ -56,7 +56,7 @@ module _ {D : Type 0} {g : Ghosts D} where
   -- of a connection whose tables are others, or whose disk fails
   pub refused_tables : (image : Image) (conn back : Held (FileStore D g)) → (HasCleanDisk (file_state conn) → Opens (file_state conn) × IsLive (file_state conn))
       → (HasCleanDisk (file_state conn) → AreFoundIn image (file_state conn).committed.trees) → LeavesFound (file_state conn) (file_state back) → (file_state conn).step_limit ≡ None
-      → (IsKnown (file_state conn).now.schema → HasCleanDisk (file_state back) → HasFailed (file_state conn) (file_state back)) → HasGrounds image (untaken.Connected back)
+      → (IsKnown (file_state conn).now.schema → HasCleanDisk (file_state back) → HasFailed (file_state conn) (file_state back)) → HasFailedOn image (file_state back)
   refused_tables image conn back opened found leaves unlimited failed clean all =
       let early = leaves.clean clean in
       let opens = opened early in

@@ -7,6 +7,7 @@ use Rattle.sqlite_disk.specs.declared.Disk.{Ghosts}
 use Rattle.sqlite_wal.specs.Recovery.{Image}
 use Rattle.sqlite_disk.specs.declared.Files.{Files}
 use Rattle.sqlite.specs.State.{State, HasCleanDisk}
+use Rattle.sqlite.specs.Start.{FindsIn}
 use Rattle.sqlite.specs.Files.{HoldsDatabase, AreFoundIn, IsCleanLeft, LeavesFiles, file_state, image_of}
 use Rattle.lrs_store_tables.specs.Stored.{stored}
 use Rattle.lrs_store_tables.specs.Making.{no_schema, first_tables, first_rows}
@@ -35,7 +36,15 @@ pub record IsBegun (image : Image) (db : Trees) : Type 0 where
   pub sound : IsSound schema trees
   pub begun : HasBegun schema (stored trees) (stored db)
 
+-- a connection found what files with this image held, if its disk is clean
+abbrev pub WasRead : Image → State → Type 0
+WasRead image s = HasCleanDisk s → FindsIn image s
+
+-- a later opening finds what it might have found in files with this image, or what tables that were to be made in them hold
+abbrev pub LeavesRead : Image → State → Type 0
+LeavesRead image s = HasCleanDisk s → (db : Trees) → s.may_leave db → AreFoundIn image db ⊎ IsBegun image db
+
 -- What an opening left that took no tables: where the disk is clean, a later opening finds there what it might have found in the files that the opening began with, or what tables that were to be made in them hold.
 abbrev pub IsLeftOf : {D : Type 0} {g : Ghosts D} → Image → (Files D → Type 0) → Untaken D g → Type 0
 IsLeftOf {D = D} {g = g} image Began (untaken.Refused left) = IsCleanLeft left → (files : Files D) × (image_of g files ≡ image) × Began files × LeavesFiles files left
-IsLeftOf image Began (untaken.Connected conn) = HasCleanDisk (file_state conn) → (db : Trees) → (file_state conn).may_leave db → AreFoundIn image db ⊎ IsBegun image db
+IsLeftOf image Began (untaken.Connected conn) = LeavesRead image (file_state conn)

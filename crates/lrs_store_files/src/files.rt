@@ -9,10 +9,12 @@ ghost use Rattle.sqlite_store.specs.FileStore.{view};
 ghost use Rattle.sqlite.specs.Held.{IsNew};
 ghost use Rattle.sqlite.specs.Start.{FindsIn};
 ghost use Rattle.sqlite.specs.Files.{file_state, image_of, IsOpened, IsBlankAs};
+ghost use Rattle.sqlite_wal.specs.Recovery.{Image};
 ghost use Rattle.sqlite.specs.Closing.{IsCopied};
 ghost use Rattle.lrs_store_tables.specs.Resting.{IsReady};
-ghost use Rattle.lrs_store_files.specs.Found.{HasFound, IsLeftOf};
-ghost use Rattle.lrs_store_files.specs.Refusing.{HasGrounds};
+ghost use Rattle.lrs_store_files.specs.Opening.{IsFound};
+ghost use Rattle.lrs_store_files.specs.Found.{HasFound, IsLeftOf, WasRead, LeavesRead};
+ghost use Rattle.lrs_store_files.specs.Refusing.{HasGrounds, HasFailedOn};
 
 use crate::connection::{fault_of, over};
 use crate::lost::refuse_lost;
@@ -31,11 +33,45 @@ pub enum Untaken<D: Disk> {
     Connected(Connection<FileStore<D>>),
 }
 
+impl<D: Disk + Drop> Untaken<D> {
+    /// Lets go what is left.
+    pub fn discard(self) {
+        drop(self);
+    }
+}
+
 /// Why the store in files is not opened, and what is left of them: nothing where the system did not open them.
 #[derive(Drop)]
 pub struct Refusal<D: Disk> {
     pub fault: StoreFault,
     pub left: Option<Untaken<D>>,
+}
+
+/// The tables of a connection that was just opened over files, or why they are not taken: of each image that these files
+/// may have had. It stands by itself, since a call over any store is dear to prove of one in files.
+fn taken<D: Disk + Drop>(
+    alloc: Global,
+    conn: Connection<FileStore<D>>,
+) -> Result<TableStore<FileStore<D>>, (StoreFault, Connection<FileStore<D>>)>
+    requires fresh { IsNew conn }
+    requires opened { HasCleanDisk (file_state conn) → IsOpened conn }
+    requires found { IsFound (file_state conn) }
+    ensures autocommit { IfOk result (λ t. t.conn.in_transaction ≡ false) }
+    ensures ready { IfOk result (λ t. IsReady (file_state t.conn)) }
+    ensures open { IfOk result (λ t. HasCleanDisk (file_state t.conn)
+        → IsTrue (file_state t.conn).is_open) }
+    ensures unlimited { IfOk result (λ t. (file_state t.conn).step_limit ≡ None) }
+    ensures found { IfOk result (λ t. (image : Image) → WasRead image (file_state conn)
+        → HasCleanDisk (file_state t.conn) → HasFound image (file_state t.conn)) }
+    ensures cause { IfErr result (λ e. e.0 ≡ StoreFault.Store → (image : Image)
+        → WasRead image (file_state conn) → HasFailedOn image (file_state e.1)) }
+    ensures left { IfErr result (λ e. (image : Image) → WasRead image (file_state conn)
+        → LeavesRead image (file_state e.1)) }
+{
+    match over(alloc, conn) {
+        Ok(tables) => Ok(tables),
+        Err((fault, conn)) => Err((fault, conn)),
+    }
 }
 
 /// Opens the store in these files, or makes one where they hold none.
@@ -62,7 +98,7 @@ pub fn open_tables<D: Disk + Drop>(
         (IsLeftOf (image_of D.Disk files) (λ given. given ≡ files))) }
 {
     match Connection::open_files(alloc, files, options) {
-        Ok(conn) => match over(alloc, conn) {
+        Ok(conn) => match taken(alloc, conn) {
             Ok(tables) => Ok(tables),
             Err((fault, conn)) => Err(Refusal {
                 fault,
@@ -144,7 +180,7 @@ pub fn open_tables_at<S: Start>(
         return Err(Refusal { fault, left: None });
     }
     let conn = connect_at(rt, path, new_has_sums, start)?;
-    match over(rt.alloc(), conn) {
+    match taken(rt.alloc(), conn) {
         Ok(tables) => Ok(tables),
         Err((fault, conn)) => Err(Refusal {
             fault,

@@ -39,6 +39,14 @@ impl<D: Disk + Drop> NotOpened<D> {
     }
 }
 
+impl<D: Disk + Drop> Questions<FileStore<D>> {
+    /// Lets it go.
+    pub fn discard(self) {
+        let Questions { store, .. } = self;
+        drop(store);
+    }
+}
+
 /// Why files are not opened, by why they are no store.
 fn fault_of(error: StoreError) -> StoreFault {
     match error {

@@ -1,33 +1,27 @@
 use Rattle.std.proofs.Common.{true, false}
 use Rattle.sqlite_std_file.specs.File.{IsFresh}
 use Rattle.sqlite_wal.specs.Files.{image_at}
-use Rattle.sqlite.specs.Files.{file_state}
-use Rattle.lrs_store.proofs.OpenedLemmas.{has_opened, holds_still, each_row, opened_second, rows_left, still_refused}
-use Rattle.lrs_store.proofs.RefusedLemmas.{refused_for, taken_for}
+use Rattle.lrs_store.proofs.OpenedLemmas.{rows_left, still_refused}
+use Rattle.lrs_store.proofs.RefusedLemmas.{refused_for}
 use Rattle.lrs_store.proofs.files.open_file.Goals as goal
 
-pub returns-in-Ok-open-clause-found : goal.returns-in-Ok-open-clause-found
-returns-in-Ok-open-clause-found g c clean =
-    has_opened (image_at g.S.Start) (file_state c.in-Ok.tables.conn) (file_state c.in-Ok-open.keeper.conn) (c.in-Ok.ensures.found (c.in-Ok-open.ensures.clean clean)) c.in-Ok-open.ensures.content
+pub returns-in-Ok-keep-clause-found : goal.returns-in-Ok-keep-clause-found
+returns-in-Ok-keep-clause-found g c = c.in-Ok-keep.ensures.found (image_at g.S.Start) c.in-Ok.ensures.found
 
-pub returns-in-Err-open-clause-still : goal.returns-in-Err-open-clause-still
-returns-in-Err-open-clause-still g c = holds_still (image_at g.S.Start) (file_state c.in-Ok.tables.conn) (file_state c.in-Err-open.conn) c.in-Ok.ensures.found c.in-Err-open.ensures.err
+pub returns-in-Err-keep-clause-still : goal.returns-in-Err-keep-clause-still
+returns-in-Err-keep-clause-still g c = c.in-Err-keep.ensures.still (image_at g.S.Start) c.in-Ok.ensures.found
 
 pub returns-in-Err-clause-still : goal.returns-in-Err-clause-still
 returns-in-Err-clause-still g c = still_refused (image_at g.S.Start) (λ files. IsFresh true files.log × IsFresh false files.db) c.in-Err.refusal.left c.not_opened.result.left c.not_opened.ensures.still c.in-Err.ensures.left
 
-pub returns-in-Err-open-clause-rows : goal.returns-in-Err-open-clause-rows
-returns-in-Err-open-clause-rows g c t e = each_row (image_at g.S.Start) (file_state c.in-Ok.tables.conn) (file_state c.in-Err-open.conn) (c.in-Err-open.ensures.still t e) c.in-Ok.ensures.found
+pub returns-in-Err-keep-clause-rows : goal.returns-in-Err-keep-clause-rows
+returns-in-Err-keep-clause-rows g c t e = c.in-Err-keep.ensures.rows t e (image_at g.S.Start) c.in-Ok.ensures.found
 
-pub returns-in-Ok-open-clause-untouched : goal.returns-in-Ok-open-clause-untouched
-returns-in-Ok-open-clause-untouched g c second =
-    let old = file_state c.in-Ok.tables.conn in
-    each_row (image_at g.S.Start) old (file_state c.in-Ok-open.keeper.conn) (c.in-Ok-open.ensures.untouched (opened_second (image_at g.S.Start) old second c.in-Ok.ensures.found)) c.in-Ok.ensures.found
+pub returns-in-Ok-keep-clause-untouched : goal.returns-in-Ok-keep-clause-untouched
+returns-in-Ok-keep-clause-untouched g c second = c.in-Ok-keep.ensures.untouched (image_at g.S.Start) second c.in-Ok.ensures.found
 
-pub returns-in-Err-open-clause-untouched : goal.returns-in-Err-open-clause-untouched
-returns-in-Err-open-clause-untouched g c second =
-    let old = file_state c.in-Ok.tables.conn in
-    each_row (image_at g.S.Start) old (file_state c.in-Err-open.conn) (c.in-Err-open.ensures.untouched (opened_second (image_at g.S.Start) old second c.in-Ok.ensures.found)) c.in-Ok.ensures.found
+pub returns-in-Err-keep-clause-untouched : goal.returns-in-Err-keep-clause-untouched
+returns-in-Err-keep-clause-untouched g c second = c.in-Err-keep.ensures.untouched (image_at g.S.Start) second c.in-Ok.ensures.found
 
 pub returns-in-Err-clause-rows : goal.returns-in-Err-clause-rows
 returns-in-Err-clause-rows g c t e = rows_left (image_at g.S.Start) (λ files. IsFresh true files.log × IsFresh false files.db) c.in-Err.refusal.left c.not_opened.result.left c.not_opened.ensures.still (returns-in-Err-clause-still g c)
@@ -38,7 +32,5 @@ returns-in-Err-clause-untouched g c second = rows_left (image_at g.S.Start) (λ 
 pub returns-in-Err-clause-cause : goal.returns-in-Err-clause-cause
 returns-in-Err-clause-cause g c is = refused_for (image_at g.S.Start) c.in-Err.refusal.left c.not_opened.result.left c.not_opened.ensures.still (c.in-Err.ensures.cause (c.not_opened.ensures.was is))
 
-pub returns-in-Err-open-clause-cause : goal.returns-in-Err-open-clause-cause
-returns-in-Err-open-clause-cause g c is clean =
-    let opened = c.in-Ok.ensures.open (c.in-Err-open.ensures.clean clean) in
-    taken_for (image_at g.S.Start) (file_state c.in-Ok.tables.conn) c.in-Err-open.conn opened c.in-Ok.ensures.unlimited c.in-Ok.ensures.found (λ second. c.in-Err-open.ensures.failed second is clean) (c.in-Err-open.ensures.cause is clean)
+pub returns-in-Err-keep-clause-cause : goal.returns-in-Err-keep-clause-cause
+returns-in-Err-keep-clause-cause g c is = c.in-Err-keep.ensures.cause is (image_at g.S.Start) c.in-Ok.ensures.found

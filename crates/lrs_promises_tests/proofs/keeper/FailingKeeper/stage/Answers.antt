@@ -1,6 +1,6 @@
 use Rattle.std.proofs.Common.{ap, sym, ◌∙◌}
-use Rattle.lrs_image_plain.specs.Failing.{FailingView}
-use Rattle.lrs_image_plain.proofs.failure.FailingKeeper.stage.Goals as goal
+use Rattle.lrs_promises_tests.specs.Failing.{FailingView}
+use Rattle.lrs_promises_tests.proofs.keeper.FailingKeeper.stage.Goals as goal
 
 pub returns-clause-content : goal.returns-clause-content
 returns-clause-content c =

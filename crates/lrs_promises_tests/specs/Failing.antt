@@ -1,7 +1,7 @@
 -- What is seen of a keeper in memory whose device fails.
 use Rattle.std.specs.Prelude.{ℕ}
 use Rattle.lrs_image_plain.specs.Plain.{PlainView}
-use Rattle.lrs_image_plain.specs.declared.failure.Failure.{Failure}
+use Rattle.lrs_promises_tests.specs.declared.keeper.Failure.{Failure}
 
 pub record FailingView : Type 0 where
   pub plain : PlainView

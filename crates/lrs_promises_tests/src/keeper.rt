@@ -1,10 +1,8 @@
-//! A keeper in memory whose device fails, for tests.
+//! A keeper in memory whose device fails.
 
 ghost use Rattle.std.specs.Prelude.{◌≡◌};
 
-use crate::plain::Plain;
-use lrs_image::{Change, CommitFault, Keeper, LoadFault};
-use lrs_machine::Image;
+use lrs_desk::{Change, CommitFault, Image, Keeper, LoadFault, Plain};
 use std::alloc::{AllocError, Global};
 use std::marker::Model;
 
@@ -20,7 +18,6 @@ pub enum Failure {
 }
 
 /// Keeps an image in memory. Its device does a number of loads and of commits; each one after them fails.
-#[derive(Drop)]
 pub struct Failing {
     plain: Plain,
     loads: u64,
@@ -30,7 +27,7 @@ pub struct Failing {
 }
 
 impl Model for Failing {
-    ghost use Rattle.lrs_image_plain.specs.Failing.{FailingView};
+    ghost use Rattle.lrs_promises_tests.specs.Failing.{FailingView};
 
     ghost Value = { FailingView };
 
@@ -50,6 +47,18 @@ impl Failing {
             failure,
             failures: 0,
         }
+    }
+
+    /// Lets it go.
+    pub fn discard(self) {
+        let Failing {
+            plain,
+            loads: _,
+            commits: _,
+            failure: _,
+            failures: _,
+        } = self;
+        plain.discard();
     }
 }
 
