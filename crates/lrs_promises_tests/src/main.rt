@@ -15,11 +15,13 @@ mod door;
 mod failure;
 mod keeper;
 mod limits;
+mod lists;
 mod services;
 mod words;
 
 use failure::run_failing;
 use limits::run_limited;
+use lists::show_strip;
 use lrs_desk::{Desk, Keeper, Plain, Staged};
 use lrs_machine::Limits;
 use lrs_position::{EnteredPosition, RouteName, read_expr, read_method, read_target};
@@ -52,6 +54,9 @@ fn take<K: Keeper>(rt: &HostRuntime, desk: &mut Desk<K>, words: &[String]) -> Op
     for word in words {
         if let Some(trip) = word.as_str().strip_prefix("trip:") {
             take_trip(rt, desk, trip)?;
+        }
+        if let Some(strip) = word.as_str().strip_prefix("strip:") {
+            show_strip(rt, desk, strip)?;
         }
     }
     println!(rt; "{}", desk.inventory().edits()).ok()
