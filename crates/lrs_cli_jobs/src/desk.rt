@@ -1,6 +1,6 @@
 //! Desks over inventories in files: for all work, or for questions alone.
 
-ghost use Rattle.std.specs.Prelude.{◌≡◌, IfErr, IfOk, IfSome, Result, false};
+ghost use Rattle.std.specs.Prelude.{◌≡◌, IfErr, IfOk, IfSome, Ok, Result, false};
 ghost use Rattle.lrs_measure.specs.Limits.{most_assets, most_edits, most_routes};
 ghost use Rattle.lrs_machine.specs.declared.image.Image.{Image as ImageRows};
 ghost use Rattle.lrs_machine.specs.declared.table.Table.{Table as DeclaredTable};
@@ -25,6 +25,8 @@ pub(crate) fn open_desk<F: Files>(
     ensures kept { IfOk result (λ desk. HoldsOnly (F.Kept.may_hold desk.keeper) desk.image) }
     ensures opened { IfOk result (λ desk. (c : Result ImageRows DeclaredTable)
         → F.Kept.may_hold desk.keeper c → F.has_opened c) }
+    ensures found { IfOk result (λ desk. F.Kept.is_clean desk.keeper
+        → F.has_opened (Ok desk.image)) }
     ensures open { IfOk result (λ desk. desk.must_reopen ≡ false) }
     ensures behind { IfOk result (λ desk. desk.is_ahead ≡ false) }
     ensures limits { IfOk result (λ desk. (desk.limits.routes ≡ most_routes)
@@ -54,6 +56,8 @@ pub(crate) fn open_desk_to_look<F: Files>(
         HoldsOnly (F.Seen.may_hold desk.keeper) desk.image)) }
     ensures read { IfOk result (λ found. IfSome found (λ desk. (c : Result ImageRows DeclaredTable)
         → F.Seen.may_hold desk.keeper c → F.has_read c)) }
+    ensures found { IfOk result (λ found. IfSome found (λ desk. F.Seen.is_clean desk.keeper
+        → F.has_read (Ok desk.image))) }
     ensures open { IfOk result (λ found. IfSome found (λ desk. desk.must_reopen ≡ false)) }
     ensures behind { IfOk result (λ found. IfSome found (λ desk. desk.is_ahead ≡ false)) }
     ensures fault { IfErr result (λ e. e ≡ OpenFault.Keep → ⊥) }

@@ -168,8 +168,8 @@ fn do_in_file<F: Files>(
     work: Work<'_>,
     shown: Shown,
 ) -> Ending
-    ensures { EndsInFile ⟦<Plain as Keeper>⟧.may_hold F.Kept.may_hold F.Seen.may_hold F.has_opened F.has_read
-        work.entry result }
+    ensures { EndsInFile ⟦<Plain as Keeper>⟧.may_hold F.Kept.may_hold F.Seen.may_hold
+        F.has_opened F.has_read work.entry result }
 {
     if !looks(&work) {
         return do_with_log(rt, files, path, new_has_sums, work, shown);
@@ -212,8 +212,8 @@ fn do_at_path<F: Files>(
     work: Work<'_>,
     shown: Shown,
 ) -> Ending
-    ensures { EndsInFile ⟦<Plain as Keeper>⟧.may_hold F.Kept.may_hold F.Seen.may_hold F.has_opened F.has_read
-        work.entry result }
+    ensures { EndsInFile ⟦<Plain as Keeper>⟧.may_hold F.Kept.may_hold F.Seen.may_hold
+        F.has_opened F.has_read work.entry result }
 {
     let wants_file = existing
         || matches!(work, Work::Questions { .. } | Work::Report(_) | Work::Audit);
@@ -235,8 +235,8 @@ fn do_task<F: Files>(
     existing: bool,
     shown: Shown,
 ) -> Ending
-    ensures { EndsTask ⟦<Plain as Keeper>⟧.may_hold F.Kept.may_hold F.Seen.may_hold F.has_opened F.has_read
-        task.entry result }
+    ensures { EndsTask ⟦<Plain as Keeper>⟧.may_hold F.Kept.may_hold F.Seen.may_hold
+        F.has_opened F.has_read task.entry result }
 {
     match task {
         Task::Page { dir } => do_page(rt, dir),
@@ -258,8 +258,8 @@ pub fn do_job<F: Files>(
     existing: bool,
     shown: Shown,
 ) -> Ending
-    ensures { EndsJob ⟦<Plain as Keeper>⟧.may_hold F.Kept.may_hold F.Seen.may_hold F.has_opened F.has_read
-        job.now result }
+    ensures { EndsJob ⟦<Plain as Keeper>⟧.may_hold F.Kept.may_hold F.Seen.may_hold
+        F.has_opened F.has_read job.now result }
 {
     match task_of(rt.alloc(), job) {
         Ok(task) => do_task(rt, files, task, new_has_sums(job), existing, shown),

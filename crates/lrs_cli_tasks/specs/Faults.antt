@@ -47,13 +47,13 @@ fault_of_open opened.Memory = Memory
 fault_of_open opened.Keep = Open
 fault_of_open (opened.Unsound t) = Unsound t
 
--- The program stops for what the keeper left: its device failed once more, or what an opening may find there has this first unsound table.
-pub record HasNoDesk {K : Type 0} (failures : K → ℕ) (may_hold : K → Result Image Table → Type 0) (before : K) (fault : ProgramFault) : Type 0 where
+-- Why no desk is opened, by the keeper that is given back: its device failed once more, or what an opening may find there has this first unsound table. It holds what it held.
+pub record HasNoDesk {K : Type 0} (failures : K → ℕ) (may_hold : K → Result Image Table → Type 0) (before back : K) (fault : ProgramFault) : Type 0 where
   pub why : OpenFault
-  pub left : K
   pub named : fault ≡ fault_of_open why
-  pub device : why ≡ opened.Keep → HasRisen (failures before) (failures left)
-  pub unsound : (t : Table) → why ≡ opened.Unsound t → (c : Result Image Table) → may_hold left c → c ≡ Err t
+  pub device : why ≡ opened.Keep → HasRisen (failures before) (failures back)
+  pub unsound : (t : Table) → why ≡ opened.Unsound t → (c : Result Image Table) → may_hold back c → c ≡ Err t
+  pub held : (c : Result Image Table) → may_hold back c → may_hold before c
 
 -- what a desk's fault is for the program
 abbrev pub fault_of_desk : Fault → ProgramFault

@@ -20,7 +20,7 @@ pub fn is_in_memory(db: &str) -> bool
     db == ":memory:"
 }
 
-/// Opens a desk with full limits over a keeper, or gives the keeper back.
+/// Opens a desk with full limits over a keeper, or gives the keeper back, which holds what it held.
 pub fn open_full<K: Keeper>(keeper: K, alloc: Global) -> Result<Desk<K>, (ProgramFault, K)>
     ensures kept { IfOk result (λ desk. HoldsOnly (K.may_hold desk.keeper) desk.image) }
     ensures content { IfOk result (λ desk. (c : Result Image Table)
@@ -29,7 +29,7 @@ pub fn open_full<K: Keeper>(keeper: K, alloc: Global) -> Result<Desk<K>, (Progra
     ensures behind { IfOk result (λ desk. desk.is_ahead ≡ false) }
     ensures limits { IfOk result (λ desk. (desk.limits.routes ≡ most_routes)
         × (desk.limits.assets ≡ most_assets) × (desk.limits.edits ≡ most_edits)) }
-    ensures fault { IfErr result (λ e. HasNoDesk K.failures K.may_hold keeper e.0) }
+    ensures fault { IfErr result (λ e. HasNoDesk K.failures K.may_hold keeper e.1 e.0) }
 {
     match Desk::open(keeper, Limits::full(), alloc) {
         Ok(desk) => Ok(desk),
