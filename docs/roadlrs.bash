@@ -1,5 +1,5 @@
 # Completions of roadlrs for bash. A command is one line of each table below: the kinds of its words, and its options.
-# _roadlrs_word completes a word by its kind. tests/manual_test.py compares the tables with the program.
+# _roadlrs_word completes a word by its kind. tests/pages/manual_test.py compares the tables with the program.
 
 # each command, and the kinds of its words in order; the last kind goes on where it ends in +
 declare -gA _roadlrs_words=(

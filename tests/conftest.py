@@ -4,7 +4,7 @@ import subprocess
 
 import pytest
 
-pytest.register_assert_rewrite("program", "worked_example")
+pytest.register_assert_rewrite("documents", "program", "refusing", "worked_examples_over_files")
 
 from program import PROGRAM
 

@@ -16,7 +16,7 @@ impl Batches for FileTables {
     ghost use Rattle.std.specs.Prelude.{refl};
     ghost use Rattle.std.proofs.Common.{inl};
     ghost use Rattle.sqlite_store.specs.Laws.{stays_at};
-    ghost use Rattle.lrs_store_keeper.specs.Holding.{finds_left};
+    ghost use Rattle.lrs_store.specs.TableKeeper.HeldImages.{finds_left};
 
     ghost may_hold = { λ k. ⟦<Tables<FileStore<FileFrom<Unknown>>, Reader> as Batches>⟧.may_hold k.tables };
 
@@ -48,7 +48,7 @@ impl Keeper for FileKeeper {
     ghost use Rattle.std.specs.Prelude.{refl};
     ghost use Rattle.std.proofs.Common.{inl};
     ghost use Rattle.sqlite_store.specs.Laws.{stays_at};
-    ghost use Rattle.lrs_store_keeper.specs.Holding.{finds_left};
+    ghost use Rattle.lrs_store.specs.TableKeeper.HeldImages.{finds_left};
 
     ghost may_hold = { λ k. ⟦<Staged<FileTables> as Keeper>⟧.may_hold k.inner };
 

@@ -1,8 +1,8 @@
 //! Inventories in files of the system.
 
 ghost use Rattle.sqlite_wal.specs.Files.{image_at};
-ghost use Rattle.lrs_store_files.specs.Opened.{IsContentOf};
-ghost use Rattle.lrs_store_questions.specs.Asked.{HasRead};
+ghost use Rattle.lrs_store_files.specs.OpenedFiles.{IsContentOf};
+ghost use Rattle.lrs_store_questions.specs.FileAnswers.{HasRead};
 
 use crate::keeper::{FileKeeper, FileTables};
 use lrs_desk::{Files, OpenFault, Staged};
@@ -15,7 +15,7 @@ use sqlite::{FileFrom, FileStore, Start, Unknown};
 use sqlite_disk::Disk;
 use std::rt::HostRuntime;
 
-/// Closes the files of tables, and lets them go. It is over any disk, since of a certain one it is dear to prove.
+/// Closes the files of tables, and drops them. It is over any disk, since of a certain one it is costly to prove.
 fn close_tables<D: Disk + Drop, R: ReadImage + Drop>(tables: Tables<FileStore<D>, R>) {
     drop(close_files(tables));
 }

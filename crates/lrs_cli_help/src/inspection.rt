@@ -89,7 +89,7 @@ fn has_each_table<S: Alter>(conn: &Connection<S>) -> bool {
 }
 
 // What is found where the kit's `sqlite` was to open a file. Over any store, since a function over one that is in files
-// is dear to prove.
+// is costly to prove.
 fn found_in<S: Alter + Drop>(alloc: Global, conn: Result<Connection<S>, Error>) -> Found {
     match conn {
         Ok(conn) if has_each_table(&conn) => Found::OtherOrder,

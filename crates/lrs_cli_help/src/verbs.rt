@@ -1,4 +1,4 @@
-//! What `roadlrs help VERB` prints. Made of docs/SHEETS.md by docs/verb_help.py.
+//! What `roadlrs help VERB` prints. Made of docs/SHEETS.md by tools/verb_help.py.
 
 ghost use Rattle.std.specs.Prelude.{◌↔◌, IsSome, IsTrue};
 ghost use Rattle.lrs_cli_help.specs.Verbs.{is_verb};

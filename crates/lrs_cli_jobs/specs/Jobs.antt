@@ -3,7 +3,7 @@ use Rattle.std.specs.Prelude.{◌≡◌, ◌⊎◌, ⊤, codes, Result}
 use Rattle.lrs_machine.specs.declared.image.Image.{Image}
 use Rattle.lrs_machine.specs.declared.table.Table.{Table}
 use Rattle.lrs_machine.specs.Image.{nothing, state_of}
-use Rattle.lrs_image.specs.Keeping.{HoldsOnly}
+use Rattle.lrs_image.specs.KeeperCalls.{HoldsOnly}
 use Rattle.lrs_desk.specs.DeskView.{DeskView}
 use Rattle.lrs_desk.specs.declared.desk.OpenFault.{OpenFault}
 use Rattle.lrs_sheet.specs.Sheets.{IsAfterCommands}
@@ -11,11 +11,11 @@ use Rattle.lrs_cli_words.specs.Questions.{IsFaultOf}
 use Rattle.lrs_cli_words.specs.declared.job.Job.{Job}
 use Rattle.lrs_cli_words.specs.declared.question.QuestionFault.{QuestionFault}
 use Rattle.lrs_cli_words.specs.declared.question.QuestionFault.TheVariants as unread
-use Rattle.lrs_cli_tasks.specs.Asking.{EndsTold}
+use Rattle.lrs_cli_tasks.specs.Questions.{EndsTold}
 use Rattle.lrs_cli_sheets.specs.QuestionSheets.{EndsQuestions}
 use Rattle.lrs_cli_sheets.specs.Trials.{EndsCheck, EndsRecords}
-use Rattle.lrs_cli_tasks.specs.Reporting.{EndsReport}
-use Rattle.lrs_cli_sheets.specs.Auditing.{EndsAudit}
+use Rattle.lrs_cli_tasks.specs.Reports.{EndsReport}
+use Rattle.lrs_cli_sheets.specs.Audits.{EndsAudit}
 use Rattle.lrs_cli_tasks.specs.Faults.{fault_of_open}
 use Rattle.lrs_cli_tasks.specs.Tasks.{IsTaskOf}
 use Rattle.lrs_cli_tasks.specs.declared.endings.Ending.{Ending}

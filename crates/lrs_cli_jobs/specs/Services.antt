@@ -3,7 +3,7 @@ use Rattle.std.specs.Prelude.{◌≡◌, ◌+◌, ℕ, true, false, Result}
 use Rattle.lrs_machine.specs.declared.image.Image.{Image}
 use Rattle.lrs_machine.specs.declared.table.Table.{Table}
 use Rattle.lrs_desk.specs.DeskView.{DeskView}
-use Rattle.lrs_web.specs.Visits.{HasVisited}
+use Rattle.lrs_web_server.specs.Visits.{HasVisited}
 use Rattle.lrs_web_server.specs.declared.service.ServiceFault.{ServiceFault}
 use Rattle.lrs_web_server.specs.declared.service.ServiceFault.TheVariants as ended
 use Rattle.lrs_cli_tasks.specs.declared.endings.Ending.{Ending}

@@ -4,7 +4,7 @@ ghost use Rattle.std.specs.Prelude.{◌≡◌, IfErr, IfOk, IfSome, Ok, Result, 
 ghost use Rattle.lrs_measure.specs.Limits.{most_assets, most_edits, most_routes};
 ghost use Rattle.lrs_machine.specs.declared.image.Image.{Image as ImageRows};
 ghost use Rattle.lrs_machine.specs.declared.table.Table.{Table as DeclaredTable};
-ghost use Rattle.lrs_image.specs.Keeping.{HoldsOnly};
+ghost use Rattle.lrs_image.specs.KeeperCalls.{HoldsOnly};
 
 use lrs_desk::{Desk, Files, OpenFault};
 use lrs_machine::Limits;

@@ -123,7 +123,7 @@ fn do_with_log<F: Files>(
     }
 }
 
-// Answers what only looks, at a desk that is then let go with what it keeps.
+// Answers what only looks, at a desk that is then dropped with what it keeps.
 fn look<F: Files>(
     rt: &HostRuntime,
     files: &F,

@@ -9,13 +9,13 @@ use Rattle.lrs_sheet_records.specs.declared.sheet.Sheet.{Sheet}
 use Rattle.lrs_sheet.specs.Sheets.{RunsBehind, RunsEdits}
 use Rattle.lrs_sheet_records.specs.declared.fault.SheetFault.{SheetFault}
 use Rattle.lrs_sheet.specs.declared.reply.Tally.{Tally}
-use Rattle.lrs_log.specs.Differences.{IsFirstDifference}
+use Rattle.lrs_sheet_log.specs.Differences.{IsFirstDifference}
 use Rattle.lrs_cli_tasks.specs.declared.fault.ProgramFault.{ProgramFault}
 use Rattle.lrs_cli_tasks.specs.declared.fault.ProgramFault.TheVariants as program
 use Rattle.lrs_cli_sheets.specs.declared.sheets.Pace.TheVariants.{InPieces}
 use Rattle.lrs_cli_tasks.specs.declared.endings.Ending.{Ending}
 use Rattle.lrs_cli_tasks.specs.declared.endings.Ending.TheVariants.{Done, Stopped}
-use Rattle.lrs_cli_sheets.specs.Auditing.{EndsAudit, IsAudited, IsMadeBy, log_of}
+use Rattle.lrs_cli_sheets.specs.Audits.{EndsAudit, IsAudited, IsMadeBy, log_of}
 use Rattle.lrs_cli_sheets.specs.Sheets.{HasRun, IsUnwritten}
 use Rattle.lrs_cli_sheets.specs.Trials.{IsFull, IsTried}
 
@@ -38,7 +38,7 @@ pub tried_to : {K W : Type 0} (holds : K → Result Image Table → Type 0) (con
 tried_to holds contents kind passed text image before after first (Ok done) same full ran = tried holds kind passed text image before after first (contents done.0) done.1 same full ran
 tried_to holds contents kind passed text image before after first (Err fault) same full ran = tt
 
--- replies are not written for want of memory, or since the writer failed
+-- replies are not written for lack of memory, or since the writer failed
 pub two_faults : {K X : Type 0} (holds : K → Result Image Table → Type 0) (before after : DeskView K) (result : Result X ProgramFault)
     → IfErr result (IsUnwritten holds before after) → IfErr result (λ e. (e ≡ program.Memory) ⊎ (e ≡ program.Write))
 two_faults holds before after (Ok x) unwritten = tt

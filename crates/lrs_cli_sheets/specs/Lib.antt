@@ -1,4 +1,4 @@
 pub mod Sheets
 pub mod Trials
 pub mod QuestionSheets
-pub mod Auditing
+pub mod Audits

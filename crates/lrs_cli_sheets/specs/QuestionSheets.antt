@@ -3,8 +3,8 @@ use Rattle.std.specs.Prelude.{◌≡◌, ◌==◌, ◌⊎◌, Option, Result, Ok
 use Rattle.lrs_machine.specs.Lines.{Text}
 use Rattle.lrs_machine.specs.declared.image.Image.{Image}
 use Rattle.lrs_sheet_records.specs.declared.fault.SheetFault.{SheetFault}
-use Rattle.lrs_questions.specs.Answering.{RunsQuestions, WritesAnswers}
-use Rattle.lrs_questions.specs.declared.tally.QuestionTally.{QuestionTally}
+use Rattle.lrs_sheet_questions.specs.SheetAnswers.{RunsQuestions, WritesAnswers}
+use Rattle.lrs_sheet_questions.specs.declared.tally.QuestionTally.{QuestionTally}
 use Rattle.lrs_cli_tasks.specs.declared.endings.Ending.{Ending}
 use Rattle.lrs_cli_tasks.specs.declared.endings.Ending.TheVariants.{Done, RecordsRefused, Stopped}
 use Rattle.lrs_cli_tasks.specs.declared.fault.ProgramFault.TheVariants.{Memory, Read, Write}

@@ -9,7 +9,7 @@ use Rattle.lrs_machine.specs.declared.image.Image.{Image}
 use Rattle.lrs_machine.specs.declared.table.Table.{Table}
 use Rattle.lrs_desk.specs.DeskView.{DeskView}
 use Rattle.lrs_sheet_records.specs.declared.sheet.Sheet.{Sheet}
-use Rattle.lrs_sheet.specs.Resuming.{IsDecidedBy}
+use Rattle.lrs_sheet.specs.Resumption.{IsDecidedBy}
 use Rattle.lrs_sheet.specs.Sheets.{RunsBehind, StandAtFront}
 use Rattle.lrs_sheet_records.specs.declared.fault.SheetFault.{SheetFault}
 use Rattle.lrs_sheet.specs.declared.reply.Tally.{Tally}

@@ -1,7 +1,7 @@
 //! What is said on standard error about a sheet that was tried.
 
-use lrs_advice::{AdviceFault, SheetFlaw, write_advice, write_fault_advice, write_summary};
 use lrs_sheet::{Sheet, SheetFault, Tally};
+use lrs_sheet_advice::{AdviceFault, SheetFlaw, write_advice, write_fault_advice, write_summary};
 use std::alloc::{AllocError, Global};
 use std::rt::Runtime;
 

@@ -3,9 +3,9 @@
 ghost use Rattle.std.specs.Prelude.{◌≡◌, ◌⊎◌, IfOk, IfErr};
 ghost use Rattle.lrs_measure.specs.Limits.{most_assets, most_edits, most_routes};
 ghost use Rattle.lrs_machine.specs.Image.{nothing};
-ghost use Rattle.lrs_image.specs.Kept.{image_of};
-ghost use Rattle.lrs_log.specs.Differences.{IsFirstDifference};
-ghost use Rattle.lrs_cli_sheets.specs.Auditing.{EndsAudit, IsAudited, IsMadeBy, log_of};
+ghost use Rattle.lrs_image.specs.OpenLists.{image_of};
+ghost use Rattle.lrs_sheet_log.specs.Differences.{IsFirstDifference};
+ghost use Rattle.lrs_cli_sheets.specs.Audits.{EndsAudit, IsAudited, IsMadeBy, log_of};
 
 use crate::difference::tell_row;
 use crate::sheets::{Pace, Way, run};
@@ -13,9 +13,9 @@ use lrs_cli_tasks::{Ending, ProgramFault, open_in_memory};
 use lrs_desk::{Desk, Keeper};
 use lrs_image::KeptImage;
 use lrs_inventory::Inventory;
-use lrs_log::{first_difference, write_log};
 use lrs_machine::Table;
 use lrs_sheet::{Sheet, SheetFault};
+use lrs_sheet_log::{first_difference, write_log};
 use std::alloc::Global;
 use std::io;
 use std::rt::Runtime;
@@ -33,7 +33,7 @@ fn log_of(alloc: Global, inventory: &Inventory) -> Result<Vec<u8>, ProgramFault>
 }
 
 // Does an edit sheet at a desk with full limits over the empty inventory. The desk is of any keeper, here and below: a
-// function that has one over an image in memory is dear to prove.
+// function that has one over an image in memory is costly to prove.
 fn run_log<K: Keeper>(alloc: Global, sheet: &[u8], desk: &mut Desk<K>) -> Result<(), ProgramFault>
     requires fresh { desk.old.image ≡ nothing }
     requires limits { (desk.old.limits.routes ≡ most_routes)
@@ -99,7 +99,7 @@ fn made_differs<R: Runtime<A = Global>, K: Keeper>(
 }
 
 // The same, at a desk that goes with it, whose keeper is given back. What may fail only borrows the desk: a function that
-// lets one go in several places is dear to prove.
+// lets one go in several places is costly to prove.
 fn audit_at<R: Runtime<A = Global>, K: Keeper>(
     rt: &R,
     inventory: &Inventory,

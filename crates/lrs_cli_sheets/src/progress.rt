@@ -63,7 +63,7 @@ impl<'a, W: Write + Drop, R: Eprint + Clock> Progress<'a, W, R> {
         }
     }
 
-    // A terminal that takes nothing more is no fault of the sheet, so what comes of showing is let go.
+    // A terminal that takes nothing more is no fault of the sheet, so what comes of showing is dropped.
     fn show(&mut self)
         ensures { self.new.to ≡ self.old.to }
     {

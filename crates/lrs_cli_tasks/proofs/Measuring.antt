@@ -3,9 +3,9 @@ use Rattle.std.proofs.Common.{ℕ, List, Option, Result, Ok, Err, IfOk}
 use Rattle.std.specs.Io.KnownBytes.{Appends}
 use Rattle.lrs_measure.specs.Texts.{Name}
 use Rattle.lrs_machine.specs.declared.image.Image.{Image}
-use Rattle.lrs_lengths.specs.Lengths.{AreLengths}
-use Rattle.lrs_lengths.specs.Lines.{lengths_text}
-use Rattle.lrs_lengths.specs.declared.table.ValueLength.{ValueLength}
+use Rattle.lrs_report_lists.specs.Length.Lengths.{AreLengths}
+use Rattle.lrs_report_lists.specs.Length.Lines.{lengths_text}
+use Rattle.lrs_report_lists.specs.declared.length_lists.table.ValueLength.{ValueLength}
 use Rattle.lrs_cli_tasks.specs.Lengths.{ArePrinted}
 use Rattle.lrs_cli_tasks.specs.declared.fault.ProgramFault.{ProgramFault}
 

@@ -1,12 +1,11 @@
 -- How the program ends: its status, and what it says on standard error.
 use Rattle.std.specs.Prelude.{ℕ, [], ◌∷◌, ◌++◌, codes}
+use Rattle.lrs_machine.specs.Absence.{missing_text}
 use Rattle.lrs_machine.specs.Lines.{Text}
-use Rattle.lrs_answers.specs.Causes.{cause_text}
+use Rattle.lrs_report_answers.specs.Causes.{cause_text}
 use Rattle.lrs_cli_words.specs.Questions.{bad_word_text}
 use Rattle.lrs_cli_tasks.specs.declared.endings.Ending.{Ending}
 use Rattle.lrs_cli_tasks.specs.declared.endings.Ending.TheVariants.{Done, RecordsRefused, QuestionRefused, NotFound, Differs, Unreadable, Misused, Stopped}
-use Rattle.lrs_cli_tasks.specs.declared.endings.Missing.{Missing}
-use Rattle.lrs_cli_tasks.specs.declared.endings.Missing.TheVariants as lacked
 use Rattle.lrs_cli_tasks.specs.Faults.{fault_text, table_text}
 
 -- 0 done, 1 something was refused, 2 the words are not understood, 3 stopped
@@ -19,16 +18,6 @@ status_of (Differs table) = 1
 status_of (Unreadable word) = 2
 status_of Misused = 2
 status_of (Stopped fault) = 3
-
--- what the inventory does not have
-abbrev pub missing_text : Missing → Text
-missing_text lacked.Route = codes "NoRoute"
-missing_text lacked.Class = codes "NoClass"
-missing_text lacked.Asset = codes "NoAsset"
-missing_text lacked.Edit = codes "NoEdit"
-missing_text lacked.Key = codes "NoKey"
-missing_text lacked.Link = codes "NoLink"
-missing_text lacked.Place = codes "OffRoute"
 
 -- why a question was refused, what a report does not find, which table differs, which word cannot be read, or which fault stopped the program
 abbrev pub last_words : Ending → Text

@@ -3,11 +3,11 @@ use Rattle.std.specs.Prelude.{◌≡◌, List, ℕ, ◌++◌, codes, Result, Err
 use Rattle.lrs_machine.specs.declared.image.Image.{Image}
 use Rattle.lrs_machine.specs.declared.table.Table.{Table}
 use Rattle.lrs_machine.specs.declared.table.Table.TheVariants as table
-use Rattle.lrs_image.specs.Keeping.{HasRisen}
+use Rattle.lrs_image.specs.KeeperCalls.{HasRisen}
 use Rattle.lrs_desk.specs.declared.desk.OpenFault.{OpenFault}
 use Rattle.lrs_desk.specs.declared.desk.OpenFault.TheVariants as opened
-use Rattle.lrs_machine_stops.specs.declared.fault.Fault.{Fault}
-use Rattle.lrs_machine_stops.specs.declared.fault.Fault.TheVariants as desk
+use Rattle.lrs_machine.specs.declared.stops.fault.Fault.{Fault}
+use Rattle.lrs_machine.specs.declared.stops.fault.Fault.TheVariants as desk
 use Rattle.lrs_sheet_records.specs.declared.fault.SheetFault.{SheetFault}
 use Rattle.lrs_sheet_records.specs.declared.fault.SheetFault.TheVariants as sheet
 use Rattle.lrs_cli_tasks.specs.declared.fault.ProgramFault.{ProgramFault}

@@ -4,14 +4,14 @@ use Rattle.std.specs.Io.KnownBytes.{Appends, Keeps}
 use Rattle.lrs_measure.specs.Texts.{Name}
 use Rattle.lrs_machine.specs.Lines.{Text}
 use Rattle.lrs_machine.specs.declared.image.Image.{Image}
-use Rattle.lrs_lengths.specs.Lengths.{AreLengths}
-use Rattle.lrs_lengths.specs.Lines.{lengths_text}
-use Rattle.lrs_lengths.specs.declared.table.ValueLength.{ValueLength}
+use Rattle.lrs_machine.specs.declared.absence.Missing.TheVariants as missing
+use Rattle.lrs_report_lists.specs.Absence.{has_route, lacks}
+use Rattle.lrs_report_lists.specs.Length.Lengths.{AreLengths}
+use Rattle.lrs_report_lists.specs.Length.Lines.{lengths_text}
+use Rattle.lrs_report_lists.specs.declared.length_lists.table.ValueLength.{ValueLength}
 use Rattle.lrs_cli_tasks.specs.declared.endings.Ending.{Ending}
 use Rattle.lrs_cli_tasks.specs.declared.endings.Ending.TheVariants.{Done, NotFound, Stopped}
-use Rattle.lrs_cli_tasks.specs.declared.endings.Missing.TheVariants as lacked
 use Rattle.lrs_cli_tasks.specs.declared.fault.ProgramFault.TheVariants.{Memory, Write}
-use Rattle.lrs_cli_tasks.specs.Listings.{has_route, lacks}
 
 -- the lengths were printed
 pub record ArePrinted (i : Image) (route : Option Name) (old new : Option Text) : Type 0 where
@@ -23,7 +23,7 @@ pub record ArePrinted (i : Image) (route : Option Name) (old new : Option Text) 
 abbrev pub AreMeasured : Image → Option Name → Option Text → Option Text → Ending → Type 0
 AreMeasured i route old new ending =
     ((lacks (has_route i) route ≡ false) × ArePrinted i route old new × (ending ≡ Done))
-    ⊎ ((lacks (has_route i) route ≡ true) × Keeps old new × (ending ≡ NotFound lacked.Route))
+    ⊎ ((lacks (has_route i) route ≡ true) × Keeps old new × (ending ≡ NotFound missing.Route))
 
 -- The program ends so, whatever they were written to; or there was no memory for them, or they were not written.
 abbrev pub EndsLengths : Image → Option Name → Ending → Type 0

@@ -1,26 +1,22 @@
 -- What the program prints line by line, and how it ends.
-use Rattle.std.specs.Prelude.{◌≡◌, ◌⊎◌, ℕ, Bool, false, not, nat_eq, is_some, length, Option, Some, None, if◌then◌else◌}
-use Rattle.std.specs.List.{list_any}
+use Rattle.std.specs.Prelude.{◌≡◌, ◌⊎◌, Bool, is_some, Option, Some, None, if◌then◌else◌}
 use Rattle.std.specs.Io.KnownBytes.{Appends, Keeps}
-use Rattle.std.specs.Option.{option_map_or}
-use Rattle.lrs_measure.specs.Lists.{is_from_to}
-use Rattle.lrs_measure.specs.Texts.{Name, same_name}
-use Rattle.lrs_image.specs.Change.{is_named}
+use Rattle.lrs_measure.specs.Texts.{Name}
 use Rattle.lrs_machine.specs.Image.{state_of}
 use Rattle.lrs_machine.specs.Lines.{Text}
 use Rattle.lrs_machine.specs.Machine.{place_of_key}
 use Rattle.lrs_machine.specs.declared.image.Image.{Image}
-use Rattle.lrs_lists.specs.Lists.{classes_text, gone_text, links_text, refs_text, routes_text, rows_text}
-use Rattle.lrs_lists.specs.declared.wanted.RowsWanted.{RowsWanted}
-use Rattle.lrs_log.specs.Log.{edits_from, edits_under, log_text}
+use Rattle.lrs_machine.specs.declared.absence.Missing.{Missing}
+use Rattle.lrs_machine.specs.declared.absence.Missing.TheVariants as missing
+use Rattle.lrs_report_lists.specs.Absence.{has_edit, lacks, missing_row}
+use Rattle.lrs_report_lists.specs.Lists.{classes_text, gone_text, links_text, refs_text, routes_text, rows_text}
+use Rattle.lrs_sheet_log.specs.Log.{edits_from, edits_under, log_text}
 use Rattle.lrs_cli_words.specs.declared.report.Listing.{Listing}
 use Rattle.lrs_cli_words.specs.declared.report.Listing.TheVariants as listing
 use Rattle.lrs_cli_words.specs.declared.report.Listed.{Listed}
 use Rattle.lrs_cli_words.specs.declared.report.Listed.TheVariants as listed
 use Rattle.lrs_cli_tasks.specs.declared.endings.Ending.{Ending}
 use Rattle.lrs_cli_tasks.specs.declared.endings.Ending.TheVariants.{Done, NotFound, Stopped}
-use Rattle.lrs_cli_tasks.specs.declared.endings.Missing.{Missing}
-use Rattle.lrs_cli_tasks.specs.declared.endings.Missing.TheVariants as lacked
 use Rattle.lrs_cli_tasks.specs.declared.fault.ProgramFault.TheVariants.{Memory, Write}
 
 -- all of one kind
@@ -38,44 +34,21 @@ listing_text i (listing.Gone edit) = gone_text edit i
 listing_text i (listing.Log from) = log_text (edits_from from (state_of i).done)
 listing_text i (listing.LogOfKey key) = log_text (edits_under key (state_of i).done)
 
-abbrev pub has_route : Image → Name → Bool
-has_route i name = list_any (is_named name) i.routes
-
-abbrev pub has_class : Image → Name → Bool
-has_class i name = list_any (λ c. same_name c.name name) i.classes
-
-abbrev pub has_asset : Image → ℕ → Bool
-has_asset i number = list_any (λ a. nat_eq a.number number) i.assets
-
--- edits are numbered from 1
-abbrev pub has_edit : Image → ℕ → Bool
-has_edit i number = is_from_to 1 (length i.edits) number
-
 abbrev pub has_key : Image → Name → Bool
 has_key i key = is_some (place_of_key key (state_of i).done)
 
--- what is named, and is not there
-abbrev pub lacks : {A : Type 0} → (A → Bool) → Option A → Bool
-lacks has named = option_map_or (λ x. not (has x)) named false
-
 -- the first of the things that a listing names, and the inventory does not have
-abbrev pub missing_row : Image → RowsWanted → Option Missing
-missing_row i wanted =
-    if lacks (has_route i) wanted.route then Some lacked.Route
-    else if lacks (has_class i) wanted.class then Some lacked.Class
-    else if lacks (has_asset i) wanted.asset then Some lacked.Asset else None
-
 abbrev pub missing_of : Image → Listing → Option Missing
 missing_of i (listing.Rows wanted) = missing_row i wanted
-missing_of i (listing.Gone edit) = if lacks (has_edit i) edit then Some lacked.Edit else None
-missing_of i (listing.LogOfKey key) = if has_key i key then None else Some lacked.Key
+missing_of i (listing.Gone edit) = if lacks (has_edit i) edit then Some missing.Edit else None
+missing_of i (listing.LogOfKey key) = if has_key i key then None else Some missing.Key
 missing_of i (listing.Log from) = None
 missing_of i (listing.List what) = None
 
 -- A listing was printed as it is defined; or nothing was, since the inventory does not have what it names.
 abbrev pub IsListed : Image → Listing → Option Missing → Option Text → Option Text → Ending → Type 0
 IsListed i l None old new ending = Appends old new (listing_text i l) × (ending ≡ Done)
-IsListed i l (Some missing) old new ending = Keeps old new × (ending ≡ NotFound missing)
+IsListed i l (Some what) old new ending = Keeps old new × (ending ≡ NotFound what)
 
 -- The program ends so, whatever the listing was written to; or there was no memory for it, or it was not written.
 abbrev pub EndsListing : Image → Listing → Ending → Type 0

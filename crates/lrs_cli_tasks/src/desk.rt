@@ -5,7 +5,7 @@ ghost use Rattle.lrs_measure.specs.Limits.{most_assets, most_edits, most_routes}
 ghost use Rattle.lrs_machine.specs.Image.{nothing};
 ghost use Rattle.lrs_machine.specs.declared.image.Image.{Image};
 ghost use Rattle.lrs_machine.specs.declared.table.Table.{Table};
-ghost use Rattle.lrs_image.specs.Keeping.{HoldsOnly};
+ghost use Rattle.lrs_image.specs.KeeperCalls.{HoldsOnly};
 ghost use Rattle.lrs_cli_tasks.specs.Faults.{HasNoDesk};
 
 use crate::fault::ProgramFault;

@@ -4,42 +4,10 @@ ghost use Rattle.std.specs.Prelude.{◌≡◌};
 ghost use Rattle.lrs_cli_tasks.specs.Endings.{status_of};
 
 use crate::fault::{ProgramFault, table_name};
-use lrs_answers::AskCause;
 use lrs_cli_words::BadWord;
-use lrs_machine::Table;
+use lrs_machine::{Missing, Table};
+use lrs_report_answers::AskCause;
 use std::fmt;
-
-/// What a report names, and the inventory does not have.
-#[derive(Clone, Copy, PartialEq, Eq)]
-pub enum Missing {
-    Route,
-    Class,
-    Asset,
-    Edit,
-    Key,
-    Link,
-    /// The chainage is not on the route, or no route runs over the millimetre of the link.
-    Place,
-}
-
-impl fmt::Display for Missing {
-    ghost use Rattle.std.specs.Prelude.{Some};
-    ghost use Rattle.lrs_cli_tasks.specs.Endings.{missing_text};
-
-    ghost output = { λ missing. Some (missing_text missing) };
-
-    fn fmt<W: fmt::Write>(&self, f: &mut fmt::Formatter<W>) -> fmt::Result {
-        match self {
-            Missing::Route => f.write_str("NoRoute"),
-            Missing::Class => f.write_str("NoClass"),
-            Missing::Asset => f.write_str("NoAsset"),
-            Missing::Edit => f.write_str("NoEdit"),
-            Missing::Key => f.write_str("NoKey"),
-            Missing::Link => f.write_str("NoLink"),
-            Missing::Place => f.write_str("OffRoute"),
-        }
-    }
-}
 
 /// How the program ends.
 #[derive(Clone, Copy, PartialEq, Eq)]

@@ -2,19 +2,19 @@
 
 ghost use Rattle.std.specs.Prelude.{◌≡◌, ◌⊎◌, IfOk, IfErr};
 ghost use Rattle.std.specs.Io.KnownBytes.{Appends};
-ghost use Rattle.lrs_lengths.specs.Lengths.{AreLengths};
-ghost use Rattle.lrs_lengths.specs.Lines.{lengths_text};
+ghost use Rattle.lrs_report_lists.specs.Length.Lengths.{AreLengths};
+ghost use Rattle.lrs_report_lists.specs.Length.Lines.{lengths_text};
 ghost use Rattle.lrs_cli_tasks.specs.Lengths.{AreMeasured, ArePrinted, EndsLengths};
 
 use crate::buffer::{behind, buffered};
-use crate::endings::{Ending, Missing};
+use crate::endings::Ending;
 use crate::fault::ProgramFault;
-use crate::listings::lacks_route;
 use lrs_desk::{Desk, Keeper};
 use lrs_inventory::Inventory;
-use lrs_lengths::{ValueLength, lengths, write_lengths};
+use lrs_machine::Missing;
 use lrs_measure::Rows;
 use lrs_position::RouteName;
+use lrs_report_lists::{ValueLength, lacks_route, lengths, write_lengths};
 use std::alloc::{AllocError, Global};
 use std::io;
 use std::io::Write;

@@ -2,83 +2,26 @@
 
 ghost use Rattle.std.specs.Prelude.{◌≡◌, ◌⊎◌, IfOk, IfErr, OnOk};
 ghost use Rattle.std.specs.Io.KnownBytes.{Appends};
-ghost use Rattle.lrs_image.specs.Kept.{image_of};
-ghost use Rattle.lrs_machine.specs.Sound.{IsSound};
-ghost use Rattle.lrs_cli_tasks.specs.Listings.{EndsListing, IsListed, has_asset, has_class, has_edit, has_key, has_route, lacks, list_text, listing_text, missing_of, missing_row};
+ghost use Rattle.lrs_image.specs.OpenLists.{image_of};
+ghost use Rattle.lrs_cli_tasks.specs.Listings.{EndsListing, IsListed, has_key, list_text, listing_text, missing_of};
 
 use crate::buffer::{behind, buffered};
-use crate::endings::{Ending, Missing};
+use crate::endings::Ending;
 use crate::fault::ProgramFault;
 use lrs_cli_words::{Listed, Listing};
 use lrs_desk::{Desk, Keeper};
-use lrs_events::ClassName;
 use lrs_image::KeptImage;
 use lrs_inventory::Inventory;
-use lrs_lists::{
-    RowsWanted, knows_asset, knows_class, knows_edit, knows_route, write_classes, write_gone,
-    write_links, write_refs, write_routes, write_rows,
+use lrs_machine::{Key, Missing};
+use lrs_report_lists::{
+    lacks_edit, missing_row, write_classes, write_gone, write_links, write_refs, write_routes,
+    write_rows,
 };
-use lrs_log::{write_log, write_log_of_key};
-use lrs_machine::Key;
-use lrs_position::RouteName;
+use lrs_sheet_log::{write_log, write_log_of_key};
 use std::alloc::Global;
 use std::io;
 use std::io::Write;
 use std::rt::Runtime;
-
-pub(crate) fn lacks_route(kept: &KeptImage, route: Option<RouteName>) -> bool
-    requires sound { IsSound (image_of kept.now) }
-    ensures { result ≡ lacks (has_route (image_of kept.now)) route }
-{
-    match route {
-        Some(name) => !knows_route(kept, &name),
-        None => false,
-    }
-}
-
-fn lacks_class(kept: &KeptImage, class: Option<ClassName>) -> bool
-    requires sound { IsSound (image_of kept.now) }
-    ensures { result ≡ lacks (has_class (image_of kept.now)) class }
-{
-    match class {
-        Some(name) => !knows_class(kept, &name),
-        None => false,
-    }
-}
-
-fn lacks_asset(kept: &KeptImage, asset: Option<u64>) -> bool
-    requires sound { IsSound (image_of kept.now) }
-    ensures { result ≡ lacks (has_asset (image_of kept.now)) asset }
-{
-    match asset {
-        Some(number) => !knows_asset(kept, number),
-        None => false,
-    }
-}
-
-fn lacks_edit(kept: &KeptImage, edit: Option<u64>) -> bool
-    ensures { result ≡ lacks (has_edit (image_of kept.now)) edit }
-{
-    match edit {
-        Some(number) => !knows_edit(kept, number),
-        None => false,
-    }
-}
-
-fn missing_row(kept: &KeptImage, wanted: &RowsWanted) -> Option<Missing>
-    requires sound { IsSound (image_of kept.now) }
-    ensures { result ≡ missing_row (image_of kept.now) wanted.now }
-{
-    if lacks_route(kept, wanted.route) {
-        Some(Missing::Route)
-    } else if lacks_class(kept, wanted.class) {
-        Some(Missing::Class)
-    } else if lacks_asset(kept, wanted.asset) {
-        Some(Missing::Asset)
-    } else {
-        None
-    }
-}
 
 fn has_key(inventory: &Inventory, key: &Key) -> bool
     ensures { result ≡ has_key inventory.now key.now }

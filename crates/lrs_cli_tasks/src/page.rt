@@ -4,7 +4,7 @@ ghost use Rattle.std.specs.Prelude.{◌≡◌, ◌⊎◌};
 
 use crate::endings::Ending;
 use crate::fault::ProgramFault;
-use lrs_cli_page::write_page;
+use crate::write_page;
 use std::alloc::Global;
 use std::io::ErrorKind;
 use std::path::Path;

@@ -2,40 +2,20 @@
 
 ghost use Rattle.std.specs.Prelude.{◌≡◌, ◌⊎◌, IfOk, IfErr};
 ghost use Rattle.std.specs.Io.KnownBytes.{Appends};
-ghost use Rattle.lrs_whereabouts.specs.Lines.{whereabouts_text};
-ghost use Rattle.lrs_cli_tasks.specs.Places.{EndsPlace, IsPlaced, missing_at, spot_of};
+ghost use Rattle.lrs_report_answers.specs.Place.Lines.{whereabouts_text};
+ghost use Rattle.lrs_cli_tasks.specs.Places.{EndsPlace, IsPlaced};
 
 use crate::buffer::{behind, buffered};
-use crate::endings::{Ending, Missing};
+use crate::endings::Ending;
 use crate::fault::ProgramFault;
-use lrs_cli_words::Place;
 use lrs_desk::{Desk, Keeper};
 use lrs_inventory::Inventory;
-use lrs_whereabouts::{Spot, WhereFault, Whereabouts, whereabouts, write_whereabouts};
+use lrs_machine::Spot;
+use lrs_report_answers::{Whereabouts, missing_for, whereabouts, write_whereabouts};
 use std::alloc::Global;
 use std::io;
 use std::io::Write;
 use std::rt::Runtime;
-
-fn spot_of(place: Place) -> Spot
-    ensures { result ≡ spot_of place }
-{
-    match place {
-        Place::OnRoute { route, chainage } => Spot::OnRoute { route, chainage },
-        Place::OnLink { link, mm } => Spot::OnLink { link, mm },
-    }
-}
-
-fn missing_at(fault: WhereFault) -> Option<Missing>
-    ensures { result ≡ missing_at fault }
-{
-    match fault {
-        WhereFault::NoRoute => Some(Missing::Route),
-        WhereFault::NoLink => Some(Missing::Link),
-        WhereFault::OffRoute => Some(Missing::Place),
-        WhereFault::Memory => None,
-    }
-}
 
 // Writes what is at a place through a buffer in front of the writer, and gives the writer back with the whole of it.
 fn write_through<W: Write + Drop>(
@@ -58,19 +38,19 @@ fn write_through<W: Write + Drop>(
 fn place_to<W: Write + Drop>(
     alloc: Global,
     inventory: &Inventory,
-    place: Place,
+    spot: Spot,
     to: W,
 ) -> Result<(W, Ending), ProgramFault>
-    ensures placed { IfOk result (λ done. IsPlaced inventory.now place
+    ensures placed { IfOk result (λ done. IsPlaced inventory.now spot
         (W.contents to) (W.contents done.0) done.1) }
     ensures faults { IfErr result (λ e. (e ≡ ProgramFault.Memory) ⊎ (e ≡ ProgramFault.Write)) }
 {
-    match whereabouts(alloc, inventory, spot_of(place)) {
+    match whereabouts(alloc, inventory, spot) {
         Ok(found) => {
             let to = write_through(alloc, found, to)?;
             Ok((to, Ending::Done))
         }
-        Err(fault) => match missing_at(fault) {
+        Err(fault) => match missing_for(fault) {
             Some(missing) => Ok((to, Ending::NotFound(missing))),
             None => Err(ProgramFault::Memory),
         },
@@ -81,11 +61,11 @@ fn place_to<W: Write + Drop>(
 pub(crate) fn do_place<R: Runtime<A = Global>, K: Keeper>(
     rt: &R,
     desk: &Desk<K>,
-    place: Place,
+    spot: Spot,
 ) -> Ending
-    ensures { EndsPlace desk.now.image place result }
+    ensures { EndsPlace desk.now.image spot result }
 {
-    match place_to(rt.alloc(), desk.inventory(), place, io::writer(rt)) {
+    match place_to(rt.alloc(), desk.inventory(), spot, io::writer(rt)) {
         Ok((_, ending)) => ending,
         Err(fault) => Ending::Stopped(fault),
     }

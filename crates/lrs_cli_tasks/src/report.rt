@@ -1,6 +1,6 @@
 //! Reports on an inventory.
 
-ghost use Rattle.lrs_cli_tasks.specs.Reporting.{EndsReport};
+ghost use Rattle.lrs_cli_tasks.specs.Reports.{EndsReport};
 
 use crate::endings::Ending;
 use crate::lengths::do_lengths;

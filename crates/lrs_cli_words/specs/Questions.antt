@@ -182,7 +182,7 @@ CannotAt route method position fault = Cannot word.Route (SaysRoute route) fault
 abbrev pub CannotTranslate : Text → Text → Text → Text → QuestionFault → Type 0
 CannotTranslate route method position to fault = CannotAt route method position fault ⊎ Cannot word.Destination (SaysDestination to) fault
 
--- the route, the side or a class, or want of memory for the classes
+-- the route, the side or a class, or lack of memory for the classes
 abbrev pub CannotStrip : Text → Text → List Text → QuestionFault → Type 0
 CannotStrip route side classes fault =
     Cannot word.Route (SaysRoute route) fault ⊎ Cannot word.Side (SaysSide side) fault ⊎ (fault ≡ Memory) ⊎ CannotClass classes fault
@@ -195,7 +195,7 @@ CannotIfGiven w Says text fault = IsSomeAnd text (λ t. Cannot w (Says t) fault)
 abbrev pub CannotEnd : BadWord → Option Text → QuestionFault → Type 0
 CannotEnd w = CannotIfGiven w SaysChainage
 
--- the route, a class or an end of a diagram, or want of memory for the classes
+-- the route, a class or an end of a diagram, or lack of memory for the classes
 abbrev pub CannotDiagram : Text → List Text → Option Text → Option Text → QuestionFault → Type 0
 CannotDiagram route classes from to fault =
     Cannot word.Route (SaysRoute route) fault ⊎ (fault ≡ Memory) ⊎ CannotClass classes fault ⊎ CannotEnd word.From from fault ⊎ CannotEnd word.To to fault
@@ -227,7 +227,7 @@ CannotRows route from to class asset fault =
 abbrev pub CannotLog : Option Text → Option Text → QuestionFault → Type 0
 CannotLog from key fault = CannotIfGiven word.Number SaysEdit from fault ⊎ CannotIfGiven word.Key SaysKey key fault
 
--- the fault is a word of the job that cannot be read, or want of memory for the classes
+-- the fault is a word of the job that cannot be read, or lack of memory for the classes
 abbrev pub IsFaultOf : Job → QuestionFault → Type 0
 IsFaultOf (job.At db route method position) fault = CannotAt route.now method.now position.now fault
 IsFaultOf (job.Translate db route method position to) fault = CannotTranslate route.now method.now position.now to.now fault

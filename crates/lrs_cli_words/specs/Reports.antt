@@ -5,11 +5,11 @@ use Rattle.lrs_cli_words.specs.declared.job.Job.{Job}
 use Rattle.lrs_cli_words.specs.declared.job.Job.TheVariants as job
 use Rattle.lrs_cli_words.specs.declared.report.Listing.{Listing}
 use Rattle.lrs_cli_words.specs.declared.report.Listing.TheVariants as listing
-use Rattle.lrs_cli_words.specs.declared.report.Place.{Place}
-use Rattle.lrs_cli_words.specs.declared.report.Place.TheVariants as place
+use Rattle.lrs_machine.specs.declared.question.Spot.{Spot}
+use Rattle.lrs_machine.specs.declared.question.Spot.TheVariants as spot
 use Rattle.lrs_cli_words.specs.declared.report.Report.{Report}
 use Rattle.lrs_cli_words.specs.declared.report.Report.TheVariants as report
-use Rattle.lrs_lists.specs.declared.wanted.RowsWanted.{RowsWanted}
+use Rattle.lrs_report_lists.specs.declared.wanted.RowsWanted.{RowsWanted}
 use Rattle.lrs_cli_words.specs.Questions.{SaysAsset, SaysChainage, SaysClass, SaysEdit, SaysEnd, SaysIfGiven, SaysKey, SaysLink, SaysList, SaysMillimetre, SaysRoute}
 
 -- the rows that these words ask for
@@ -21,17 +21,17 @@ pub record AreWanted (on from to of number : Option Text) (wanted : RowsWanted) 
   pub asset : SaysIfGiven SaysAsset number wanted.asset
 
 -- a chainage of a route
-abbrev pub IsOnRoute : Text → Text → Place → Type 0
-IsOnRoute route chainage (place.OnRoute r c) = SaysRoute route r × SaysChainage chainage c
+abbrev pub IsOnRoute : Text → Text → Spot → Type 0
+IsOnRoute route chainage (spot.OnRoute r c) = SaysRoute route r × SaysChainage chainage c
 IsOnRoute route chainage p = ⊥
 
 -- a millimetre of a link
-abbrev pub IsOnLink : Text → Text → Place → Type 0
-IsOnLink link mm (place.OnLink l m) = SaysLink link l × SaysMillimetre mm m
+abbrev pub IsOnLink : Text → Text → Spot → Type 0
+IsOnLink link mm (spot.OnLink l m) = SaysLink link l × SaysMillimetre mm m
 IsOnLink link mm p = ⊥
 
 -- a route and a chainage; or `link`, a link and a millimetre
-abbrev pub IsPlace : Text → Text → Option Text → Place → Type 0
+abbrev pub IsPlace : Text → Text → Option Text → Spot → Type 0
 IsPlace route chainage None p = IsOnRoute route chainage p
 IsPlace route chainage (Some mm) p = (route ≡ codes "link") × IsOnLink chainage mm p
 

@@ -10,5 +10,5 @@ mod words;
 
 pub use job::{Job, new_has_sums};
 pub use question::{BadWord, QuestionFault, Service, question_of, service_of};
-pub use report::{Listed, Listing, Place, Report, report_of};
+pub use report::{Listed, Listing, Report, report_of};
 pub use words::{WordsFault, job_of};

@@ -7,10 +7,10 @@ ghost use Rattle.lrs_cli_words.specs.Reports.{AreWanted, AsksLog, IsOnLink, IsOn
 use crate::job::Job;
 use crate::question::{BadWord, QuestionFault, asset_of, class_of, end_of, number_of, route_of};
 use lrs_events::ClassName;
-use lrs_lists::RowsWanted;
-use lrs_machine::Key;
+use lrs_machine::{Key, Spot};
 use lrs_measure::limits::{GREATEST_LINK, LONGEST_LINK, LONGEST_ROUTE, MOST_EDITS};
 use lrs_position::RouteName;
+use lrs_report_lists::RowsWanted;
 
 /// What is listed.
 #[derive(Clone, Copy, PartialEq, Eq)]
@@ -21,20 +21,11 @@ pub enum Listed {
     Refs,
 }
 
-/// A place that is asked for.
-#[derive(Clone, Copy, PartialEq, Eq)]
-pub enum Place {
-    /// A chainage of a route, in millimetres.
-    OnRoute { route: RouteName, chainage: u64 },
-    /// A millimetre of a link.
-    OnLink { link: u32, mm: u64 },
-}
-
 /// What is reported of an inventory.
 #[derive(Clone, Copy, PartialEq, Eq)]
 pub enum Report {
     /// What is at a place, and its position by each method.
-    Where(Place),
+    Where(Spot),
     /// How long each value of each class is, on a route where it is given.
     Lengths(Option<RouteName>),
     /// What an inventory has, line by line.
@@ -77,26 +68,26 @@ fn link_of(text: &str) -> Result<u32, QuestionFault>
     Ok(link as u32)
 }
 
-fn place_on_link(link: &str, mm: &str) -> Result<Place, QuestionFault>
+fn place_on_link(link: &str, mm: &str) -> Result<Spot, QuestionFault>
     ensures read { IfOk result (IsOnLink link.now mm.now) }
     ensures unread { IfErr result (CannotLink link.now mm.now) }
 {
     let link = link_of(link)?;
     let mm = number_of(mm, 0, u64::from(LONGEST_LINK), BadWord::Millimetre)?;
-    Ok(Place::OnLink { link, mm })
+    Ok(Spot::OnLink { link, mm })
 }
 
-fn place_on_route(route: &str, chainage: &str) -> Result<Place, QuestionFault>
+fn place_on_route(route: &str, chainage: &str) -> Result<Spot, QuestionFault>
     ensures read { IfOk result (IsOnRoute route.now chainage.now) }
     ensures unread { IfErr result (CannotPlace route.now chainage.now) }
 {
     let route = route_of(route)?;
     let chainage = number_of(chainage, 0, LONGEST_ROUTE, BadWord::Chainage)?;
-    Ok(Place::OnRoute { route, chainage })
+    Ok(Spot::OnRoute { route, chainage })
 }
 
 // A route's name is in capitals, so `link` is none.
-fn place_of(route: &str, chainage: &str, mm: Option<&str>) -> Result<Place, QuestionFault>
+fn place_of(route: &str, chainage: &str, mm: Option<&str>) -> Result<Spot, QuestionFault>
     ensures read { IfOk result (IsPlace route.now chainage.now
         (option_map (λ t. t.now) mm.entry)) }
     ensures unread { IfErr result (CannotWhere route.now chainage.now

@@ -21,7 +21,7 @@ use Rattle.lrs_measure.specs.Limits.{most_routes, most_assets, most_edits}
 use Rattle.lrs_machine.specs.State.{State}
 use Rattle.lrs_machine.specs.State as state
 use Rattle.lrs_machine.specs.Image.{state_of, asset_entry, route_entry}
-use Rattle.lrs_machine_stops.specs.Known as known
+use Rattle.lrs_machine.specs.Stop.KnownEdits as known
 use Rattle.lrs_image.specs.Change.{with_difference, apply}
 use Rattle.lrs_inventory.specs.Keys.{place_among}
 use Rattle.lrs_machine.specs.Lines.{line_of}
@@ -34,7 +34,7 @@ use Rattle.lrs_image.specs.declared.keeper.LoadFault.{LoadFault}
 use Rattle.lrs_image.specs.declared.keeper.LoadFault.TheVariants as load
 use Rattle.lrs_desk.specs.declared.desk.OpenFault.TheVariants as opened
 use Rattle.lrs_desk.specs.Desk.{IsOldOrNext, opened_by}
-use Rattle.lrs_desk.specs.Decide.{IsDoneBy, HasRoom, LacksRoom, edit_of, done_image}
+use Rattle.lrs_desk.specs.Decisions.{IsDoneBy, HasRoom, LacksRoom, edit_of, done_image}
 
 -- an edit as the ground machine keeps it
 abbrev pub kept_edit : Edit → state.Edit

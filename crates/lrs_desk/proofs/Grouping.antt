@@ -16,13 +16,13 @@ use Rattle.lrs_image.specs.declared.change.Change.{Change}
 use Rattle.lrs_image.specs.declared.keeper.CommitFault.{CommitFault}
 use Rattle.lrs_image.specs.declared.keeper.CommitFault.TheVariants as commit
 use Rattle.lrs_image.specs.Change.{apply, CanMake}
-use Rattle.lrs_image.specs.Keeping.{HasRisen, HoldsOnly, HoldsSound}
-use Rattle.lrs_image.specs.Together.{apply_all, CanMakeAll, IsChangedBy}
+use Rattle.lrs_image.specs.KeeperCalls.{HasRisen, HoldsOnly, HoldsSound}
+use Rattle.lrs_image.specs.ChangeLists.{apply_all, CanMakeAll, IsChangedBy}
 use Rattle.lrs_image.proofs.Together.{apply_more, can_more, edits_after}
-use Rattle.lrs_machine_stops.specs.Stopped.{IsAccepted}
+use Rattle.lrs_machine.specs.Stop.StoppedRuns.{IsAccepted}
 use Rattle.lrs_desk.specs.Desk.{BreaksAmid, records_of}
-use Rattle.lrs_machine_stops.specs.declared.fault.Fault.{Fault}
-use Rattle.lrs_machine_stops.specs.declared.fault.Fault.TheVariants.{Memory, Keep, MustReopen}
+use Rattle.lrs_machine.specs.declared.stops.fault.Fault.{Fault}
+use Rattle.lrs_machine.specs.declared.stops.fault.Fault.TheVariants.{Memory, Keep, MustReopen}
 use Rattle.lrs_desk.specs.DeskView.{DeskView}
 use Rattle.lrs_desk.specs.Group.{MayBeChanged, DoesNext, IsMade, HasDone, GoesOn, IsGroup}
 

@@ -3,9 +3,9 @@ use Rattle.std.proofs.Common.{◌≡◌, Result, Ok, Err, IfOk, OnOk, ap, sym, �
 use Rattle.lrs_machine.specs.declared.answer.Answer.{Answer}
 use Rattle.lrs_machine.specs.declared.image.Image.{Image}
 use Rattle.lrs_machine.specs.declared.table.Table.{Table}
-use Rattle.lrs_image.specs.Keeping.{HoldsOnly}
-use Rattle.lrs_machine_stops.specs.declared.fault.Fault.{Fault}
-use Rattle.lrs_machine_stops.specs.declared.fault.Fault.TheVariants.{Keep}
+use Rattle.lrs_image.specs.KeeperCalls.{HoldsOnly}
+use Rattle.lrs_machine.specs.declared.stops.fault.Fault.{Fault}
+use Rattle.lrs_machine.specs.declared.stops.fault.Fault.TheVariants.{Keep}
 use Rattle.lrs_desk.proofs.Grouping.{held}
 
 pub if_ok : {P Q : Answer → Type 0} (made : Result Answer Fault) → ((a : Answer) → P a → Q a) → IfOk made P → IfOk made Q

@@ -11,8 +11,8 @@ use Rattle.lrs_machine.specs.declared.image.Image.{Image}
 use Rattle.lrs_machine.specs.Image.{state_of}
 use Rattle.lrs_machine.specs.Machine.{Record, answers, state_after}
 use Rattle.lrs_machine.specs.Sound.{IsSound}
-use Rattle.lrs_image.specs.Keeping.{HasRisen}
-use Rattle.lrs_machine_stops.specs.Stopped.{IsAccepted}
+use Rattle.lrs_image.specs.KeeperCalls.{HasRisen}
+use Rattle.lrs_machine.specs.Stop.StoppedRuns.{IsAccepted}
 use Rattle.lrs_image.specs.declared.keeper.LoadFault.{LoadFault}
 use Rattle.lrs_image.specs.declared.keeper.LoadFault.TheVariants as load
 use Rattle.lrs_desk.specs.declared.desk.OpenFault.{OpenFault}

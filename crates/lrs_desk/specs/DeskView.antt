@@ -4,9 +4,9 @@ use Rattle.lrs_machine.specs.declared.answer.Limits.{Limits}
 use Rattle.lrs_machine.specs.declared.image.Image.{Image}
 use Rattle.lrs_machine.specs.declared.table.Table.{Table}
 use Rattle.lrs_image.specs.declared.change.Change.{Change}
-use Rattle.lrs_image.specs.Keeping.{HoldsOnly}
-use Rattle.lrs_answers_totals.specs.declared.counts.Counts.{Counts}
-use Rattle.lrs_answers_totals.specs.Running.{IsCounted}
+use Rattle.lrs_image.specs.KeeperCalls.{HoldsOnly}
+use Rattle.lrs_report_answers.specs.declared.tallies.counts.Counts.{Counts}
+use Rattle.lrs_report_answers.specs.Tally.RunningCounts.{IsCounted}
 
 pub record DeskView (K : Type 0) : Type 0 where
   pub image : Image

@@ -11,8 +11,8 @@ use Rattle.lrs_machine.specs.Machine.{Record, step, answers, state_after}
 use Rattle.lrs_machine.specs.Sound.{IsSound}
 use Rattle.lrs_image.specs.declared.change.Change.{Change}
 use Rattle.lrs_image.specs.Change.{apply, CanMake}
-use Rattle.lrs_image.specs.Together.{apply_all, CanMakeAll}
-use Rattle.lrs_machine_stops.specs.Stopped.{IsAccepted}
+use Rattle.lrs_image.specs.ChangeLists.{apply_all, CanMakeAll}
+use Rattle.lrs_machine.specs.Stop.StoppedRuns.{IsAccepted}
 use Rattle.lrs_desk.specs.Desk.{DoesFirst}
 
 -- One more change is made of an image, and stands behind those made before it.

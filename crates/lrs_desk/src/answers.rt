@@ -2,22 +2,19 @@
 //! several commands has failed none is: the image may then be ahead of all that is ever kept.
 
 ghost use Rattle.std.specs.Prelude.{◌≡◌, ◌↔◌, IsTrue, Err, false};
-ghost use Rattle.lrs_answers.specs.Answers.{IsAt};
-ghost use Rattle.lrs_answers.specs.Drawn.{IsDrawn};
-ghost use Rattle.lrs_answers.specs.Finding.{IsFound};
-ghost use Rattle.lrs_answers.specs.RouteList.{AreRoutes};
-ghost use Rattle.lrs_answers.specs.Segmented.{IsSegmented};
-ghost use Rattle.lrs_answers.specs.Told.{AreTotals, IsNamedRoute, IsOnLink, IsTranslated};
+ghost use Rattle.lrs_report_answers.specs.Answers.{IsAt};
+ghost use Rattle.lrs_report_answers.specs.AssetStretches.{IsFound};
+ghost use Rattle.lrs_report_answers.specs.RouteSegments.{IsSegmented};
+ghost use Rattle.lrs_report_answers.specs.ToldAnswers.{AreTotals, IsTold, IsTranslated};
 ghost use Rattle.lrs_machine.specs.Image.{state_of};
 
 use crate::desk::Desk;
-use lrs_answers::{AskFault, AtAnswer, FoundRow, RouteLength, RouteSegments};
-use lrs_diagram::Diagram;
 use lrs_events::{ClassName, Side};
 use lrs_image::Keeper;
-use lrs_machine::Total;
-use lrs_measure::{Frac, Rows};
-use lrs_position::{Expr, Route, RouteName, Target};
+use lrs_machine::{Question, Total};
+use lrs_measure::Rows;
+use lrs_position::{Expr, RouteName, Target};
+use lrs_report_answers::{AskFault, AtAnswer, FoundRow, RouteSegments, Told, tell};
 
 impl<K: Keeper> Desk<K> {
     /// The millimetre of a route in which a position stands, and who holds it, by asset number (ISO 19148: located event).
@@ -33,22 +30,7 @@ impl<K: Keeper> Desk<K> {
         if self.is_ahead() {
             return Err(AskFault::MustReopen);
         }
-        lrs_answers::at(self.alloc(), self.inventory().kept(), route, expression)
-    }
-
-    /// The route of a name: its course, marks and referents.
-    ///
-    /// # Errors
-    ///
-    /// `MustReopen` once a commit of several commands has failed; then `NoRoute`, and `Memory`.
-    pub fn route(&self, name: &RouteName) -> Result<Route, AskFault>
-        ensures reopen { (result ≡ Err AskFault.MustReopen) ↔ IsTrue self.now.is_ahead }
-        ensures answer { self.now.is_ahead ≡ false → IsNamedRoute self.now.image name.now result }
-    {
-        if self.is_ahead() {
-            return Err(AskFault::MustReopen);
-        }
-        lrs_answers::named_route(self.alloc(), self.inventory().kept(), name)
+        lrs_report_answers::at(self.alloc(), self.inventory().kept(), route, expression)
     }
 
     /// Where an asset lies: its rows by route name and start.
@@ -64,7 +46,7 @@ impl<K: Keeper> Desk<K> {
         if self.is_ahead() {
             return Err(AskFault::MustReopen);
         }
-        lrs_answers::find(self.alloc(), self.inventory(), asset)
+        lrs_report_answers::find(self.alloc(), self.inventory(), asset)
     }
 
     /// The segments of a route by these exclusive classes, on one side of it (ISO 19148: linear segment), each of which is made
@@ -86,53 +68,7 @@ impl<K: Keeper> Desk<K> {
         if self.is_ahead() {
             return Err(AskFault::MustReopen);
         }
-        lrs_answers::segments(self.alloc(), self.inventory().kept(), route, wanted, side)
-    }
-
-    /// A straight-line diagram of a route, from a chainage to another in millimetres, by default from its start to its end:
-    /// the rows of the classes of these names, or of all where there is no name.
-    ///
-    /// # Errors
-    ///
-    /// `MustReopen` once a commit of several commands has failed; then `NoRoute`, `NoClass` of the first class that is not there, and
-    /// `OffRoute` where the stretch is empty or ends behind the route.
-    pub fn diagram(
-        &self,
-        route: &RouteName,
-        classes: &[ClassName],
-        from: Option<u64>,
-        to: Option<u64>,
-    ) -> Result<Diagram, AskFault>
-        ensures reopen { (result ≡ Err AskFault.MustReopen) ↔ IsTrue self.now.is_ahead }
-        ensures answer { self.now.is_ahead ≡ false
-            → IsDrawn self.now.image route.now classes.now from to result }
-    {
-        if self.is_ahead() {
-            return Err(AskFault::MustReopen);
-        }
-        lrs_answers::diagram(
-            self.alloc(),
-            self.inventory().kept(),
-            route,
-            classes,
-            from,
-            to,
-        )
-    }
-
-    /// Every route with its length, by name.
-    ///
-    /// # Errors
-    ///
-    /// `MustReopen` once a commit of several commands has failed; else when memory runs out.
-    pub fn routes(&self) -> Result<Rows<RouteLength>, AskFault>
-        ensures reopen { (result ≡ Err AskFault.MustReopen) ↔ IsTrue self.now.is_ahead }
-        ensures answer { self.now.is_ahead ≡ false → AreRoutes self.now.image result }
-    {
-        if self.is_ahead() {
-            return Err(AskFault::MustReopen);
-        }
-        lrs_answers::routes(self.alloc(), self.inventory().kept())
+        lrs_report_answers::segments(self.alloc(), self.inventory().kept(), route, wanted, side)
     }
 
     /// What was entered, retired and abandoned of each class, and what of it is present, by class name, in side
@@ -172,22 +108,21 @@ impl<K: Keeper> Desk<K> {
         if self.is_ahead() {
             return Err(AskFault::MustReopen);
         }
-        lrs_answers::translate(self.inventory().kept(), route, expression, target)
+        lrs_report_answers::translate(self.inventory().kept(), route, expression, target)
     }
 
-    /// The link under a position on a route, and how far along the link it is, in millimetres.
+    /// Answers a question of any kind, and changes nothing.
     ///
     /// # Errors
     ///
-    /// `MustReopen` once a commit of several commands has failed; then `NoRoute`, and then what the position expression is refused for.
-    pub fn to_link(&self, route: &RouteName, expression: Expr) -> Result<(u32, Frac), AskFault>
+    /// `MustReopen` once a commit of several commands has failed; else those of `lrs_report_answers::tell`.
+    pub fn ask(&self, question: Question) -> Result<Told<'_>, AskFault>
         ensures reopen { (result ≡ Err AskFault.MustReopen) ↔ IsTrue self.now.is_ahead }
-        ensures answer { self.now.is_ahead ≡ false
-            → IsOnLink (state_of self.now.image) route.now expression result }
+        ensures answer { self.now.is_ahead ≡ false → IsTold self.now.image question result }
     {
         if self.is_ahead() {
             return Err(AskFault::MustReopen);
         }
-        lrs_answers::to_link(self.inventory().kept(), route, expression)
+        tell(self.alloc(), self.inventory(), self.counts(), question)
     }
 }

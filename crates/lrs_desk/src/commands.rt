@@ -5,16 +5,16 @@ ghost use Rattle.lrs_inventory.specs.Plans.{Plans};
 use lrs_inventory::{Inventory, Plan, Stop};
 use lrs_machine::Command;
 use lrs_verbs::{
-    plan_class, plan_close, plan_enter, plan_link, plan_ref, plan_renumber, plan_retire,
-    plan_route, plan_supersede, plan_turn, plan_unref,
+    plan_class, plan_close, plan_enter, plan_join, plan_link, plan_realign, plan_recalibrate,
+    plan_ref, plan_renumber, plan_retire, plan_route, plan_split, plan_supersede, plan_turn,
+    plan_unref,
 };
-use lrs_verbs_routes::{plan_join, plan_realign, plan_recalibrate, plan_split};
 use std::alloc::Global;
 
 /// What a command would change of an inventory.
 ///
 /// # Errors
-/// The first check of its verb that fails, or want of memory.
+/// The first check of its verb that fails, or lack of memory.
 pub(crate) fn plan_command(
     alloc: Global,
     inventory: &Inventory,

@@ -6,8 +6,8 @@ ghost use Rattle.lrs_machine.specs.Image.{state_of};
 ghost use Rattle.lrs_machine.specs.Lines.{line_of};
 ghost use Rattle.lrs_machine.specs.Machine.{answer_known};
 ghost use Rattle.lrs_machine.specs.declared.command.Command.{Command as CommandSaid};
-ghost use Rattle.lrs_machine_stops.specs.Known.{edit_of};
-ghost use Rattle.lrs_desk.specs.Decide.{IsDecision, HasRoom, LacksRoom};
+ghost use Rattle.lrs_machine.specs.Stop.KnownEdits.{edit_of};
+ghost use Rattle.lrs_desk.specs.Decisions.{IsDecision, HasRoom, LacksRoom};
 
 use crate::commands::plan_command;
 use lrs_inventory::{Inventory, Plan, Stop};
@@ -51,7 +51,7 @@ pub fn decide(
     }
 }
 
-/// Why a command is refused, or want of memory.
+/// Why a command is refused, or lack of memory.
 fn refusal(stop: Stop) -> Result<Cause, AllocError>
     ensures { IfOk result (λ cause. stop ≡ Stop.Refused cause) }
 {

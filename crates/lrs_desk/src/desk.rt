@@ -5,20 +5,19 @@ ghost use Rattle.lrs_machine.specs.declared.table.Table.{Table};
 ghost use Rattle.lrs_machine.specs.declared.image.Image.{Image as ImageRows};
 ghost use Rattle.lrs_machine.specs.Image.{state_of};
 ghost use Rattle.lrs_machine.specs.Machine.{step};
-ghost use Rattle.lrs_machine_stops.specs.Known.{edit_of};
+ghost use Rattle.lrs_machine.specs.Stop.KnownEdits.{edit_of};
 ghost use Rattle.lrs_image.specs.Change.{apply, CanMake};
-ghost use Rattle.lrs_image.specs.Keeping.{HasRisen, HoldsOnly, HoldsOldOrNew};
-ghost use Rattle.lrs_answers_totals.specs.Running.{IsCounted};
+ghost use Rattle.lrs_image.specs.KeeperCalls.{HasRisen, HoldsOnly, HoldsOldOrNew};
+ghost use Rattle.lrs_report_answers.specs.Tally.RunningCounts.{IsCounted};
 ghost use Rattle.lrs_inventory.specs.Plans.{change_of, TellsGround};
 ghost use Rattle.lrs_desk.specs.Desk.{IsUnchanged, HasBroken, DoesFirst, BreaksAmid, records_of};
 
 use crate::decision::{Decision, decide, known_edit};
 use crate::group::{class_of, do_first};
-use lrs_answers_totals::Counts;
 use lrs_image::{CommitFault, Keeper, LoadFault};
 use lrs_inventory::{Inventory, Plan};
-use lrs_machine::{Answer, Command, Edit, Key, Limits, Table};
-use lrs_machine_stops::Fault;
+use lrs_machine::{Answer, Command, Edit, Fault, Key, Limits, Table};
+use lrs_report_answers::Counts;
 use std::alloc::Global;
 use std::marker::Model;
 
@@ -211,7 +210,7 @@ impl<K: Keeper> Desk<K> {
         ensures found { OnOk result (K.is_clean self.new.keeper
             → K.may_hold self.new.keeper (Ok self.new.image)) }
 
-        // Want of memory changes nothing.
+        // Lack of memory changes nothing.
         ensures memory { result ≡ Err Fault.Memory → IsUnchanged K.may_hold self.old self.new }
 
         // A commit fails only where the keeper counts it; the image is then as before.
@@ -274,7 +273,7 @@ impl<K: Keeper> Desk<K> {
         ensures found { OnOk result (K.is_clean self.new.keeper
             → K.may_hold self.new.keeper (Ok self.new.image)) }
 
-        // Want of memory changes nothing.
+        // Lack of memory changes nothing.
         ensures memory { result ≡ Err Fault.Memory → IsUnchanged K.may_hold self.old self.new }
 
         // A commit fails only where the keeper counts it, and then all of them are kept or none.

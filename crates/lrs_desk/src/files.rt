@@ -46,7 +46,7 @@ pub trait Files {
             → Self.Seen.may_hold keeper c → has_read c)) }
         ensures fault { IfErr result (λ e. e ≡ OpenFault.Memory) };
 
-    /// Closes a keeper, and lets it go. Where that fails, its log still has what was committed.
+    /// Closes a keeper, and drops it. Where that fails, its log still has what was committed.
     fn close(&self, keeper: Self::Kept);
 
     /// Lets a keeper go, which is not closed: what was committed may be in its log alone, where the next opening finds it.

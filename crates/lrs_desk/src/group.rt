@@ -4,18 +4,18 @@ ghost use Rattle.std.specs.Prelude.{◌≡◌, ◌+◌, ◌<◌, ◌≤◌, ◌�
 ghost use Rattle.lrs_machine.specs.declared.table.Table.{Table};
 ghost use Rattle.lrs_machine.specs.declared.image.Image.{Image as ImageRows};
 ghost use Rattle.lrs_image.specs.Change.{apply, CanMake};
-ghost use Rattle.lrs_machine_stops.specs.Stopped.{IsAccepted};
-ghost use Rattle.lrs_answers_totals.specs.Running.{IsCounted};
+ghost use Rattle.lrs_machine.specs.Stop.StoppedRuns.{IsAccepted};
+ghost use Rattle.lrs_report_answers.specs.Tally.RunningCounts.{IsCounted};
 ghost use Rattle.lrs_inventory.specs.Plans.{change_of, TellsGround};
 ghost use Rattle.lrs_desk.specs.Desk.{records_of};
 ghost use Rattle.lrs_desk.specs.Group.{DoesNext, IsGroup};
 
 use crate::decision::{Decision, decide};
-use lrs_answers_totals::Counts;
 use lrs_events::Class;
 use lrs_image::Keeper;
 use lrs_inventory::{Inventory, Plan};
 use lrs_machine::{Answer, Command, Edit, Key, Limits};
+use lrs_report_answers::Counts;
 use std::alloc::{AllocError, Global};
 
 /// Does the first of these commands, in order: one at least, and no more after one that is refused. What they change is
@@ -64,7 +64,7 @@ pub fn do_first<K: Keeper>(
     Ok(given)
 }
 
-// Does one more command, and says whether another may follow: none does behind a refusal. Want of memory
+// Does one more command, and says whether another may follow: none does behind a refusal. Lack of memory
 // changes nothing.
 fn do_next<K: Keeper>(
     alloc: Global,

@@ -1,7 +1,7 @@
 pub mod Course
 pub mod Pieces
 pub mod Faults
-pub mod Kept
+pub mod CourseFields
 pub mod Marks
 pub mod Lines
 pub mod Line

@@ -96,7 +96,7 @@ impl Model for Course {
 
     ghost Value = { List Ground };
 
-    ghost use Rattle.lrs_element.specs.Kept.{ground_of_course, IsKept};
+    ghost use Rattle.lrs_element.specs.CourseFields.{ground_of_course, IsKept};
 
     ghost view = { ground_of_course };
 

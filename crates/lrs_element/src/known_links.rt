@@ -71,7 +71,7 @@ impl Ordered for Link {
 
 impl Keyed<u32> for Link {
     ghost use Rattle.std.specs.Ordering.{nat_cmp};
-    ghost use Rattle.lrs_measure.specs.Keyed.{number_after};
+    ghost use Rattle.lrs_measure.specs.KeyOrder.{number_after};
 
     ghost key_order = { λ link number. nat_cmp link.number number };
 

@@ -2,7 +2,7 @@
 use Rattle.std.specs.Prelude.{Bool, ◌&&◌, not, nat_eq, List, filter}
 use Rattle.std.specs.List.{list_any}
 use Rattle.lrs_measure.specs.Texts.{same_name}
-use Rattle.lrs_measure.specs.Ordered.{insert_all}
+use Rattle.lrs_measure.specs.OrderedLists.{insert_all}
 use Rattle.lrs_events.specs.declared.span.Span.{Span}
 use Rattle.lrs_events.specs.declared.change.SpanChange.{SpanChange}
 use Rattle.lrs_events.specs.Spans.{same_side, span_before}

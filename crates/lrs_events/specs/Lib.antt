@@ -5,3 +5,7 @@ pub mod Members
 pub mod Changes
 pub mod Canonical
 pub mod Parts
+pub mod LaneLists
+pub mod Row
+pub mod Ledger
+pub mod RouteSpans

@@ -180,7 +180,7 @@ impl Ordered for Class {
 
 impl Keyed<ClassName> for Class {
     ghost use Rattle.lrs_measure.specs.Texts.{name_cmp};
-    ghost use Rattle.lrs_measure.specs.Keyed.{name_after};
+    ghost use Rattle.lrs_measure.specs.KeyOrder.{name_after};
 
     ghost key_order = { λ class name. name_cmp class.name name };
 
@@ -222,7 +222,7 @@ impl Ordered for Asset {
 
 impl Keyed<u64> for Asset {
     ghost use Rattle.std.specs.Ordering.{nat_cmp};
-    ghost use Rattle.lrs_measure.specs.Keyed.{number_after};
+    ghost use Rattle.lrs_measure.specs.KeyOrder.{number_after};
 
     ghost key_order = { λ asset number. nat_cmp asset.number number };
 

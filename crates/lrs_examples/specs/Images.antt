@@ -40,7 +40,7 @@ use Rattle.lrs_machine.specs.Image.{state_of}
 use Rattle.lrs_machine.specs.Sound.{first_unsound, are_entered}
 use Rattle.lrs_examples.specs.Sheet.{a1, b1, km2, speed, rail, sign, abs, between, link, class, forth, back, plain, enter, full, keyed, after, totals_of, totals, row, route_of, over, both_sides_along, first_pieces, first_marks, first_classes, sheet, with_speed, lower_limit}
 use Rattle.lrs_examples.specs.Routes.{realigned_route}
-use Rattle.lrs_examples.specs.Retiring.{superseded}
+use Rattle.lrs_examples.specs.Retirements.{superseded}
 
 -- the parts of links that edit 8 entered for asset 10
 abbrev pub part : ℕ → ℕ → ℕ → LinkSide → Part

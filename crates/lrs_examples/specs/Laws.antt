@@ -12,9 +12,9 @@ use Rattle.lrs_machine.specs.Machine.{Record, answers, attempt, step}
 use Rattle.lrs_machine.specs.Readings.{places_of, total_present, total_entered, total_gone, all_places, edits_of, assets_of}
 use Rattle.lrs_machine.specs.Laws.{once, is_route_edit}
 use Rattle.lrs_examples.specs.Sheet.{a1, b1, nowhere, km2, speed, class, plain, split, join, realign_away, full, under, after, totals_of, totals, both_sides_along, sheet, speed_limit, with_speed, with_sign, lower_limit}
-use Rattle.lrs_examples.specs.Entering.{exact_ends, common_end}
+use Rattle.lrs_examples.specs.Entries.{exact_ends, common_end}
 use Rattle.lrs_examples.specs.Routes.{split_route, joined_route, joined_after_recalibration, recalibrated_route, realigned_route, shortened, longer_route, closed, turned, turned_sign, turned_twice, renumbered, with_barrier, split_referents, moved_along}
-use Rattle.lrs_examples.specs.Retiring.{retired, retired_part, superseded, superseded_twice, superseded_two, other_classes}
+use Rattle.lrs_examples.specs.Retirements.{retired, retired_part, superseded, superseded_twice, superseded_two, other_classes}
 use Rattle.lrs_examples.specs.Readings.{all_three, three_classes, with_lanes}
 
 -- present, retired and abandoned together are what was entered

@@ -1,10 +1,10 @@
 pub mod Sheet
 pub mod Names
-pub mod Entering
+pub mod Entries
 pub mod Routes
-pub mod Retiring
+pub mod Retirements
 pub mod Refusals
-pub mod Long
+pub mod Limits
 pub mod Readings
 pub mod Lines
 pub mod Records

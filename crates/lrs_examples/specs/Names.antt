@@ -1,14 +1,14 @@
 -- Names, numbers and lists as commands can state them, and fractions as they are printed.
 use Rattle.std.specs.Prelude.{◌≡◌, pos, negsuc, true, false, [], ◌∷◌, ◌++◌, map, codes, Some, None, replicate, refl}
 use Rattle.std.specs.Fmt.{digits}
-use Rattle.lrs_measure.specs.Printing.{fraction_text}
+use Rattle.lrs_measure.specs.FractionTexts.{fraction_text}
 use Rattle.lrs_measure.specs.Limits.{is_link, are_limits}
 use Rattle.lrs_position.specs.declared.expression.Expr.TheVariants.{Abs, Rel}
 use Rattle.lrs_position.specs.Names.{is_route_name, is_referent_name}
 use Rattle.lrs_position.specs.Expressions.{is_entered, are_alike}
 use Rattle.lrs_events.specs.Names.{is_class_name, is_value}
 use Rattle.lrs_machine.specs.Keys.{is_key}
-use Rattle.lrs_machine.specs.Entered.{is_asset_number, is_chainage, is_lateral_offset, are_entered_pieces, are_entered_marks}
+use Rattle.lrs_machine.specs.EnteredNumbers.{is_asset_number, is_chainage, is_lateral_offset, are_entered_pieces, are_entered_marks}
 use Rattle.lrs_examples.specs.Sheet.{km2, km5, abs, past, short_of, share, forth, mark}
 
 -- A route's name: capitals, digits and dashes, no dash first, at most twelve.

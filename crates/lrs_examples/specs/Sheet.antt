@@ -11,7 +11,7 @@ use Rattle.lrs_element.specs.Course.{course_of}
 use Rattle.lrs_position.specs.declared.expression.Expr.{Expr}
 use Rattle.lrs_position.specs.declared.expression.Expr.TheVariants.{Abs, Rel, Int}
 use Rattle.lrs_position.specs.Expressions.{Ends}
-use Rattle.lrs_position.specs.Locating.{Alignment}
+use Rattle.lrs_position.specs.Locations.{Alignment}
 use Rattle.lrs_events.specs.declared.class.Class.{Class}
 use Rattle.lrs_events.specs.declared.class.Kind.{Kind}
 use Rattle.lrs_events.specs.declared.class.Kind.TheVariants.{Point, Stretch, Exclusive}

@@ -9,9 +9,9 @@ use Rattle.lrs_machine.specs.declared.table.Table.{Table}
 use Rattle.lrs_machine.specs.declared.table.Table.TheVariants as table
 use Rattle.lrs_machine.specs.Lines.{line_of}
 use Rattle.lrs_machine.specs.Machine.{Record}
-use Rattle.lrs_store_rows.specs.Tables.{Tables, PieceRow, MarkRow, RefRow, SpanRow, EnteredRow, EditRow, OriginRow}
-use Rattle.lrs_store_rows.specs.Content.{content_of}
-use Rattle.lrs_store_rows.specs.Laws.{brought_up}
+use Rattle.lrs_store_tables.specs.Contents.Tables.{Tables, PieceRow, MarkRow, RefRow, SpanRow, EnteredRow, EditRow, OriginRow}
+use Rattle.lrs_store_tables.specs.Contents.Content.{content_of}
+use Rattle.lrs_store_tables.specs.Contents.Laws.{brought_up}
 use Rattle.lrs_examples.specs.Sheet.{a1, b1, km2, speed, rail, sign, under, sheet, speed_limit, with_speed}
 use Rattle.lrs_examples.specs.Images.{speed_image}
 

@@ -1,6 +1,6 @@
 //! Examples of assets that are entered.
 
-ghost use Rattle.lrs_examples.specs.Entering.{FirstSheet, SpeedLimitEntered, HalfMillimetreEnds, SignOnBackwardPiece, OverlapAndTouch, RepeatedKey};
+ghost use Rattle.lrs_examples.specs.Entries.{FirstSheet, SpeedLimitEntered, HalfMillimetreEnds, SignOnBackwardPiece, OverlapAndTouch, RepeatedKey};
 
 /// The first sheet is done.
 pub fn first_sheet()

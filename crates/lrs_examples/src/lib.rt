@@ -6,7 +6,13 @@
 #![tactic(auto)]
 
 pub mod assets;
+#[cfg(test)]
+mod calls;
+#[cfg(test)]
+mod fractions;
 pub mod images;
+#[cfg(test)]
+mod memory;
 pub mod records;
 pub mod refusals;
 pub mod retirements;

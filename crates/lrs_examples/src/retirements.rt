@@ -1,6 +1,6 @@
 //! Examples of assets that are retired or superseded.
 
-ghost use Rattle.lrs_examples.specs.Retiring.{RetiredForGood, SupersededOnOneSide};
+ghost use Rattle.lrs_examples.specs.Retirements.{RetiredForGood, SupersededOnOneSide};
 
 /// A speed limit is retired.
 pub fn retired_for_good()

@@ -11,9 +11,9 @@ use Rattle.std.proofs.lemmas.Map.Text.{is_eq-slice_cmp}
 use Rattle.std.proofs.lemmas.List.{drop_more}
 use Rattle.std.proofs.Math.ListN.{drop_of_length-le}
 use Rattle.lrs_measure.specs.Lists.{each_two}
-use Rattle.lrs_measure.specs.Ordered.{insert_some}
+use Rattle.lrs_measure.specs.OrderedLists.{insert_some}
 use Rattle.lrs_measure.specs.Texts.{Name, name_cmp, name_before, same_name}
-use Rattle.lrs_measure.specs.Keyed.{name_after}
+use Rattle.lrs_measure.specs.KeyOrder.{name_after}
 use Rattle.lrs_image.proofs.PutBack.{put_back}
 
 pub same_some : {A : Type 0} (x y : A) → Some x ≡ Some y → x ≡ y

@@ -4,8 +4,8 @@ use Rattle.lrs_machine.specs.declared.image.Image.{Image}
 use Rattle.lrs_machine.specs.declared.table.Table.{Table}
 use Rattle.lrs_image.specs.declared.change.Change.{Change}
 use Rattle.lrs_image.specs.Change.{apply, CanMake}
-use Rattle.lrs_image.specs.Keeping.{HoldsOnly, HoldsSame}
-use Rattle.lrs_image.specs.Together.{CanMakeAll, IsChangedBy}
+use Rattle.lrs_image.specs.KeeperCalls.{HoldsOnly, HoldsSame}
+use Rattle.lrs_image.specs.ChangeLists.{CanMakeAll, IsChangedBy}
 
 -- Changes of what is found after a change is staged are changes of what was found before.
 pub through : (old mid : Result Image Table → Type 0) → HoldsSame old mid → (xs ys : List Change) → xs ≡ ys → (c : Result Image Table) → IsChangedBy mid xs c → IsChangedBy old ys c

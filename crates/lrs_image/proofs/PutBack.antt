@@ -4,7 +4,7 @@ use Rattle.std.specs.Prelude.{not}
 use Rattle.std.specs.List.{find, list_all}
 use Rattle.std.proofs.lemmas.Bool.{false≢true, and_parts, and_from}
 use Rattle.lrs_measure.specs.Lists.{each_two}
-use Rattle.lrs_measure.specs.Ordered.{insert_by, insert_some}
+use Rattle.lrs_measure.specs.OrderedLists.{insert_by, insert_some}
 
 module _ {X : Type 0} (before : X → X → Bool) (p : X → Bool) where
   -- where none passes, nothing is found and nothing goes

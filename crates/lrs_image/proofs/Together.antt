@@ -5,7 +5,7 @@ use Rattle.lrs_machine.specs.declared.image.Image.{Image}
 use Rattle.lrs_machine.specs.Sound.{IsSound}
 use Rattle.lrs_image.specs.declared.change.Change.{Change}
 use Rattle.lrs_image.specs.Change.{apply, CanMake}
-use Rattle.lrs_image.specs.Together.{apply_all, CanMakeAll}
+use Rattle.lrs_image.specs.ChangeLists.{apply_all, CanMakeAll}
 
 -- the image after more changes
 pub apply_append : (xs ys : List Change) (i : Image) → apply_all (xs ++ ys) i ≡ apply_all ys (apply_all xs i)

@@ -1,4 +1,4 @@
 pub mod Change
-pub mod Kept
-pub mod Keeping
-pub mod Together
+pub mod OpenLists
+pub mod KeeperCalls
+pub mod ChangeLists

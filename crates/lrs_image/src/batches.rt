@@ -11,8 +11,8 @@ pub trait Batches {
     ghost use Rattle.lrs_machine.specs.declared.image.Image.{Image};
     ghost use Rattle.lrs_machine.specs.declared.table.Table.{Table};
     ghost use Rattle.lrs_machine.specs.Sound.{IsSound};
-    ghost use Rattle.lrs_image.specs.Keeping.{HasRisen, HoldsSound};
-    ghost use Rattle.lrs_image.specs.Together.{CanMakeAll, IsChangedBy};
+    ghost use Rattle.lrs_image.specs.KeeperCalls.{HasRisen, HoldsSound};
+    ghost use Rattle.lrs_image.specs.ChangeLists.{CanMakeAll, IsChangedBy};
 
     // What an opening at this moment may find: a sound image, or the first unsound table.
     ghost may_hold: { Self → Result Image Table → Type 0 };

@@ -5,9 +5,9 @@ ghost use Rattle.lrs_machine.specs.declared.image.Image.{Image};
 ghost use Rattle.lrs_machine.specs.declared.table.Table.{Table};
 ghost use Rattle.lrs_machine.specs.Sound.{IsSound};
 ghost use Rattle.lrs_image.specs.Change.{apply, CanMake};
-ghost use Rattle.lrs_image.specs.Keeping.{HasRisen, HoldsOnly, HoldsSound, HoldsOldOrNew, HoldsSame};
-ghost use Rattle.lrs_image.specs.Kept.{image_of, image_with, IsPrepared};
-ghost use Rattle.lrs_image.specs.Together.{IsChangedBy};
+ghost use Rattle.lrs_image.specs.KeeperCalls.{HasRisen, HoldsOnly, HoldsSound, HoldsOldOrNew, HoldsSame};
+ghost use Rattle.lrs_image.specs.OpenLists.{image_of, image_with, IsPrepared};
+ghost use Rattle.lrs_image.specs.ChangeLists.{IsChangedBy};
 
 use crate::change::Change;
 use crate::keeper::{CommitFault, Keeper};

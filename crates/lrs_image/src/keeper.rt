@@ -54,8 +54,8 @@ pub trait Keeper {
     ghost use Rattle.lrs_machine.specs.declared.table.Table.{Table};
     ghost use Rattle.lrs_machine.specs.Sound.{IsSound};
     ghost use Rattle.lrs_image.specs.declared.change.Change.{Change as StagedChange};
-    ghost use Rattle.lrs_image.specs.Keeping.{HasRisen, HoldsSound, HoldsSame};
-    ghost use Rattle.lrs_image.specs.Together.{CanMakeAll, IsChangedBy};
+    ghost use Rattle.lrs_image.specs.KeeperCalls.{HasRisen, HoldsSound, HoldsSame};
+    ghost use Rattle.lrs_image.specs.ChangeLists.{CanMakeAll, IsChangedBy};
 
     // What an opening at this moment may find: a sound image, or the first unsound table.
     ghost may_hold: { Self → Result Image Table → Type 0 };

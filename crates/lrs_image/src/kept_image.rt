@@ -5,8 +5,8 @@ ghost use Rattle.lrs_measure.specs.Lists.{each_two};
 ghost use Rattle.lrs_machine.specs.Image.{nothing};
 ghost use Rattle.lrs_machine.specs.Sound.{IsSound, route_before};
 ghost use Rattle.lrs_image.specs.Change.{apply, CanMake, CanDiffer};
-ghost use Rattle.lrs_image.specs.Together.{apply_all, CanMakeAll};
-ghost use Rattle.lrs_image.specs.Kept.{image_of, image_with, HasRoomFor, IsPrepared};
+ghost use Rattle.lrs_image.specs.ChangeLists.{apply_all, CanMakeAll};
+ghost use Rattle.lrs_image.specs.OpenLists.{image_of, image_with, HasRoomFor, IsPrepared};
 
 use crate::change::{Change, Difference};
 use crate::lists::{append_in_room, chunks_of, copies_of, make_room, push_in_room, rows_of};

@@ -6,11 +6,11 @@ ghost use Rattle.lrs_measure.specs.Lists.{each_two};
 ghost use Rattle.lrs_measure.specs.Texts.{same_name};
 ghost use Rattle.lrs_position.specs.Routes.{referent_before};
 ghost use Rattle.lrs_image.specs.Change.{changed_refs, entry_after, CanBecome};
-ghost use Rattle.lrs_image.specs.Kept.{row_of_open, IsReadyFor};
+ghost use Rattle.lrs_image.specs.OpenLists.{row_of_open, IsReadyFor};
 
 use crate::change::{ReferentChange, RouteChange};
 use crate::lists::{chunks_of, rows_of};
-use lrs_events_spans::{OpenSpans, Spans};
+use lrs_events::{OpenSpans, Spans};
 use lrs_machine::RouteRow;
 use lrs_measure::Rows;
 use lrs_ordered::Chunked;

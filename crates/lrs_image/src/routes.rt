@@ -6,7 +6,7 @@ ghost use Rattle.std.specs.Option.{option_map};
 ghost use Rattle.lrs_measure.specs.Lists.{each_two};
 ghost use Rattle.lrs_machine.specs.Sound.{route_before};
 ghost use Rattle.lrs_image.specs.Change.{is_named, without, without_some, routes_after, CanChangeRoute};
-ghost use Rattle.lrs_image.specs.Kept.{row_of_open, routes_with, IsOpenFor, HasOpened};
+ghost use Rattle.lrs_image.specs.OpenLists.{row_of_open, routes_with, IsOpenFor, HasOpened};
 
 use crate::change::RouteChange;
 use crate::open_route::OpenRoute;

@@ -22,12 +22,12 @@ use Rattle.lrs_machine.specs.Image.{state_of, holds_on, referents_on, route_entr
 use Rattle.lrs_machine.specs.Machine.{attempt}
 use Rattle.lrs_machine.specs.Sound.{is_on_a_link, are_spans_of, IsSound}
 use Rattle.lrs_machine.proofs.Members.{In, any_of}
-use Rattle.lrs_image_laws.specs.Made.{Makes}
+use Rattle.lrs_image_laws.specs.CommandChanges.{Makes}
 use Rattle.lrs_image_sound.proofs.Fitting.{fits}
 use Rattle.lrs_image.proofs.Tables.{routes_in_order}
-use Rattle.lrs_image_laws.specs.Rewriting.{routes_named, routes_left, rewritten, with_routes, has_referent, runs_at, IsLeft, AreFit}
-use Rattle.lrs_image_laws.specs.Standing.{SayTheSame}
-use Rattle.lrs_image_laws.specs.Running.{runs_on, is_run_by}
+use Rattle.lrs_image_laws.specs.Rewrites.{routes_named, routes_left, rewritten, with_routes, has_referent, runs_at, IsLeft, AreFit}
+use Rattle.lrs_image_laws.specs.SameGround.{SayTheSame}
+use Rattle.lrs_image_laws.specs.RoutesOver.{runs_on, is_run_by}
 use Rattle.lrs_image_laws.proofs.Listed.{length-parted}
 use Rattle.lrs_image_laws.proofs.Naming.{same_either, earlier_name, only_one, put_rewrites}
 use Rattle.lrs_image_laws.proofs.Rewriting.{are_unlike, old_few, orderly}

@@ -8,7 +8,7 @@ use Rattle.std.proofs.lemmas.Bool.{false≢true, both_ways, or_left}
 use Rattle.lrs_measure.specs.Texts.{Name, same_name}
 use Rattle.lrs_element.specs.declared.link.Ground.{Ground}
 use Rattle.lrs_element.specs.Course.{Millimetre, runs_over}
-use Rattle.lrs_position.specs.Locating.{Alignment}
+use Rattle.lrs_position.specs.Locations.{Alignment}
 use Rattle.lrs_events.specs.declared.part.Gone.{Gone}
 use Rattle.lrs_events.specs.Places.{Place, lies_on}
 use Rattle.lrs_events.specs.Spans.{holds_by_spans}
@@ -22,14 +22,14 @@ use Rattle.lrs_machine.specs.Machine.{attempt, ◌>>=◌, abandon, drop_route}
 use Rattle.lrs_machine.specs.Sound.{IsSound}
 use Rattle.lrs_machine.specs.State.{State, Abandoned}
 use Rattle.lrs_machine.proofs.Members.{In, flat_map_found}
-use Rattle.lrs_image_laws.specs.Made.{Makes}
+use Rattle.lrs_image_laws.specs.CommandChanges.{Makes}
 use Rattle.lrs_image.proofs.Tables.{routes_in_order}
-use Rattle.lrs_image_laws.specs.Gone.{AreGone}
-use Rattle.lrs_image_laws.specs.Rewriting.{routes_named, routes_left, AreFit}
+use Rattle.lrs_image_laws.specs.GoneRows.{AreGone}
+use Rattle.lrs_image_laws.specs.Rewrites.{routes_named, routes_left, AreFit}
 use Rattle.lrs_image_laws.proofs.Listed.{length-parted}
 use Rattle.lrs_image_laws.proofs.Naming.{only_one, removed, route_found}
 use Rattle.lrs_image_laws.proofs.Rewriting.{old_few}
-use Rattle.lrs_image_laws.specs.Leaving.{with_left, is_held_on, LeaveGround, CloseMakes}
+use Rattle.lrs_image_laws.specs.Closures.{with_left, is_held_on, LeaveGround, CloseMakes}
 use Rattle.lrs_image_laws.proofs.Leaving.{held_lies, stands_on, leaving_makes_state, leaving_is_orderly}
 
 -- Where nothing is written all fits.

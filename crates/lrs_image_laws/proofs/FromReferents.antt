@@ -18,7 +18,7 @@ use Rattle.lrs_element.specs.Course.{Millimetre, ground_at, chainage_on, is_at, 
 use Rattle.lrs_position.proofs.Entries.{position_found, position_none}
 use Rattle.lrs_position.specs.declared.route.Referent.{Referent}
 use Rattle.lrs_position.specs.Routes.{is_route_course, are_referents, referent_before}
-use Rattle.lrs_position.specs.Translating.{alignment_of, referent_at}
+use Rattle.lrs_position.specs.Translations.{alignment_of, referent_at}
 use Rattle.lrs_machine.specs.declared.image.RouteRow.{RouteRow}
 use Rattle.lrs_machine.specs.declared.image.Image.{Image}
 use Rattle.lrs_measure.specs.Limits.{most_routes}
@@ -30,7 +30,7 @@ use Rattle.lrs_machine.proofs.Members.{In, any_found, any_of, all_at, In-map, In
 use Rattle.lrs_machine.proofs.Pairs.{each_two-map}
 use Rattle.lrs_machine.proofs.SoundImages.{and_three}
 use Rattle.lrs_image.proofs.Tables.{passes}
-use Rattle.lrs_events_lanes.proofs.Members.{two_pass}
+use Rattle.lrs_events.proofs.LaneLists.Members.{two_pass}
 use Rattle.lrs_image_laws.proofs.Apart.{apart_too}
 
 -- ---- lists

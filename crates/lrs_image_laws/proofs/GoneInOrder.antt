@@ -26,7 +26,7 @@ use Rattle.lrs_image_laws.specs.Orderly.{IsOrderly, is_filled, share_nothing_for
 use Rattle.lrs_image_laws.proofs.Found.{each_two_from}
 use Rattle.lrs_image_laws.proofs.Ordering.{sound_is_orderly}
 use Rattle.lrs_image_laws.proofs.Tables.{passes}
-use Rattle.lrs_image_laws.specs.Gone.{AreGone, AreInOrder, GoneStaysInOrder}
+use Rattle.lrs_image_laws.specs.GoneRows.{AreGone, AreInOrder, GoneStaysInOrder}
 use Rattle.lrs_image_laws.proofs.Appended.{all-append, each_two-append}
 use Rattle.lrs_image_laws.proofs.Once.{parts_apart}
 

@@ -14,7 +14,7 @@ use Rattle.lrs_machine.specs.Sound.{gone_before, parts_of}
 use Rattle.lrs_machine.proofs.Members.{list_any-map}
 use Rattle.lrs_machine.proofs.Pairs.{each_two-map}
 use Rattle.lrs_image_laws.specs.Orderly.{is_filled}
-use Rattle.lrs_image_laws.specs.Gone.{AreGone}
+use Rattle.lrs_image_laws.specs.GoneRows.{AreGone}
 
 abbrev pub gone_of : Bool → Part → Gone
 gone_of abandoned part = record { part = part; abandoned = abandoned }

@@ -25,13 +25,13 @@ use Rattle.lrs_events.specs.declared.side.Side.TheVariants.{L, R, B}
 use Rattle.lrs_events.specs.declared.span.Span.{Span}
 use Rattle.lrs_events.specs.Members.{has_side, between, stands_for, has_member, is_member}
 use Rattle.lrs_events.specs.Spans.{are_rows, is_row, span_before, are_apart}
-use Rattle.lrs_events_rows.specs.Cuts.{IsCut}
-use Rattle.lrs_events_lanes.proofs.Members.{each_two-filter}
+use Rattle.lrs_events.specs.Row.Cuts.{IsCut}
+use Rattle.lrs_events.proofs.LaneLists.Members.{each_two-filter}
 use Rattle.lrs_machine.specs.Sound.{is_span, are_spans_of}
 use Rattle.lrs_machine.proofs.Members.{In, any_found, any_of, all_at, all_of}
 use Rattle.lrs_machine.proofs.Pairs.{each_two-map}
 use Rattle.lrs_machine.proofs.SoundImages.{and_three}
-use Rattle.lrs_image_laws.specs.Splitting.{back_by, is_ahead, PartsAreRoutes, PartsHaveRows}
+use Rattle.lrs_image_laws.specs.Splits.{back_by, is_ahead, PartsAreRoutes, PartsHaveRows}
 use Rattle.lrs_image_laws.proofs.Listed.{In-filter}
 
 -- ---- the parts of a route

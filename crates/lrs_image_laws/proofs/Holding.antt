@@ -15,8 +15,8 @@ use Rattle.lrs_events.specs.Canonical.{side_of, side_held}
 use Rattle.lrs_events.specs.Members.{Picks, has_side}
 use Rattle.lrs_events.specs.Places.{beside, differs}
 use Rattle.lrs_events.specs.Spans.{holds_by_spans}
-use Rattle.lrs_events_rows.specs.OnCourse.{is_held, is_picked, is_once}
-use Rattle.lrs_events_rows.proofs.Picked.{rows_hold, sides_picked}
+use Rattle.lrs_events.specs.Row.CourseMembers.{is_held, is_picked, is_once}
+use Rattle.lrs_events.proofs.Row.Picked.{rows_hold, sides_picked}
 use Rattle.lrs_machine.specs.declared.image.RouteRow.{RouteRow}
 use Rattle.lrs_machine.specs.declared.image.Image.{Image}
 use Rattle.lrs_measure.specs.Limits.{most_routes}

@@ -9,7 +9,7 @@ use Rattle.std.specs.Cmp.{IsTotalOrder}
 use Rattle.std.proofs.lemmas.Bool.{false≢true, both_ways, and_parts, and_from, or_cases, or_left, or_right, or_parts}
 use Rattle.std.proofs.lemmas.List.Folds.{list_all-map}
 use Rattle.lrs_measure.specs.Lists.{each_two}
-use Rattle.lrs_measure.specs.Ordered.{insert_by}
+use Rattle.lrs_measure.specs.OrderedLists.{insert_by}
 use Rattle.lrs_machine.proofs.Members.{all_weaker}
 
 pub is_false : (b : Bool) → (b ≡ true → ⊥) → b ≡ false

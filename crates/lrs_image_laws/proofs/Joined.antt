@@ -25,7 +25,7 @@ use Rattle.lrs_machine.specs.Sound.{is_span}
 use Rattle.lrs_machine.proofs.Members.{In, all_at, all_of, map_found}
 use Rattle.lrs_machine.proofs.Pairs.{each_two-map}
 use Rattle.lrs_image_sound.proofs.Fitting.{fits}
-use Rattle.lrs_image_laws.specs.Joining.{on_by, joined_refs, AreUnlike, JoinsAreRoutes, JoinsHaveRows}
+use Rattle.lrs_image_laws.specs.Joins.{on_by, joined_refs, AreUnlike, JoinsAreRoutes, JoinsHaveRows}
 use Rattle.lrs_image_laws.proofs.Halved.{side_at, its_end, found, filled_in, is_theirs}
 use Rattle.lrs_image_laws.proofs.Listed.{all-insert_all}
 use Rattle.lrs_image_laws.proofs.Naming.{same_either, all_in_order}

@@ -10,14 +10,14 @@ use Rattle.std.proofs.lemmas.Bool.{both_ways, not-true, and_parts, and_from, or_
 use Rattle.std.proofs.lemmas.List.{append-nil}
 use Rattle.std.proofs.lemmas.List.Folds.{list_all-append, list_any-append}
 use Rattle.lrs_measure.specs.Lists.{each_two}
-use Rattle.lrs_measure.specs.Ordered.{insert_by}
+use Rattle.lrs_measure.specs.OrderedLists.{insert_by}
 use Rattle.lrs_measure.specs.Texts.{Name, name_cmp, same_name}
 use Rattle.lrs_element.specs.declared.link.Ground.{Ground}
 use Rattle.lrs_element.specs.Course.{Millimetre, is_at, runs_over, meets}
 use Rattle.lrs_element.specs.Marks.{joined_marks}
 use Rattle.lrs_position.specs.declared.route.Referent.{Referent}
 use Rattle.lrs_position.specs.Routes.{referent_before}
-use Rattle.lrs_position.specs.Locating.{Alignment}
+use Rattle.lrs_position.specs.Locations.{Alignment}
 use Rattle.lrs_events.specs.Places.{differs}
 use Rattle.lrs_events.specs.Spans.{holds_by_spans}
 use Rattle.lrs_machine.specs.declared.command.Command.TheVariants as verb
@@ -30,14 +30,14 @@ use Rattle.lrs_machine.specs.Image.{state_of, holds_on, referents_on, referent_e
 use Rattle.lrs_machine.specs.Machine.{attempt, set_route, drop_route}
 use Rattle.lrs_machine.specs.Sound.{is_on_a_link, are_spans_of, route_before, IsSound}
 use Rattle.lrs_machine.proofs.Members.{In, any_found, any_of, all_at, two_at, In-flat_map, flat_map_found, map_found, In-append_cases}
-use Rattle.lrs_image_laws.specs.Made.{Makes}
+use Rattle.lrs_image_laws.specs.CommandChanges.{Makes}
 use Rattle.lrs_image_sound.proofs.Coursed.{joined}
 use Rattle.lrs_image_sound.proofs.Fitting.{fits}
 use Rattle.lrs_image.proofs.Tables.{routes_in_order}
-use Rattle.lrs_image_laws.specs.Rewriting.{routes_named, routes_left, rewritten, with_routes, has_referent, runs_at, IsLeft, AreFit}
-use Rattle.lrs_image_laws.specs.Standing.{SayTheSame}
-use Rattle.lrs_image_laws.specs.Running.{runs_on, is_run_by}
-use Rattle.lrs_image_laws.specs.Joining.{on_by, IsJoined, JoinMakes}
+use Rattle.lrs_image_laws.specs.Rewrites.{routes_named, routes_left, rewritten, with_routes, has_referent, runs_at, IsLeft, AreFit}
+use Rattle.lrs_image_laws.specs.SameGround.{SayTheSame}
+use Rattle.lrs_image_laws.specs.RoutesOver.{runs_on, is_run_by}
+use Rattle.lrs_image_laws.specs.Joins.{on_by, IsJoined, JoinMakes}
 use Rattle.lrs_image_laws.proofs.Apart.{apart_too}
 use Rattle.lrs_image_laws.proofs.Differences.{two_left}
 use Rattle.lrs_image_laws.proofs.InOrder.{is_false}

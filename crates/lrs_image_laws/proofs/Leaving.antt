@@ -17,8 +17,8 @@ use Rattle.lrs_position.specs.declared.route.Referent.{Referent}
 use Rattle.lrs_events.specs.declared.part.Gone.{Gone}
 use Rattle.lrs_events.specs.Places.{Place, lies_on}
 use Rattle.lrs_events.specs.Parts.{has_pair}
-use Rattle.lrs_events_rows.proofs.Changing.{any_insert_all}
-use Rattle.lrs_events_lanes.proofs.Members.{each_two-filter}
+use Rattle.lrs_events.proofs.Row.Changing.{any_insert_all}
+use Rattle.lrs_events.proofs.LaneLists.Members.{each_two-filter}
 use Rattle.lrs_machine.specs.declared.image.RouteRow.{RouteRow}
 use Rattle.lrs_machine.specs.declared.image.Image.{Image}
 use Rattle.lrs_machine.specs.Image.{state_of, holds_on, referents_on, referent_entry, route_entry, reason_of}
@@ -27,13 +27,13 @@ use Rattle.lrs_machine.specs.Sound.{route_before, IsSound}
 use Rattle.lrs_machine.specs.State.{Reason, Abandoned, same_reason}
 use Rattle.lrs_machine.proofs.Members.{In, any_found, any_of, all_at, In-flat_map, flat_map_found}
 use Rattle.lrs_machine.proofs.Pairs.{held}
-use Rattle.lrs_image_laws.specs.Gone.{AreGone}
+use Rattle.lrs_image_laws.specs.GoneRows.{AreGone}
 use Rattle.lrs_image_laws.proofs.GoneInOrder.{gone_stays_in_order}
-use Rattle.lrs_image_laws.specs.Rewriting.{routes_named, routes_left, rewritten, AreFit}
+use Rattle.lrs_image_laws.specs.Rewrites.{routes_named, routes_left, rewritten, AreFit}
 use Rattle.lrs_image_laws.proofs.Listed.{In-filter, filter-In, In-insert_all, insert_all-In, any-parted}
 use Rattle.lrs_image_laws.proofs.Rewriting.{old_unlike, new_unlike, stays_far, orderly}
 use Rattle.lrs_image_laws.proofs.Standing.{option_found, named_once, found_alike}
-use Rattle.lrs_image_laws.specs.Leaving.{with_left, is_held_on, LeaveGround, LeavingMakesState, LeavingIsOrderly}
+use Rattle.lrs_image_laws.specs.Closures.{with_left, is_held_on, LeaveGround, LeavingMakesState, LeavingIsOrderly}
 
 -- ---- what is held on a route, or stands there, is on its course
 

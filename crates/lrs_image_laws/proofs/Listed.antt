@@ -4,11 +4,11 @@ use Rattle.std.specs.Prelude.{◌||◌, not}
 use Rattle.std.specs.List.{list_any, list_all, flat_map}
 use Rattle.std.proofs.lemmas.Bool.{and_parts}
 use Rattle.lrs_measure.specs.Lists.{each_two}
-use Rattle.lrs_measure.specs.Ordered.{insert_by, insert_all}
+use Rattle.lrs_measure.specs.OrderedLists.{insert_by, insert_all}
 use Rattle.lrs_ordered.proofs.Places.{two_front, two_rear}
-use Rattle.lrs_events_rows.specs.Order as order
-use Rattle.lrs_events_rows.proofs.Inserted as inserted
-use Rattle.lrs_events_rows.proofs.Replaced as replaced
+use Rattle.lrs_events.specs.Row.Order as order
+use Rattle.lrs_events.proofs.Row.Inserted as inserted
+use Rattle.lrs_events.proofs.Row.Replaced as replaced
 use Rattle.lrs_machine.proofs.Members.{In, all_at, all_of, In-flat_map, flat_map_found}
 use Rattle.lrs_image_sound.proofs.Coursed.{joined, across_of}
 use Rattle.lrs_image_laws.proofs.InOrder.{all-insert_by, each_two-insert_among}

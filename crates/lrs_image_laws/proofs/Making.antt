@@ -13,7 +13,7 @@ use Rattle.lrs_machine.specs.Laws.{IsLawful}
 use Rattle.lrs_machine.proofs.Lawful.{made_lawful}
 use Rattle.lrs_machine.proofs.SoundImages.{sound_is_lawful}
 use Rattle.lrs_image_laws.specs.Orderly.{IsOrderly, SoundIsOrderlyLawful}
-use Rattle.lrs_image_laws.specs.Made.{is_new, with_edit, Makes, MadeIsSound}
+use Rattle.lrs_image_laws.specs.CommandChanges.{is_new, with_edit, Makes, MadeIsSound}
 use Rattle.lrs_image_laws.proofs.Found.{each_two-push}
 use Rattle.lrs_image_laws.proofs.Sounding.{kept, orderly_lawful_is_sound}
 use Rattle.lrs_image_laws.proofs.Ordering.{sound_is_orderly}

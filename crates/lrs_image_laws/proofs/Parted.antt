@@ -13,10 +13,10 @@ use Rattle.lrs_events.specs.declared.span.Span.{Span}
 use Rattle.lrs_events.specs.Members.{Picks, stands_for, has_member, is_member}
 use Rattle.lrs_events.specs.Places.{Place, same_place, beside}
 use Rattle.lrs_events.specs.Spans.{holds_by_spans}
-use Rattle.lrs_events_rows.specs.OnCourse.{is_held, is_picked}
-use Rattle.lrs_events_rows.specs.Cuts.{IsCut}
-use Rattle.lrs_events_rows.specs.Joins.{IsJoin}
-use Rattle.lrs_events_rows.proofs.Picked.{rows_hold}
+use Rattle.lrs_events.specs.Row.CourseMembers.{is_held, is_picked}
+use Rattle.lrs_events.specs.Row.Cuts.{IsCut}
+use Rattle.lrs_events.specs.Row.Joins.{IsJoin}
+use Rattle.lrs_events.proofs.Row.Picked.{rows_hold}
 use Rattle.lrs_machine.proofs.Members.{any_found, any_of}
 
 -- ---- what is said of each class is said of all

@@ -15,9 +15,9 @@ use Rattle.lrs_element.specs.declared.link.Piece.{Piece}
 use Rattle.lrs_element.specs.declared.link.Ground.{Ground}
 use Rattle.lrs_element.specs.declared.marks.Mark.{Mark}
 use Rattle.lrs_element.specs.Course.{Millimetre, course_of, is_at, runs_over, meets}
-use Rattle.lrs_position_index.proofs.Pieces.{across, behind}
+use Rattle.lrs_position.proofs.Index.Pieces.{across, behind}
 use Rattle.lrs_position.specs.declared.route.Referent.{Referent}
-use Rattle.lrs_position.specs.Locating.{Alignment}
+use Rattle.lrs_position.specs.Locations.{Alignment}
 use Rattle.lrs_events.specs.declared.class.Asset.{Asset}
 use Rattle.lrs_events.specs.declared.part.Gone.{Gone}
 use Rattle.lrs_events.specs.declared.side.LinkSide.{LinkSide}
@@ -25,10 +25,10 @@ use Rattle.lrs_events.specs.declared.span.Span.{Span}
 use Rattle.lrs_events.specs.Members.{is_member}
 use Rattle.lrs_events.specs.Places.{Place, differs, lies_on}
 use Rattle.lrs_events.specs.Spans.{are_rows, holds_by_spans}
-use Rattle.lrs_events_rows.proofs.Rows.{rows_from}
-use Rattle.lrs_events_rows.proofs.Unique.{some_side}
-use Rattle.lrs_events_spans.specs.Realigning.{IsRealigned}
-use Rattle.lrs_events_spans.proofs.Said.{its_end, said_by}
+use Rattle.lrs_events.proofs.Row.Rows.{rows_from}
+use Rattle.lrs_events.proofs.Row.Unique.{some_side}
+use Rattle.lrs_events.specs.RouteSpans.Realignment.{IsRealigned}
+use Rattle.lrs_events.proofs.RouteSpans.Said.{its_end, said_by}
 use Rattle.lrs_machine.specs.declared.command.Command.TheVariants as verb
 use Rattle.lrs_machine.specs.declared.image.RouteRow.{RouteRow}
 use Rattle.lrs_machine.specs.declared.image.Image.{Image}
@@ -39,10 +39,10 @@ use Rattle.lrs_machine.specs.Image.{state_of, holds_on, referents_on, referent_e
 use Rattle.lrs_machine.specs.Machine.{attempt, abandon, set_route, do_realign}
 use Rattle.lrs_machine.specs.Sound.{is_on_a_link, is_span, are_spans_of, IsSound}
 use Rattle.lrs_machine.proofs.Members.{In, any_found, any_of, all_at, all_of, In-take, In-drop, In-append_right, In-append_cases, In-flat_map, flat_map_found}
-use Rattle.lrs_image_laws.specs.Made.{Makes}
+use Rattle.lrs_image_laws.specs.CommandChanges.{Makes}
 use Rattle.lrs_image_sound.proofs.Coursed.{joined, across_of}
 use Rattle.lrs_image.proofs.Tables.{routes_in_order}
-use Rattle.lrs_image_laws.specs.Rewriting.{routes_named, routes_left, rewritten, has_referent, runs_at, IsLeft, AreFit}
+use Rattle.lrs_image_laws.specs.Rewrites.{routes_named, routes_left, rewritten, has_referent, runs_at, IsLeft, AreFit}
 use Rattle.lrs_image_laws.proofs.Apart.{at_same}
 use Rattle.lrs_image_laws.proofs.InOrder.{is_false}
 use Rattle.lrs_image_laws.proofs.Joining.{get_first, get_last}
@@ -52,8 +52,8 @@ use Rattle.lrs_image_laws.proofs.Renaming.{own_names}
 use Rattle.lrs_image_laws.proofs.Rewriting.{are_unlike, its_course, old_few}
 use Rattle.lrs_image_laws.proofs.Splitting.{get_front, get_rear}
 use Rattle.lrs_image_laws.proofs.Standing.{option_found, found_option}
-use Rattle.lrs_image_laws.specs.Leaving.{with_left, LeaveGround}
-use Rattle.lrs_image_laws.specs.Realigning.{replaced, is_off, moved, IsTaken, IsRealignment, RealignMakes, RealignedHasRows}
+use Rattle.lrs_image_laws.specs.Closures.{with_left, LeaveGround}
+use Rattle.lrs_image_laws.specs.Realignments.{replaced, is_off, moved, IsTaken, IsRealignment, RealignMakes, RealignedHasRows}
 use Rattle.lrs_image_laws.proofs.Leaving.{leaving_makes_state, leaving_is_orderly}
 use Rattle.lrs_image_laws.proofs.Replaced.{front, part, rear, three_parts, front_length, replaced_length, stretch_holds, realigned_holds}
 

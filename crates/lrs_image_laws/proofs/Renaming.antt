@@ -6,12 +6,12 @@ use Rattle.std.specs.List.{list_any, list_all, filter_map}
 use Rattle.std.proofs.lemmas.Bool.{false≢true, both_ways}
 use Rattle.std.specs.Cmp.Lexicographic.{bytes_decides}
 use Rattle.lrs_measure.specs.Lists.{each_two}
-use Rattle.lrs_measure.specs.Ordered.{insert_by}
+use Rattle.lrs_measure.specs.OrderedLists.{insert_by}
 use Rattle.lrs_measure.specs.Texts.{name_cmp, same_name}
 use Rattle.lrs_element.specs.Course.{runs_over}
 use Rattle.lrs_element.specs.Marks.{bad_mark}
 use Rattle.lrs_position.specs.declared.route.Referent.{Referent}
-use Rattle.lrs_position.specs.Locating.{Alignment}
+use Rattle.lrs_position.specs.Locations.{Alignment}
 use Rattle.lrs_events.specs.Places.{differs}
 use Rattle.lrs_events.specs.Spans.{holds_by_spans}
 use Rattle.lrs_machine.specs.declared.answer.Cause.TheVariants as cause
@@ -24,13 +24,13 @@ use Rattle.lrs_machine.specs.Image.{state_of, referent_entry, route_entry}
 use Rattle.lrs_machine.specs.Machine.{attempt, refuse_if, refuse_at, check_marks, ◌>>=◌, ◌>>◌, set_route, drop_route}
 use Rattle.lrs_machine.specs.Sound.{is_on_a_link, are_spans_of, route_before, IsSound}
 use Rattle.lrs_machine.proofs.Members.{In, any_of, all_at, all_of}
-use Rattle.lrs_image_laws.specs.Made.{Makes}
+use Rattle.lrs_image_laws.specs.CommandChanges.{Makes}
 use Rattle.lrs_image_sound.proofs.Fitting.{fits}
 use Rattle.lrs_image.specs.Change.{is_named}
 use Rattle.lrs_image.proofs.PutBack.{none_goes}
 use Rattle.lrs_image.proofs.Tables.{routes_in_order}
-use Rattle.lrs_image_laws.specs.Rewriting.{routes_left, rewritten, with_routes}
-use Rattle.lrs_image_laws.specs.Renaming.{HasSame, RenumberMakes, RecalibrateMakes}
+use Rattle.lrs_image_laws.specs.Rewrites.{routes_left, rewritten, with_routes}
+use Rattle.lrs_image_laws.specs.Renames.{HasSame, RenumberMakes, RecalibrateMakes}
 use Rattle.lrs_image_laws.proofs.Alike.{IsAlike, named_ours, put_there, makes}
 pub use Rattle.lrs_image_laws.proofs.Alike.{own_names}
 use Rattle.lrs_image_laws.proofs.InOrder.{is_false}

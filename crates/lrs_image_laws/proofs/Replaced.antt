@@ -7,20 +7,20 @@ use Rattle.std.proofs.lemmas.List.Folds.{list_any-append, drop_split}
 use Rattle.lrs_measure.specs.Lists.{each_two}
 use Rattle.lrs_element.specs.declared.link.Ground.{Ground}
 use Rattle.lrs_element.specs.Course.{is_at}
-use Rattle.lrs_position_index.proofs.Pieces.{across, behind}
+use Rattle.lrs_position.proofs.Index.Pieces.{across, behind}
 use Rattle.lrs_events.specs.declared.side.LinkSide.{LinkSide}
 use Rattle.lrs_events.specs.declared.side.LinkSide.TheVariants.{Left, Right}
 use Rattle.lrs_events.specs.declared.span.Span.{Span}
 use Rattle.lrs_events.specs.Members.{Picks, is_member}
 use Rattle.lrs_events.specs.Places.{Place, differs, same_place, beside, lies_on}
 use Rattle.lrs_events.specs.Spans.{holds_by_spans}
-use Rattle.lrs_events_rows.specs.OnCourse.{is_held, is_picked}
-use Rattle.lrs_events_rows.specs.Removals.{is_within, IsThat}
-use Rattle.lrs_events_rows.proofs.Picked.{picked-none, rows_hold}
-use Rattle.lrs_events_spans.specs.Realigning.{IsRealigned}
+use Rattle.lrs_events.specs.Row.CourseMembers.{is_held, is_picked}
+use Rattle.lrs_events.specs.Row.Removals.{is_within, IsThat}
+use Rattle.lrs_events.proofs.Row.Picked.{picked-none, rows_hold}
+use Rattle.lrs_events.specs.RouteSpans.Realignment.{IsRealigned}
 use Rattle.lrs_image_laws.proofs.InOrder.{is_false}
 use Rattle.lrs_image_laws.proofs.Parted.{held_member, held_alike, held_same, picked-within, picked-append, picked-shift}
-use Rattle.lrs_image_laws.specs.Realigning.{replaced}
+use Rattle.lrs_image_laws.specs.Realignments.{replaced}
 
 -- what is picked of a course lies on it
 picked_lies : (m : Picks) (j : ℕ) (c : List Ground) (p : Place) → is_picked m j c p ≡ true → lies_on c p ≡ true

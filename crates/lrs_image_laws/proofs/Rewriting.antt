@@ -13,8 +13,8 @@ use Rattle.lrs_element.specs.Course.{runs_over, meets}
 use Rattle.lrs_position.specs.declared.route.Referent.{Referent}
 use Rattle.lrs_position.specs.Routes.{is_route_course, are_referents}
 use Rattle.lrs_events.specs.Places.{differs}
-use Rattle.lrs_events_lanes.proofs.Inserted.{length-insert_all}
-use Rattle.lrs_events_lanes.proofs.Members.{each_two-filter}
+use Rattle.lrs_events.proofs.LaneLists.Inserted.{length-insert_all}
+use Rattle.lrs_events.proofs.LaneLists.Members.{each_two-filter}
 use Rattle.lrs_machine.specs.declared.image.RouteRow.{RouteRow}
 use Rattle.lrs_machine.specs.declared.image.Image.{Image}
 use Rattle.lrs_measure.specs.Limits.{most_routes}
@@ -26,7 +26,7 @@ use Rattle.lrs_image_laws.specs.Orderly.{IsOrderly}
 use Rattle.lrs_image_laws.proofs.Ordering.{sound_is_orderly}
 use Rattle.lrs_image_sound.proofs.Fitting.{fits, marks_fit}
 use Rattle.lrs_image.proofs.Tables.{routes_in_order}
-use Rattle.lrs_image_laws.specs.Rewriting.{routes_named, routes_left, rewritten, with_routes, has_referent, runs_at, IsLeft, AreFit, RewritingIsOrderly}
+use Rattle.lrs_image_laws.specs.Rewrites.{routes_named, routes_left, rewritten, with_routes, has_referent, runs_at, IsLeft, AreFit, RewritingIsOrderly}
 use Rattle.lrs_image_laws.proofs.InOrder.{is_false}
 use Rattle.lrs_image_laws.proofs.Apart.{apart_too, meet_at}
 use Rattle.lrs_image_laws.proofs.Listed.{In-filter, all-insert_all, each_two-insert_all, made_two, made_some, made-insert_all}

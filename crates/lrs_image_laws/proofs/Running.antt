@@ -7,13 +7,13 @@ use Rattle.std.proofs.lemmas.Bool.{both_ways, not-true, cases_Bool}
 use Rattle.lrs_measure.specs.Lists.{each_two}
 use Rattle.lrs_measure.specs.Texts.{Name, same_name}
 use Rattle.lrs_element.specs.Course.{Millimetre, is_at, meets}
-use Rattle.lrs_events_rows.proofs.Changing.{any_insert_all}
+use Rattle.lrs_events.proofs.Row.Changing.{any_insert_all}
 use Rattle.lrs_machine.specs.declared.image.RouteRow.{RouteRow}
 use Rattle.lrs_machine.specs.declared.image.Image.{Image}
 use Rattle.lrs_machine.specs.Sound.{route_before, IsSound}
 use Rattle.lrs_machine.proofs.Members.{In, any_found, any_of, two_at}
-use Rattle.lrs_image_laws.specs.Rewriting.{routes_named, routes_left, rewritten, AreFit}
-use Rattle.lrs_image_laws.specs.Running.{runs_on, is_run_by, RewritingMovesGround}
+use Rattle.lrs_image_laws.specs.Rewrites.{routes_named, routes_left, rewritten, AreFit}
+use Rattle.lrs_image_laws.specs.RoutesOver.{runs_on, is_run_by, RewritingMovesGround}
 use Rattle.lrs_image_laws.proofs.InOrder.{is_false, none_found}
 use Rattle.lrs_image_laws.proofs.Apart.{at_is, meet_at}
 use Rattle.lrs_image_laws.proofs.Listed.{In-filter, insert_all-In, any-parted}

@@ -9,17 +9,17 @@ use Rattle.std.proofs.lemmas.Bool.{both_ways, not-true, and_parts, and_from, or_
 use Rattle.std.proofs.lemmas.List.Folds.{list_any-append}
 use Rattle.std.proofs.lemmas.List.{append-nil, take-append-drop}
 use Rattle.lrs_measure.specs.Lists.{each_two, is_nothing}
-use Rattle.lrs_measure.specs.Ordered.{insert_by}
+use Rattle.lrs_measure.specs.OrderedLists.{insert_by}
 use Rattle.lrs_measure.specs.Texts.{Name, name_cmp, same_name}
 use Rattle.lrs_ordered.proofs.Places.{two_front, two_rear}
 use Rattle.lrs_element.specs.declared.link.Ground.{Ground}
 use Rattle.lrs_element.specs.Course.{Millimetre, is_at, runs_over, meets, is_too_long}
 use Rattle.lrs_element.specs.Marks.{is_inner_mark, marks_to, marks_from}
 use Rattle.lrs_position.specs.declared.route.Referent.{Referent}
-use Rattle.lrs_position.specs.Locating.{Alignment}
+use Rattle.lrs_position.specs.Locations.{Alignment}
 use Rattle.lrs_events.specs.Places.{Place, differs}
 use Rattle.lrs_events.specs.Spans.{holds_by_spans}
-use Rattle.lrs_events_lanes.proofs.Members.{each_two-filter}
+use Rattle.lrs_events.proofs.LaneLists.Members.{each_two-filter}
 use Rattle.lrs_machine.specs.declared.answer.Cause.TheVariants as cause
 use Rattle.lrs_machine.specs.declared.command.Command.TheVariants as verb
 use Rattle.lrs_machine.specs.declared.image.RouteRow.{RouteRow}
@@ -32,16 +32,16 @@ use Rattle.lrs_machine.specs.Machine.{attempt, refuse_if, ◌>>=◌, ◌>>◌, s
 use Rattle.lrs_machine.specs.Sound.{is_on_a_link, are_spans_of, route_before, IsSound}
 use Rattle.lrs_machine.proofs.Members.{In, any_found, any_of, all_at, all_of, two_at, In-take, In-drop, In-map, In-flat_map, flat_map_found, map_found}
 use Rattle.lrs_machine.proofs.Pairs.{each_two-map}
-use Rattle.lrs_image_laws.specs.Made.{Makes}
+use Rattle.lrs_image_laws.specs.CommandChanges.{Makes}
 use Rattle.lrs_image_sound.proofs.Coursed.{joined, across_of}
 use Rattle.lrs_image_sound.proofs.Fitting.{fits}
 use Rattle.lrs_image.specs.Change.{is_named}
 use Rattle.lrs_image.proofs.PutBack.{none_goes}
 use Rattle.lrs_image.proofs.Tables.{routes_in_order}
-use Rattle.lrs_image_laws.specs.Rewriting.{routes_named, routes_left, rewritten, with_routes, has_referent, runs_at, IsLeft, AreFit}
-use Rattle.lrs_image_laws.specs.Standing.{SayTheSame}
-use Rattle.lrs_image_laws.specs.Running.{runs_on, is_run_by}
-use Rattle.lrs_image_laws.specs.Splitting.{back_by, is_ahead, IsSplit, SplitMakes}
+use Rattle.lrs_image_laws.specs.Rewrites.{routes_named, routes_left, rewritten, with_routes, has_referent, runs_at, IsLeft, AreFit}
+use Rattle.lrs_image_laws.specs.SameGround.{SayTheSame}
+use Rattle.lrs_image_laws.specs.RoutesOver.{runs_on, is_run_by}
+use Rattle.lrs_image_laws.specs.Splits.{back_by, is_ahead, IsSplit, SplitMakes}
 use Rattle.lrs_image_laws.proofs.Apart.{meet_at}
 use Rattle.lrs_image_laws.proofs.Differences.{filter-insert_by}
 use Rattle.lrs_image_laws.proofs.InOrder.{is_false}

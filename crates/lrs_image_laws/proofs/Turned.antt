@@ -17,13 +17,13 @@ use Rattle.lrs_events.specs.declared.span.Span.{Span}
 use Rattle.lrs_events.specs.Members.{Picks, is_member}
 use Rattle.lrs_events.specs.Places.{Place, differs, same_place, same_link_side, other_side, along_link, beside}
 use Rattle.lrs_events.specs.Spans.{holds_by_spans}
-use Rattle.lrs_events_rows.specs.OnCourse.{is_held, is_picked}
-use Rattle.lrs_events_rows.specs.Turns.{IsTurned}
-use Rattle.lrs_events_rows.proofs.Picked.{rows_hold}
+use Rattle.lrs_events.specs.Row.CourseMembers.{is_held, is_picked}
+use Rattle.lrs_events.specs.Row.Turns.{IsTurned}
+use Rattle.lrs_events.proofs.Row.Picked.{rows_hold}
 use Rattle.lrs_machine.specs.Image.{referent_entry}
 use Rattle.lrs_machine.proofs.Members.{In, all_at, all_of, In-append_cases}
 use Rattle.lrs_image_sound.proofs.Coursed.{joined}
-use Rattle.lrs_image_laws.specs.Turning.{from_end}
+use Rattle.lrs_image_laws.specs.Turns.{from_end}
 use Rattle.lrs_image_laws.proofs.Apart.{at_same}
 use Rattle.lrs_image_laws.proofs.Joining.{get_first, get_last}
 use Rattle.lrs_image_laws.proofs.Parted.{and_true, held_across, picked-within, picked-append, picked-shift}

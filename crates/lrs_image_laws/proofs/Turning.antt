@@ -13,7 +13,7 @@ use Rattle.lrs_element.specs.Marks.{bad_mark, mirrored}
 use Rattle.lrs_element.proofs.Expanding.{length-turned}
 use Rattle.lrs_element.proofs.Lining.{IsLine-mirrored, mirrored_is, none_from_IsLine}
 use Rattle.lrs_position.specs.declared.route.Referent.{Referent}
-use Rattle.lrs_position.specs.Locating.{Alignment}
+use Rattle.lrs_position.specs.Locations.{Alignment}
 use Rattle.lrs_position.specs.Routes.{is_route_course, have_marks, are_referents, referent_before}
 use Rattle.lrs_events.specs.Members.{is_member}
 use Rattle.lrs_events.specs.Places.{differs, other_side}
@@ -29,11 +29,11 @@ use Rattle.lrs_machine.specs.Machine.{attempt, ◌>>=◌, set_route}
 use Rattle.lrs_machine.specs.Sound.{is_on_a_link, is_span, IsSound}
 use Rattle.lrs_machine.proofs.Members.{In, any_of, all_at, all_of, map_found}
 use Rattle.lrs_machine.proofs.Pairs.{each_two-map}
-use Rattle.lrs_image_laws.specs.Made.{Makes}
+use Rattle.lrs_image_laws.specs.CommandChanges.{Makes}
 use Rattle.lrs_image.proofs.Tables.{routes_in_order}
 use Rattle.lrs_image_sound.proofs.Fitting.{fits}
-use Rattle.lrs_image_laws.specs.Rewriting.{rewritten, with_routes}
-use Rattle.lrs_image_laws.specs.Turning.{from_end, IsTurnedRoute, TurnMakes, TurnedIsRoute, TurnedHasRows}
+use Rattle.lrs_image_laws.specs.Rewrites.{rewritten, with_routes}
+use Rattle.lrs_image_laws.specs.Turns.{from_end, IsTurnedRoute, TurnMakes, TurnedIsRoute, TurnedHasRows}
 use Rattle.lrs_image_laws.proofs.Alike.{IsAlike, named_ours, put_there, makes}
 use Rattle.lrs_image_laws.proofs.Halved.{some, its_parts, its_line, side_at, its_end, found, filled_in, is_theirs}
 use Rattle.lrs_image_laws.proofs.Naming.{route_found}

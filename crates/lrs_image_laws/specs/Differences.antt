@@ -9,7 +9,7 @@ use Rattle.lrs_machine.specs.Sound.{IsSound}
 use Rattle.lrs_image.specs.declared.change.RouteChange.{RouteChange}
 use Rattle.lrs_image.specs.declared.change.Difference.{Difference}
 use Rattle.lrs_image.specs.Change.{is_named, entry_after, no_difference, no_keys, with_difference}
-use Rattle.lrs_image_laws.specs.Rewriting.{rewritten}
+use Rattle.lrs_image_laws.specs.Rewrites.{rewritten}
 
 -- the change of a route that leaves it as it is
 abbrev pub no_change : Name → RouteChange

@@ -1,7 +1,7 @@
 //! Laws of routes that leave a part of their ground.
 
-ghost use Rattle.lrs_image_laws.specs.Leaving.{CloseMakes, LeavingIsOrderly, LeavingMakesState};
-ghost use Rattle.lrs_image_laws.specs.Realigning.{RealignMakes, RealignedHasRows};
+ghost use Rattle.lrs_image_laws.specs.Closures.{CloseMakes, LeavingIsOrderly, LeavingMakesState};
+ghost use Rattle.lrs_image_laws.specs.Realignments.{RealignMakes, RealignedHasRows};
 
 /// Routes dropped and written that fit, and the ledger rows of what is removed, leave an image in order.
 pub fn leaving_is_orderly()

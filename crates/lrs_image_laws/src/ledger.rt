@@ -5,7 +5,7 @@ ghost use Rattle.lrs_measure.specs.Lists.{each_two};
 ghost use Rattle.lrs_events.specs.Places.{differs};
 ghost use Rattle.lrs_events.specs.Spans.{are_rows, holds_by_spans};
 ghost use Rattle.lrs_machine.specs.State.{Abandoned, Retired};
-ghost use Rattle.lrs_image_laws.specs.Gone.{AreGone};
+ghost use Rattle.lrs_image_laws.specs.GoneRows.{AreGone};
 
 use lrs_element::Course;
 use lrs_events::{Gone, Span};
@@ -30,7 +30,7 @@ pub fn taken_away(
     ensures { IfOk result (λ gone. AreGone edit (if abandoned then Abandoned else Retired)
         (holds_by_spans course.now rows.now) gone) }
 {
-    let parts = lrs_events_parts::parts(alloc, edit, rows, course)?;
-    let gone = lrs_events_parts::gone(alloc, &parts, abandoned)?;
+    let parts = lrs_events::parts(alloc, edit, rows, course)?;
+    let gone = lrs_events::gone(alloc, &parts, abandoned)?;
     Ok(Rows::from_vec(gone))
 }

@@ -1,13 +1,13 @@
 //! Laws of routes that are dropped and routes that are written.
 
-ghost use Rattle.lrs_image_laws.specs.Rewriting.{RewritingIsOrderly};
-ghost use Rattle.lrs_image_laws.specs.Standing.{RewritingKeepsState};
-ghost use Rattle.lrs_image_laws.specs.Running.{RewritingMovesGround};
+ghost use Rattle.lrs_image_laws.specs.Rewrites.{RewritingIsOrderly};
+ghost use Rattle.lrs_image_laws.specs.SameGround.{RewritingKeepsState};
+ghost use Rattle.lrs_image_laws.specs.RoutesOver.{RewritingMovesGround};
 ghost use Rattle.lrs_image_laws.specs.Differences.{DifferenceRewrites};
-ghost use Rattle.lrs_image_laws.specs.Renaming.{RecalibrateMakes, RenumberMakes};
-ghost use Rattle.lrs_image_laws.specs.Splitting.{SplitMakes, PartsAreRoutes, PartsHaveRows};
-ghost use Rattle.lrs_image_laws.specs.Joining.{JoinMakes, JoinsAreRoutes, JoinsHaveRows};
-ghost use Rattle.lrs_image_laws.specs.Turning.{TurnMakes, TurnedIsRoute, TurnedHasRows};
+ghost use Rattle.lrs_image_laws.specs.Renames.{RecalibrateMakes, RenumberMakes};
+ghost use Rattle.lrs_image_laws.specs.Splits.{SplitMakes, PartsAreRoutes, PartsHaveRows};
+ghost use Rattle.lrs_image_laws.specs.Joins.{JoinMakes, JoinsAreRoutes, JoinsHaveRows};
+ghost use Rattle.lrs_image_laws.specs.Turns.{TurnMakes, TurnedIsRoute, TurnedHasRows};
 
 /// Routes dropped and written that fit leave an image in order.
 pub fn rewriting_is_orderly()

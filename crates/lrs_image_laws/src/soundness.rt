@@ -1,7 +1,7 @@
 //! Orderly and lawful is sound.
 
 ghost use Rattle.lrs_image_laws.specs.Orderly.{OrderlyLawfulIsSound, SoundIsOrderly, SoundIsOrderlyLawful};
-ghost use Rattle.lrs_image_laws.specs.Made.{MadeIsSound};
+ghost use Rattle.lrs_image_laws.specs.CommandChanges.{MadeIsSound};
 
 /// An orderly image that stands for a lawful state is sound.
 pub fn orderly_lawful_images_are_sound()

@@ -8,10 +8,10 @@ use Rattle.lrs_machine.specs.Sound.{IsSound}
 use Rattle.lrs_image.specs.declared.change.Change.{Change}
 use Rattle.lrs_image_plain.specs.declared.plain.Content.{Content}
 use Rattle.lrs_image_plain.specs.declared.plain.Content.TheVariants.{Sound, Unsound}
-use Rattle.lrs_image.specs.Keeping.{is_image, HoldsSound}
-use Rattle.lrs_image.specs.Kept.{image_of}
-use Rattle.lrs_image_plain.specs.Plain.{content_after, IsContent, IsPlain, PlainView}
-use Rattle.lrs_image.specs.Together.{apply_all, CanMakeAll, IsChangedBy}
+use Rattle.lrs_image.specs.KeeperCalls.{is_image, HoldsSound}
+use Rattle.lrs_image.specs.OpenLists.{image_of}
+use Rattle.lrs_image_plain.specs.PlainKeeper.{content_after, IsContent, IsPlain, PlainView}
+use Rattle.lrs_image.specs.ChangeLists.{apply_all, CanMakeAll, IsChangedBy}
 use Rattle.lrs_image.proofs.Together.{apply_append, can_append, sound_after}
 
 -- What is found of a sound image and changes that can be made is sound.

@@ -3,10 +3,10 @@
 ghost use Rattle.std.specs.Prelude.{◌≡◌, IfOk, Ok, []};
 ghost use Rattle.lrs_machine.specs.Image.{nothing};
 ghost use Rattle.lrs_machine.specs.Sound.{IsSound};
-ghost use Rattle.lrs_image.specs.Kept.{image_of};
-ghost use Rattle.lrs_image_plain.specs.Plain.{IsBase};
-ghost use Rattle.lrs_image.specs.Together.{apply_all};
-ghost use Rattle.lrs_image.specs.Keeping.{content_of};
+ghost use Rattle.lrs_image.specs.OpenLists.{image_of};
+ghost use Rattle.lrs_image_plain.specs.PlainKeeper.{IsBase};
+ghost use Rattle.lrs_image.specs.ChangeLists.{apply_all};
+ghost use Rattle.lrs_image.specs.KeeperCalls.{content_of};
 
 use lrs_image::{Change, CommitFault, Keeper, KeptImage, LoadFault};
 use lrs_image_sound::first_unsound;
@@ -33,7 +33,7 @@ pub struct Plain {
 }
 
 impl Model for Plain {
-    ghost use Rattle.lrs_image_plain.specs.Plain.{content_after, PlainView, IsPlain};
+    ghost use Rattle.lrs_image_plain.specs.PlainKeeper.{content_after, PlainView, IsPlain};
     ghost use Rattle.std.specs.Prelude.{take, drop};
 
     ghost Value = { PlainView };
@@ -100,8 +100,8 @@ impl Plain {
 
 impl Keeper for Plain {
     ghost use Rattle.std.specs.Prelude.{◌≡◌, ⊤};
-    ghost use Rattle.lrs_image.specs.Keeping.{is_image};
-    ghost use Rattle.lrs_image_plain.specs.Plain.{finds_kept};
+    ghost use Rattle.lrs_image.specs.KeeperCalls.{is_image};
+    ghost use Rattle.lrs_image_plain.specs.PlainKeeper.{finds_kept};
 
     ghost may_hold = { λ plain c. c ≡ plain.content };
 

@@ -11,7 +11,7 @@ use Rattle.lrs_events.specs.Places.{Place}
 use Rattle.lrs_machine.specs.Sound.{RouteSpans, has_asset_place, is_part, are_balanced, is_balanced_at, places_of}
 use Rattle.lrs_machine.proofs.Members.{In, any_found, all_at}
 use Rattle.lrs_machine.proofs.Pairs.{place_had, part_on, part_asset}
-use Rattle.lrs_image_sound.specs.Sweeping.{IsFilled}
+use Rattle.lrs_image_sound.specs.SweptParts.{IsFilled}
 use Rattle.lrs_events.specs.Parts.{has_for, times_had, IsHadOnce}
 use Rattle.lrs_image_sound.specs.Pairs.{AreHadAlike}
 use Rattle.lrs_image_sound.specs.Balance.{AreHeld, IsLedger, ApartIsOnce, BalancedIsAlike}

@@ -6,7 +6,7 @@ use Rattle.std.proofs.lemmas.Bool.{false≢true, cases_Bool, eqb-true, eq-eqb, c
 use Rattle.lrs_events.specs.declared.part.Part.{Part}
 use Rattle.lrs_events.specs.Places.{Place}
 use Rattle.lrs_events.specs.Parts.{has_place, has_for, times_had}
-use Rattle.lrs_image_sound.specs.Sweeping.{IsFilled}
+use Rattle.lrs_image_sound.specs.SweptParts.{IsFilled}
 use Rattle.lrs_image_sound.specs.Pairs.{is_in, AreHadAlike, AreHadAlikeIn}
 use Rattle.lrs_image_sound.proofs.Had.{count_cons, count_no}
 

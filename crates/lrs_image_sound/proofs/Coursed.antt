@@ -14,7 +14,7 @@ use Rattle.lrs_element.specs.Pieces.{piece_len, ground_of}
 use Rattle.lrs_element.proofs.Expanding.{length-expand, get_or-expand}
 use Rattle.lrs_events.specs.Places.{differs}
 use Rattle.lrs_machine.proofs.Members.{In, any_found, any_of, all_at, In-append_left, In-append_right, In-flat_map, flat_map_found}
-use Rattle.lrs_image_sound.specs.Coursing.{CoursesAreApart}
+use Rattle.lrs_image_sound.specs.CourseRepeats.{CoursesAreApart}
 use Rattle.lrs_image_sound.proofs.Balancing.{all_members}
 use Rattle.lrs_image_sound.proofs.Keyed.{place_in}
 

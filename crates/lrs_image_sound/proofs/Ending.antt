@@ -16,7 +16,7 @@ use Rattle.lrs_events.specs.declared.side.LinkSide.{LinkSide}
 use Rattle.lrs_events.specs.declared.side.LinkSide.TheVariants.{Left, Right}
 use Rattle.lrs_events.specs.Places.{Place, same_link_side}
 use Rattle.lrs_image_sound.specs.declared.ends.End.{End}
-use Rattle.lrs_image_sound.specs.Sweeping.{is_right, IsFilled}
+use Rattle.lrs_image_sound.specs.SweptParts.{is_right, IsFilled}
 use Rattle.lrs_events.specs.Parts.{has_for, times_had}
 use Rattle.lrs_image_sound.specs.Pairs.{AreHadAlike}
 use Rattle.lrs_image_sound.specs.Ends.{start_of, end_of, IsRising}

@@ -16,7 +16,7 @@ use Rattle.lrs_machine.specs.Segments.{is_exclusive}
 use Rattle.lrs_machine.specs.Sound.{RouteSpans, holds_in, has_asset_place, is_part, share_nothing, asset_before, keeps_exclusive, holders_of, places_of}
 use Rattle.lrs_machine.proofs.Members.{In, any_found, any_of, all_at, one_at}
 use Rattle.lrs_machine.proofs.Pairs.{place_had, part_on}
-use Rattle.lrs_image_sound.specs.Sweeping.{IsFilled}
+use Rattle.lrs_image_sound.specs.SweptParts.{IsFilled}
 use Rattle.lrs_events.specs.Parts.{has_for, times_had, IsHadOnce}
 use Rattle.lrs_image_sound.specs.Balance.{AreHeld}
 use Rattle.lrs_image_sound.specs.Exclusive.{excludes, is_of_exclusive, AreKeyed, ExclusiveIsApart}

@@ -12,7 +12,7 @@ use Rattle.lrs_events.specs.Places.{Place, same_link_side}
 use Rattle.lrs_events.specs.Parts.{has_place}
 use Rattle.lrs_machine.specs.Sound.{share_nothing}
 use Rattle.lrs_machine.proofs.Pairs.{place_had}
-use Rattle.lrs_image_sound.specs.Sweeping.{IsFilled}
+use Rattle.lrs_image_sound.specs.SweptParts.{IsFilled}
 use Rattle.lrs_events.specs.Parts.{has_for, times_had, IsHadOnce}
 
 pub same_refl : (s : LinkSide) → same_link_side s s ≡ true

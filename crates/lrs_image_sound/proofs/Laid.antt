@@ -20,7 +20,7 @@ use Rattle.lrs_events.specs.Places.{differs}
 use Rattle.lrs_machine.specs.Sound.{RouteCourse, is_on_a_link, is_course, course_before, are_courses}
 use Rattle.lrs_machine.proofs.Members.{any_found, any_of, all_at}
 use Rattle.lrs_machine.proofs.Pairs.{each_two-map}
-use Rattle.lrs_image_sound.specs.Coursing.{ends_on_a_link, is_on_links}
+use Rattle.lrs_image_sound.specs.CourseRepeats.{ends_on_a_link, is_on_links}
 use Rattle.lrs_image_sound.specs.Tables.{route_before, route_courses}
 use Rattle.lrs_image_sound.proofs.Balancing.{all_members}
 use Rattle.lrs_image_sound.proofs.Coursed.{courses_are_apart}

@@ -10,7 +10,7 @@ use Rattle.lrs_events.specs.declared.part.Part.{Part}
 use Rattle.lrs_events.specs.Parts.{has_for, has_place}
 use Rattle.lrs_measure.specs.Limits.{most_pairs}
 use Rattle.lrs_machine.specs.Sound.{RouteSpans, is_part, share_nothing, pairs_of, are_parts, is_origin, are_origins}
-use Rattle.lrs_image_sound.specs.Sweeping.{IsFilled}
+use Rattle.lrs_image_sound.specs.SweptParts.{IsFilled}
 use Rattle.lrs_image_sound.specs.Balance.{AreHeld}
 use Rattle.lrs_image_sound.proofs.Sweeping.{each_two-permutation, share_nothing-comm}
 

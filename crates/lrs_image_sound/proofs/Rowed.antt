@@ -21,11 +21,11 @@ use Rattle.lrs_machine.specs.Sound.{RouteSpans, holds_in, has_asset_place, is_pa
 use Rattle.lrs_measure.specs.Limits.{most_routes}
 use Rattle.lrs_machine.proofs.Members.{In, any_found, any_of, all_at, map_found}
 use Rattle.lrs_machine.proofs.Pairs.{held, held_asset, each_two-map, entered_by, has_entered}
-use Rattle.lrs_image_sound.specs.Sweeping.{IsFilled}
+use Rattle.lrs_image_sound.specs.SweptParts.{IsFilled}
 use Rattle.lrs_events.specs.Parts.{has_for, times_had}
 use Rattle.lrs_image_sound.specs.Balance.{AreHeld}
-use Rattle.lrs_image_sound.specs.Holding.{AreRoutes, AreOfRoute, AreOfRoutes}
-use Rattle.lrs_image_sound.specs.Coursing.{is_on_links}
+use Rattle.lrs_image_sound.specs.HeldParts.{AreRoutes, AreOfRoute, AreOfRoutes}
+use Rattle.lrs_image_sound.specs.CourseRepeats.{is_on_links}
 use Rattle.lrs_image_sound.specs.Tables.{route_courses, route_spans, fits_route}
 use Rattle.lrs_image_sound.proofs.Had.{count_append, none_counted, has_it}
 use Rattle.lrs_image_sound.proofs.Coursed.{first_of, across_of}

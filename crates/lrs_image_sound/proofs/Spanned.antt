@@ -15,9 +15,9 @@ use Rattle.lrs_measure.specs.Limits.{most_pairs}
 use Rattle.lrs_events.specs.Parts.{part_before}
 use Rattle.lrs_machine.specs.Sound.{RouteSpans, gone_before, is_part, share_nothing, pairs_of, are_parts, parts_of, are_courses, are_entered, are_gone, are_balanced, are_spans, are_spans_of, keeps_exclusive}
 use Rattle.lrs_machine.proofs.SoundImages.{and_three}
-use Rattle.lrs_image_sound.specs.Sweeping.{IsFilled}
+use Rattle.lrs_image_sound.specs.SweptParts.{IsFilled}
 use Rattle.lrs_image_sound.specs.Balance.{AreHeld, IsLedger}
-use Rattle.lrs_image_sound.specs.Holding.{AreOfRoutes}
+use Rattle.lrs_image_sound.specs.HeldParts.{AreOfRoutes}
 use Rattle.lrs_image_sound.specs.Tables.{route_courses, route_spans, fits_route}
 use Rattle.lrs_image_sound.proofs.Balancing.{filled}
 use Rattle.lrs_image_sound.proofs.Rowed.{are_held, of_entry}

@@ -10,7 +10,7 @@ use Rattle.std.proofs.lemmas.List.{take_more, get_or_default, take-append-drop}
 use Rattle.std.proofs.lemmas.List.Sums.{sum_by-cons, sum_by-append}
 use Rattle.lrs_events.specs.declared.part.Part.{Part}
 use Rattle.lrs_machine.specs.Sound.{pairs_of}
-use Rattle.lrs_image_sound.specs.Sweeping.{is_right, IsInOrder}
+use Rattle.lrs_image_sound.specs.SweptParts.{is_right, IsInOrder}
 
 abbrev size_for : ℕ → Part → ℕ
 size_for a p = cond (nat_eq p.asset a) (p.to - p.from) 0

@@ -18,7 +18,7 @@ use Rattle.lrs_events.specs.declared.side.LinkSide.{LinkSide}
 use Rattle.lrs_events.specs.declared.side.LinkSide.TheVariants.{Left, Right}
 use Rattle.lrs_events.specs.Places.{same_link_side}
 use Rattle.lrs_machine.specs.Sound.{share_nothing}
-use Rattle.lrs_image_sound.specs.Sweeping.{is_right, IsFilled, IsInOrder}
+use Rattle.lrs_image_sound.specs.SweptParts.{is_right, IsFilled, IsInOrder}
 
 -- ---- a test of each two does not hang on their order
 

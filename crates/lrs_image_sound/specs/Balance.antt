@@ -7,7 +7,7 @@ use Rattle.lrs_events.specs.declared.class.Asset.{Asset}
 use Rattle.lrs_events.specs.declared.part.Part.{Part}
 use Rattle.lrs_events.specs.Places.{Place}
 use Rattle.lrs_machine.specs.Sound.{RouteSpans, holds_in, has_asset_place, is_part, share_nothing, are_balanced}
-use Rattle.lrs_image_sound.specs.Sweeping.{IsFilled}
+use Rattle.lrs_image_sound.specs.SweptParts.{IsFilled}
 use Rattle.lrs_events.specs.Parts.{IsHadOnce}
 use Rattle.lrs_image_sound.specs.Pairs.{AreHadAlike}
 

@@ -3,7 +3,7 @@ use Rattle.std.specs.Prelude.{◌≡◌, false}
 use Rattle.std.specs.Ordering.{is_lt, nat_cmp, bool_cmp, ordering_then}
 use Rattle.lrs_events.specs.declared.part.Part.{Part}
 use Rattle.lrs_image_sound.specs.declared.ends.End.{End}
-use Rattle.lrs_image_sound.specs.Sweeping.{is_right}
+use Rattle.lrs_image_sound.specs.SweptParts.{is_right}
 
 abbrev pub start_of : Part → End
 start_of p = record { asset = p.asset; link = p.link; right = is_right p.side; mm = p.from }

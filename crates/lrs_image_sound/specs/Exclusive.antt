@@ -11,7 +11,7 @@ use Rattle.lrs_events.specs.Places.{Place}
 use Rattle.lrs_events.specs.Parts.{has_place}
 use Rattle.lrs_machine.specs.Segments.{is_exclusive}
 use Rattle.lrs_machine.specs.Sound.{RouteSpans, share_nothing, asset_before, keeps_exclusive}
-use Rattle.lrs_image_sound.specs.Sweeping.{IsFilled}
+use Rattle.lrs_image_sound.specs.SweptParts.{IsFilled}
 use Rattle.lrs_events.specs.Parts.{times_had}
 use Rattle.lrs_image_sound.specs.Balance.{AreHeld}
 

@@ -5,7 +5,7 @@ ghost use Rattle.std.specs.List.{AllByRecursion};
 ghost use Rattle.lrs_element.specs.declared.link.Link.{Link};
 ghost use Rattle.lrs_events.specs.declared.class.Asset.{Asset};
 ghost use Rattle.lrs_machine.specs.Sound.{RouteSpans, are_balanced};
-ghost use Rattle.lrs_image_sound.specs.Sweeping.{IsFilled};
+ghost use Rattle.lrs_image_sound.specs.SweptParts.{IsFilled};
 ghost use Rattle.lrs_image_sound.specs.Balance.{AreHeld, IsLedger};
 
 use crate::ends::are_had_alike;

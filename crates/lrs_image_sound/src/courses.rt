@@ -5,7 +5,7 @@ ghost use Rattle.std.specs.List.{AllByRecursion, list_all, flat_map};
 ghost use Rattle.lrs_element.specs.Course.{course_of};
 ghost use Rattle.lrs_element.specs.Pieces.{IsFilled};
 ghost use Rattle.lrs_machine.specs.Sound.{are_links, are_courses, is_on_a_link};
-ghost use Rattle.lrs_image_sound.specs.Coursing.{ends_on_a_link, is_on_links};
+ghost use Rattle.lrs_image_sound.specs.CourseRepeats.{ends_on_a_link, is_on_links};
 ghost use Rattle.lrs_image_sound.specs.Tables.{route_courses};
 
 use crate::lookups::link_reaches;

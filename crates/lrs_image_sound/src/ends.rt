@@ -2,7 +2,7 @@
 
 ghost use Rattle.std.specs.Prelude.{◌≡◌, ◌↔◌, ℕ, ◌+◌, ◌<◌, ◌++◌, map, filter, length, slice_index_or, IsTrue, IfOk, IsPermutation};
 ghost use Rattle.std.specs.List.{AllByRecursion};
-ghost use Rattle.lrs_image_sound.specs.Sweeping.{IsFilled};
+ghost use Rattle.lrs_image_sound.specs.SweptParts.{IsFilled};
 ghost use Rattle.lrs_image_sound.specs.Pairs.{is_in, AreHadAlike, AreHadAlikeIn};
 ghost use Rattle.lrs_image_sound.specs.Ends.{start_of, end_of, IsRising};
 

@@ -7,7 +7,7 @@ ghost use Rattle.lrs_measure.specs.Texts.{Name, same_name};
 ghost use Rattle.lrs_element.specs.declared.link.Link.{Link};
 ghost use Rattle.lrs_machine.specs.Segments.{is_exclusive};
 ghost use Rattle.lrs_machine.specs.Sound.{RouteSpans, asset_before, class_before, keeps_exclusive};
-ghost use Rattle.lrs_image_sound.specs.Sweeping.{IsFilled};
+ghost use Rattle.lrs_image_sound.specs.SweptParts.{IsFilled};
 ghost use Rattle.lrs_image_sound.specs.Balance.{AreHeld};
 ghost use Rattle.lrs_image_sound.specs.Exclusive.{is_of_exclusive, is_name, is_place, is_exclusive_at, AreKeyed};
 ghost use Rattle.std.specs.Prelude.{slice_get};

@@ -2,12 +2,11 @@
 
 ghost use Rattle.std.specs.Prelude.{IfOk};
 ghost use Rattle.std.specs.List.{AllByRecursion};
-ghost use Rattle.lrs_image_sound.specs.Sweeping.{IsFilled};
-ghost use Rattle.lrs_image_sound.specs.Holding.{AreOfRoute, AreOfRoutes};
+ghost use Rattle.lrs_image_sound.specs.SweptParts.{IsFilled};
+ghost use Rattle.lrs_image_sound.specs.HeldParts.{AreOfRoute, AreOfRoutes};
 ghost use Rattle.lrs_image_sound.specs.Tables.{route_spans};
 
-use lrs_events::Part;
-use lrs_events_parts::parts;
+use lrs_events::{Part, parts};
 use lrs_machine::RouteRow;
 use std::alloc::{AllocError, Global};
 

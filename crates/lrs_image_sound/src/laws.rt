@@ -2,7 +2,7 @@
 
 ghost use Rattle.lrs_image_sound.specs.Balance.{ApartIsOnce, BalancedIsAlike};
 ghost use Rattle.lrs_image_sound.specs.Exclusive.{ExclusiveIsApart};
-ghost use Rattle.lrs_image_sound.specs.Coursing.{CoursesAreApart};
+ghost use Rattle.lrs_image_sound.specs.CourseRepeats.{CoursesAreApart};
 
 /// Parts share nothing exactly where no pair is had twice.
 pub fn apart_is_once()

@@ -2,7 +2,7 @@
 
 ghost use Rattle.std.specs.Prelude.{◌≡◌, ℕ, ◌+◌, ◌<◌, length, slice_index_or, true, IfOk};
 ghost use Rattle.lrs_events.specs.declared.part.Part.{Part};
-ghost use Rattle.lrs_image_sound.specs.Sweeping.{IsInOrder};
+ghost use Rattle.lrs_image_sound.specs.SweptParts.{IsInOrder};
 ghost use Rattle.std.specs.List.{list_all};
 ghost use Rattle.lrs_measure.specs.Lists.{each_two};
 ghost use Rattle.lrs_machine.specs.Sound.{are_links, asset_before, is_part, are_parts, are_entered, are_courses, are_gone, parts_of};

@@ -4,7 +4,7 @@ ghost use Rattle.std.specs.Prelude.{IsTrue, ◌↔◌, ◌≡◌, ℕ, ◌+◌, 
 ghost use Rattle.std.specs.Bool.{OnTrue, OnFalse};
 ghost use Rattle.lrs_events.specs.declared.part.Part.{Part};
 ghost use Rattle.lrs_machine.specs.Sound.{pairs_of};
-ghost use Rattle.lrs_image_sound.specs.Sweeping.{IsInOrder};
+ghost use Rattle.lrs_image_sound.specs.SweptParts.{IsInOrder};
 
 use lrs_events::Part;
 

@@ -6,7 +6,7 @@ ghost use Rattle.std.specs.List.{AllByRecursion};
 ghost use Rattle.lrs_measure.specs.Lists.{each_two};
 ghost use Rattle.lrs_events.specs.declared.part.Part.{Part};
 ghost use Rattle.lrs_machine.specs.Sound.{share_nothing};
-ghost use Rattle.lrs_image_sound.specs.Sweeping.{is_right, IsFilled, IsInOrder};
+ghost use Rattle.lrs_image_sound.specs.SweptParts.{is_right, IsFilled, IsInOrder};
 
 use lrs_events::{LinkSide, Part};
 use std::alloc::{AllocError, Global};

@@ -6,7 +6,7 @@ use Rattle.lrs_inventory.specs.Prelude.{each_two, Command, Image, RouteRow, stat
 use Rattle.lrs_machine.proofs.Members.{In}
 use Rattle.lrs_image.specs.Change.{CanBecome}
 use Rattle.lrs_image_laws.specs.Differences.{KeepsFromDropped}
-use Rattle.lrs_image_laws.specs.Rewriting.{rewritten, with_routes, AreFit}
+use Rattle.lrs_image_laws.specs.Rewrites.{rewritten, with_routes, AreFit}
 use Rattle.lrs_image_laws.proofs.Alike.{IsAlike, fit, same_state, named_ours, stays}
 use Rattle.lrs_image_laws.proofs.Differences.{difference_rewrites, reroutes}
 use Rattle.lrs_image_laws.proofs.Naming.{found_in}

@@ -13,8 +13,8 @@ use Rattle.lrs_events.specs.declared.side.LinkSide.{LinkSide}
 use Rattle.lrs_events.specs.declared.side.LinkSide.TheVariants.{Left, Right}
 use Rattle.lrs_events.specs.Members.{has_side, between, stands_for, has_member}
 use Rattle.lrs_events.specs.Places.{beside, places_at}
-use Rattle.lrs_events_rows.specs.OnCourse.{is_held}
-use Rattle.lrs_events_spans.specs.Search.{HoldsOver, IsOver}
+use Rattle.lrs_events.specs.Row.CourseMembers.{is_held}
+use Rattle.lrs_events.specs.RouteSpans.Search.{HoldsOver, IsOver}
 use Rattle.lrs_machine.specs.State as state
 use Rattle.lrs_machine.specs.Machine.{first_holder}
 use Rattle.lrs_machine.specs.Sound.{spans_of, keeps_exclusive, RouteSpans}

@@ -6,8 +6,8 @@ use Rattle.std.specs.Cmp.Lexicographic.{bytes_decides}
 use Rattle.lrs_inventory.specs.Prelude.{Referent, Span, span_before, has_row, IsPlan, RouteChange, spans_after}
 use Rattle.lrs_events.specs.Changes.{changed, changed_rows}
 use Rattle.lrs_events.specs.declared.change.SpanChange.{SpanChange}
-use Rattle.lrs_events_rows.specs.Order.{In}
-use Rattle.lrs_events_rows.proofs.Differing.{has_in}
+use Rattle.lrs_events.specs.Row.Order.{In}
+use Rattle.lrs_events.proofs.Row.Differing.{has_in}
 use Rattle.lrs_machine.proofs.Members as members
 use Rattle.lrs_image.specs.Change.{refers_to}
 use Rattle.lrs_image_laws.proofs.Listed.{In-filter}

@@ -9,11 +9,11 @@ use Rattle.std.specs.Prelude.{◌||◌, ◌&&◌, not, nat_le, nat_eq, is_some, 
 use Rattle.std.specs.Option.{option_map, option_or}
 use Rattle.lrs_inventory.specs.Prelude.{each_two, Name, Link, Piece, Ground, Millimetre, course_of, expand, meets, runs_over, Stretches, is_run_once, IsGroundOf, is_route_course, differs, Image, RouteRow, route_entry, state_of, RouteCourse, is_on_a_link, IsSound}
 use Rattle.lrs_element.specs.Course.{is_at}
-use Rattle.lrs_position_index.specs.Ground.{route_over, is_shared, HasGained, AreWhole, StaysWhole}
-use Rattle.lrs_position_index.specs.Met.{RunsBetween}
-use Rattle.lrs_position_index.proofs.Sharing.{same_test}
-use Rattle.lrs_position_index.proofs.Once.{once_both, front}
-use Rattle.lrs_position_index.proofs.Pieces.{across, behind}
+use Rattle.lrs_position.specs.Index.Ground.{route_over, is_shared, HasGained, AreWhole, StaysWhole}
+use Rattle.lrs_position.specs.Index.MetRoutes.{RunsBetween}
+use Rattle.lrs_position.proofs.Index.Sharing.{same_test}
+use Rattle.lrs_position.proofs.Index.Once.{once_both, front}
+use Rattle.lrs_position.proofs.Index.Pieces.{across, behind}
 use Rattle.lrs_measure.specs.Limits.{most_routes}
 use Rattle.lrs_machine.specs.Machine.{is_taken}
 use Rattle.lrs_machine.specs.Sound.{course_before, is_course, courses_of}

@@ -6,7 +6,7 @@ use Rattle.std.specs.Prelude.{◌||◌, is_some}
 use Rattle.std.specs.List.{list_any}
 use Rattle.std.specs.Option.{option_map}
 use Rattle.lrs_inventory.specs.Prelude.{Name, same_name, Millimetre, course_of, runs_over, Stretches, Edit, Image, state_of, with_difference}
-use Rattle.lrs_position_index.specs.Ground.{route_over}
+use Rattle.lrs_position.specs.Index.Ground.{route_over}
 use Rattle.lrs_image.specs.Change.{apply}
 use Rattle.lrs_inventory.specs.declared.plan.Plan.{Plan}
 use Rattle.lrs_inventory.specs.declared.plan.GroundChange.{GroundChange}

@@ -13,8 +13,8 @@ use Rattle.lrs_position.specs.declared.expression.Expr.TheVariants.{Abs, Rel, In
 use Rattle.lrs_position.specs.declared.location.PlaceFault.{PlaceFault}
 use Rattle.lrs_position.specs.declared.location.PlaceFault.TheVariants as fault
 use Rattle.lrs_position.specs.Expressions.{Ends, is_entered}
-use Rattle.lrs_position.specs.Locating.{Locates, located, located_or_fault, lacks_referent, is_too_fine, snap, cell}
-use Rattle.lrs_position.specs.Translating.{referent_at, number_of, IsAnswer, IsOnRoute}
+use Rattle.lrs_position.specs.Locations.{Locates, located, located_or_fault, lacks_referent, is_too_fine, snap, cell}
+use Rattle.lrs_position.specs.Translations.{referent_at, number_of, IsAnswer, IsOnRoute}
 use Rattle.lrs_position.proofs.Located.{located-sound}
 use Rattle.lrs_position.proofs.Answering.{IsSound-from_route}
 use Rattle.lrs_position.proofs.Whole.{rounded_limit}

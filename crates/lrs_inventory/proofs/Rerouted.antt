@@ -9,7 +9,7 @@ use Rattle.lrs_machine.proofs.SoundImages.{and_three}
 use Rattle.lrs_image.specs.Change.{CanBecome}
 use Rattle.lrs_image.proofs.Becoming.{HasBecome, becomes}
 use Rattle.lrs_image_laws.specs.Differences.{no_change}
-use Rattle.lrs_image_laws.specs.Renaming.{HasSame}
+use Rattle.lrs_image_laws.specs.Renames.{HasSame}
 use Rattle.lrs_image_laws.proofs.Rewriting.{old_spans}
 use Rattle.lrs_inventory.proofs.ChangedRoute.{at}
 

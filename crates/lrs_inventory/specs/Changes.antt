@@ -2,7 +2,7 @@
 use Rattle.std.specs.Prelude.{◌≡◌, ◌||◌, true, false, if◌then◌else◌, List, Option, Some, None, is_some}
 use Rattle.std.specs.List.{list_any, AllByRecursion}
 use Rattle.lrs_inventory.specs.Prelude.{Name, same_name, Millimetre, course_of, runs_over, IsFilled, is_run_once, RouteRow}
-use Rattle.lrs_position_index.specs.Routes.{routes_over}
+use Rattle.lrs_position.specs.Index.Routes.{routes_over}
 use Rattle.lrs_inventory.specs.declared.plan.GroundChange.{GroundChange}
 use Rattle.lrs_inventory.specs.declared.plan.ReferentPlace.{ReferentPlace}
 use Rattle.lrs_inventory.specs.declared.plan.ReferentPlaces.{ReferentPlaces}

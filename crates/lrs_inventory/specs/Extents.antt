@@ -6,7 +6,7 @@ use Rattle.lrs_measure.specs.Fraction.{Fraction}
 use Rattle.lrs_position.specs.declared.expression.Expr.{Expr}
 use Rattle.lrs_position.specs.declared.location.PlaceFault.{PlaceFault}
 use Rattle.lrs_position.specs.declared.location.PlaceFault.TheVariants as fault
-use Rattle.lrs_position.specs.Locating.{snap, cell}
+use Rattle.lrs_position.specs.Locations.{snap, cell}
 use Rattle.lrs_machine.specs.declared.answer.Cause.TheVariants as cause
 use Rattle.lrs_machine.specs.Machine.{located_chainage}
 use Rattle.lrs_inventory.specs.declared.plan.Stop.{Stop}

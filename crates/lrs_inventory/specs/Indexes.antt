@@ -1,9 +1,9 @@
--- The indexes of an image, and what is put into them and let go.
+-- The indexes of an image, and what is put into them and dropped.
 use Rattle.std.specs.FinMap.{get}
 use Rattle.std.specs.Prelude.{◌≡◌, ℕ, if◌then◌else◌, Option, Some, None}
 use Rattle.std.specs.Option.{option_map}
 use Rattle.lrs_inventory.specs.Prelude.{Name, Millimetre, course_of, runs_over, Stretches, IsGroundOf, Image, state_of}
-use Rattle.lrs_position_index.specs.Ground.{route_over, HasGained, AreWhole}
+use Rattle.lrs_position.specs.Index.Ground.{route_over, HasGained, AreWhole}
 use Rattle.lrs_inventory.specs.declared.plan.GroundChange.{GroundChange}
 use Rattle.lrs_inventory.specs.declared.plan.ReferentPlace.{ReferentPlace}
 use Rattle.lrs_inventory.specs.declared.indexes.Indexes.{Indexes}

@@ -2,7 +2,7 @@
 use Rattle.std.specs.Prelude.{⊤, ◌≡◌, ◌+◌, ◌≤◌, [], length, None, Result, Ok, Err}
 use Rattle.lrs_inventory.specs.Prelude.{Name, Millimetre, Cause, Command, Edit, Image, state_of, attempt, IsSound, Makes, Difference, no_difference, with_difference, CanDiffer}
 use Rattle.lrs_measure.specs.Limits.{most_edits}
-use Rattle.lrs_image_laws.specs.Made.{HasRoomFor}
+use Rattle.lrs_image_laws.specs.CommandChanges.{HasRoomFor}
 use Rattle.lrs_image.specs.declared.change.Change.{Change}
 use Rattle.lrs_image.specs.Change.{CanMake}
 use Rattle.lrs_inventory.specs.declared.plan.Plan.{Plan}

@@ -1,7 +1,7 @@
 -- The words of the crates below that many modules of this crate cite, passed on from one place. Declares nothing. The words of std come from std itself, as a reader expects them to.
-pub use Rattle.lrs_events_rows.specs.Joins.{end_by}
-pub use Rattle.lrs_events_rows.specs.Removals.{is_within, IsRemoval}
-pub use Rattle.lrs_events_rows.specs.declared.removals.Removal.{Removal}
+pub use Rattle.lrs_events.specs.Row.Joins.{end_by}
+pub use Rattle.lrs_events.specs.Row.Removals.{is_within, IsRemoval}
+pub use Rattle.lrs_events.specs.declared.rows.removals.Removal.{Removal}
 pub use Rattle.lrs_element.specs.Course.{Millimetre, course_of, runs_over, is_too_long, meets, expand}
 pub use Rattle.lrs_measure.specs.Limits.{longest_route}
 pub use Rattle.lrs_element.specs.Pieces.{IsFilled}
@@ -18,11 +18,11 @@ pub use Rattle.lrs_events.specs.declared.part.Gone.{Gone}
 pub use Rattle.lrs_events.specs.declared.part.Part.{Part}
 pub use Rattle.lrs_events.specs.declared.side.Side.TheVariants.{B}
 pub use Rattle.lrs_events.specs.declared.span.Span.{Span}
-pub use Rattle.lrs_image_laws.specs.Gone.{AreGone}
-pub use Rattle.lrs_position_index.specs.Ground.{is_run_once, Stretches}
-pub use Rattle.lrs_position_index.specs.Routes.{IsGroundOf}
+pub use Rattle.lrs_image_laws.specs.GoneRows.{AreGone}
+pub use Rattle.lrs_position.specs.Index.Ground.{is_run_once, Stretches}
+pub use Rattle.lrs_position.specs.Index.Routes.{IsGroundOf}
 pub use Rattle.lrs_image.specs.Change.{is_named, with_difference, changed_refs, no_difference, no_keys, keys_of, CanDiffer, entry_after, fits_after, without, route_after, are_names_of, spans_after}
-pub use Rattle.lrs_image.specs.Kept.{image_of}
+pub use Rattle.lrs_image.specs.OpenLists.{image_of}
 pub use Rattle.lrs_image.specs.declared.change.Difference.{Difference}
 pub use Rattle.lrs_image.specs.declared.change.RouteChange.{RouteChange}
 pub use Rattle.lrs_image.specs.declared.change.RouteKeys.{RouteKeys}
@@ -40,13 +40,13 @@ pub use Rattle.lrs_machine.specs.declared.image.Edit.{Edit}
 pub use Rattle.lrs_machine.specs.declared.image.Image.{Image}
 pub use Rattle.lrs_machine.specs.declared.image.RouteRow.{RouteRow}
 pub use Rattle.lrs_measure.specs.Lists.{each_two}
-pub use Rattle.lrs_measure.specs.Ordered.{insert_by}
+pub use Rattle.lrs_measure.specs.OrderedLists.{insert_by}
 pub use Rattle.lrs_measure.specs.Texts.{Name, same_name, name_cmp}
-pub use Rattle.lrs_image_laws.specs.Made.{Makes}
+pub use Rattle.lrs_image_laws.specs.CommandChanges.{Makes}
 pub use Rattle.lrs_image_laws.specs.Orderly.{IsOrderly}
-pub use Rattle.lrs_position.specs.Locating.{Alignment}
+pub use Rattle.lrs_position.specs.Locations.{Alignment}
 pub use Rattle.lrs_position.specs.Routes.{is_route, is_route_course, are_referents, have_marks, referent_before}
-pub use Rattle.lrs_position.specs.Translating.{alignment_of}
+pub use Rattle.lrs_position.specs.Translations.{alignment_of}
 pub use Rattle.lrs_position.specs.declared.route.Referent.{Referent}
 pub use Rattle.lrs_image_laws.specs.Differences.{rerouting}
-pub use Rattle.lrs_events_spans.specs.Plans.{IsPlan}
+pub use Rattle.lrs_events.specs.RouteSpans.Plans.{IsPlan}

@@ -3,13 +3,13 @@
 ghost use Rattle.std.specs.Prelude.{◌≡◌, true, IfOk, OnOk, OnErr};
 ghost use Rattle.std.specs.List.{flat_map};
 ghost use Rattle.lrs_inventory.specs.Prelude.{Millimetre, Stretches, is_run_once, IsGroundOf};
-ghost use Rattle.lrs_position_index.specs.Ground.{route_over};
+ghost use Rattle.lrs_position.specs.Index.Ground.{route_over};
 ghost use Rattle.lrs_inventory.specs.Changes.{CanChange, CanChangeGround};
 ghost use Rattle.lrs_inventory.specs.Indexes.{IsReady, IsReadyFor, AreWholeFor, ground_made};
 
 use crate::plan::GroundChange;
 use lrs_machine::RouteRow;
-use lrs_position_index::GroundIndex;
+use lrs_position::GroundIndex;
 use std::alloc::{AllocError, Global};
 
 /// The ground of routes, of which none runs over a millimetre twice and no two over one.

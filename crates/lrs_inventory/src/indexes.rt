@@ -5,7 +5,7 @@ ghost use Rattle.std.specs.FinMap as map;
 ghost use Rattle.std.specs.Prelude.{◌≡◌, None, IfOk, OnOk, OnErr, if◌then◌else◌};
 ghost use Rattle.std.specs.List.{list_any};
 ghost use Rattle.lrs_inventory.specs.Prelude.{Name, same_name, Millimetre, IsSound};
-ghost use Rattle.lrs_position_index.specs.Ground.{route_over};
+ghost use Rattle.lrs_position.specs.Index.Ground.{route_over};
 ghost use Rattle.lrs_inventory.specs.Changes.{CanChangeGround, IsNewReferent};
 ghost use Rattle.lrs_inventory.specs.Indexes.{IsIndexed, IsPutIn, TellSame, AreWholeFor, ground_made};
 ghost use Rattle.lrs_inventory.specs.Keys.{IsNewPlace};
@@ -16,8 +16,7 @@ use crate::keys::KeyIndex;
 use crate::plan::{GroundChange, ReferentPlace};
 use crate::referents::ReferentIndex;
 use lrs_machine::{Image, Key};
-use lrs_position::RefName;
-use lrs_position_index::GroundIndex;
+use lrs_position::{GroundIndex, RefName};
 use std::alloc::{AllocError, Global};
 
 /// The indexes of an image.

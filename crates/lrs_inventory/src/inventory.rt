@@ -3,7 +3,7 @@
 ghost use Rattle.std.specs.Prelude.{◌≡◌, ◌∷◌, ◌++◌, [], IfOk, OnOk, OnErr, Err, Result, true, length};
 ghost use Rattle.lrs_machine.specs.declared.image.Image.{Image as ImageRows};
 ghost use Rattle.lrs_machine.specs.declared.table.Table.{Table};
-ghost use Rattle.lrs_image.specs.Keeping.{HasRisen, HoldsOnly, HoldsOldOrNew, HoldsSame};
+ghost use Rattle.lrs_image.specs.KeeperCalls.{HasRisen, HoldsOnly, HoldsOldOrNew, HoldsSame};
 ghost use Rattle.lrs_inventory.specs.Prelude.{IsSound, image_of};
 ghost use Rattle.lrs_image.specs.Change.{apply, CanMake};
 ghost use Rattle.lrs_inventory.specs.Plans.{change_of, TellsGround};
@@ -29,7 +29,7 @@ pub struct Inventory {
 
 impl Model for Inventory {
     ghost use Rattle.lrs_machine.specs.declared.image.Image.{Image};
-    ghost use Rattle.lrs_image.specs.Kept.{image_of};
+    ghost use Rattle.lrs_image.specs.OpenLists.{image_of};
     ghost use Rattle.lrs_inventory.specs.Inventory.{IsKnown};
 
     ghost Value = { Image };

@@ -13,7 +13,7 @@ use Rattle.lrs_position.specs.declared.expression.Expr.{Expr}
 use Rattle.lrs_position.specs.declared.expression.Expr.TheVariants.{Abs, Rel, Int}
 use Rattle.lrs_position.specs.Expressions.{Ends, is_negative, greatest_denominator, is_entered, same_method, are_alike}
 use Rattle.lrs_machine.specs.Lines.{Text, signed_text, method_text, expression_text, end_text}
-use Rattle.lrs_machine.specs.WellFormed.{IsPosition, IsEnd, IsLocation}
+use Rattle.lrs_machine.specs.WellFormedCommands.{IsPosition, IsEnd, IsLocation}
 use Rattle.lrs_machine.proofs.Joined.{Lacks, lacks_from, lacks-append, split_at_first, starts_with, differ, not_empty}
 use Rattle.lrs_machine.proofs.Decimals.{IsSmall, small_below, decimal_passes, lacks-decimal, decimals_apart, signed_apart, named_apart, lacks-signed, decimal_not_empty}
 

@@ -22,8 +22,8 @@ use Rattle.lrs_element.specs.Marks.{is_inner_mark, joined_marks, is_out_of_range
 use Rattle.lrs_measure.specs.Limits.{most_marks}
 use Rattle.lrs_element.specs.Pieces.{piece_len}
 use Rattle.lrs_element.proofs.Expanding.{length-expand, get_or-expand}
-use Rattle.lrs_events_lanes.proofs.Members.{all_places, passes_at, all-filter}
-use Rattle.lrs_position.specs.Locating.{Alignment}
+use Rattle.lrs_events.proofs.LaneLists.Members.{all_places, passes_at, all-filter}
+use Rattle.lrs_position.specs.Locations.{Alignment}
 use Rattle.lrs_events.specs.declared.class.Kind.{Kind}
 use Rattle.lrs_events.specs.declared.side.Side.{Side}
 use Rattle.lrs_events.specs.declared.side.Side.TheVariants.{B}

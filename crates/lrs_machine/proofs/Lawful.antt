@@ -13,7 +13,7 @@ use Rattle.lrs_measure.specs.Lists.{is_nothing}
 use Rattle.lrs_measure.specs.Limits.{most_marks}
 use Rattle.lrs_element.specs.Course.{Millimetre, course_of, is_too_long}
 use Rattle.lrs_element.specs.Marks.{is_inner_mark, joined_marks, is_out_of_range}
-use Rattle.lrs_position.specs.Locating.{Alignment}
+use Rattle.lrs_position.specs.Locations.{Alignment}
 use Rattle.lrs_events.specs.declared.class.Kind.{Kind}
 use Rattle.lrs_events.specs.declared.class.Kind.TheVariants.{Exclusive}
 use Rattle.lrs_events.specs.Places.{Place, is_among, places_on}

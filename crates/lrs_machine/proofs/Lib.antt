@@ -18,3 +18,4 @@ pub mod LinesApart
 pub mod Ascii
 pub mod Words
 pub mod Between
+pub mod Stop

@@ -20,10 +20,10 @@ use Rattle.lrs_events.specs.declared.side.Side.TheVariants.{L, R, B}
 use Rattle.lrs_machine.specs.declared.command.NewAsset.{NewAsset}
 use Rattle.lrs_machine.specs.declared.command.Command.{Command}
 use Rattle.lrs_machine.specs.declared.command.Command.TheVariants as verb
-use Rattle.lrs_machine.specs.Entered.{is_asset_number, is_chainage, is_lateral_offset}
+use Rattle.lrs_machine.specs.EnteredNumbers.{is_asset_number, is_chainage, is_lateral_offset}
 use Rattle.lrs_events.specs.Names.{kind_text, side_text}
 use Rattle.lrs_machine.specs.Lines.{Text, pieces_text, some_pieces_text, marks_text, method_text, expression_text, end_text, location_fields, new_asset_fields, line_of}
-use Rattle.lrs_machine.specs.WellFormed.{IsNewAsset, IsWellFormed}
+use Rattle.lrs_machine.specs.WellFormedCommands.{IsNewAsset, IsWellFormed}
 use Rattle.lrs_machine.specs.Laws.{LinesTellCommandsApart}
 use Rattle.lrs_machine.proofs.Joined.{Lacks, AllLack, lacks_from, joined_apart, differ, starts_with}
 use Rattle.lrs_machine.proofs.Decimals.{IsSmall, small_below, small_from_to, lacks-decimal, decimals_apart}

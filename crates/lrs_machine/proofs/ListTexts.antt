@@ -9,9 +9,9 @@ use Rattle.lrs_measure.specs.Lists.{is_from_to}
 use Rattle.lrs_measure.specs.Limits.{is_link_number, longest_link, longest_route, most_pieces, most_marks, greatest_measure}
 use Rattle.lrs_element.specs.declared.link.Piece.{Piece}
 use Rattle.lrs_element.specs.declared.marks.Mark.{Mark}
-use Rattle.lrs_machine.specs.Entered.{is_chainage, is_entered_piece, are_entered_pieces, is_entered_mark, are_entered_marks}
+use Rattle.lrs_machine.specs.EnteredNumbers.{is_chainage, is_entered_piece, are_entered_pieces, is_entered_mark, are_entered_marks}
 use Rattle.lrs_machine.specs.Lines.{Text, piece_text, mark_text, pieces_text, some_pieces_text, marks_text}
-use Rattle.lrs_machine.specs.WellFormed.{ArePieces}
+use Rattle.lrs_machine.specs.WellFormedCommands.{ArePieces}
 use Rattle.lrs_machine.proofs.Joined.{Lacks, AllLack, is_other, lacks-joined, joined_apart, starts_with, differ, not_empty}
 use Rattle.lrs_machine.proofs.Decimals.{IsSmall, small_below, small_from_to, lacks-decimal, decimals_apart}
 

@@ -19,7 +19,7 @@ use Rattle.lrs_machine.specs.Image.{state_of, nothing}
 use Rattle.lrs_machine.specs.Readings.{all_places, assets_of, edits_of, total_present, total_entered, total_gone}
 use Rattle.lrs_machine.specs.Sound.{IsSound}
 use Rattle.lrs_machine.specs.Lines.{line_of}
-use Rattle.lrs_machine.specs.WellFormed.{IsWellFormed}
+use Rattle.lrs_machine.specs.WellFormedCommands.{IsWellFormed}
 
 -- Each pair of asset and place is entered at most once and taken away at most once; held is what was entered and is not gone, and nothing is gone that was not entered.
 pub record IsBalanced (s : State) : Type 0 where

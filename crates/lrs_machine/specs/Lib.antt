@@ -1,11 +1,11 @@
 pub mod Totals
 pub mod Segments
 pub mod Keys
-pub mod Entered
+pub mod EnteredNumbers
 pub mod Register
 pub mod State
 pub mod Lines
-pub mod WellFormed
+pub mod WellFormedCommands
 pub mod Texts
 pub mod AnswerTexts
 pub mod Machine
@@ -13,3 +13,5 @@ pub mod Image
 pub mod Readings
 pub mod Sound
 pub mod Laws
+pub mod Stop
+pub mod Absence

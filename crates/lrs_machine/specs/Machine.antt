@@ -13,7 +13,7 @@ use Rattle.lrs_element.specs.Course.{Millimetre, expand, course_of, meets, runs_
 use Rattle.lrs_element.specs.Marks.{bad_mark, is_out_of_range, is_inner_mark, marks_to, marks_from, joined_marks, mirrored}
 use Rattle.lrs_position.specs.declared.expression.Expr.{Expr}
 use Rattle.lrs_position.specs.Expressions.{Ends}
-use Rattle.lrs_position.specs.Locating.{Alignment, lacks_referent, located, snap, cell}
+use Rattle.lrs_position.specs.Locations.{Alignment, lacks_referent, located, snap, cell}
 use Rattle.lrs_events.specs.declared.class.Class.{Class}
 use Rattle.lrs_events.specs.declared.class.Kind.{Kind}
 use Rattle.lrs_events.specs.declared.class.Kind.TheVariants.{Point, Stretch, Exclusive}

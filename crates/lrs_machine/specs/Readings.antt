@@ -6,7 +6,7 @@ use Rattle.lrs_measure.specs.Texts.{Name, same_name}
 use Rattle.lrs_measure.specs.Runs.{Run}
 use Rattle.lrs_element.specs.declared.link.Ground.{Ground}
 use Rattle.lrs_position.specs.declared.expression.Expr.{Expr}
-use Rattle.lrs_position.specs.Locating.{cell, located}
+use Rattle.lrs_position.specs.Locations.{cell, located}
 use Rattle.lrs_events.specs.declared.class.Asset.{Asset}
 use Rattle.lrs_events.specs.declared.side.Side.{Side}
 use Rattle.lrs_events.specs.declared.side.LinkSide.{LinkSide}

@@ -27,7 +27,7 @@ use Rattle.lrs_machine.specs.declared.image.RouteRow.{RouteRow}
 use Rattle.lrs_machine.specs.declared.table.Table.{Table}
 use Rattle.lrs_machine.specs.declared.table.Table.TheVariants as table
 use Rattle.lrs_measure.specs.Limits.{most_routes, most_assets, most_edits, most_pairs}
-use Rattle.lrs_machine.specs.Entered.{is_asset_number, is_lateral_offset}
+use Rattle.lrs_machine.specs.EnteredNumbers.{is_asset_number, is_lateral_offset}
 
 -- table `link`: in the order of their numbers
 

@@ -3,7 +3,7 @@ use Rattle.std.specs.Prelude.{ℕ, Bool, true, false, List, [], Option, None}
 use Rattle.std.specs.Ordering.{nat_cmp}
 use Rattle.lrs_measure.specs.Texts.{Name, name_cmp}
 use Rattle.lrs_element.specs.Course.{Millimetre}
-use Rattle.lrs_position.specs.Locating.{Alignment}
+use Rattle.lrs_position.specs.Locations.{Alignment}
 use Rattle.lrs_events.specs.declared.class.Kind.{Kind}
 use Rattle.lrs_events.specs.Places.{Place}
 use Rattle.lrs_machine.specs.Register.{Register, empty}

@@ -5,8 +5,7 @@ ghost use Rattle.std.specs.Prelude.{◌≡◌, IfOk};
 use crate::key::Key;
 use crate::line::Line;
 use lrs_element::Link;
-use lrs_events::{Asset, Class, Gone, Part};
-use lrs_events_spans::Spans;
+use lrs_events::{Asset, Class, Gone, Part, Spans};
 use lrs_measure::{Keyed, Ordered, Rows, TryCopy, name_rank};
 use lrs_position::{Route, RouteName};
 use std::alloc::{AllocError, Global};
@@ -46,7 +45,7 @@ impl Ordered for RouteRow {
 
 impl Keyed<RouteName> for RouteRow {
     ghost use Rattle.lrs_measure.specs.Texts.{name_cmp};
-    ghost use Rattle.lrs_measure.specs.Keyed.{name_after};
+    ghost use Rattle.lrs_measure.specs.KeyOrder.{name_after};
 
     ghost key_order = { λ route_row name. name_cmp route_row.route.name name };
 

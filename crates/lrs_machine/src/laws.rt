@@ -2,7 +2,7 @@
 
 ghost use Rattle.std.specs.Prelude.{IsTrue};
 ghost use Rattle.lrs_machine.specs.Laws.{StepKeepsLaws, RunsAreLawful, LawfulAddsUp, LawfulCountsAll, SoundIsLawful, ActsOnce, OnlyDoneChanges, NothingBetween, RouteEditsKeep, EmptyIsSound, LinesTellCommandsApart};
-ghost use Rattle.lrs_machine.specs.WellFormed.{IsWellFormed, IsPosition, IsLocation, IsNewAsset, IsEnd, ArePieces};
+ghost use Rattle.lrs_machine.specs.WellFormedCommands.{IsWellFormed, IsPosition, IsLocation, IsNewAsset, IsEnd, ArePieces};
 
 use crate::command::{Command, NewAsset};
 use crate::operands::PieceList;

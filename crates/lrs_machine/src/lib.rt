@@ -5,6 +5,7 @@
 //! (`specs/Image`). The laws of the model, over all states and lists of commands, are in `laws`.
 #![tactic(auto)]
 
+mod absence;
 mod answer;
 mod command;
 mod hit;
@@ -15,10 +16,12 @@ mod line;
 mod operands;
 mod question;
 mod segment;
+pub mod stops;
 mod table;
 mod texts;
 mod total;
 
+pub use absence::{Missing, missing_text};
 pub use answer::{Answer, Cause, Field, Limits, What};
 pub use command::{Command, NewAsset};
 pub use hit::Hit;
@@ -26,8 +29,9 @@ pub use image::{Edit, Image, RouteRow};
 pub use key::Key;
 pub use line::Line;
 pub use operands::{AssetNumber, Chainage, LateralOffset, MarkList, PieceList};
-pub use question::{Destination, Question};
+pub use question::{Destination, Question, Spot};
 pub use segment::{SegFault, Segment};
+pub use stops::Fault;
 pub use table::Table;
 pub use texts::piece_text;
 pub use total::Total;

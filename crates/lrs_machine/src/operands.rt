@@ -4,7 +4,7 @@ ghost use Rattle.std.specs.Prelude.{◌≡◌, IsTrue};
 ghost use Rattle.std.specs.List.{list_all};
 ghost use Rattle.std.specs.Option.{SomeIff};
 ghost use Rattle.lrs_measure.specs.Limits;
-ghost use Rattle.lrs_machine.specs.Entered;
+ghost use Rattle.lrs_machine.specs.EnteredNumbers;
 
 use lrs_element::{Mark, Piece};
 use lrs_measure::limits::{
@@ -20,38 +20,38 @@ fn is_link_number(number: u32) -> bool
 }
 
 fn is_entered_piece(piece: &Piece) -> bool
-    ensures { result ≡ Entered.is_entered_piece piece.now }
+    ensures { result ≡ EnteredNumbers.is_entered_piece piece.now }
 {
     is_link_number(piece.link) && piece.from <= LONGEST_LINK && piece.to <= LONGEST_LINK
 }
 
 fn each_is_entered(pieces: &[Piece]) -> bool
-    ensures { result ≡ list_all Entered.is_entered_piece pieces.now }
+    ensures { result ≡ list_all EnteredNumbers.is_entered_piece pieces.now }
 {
     pieces.iter().all(|piece| is_entered_piece(piece))
 }
 
 fn are_entered_pieces(pieces: &[Piece]) -> bool
-    ensures { result ≡ Entered.are_entered_pieces pieces.now }
+    ensures { result ≡ EnteredNumbers.are_entered_pieces pieces.now }
 {
     let count = pieces.len();
     1 <= count && count <= MOST_PIECES && each_is_entered(pieces)
 }
 
 fn is_entered_mark(mark: &Mark) -> bool
-    ensures { result ≡ Entered.is_entered_mark mark.now }
+    ensures { result ≡ EnteredNumbers.is_entered_mark mark.now }
 {
     mark.chainage <= LONGEST_ROUTE && mark.measure <= GREATEST_MEASURE
 }
 
 fn each_is_entered_mark(marks: &[Mark]) -> bool
-    ensures { result ≡ list_all Entered.is_entered_mark marks.now }
+    ensures { result ≡ list_all EnteredNumbers.is_entered_mark marks.now }
 {
     marks.iter().all(|mark| is_entered_mark(mark))
 }
 
 fn are_entered_marks(marks: &[Mark]) -> bool
-    ensures { result ≡ Entered.are_entered_marks marks.now }
+    ensures { result ≡ EnteredNumbers.are_entered_marks marks.now }
 {
     let count = marks.len();
     2 <= count && count <= MOST_MARKS && each_is_entered_mark(marks)
@@ -65,7 +65,7 @@ pub struct AssetNumber {
 
 impl Model for AssetNumber {
     ghost use Rattle.std.specs.Prelude.{ℕ, IsTrue};
-    ghost use Rattle.lrs_machine.specs.Entered.{is_asset_number};
+    ghost use Rattle.lrs_machine.specs.EnteredNumbers.{is_asset_number};
 
     ghost Value = { ℕ };
 
@@ -77,7 +77,7 @@ impl Model for AssetNumber {
 }
 
 impl AssetNumber {
-    ghost use Rattle.lrs_machine.specs.Entered.{is_asset_number};
+    ghost use Rattle.lrs_machine.specs.EnteredNumbers.{is_asset_number};
 
     /// This number, if an asset can have it.
     pub fn new(number: u64) -> Option<AssetNumber>
@@ -106,7 +106,7 @@ pub struct Chainage {
 
 impl Model for Chainage {
     ghost use Rattle.std.specs.Prelude.{ℕ, IsTrue};
-    ghost use Rattle.lrs_machine.specs.Entered.{is_chainage};
+    ghost use Rattle.lrs_machine.specs.EnteredNumbers.{is_chainage};
 
     ghost Value = { ℕ };
 
@@ -118,7 +118,7 @@ impl Model for Chainage {
 }
 
 impl Chainage {
-    ghost use Rattle.lrs_machine.specs.Entered.{is_chainage};
+    ghost use Rattle.lrs_machine.specs.EnteredNumbers.{is_chainage};
 
     /// This chainage, if a route can be so long.
     pub fn new(distance: u64) -> Option<Chainage>
@@ -147,7 +147,7 @@ pub struct LateralOffset {
 
 impl Model for LateralOffset {
     ghost use Rattle.std.specs.Prelude.{ℕ, IsTrue};
-    ghost use Rattle.lrs_machine.specs.Entered.{is_lateral_offset};
+    ghost use Rattle.lrs_machine.specs.EnteredNumbers.{is_lateral_offset};
 
     ghost Value = { ℕ };
 
@@ -159,7 +159,7 @@ impl Model for LateralOffset {
 }
 
 impl LateralOffset {
-    ghost use Rattle.lrs_machine.specs.Entered.{is_lateral_offset};
+    ghost use Rattle.lrs_machine.specs.EnteredNumbers.{is_lateral_offset};
 
     /// This offset, if it is in its limit.
     pub fn new(distance: u32) -> Option<LateralOffset>
@@ -190,7 +190,7 @@ pub struct PieceList {
 impl Model for PieceList {
     ghost use Rattle.std.specs.Prelude.{List, IsTrue};
     ghost use Rattle.lrs_element.specs.declared.link.Piece.{Piece};
-    ghost use Rattle.lrs_machine.specs.Entered.{are_entered_pieces};
+    ghost use Rattle.lrs_machine.specs.EnteredNumbers.{are_entered_pieces};
 
     ghost Value = { List Piece };
 
@@ -208,7 +208,7 @@ pub struct MarkList {
 impl Model for MarkList {
     ghost use Rattle.std.specs.Prelude.{List, IsTrue};
     ghost use Rattle.lrs_element.specs.declared.marks.Mark.{Mark};
-    ghost use Rattle.lrs_machine.specs.Entered.{are_entered_marks};
+    ghost use Rattle.lrs_machine.specs.EnteredNumbers.{are_entered_marks};
 
     ghost Value = { List Mark };
 
@@ -218,7 +218,7 @@ impl Model for MarkList {
 }
 
 impl PieceList {
-    ghost use Rattle.lrs_machine.specs.Entered.{are_entered_pieces};
+    ghost use Rattle.lrs_machine.specs.EnteredNumbers.{are_entered_pieces};
 
     /// These pieces, if there are 1 to 1,000 of them, each in the limits of its text.
     pub fn new(pieces: Vec<Piece>) -> Option<PieceList>
@@ -240,7 +240,7 @@ impl PieceList {
 }
 
 impl MarkList {
-    ghost use Rattle.lrs_machine.specs.Entered.{are_entered_marks};
+    ghost use Rattle.lrs_machine.specs.EnteredNumbers.{are_entered_marks};
 
     /// These marks, if there are 2 to 1,000 of them, each in the limits of its text.
     pub fn new(marks: Vec<Mark>) -> Option<MarkList>

@@ -13,6 +13,15 @@ pub enum Destination {
     Link,
 }
 
+/// A place that is asked for.
+#[derive(Clone, Copy, PartialEq, Eq)]
+pub enum Spot {
+    /// A chainage of the route of a name, in millimetres from 0 to the route's length.
+    OnRoute { route: RouteName, chainage: u64 },
+    /// A millimetre of the link of a number, from 0 to the link's length; at the link's end the last one is meant.
+    OnLink { link: u32, mm: u64 },
+}
+
 /// What is asked of an inventory: one variant for each kind of question.
 #[derive(Drop)]
 pub enum Question {

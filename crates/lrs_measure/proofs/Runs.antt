@@ -8,7 +8,7 @@ use Rattle.std.proofs.lemmas.Bool.{not-true, and_parts, and_from}
 use Rattle.std.proofs.lemmas.List.{length-drop}
 use Rattle.std.proofs.lemmas.List.FromFn.{length-map-range_with_len}
 use Rattle.lrs_measure.specs.Runs.{Run, longer, runs_from}
-use Rattle.lrs_measure.specs.Maximal.{IsChain, HaveValues, begin_other, neighbours_differ, AreRuns, Decides, RunsAreOne}
+use Rattle.lrs_measure.specs.MaximalRuns.{IsChain, HaveValues, begin_other, neighbours_differ, AreRuns, Decides, RunsAreOne}
 
 slice_get-drop : {A : Type 0} → (n : ℕ) (xs : List A) (k : ℕ) → slice_get (drop n xs) k ≡ slice_get xs (n + k)
 slice_get-drop zero xs k = ap (slice_get xs) (omega arith)

@@ -44,7 +44,7 @@ impl Model for Frac {
 
     ghost Value = { Fraction };
 
-    ghost use Rattle.lrs_measure.specs.Held.{fraction_of, IsReduced, held};
+    ghost use Rattle.lrs_measure.specs.FractionFields.{fraction_of, IsReduced, held};
 
     ghost view = { fraction_of };
 
@@ -142,7 +142,7 @@ impl Frac {
 
 impl fmt::Display for Frac {
     ghost use Rattle.std.specs.Prelude.{Some};
-    ghost use Rattle.lrs_measure.specs.Printing.{fraction_text};
+    ghost use Rattle.lrs_measure.specs.FractionTexts.{fraction_text};
 
     ghost output = { λ q. Some (fraction_text q) };
 

@@ -21,7 +21,7 @@ impl Metres {
 
 impl fmt::Display for Metres {
     ghost use Rattle.std.specs.Prelude.{Some};
-    ghost use Rattle.lrs_measure.specs.Printing.{metres_text};
+    ghost use Rattle.lrs_measure.specs.FractionTexts.{metres_text};
 
     ghost output = { λ length. Some (metres_text length.millimetres) };
 

@@ -18,7 +18,7 @@ pub struct Text<const N: usize> {
 impl<const N: usize> Model for Text<N> {
     ghost use Rattle.std.specs.Prelude.{◌≡◌, ◌≤◌, ◌-◌, ◌++◌, List, ℕ, length, take, drop, replicate};
     ghost use Rattle.std.proofs.Common.{arith, length-take-le};
-    ghost use Rattle.lrs_measure.specs.Padding.{padded};
+    ghost use Rattle.lrs_measure.specs.PaddedTexts.{padded};
 
     ghost Value = { List ℕ };
 

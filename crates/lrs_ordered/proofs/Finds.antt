@@ -7,8 +7,8 @@ use Rattle.std.specs.declared.cmp.Ordering.TheVariants.{Less, Equal, Greater}
 use Rattle.std.specs.Ordering.{is_lt, is_eq, is_gt, is_ge}
 use Rattle.std.proofs.lemmas.Bool.{false≢true, and_parts, and_from, not-true}
 use Rattle.lrs_measure.specs.Lists.{each_two}
-use Rattle.lrs_measure.specs.Ordered.{place_by}
-use Rattle.lrs_ordered.specs.Ordered.{is_parted, joined, first_passes, rises_by, none_by, are_filled}
+use Rattle.lrs_measure.specs.OrderedLists.{place_by}
+use Rattle.lrs_ordered.specs.SearchedLists.{is_parted, joined, first_passes, rises_by, none_by, are_filled}
 use Rattle.lrs_ordered.proofs.Places.{all_passing, two_passing}
 use Rattle.lrs_ordered.proofs.Joins.{place_first, place_later, target_parts, two_rear_at, joined_at}
 

@@ -6,8 +6,8 @@ use Rattle.std.proofs.lemmas.Bool.{false≢true, and_parts, and_from, not-true}
 use Rattle.std.proofs.lemmas.List.{take-append-drop, take-set, drop-set, take_more_set, drop-set-lt}
 use Rattle.std.proofs.lemmas.List.Folds.{list_all-append}
 use Rattle.lrs_measure.specs.Lists.{each_two}
-use Rattle.lrs_measure.specs.Ordered.{place_by, insert_by}
-use Rattle.lrs_ordered.specs.Ordered.{is_parted, joined, first_passes, is_filled, are_filled}
+use Rattle.lrs_measure.specs.OrderedLists.{place_by, insert_by}
+use Rattle.lrs_ordered.specs.SearchedLists.{is_parted, joined, first_passes, is_filled, are_filled}
 use Rattle.lrs_ordered.proofs.Places.{two_front, two_rear}
 
 add_two : (i : ℕ) → suc (i + 1) ≡ suc i + 1

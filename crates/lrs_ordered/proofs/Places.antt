@@ -6,8 +6,8 @@ use Rattle.std.specs.List.Sorted.{IsPartitionedBy, IsPartitionPoint}
 use Rattle.std.proofs.lemmas.Bool.{false≢true, and_parts, and_from, cases_lt, or_right}
 use Rattle.std.proofs.lemmas.List.Folds.{list_all-append}
 use Rattle.lrs_measure.specs.Lists.{each_two}
-use Rattle.lrs_measure.specs.Ordered.{place_by, insert_by, insert_all}
-use Rattle.lrs_ordered.specs.Ordered.{is_parted, is_split_by}
+use Rattle.lrs_measure.specs.OrderedLists.{place_by, insert_by, insert_all}
+use Rattle.lrs_ordered.specs.SearchedLists.{is_parted, is_split_by}
 
 earlier : (a b : Bool) → (not a || b) ≡ true → not b ≡ true → not a ≡ true
 earlier true true h k = k

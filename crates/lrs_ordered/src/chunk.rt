@@ -2,8 +2,8 @@
 
 ghost use Rattle.std.specs.Prelude.{◌≡◌, ◌+◌, ◌<◌, ◌≤◌, [], ◌∷◌, ◌++◌, length, take, drop, insert, not, true, IfOk, IfSome, IsTrue, ◌↔◌, IsSome, slice_index_or};
 ghost use Rattle.std.specs.Option.{option_map};
-ghost use Rattle.lrs_measure.specs.Ordered.{place_by, insert_by};
-ghost use Rattle.lrs_ordered.specs.Ordered.{is_split_by, is_filled};
+ghost use Rattle.lrs_measure.specs.OrderedLists.{place_by, insert_by};
+ghost use Rattle.lrs_ordered.specs.SearchedLists.{is_split_by, is_filled};
 
 use lrs_measure::Ordered;
 use std::alloc::{AllocError, Global};

@@ -5,8 +5,8 @@ ghost use Rattle.std.specs.List.{find};
 ghost use Rattle.std.specs.Option.{option_map};
 ghost use Rattle.std.specs.Ordering.{is_eq};
 ghost use Rattle.lrs_measure.specs.Lists.{each_two};
-ghost use Rattle.lrs_measure.specs.Ordered.{insert_by, insert_some, insert_all};
-ghost use Rattle.lrs_ordered.specs.Ordered.{is_split_by, are_empty};
+ghost use Rattle.lrs_measure.specs.OrderedLists.{insert_by, insert_some, insert_all};
+ghost use Rattle.lrs_ordered.specs.SearchedLists.{is_split_by, are_empty};
 
 use crate::chunk::Chunk;
 use crate::firsts::Firsts;
@@ -33,7 +33,7 @@ pub struct Chunked<T> {
 
 impl<T> Model for Chunked<T> {
     ghost use Rattle.std.specs.Prelude.{vec_capacity};
-    ghost use Rattle.lrs_ordered.specs.Ordered.{joined};
+    ghost use Rattle.lrs_ordered.specs.SearchedLists.{joined};
     ghost use Rattle.lrs_ordered.specs.Stock.{Stock, IsStocked};
 
     ghost Value = { Stock T };

@@ -3,8 +3,8 @@
 ghost use Rattle.std.specs.Prelude.{◌≡◌, ◌+◌, ◌-◌, ◌<◌, ◌≤◌, List, [], ◌∷◌, ◌++◌, false, slice_index_or, length, take, drop, true, not, insert, vec_len, vec_capacity};
 ghost use Rattle.std.specs.List.{list_all};
 ghost use Rattle.std.specs.Option.{option_to_list};
-ghost use Rattle.lrs_measure.specs.Ordered.{place_by, insert_by};
-ghost use Rattle.lrs_ordered.specs.Ordered.{is_split_by, joined, first_passes, is_filled, are_filled, are_empty};
+ghost use Rattle.lrs_measure.specs.OrderedLists.{place_by, insert_by};
+ghost use Rattle.lrs_ordered.specs.SearchedLists.{is_split_by, joined, first_passes, is_filled, are_filled, are_empty};
 
 use crate::chunk::{Chunk, HALF, MOST};
 use crate::firsts::Firsts;

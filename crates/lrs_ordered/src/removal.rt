@@ -3,7 +3,7 @@
 ghost use Rattle.std.specs.Prelude.{◌≡◌, ◌+◌, ◌-◌, ◌<◌, ◌≤◌, [], ◌∷◌, ◌++◌, filter, length, take, drop, not, true, vec_len, vec_capacity};
 ghost use Rattle.std.specs.List.{find};
 ghost use Rattle.std.specs.Ordering.{is_eq};
-ghost use Rattle.lrs_ordered.specs.Ordered.{joined, rises_by, none_by, are_filled, is_filled};
+ghost use Rattle.lrs_ordered.specs.SearchedLists.{joined, rises_by, none_by, are_filled, is_filled};
 
 use crate::chunk::Chunk;
 use crate::firsts::Firsts;

@@ -4,8 +4,8 @@ ghost use Rattle.std.specs.Prelude.{◌≡◌, ◌+◌, ◌-◌, ◌<◌, ◌≤
 ghost use Rattle.std.specs.List.{find};
 ghost use Rattle.std.specs.Option.{option_map};
 ghost use Rattle.std.specs.Ordering.{is_eq, is_ge, is_gt};
-ghost use Rattle.lrs_measure.specs.Ordered.{place_by};
-ghost use Rattle.lrs_ordered.specs.Ordered.{joined, first_passes, rises_by, none_by, are_filled};
+ghost use Rattle.lrs_measure.specs.OrderedLists.{place_by};
+ghost use Rattle.lrs_ordered.specs.SearchedLists.{joined, first_passes, rises_by, none_by, are_filled};
 
 use crate::chunk::Chunk;
 use crate::firsts::Firsts;

@@ -25,8 +25,8 @@ use Rattle.lrs_position.specs.declared.location.PlaceFault.TheVariants.{NoRef, T
 use Rattle.lrs_position.specs.declared.route.Referent.{Referent}
 use Rattle.lrs_position.specs.declared.route.Route.{Route}
 use Rattle.lrs_position.specs.Routes.{is_route}
-use Rattle.lrs_position.specs.Locating.{Alignment, Locates, located, located_or_fault, lacks_referent, is_too_fine, within}
-use Rattle.lrs_position.specs.Translating.{alignment_of, number_of, LocatesAt, IsAnswer, IsOnRoute}
+use Rattle.lrs_position.specs.Locations.{Alignment, Locates, located, located_or_fault, lacks_referent, is_too_fine, within}
+use Rattle.lrs_position.specs.Translations.{alignment_of, number_of, LocatesAt, IsAnswer, IsOnRoute}
 use Rattle.lrs_position.proofs.Line.{Climb, Climb-from_follow, after_first, before_last}
 use Rattle.lrs_position.proofs.Located.{IsSound, located-sound, located-some, Locates-same, Locates-scale, Locates-within}
 

@@ -18,8 +18,8 @@ use Rattle.lrs_element.specs.Pieces.{piece_len, ground_of, start_of}
 use Rattle.lrs_position.specs.declared.route.Route.{Route}
 use Rattle.lrs_position.specs.declared.location.PlaceFault.{PlaceFault}
 use Rattle.lrs_position.specs.declared.location.PlaceFault.TheVariants.{OffRoute}
-use Rattle.lrs_position.specs.Locating.{cell}
-use Rattle.lrs_position.specs.Translating.{chainage_fault}
+use Rattle.lrs_position.specs.Locations.{cell}
+use Rattle.lrs_position.specs.Translations.{chainage_fault}
 use Rattle.lrs_position.specs.LinkPositions.{across, millimetre_at, route_over, link_fault, LiesOnRoute, IsRoutePosition}
 use Rattle.lrs_element.proofs.Expanding.{length-expand, get_or-expand}
 use Rattle.lrs_element.proofs.Counting.{course_of-push}

@@ -14,8 +14,8 @@ use Rattle.lrs_position.specs.declared.expression.Target.{Target}
 use Rattle.lrs_position.specs.declared.expression.Target.TheVariants as target
 use Rattle.lrs_position.specs.declared.location.PlaceFault.{PlaceFault}
 use Rattle.lrs_position.specs.declared.location.PlaceFault.TheVariants.{NoRef}
-use Rattle.lrs_position.specs.Locating.{Alignment}
-use Rattle.lrs_position.specs.Translating.{misses_referent, chainage_fault, Expresses, IsExpression}
+use Rattle.lrs_position.specs.Locations.{Alignment}
+use Rattle.lrs_position.specs.Translations.{misses_referent, chainage_fault, Expresses, IsExpression}
 use Rattle.lrs_position.proofs.Located.{IsSound, distance_scaled}
 
 -- where the referent stands and the chainage is right, the answer is the expression

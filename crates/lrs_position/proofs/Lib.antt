@@ -8,3 +8,4 @@ pub mod Stated
 pub mod OnLinks
 pub mod Entries
 pub mod Returning
+pub mod Index

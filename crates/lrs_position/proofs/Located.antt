@@ -12,8 +12,8 @@ use Rattle.lrs_element.specs.declared.marks.Mark.{Mark}
 use Rattle.lrs_element.specs.Marks.{last_mark, IsOnLine}
 use Rattle.lrs_position.specs.declared.expression.Expr.{Expr}
 use Rattle.lrs_position.specs.declared.expression.Expr.TheVariants.{Abs, Rel, Int}
-use Rattle.lrs_position.specs.Locating.{Alignment, Locates, located, within, at_measure, at_proportion}
-use Rattle.lrs_position.specs.Translating.{number_of, target_of}
+use Rattle.lrs_position.specs.Locations.{Alignment, Locates, located, within, at_measure, at_proportion}
+use Rattle.lrs_position.specs.Translations.{number_of, target_of}
 use Rattle.lrs_position.proofs.Line.{Climb, same_measure, same_chainage, IsOnLine-scale, before_last, chainage_at-IsOnLine, chainage_at-some}
 
 -- what a route is known to keep

@@ -14,8 +14,8 @@ use Rattle.lrs_position.specs.declared.expression.Expr.{Expr}
 use Rattle.lrs_position.specs.declared.expression.Expr.TheVariants.{Abs, Rel, Int}
 use Rattle.lrs_position.specs.declared.location.PlaceFault.{PlaceFault}
 use Rattle.lrs_position.specs.declared.location.PlaceFault.TheVariants.{NoRef, TooFine, OffRoute}
-use Rattle.lrs_position.specs.Locating.{Alignment, located, located_or_fault, lacks_referent, is_too_fine, at_measure, at_proportion, within}
-use Rattle.lrs_position.specs.Translating.{number_of, IsAnswer}
+use Rattle.lrs_position.specs.Locations.{Alignment, located, located_or_fault, lacks_referent, is_too_fine, at_measure, at_proportion, within}
+use Rattle.lrs_position.specs.Translations.{number_of, IsAnswer}
 use Rattle.lrs_position.proofs.Line.{chainage_at-den}
 use Rattle.lrs_position.proofs.Located.{IsSound, located-sound, Locates-within, located_within}
 use Rattle.lrs_position.proofs.Answering.{found_value}

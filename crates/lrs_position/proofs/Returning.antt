@@ -23,8 +23,8 @@ use Rattle.lrs_element.specs.declared.link.Link.{Link}
 use Rattle.lrs_element.proofs.LineLemmas.{natural_quotient}
 use Rattle.lrs_position.specs.declared.location.PlaceFault.{PlaceFault}
 use Rattle.lrs_position.specs.declared.location.PlaceFault.TheVariants.{TooFine, OffRoute}
-use Rattle.lrs_position.specs.Locating.{cell}
-use Rattle.lrs_position.specs.Translating.{chainage_fault}
+use Rattle.lrs_position.specs.Locations.{cell}
+use Rattle.lrs_position.specs.Translations.{chainage_fault}
 use Rattle.lrs_position.proofs.Answering.{quotient_of_same}
 use Rattle.lrs_position.proofs.OnLinks.{size_below}
 use Rattle.lrs_position.proofs.Whole.{natural}

@@ -18,8 +18,8 @@ use Rattle.lrs_position.specs.declared.expression.Target.{Target}
 use Rattle.lrs_position.specs.declared.location.PlaceFault.{PlaceFault}
 use Rattle.lrs_position.specs.declared.location.PlaceFault.TheVariants.{NoRef, OffRoute}
 use Rattle.lrs_position.specs.Expressions.{is_entered}
-use Rattle.lrs_position.specs.Locating.{Alignment, Locates, located, is_too_fine, at_measure, at_proportion, within}
-use Rattle.lrs_position.specs.Translating.{number_of, target_of, misses_referent, LocatesAt, IsAnswer, chainage_fault, Expresses, IsExpression, Translates, RoundTrip}
+use Rattle.lrs_position.specs.Locations.{Alignment, Locates, located, is_too_fine, at_measure, at_proportion, within}
+use Rattle.lrs_position.specs.Translations.{number_of, target_of, misses_referent, LocatesAt, IsAnswer, chainage_fault, Expresses, IsExpression, Translates, RoundTrip}
 use Rattle.lrs_position.proofs.Line.{den_on_line, chainage_at-den}
 use Rattle.lrs_position.proofs.Located.{IsSound, located-sound, located-some, Locates-same, Locates-scale, Locates-within, same_expression, distance_divides, located_within}
 use Rattle.lrs_position.proofs.Answering.{lacks_not, quotient_of_same}

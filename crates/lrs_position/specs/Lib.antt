@@ -1,7 +1,8 @@
 pub mod Names
 pub mod Expressions
-pub mod Locating
+pub mod Locations
 pub mod Routes
-pub mod Translating
+pub mod Translations
 pub mod Readings
 pub mod LinkPositions
+pub mod Index

@@ -11,8 +11,8 @@ use Rattle.lrs_position.specs.declared.expression.Expr.{Expr}
 use Rattle.lrs_position.specs.declared.location.PlaceFault.{PlaceFault}
 use Rattle.lrs_position.specs.declared.location.PlaceFault.TheVariants.{OffRoute}
 use Rattle.lrs_position.specs.declared.route.Route.{Route}
-use Rattle.lrs_position.specs.Locating.{Alignment, located_or_fault, cell}
-use Rattle.lrs_position.specs.Translating.{IsAnswer, IsOnRoute, chainage_fault}
+use Rattle.lrs_position.specs.Locations.{Alignment, located_or_fault, cell}
+use Rattle.lrs_position.specs.Translations.{IsAnswer, IsOnRoute, chainage_fault}
 
 -- The place n/d of one linear element, which stands in its millimetre i, in 1/d mm of another one that has this millimetre as its k-th: behind the start of that where both run one way, before its end where they do not.
 abbrev pub across : Bool → ℕ → ℕ → ℕ × ℕ → ℕ

@@ -5,7 +5,7 @@ use Rattle.std.specs.Fmt.{decimal}
 use Rattle.std.specs.Str.Parse.{IsNumeral, digits_value}
 use Rattle.lrs_measure.specs.Fraction.{Fraction, IsLowest, IsQuotient}
 use Rattle.lrs_measure.specs.Numerals.{IsSigned, signed_value, IsFractionText, numerator_text, denominator_text}
-use Rattle.lrs_measure.specs.Printing.{fraction_text, signed_text}
+use Rattle.lrs_measure.specs.FractionTexts.{fraction_text, signed_text}
 use Rattle.lrs_measure.specs.Limits.{longest_route, greatest_measure}
 use Rattle.lrs_position.specs.declared.expression.Expr.{Expr}
 use Rattle.lrs_position.specs.declared.expression.Expr.TheVariants as expression

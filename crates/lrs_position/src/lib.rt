@@ -5,6 +5,7 @@
 #![tactic(auto)]
 
 mod expression;
+mod ground_index;
 mod link_position;
 mod location;
 mod name;
@@ -13,6 +14,7 @@ mod texts;
 mod translation;
 
 pub use expression::{EnteredPosition, EventLocation, Expr, Method, Target};
+pub use ground_index::GroundIndex;
 pub use link_position::{link_to_route, route_to_link};
 pub use location::{PlaceFault, cell, locate, snap};
 pub use name::{RefName, RouteName};

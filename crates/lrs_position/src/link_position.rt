@@ -7,8 +7,8 @@ ghost use Rattle.lrs_element.specs.Course.{expand, is_at};
 ghost use Rattle.lrs_measure.specs.Limits.{longest_route};
 ghost use Rattle.lrs_position.specs.LinkPositions as linked;
 ghost use Rattle.lrs_position.specs.LinkPositions.{LiesOn, IsLinkPosition, IsRoutePosition, ComesBack};
-ghost use Rattle.lrs_position.specs.Locating as place;
-ghost use Rattle.lrs_position.specs.Translating.{alignment_of, referent_at, chainage_fault, IsOnRoute};
+ghost use Rattle.lrs_position.specs.Locations as place;
+ghost use Rattle.lrs_position.specs.Translations.{alignment_of, referent_at, chainage_fault, IsOnRoute};
 
 use crate::expression::Expr;
 use crate::location::{PlaceFault, cell, locate};

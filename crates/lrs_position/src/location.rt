@@ -6,9 +6,9 @@ ghost use Rattle.lrs_measure.specs.Fraction.{IsLowest, IsQuotient};
 ghost use Rattle.lrs_measure.specs.Limits.{longest_route};
 ghost use Rattle.lrs_position.specs.declared.expression.Expr.TheVariants.{Abs, Rel, Int};
 ghost use Rattle.lrs_position.specs.declared.location.PlaceFault.TheVariants.{OffRoute};
-ghost use Rattle.lrs_position.specs.Locating as place;
-ghost use Rattle.lrs_position.specs.Locating.{Locates, located_or_fault, is_too_fine, within};
-ghost use Rattle.lrs_position.specs.Translating.{alignment_of, referent_at, number_of, IsAnswer, IsOnRoute, LocatesAt};
+ghost use Rattle.lrs_position.specs.Locations as place;
+ghost use Rattle.lrs_position.specs.Locations.{Locates, located_or_fault, is_too_fine, within};
+ghost use Rattle.lrs_position.specs.Translations.{alignment_of, referent_at, number_of, IsAnswer, IsOnRoute, LocatesAt};
 
 use crate::expression::Expr;
 use crate::name::RefName;

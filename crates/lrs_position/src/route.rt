@@ -31,7 +31,7 @@ pub struct Route {
 }
 
 impl Route {
-    ghost use Rattle.lrs_position.specs.Translating.{referent_at};
+    ghost use Rattle.lrs_position.specs.Translations.{referent_at};
 
     /// Its length in millimetres, which is where its marks end.
     pub fn length(&self) -> u64
@@ -89,7 +89,7 @@ impl Ordered for Referent {
 
 impl Keyed<RefName> for Referent {
     ghost use Rattle.lrs_measure.specs.Texts.{name_cmp};
-    ghost use Rattle.lrs_measure.specs.Keyed.{name_after};
+    ghost use Rattle.lrs_measure.specs.KeyOrder.{name_after};
 
     ghost key_order = { λ referent name. name_cmp referent.name name };
 

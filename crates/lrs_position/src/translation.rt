@@ -4,7 +4,7 @@ ghost use Rattle.std.specs.Prelude.{◌≡◌, ◌<◌, ◌≤◌, ◌*◌, pos,
 ghost use Rattle.lrs_measure.specs.Fraction.{IsLowest};
 ghost use Rattle.lrs_measure.specs.Limits.{longest_route};
 ghost use Rattle.lrs_position.specs.declared.expression.Target.TheVariants.{Abs, Rel, Int};
-ghost use Rattle.lrs_position.specs.Translating.{alignment_of, referent_at, chainage_fault, IsExpression, Translates, RoundTrip};
+ghost use Rattle.lrs_position.specs.Translations.{alignment_of, referent_at, chainage_fault, IsExpression, Translates, RoundTrip};
 
 use crate::expression::{Expr, Target};
 use crate::location::{PlaceFault, locate};

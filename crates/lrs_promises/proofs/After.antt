@@ -9,10 +9,10 @@ use Rattle.lrs_machine.specs.declared.answer.Limits.{Limits}
 use Rattle.lrs_machine.specs.declared.image.Image.{Image}
 use Rattle.lrs_machine.specs.declared.table.Table.{Table}
 use Rattle.lrs_desk.specs.DeskView.{DeskView}
-use Rattle.lrs_machine_stops.specs.declared.fault.Fault.TheVariants as stop
+use Rattle.lrs_machine.specs.declared.stops.fault.Fault.TheVariants as stop
 use Rattle.lrs_sheet_records.specs.declared.sheet.Sheet.{Sheet}
 use Rattle.lrs_sheet.specs.Replies.{Replied}
-use Rattle.lrs_sheet.specs.Resuming.{Resumes}
+use Rattle.lrs_sheet.specs.Resumption.{Resumes}
 use Rattle.lrs_sheet.specs.Sheets.{HasFailedToKeep, IsAfterCommands, RunsBehind, records_together}
 use Rattle.lrs_sheet_records.specs.declared.fault.SheetFault.{SheetFault}
 use Rattle.lrs_sheet_records.specs.declared.fault.SheetFault.TheVariants as fault
@@ -21,7 +21,7 @@ use Rattle.lrs_sheet.specs.declared.reply.Tally.{Tally}
 use Rattle.lrs_web_requests.specs.Request.{Asked, refused, not_allowed, query, sheet as posted}
 use Rattle.lrs_web_requests.specs.Text.{Answer}
 use Rattle.lrs_web.specs.Questions.{AnswersQuestions}
-use Rattle.lrs_web.specs.Serving.{Does, sheet_at}
+use Rattle.lrs_web.specs.RequestAnswers.{Does, sheet_at}
 use Rattle.lrs_web.specs.Sheets.{DoesSheet}
 use Rattle.lrs_promises.proofs.Given.{answered, not_begun, state_both}
 

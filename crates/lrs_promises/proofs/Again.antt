@@ -15,12 +15,12 @@ use Rattle.lrs_sheet.proofs.Determined.{sheet_determines_reply}
 use Rattle.lrs_sheet_records.specs.Kinds.{edit_header}
 use Rattle.lrs_sheet_records.specs.Records.{SaysCommand}
 use Rattle.lrs_sheet_records.specs.declared.sheet.Sheet.TheVariants.{Edits}
-use Rattle.lrs_log.proofs.Padding.{log_records_say, wide}
-use Rattle.lrs_log.proofs.Redoing.{IsRedone, Redone, made-again}
-use Rattle.lrs_log.proofs.Reading.{is-header, log_reads_as_records}
-use Rattle.lrs_log.specs.Laws.{IsOfCommand, IsPrintable, edit_of}
-use Rattle.lrs_promises.specs.Redone.{LogMakesState, MakesAgain, PartGoesOn, done_replies}
-use Rattle.lrs_log.specs.Log.{edits_from, log_record, log_text}
+use Rattle.lrs_sheet_log.proofs.Padding.{log_records_say, wide}
+use Rattle.lrs_sheet_log.proofs.Redoing.{IsRedone, Redone, made-again}
+use Rattle.lrs_sheet_log.proofs.Reading.{is-header, log_reads_as_records}
+use Rattle.lrs_sheet_log.specs.Laws.{IsOfCommand, IsPrintable, edit_of}
+use Rattle.lrs_promises.specs.Replay.{LogMakesState, MakesAgain, PartGoesOn, done_replies}
+use Rattle.lrs_sheet_log.specs.Log.{edits_from, log_record, log_text}
 
 of-commands : (limits : Limits) (s : State) (es : List Edit) (t : State) → Redone limits s es t → AllByRecursion IsOfCommand es
 of-commands limits s [] t h = tt

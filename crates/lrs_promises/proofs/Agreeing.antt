@@ -5,7 +5,7 @@ use Rattle.std.specs.List.{AllByRecursion, find}
 use Rattle.std.proofs.lemmas.Bool.{false≢true}
 use Rattle.std.proofs.lemmas.List.{length-map}
 use Rattle.lrs_measure.specs.Texts.{Name}
-use Rattle.lrs_position.specs.Translating.{alignment_of}
+use Rattle.lrs_position.specs.Translations.{alignment_of}
 use Rattle.lrs_machine.specs.Image.{link_entry, route_entry, state_of}
 use Rattle.lrs_machine.specs.Lines.{Text}
 use Rattle.lrs_machine.specs.Register.{get}
@@ -15,46 +15,46 @@ use Rattle.lrs_machine.specs.declared.image.Image.{Image}
 use Rattle.lrs_machine.specs.declared.image.RouteRow.{RouteRow}
 use Rattle.lrs_machine.specs.declared.question.Question.{Question}
 use Rattle.lrs_image.specs.Change.{is_named}
-use Rattle.lrs_diagram.specs.declared.diagram.Diagram.{Diagram}
-use Rattle.lrs_answers.specs.Answers.{IsAt, StandsAt}
-use Rattle.lrs_answers.specs.Drawn.{IsDrawn, IsDrawnOn}
-use Rattle.lrs_answers.specs.Finding.{all_rows_of}
-use Rattle.lrs_answers.specs.RouteList.{length_row}
-use Rattle.lrs_answers.specs.Segmented.{IsSegmented}
-use Rattle.lrs_answers.specs.Told.{IsNamedRoute, Tells, length_on}
-use Rattle.lrs_answers.specs.Totals.{totals_of}
-use Rattle.lrs_answers.specs.declared.fault.AskFault.{AskFault}
-use Rattle.lrs_answers.specs.declared.fault.AskFault.TheVariants.{NoRoute as Nowhere}
-use Rattle.lrs_answers.specs.declared.told.Told.{Told}
-use Rattle.lrs_answers.specs.declared.told.Told.TheVariants as told
-use Rattle.lrs_lists.specs.declared.wanted.RowsWanted.{RowsWanted}
-use Rattle.lrs_lengths.proofs.Unique.{are_unique}
-use Rattle.lrs_whereabouts.specs.Answers.{IsThere, UnlessMemory as UnlessShort}
-use Rattle.lrs_whereabouts.specs.Places.{Place, place_of}
-use Rattle.lrs_whereabouts.specs.declared.answer.Whereabouts.{Whereabouts}
-use Rattle.lrs_whereabouts.specs.declared.fault.WhereFault.{WhereFault}
-use Rattle.lrs_whereabouts.specs.declared.spot.Spot.{Spot}
-use Rattle.lrs_whereabouts.specs.declared.spot.Spot.TheVariants as spot
-use Rattle.lrs_log.specs.Log.{edits_from, log_text}
+use Rattle.lrs_report.specs.declared.diagrams.diagram.Diagram.{Diagram}
+use Rattle.lrs_report_answers.specs.Answers.{IsAt, StandsAt}
+use Rattle.lrs_report_answers.specs.DrawnRows.{IsDrawn, IsDrawnOn}
+use Rattle.lrs_report_answers.specs.AssetStretches.{all_rows_of}
+use Rattle.lrs_report_answers.specs.RouteList.{length_row}
+use Rattle.lrs_report_answers.specs.RouteSegments.{IsSegmented}
+use Rattle.lrs_report_answers.specs.ToldAnswers.{IsNamedRoute, Tells, length_on}
+use Rattle.lrs_report_answers.specs.Totals.{totals_of}
+use Rattle.lrs_report_answers.specs.declared.fault.AskFault.{AskFault}
+use Rattle.lrs_report_answers.specs.declared.fault.AskFault.TheVariants.{NoRoute as Nowhere}
+use Rattle.lrs_report_answers.specs.declared.told.Told.{Told}
+use Rattle.lrs_report_answers.specs.declared.told.Told.TheVariants as told
+use Rattle.lrs_report_lists.specs.declared.wanted.RowsWanted.{RowsWanted}
+use Rattle.lrs_report_lists.proofs.Length.Unique.{are_unique}
+use Rattle.lrs_report_answers.specs.Place.Answers.{IsThere, UnlessMemory as UnlessShort}
+use Rattle.lrs_report_answers.specs.Place.Places.{Place, place_of}
+use Rattle.lrs_report_answers.specs.declared.places.answer.Whereabouts.{Whereabouts}
+use Rattle.lrs_report_answers.specs.declared.places.fault.WhereFault.{WhereFault}
+use Rattle.lrs_machine.specs.declared.question.Spot.{Spot}
+use Rattle.lrs_machine.specs.declared.question.Spot.TheVariants as spot
+use Rattle.lrs_sheet_log.specs.Log.{edits_from, log_text}
 use Rattle.lrs_web_requests.specs.Request.{query as asked}
 use Rattle.lrs_web_requests.specs.Text.{Answer}
 use Rattle.lrs_web_requests.specs.declared.paths.Resource.{Resource}
 use Rattle.lrs_web_requests.specs.declared.paths.Resource.TheVariants as path
 use Rattle.lrs_web_requests.specs.declared.response.ContentType.TheVariants.{Csv}
 use Rattle.lrs_web_requests.specs.Query.{parameter}
-use Rattle.lrs_web_replies.specs.Answered.{AnswersQuestion}
+use Rattle.lrs_web_replies.specs.QuestionAnswers.{AnswersQuestion}
 use Rattle.lrs_web_replies.specs.Answers.{routes_data, totals_data}
 use Rattle.lrs_web_replies.specs.Questions.{AsksLog, AsksOf, AsksReport, CannotAsk, GivesAsset, GivesEditOrAll, GivesFirstEdit, GivesRouteOrAll, GivesRows, GivesSpot, IsGiven, SaysChainage, SaysDestination, SaysEdit, SaysRoute, SaysSide, parameters_of}
 use Rattle.lrs_web_replies.specs.Replies.{answer_with, json_answer}
-use Rattle.lrs_web_replies.specs.Reported.{AnswersReport, IsShownUnless, ShowsReport, missing_of}
+use Rattle.lrs_web_replies.specs.ReportAnswers.{AnswersReport, IsShownUnless, ShowsReport, missing_of}
 use Rattle.lrs_web_replies.specs.Reports.{class_data, classes_data, health_data, lengths_data, link_data, links_data, named_list, refs_data, whereabouts_data}
-use Rattle.lrs_web_replies.specs.Shown.{whole, with}
-use Rattle.lrs_web_replies.specs.declared.absence.Missing.{Missing}
+use Rattle.lrs_web_replies.specs.JsonParts.{whole, with}
+use Rattle.lrs_machine.specs.declared.absence.Missing.{Missing}
 use Rattle.lrs_web_replies.specs.declared.question.QueryFault.TheVariants.{NoRoute}
 use Rattle.lrs_web_replies.specs.declared.report.Report.{Report}
 use Rattle.lrs_web_replies.specs.declared.report.Report.TheVariants as report
-use Rattle.lrs_web.specs.Asked.{AnswersAsked, log_answer}
-use Rattle.lrs_promises.specs.Determined.{IsOfState}
+use Rattle.lrs_web.specs.QueryAnswers.{AnswersAsked, log_answer}
+use Rattle.lrs_promises.specs.Determinism.{IsOfState}
 use Rattle.lrs_promises.proofs.Once.{at_once, segmented_once, told_once}
 use Rattle.lrs_promises.proofs.OneInventory.{same_inventories}
 use Rattle.lrs_promises.proofs.Parameters.{one_first, one_if_given, one_number, one_position, one_route, one_said, one_side, one_spot, one_wanted}

@@ -9,7 +9,7 @@ use Rattle.lrs_machine.specs.declared.answer.Limits.{Limits}
 use Rattle.lrs_machine.specs.declared.image.Image.{Image}
 use Rattle.lrs_machine.specs.declared.table.Table.{Table}
 use Rattle.lrs_desk.specs.DeskView.{DeskView}
-use Rattle.lrs_machine_stops.specs.declared.fault.Fault.TheVariants as stop
+use Rattle.lrs_machine.specs.declared.stops.fault.Fault.TheVariants as stop
 use Rattle.lrs_sheet_records.specs.declared.sheet.Sheet.{Sheet}
 use Rattle.lrs_sheet.specs.Sheets.{BreaksOff, BreaksOffBehind, GoesAlong, IsAfterCommands, LeavesDesk, Runs, StandsForEither, records_together}
 use Rattle.lrs_sheet_records.specs.declared.fault.SheetFault.{SheetFault}
@@ -19,7 +19,7 @@ use Rattle.lrs_sheet.proofs.Done.{stays}
 use Rattle.lrs_web_requests.specs.Request.{Asked, refused, not_allowed, query, sheet as posted}
 use Rattle.lrs_web_requests.specs.Text.{Answer}
 use Rattle.lrs_web.specs.Questions.{AnswersQuestions}
-use Rattle.lrs_web.specs.Serving.{Does, Responds, Serves, Writes, sheet_at}
+use Rattle.lrs_web.specs.RequestAnswers.{Does, Responds, Serves, Writes, sheet_at}
 use Rattle.lrs_web.specs.Sheets.{DoesSheet}
 use Rattle.lrs_web.specs.declared.request.WebFault.{WebFault}
 use Rattle.lrs_web.specs.declared.request.WebFault.TheVariants as web

@@ -14,36 +14,36 @@ use Rattle.lrs_machine.specs.declared.question.Destination.{Destination}
 use Rattle.lrs_machine.specs.declared.question.Destination.TheVariants as destination
 use Rattle.lrs_machine.specs.declared.question.Question.{Question}
 use Rattle.lrs_machine.specs.declared.question.Question.TheVariants as question
-use Rattle.lrs_answers.specs.Answers.{UnlessMemory}
-use Rattle.lrs_answers.specs.Finding.{all_rows_of}
-use Rattle.lrs_answers.specs.RouteList.{length_row}
-use Rattle.lrs_answers.specs.Told.{IsTold, Tells}
-use Rattle.lrs_answers.specs.Totals.{totals_of}
-use Rattle.lrs_answers.specs.declared.fault.AskFault.{AskFault}
-use Rattle.lrs_answers.specs.declared.fault.AskFault.TheVariants.{Memory, NoAsset}
-use Rattle.lrs_answers.specs.declared.rows.FoundRow.{FoundRow}
-use Rattle.lrs_answers.specs.declared.told.Told.{Told}
-use Rattle.lrs_answers.specs.declared.told.Told.TheVariants as told
-use Rattle.lrs_lists.specs.declared.wanted.RowsWanted.{RowsWanted}
-use Rattle.lrs_whereabouts.specs.declared.spot.Spot.{Spot}
-use Rattle.lrs_whereabouts.specs.declared.spot.Spot.TheVariants as spot
+use Rattle.lrs_report_answers.specs.Answers.{UnlessMemory}
+use Rattle.lrs_report_answers.specs.AssetStretches.{all_rows_of}
+use Rattle.lrs_report_answers.specs.RouteList.{length_row}
+use Rattle.lrs_report_answers.specs.ToldAnswers.{IsTold, Tells}
+use Rattle.lrs_report_answers.specs.Totals.{totals_of}
+use Rattle.lrs_report_answers.specs.declared.fault.AskFault.{AskFault}
+use Rattle.lrs_report_answers.specs.declared.fault.AskFault.TheVariants.{Memory, NoAsset}
+use Rattle.lrs_report_answers.specs.declared.rows.FoundRow.{FoundRow}
+use Rattle.lrs_report_answers.specs.declared.told.Told.{Told}
+use Rattle.lrs_report_answers.specs.declared.told.Told.TheVariants as told
+use Rattle.lrs_report_lists.specs.declared.wanted.RowsWanted.{RowsWanted}
+use Rattle.lrs_machine.specs.declared.question.Spot.{Spot}
+use Rattle.lrs_machine.specs.declared.question.Spot.TheVariants as spot
 use Rattle.lrs_web_requests.specs.Text.{Answer}
 use Rattle.lrs_web_requests.specs.declared.paths.Resource.{Resource}
 use Rattle.lrs_web_requests.specs.declared.paths.Resource.TheVariants as path
-use Rattle.lrs_web_replies.specs.Answered.{AnswersQuestion, IsReplyTo, ShowsTold}
+use Rattle.lrs_web_replies.specs.QuestionAnswers.{AnswersQuestion, IsReplyTo, ShowsTold}
 use Rattle.lrs_web_replies.specs.Answers.{found_data, routes_data, totals_data}
 use Rattle.lrs_web_replies.specs.Questions.{AsksLog, AsksOf, AsksReport, CannotAsk, GivesAsset, GivesClasses, GivesClassesOrAll, GivesDestination, GivesEditOrAll, GivesFrom, GivesPosition, GivesRoute, GivesRouteOrAll, GivesRows, GivesSide, GivesSpot, GivesUpTo, IsFirstMalformed, IsGiven, SaysRoute, parameters_of}
 use Rattle.lrs_web_replies.specs.Replies.{json_answer, refusal, unasked}
-use Rattle.lrs_web_replies.specs.Reported.{AnswersReport, IsShownUnless}
+use Rattle.lrs_web_replies.specs.ReportAnswers.{AnswersReport, IsShownUnless}
 use Rattle.lrs_web_replies.specs.Reports.{classes_data, health_data, links_data, refs_data}
-use Rattle.lrs_web_replies.specs.declared.absence.Missing.{Missing}
+use Rattle.lrs_machine.specs.declared.absence.Missing.{Missing}
 use Rattle.lrs_web_replies.specs.declared.question.Parameter.{Parameter}
 use Rattle.lrs_web_replies.specs.declared.question.Parameter.TheVariants as wanted
 use Rattle.lrs_web_replies.specs.declared.question.QueryFault.{QueryFault}
 use Rattle.lrs_web_replies.specs.declared.question.QueryFault.TheVariants.{Malformed, NoRoute, Memory as Lacking}
 use Rattle.lrs_web_replies.specs.declared.report.Report.{Report}
 use Rattle.lrs_web_replies.specs.declared.report.Report.TheVariants as report
-use Rattle.lrs_web.specs.Asked.{AnswersAsked, log_answer}
+use Rattle.lrs_web.specs.QueryAnswers.{AnswersAsked, log_answer}
 use Rattle.lrs_promises.proofs.Once.{ok_is_not_err, same_err}
 use Rattle.lrs_promises.proofs.Translated.{TellsTranslated}
 

@@ -15,7 +15,7 @@ use Rattle.lrs_sheet_records.specs.Questions.{IsQuestionHeader}
 use Rattle.lrs_sheet_records.specs.declared.sheet.Sheet.{Sheet}
 use Rattle.lrs_sheet_records.specs.declared.sheet.Sheet.TheVariants as sheet
 use Rattle.lrs_sheet.specs.Replies.{lines_of, tally_of}
-use Rattle.lrs_sheet.specs.Resuming.{Resumes}
+use Rattle.lrs_sheet.specs.Resumption.{Resumes}
 use Rattle.lrs_sheet_records.specs.Rows.{BeginsWith}
 use Rattle.lrs_sheet.specs.Sheets.{AreAnswered, Runs, RunsBehind, records_together}
 use Rattle.lrs_sheet_records.specs.declared.fault.SheetFault.{SheetFault}
@@ -23,17 +23,17 @@ use Rattle.lrs_sheet_records.specs.declared.fault.SheetFault.TheVariants as faul
 use Rattle.lrs_sheet.specs.declared.reply.Reply.{Reply}
 use Rattle.lrs_sheet.specs.declared.reply.Tally.{Tally}
 use Rattle.lrs_sheet.proofs.Determined.{one-run}
-use Rattle.lrs_questions.specs.Answering.{AreAnswered as AreReplied, RunsQuestions, width}
-use Rattle.lrs_questions.specs.Replies.{Reply as QuestionReply, lines_of as question_lines, tally_of as question_tally}
-use Rattle.lrs_questions.specs.declared.tally.QuestionTally.{QuestionTally}
+use Rattle.lrs_sheet_questions.specs.SheetAnswers.{AreAnswered as AreReplied, RunsQuestions, width}
+use Rattle.lrs_sheet_questions.specs.Replies.{Reply as QuestionReply, lines_of as question_lines, tally_of as question_tally}
+use Rattle.lrs_sheet_questions.specs.declared.tally.QuestionTally.{QuestionTally}
 use Rattle.lrs_web_requests.specs.Request.{Asked, refused, not_allowed, query, sheet as posted}
 use Rattle.lrs_web_requests.specs.Text.{Answer, answer_text, empty_answer}
-use Rattle.lrs_web.specs.Asked.{AnswersAsked}
+use Rattle.lrs_web.specs.QueryAnswers.{AnswersAsked}
 use Rattle.lrs_web.specs.Questions.{AnswersQuestions, RepliesToQuestions}
-use Rattle.lrs_web.specs.Serving.{Does, sheet_at}
+use Rattle.lrs_web.specs.RequestAnswers.{Does, sheet_at}
 use Rattle.lrs_web.specs.Sheets.{DoesSheet, IsAnswerAfter, answer_after}
 use Rattle.lrs_promises.specs.Calls.{Did, is_decided}
-use Rattle.lrs_promises.specs.Determined.{CallsEndAlike, EndAlike, IsCallOfState, IsOfState, IsQuestion, OnlyAsks, QuestionSheetsEndAlike, QuestionsEndAlike, ResumedEndAlike, SheetsEndAlike, StandAlike, WroteAlike}
+use Rattle.lrs_promises.specs.Determinism.{CallsEndAlike, EndAlike, IsCallOfState, IsOfState, IsQuestion, OnlyAsks, QuestionSheetsEndAlike, QuestionsEndAlike, ResumedEndAlike, SheetsEndAlike, StandAlike, WroteAlike}
 use Rattle.lrs_promises.specs.declared.calls.Call.{Call}
 use Rattle.lrs_promises.specs.declared.calls.Call.TheVariants as call
 use Rattle.lrs_promises.proofs.Agreeing.{image_alike, state_alike}

@@ -16,7 +16,7 @@ use Rattle.lrs_sheet_records.specs.declared.sheet.Sheet.{Sheet}
 use Rattle.lrs_sheet_records.specs.declared.sheet.Sheet.TheVariants as sheet
 use Rattle.lrs_sheet.specs.Laws.{Say}
 use Rattle.lrs_sheet.specs.Replies.{Replied}
-use Rattle.lrs_sheet.specs.Resuming.{IsNotBegun, Resumes}
+use Rattle.lrs_sheet.specs.Resumption.{IsNotBegun, Resumes}
 use Rattle.lrs_sheet.specs.Sheets.{GoesAlong, LeavesDesk, RunsBehind, records_together}
 use Rattle.lrs_sheet_records.specs.declared.fault.SheetFault.{SheetFault}
 use Rattle.lrs_sheet_records.specs.declared.fault.SheetFault.TheVariants as fault
@@ -26,7 +26,7 @@ use Rattle.lrs_sheet.proofs.Done.{stays, along}
 use Rattle.lrs_web_requests.specs.Request.{Asked, refused, not_allowed, query, sheet as posted}
 use Rattle.lrs_web_requests.specs.Text.{Answer}
 use Rattle.lrs_web.specs.Questions.{AnswersQuestions}
-use Rattle.lrs_web.specs.Serving.{Does, sheet_at}
+use Rattle.lrs_web.specs.RequestAnswers.{Does, sheet_at}
 use Rattle.lrs_web.specs.Sheets.{DoesSheet, IsAnswerAfter}
 use Rattle.lrs_promises.specs.Calls.{AllGive, Did, DidAll, Gives, GivesAsked, GivesBehind, GivesPosted, GivesRest, is_decided}
 use Rattle.lrs_promises.specs.declared.calls.Call.{Call}

@@ -4,7 +4,7 @@ use Rattle.std.specs.Prelude.{IfOk, if◌then◌else◌}
 use Rattle.std.specs.Cmp.Lexicographic.{pointwise_decides, bytes_decides}
 use Rattle.std.proofs.lemmas.Bool.{false≢true}
 use Rattle.std.proofs.lemmas.List.{length-map}
-use Rattle.lrs_measure.specs.Maximal.{Decides, IsChain}
+use Rattle.lrs_measure.specs.MaximalRuns.{Decides, IsChain}
 use Rattle.lrs_measure.specs.Runs.{same_option}
 use Rattle.lrs_measure.specs.Texts.{Name, same_name}
 use Rattle.lrs_measure.proofs.Runs.{runs_are_one}

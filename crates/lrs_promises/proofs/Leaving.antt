@@ -9,9 +9,9 @@ use Rattle.lrs_machine.specs.declared.answer.Answer.TheVariants.{Done}
 use Rattle.lrs_machine.specs.declared.image.Image.{Image}
 use Rattle.lrs_machine.specs.declared.table.Table.{Table}
 use Rattle.lrs_machine.proofs.Keeping.{only_done_changes}
-use Rattle.lrs_image.specs.Keeping.{HoldsOnly}
+use Rattle.lrs_image.specs.KeeperCalls.{HoldsOnly}
 use Rattle.lrs_desk.specs.DeskView.{DeskView}
-use Rattle.lrs_machine_stops.specs.declared.fault.Fault.{Fault}
+use Rattle.lrs_machine.specs.declared.stops.fault.Fault.{Fault}
 use Rattle.lrs_promises.specs.Safe.{IsAnswered}
 
 module _ {K : Type 0} (holds : K → Result Image Table → Type 0) (clean : K → Type 0) (r : Record) (old new : DeskView K) where

@@ -20,3 +20,4 @@ pub mod Ends
 pub mod Fewest
 pub mod Trips
 pub mod Leaving
+pub mod DeskLaws

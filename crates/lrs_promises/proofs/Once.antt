@@ -3,14 +3,14 @@ use Rattle.std.proofs.Common.{◌≡◌, ℕ, List, [], ◌∷◌, map, Option, 
 use Rattle.std.specs.Prelude.{MatchOption, MatchResult, slice_get}
 use Rattle.lrs_measure.specs.Runs.{Run}
 use Rattle.lrs_measure.specs.Texts.{Name}
-use Rattle.lrs_position.specs.Locating.{Alignment, located_or_fault}
+use Rattle.lrs_position.specs.Locations.{Alignment, located_or_fault}
 use Rattle.lrs_position.specs.declared.expression.Expr.{Expr}
 use Rattle.lrs_position.specs.declared.location.PlaceFault.{PlaceFault}
 use Rattle.lrs_events.specs.declared.side.LinkSide.{LinkSide}
 use Rattle.lrs_events.specs.declared.side.LinkSide.TheVariants.{Left, Right}
 use Rattle.lrs_events.specs.declared.side.Side.{Side}
 use Rattle.lrs_events.specs.declared.side.Side.TheVariants.{L, R, B}
-use Rattle.lrs_events_spans.specs.Search.{one_side}
+use Rattle.lrs_events.specs.RouteSpans.Search.{one_side}
 use Rattle.lrs_machine.specs.Machine.{referent_chainage}
 use Rattle.lrs_machine.specs.Readings.{hits_on, segments_on}
 use Rattle.lrs_machine.specs.Register.{get}
@@ -20,15 +20,15 @@ use Rattle.lrs_machine.specs.declared.segment.SegFault.{SegFault}
 use Rattle.lrs_machine.specs.declared.segment.SegFault.TheVariants.{NoClass, NotExclusive, SideB}
 use Rattle.lrs_machine.specs.declared.segment.Segment.{Segment}
 use Rattle.lrs_report.specs.Sweep.{run_of}
-use Rattle.lrs_answers.specs.Answers.{IsAt, OnRoute, StandsAt, UnlessMemory}
-use Rattle.lrs_answers.specs.Segmented.{IsSegmented, class_list}
-use Rattle.lrs_answers.specs.Told.{Tells}
-use Rattle.lrs_answers.specs.declared.fault.AskFault.{AskFault}
-use Rattle.lrs_answers.specs.declared.fault.AskFault.TheVariants.{Memory, NoRoute, Place, Seg}
-use Rattle.lrs_answers.specs.declared.hits.AtAnswer.{AtAnswer}
-use Rattle.lrs_answers.specs.declared.told.Told.{Told}
+use Rattle.lrs_report_answers.specs.Answers.{IsAt, OnRoute, StandsAt, UnlessMemory}
+use Rattle.lrs_report_answers.specs.RouteSegments.{IsSegmented, class_list}
+use Rattle.lrs_report_answers.specs.ToldAnswers.{Tells}
+use Rattle.lrs_report_answers.specs.declared.fault.AskFault.{AskFault}
+use Rattle.lrs_report_answers.specs.declared.fault.AskFault.TheVariants.{Memory, NoRoute, Place, Seg}
+use Rattle.lrs_report_answers.specs.declared.hits.AtAnswer.{AtAnswer}
+use Rattle.lrs_report_answers.specs.declared.told.Told.{Told}
 use Rattle.lrs_web_requests.specs.Text.{Answer}
-use Rattle.lrs_web_replies.specs.Answered.{IsReplyTo, ShowsTold}
+use Rattle.lrs_web_replies.specs.QuestionAnswers.{IsReplyTo, ShowsTold}
 use Rattle.lrs_web_replies.specs.Replies.{refusal}
 
 pub same_some : {A : Type 0} (x y : A) → ◌≡◌ {A = Option A} (Some x) (Some y) → x ≡ y

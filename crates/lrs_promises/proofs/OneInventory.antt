@@ -13,9 +13,9 @@ use Rattle.lrs_measure.specs.Texts.{Name, name_before, same_name}
 use Rattle.lrs_element.specs.declared.link.Ground.{Ground}
 use Rattle.lrs_element.specs.declared.link.Link.{Link}
 use Rattle.lrs_element.specs.declared.marks.Mark.{Mark}
-use Rattle.lrs_position.specs.Locating.{Alignment}
+use Rattle.lrs_position.specs.Locations.{Alignment}
 use Rattle.lrs_position.specs.Routes.{are_referents, have_marks, is_route, is_route_course, referent_before}
-use Rattle.lrs_position.specs.Translating.{referent_at}
+use Rattle.lrs_position.specs.Translations.{referent_at}
 use Rattle.lrs_position.specs.declared.route.Referent.{Referent}
 use Rattle.lrs_position.specs.declared.route.Route.{Route}
 use Rattle.lrs_events.specs.declared.class.Asset.{Asset}
@@ -31,9 +31,9 @@ use Rattle.lrs_machine.specs.declared.image.RouteRow.{RouteRow}
 use Rattle.lrs_machine.proofs.Members.{In}
 use Rattle.lrs_image_laws.proofs.FromReferents.{referents_found}
 use Rattle.lrs_image_laws.proofs.Naming.{later_name}
-use Rattle.lrs_desk_laws.specs.Rows.{class_of_asset, courses_by_name}
-use Rattle.lrs_desk_laws.proofs.Alike.{rows_are_determined}
-use Rattle.lrs_promises.specs.Determined.{InventoriesAreOne, SameInventories}
+use Rattle.lrs_promises.specs.DeskLaws.Rows.{class_of_asset, courses_by_name}
+use Rattle.lrs_promises.proofs.DeskLaws.Alike.{rows_are_determined}
+use Rattle.lrs_promises.specs.Determinism.{InventoriesAreOne, SameInventories}
 use Rattle.lrs_promises.proofs.Framed.{first_same, rest_same}
 use Rattle.lrs_promises.proofs.Once.{same_some, some_is_not_none}
 

@@ -24,31 +24,31 @@ use Rattle.lrs_events.specs.declared.class.Class.{Class}
 use Rattle.lrs_events.specs.declared.side.LinkSide.{LinkSide}
 use Rattle.lrs_events.specs.declared.side.LinkSide.TheVariants.{Left, Right}
 use Rattle.lrs_events.specs.declared.span.Span.{Span}
-use Rattle.lrs_events_lanes.specs.Lane.{is_met}
-use Rattle.lrs_events_lanes.specs.Order.{place_before}
-use Rattle.lrs_events_lanes.specs.declared.order.RowOrder.TheVariants.{ByPlace}
-use Rattle.lrs_events_lanes.proofs.Members.{In, all_at, any_found}
-use Rattle.lrs_events_lanes.proofs.Ranks.{itself, row_is, row_itself, row_ranks}
-use Rattle.lrs_events_lanes.proofs.Strict.{sorted_two}
+use Rattle.lrs_events.specs.LaneLists.Lane.{is_met}
+use Rattle.lrs_events.specs.LaneLists.Order.{place_before}
+use Rattle.lrs_events.specs.declared.lanes.order.RowOrder.TheVariants.{ByPlace}
+use Rattle.lrs_events.proofs.LaneLists.Members.{In, all_at, any_found}
+use Rattle.lrs_events.proofs.LaneLists.Ranks.{itself, row_is, row_itself, row_ranks}
+use Rattle.lrs_events.proofs.LaneLists.Strict.{sorted_two}
 use Rattle.lrs_machine.specs.declared.image.Image.{Image}
 use Rattle.lrs_machine.specs.declared.image.RouteRow.{RouteRow}
 use Rattle.lrs_image.specs.Change.{is_named}
-use Rattle.lrs_diagram.specs.declared.diagram.ClassBands.{ClassBands}
-use Rattle.lrs_diagram.specs.declared.diagram.Diagram.{Diagram}
-use Rattle.lrs_diagram.specs.declared.diagram.DrawnPiece.{DrawnPiece}
-use Rattle.lrs_diagram.specs.declared.diagram.DrawnRow.{DrawnRow}
-use Rattle.lrs_diagram.specs.declared.scale.Scale.{Scale}
-use Rattle.lrs_log.proofs.Pieces.{fewest-same}
-use Rattle.lrs_answers.proofs.Naming.{along_ranks}
-use Rattle.lrs_answers.specs.Drawn.{AreAlong, AreBands, AreChosen, ArePlaced, IsBand, IsDrawing, IsDrawn, IsDrawnOn, IsFirstUnknown, IsStretch, along, class_named, drawn_row, is_point, placed, stands_before}
-use Rattle.lrs_answers.specs.Answers.{UnlessMemory}
-use Rattle.lrs_answers.specs.Told.{IsNamedRoute}
-use Rattle.lrs_answers.specs.declared.fault.AskFault.{AskFault}
-use Rattle.lrs_answers.specs.declared.fault.AskFault.TheVariants.{Memory, NoRoute, Seg}
-use Rattle.lrs_answers.specs.declared.told.Told.TheVariants as told
+use Rattle.lrs_report.specs.declared.diagrams.diagram.ClassBands.{ClassBands}
+use Rattle.lrs_report.specs.declared.diagrams.diagram.Diagram.{Diagram}
+use Rattle.lrs_report.specs.declared.diagrams.diagram.DrawnPiece.{DrawnPiece}
+use Rattle.lrs_report.specs.declared.diagrams.diagram.DrawnRow.{DrawnRow}
+use Rattle.lrs_report.specs.declared.diagrams.scale.Scale.{Scale}
+use Rattle.lrs_sheet_log.proofs.Pieces.{fewest-same}
+use Rattle.lrs_report_answers.proofs.Naming.{along_ranks}
+use Rattle.lrs_report_answers.specs.DrawnRows.{AreAlong, AreBands, AreChosen, ArePlaced, IsBand, IsDrawing, IsDrawn, IsDrawnOn, IsFirstUnknown, IsStretch, along, class_named, drawn_row, is_point, placed, stands_before}
+use Rattle.lrs_report_answers.specs.Answers.{UnlessMemory}
+use Rattle.lrs_report_answers.specs.ToldAnswers.{IsNamedRoute}
+use Rattle.lrs_report_answers.specs.declared.fault.AskFault.{AskFault}
+use Rattle.lrs_report_answers.specs.declared.fault.AskFault.TheVariants.{Memory, NoRoute, Seg}
+use Rattle.lrs_report_answers.specs.declared.told.Told.TheVariants as told
 use Rattle.lrs_machine.specs.declared.segment.SegFault.TheVariants as seg
 use Rattle.lrs_web_requests.specs.Text.{Answer}
-use Rattle.lrs_web_replies.specs.Answered.{ShowsTold}
+use Rattle.lrs_web_replies.specs.QuestionAnswers.{ShowsTold}
 use Rattle.lrs_web_replies.specs.Answers.{route_data}
 use Rattle.lrs_web_replies.specs.Replies.{json_answer}
 use Rattle.lrs_promises.proofs.Framed.{first_same, rest_same}

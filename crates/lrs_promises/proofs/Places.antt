@@ -4,9 +4,9 @@ use Rattle.std.specs.Prelude.{MatchResult}
 use Rattle.std.specs.List.{AllZip}
 use Rattle.lrs_measure.specs.Fraction.{Fraction}
 use Rattle.lrs_measure.specs.Texts.{Name}
-use Rattle.lrs_position.specs.Locating.{Alignment, Locates}
+use Rattle.lrs_position.specs.Locations.{Alignment, Locates}
 use Rattle.lrs_position.specs.Readings.{whole}
-use Rattle.lrs_position.specs.Translating.{Expresses, alignment_of, referent_at}
+use Rattle.lrs_position.specs.Translations.{Expresses, alignment_of, referent_at}
 use Rattle.lrs_position.specs.declared.expression.Expr.{Expr}
 use Rattle.lrs_position.specs.declared.expression.Target.{Target}
 use Rattle.lrs_position.proofs.Answering.{IsSound-from_route}
@@ -14,10 +14,10 @@ use Rattle.lrs_position.proofs.Located.{IsSound, same_expression}
 use Rattle.lrs_machine.specs.Image.{state_of}
 use Rattle.lrs_machine.specs.declared.image.Image.{Image}
 use Rattle.lrs_machine.specs.declared.image.RouteRow.{RouteRow}
-use Rattle.lrs_whereabouts.specs.Answers.{IsPosition, IsThere, UnlessMemory, targets_of}
-use Rattle.lrs_whereabouts.specs.Places.{Place}
-use Rattle.lrs_whereabouts.specs.declared.answer.Whereabouts.{Whereabouts}
-use Rattle.lrs_whereabouts.specs.declared.fault.WhereFault.{WhereFault}
+use Rattle.lrs_report_answers.specs.Place.Answers.{IsPosition, IsThere, UnlessMemory, targets_of}
+use Rattle.lrs_report_answers.specs.Place.Places.{Place}
+use Rattle.lrs_report_answers.specs.declared.places.answer.Whereabouts.{Whereabouts}
+use Rattle.lrs_report_answers.specs.declared.places.fault.WhereFault.{WhereFault}
 use Rattle.lrs_promises.proofs.Once.{ok_is_not_err, stands_once}
 
 -- a chainage of a sound route is expressed once by a target

@@ -1,7 +1,7 @@
 -- What a question of a sheet is replied is read off the state.
 use Rattle.std.proofs.Common.{◌≡◌, ℕ, ◌<◌, inl, inr, List, [], ◌∷◌, Option, Some, None, Result, Err, refl, sym, ap, subst, ◌∙◌}
 use Rattle.std.specs.Prelude.{Contains, MatchOption}
-use Rattle.lrs_position.specs.Translating.{number_of}
+use Rattle.lrs_position.specs.Translations.{number_of}
 use Rattle.lrs_position.specs.declared.expression.Expr.{Expr}
 use Rattle.lrs_machine.specs.Image.{state_of}
 use Rattle.lrs_machine.specs.Lines.{Text}
@@ -12,20 +12,20 @@ use Rattle.lrs_machine.specs.declared.image.Image.{Image}
 use Rattle.lrs_machine.specs.declared.question.Destination.TheVariants as destination
 use Rattle.lrs_machine.specs.declared.question.Question.{Question}
 use Rattle.lrs_machine.specs.declared.question.Question.TheVariants as question
-use Rattle.lrs_answers.specs.Answers.{IsAt, UnlessMemory}
-use Rattle.lrs_answers.specs.Finding.{IsFound, all_rows_of}
-use Rattle.lrs_answers.specs.Segmented.{IsSegmented}
-use Rattle.lrs_answers.specs.Told.{IsOnLink, IsTold, IsTranslated, Tells, length_on}
-use Rattle.lrs_answers.specs.declared.fault.AskFault.{AskFault}
-use Rattle.lrs_answers.specs.declared.fault.AskFault.TheVariants.{Memory, NoAsset}
-use Rattle.lrs_answers.specs.declared.told.Told.{Told}
-use Rattle.lrs_answers.specs.declared.told.Told.TheVariants as told
+use Rattle.lrs_report_answers.specs.Answers.{IsAt, UnlessMemory}
+use Rattle.lrs_report_answers.specs.AssetStretches.{IsFound, all_rows_of}
+use Rattle.lrs_report_answers.specs.RouteSegments.{IsSegmented}
+use Rattle.lrs_report_answers.specs.ToldAnswers.{IsOnLink, IsTold, IsTranslated, Tells, length_on}
+use Rattle.lrs_report_answers.specs.declared.fault.AskFault.{AskFault}
+use Rattle.lrs_report_answers.specs.declared.fault.AskFault.TheVariants.{Memory, NoAsset}
+use Rattle.lrs_report_answers.specs.declared.told.Told.{Told}
+use Rattle.lrs_report_answers.specs.declared.told.Told.TheVariants as told
 use Rattle.lrs_sheet_records.specs.Questions.{SaysQuestion, all_questions, question_shapes}
 use Rattle.lrs_sheet_records.specs.Records.{place_of, text_at}
 use Rattle.lrs_sheet_records.specs.Shapes.{StatesBy}
 use Rattle.lrs_sheet_records.proofs.OneCommand.{one-malformed}
 use Rattle.lrs_sheet_records.proofs.OneQuestion.{nameless, one-question, well-formed-asked}
-use Rattle.lrs_questions.specs.Replies.{AreReplied, IsReplied, Reply, malformed, reply_of}
+use Rattle.lrs_sheet_questions.specs.Replies.{AreReplied, IsReplied, Reply, malformed, reply_of}
 use Rattle.lrs_promises.proofs.Once.{OneUnlessMemory, at_once, same_some, segmented_once, some_is_not_none, tells_once, unless_memory}
 use Rattle.lrs_promises.proofs.Translated.{by_method_once, on_link_once, stated_above}
 

@@ -5,7 +5,7 @@ use Rattle.lrs_machine.specs.Lines.{Text}
 use Rattle.lrs_machine.specs.State.{State}
 use Rattle.lrs_sheet_records.specs.Kinds.{IsHeader, width_of}
 use Rattle.lrs_sheet_records.specs.declared.sheet.Sheet.{Sheet}
-use Rattle.lrs_sheet.specs.Resuming.{EndInEdit, IsDecidedBy, IsNoEdit}
+use Rattle.lrs_sheet.specs.Resumption.{EndInEdit, IsDecidedBy, IsNoEdit}
 use Rattle.lrs_sheet_records.specs.Rows.{BeginsWith}
 use Rattle.lrs_sheet.specs.declared.resumption.Decided.{Decided}
 use Rattle.lrs_promises.proofs.Framed.{Begin, PassAlike, all_behind, among, begin_before, front_begins, rest_same, under_one}

@@ -5,7 +5,7 @@ use Rattle.lrs_machine.specs.declared.image.Image.{Image}
 use Rattle.lrs_machine.specs.declared.table.Table.{Table}
 use Rattle.lrs_desk.specs.DeskView.{DeskView}
 use Rattle.lrs_web_requests.specs.Text.{Answer, empty_answer}
-use Rattle.lrs_web.specs.Serving.{Does, Serves, Writes}
+use Rattle.lrs_web.specs.RequestAnswers.{Does, Serves, Writes}
 use Rattle.lrs_promises.specs.Calls.{DidRequest}
 
 unavailable : (status : ℕ) (answer : Answer) → status ≡ answer.status → answer ≡ empty_answer 503 → status ≡ 503

@@ -6,9 +6,9 @@ use Rattle.lrs_measure.specs.Fraction.{Fraction, IsLowest, IsQuotient}
 use Rattle.lrs_measure.specs.Texts.{Name}
 use Rattle.lrs_element.specs.declared.link.Ground.{Ground}
 use Rattle.lrs_position.specs.LinkPositions.{IsLinkPosition, LiesOn, across}
-use Rattle.lrs_position.specs.Locating.{Alignment, cell, is_too_fine, lacks_referent, located, located_or_fault}
+use Rattle.lrs_position.specs.Locations.{Alignment, cell, is_too_fine, lacks_referent, located, located_or_fault}
 use Rattle.lrs_position.specs.Readings.{States, target_text}
-use Rattle.lrs_position.specs.Translating.{IsAnswer, IsExpression, Expresses, RoundTrip, Translates, alignment_of, express_fault, number_of}
+use Rattle.lrs_position.specs.Translations.{IsAnswer, IsExpression, Expresses, RoundTrip, Translates, alignment_of, express_fault, number_of}
 use Rattle.lrs_position.specs.declared.expression.Expr.{Expr}
 use Rattle.lrs_position.specs.declared.expression.Expr.TheVariants.{Abs, Rel, Int}
 use Rattle.lrs_position.specs.declared.expression.Method.{Method}
@@ -30,16 +30,16 @@ use Rattle.lrs_machine.specs.declared.image.Image.{Image}
 use Rattle.lrs_machine.specs.declared.image.RouteRow.{RouteRow}
 use Rattle.lrs_machine.specs.declared.question.Destination.{Destination}
 use Rattle.lrs_machine.specs.declared.question.Destination.TheVariants as destination
-use Rattle.lrs_answers.specs.Answers.{AsksRoute, as_asked}
-use Rattle.lrs_answers.specs.Told.{IsOnLink, IsTranslated, Tells}
-use Rattle.lrs_answers.specs.declared.fault.AskFault.{AskFault}
-use Rattle.lrs_answers.specs.declared.fault.AskFault.TheVariants.{NoRoute}
-use Rattle.lrs_answers.specs.declared.told.Told.{Told}
-use Rattle.lrs_answers.specs.declared.told.Told.TheVariants as told
-use Rattle.lrs_answers.proofs.Asked.{route_is}
+use Rattle.lrs_report_answers.specs.Answers.{AsksRoute, as_asked}
+use Rattle.lrs_report_answers.specs.ToldAnswers.{IsOnLink, IsTranslated, Tells}
+use Rattle.lrs_report_answers.specs.declared.fault.AskFault.{AskFault}
+use Rattle.lrs_report_answers.specs.declared.fault.AskFault.TheVariants.{NoRoute}
+use Rattle.lrs_report_answers.specs.declared.told.Told.{Told}
+use Rattle.lrs_report_answers.specs.declared.told.Told.TheVariants as told
+use Rattle.lrs_report_answers.proofs.Asked.{route_is}
 use Rattle.lrs_web_requests.specs.Query.{parameter}
 use Rattle.lrs_web_requests.specs.Text.{Answer}
-use Rattle.lrs_web_replies.specs.Answered.{IsReplyTo}
+use Rattle.lrs_web_replies.specs.QuestionAnswers.{IsReplyTo}
 use Rattle.lrs_web_replies.specs.Questions.{GivesPosition, Said, SaysDestination}
 use Rattle.lrs_promises.proofs.Once.{OneUnlessMemory, ok_is_not_err, same_some, some_is_not_none, told_once}
 use Rattle.lrs_promises.proofs.Places.{expressed_once}

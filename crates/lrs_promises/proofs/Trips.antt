@@ -3,17 +3,17 @@ use Rattle.std.proofs.Common.{◌≡◌, ℕ, false, Option, Some, Result, Ok, E
 use Rattle.std.specs.Prelude.{IsOkAnd, IsTrue, MatchOption}
 use Rattle.lrs_measure.specs.Texts.{Name}
 use Rattle.lrs_position.specs.Expressions.{is_entered}
-use Rattle.lrs_position.specs.Locating.{Alignment, Locates}
-use Rattle.lrs_position.specs.Translating.{RoundTrip, Translates, misses_referent, target_of}
+use Rattle.lrs_position.specs.Locations.{Alignment, Locates}
+use Rattle.lrs_position.specs.Translations.{RoundTrip, Translates, misses_referent, target_of}
 use Rattle.lrs_position.specs.declared.expression.Expr.{Expr}
 use Rattle.lrs_position.specs.declared.expression.Target.{Target}
 use Rattle.lrs_position.specs.declared.location.PlaceFault.{PlaceFault}
 use Rattle.lrs_machine.specs.Machine.{referent_chainage}
 use Rattle.lrs_machine.specs.Register.{get}
 use Rattle.lrs_machine.specs.State.{State}
-use Rattle.lrs_answers.specs.Answers.{as_asked}
-use Rattle.lrs_answers.specs.Told.{IsTranslated}
-use Rattle.lrs_answers.specs.declared.fault.AskFault.{AskFault}
+use Rattle.lrs_report_answers.specs.Answers.{as_asked}
+use Rattle.lrs_report_answers.specs.ToldAnswers.{IsTranslated}
+use Rattle.lrs_report_answers.specs.declared.fault.AskFault.{AskFault}
 use Rattle.lrs_promises.specs.RoundTrip.{IsTripOf}
 use Rattle.lrs_promises.specs.declared.translation.Trip.{Trip}
 

@@ -13,7 +13,7 @@ use Rattle.lrs_sheet_records.specs.Kinds.{IsHeader, width_of}
 use Rattle.lrs_sheet_records.specs.declared.sheet.Sheet.{Sheet}
 use Rattle.lrs_sheet_records.specs.declared.sheet.Sheet.TheVariants as sheet
 use Rattle.lrs_sheet.specs.Laws.{Say}
-use Rattle.lrs_sheet.specs.Resuming.{IsDecidedBy}
+use Rattle.lrs_sheet.specs.Resumption.{IsDecidedBy}
 use Rattle.lrs_sheet_records.specs.Rows.{AreAll, BeginsWith}
 use Rattle.lrs_sheet.specs.Sheets.{LeavesDesk, Runs}
 use Rattle.lrs_sheet_records.specs.declared.fault.SheetFault.{SheetFault}
@@ -22,7 +22,7 @@ use Rattle.lrs_sheet.specs.declared.reply.Tally.{Tally}
 use Rattle.lrs_sheet.specs.declared.resumption.Decided.{Decided}
 use Rattle.lrs_web_requests.specs.Request.{Asked, Asks, refused, not_allowed, query, sheet as posted}
 use Rattle.lrs_web_requests.specs.Text.{Answer, answer_text}
-use Rattle.lrs_web.specs.Serving.{Does, sheet_at}
+use Rattle.lrs_web.specs.RequestAnswers.{Does, sheet_at}
 use Rattle.lrs_promises.specs.declared.calls.Call.{Call}
 use Rattle.lrs_promises.specs.declared.calls.Call.TheVariants as call
 

@@ -1,12 +1,12 @@
 -- The headline: over every list of sheets, surveys and requests, tables and answers are those of the ground machine.
 use Rattle.std.specs.Prelude.{◌≡◌, ◌⊎◌, ℕ, ◌+◌, false, true, List, [], ◌∷◌, ◌++◌, length, map, Some, None, Result, Ok, Err}
-use Rattle.lrs_measure.specs.Maximal.{HaveValues, IsChain, neighbours_differ}
+use Rattle.lrs_measure.specs.MaximalRuns.{HaveValues, IsChain, neighbours_differ}
 use Rattle.lrs_measure.specs.Runs.{Run}
 use Rattle.lrs_measure.specs.Texts.{Name, same_name}
 use Rattle.lrs_element.specs.declared.link.Ground.{Ground}
 use Rattle.lrs_events.specs.declared.side.LinkSide.{LinkSide}
 use Rattle.lrs_events.specs.Places.{beside}
-use Rattle.lrs_position.specs.Locating.{Alignment}
+use Rattle.lrs_position.specs.Locations.{Alignment}
 use Rattle.lrs_machine.specs.Image.{state_of}
 use Rattle.lrs_machine.specs.Laws.{AddsUp, IsExclusive, SameAssets, is_route_edit, once}
 use Rattle.lrs_machine.specs.Lines.{Text, line_of}
@@ -21,7 +21,7 @@ use Rattle.lrs_machine.specs.declared.answer.Cause.TheVariants.{KeyUsed}
 use Rattle.lrs_machine.specs.declared.answer.Limits.{Limits}
 use Rattle.lrs_machine.specs.declared.image.Image.{Image}
 use Rattle.lrs_machine.specs.declared.table.Table.{Table}
-use Rattle.lrs_image.specs.Keeping.{HoldsOnly}
+use Rattle.lrs_image.specs.KeeperCalls.{HoldsOnly}
 use Rattle.lrs_desk.specs.DeskView.{DeskView}
 use Rattle.lrs_sheet_records.specs.declared.sheet.Sheet.{Sheet}
 use Rattle.lrs_sheet_records.specs.declared.sheet.Sheet.TheVariants as sheet

@@ -1,8 +1,9 @@
 pub mod Calls
 pub mod Headline
-pub mod Determined
+pub mod Determinism
 pub mod Rows
 pub mod RoundTrip
 pub mod Stops
 pub mod Safe
-pub mod Redone
+pub mod Replay
+pub mod DeskLaws

@@ -4,7 +4,7 @@ use Rattle.lrs_measure.specs.Texts.{Name}
 use Rattle.lrs_machine.specs.Image.{state_of}
 use Rattle.lrs_machine.specs.Sound.{IsSound}
 use Rattle.lrs_machine.specs.declared.image.Image.{Image}
-use Rattle.lrs_desk_laws.specs.InventoryRows.{HoldAlike, IsFewest, IsMaximal, Row, Tells, rows_of_inventory, canonical, courses_in, has_row, rows_of_each, run_of_row}
+use Rattle.lrs_promises.specs.DeskLaws.InventoryRows.{HoldAlike, IsFewest, IsMaximal, Row, Tells, rows_of_inventory, canonical, courses_in, has_row, rows_of_each, run_of_row}
 
 -- What is so of the rows (route, asset, from, to, side) of an inventory.
 pub record HasFewestRows (i : Image) : Type 0 where

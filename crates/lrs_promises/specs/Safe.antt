@@ -9,11 +9,11 @@ use Rattle.lrs_machine.specs.declared.answer.Answer.TheVariants.{Done}
 use Rattle.lrs_machine.specs.declared.answer.Limits.{Limits}
 use Rattle.lrs_machine.specs.declared.image.Image.{Image}
 use Rattle.lrs_machine.specs.declared.table.Table.{Table}
-use Rattle.lrs_image.specs.Keeping.{HoldsOnly}
+use Rattle.lrs_image.specs.KeeperCalls.{HoldsOnly}
 use Rattle.lrs_desk.specs.Desk.{HasBroken, IsUnchanged}
 use Rattle.lrs_desk.specs.DeskView.{DeskView}
-use Rattle.lrs_machine_stops.specs.declared.fault.Fault.{Fault}
-use Rattle.lrs_machine_stops.specs.declared.fault.Fault.TheVariants as stop
+use Rattle.lrs_machine.specs.declared.stops.fault.Fault.{Fault}
+use Rattle.lrs_machine.specs.declared.stops.fault.Fault.TheVariants as stop
 use Rattle.lrs_sheet_records.specs.declared.sheet.Sheet.{Sheet}
 use Rattle.lrs_sheet.specs.Sheets.{BreaksOff, GoesAlong, IsAfterCommands, LeavesDesk, MustReopen, Runs, StandsForEither}
 use Rattle.lrs_sheet_records.specs.declared.fault.SheetFault.{SheetFault}
@@ -21,7 +21,7 @@ use Rattle.lrs_sheet_records.specs.declared.fault.SheetFault.TheVariants as faul
 use Rattle.lrs_sheet.specs.declared.reply.Tally.{Tally}
 use Rattle.lrs_web_requests.specs.Request.{Asked}
 use Rattle.lrs_web_requests.specs.Text.{Answer as Reply}
-use Rattle.lrs_web.specs.Serving.{Responds, Serves, Writes}
+use Rattle.lrs_web.specs.RequestAnswers.{Responds, Serves, Writes}
 use Rattle.lrs_web.specs.declared.request.WebFault.{WebFault}
 use Rattle.lrs_web.specs.declared.request.WebFault.TheVariants as web
 
@@ -97,6 +97,6 @@ pub record RequestLeaves {K : Type 0} (holds : K → Result Image Table → Type
   pub unread : result ≡ Err web.Read → new ≡ old
   -- the reply to some request is written, with this status
   pub replied : IfOk result (λ status. (asked : Asked) × (reply : Reply) × Writes written text status reply × Responds holds asked old reply new)
-  -- where the reader tells its bytes, it is the reply to what they ask for, which was done, or for want of memory nothing
+  -- where the reader tells its bytes, it is the reply to what they ask for, which was done, or for lack of memory nothing
   pub served : IfOk result (λ status. (reply : Reply) × Writes written text status reply × IfSome input (λ bytes. Serves holds bytes old reply new))
   pub unwritten : result ≡ Err web.Write → IfSome input (λ bytes. (reply : Reply) × Serves holds bytes old reply new)

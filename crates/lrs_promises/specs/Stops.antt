@@ -1,6 +1,6 @@
 -- Stops: no acknowledged command is lost, and none is doubled.
-use Rattle.lrs_machine_stops.specs.Laws.{AgainWhereKept, AllAgainWhereKept, AnswersAreOfFold, NoneIsDoubled, NoneIsLost, StoredIsFold, StoredIsLawful}
-use Rattle.lrs_machine_stops.specs.Resumed.{NewKeysGoOn}
+use Rattle.lrs_machine.specs.Stop.Laws.{AgainWhereKept, AllAgainWhereKept, AnswersAreOfFold, NoneIsDoubled, NoneIsLost, StoredIsFold, StoredIsLawful}
+use Rattle.lrs_machine.specs.Stop.Resumptions.{NewKeysGoOn}
 
 -- What is so of every run that stops, wherever it does.
 pub record LoseNoneAndDoubleNone : Type 0 where

@@ -1,6 +1,6 @@
 //! Equal bytes and equal states give equal bytes and equal states.
 
-ghost use Rattle.lrs_promises.specs.Determined.{
+ghost use Rattle.lrs_promises.specs.Determinism.{
   CallsEndAlike,
   InventoriesAreOne,
   QuestionSheetsEndAlike,

@@ -6,12 +6,15 @@ mod calls;
 mod canonical_rows;
 pub mod determinism;
 pub mod log;
+pub mod row_laws;
 pub mod safe;
+mod steps;
 mod stop;
 mod translation;
 
 pub use call_list::headline;
 pub use calls::{Call, CallFault};
 pub use canonical_rows::rows;
+pub use steps::{act, act_in_memory, act_on_first, close, open};
 pub use stop::stops;
 pub use translation::{Trip, round_trip};

@@ -1,6 +1,6 @@
 //! The log of an inventory makes it again.
 
-ghost use Rattle.lrs_promises.specs.Redone.{LogMakesState, PartGoesOn};
+ghost use Rattle.lrs_promises.specs.Replay.{LogMakesState, PartGoesOn};
 
 /// The log of what any commands made, done on the empty inventory, makes the same state: refused and repeated commands
 /// are not in it, and are not missed.

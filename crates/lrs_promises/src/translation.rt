@@ -1,14 +1,14 @@
 //! From one linear referencing method to another, and back.
 
 ghost use Rattle.std.specs.Prelude.{◌≡◌, false, Result};
-ghost use Rattle.lrs_answers.specs.Told.{IsTranslated};
-ghost use Rattle.lrs_position.specs.Translating.{target_of};
+ghost use Rattle.lrs_report_answers.specs.ToldAnswers.{IsTranslated};
+ghost use Rattle.lrs_position.specs.Translations.{target_of};
 ghost use Rattle.lrs_machine.specs.Image.{state_of};
 ghost use Rattle.lrs_promises.specs.RoundTrip.{ComesBack, IsTripOf};
 
-use lrs_answers::AskFault;
 use lrs_desk::{Desk, Keeper};
 use lrs_position::{EnteredPosition, Expr, RouteName, Target};
+use lrs_report_answers::AskFault;
 
 /// A position expression by the method that was asked for, and by its own method again.
 #[derive(Clone, Copy, PartialEq, Eq)]

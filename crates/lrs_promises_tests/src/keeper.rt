@@ -27,7 +27,7 @@ pub struct Failing {
 }
 
 impl Model for Failing {
-    ghost use Rattle.lrs_promises_tests.specs.Failing.{FailingView};
+    ghost use Rattle.lrs_promises_tests.specs.FailingKeepers.{FailingView};
 
     ghost Value = { FailingView };
 
@@ -64,8 +64,8 @@ impl Failing {
 
 impl Keeper for Failing {
     ghost use Rattle.std.specs.Prelude.{◌≡◌, ⊤};
-    ghost use Rattle.lrs_image.specs.Keeping.{is_image};
-    ghost use Rattle.lrs_image_plain.specs.Plain.{finds_kept};
+    ghost use Rattle.lrs_image.specs.KeeperCalls.{is_image};
+    ghost use Rattle.lrs_image_plain.specs.PlainKeeper.{finds_kept};
 
     ghost may_hold = { λ f c. c ≡ f.plain.content };
 

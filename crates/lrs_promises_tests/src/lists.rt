@@ -1,12 +1,12 @@
-//! What a desk makes one by one, made in a list: the segments of a route, and the strip of them.
+//! What a desk makes one by one, made in a list: the segments of a route, and the strip of them. And a desk's calls for one
+//! kind of question each.
 
 use crate::words::print;
 use lrs_desk::{Desk, Inventory, Keeper};
-use lrs_diagram::strip;
 use lrs_events::{ClassName, Side, read_side};
 use lrs_machine::Segment;
-use lrs_position::{Route, RouteName};
-use lrs_report::segments;
+use lrs_position::{Route, RouteName, read_expr, read_method};
+use lrs_report::{segments, strip};
 
 /// Prints the strip of these segments of a route.
 fn print_strip(
@@ -58,4 +58,48 @@ pub fn show_strip<K: Keeper>(rt: &HostRuntime, desk: &Desk<K>, words: &str) -> O
     let side = read_side(side.as_bytes())?;
     let wanted = [ClassName::new(class.as_bytes())?];
     show(rt, desk.inventory(), &name, side, &wanted)
+}
+
+/// How many assets hold the middle of a route.
+fn holders<K: Keeper>(desk: &Desk<K>, route: &RouteName) -> Option<usize> {
+    let middle = read_expr(read_method(b"int")?, b"1/2")?;
+    match desk.at(route, middle) {
+        Ok(found) => Some(found.hits.as_slice().len()),
+        Err(_) => None,
+    }
+}
+
+/// On how many stretches an asset lies.
+fn stretches<K: Keeper>(desk: &Desk<K>, asset: u64) -> Option<usize> {
+    match desk.find(asset) {
+        Ok(found) => Some(found.as_slice().len()),
+        Err(_) => None,
+    }
+}
+
+/// How many classes there are, by their totals.
+fn totalled<K: Keeper>(desk: &Desk<K>) -> Option<usize> {
+    match desk.totals() {
+        Ok(totals) => Some(totals.as_slice().len()),
+        Err(_) => None,
+    }
+}
+
+/// Whether a route has segments by a class on its left.
+fn is_segmented<K: Keeper>(desk: &Desk<K>, route: &RouteName, wanted: &[ClassName]) -> bool {
+    desk.segments(route, wanted, Side::L).is_ok()
+}
+
+/// Prints what the calls of a desk for one kind of question answer of a route, a class and an asset, as `A1:SPEED:10`.
+pub fn show_asked<K: Keeper>(rt: &HostRuntime, desk: &Desk<K>, words: &str) -> Option<()> {
+    let (route, rest) = words.split_once(':')?;
+    let (class, asset) = rest.split_once(':')?;
+    let name = RouteName::new(route.as_bytes())?;
+    let wanted = [ClassName::new(class.as_bytes())?];
+    let asset = asset.parse::<u64>().ok()?;
+    let holders = holders(desk, &name)?;
+    let stretches = stretches(desk, asset)?;
+    let totals = totalled(desk)?;
+    let is_segmented = is_segmented(desk, &name, &wanted);
+    println!(rt; "{holders} {stretches} {totals} {is_segmented}").ok()
 }

@@ -1,7 +1,8 @@
 //! Runs the calls that carry the promises, over an inventory in memory; over tables in memory; over files on two empty
 //! disks in memory, which are closed then; and over these files again. Each word names a call and the file that it
 //! reads, as `edits:first.csv`, or a position to translate and back, as `trip:int:1/3:abs` on route A1. What each writes
-//! is printed, and then how many edits there are.
+//! is printed, and then how many edits there are. `strip:A1:L:SPEED` prints a strip, and `asks:A1:SPEED:10` what the single
+//! questions of a desk find.
 //!
 //! Behind it connections of a door in memory are served at a desk of its own. A word lets one more connection wait, with
 //! the request of a file, as `waits:totals.http`, or with a first read that fails, as `fails:totals.http`; or so many are
@@ -21,7 +22,7 @@ mod words;
 
 use failure::run_failing;
 use limits::run_limited;
-use lists::show_strip;
+use lists::{show_asked, show_strip};
 use lrs_desk::{Desk, Keeper, Plain, Staged};
 use lrs_machine::Limits;
 use lrs_position::{EnteredPosition, RouteName, read_expr, read_method, read_target};
@@ -57,6 +58,9 @@ fn take<K: Keeper>(rt: &HostRuntime, desk: &mut Desk<K>, words: &[String]) -> Op
         }
         if let Some(strip) = word.as_str().strip_prefix("strip:") {
             show_strip(rt, desk, strip)?;
+        }
+        if let Some(asked) = word.as_str().strip_prefix("asks:") {
+            show_asked(rt, desk, asked)?;
         }
     }
     println!(rt; "{}", desk.inventory().edits()).ok()
@@ -116,7 +120,7 @@ fn reopen<D: Disk + Drop>(
     }
 }
 
-/// The same over tables in files. It stands by itself: what ties such tables to their store is dear to prove.
+/// The same over tables in files. It stands by itself: what ties such tables to their store is costly to prove.
 fn run_stored<D: Disk + Drop>(
     rt: &HostRuntime,
     words: &[String],

@@ -12,12 +12,12 @@ use Rattle.lrs_ordered.proofs.Keys.{finds_name}
 use Rattle.lrs_events.specs.declared.class.Class.{Class}
 use Rattle.lrs_events.specs.declared.side.Side.{Side}
 use Rattle.lrs_events.specs.declared.span.Span.{Span}
-use Rattle.lrs_events_rows.proofs.Unique.{less_one}
+use Rattle.lrs_events.proofs.Row.Unique.{less_one}
 use Rattle.lrs_machine.specs.Sound.{class_before}
 use Rattle.lrs_machine.specs.declared.segment.SegFault.{SegFault}
 use Rattle.lrs_machine.specs.declared.segment.SegFault.TheVariants.{NoClass, NotExclusive}
 use Rattle.lrs_machine.specs.Segments.{is_class, is_exclusive, is_exclusive_class, fault_at, segment_fault}
-use Rattle.lrs_report.specs.Along.{HasOneHolder, AreExclusive}
+use Rattle.lrs_report.specs.SideValues.{HasOneHolder, AreExclusive}
 use Rattle.lrs_report.proofs.Found.{found_some, found_passes}
 
 -- ---- classes by their names

@@ -13,16 +13,16 @@ use Rattle.lrs_events.specs.declared.span.Span.{Span}
 use Rattle.lrs_events.specs.Changes.{has_row}
 use Rattle.lrs_events.specs.Members.{has_side, between, stands_for, has_member, is_member}
 use Rattle.lrs_events.specs.Spans.{are_rows, are_apart, is_row, span_before}
-use Rattle.lrs_events_rows.specs.Order.{In}
-use Rattle.lrs_events_rows.proofs.Members.{any_found, any_of, all_at, two_at}
-use Rattle.lrs_events_rows.proofs.Rows.{rows_from, IsFull}
-use Rattle.lrs_events_rows.proofs.Differing.{has_found, has_in}
-use Rattle.lrs_events_rows.proofs.Unique.{IsOver, its_sides, one_over}
-use Rattle.lrs_events_lanes.specs.Order.{place_before}
+use Rattle.lrs_events.specs.Row.Order.{In}
+use Rattle.lrs_events.proofs.Row.Members.{any_found, any_of, all_at, two_at}
+use Rattle.lrs_events.proofs.Row.Rows.{rows_from, IsFull}
+use Rattle.lrs_events.proofs.Row.Differing.{has_found, has_in}
+use Rattle.lrs_events.proofs.Row.Unique.{IsOver, its_sides, one_over}
+use Rattle.lrs_events.specs.LaneLists.Order.{place_before}
 use Rattle.lrs_machine.specs.Sound.{asset_before, is_span}
 use Rattle.lrs_machine.specs.Segments.{value_of}
-use Rattle.lrs_events_spans.specs.Tied.{is_on}
-use Rattle.lrs_report.specs.Along.{is_holder, HasOneHolder, FollowOn, is_at, row_value}
+use Rattle.lrs_events.specs.RouteSpans.LanesOfRows.{is_on}
+use Rattle.lrs_report.specs.SideValues.{is_holder, HasOneHolder, FollowOn, is_at, row_value}
 use Rattle.lrs_report.proofs.Found.{found_in, found_none, none_found, found_same}
 
 -- a lane among rows of known assets, where no two assets of its class hold one millimetre

@@ -8,3 +8,6 @@ pub mod Writing
 pub mod States
 pub mod Keyed
 pub mod Taking
+pub mod Drawings
+pub mod Changed
+pub mod Tallied

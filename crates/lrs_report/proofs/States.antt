@@ -15,7 +15,7 @@ use Rattle.lrs_events.specs.declared.side.LinkSide.{LinkSide}
 use Rattle.lrs_events.specs.declared.span.Span.{Span}
 use Rattle.lrs_events.specs.Members.{has_side, stands_for, has_member, is_member}
 use Rattle.lrs_events.specs.Places.{beside}
-use Rattle.lrs_events_rows.specs.OnCourse.{is_held}
+use Rattle.lrs_events.specs.Row.CourseMembers.{is_held}
 use Rattle.lrs_machine.specs.declared.image.Image.{Image}
 use Rattle.lrs_machine.specs.Image.{state_of, asset_entry}
 use Rattle.lrs_machine.specs.Laws.{IsExclusive}
@@ -25,8 +25,8 @@ use Rattle.lrs_machine.specs.Sound.{asset_before, class_before, is_span}
 use Rattle.lrs_machine.specs.State as state
 use Rattle.lrs_machine.proofs.Members.{any_found, any_of, all_at, find_member, find_numbered}
 use Rattle.lrs_machine.specs.Segments.{is_exclusive, is_exclusive_class, segments_of}
-use Rattle.lrs_report.specs.Along.{is_holder, AreExclusive}
-use Rattle.lrs_report.specs.InState.{TellHolders, SegmentsAreOfState, ExclusiveByRows}
+use Rattle.lrs_report.specs.SideValues.{is_holder, AreExclusive}
+use Rattle.lrs_report.specs.StateSegments.{TellHolders, SegmentsAreOfState, ExclusiveByRows}
 
 -- ---- the state's segments
 

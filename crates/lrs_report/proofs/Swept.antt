@@ -8,7 +8,7 @@ use Rattle.std.proofs.lemmas.List.{length-map}
 use Rattle.std.proofs.lemmas.List.FromFn.{length-map-range_with_len}
 use Rattle.lrs_measure.specs.Texts.{Name, same_name}
 use Rattle.lrs_measure.specs.Runs.{Run, longer, runs_from, same_option}
-use Rattle.lrs_measure.specs.Maximal.{begin_other}
+use Rattle.lrs_measure.specs.MaximalRuns.{begin_other}
 use Rattle.lrs_machine.specs.Segments.{Values, same_values}
 use Rattle.lrs_machine.specs.declared.segment.Segment.{Segment}
 use Rattle.lrs_report.specs.declared.columns.ValueStretch.{ValueStretch}

@@ -1,4 +1,7 @@
 pub mod Columns
 pub mod Sweep
-pub mod Along
-pub mod InState
+pub mod SideValues
+pub mod StateSegments
+pub mod Drawings
+pub mod ListTotals
+pub mod ListTally

@@ -3,7 +3,7 @@
 ghost use Rattle.std.specs.Prelude.{◌≡◌, true};
 ghost use Rattle.lrs_measure.specs.Lists.{each_two};
 ghost use Rattle.lrs_machine.specs.Sound.{asset_before};
-ghost use Rattle.lrs_report.specs.Along.{asset_value};
+ghost use Rattle.lrs_report.specs.SideValues.{asset_value};
 ghost use Rattle.lrs_report.specs.Columns.{first_stretch, first_value, first_end, behind, stretches_behind, stretches_from};
 
 use crate::known_rows::KnownRows;
@@ -76,7 +76,7 @@ impl<'a, A: KnownRows<Asset, u64>> Model for Column<'a, A> {
     ghost use Rattle.std.specs.Prelude.{◌≡◌, List, true};
     ghost use Rattle.lrs_measure.specs.Lists.{each_two};
     ghost use Rattle.lrs_machine.specs.Sound.{asset_before};
-    ghost use Rattle.lrs_report.specs.Along.{asset_value};
+    ghost use Rattle.lrs_report.specs.SideValues.{asset_value};
     ghost use Rattle.lrs_report.specs.Columns.{stretches_behind};
     ghost use Rattle.lrs_report.specs.declared.columns.ValueStretch.{ValueStretch};
 

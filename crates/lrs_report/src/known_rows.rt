@@ -5,7 +5,7 @@ ghost use Rattle.std.specs.List.{find};
 ghost use Rattle.std.specs.Option.{option_map};
 ghost use Rattle.std.specs.Ordering.{is_eq, is_ge};
 ghost use Rattle.lrs_measure.specs.Lists.{each_two};
-ghost use Rattle.lrs_measure.specs.Ordered.{place_by};
+ghost use Rattle.lrs_measure.specs.OrderedLists.{place_by};
 
 use lrs_measure::Keyed;
 use lrs_ordered::Chunked;

@@ -4,7 +4,7 @@ ghost use Rattle.std.specs.Prelude.{◌≡◌, true, not, position};
 ghost use Rattle.lrs_measure.specs.Lists.{each_two};
 ghost use Rattle.lrs_machine.specs.Sound.{asset_before, class_before};
 ghost use Rattle.lrs_machine.specs.Segments.{is_class, is_exclusive, is_exclusive_class, segment_fault};
-ghost use Rattle.lrs_report.specs.Along.{asset_value};
+ghost use Rattle.lrs_report.specs.SideValues.{asset_value};
 
 use crate::known_rows::KnownRows;
 use lrs_events::{Asset, Class, ClassName, Kind, Side, Value};

@@ -12,8 +12,8 @@ use Rattle.lrs_machine.specs.declared.image.Image.{Image}
 use Rattle.lrs_machine.specs.declared.table.Table.{Table}
 use Rattle.lrs_desk.specs.Desk.{records_of, DoesFirst, BreaksAmid, HasBroken, IsOldOrNext, IsUnchanged}
 use Rattle.lrs_desk.specs.DeskView.{DeskView}
-use Rattle.lrs_machine_stops.specs.declared.fault.Fault.{Fault}
-use Rattle.lrs_machine_stops.specs.declared.fault.Fault.TheVariants as stop
+use Rattle.lrs_machine.specs.declared.stops.fault.Fault.{Fault}
+use Rattle.lrs_machine.specs.declared.stops.fault.Fault.TheVariants as stop
 use Rattle.lrs_sheet_records.specs.declared.fault.SheetFault.TheVariants as fault
 use Rattle.lrs_machine.specs.declared.answer.Answer.{Answer}
 use Rattle.lrs_machine.specs.declared.command.Command.{Command}
@@ -21,7 +21,7 @@ use Rattle.lrs_sheet.specs.declared.reply.Reply.{Reply}
 use Rattle.lrs_sheet.specs.declared.reply.Tally.{Tally}
 use Rattle.lrs_sheet.specs.Replies.{counted, lines_of, reply_text}
 use Rattle.lrs_sheet.specs.Sheets.{StandsForEither}
-use Rattle.lrs_sheet.specs.Waiting.{reply_of, replies_of, replies_to, counted_all, done_all, CommandsInFlight, DoesAll, IsAheadBySome, StopsAtFirst}
+use Rattle.lrs_sheet.specs.WaitingCommands.{reply_of, replies_of, replies_to, counted_all, done_all, CommandsInFlight, DoesAll, IsAheadBySome, StopsAtFirst}
 use Rattle.lrs_sheet.proofs.Done.{lines-more}
 
 -- one more answer

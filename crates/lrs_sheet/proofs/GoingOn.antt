@@ -12,9 +12,9 @@ use Rattle.lrs_machine.specs.Lines.{Text}
 use Rattle.lrs_machine.specs.Machine.{Record, state_after}
 use Rattle.lrs_machine.specs.State.{State}
 use Rattle.lrs_machine.specs.declared.answer.Limits.{Limits}
-use Rattle.lrs_machine_stops.specs.Known.{is_edit}
-use Rattle.lrs_machine_stops.specs.Resumed.{decided}
-use Rattle.lrs_machine_stops.proofs.Resuming.{new_keys_go_on}
+use Rattle.lrs_machine.specs.Stop.KnownEdits.{is_edit}
+use Rattle.lrs_machine.specs.Stop.Resumptions.{decided}
+use Rattle.lrs_machine.proofs.Stop.Resuming.{new_keys_go_on}
 use Rattle.lrs_sheet_records.proofs.OneCommand.{one-command, well-formed}
 use Rattle.lrs_sheet_records.specs.Kinds.{edit_record}
 use Rattle.lrs_sheet_records.specs.Records.{SaysCommand, place_of}
@@ -23,7 +23,7 @@ use Rattle.lrs_sheet_records.specs.declared.sheet.Sheet.{Sheet}
 use Rattle.lrs_sheet.specs.declared.reply.Reply.{Reply}
 use Rattle.lrs_sheet.specs.Laws.{HasBegun, HasNewKeys, IsRestOf, Outcome, ResumedIsUnstopped, Say}
 use Rattle.lrs_sheet.specs.Replies.{Replied, lines_of}
-use Rattle.lrs_sheet.specs.Resuming.{EndInEdit, IsEdit, IsNoEdit}
+use Rattle.lrs_sheet.specs.Resumption.{EndInEdit, IsEdit, IsNoEdit}
 use Rattle.lrs_sheet_records.specs.Rows.{AreAll, BeginsWith}
 use Rattle.lrs_sheet.proofs.Determined.{all-one, one-run}
 use Rattle.lrs_sheet.proofs.Resuming.{no_first, one_first}

@@ -5,7 +5,7 @@ use Rattle.lrs_machine.specs.Lines.{Text}
 use Rattle.lrs_machine.specs.Machine.{Record, state_after}
 use Rattle.lrs_machine.specs.State.{State}
 use Rattle.lrs_machine.specs.declared.answer.Limits.{Limits}
-use Rattle.lrs_machine_stops.specs.declared.fault.Fault.TheVariants as stop
+use Rattle.lrs_machine.specs.declared.stops.fault.Fault.TheVariants as stop
 use Rattle.lrs_sheet_records.specs.declared.sheet.Sheet.{Sheet}
 use Rattle.lrs_sheet_records.specs.declared.fault.SheetFault.{SheetFault}
 use Rattle.lrs_sheet_records.specs.declared.fault.SheetFault.TheVariants as fault

@@ -13,7 +13,7 @@ use Rattle.lrs_machine.specs.Lines.{Text}
 use Rattle.lrs_machine.specs.State.{State}
 use Rattle.lrs_machine.specs.declared.answer.Field.{Field}
 use Rattle.lrs_machine.specs.declared.command.Command.{Command}
-use Rattle.lrs_machine_stops.specs.Known.{edit_of, is_edit}
+use Rattle.lrs_machine.specs.Stop.KnownEdits.{edit_of, is_edit}
 use Rattle.lrs_sheet_records.proofs.OneCommand.{one-command, well-formed}
 use Rattle.lrs_sheet_records.specs.Kinds.{IsHeader, edit_record, width_of}
 use Rattle.lrs_sheet_records.specs.Records.{FirstMalformed, SaysCommand, place_of}
@@ -22,7 +22,7 @@ use Rattle.lrs_sheet_records.specs.declared.sheet.Sheet.{Sheet}
 use Rattle.lrs_sheet_records.specs.declared.fault.SheetFault.{SheetFault}
 use Rattle.lrs_sheet_records.specs.declared.fault.SheetFault.TheVariants as fault
 use Rattle.lrs_sheet.specs.declared.resumption.Decided.{Decided}
-use Rattle.lrs_sheet.specs.Resuming.{HasFound, HasSearched, IsDecidedBy, IsEdit, IsNoEdit, decided_next}
+use Rattle.lrs_sheet.specs.Resumption.{HasFound, HasSearched, IsDecidedBy, IsEdit, IsNoEdit, decided_next}
 use Rattle.lrs_sheet_records.specs.Rows.{EndsAfter, Gave, HasRead, IsPlain, IsReadFault, NextDiffers}
 use Rattle.lrs_sheet_records.specs.Rows.{AreAll, BeginsWith}
 use Rattle.lrs_sheet.specs.Sheets.{HaveWidth}

@@ -10,7 +10,7 @@ use Rattle.lrs_machine.specs.declared.command.Command.{Command}
 use Rattle.lrs_machine.specs.declared.image.Image.{Image}
 use Rattle.lrs_machine.specs.declared.table.Table.{Table}
 use Rattle.lrs_desk.specs.DeskView.{DeskView}
-use Rattle.lrs_machine_stops.specs.declared.fault.Fault.TheVariants as stop
+use Rattle.lrs_machine.specs.declared.stops.fault.Fault.TheVariants as stop
 use Rattle.lrs_sheet_records.specs.declared.sheet.Sheet.{Sheet}
 use Rattle.lrs_sheet_records.specs.declared.fault.SheetFault.{SheetFault}
 use Rattle.lrs_sheet_records.specs.declared.fault.SheetFault.TheVariants as fault
@@ -19,7 +19,7 @@ use Rattle.lrs_sheet.specs.Replies.{lines_of}
 use Rattle.lrs_sheet_records.specs.Rows.{Begins}
 use Rattle.lrs_sheet.specs.Rows.{BreaksAfter, DoesRows, DoesUpTo, FailsToKeep, Stops}
 use Rattle.lrs_sheet.specs.Sheets.{AreAnswered, ComeNext, HaveWidth, RecordsInFlight}
-use Rattle.lrs_sheet.specs.Waiting.{BreaksOffAmong, CommandsInFlight, DoesFront, IsAhead, IsStill, IsWaiting, Say, StopsAmong, done_all, replies_to}
+use Rattle.lrs_sheet.specs.WaitingCommands.{BreaksOffAmong, CommandsInFlight, DoesFront, IsAhead, IsStill, IsWaiting, Say, StopsAmong, done_all, replies_to}
 use Rattle.lrs_sheet_records.proofs.ReadRows.{begins}
 use Rattle.lrs_sheet.proofs.Waits.{answered-more, replied-append, replied_said, width-append}
 

@@ -9,7 +9,7 @@ use Rattle.lrs_machine.specs.declared.command.Command.{Command}
 use Rattle.lrs_machine.specs.declared.image.Image.{Image}
 use Rattle.lrs_machine.specs.declared.table.Table.{Table}
 use Rattle.lrs_desk.specs.DeskView.{DeskView}
-use Rattle.lrs_machine_stops.specs.declared.fault.Fault.TheVariants as stop
+use Rattle.lrs_machine.specs.declared.stops.fault.Fault.TheVariants as stop
 use Rattle.lrs_sheet_records.specs.declared.sheet.Sheet.{Sheet}
 use Rattle.lrs_sheet_records.specs.Kinds.{edit_record, width_of}
 use Rattle.lrs_sheet_records.specs.declared.fault.SheetFault.{SheetFault}
@@ -19,7 +19,7 @@ use Rattle.lrs_sheet.specs.Replies.{tally_of}
 use Rattle.lrs_sheet_records.specs.Rows.{Gave, IsPlain, IsReadFault}
 use Rattle.lrs_sheet.specs.Rows.{BreaksAfter, DoesRows, HasDone}
 use Rattle.lrs_sheet.specs.Sheets.{GoesAlong, LeavesDesk}
-use Rattle.lrs_sheet.specs.Waiting.{DoesAll, HasTaken, IsWaiting, StopsAmong, StopsBehind, StopsTaking, Takes}
+use Rattle.lrs_sheet.specs.WaitingCommands.{DoesAll, HasTaken, IsWaiting, StopsAmong, StopsBehind, StopsTaking, Takes}
 use Rattle.lrs_sheet_records.proofs.ReadRows.{begins, gave-more}
 use Rattle.lrs_sheet.proofs.Done.{Replied-more, all-done, along, more-done, some-answered, start-done, stays, stop-read, width-more}
 use Rattle.lrs_sheet.proofs.Stopping.{among, broke, still_among}

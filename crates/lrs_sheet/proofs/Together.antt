@@ -13,14 +13,14 @@ use Rattle.lrs_machine.specs.declared.command.Command.{Command}
 use Rattle.lrs_machine.specs.declared.image.Image.{Image}
 use Rattle.lrs_machine.specs.declared.table.Table.{Table}
 use Rattle.lrs_desk.specs.DeskView.{DeskView}
-use Rattle.lrs_machine_stops.specs.declared.fault.Fault.TheVariants as stop
+use Rattle.lrs_machine.specs.declared.stops.fault.Fault.TheVariants as stop
 use Rattle.lrs_sheet_records.specs.declared.fault.SheetFault.{SheetFault}
 use Rattle.lrs_sheet_records.specs.declared.fault.SheetFault.TheVariants as fault
 use Rattle.lrs_sheet.specs.declared.reply.Reply.{Reply}
 use Rattle.lrs_sheet.specs.declared.reply.Tally.{Tally}
 use Rattle.lrs_sheet.specs.Replies.{answer_count, counted, lines_of, reply_text}
 use Rattle.lrs_sheet.specs.Sheets.{GoesAlong}
-use Rattle.lrs_sheet.specs.Waiting.{reply_of, replies_to, counted_all, done_all, DoesAll, DoesFront, StopsAmong, StopsAtFirst}
+use Rattle.lrs_sheet.specs.WaitingCommands.{reply_of, replies_to, counted_all, done_all, DoesAll, DoesFront, StopsAmong, StopsAtFirst}
 use Rattle.lrs_sheet.proofs.Done.{count-more-answer}
 
 -- some commands and then others

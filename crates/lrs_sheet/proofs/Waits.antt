@@ -29,7 +29,7 @@ use Rattle.lrs_sheet.specs.Replies.{IsReplied, Replied, lines_of, tally_of}
 use Rattle.lrs_sheet.specs.Sheets.{AreAnswered, GoesAlong, HaveWidth}
 use Rattle.lrs_sheet_records.specs.Rows.{Gave, IsPlain}
 use Rattle.lrs_sheet.specs.Rows.{HasDone}
-use Rattle.lrs_sheet.specs.Waiting.{DoesAll, IsWaiting, Say, counted_all, done_all, replies_to}
+use Rattle.lrs_sheet.specs.WaitingCommands.{DoesAll, IsWaiting, Say, counted_all, done_all, replies_to}
 use Rattle.lrs_sheet_records.proofs.ReadRows.{gave-more}
 use Rattle.lrs_sheet.proofs.Done.{along, tally-more, width-more}
 use Rattle.lrs_sheet.proofs.Together.{counts_done, lines-append}

@@ -5,14 +5,14 @@ use Rattle.lrs_machine.specs.State.{State}
 use Rattle.lrs_machine.specs.Machine.{Record}
 use Rattle.lrs_machine.specs.declared.answer.Field.{Field}
 use Rattle.lrs_machine.specs.declared.answer.Limits.{Limits}
-use Rattle.lrs_machine_stops.specs.Resumed.{HaveNewKeys}
+use Rattle.lrs_machine.specs.Stop.Resumptions.{HaveNewKeys}
 use Rattle.lrs_sheet.specs.declared.reply.Reply.{Reply}
 use Rattle.lrs_sheet.specs.declared.reply.Tally.{Tally}
 use Rattle.lrs_sheet_records.specs.declared.sheet.Sheet.{Sheet}
 use Rattle.lrs_sheet_records.specs.Kinds.{edit_record}
 use Rattle.lrs_sheet_records.specs.Records.{FirstMalformed, SaysCommand, place_of}
 use Rattle.lrs_sheet.specs.Replies.{Replied, lines_of}
-use Rattle.lrs_sheet.specs.Resuming.{Resumes}
+use Rattle.lrs_sheet.specs.Resumption.{Resumes}
 use Rattle.lrs_sheet_records.specs.Rows.{AreAll, BeginsWith}
 use Rattle.lrs_sheet.specs.Sheets.{Runs}
 

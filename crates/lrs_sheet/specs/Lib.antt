@@ -2,5 +2,5 @@ pub mod Replies
 pub mod Sheets
 pub mod Rows
 pub mod Laws
-pub mod Waiting
-pub mod Resuming
+pub mod WaitingCommands
+pub mod Resumption

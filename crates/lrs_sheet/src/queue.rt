@@ -4,7 +4,7 @@ ghost use Rattle.std.specs.Prelude.{◌≡◌, ◌≤◌, ◌<◌, ◌+◌, ◌^
 ghost use Rattle.std.specs.Io.KnownBytes.{Appends};
 ghost use Rattle.lrs_machine.specs.Image.{state_of};
 ghost use Rattle.lrs_sheet.specs.Replies.{answer_count, counted, lines_of, reply_text};
-ghost use Rattle.lrs_sheet.specs.Waiting.{reply_of, replies_of, counted_all, DoesAll, StopsAtFirst, StopsAmong, StopsTaking, Takes};
+ghost use Rattle.lrs_sheet.specs.WaitingCommands.{reply_of, replies_of, counted_all, DoesAll, StopsAtFirst, StopsAmong, StopsTaking, Takes};
 ghost use Rattle.csv.specs.Records.{fields_of};
 ghost use Rattle.lrs_sheet_records.specs.Kinds.{edit_fields, width_of};
 ghost use Rattle.lrs_sheet_records.specs.Records.{FirstMalformed, place_of};

@@ -12,7 +12,7 @@ ghost use Rattle.lrs_machine.specs.Lines.{Text};
 ghost use Rattle.lrs_machine.specs.declared.image.Image.{Image as ImageRows};
 ghost use Rattle.lrs_machine.specs.declared.table.Table.{Table};
 ghost use Rattle.lrs_sheet_records.specs.Kinds.{width_of};
-ghost use Rattle.lrs_sheet.specs.Resuming.{BreaksOffResumed, HasFound, IsDecidedBy, IsEdit, IsNoEdit, IsSearchFault, Resumes, decided_next};
+ghost use Rattle.lrs_sheet.specs.Resumption.{BreaksOffResumed, HasFound, IsDecidedBy, IsEdit, IsNoEdit, IsSearchFault, Resumes, decided_next};
 ghost use Rattle.lrs_sheet_records.specs.Rows.{IsPlain};
 ghost use Rattle.lrs_sheet.specs.Sheets.{IsAfterCommands, LeavesDesk};
 

@@ -11,7 +11,7 @@ ghost use Rattle.lrs_sheet.specs.Replies.{tally_of};
 ghost use Rattle.lrs_sheet.specs.Sheets.{Runs, RunsBehind, RunsEdits, RunsSurvey, LeavesDesk, BreaksOff, BreaksOffBehind, HasBrokenOff, SurveyHasBrokenOff, IsAfterCommands, StandAtFront};
 ghost use Rattle.lrs_sheet_records.specs.Rows.{IsPlain};
 ghost use Rattle.lrs_sheet.specs.Rows.{DoesRows, BreaksAfter};
-ghost use Rattle.lrs_sheet.specs.Waiting.{HasTaken};
+ghost use Rattle.lrs_sheet.specs.WaitingCommands.{HasTaken};
 
 use crate::queue::{Queue, settle, take_row};
 use crate::reply::Tally;

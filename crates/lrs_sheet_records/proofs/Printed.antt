@@ -12,9 +12,9 @@ use Rattle.lrs_position.specs.Expressions.{are_alike, same_method}
 use Rattle.lrs_position.specs.Readings.{method_text}
 use Rattle.lrs_position.specs.declared.expression.Expr.{Expr}
 use Rattle.lrs_position.specs.declared.expression.Expr.TheVariants.{Abs, Rel, Int}
-use Rattle.lrs_machine.specs.Entered.{is_asset_number, is_chainage, is_lateral_offset}
+use Rattle.lrs_machine.specs.EnteredNumbers.{is_asset_number, is_chainage, is_lateral_offset}
 use Rattle.lrs_machine.specs.Lines.{Text, expression_text}
-use Rattle.lrs_machine.specs.WellFormed.{ArePieces, IsNewAsset, IsEnd, IsWellFormed}
+use Rattle.lrs_machine.specs.WellFormedCommands.{ArePieces, IsNewAsset, IsEnd, IsWellFormed}
 use Rattle.lrs_machine.specs.declared.answer.Field.{Field}
 use Rattle.lrs_machine.specs.declared.answer.Field.TheVariants as field
 use Rattle.lrs_machine.specs.declared.command.NewAsset.{NewAsset}

@@ -22,9 +22,9 @@ use Rattle.lrs_position.specs.Names.{is_referent_name}
 use Rattle.lrs_position.specs.Readings.{States, StatesMeasure, StatesDistance, StatesProportion, distance_text, is_sign, name_text, whole}
 use Rattle.lrs_position.specs.declared.expression.Expr.{Expr}
 use Rattle.lrs_position.specs.declared.expression.Expr.TheVariants.{Abs, Rel, Int}
-use Rattle.lrs_machine.specs.Entered.{is_chainage, is_entered_piece, is_entered_mark, are_entered_pieces, are_entered_marks}
+use Rattle.lrs_machine.specs.EnteredNumbers.{is_chainage, is_entered_piece, is_entered_mark, are_entered_pieces, are_entered_marks}
 use Rattle.lrs_machine.specs.Lines.{Text, expression_text, mark_text, marks_text, piece_text, pieces_text, signed_text}
-use Rattle.lrs_machine.specs.WellFormed.{IsPosition}
+use Rattle.lrs_machine.specs.WellFormedCommands.{IsPosition}
 use Rattle.lrs_machine.proofs.Decimals.{decimal_passes, lacks-decimal}
 use Rattle.lrs_machine.proofs.Joined.{AllLack, Lacks, is_other, lacks-joined}
 use Rattle.lrs_sheet_records.specs.CanonicalRecords.{IsInLowestTerms}

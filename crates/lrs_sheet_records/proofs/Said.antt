@@ -11,7 +11,7 @@ use Rattle.lrs_position.specs.declared.expression.Method.{Method}
 use Rattle.lrs_events.specs.Names.{is_class_name, is_value, kind_text, side_text}
 use Rattle.lrs_events.specs.declared.class.Kind.{Kind}
 use Rattle.lrs_events.specs.declared.side.Side.{Side}
-use Rattle.lrs_machine.specs.Entered.{are_entered_pieces, are_entered_marks}
+use Rattle.lrs_machine.specs.EnteredNumbers.{are_entered_pieces, are_entered_marks}
 use Rattle.lrs_machine.specs.Lines.{Text}
 use Rattle.lrs_machine.specs.declared.answer.Field.{Field}
 use Rattle.lrs_machine.specs.declared.question.Destination.{Destination}

@@ -1,7 +1,7 @@
 -- Words and their parts.
 use Rattle.std.proofs.Common.{◌<◌, ◌≡◌, Option, Some, None, take, drop, ◌-◌, append_assoc, ℕ, suc, ◌+◌, ◌≤◌, Bool, true, false, List, [], ◌∷◌, ◌++◌, length, refl, sym, ap, ◌∙◌, arith, length-append}
 use Rattle.std.specs.Prelude.{◌==◌, IsTrue, IfNone, IfSome, codes}
-use Rattle.lrs_machine.specs.Entered.{are_entered_pieces, are_entered_marks}
+use Rattle.lrs_machine.specs.EnteredNumbers.{are_entered_pieces, are_entered_marks}
 use Rattle.lrs_machine.specs.declared.answer.Field.{Field}
 use Rattle.lrs_sheet_records.proofs.Said.{pieces-said, marks-said}
 use Rattle.lrs_sheet_records.specs.Shapes.{Fits, Pieces, Marks}

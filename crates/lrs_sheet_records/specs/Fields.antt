@@ -26,7 +26,7 @@ ReadsField shape said fields field result = MatchResult result
     (λ x. Says (texts_of fields) shape (text_at fields (place_of field)) (said x) × Fits (texts_of fields) (Some shape) (text_at fields (place_of field)))
     (λ e. (e ≡ fault.Field field) × (Fits (texts_of fields) (Some shape) (text_at fields (place_of field)) → ⊥))
 
--- one field that has a list: the same, or want of memory
+-- one field that has a list: the same, or lack of memory
 abbrev pub ReadsList : {X : Type 0} → Shape → (X → Argument) → List Text → Field → Result X ReadFault → Type 0
 ReadsList shape said fields field (Ok x) = Says (texts_of fields) shape (text_at fields (place_of field)) (said x) × Fits (texts_of fields) (Some shape) (text_at fields (place_of field))
 ReadsList shape said fields field (Err (fault.Field at)) = (at ≡ field) × (Fits (texts_of fields) (Some shape) (text_at fields (place_of field)) → ⊥)

@@ -3,7 +3,7 @@ use Rattle.std.specs.Prelude.{◌≡◌, ◌⊎◌, ℕ, List, IsTrue, Contains}
 use Rattle.std.specs.List.{AllByRecursion}
 use Rattle.lrs_machine.specs.Keys.{is_key}
 use Rattle.lrs_machine.specs.Lines.{Text, line_of}
-use Rattle.lrs_machine.specs.WellFormed.{IsWellFormed}
+use Rattle.lrs_machine.specs.WellFormedCommands.{IsWellFormed}
 use Rattle.lrs_machine.specs.declared.command.Command.{Command}
 use Rattle.lrs_machine.specs.declared.question.Question.{Question}
 use Rattle.lrs_sheet_records.specs.CanonicalRecords.{IsInLowestTerms, line_by_table, record_of}

@@ -74,7 +74,7 @@ pub record SaysQuestion (fields : List Text) (key : Text) (q : Question) : Type 
 abbrev pub FirstMalformedQuestion : List Text → ℕ → Type 0
 FirstMalformedQuestion = FirstMalformedBy all_questions question_shapes
 
--- a fault names the first malformed field, or want of memory
+-- a fault names the first malformed field, or lack of memory
 abbrev pub RefusesQuestion : List Text → ReadFault → Type 0
 RefusesQuestion fields (fault.Field at) = FirstMalformedQuestion fields (place_of at)
 RefusesQuestion fields fault.Memory = ⊤

@@ -71,7 +71,7 @@ SaysCommand fields key command = SaysAmong all_verbs fields key command
 abbrev pub FirstMalformed : List Text → ℕ → Type 0
 FirstMalformed fields place = FirstMalformedAmong all_verbs fields place
 
--- a fault names the first malformed field, or want of memory
+-- a fault names the first malformed field, or lack of memory
 abbrev pub Refuses : List Text → ReadFault → Type 0
 Refuses fields (fault.Field field) = FirstMalformed fields (place_of field)
 Refuses fields fault.Memory = ⊤

@@ -1,7 +1,6 @@
 //! Why a record says no command, and why a sheet is not answered to its end.
 
-use lrs_machine::Field;
-use lrs_machine_stops::Fault;
+use lrs_machine::{Fault, Field};
 
 /// Why a record says no command.
 #[derive(Clone, Copy, PartialEq, Eq)]

@@ -58,7 +58,7 @@ pub fn next_row<R: Read>(rows: &mut Reader<R>, row: &mut ByteRecord) -> Result<b
     }
 }
 
-/// Reads so many records, and lets them go.
+/// Reads so many records, and drops them.
 ///
 /// # Errors
 ///

@@ -9,17 +9,17 @@ use Rattle.sqlite_catalog.proofs.ReadLemmas.{lists_once}
 use Rattle.sqlite_trees.specs.Tree.{Trees}
 use Rattle.sqlite_trees.specs.View.{View, IsClean, IsRolledBack}
 use Rattle.lrs_machine.specs.declared.table.Table.{Table}
-use Rattle.lrs_store_rows.specs.Tables.{Tables}
-use Rattle.lrs_store_rows.specs.Content.{content_of}
+use Rattle.lrs_store_tables.specs.Contents.Tables.{Tables}
+use Rattle.lrs_store_tables.specs.Contents.Content.{content_of}
 use Rattle.lrs_store_tables.specs.declared.stored_rows.StoredRows.{StoredRows}
 use Rattle.lrs_store_tables.specs.Rows.{tables_of}
-use Rattle.lrs_store_tables.specs.Stored.{stored}
-use Rattle.lrs_store_tables.specs.Making.{first_tables, first_rows}
+use Rattle.lrs_store_tables.specs.StoredRows.{stored}
+use Rattle.lrs_store_tables.specs.TableCreation.{first_tables, first_rows}
 use Rattle.lrs_store_files.specs.declared.table_list.Known.{Known}
 use Rattle.lrs_store_files.specs.declared.table_list.Known.TheVariants as known
 use Rattle.lrs_store_files.proofs.FirstTables.{same_count}
-use Rattle.lrs_store_files.specs.Seeing.{HasSeen}
-use Rattle.lrs_store.specs.Judged.{AreFirst, ListsKnown, ListsOthers, HasRows, HasFound, IsUnsoundIn, IsUnsoundThere, IsSoundThere}
+use Rattle.lrs_store_files.specs.SeenRows.{HasSeen}
+use Rattle.lrs_store.specs.Verdicts.{AreFirst, ListsKnown, ListsOthers, HasRows, HasFound, IsUnsoundIn, IsUnsoundThere, IsSoundThere}
 
 open_there : (v : View) → (v.is_open ≡ false → IsTrue v.is_broken) → v.is_broken ≡ false → IsTrue v.is_open
 open_there v shut sound = go v.is_open refl

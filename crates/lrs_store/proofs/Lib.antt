@@ -3,3 +3,4 @@ pub mod JudgedLemmas
 pub mod OpenedLemmas
 pub mod RefusedLemmas
 pub mod ReopenedLemmas
+pub mod TableKeeper

@@ -10,29 +10,29 @@ use Rattle.sqlite_wal.specs.Recovery as wal
 use Rattle.sqlite.specs.State.{State, HasCleanDisk}
 use Rattle.lrs_machine.specs.declared.image.Image.{Image}
 use Rattle.lrs_machine.specs.declared.table.Table.{Table}
-use Rattle.lrs_store_rows.specs.Tables.{Tables, AreSame}
-use Rattle.lrs_store_rows.specs.Content.{content_of}
-use Rattle.lrs_store_rows.proofs.Stored.{content_is_of_rows}
+use Rattle.lrs_store_tables.specs.Contents.Tables.{Tables, AreSame}
+use Rattle.lrs_store_tables.specs.Contents.Content.{content_of}
+use Rattle.lrs_store_tables.proofs.Contents.Stored.{content_is_of_rows}
 use Rattle.sqlite_trees.specs.Objects.{catalog_tree}
 use Rattle.sqlite_catalog.specs.Listing.{Lists}
 use Rattle.sqlite_catalog.proofs.ReadLemmas.{lists_once}
-use Rattle.lrs_store_tables.specs.Stored.{stored, LeavesStore}
-use Rattle.lrs_store_tables.specs.Starting.{new_rows, NewRowsHoldNothing}
-use Rattle.lrs_store_tables.specs.Making.{no_schema, first_tables, first_rows}
+use Rattle.lrs_store_tables.specs.StoredRows.{stored, LeavesStore}
+use Rattle.lrs_store_tables.specs.NewStores.{new_rows, NewRowsHoldNothing}
+use Rattle.lrs_store_tables.specs.TableCreation.{no_schema, first_tables, first_rows}
 use Rattle.lrs_store_tables.proofs.MakeLemmas.{all_made}
-use Rattle.lrs_store_tables.specs.Holding.{HoldsOnly}
-use Rattle.lrs_store_tables.specs.Holding.{MayHold}
-use Rattle.lrs_store_keeper.specs.Opening.{IsSecond}
-use Rattle.lrs_store_keeper.proofs.Next.{alone_again}
-use Rattle.lrs_store_keeper.proofs.ReadLemmas.{left_before}
+use Rattle.lrs_store_tables.specs.HeldRows.{HoldsOnly}
+use Rattle.lrs_store_tables.specs.HeldRows.{MayHold}
+use Rattle.lrs_store.specs.TableKeeper.Openings.{IsSecond}
+use Rattle.lrs_store.proofs.TableKeeper.Next.{alone_again}
+use Rattle.lrs_store.proofs.TableKeeper.ReadLemmas.{left_before}
 use Rattle.sqlite.specs.declared.file.Leftover.TheVariants as leftover
 use Rattle.lrs_store_files.specs.declared.files.Untaken.{Untaken}
 use Rattle.lrs_store_files.specs.declared.files.Untaken.TheVariants as untaken
-use Rattle.lrs_store_files.specs.Found.{HasFound, IsLeftOf}
-use Rattle.lrs_store_files.specs.Opened.{HoldsContent, HasOpened, IsContentOf}
+use Rattle.lrs_store_files.specs.FoundFiles.{HasFound, IsLeftOf}
+use Rattle.lrs_store_files.specs.OpenedFiles.{HoldsContent, HasOpened, IsContentOf}
 use Rattle.lrs_store.specs.declared.files.Left.{Left}
 use Rattle.lrs_store.specs.declared.files.Left.TheVariants as left
-use Rattle.lrs_store.specs.Refused.{WasLookedAt, IsHandedOn, HoldsStill, HoldsEachRow, HoldSecond, BecomeSecond}
+use Rattle.lrs_store.specs.Refusals.{WasLookedAt, IsHandedOn, HoldsStill, HoldsEachRow, HoldSecond, BecomeSecond}
 
 hold_nothing : NewRowsHoldNothing
 unfolding content_of

@@ -7,13 +7,13 @@ use Rattle.sqlite_store.specs.declared.store.FileStore.{FileStore}
 use Rattle.sqlite.specs.Held.{Held}
 use Rattle.sqlite.specs.Files.{file_state}
 use Rattle.sqlite.specs.State.{State, HasCleanDisk}
-use Rattle.lrs_store_tables.specs.Failing.{HasFailed}
-use Rattle.lrs_store_keeper.specs.Opening.{IsSecond, HoldsAnImage}
-use Rattle.lrs_store_files.specs.Found.{HasFound}
+use Rattle.lrs_store_tables.specs.Failures.{HasFailed}
+use Rattle.lrs_store.specs.TableKeeper.Openings.{IsSecond, HoldsAnImage}
+use Rattle.lrs_store_files.specs.FoundFiles.{HasFound}
 use Rattle.lrs_store_files.specs.declared.files.Untaken.{Untaken}
-use Rattle.lrs_store_files.specs.Refusing.{HasGrounds}
+use Rattle.lrs_store_files.specs.Refusals.{HasGrounds}
 use Rattle.lrs_store.specs.declared.files.Left.{Left}
-use Rattle.lrs_store.specs.Refused.{IsHandedOn, IsRefusedFor, BecomeSecond}
+use Rattle.lrs_store.specs.Refusals.{IsHandedOn, IsRefusedFor, BecomeSecond}
 use Rattle.lrs_store.proofs.OpenedLemmas.{becomes_second}
 
 -- what was refused on grounds is handed on

@@ -15,15 +15,15 @@ use Rattle.sqlite.specs.Held.{Held}
 use Rattle.sqlite_store.specs.declared.store.FileStore.{FileStore}
 use Rattle.lrs_machine.specs.declared.image.Image.{Image}
 use Rattle.lrs_machine.specs.declared.table.Table.{Table}
-use Rattle.lrs_store_rows.specs.Content.{content_of}
-use Rattle.lrs_store_rows.specs.Tables.{Tables}
-use Rattle.lrs_store_tables.specs.Making.{first_rows}
-use Rattle.lrs_store_tables.specs.Resting.{IsReady}
+use Rattle.lrs_store_tables.specs.Contents.Content.{content_of}
+use Rattle.lrs_store_tables.specs.Contents.Tables.{Tables}
+use Rattle.lrs_store_tables.specs.TableCreation.{first_rows}
+use Rattle.lrs_store_tables.specs.Connections.{IsReady}
 use Rattle.lrs_store_tables.specs.Schema.{inventory}
-use Rattle.lrs_store_tables.specs.Stored.{stored}
+use Rattle.lrs_store_tables.specs.StoredRows.{stored}
 use Rattle.lrs_store_tables.proofs.MakeLemmas.{all_made}
-use Rattle.lrs_store_tables.specs.Holding.{MayHold}
-use Rattle.lrs_store_files.specs.Opened.{HasOpened}
+use Rattle.lrs_store_tables.specs.HeldRows.{MayHold}
+use Rattle.lrs_store_files.specs.OpenedFiles.{HasOpened}
 
 -- the first twelve tables are all
 all_rows : (t : Tables) → first_rows 12 t ≡ t

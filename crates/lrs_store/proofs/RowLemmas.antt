@@ -5,8 +5,8 @@ use Rattle.lrs_store_tables.specs.declared.stored_rows.NamedRows.{NamedRows}
 use Rattle.lrs_store_tables.specs.declared.stored_rows.RouteRows.{RouteRows}
 use Rattle.lrs_store_tables.specs.declared.stored_rows.LedgerRows.{LedgerRows}
 use Rattle.lrs_store_tables.specs.Rows.{tables_of}
-use Rattle.lrs_store_tables.specs.Stored.{stored, version_in, link_in, class_in, asset_in, piece_in, mark_in, ref_in, span_in, entered_in, gone_in, edit_in, origin_in}
-use Rattle.lrs_store_files.specs.Seeing.{HasNamed, HasRoutes, HasLedgers, HasEdits}
+use Rattle.lrs_store_tables.specs.StoredRows.{stored, version_in, link_in, class_in, asset_in, piece_in, mark_in, ref_in, span_in, entered_in, gone_in, edit_in, origin_in}
+use Rattle.lrs_store_files.specs.SeenRows.{HasNamed, HasRoutes, HasLedgers, HasEdits}
 
 pub all_rows : (n : NamedRows) (r : RouteRows) (l : LedgerRows) (db : Trees) → HasNamed n db → HasRoutes r db → HasLedgers l.entered.items l.gone.items db → HasEdits l.edit.items l.origin.items db
     → tables_of (record { named = n; routes = r; ledgers = l }) ≡ stored db

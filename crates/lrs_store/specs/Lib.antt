@@ -1,3 +1,4 @@
-pub mod Judged
-pub mod Refused
-pub mod Reopened
+pub mod Verdicts
+pub mod Refusals
+pub mod Reopenings
+pub mod TableKeeper

@@ -8,18 +8,18 @@ ghost use Rattle.sqlite_wal.specs.Reads.{AreClean};
 ghost use Rattle.sqlite.specs.State.{HasCleanDisk};
 ghost use Rattle.sqlite.specs.Files.{file_state, image_of};
 ghost use Rattle.sqlite.specs.Closing.{IsCopied};
-ghost use Rattle.lrs_store_keeper.specs.Holding.{IsOpenIfClean};
-ghost use Rattle.lrs_store_keeper.specs.Opening.{IsSecond};
+ghost use Rattle.lrs_store.specs.TableKeeper.HeldImages.{IsOpenIfClean};
+ghost use Rattle.lrs_store.specs.TableKeeper.Openings.{IsSecond};
 ghost use Rattle.lrs_machine.specs.declared.table.Table.{Table};
-ghost use Rattle.lrs_store_tables.specs.Resting.{IsReady};
-ghost use Rattle.lrs_store_files.specs.Found.{HasFound};
-ghost use Rattle.lrs_store_files.specs.Opened.{HasOpened};
-ghost use Rattle.lrs_store.specs.Refused.{IsRefusedFor, IsUnsoundLeft, IsSoundLeft, WasLookedAt, IsHandedOn, HoldsUnsound, HoldsNoUnsound, HoldsStill, HoldsEachRow, HoldSecond, HaveRowsOf, HaveContentOf, AreUnsound, AreGivenUpFor};
+ghost use Rattle.lrs_store_tables.specs.Connections.{IsReady};
+ghost use Rattle.lrs_store_files.specs.FoundFiles.{HasFound};
+ghost use Rattle.lrs_store_files.specs.OpenedFiles.{HasOpened};
+ghost use Rattle.lrs_store.specs.Refusals.{IsRefusedFor, IsUnsoundLeft, IsSoundLeft, WasLookedAt, IsHandedOn, HoldsUnsound, HoldsNoUnsound, HoldsStill, HoldsEachRow, HoldSecond, HaveRowsOf, HaveContentOf, AreUnsound, AreGivenUpFor};
 
+use crate::Tables;
 use crate::verdict::judge;
 use lrs_image::LoadFault;
 use lrs_store_files::{CloseFault, Refusal, Untaken, close_tables, open_tables, open_tables_at};
-use lrs_store_keeper::Tables;
 use lrs_store_tables::stored_rows::ReadImage;
 use lrs_store_tables::{StoreFault, TableStore};
 use sqlite::{Connection, FileFrom, FileStore, Files, Leftover, Options, Start};
@@ -57,7 +57,7 @@ pub struct NotOpened<D: Disk> {
 }
 
 impl<D: Disk + Drop> NotOpened<D> {
-    /// Why they are not opened. What is left of them is let go.
+    /// Why they are not opened. What is left of them is dropped.
     pub fn into_fault(self) -> LoadFault
         ensures { result ≡ self.fault }
     {
@@ -122,7 +122,7 @@ fn not_opened<D: Disk + Drop, R: ReadImage>(
 }
 
 /// The keeper of tables that were opened in files, or why there is none, and the connection that took them: of each
-/// image that these files may have had. It stands by itself, since a call over any store is dear to prove of one in files.
+/// image that these files may have had. It stands by itself, since a call over any store is costly to prove of one in files.
 fn keep<D: Disk + Drop, R: ReadImage + Drop>(
     alloc: Global,
     tables: TableStore<FileStore<D>>,

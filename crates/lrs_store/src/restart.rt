@@ -2,11 +2,11 @@
 
 ghost use Rattle.std.specs.Prelude.{IfOk};
 ghost use Rattle.sqlite.specs.Files.{file_state};
-ghost use Rattle.lrs_store.specs.Reopened.{IsReopened};
+ghost use Rattle.lrs_store.specs.Reopenings.{IsReopened};
 
+use crate::Tables;
 use crate::files::{NotOpened, close_files, open_files};
 use lrs_store_files::CloseFault;
-use lrs_store_keeper::Tables;
 use lrs_store_tables::stored_rows::ReadImage;
 use sqlite::{FileStore, Options};
 use sqlite_disk::Disk;

@@ -1,9 +1,9 @@
 //! The rows of all tables, read from the trees of a store.
 
 ghost use Rattle.std.specs.Prelude.{◌≡◌, IfOk, IfErr};
-ghost use Rattle.lrs_store_tables.specs.Stored.{stored};
+ghost use Rattle.lrs_store_tables.specs.StoredRows.{stored};
 ghost use Rattle.lrs_store_tables.specs.Rows.{tables_of};
-ghost use Rattle.lrs_store_files.specs.Seeing.{HasSeen, HasStopped, HasLedgers, HasEdits};
+ghost use Rattle.lrs_store_files.specs.SeenRows.{HasSeen, HasStopped, HasLedgers, HasEdits};
 
 use lrs_store_files::table_rows;
 use lrs_store_tables::stored_rows::{LedgerRows, StoredRows};

@@ -5,11 +5,11 @@ ghost use Rattle.sqlite_trees.specs.Tree.{Trees};
 ghost use Rattle.sqlite_trees.specs.View.{doubt, IsClean};
 ghost use Rattle.sqlite_trees.specs.Objects.{catalog_tree};
 ghost use Rattle.lrs_machine.specs.declared.table.Table.{Table as DeclaredTable};
-ghost use Rattle.lrs_store_rows.specs.Content.{content_of};
-ghost use Rattle.lrs_store_tables.specs.Making.{first_rows};
+ghost use Rattle.lrs_store_tables.specs.Contents.Content.{content_of};
+ghost use Rattle.lrs_store_tables.specs.TableCreation.{first_rows};
 ghost use Rattle.lrs_store_tables.specs.Rows.{tables_of};
-ghost use Rattle.lrs_store_files.specs.Seeing.{HasSeen, StopsFor, HasStopped};
-ghost use Rattle.lrs_store.specs.Judged.{AreFirst, ListsKnown, HasFound, IsUnsoundThere, IsSoundThere};
+ghost use Rattle.lrs_store_files.specs.SeenRows.{HasSeen, StopsFor, HasStopped};
+ghost use Rattle.lrs_store.specs.Verdicts.{AreFirst, ListsKnown, HasFound, IsUnsoundThere, IsSoundThere};
 
 use crate::rows::read_trees;
 use lrs_image::LoadFault;

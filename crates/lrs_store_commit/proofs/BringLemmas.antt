@@ -4,11 +4,11 @@ use Rattle.sqlite_trees.specs.declared.store.Store.{Ghosts}
 use Rattle.sqlite.specs.Held.{Held, state}
 use Rattle.sqlite.specs.State.{State, HasCleanDisk, Survives}
 use Rattle.lrs_events.specs.declared.class.Asset.{Asset}
-use Rattle.lrs_store_rows.specs.Tables.{AreSame}
-use Rattle.lrs_store_rows.specs.Laws.{brought_up}
-use Rattle.lrs_store_tables.specs.Stored.{stored, IsWriting}
-use Rattle.lrs_store_tables.specs.Starting.{BringsUp}
-use Rattle.lrs_store_tables.specs.Resting.{IsReady}
+use Rattle.lrs_store_tables.specs.Contents.Tables.{AreSame}
+use Rattle.lrs_store_tables.specs.Contents.Laws.{brought_up}
+use Rattle.lrs_store_tables.specs.StoredRows.{stored, IsWriting}
+use Rattle.lrs_store_tables.specs.NewStores.{BringsUp}
+use Rattle.lrs_store_tables.specs.Connections.{IsReady}
 use Rattle.lrs_store_commit.proofs.CommitLemmas.{begins}
 use Rattle.lrs_store_tables.proofs.Transactions.{survives_transaction}
 

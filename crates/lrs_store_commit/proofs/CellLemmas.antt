@@ -10,7 +10,7 @@ use Rattle.sqlite_value.specs.declared.value.Value.TheVariants.{Int, Text}
 use Rattle.sqlite_value.specs.Value.{owned}
 use Rattle.sqlite_value.specs.Order.{Row}
 use Rattle.sqlite.specs.Values.{bound, bound_value}
-use Rattle.lrs_store_rows.specs.Encoding.{numbered}
+use Rattle.lrs_store_tables.specs.Contents.Encoders.{numbered}
 use Rattle.lrs_store_tables.specs.Cells.{all_cells}
 
 -- one more row behind others

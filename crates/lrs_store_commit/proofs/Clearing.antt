@@ -14,9 +14,9 @@ use Rattle.sqlite.specs.State.{State, ExecutesInside}
 use Rattle.sqlite.proofs.Callers.{IsPlain, command_of}
 use Rattle.lrs_store_tables.specs.Schema.{table, inventory, whole, refers}
 use Rattle.lrs_store_tables.specs.Schema as it
-use Rattle.lrs_store_tables.specs.Stored as stored
-use Rattle.lrs_store_tables.specs.Stored.{IsWriting, AreNumbered, Makes}
-use Rattle.lrs_store_tables.specs.Changing.{without_version, without_origins}
+use Rattle.lrs_store_tables.specs.StoredRows as stored
+use Rattle.lrs_store_tables.specs.StoredRows.{IsWriting, AreNumbered, Makes}
+use Rattle.lrs_store_tables.specs.RowChanges.{without_version, without_origins}
 use Rattle.lrs_store_commit.proofs.DeleteRows.{removes, finding}
 use Rattle.lrs_store_tables.proofs.Inserting.{never, still_all}
 use Rattle.lrs_store_tables.proofs.Only.{SparesOthers, same_rows}

@@ -16,8 +16,8 @@ use Rattle.sqlite_trees.specs.Tree.{rowid}
 use Rattle.sqlite_rules.specs.Edit.{id_in}
 use Rattle.lrs_measure.specs.Texts.{Name, same_name}
 use Rattle.lrs_store_tables.specs.Schema.{whole, words}
-use Rattle.lrs_store_tables.specs.Stored.{whole_in, text_in}
-use Rattle.lrs_store_tables.specs.Changing.{is_number}
+use Rattle.lrs_store_tables.specs.StoredRows.{whole_in, text_in}
+use Rattle.lrs_store_tables.specs.RowChanges.{is_number}
 use Rattle.lrs_store_tables.proofs.Rows.{suits as takes}
 
 same_column : {c d : Column} → Some c ≡ Some d → c ≡ d

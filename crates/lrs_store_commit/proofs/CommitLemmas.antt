@@ -5,13 +5,13 @@ use Rattle.sqlite_trees.specs.declared.store.Store.{Ghosts}
 use Rattle.sqlite.specs.Held.{Held, state}
 use Rattle.sqlite.specs.State.{State, HasCleanDisk, Survives}
 use Rattle.lrs_image.specs.declared.change.Change.{Change}
-use Rattle.lrs_store_rows.specs.Tables.{Tables}
-use Rattle.lrs_store_tables.specs.Stored.{stored, IsWriting, Makes}
-use Rattle.lrs_store_tables.specs.Writing.{AreWritten, Writes, WritesEach}
+use Rattle.lrs_store_tables.specs.Contents.Tables.{Tables}
+use Rattle.lrs_store_tables.specs.StoredRows.{stored, IsWriting, Makes}
+use Rattle.lrs_store_tables.specs.Writes.{AreWritten, Writes, WritesEach}
 use Rattle.lrs_store_commit.specs.NewAssets.{IsNewAsset, with_new_assets}
 use Rattle.lrs_store_commit.proofs.Entering.{entries_written}
 use Rattle.lrs_store_tables.proofs.Transactions.{survives_transaction}
-use Rattle.lrs_store_tables.specs.Resting.{IsReady}
+use Rattle.lrs_store_tables.specs.Connections.{IsReady}
 
 -- changes that are written of what others left
 written_behind : (n k : ℕ) (cs ds : List Change) (before middle after : Tables) → k ≡ n + length cs → AreWritten n cs before middle → AreWritten k ds middle after → AreWritten n (cs ++ ds) before after

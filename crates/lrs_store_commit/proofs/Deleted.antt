@@ -11,9 +11,9 @@ use Rattle.lrs_measure.specs.Texts.{Name, same_name}
 use Rattle.lrs_events.specs.declared.span.Span.{Span}
 use Rattle.lrs_store_tables.specs.Schema.{whole, words, refers, piece_table, mark_table, ref_table, span_table}
 use Rattle.lrs_store_tables.specs.Schema as it
-use Rattle.lrs_store_tables.specs.Stored as stored
-use Rattle.lrs_store_tables.specs.Stored.{IsWriting, Makes, text_in, whole_in}
-use Rattle.lrs_store_tables.specs.Changing.{is_number, has_key_of, less_spans, less_refs}
+use Rattle.lrs_store_tables.specs.StoredRows as stored
+use Rattle.lrs_store_tables.specs.StoredRows.{IsWriting, Makes, text_in, whole_in}
+use Rattle.lrs_store_tables.specs.RowChanges.{is_number, has_key_of, less_spans, less_refs}
 use Rattle.lrs_store_tables.proofs.Answers.{passes}
 use Rattle.lrs_store_commit.proofs.Columns.{text_column, whole_column, text_key, whole_key}
 use Rattle.lrs_store_commit.proofs.DeleteStatements as statement

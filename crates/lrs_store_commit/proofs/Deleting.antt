@@ -27,7 +27,7 @@ use Rattle.sqlite.specs.Listing.{understood}
 use Rattle.sqlite.specs.State.{State, ExecutesInside}
 use Rattle.sqlite.proofs.Callers.{IsPlain, command_of}
 use Rattle.lrs_store_tables.specs.Schema.{table, inventory}
-use Rattle.lrs_store_tables.specs.Stored.{rows_of, IsWriting, AreNumbered}
+use Rattle.lrs_store_tables.specs.StoredRows.{rows_of, IsWriting, AreNumbered}
 use Rattle.lrs_store_tables.proofs.Answers.{passes}
 use Rattle.lrs_store_commit.proofs.DeleteRows.{removes, finding}
 use Rattle.lrs_store_tables.proofs.Inserting.{never, still_all}

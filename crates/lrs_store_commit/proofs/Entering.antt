@@ -10,11 +10,11 @@ use Rattle.lrs_machine.specs.declared.image.Edit.{Edit}
 use Rattle.lrs_image.specs.declared.change.Difference.{Difference}
 use Rattle.lrs_image.specs.declared.change.Change.{Change}
 use Rattle.lrs_image.specs.Change.{no_keys}
-use Rattle.lrs_store_rows.specs.Tables.{Tables, AreSame}
-use Rattle.lrs_store_rows.specs.Encoding.{span_row, edit_row, numbered}
+use Rattle.lrs_store_tables.specs.Contents.Tables.{Tables, AreSame}
+use Rattle.lrs_store_tables.specs.Contents.Encoders.{span_row, edit_row, numbered}
 use Rattle.lrs_store_tables.specs.RowLaws.{same_refl, same_trans, none_less}
-use Rattle.lrs_store_tables.specs.Changing.{with_asset, with_entered, with_gone, with_edit, renamed_route}
-use Rattle.lrs_store_tables.specs.Writing.{changed_refs, changed_spans, written, IsWritten, AreWritten}
+use Rattle.lrs_store_tables.specs.RowChanges.{with_asset, with_entered, with_gone, with_edit, renamed_route}
+use Rattle.lrs_store_tables.specs.Writes.{changed_refs, changed_spans, written, IsWritten, AreWritten}
 use Rattle.lrs_store_commit.specs.NewAssets.{IsNewAsset, with_one_span, entered_with, asset_rows, origin_rows, span_rows, entered_rows, with_new_assets}
 use Rattle.lrs_store_commit.proofs.EntryRows.{between}
 use Rattle.lrs_store_commit.proofs.SameName.{renamed_itself}

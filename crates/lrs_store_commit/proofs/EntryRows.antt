@@ -10,11 +10,11 @@ use Rattle.lrs_image.specs.declared.change.Change.{Change}
 use Rattle.lrs_events.specs.declared.class.Asset.{Asset}
 use Rattle.lrs_events.specs.declared.part.Part.{Part}
 use Rattle.sqlite.specs.State.{State}
-use Rattle.lrs_store_rows.specs.Tables.{Tables, AreSame}
-use Rattle.lrs_store_rows.specs.Laws.{origin_row}
-use Rattle.lrs_store_rows.specs.Encoding.{asset_row, entered_row, edit_row, numbered}
-use Rattle.lrs_store_tables.specs.Stored.{Makes}
-use Rattle.lrs_store_tables.specs.Changing.{with_entered}
+use Rattle.lrs_store_tables.specs.Contents.Tables.{Tables, AreSame}
+use Rattle.lrs_store_tables.specs.Contents.Laws.{origin_row}
+use Rattle.lrs_store_tables.specs.Contents.Encoders.{asset_row, entered_row, edit_row, numbered}
+use Rattle.lrs_store_tables.specs.StoredRows.{Makes}
+use Rattle.lrs_store_tables.specs.RowChanges.{with_entered}
 use Rattle.lrs_store_commit.specs.NewAssets.{IsNewAsset, HasTwoParts, asset_rows, origin_rows, spans_on, span_rows, entered_rows, first_rows, other_rows, with_assets_of, with_origins_of, with_spans_of, with_firsts_of, with_others_of, with_parts_of, with_edits_of}
 use Rattle.lrs_store_commit.proofs.EntryLemmas.{its_asset, its_change, its_parts}
 use Rattle.lrs_store_tables.proofs.Steady.{IsSteady}

@@ -9,12 +9,12 @@ use Rattle.sqlite_value.specs.Order.{Row}
 use Rattle.sqlite_value.specs.Keys.{plain}
 use Rattle.sqlite.specs.Effect.{value_rows}
 use Rattle.sqlite.specs.State.{State, ExecutesInside}
-use Rattle.lrs_store_rows.specs.Tables.{AssetRow, SpanRow, EnteredRow, EditRow, OriginRow}
+use Rattle.lrs_store_tables.specs.Contents.Tables.{AssetRow, SpanRow, EnteredRow, EditRow, OriginRow}
 use Rattle.lrs_store_tables.specs.Schema.{whole, words, refers}
 use Rattle.lrs_store_tables.specs.Schema as it
 use Rattle.lrs_store_tables.specs.Cells.{asset_cells, span_cells, entered_cells, edit_cells, origin_cells}
-use Rattle.lrs_store_tables.specs.Stored as stored
-use Rattle.lrs_store_tables.specs.Stored.{IsWriting, Makes}
+use Rattle.lrs_store_tables.specs.StoredRows as stored
+use Rattle.lrs_store_tables.specs.StoredRows.{IsWriting, Makes}
 use Rattle.lrs_store_commit.proofs.EightStatements as statement
 use Rattle.lrs_store_commit.proofs.EightStatements.{eight_of}
 use Rattle.lrs_store_tables.proofs.Inserting.{adds_rows}

@@ -3,9 +3,9 @@ use Rattle.std.proofs.Common.{List, Option, Result, Ok, Err, OnOk}
 use Rattle.lrs_element.specs.declared.link.Ground.{Ground}
 use Rattle.lrs_element.specs.declared.link.Piece.{Piece}
 use Rattle.sqlite.specs.State.{State}
-use Rattle.lrs_store_rows.specs.Tables.{Tables}
-use Rattle.lrs_store_tables.specs.Stored.{Makes}
-use Rattle.lrs_store_tables.specs.Writing.{ArePieces, MakesOf}
+use Rattle.lrs_store_tables.specs.Contents.Tables.{Tables}
+use Rattle.lrs_store_tables.specs.StoredRows.{Makes}
+use Rattle.lrs_store_tables.specs.Writes.{ArePieces, MakesOf}
 use Rattle.lrs_store_tables.proofs.Steady.{IsSteady}
 use Rattle.lrs_store_commit.proofs.Then.{makes_on}
 

@@ -23,3 +23,4 @@ pub mod SameName
 pub mod CommitLemmas
 pub mod OneSchema
 pub mod UndoneLemmas
+pub mod Laws

@@ -13,9 +13,9 @@ use Rattle.lrs_measure.specs.Texts.{Name, same_name}
 use Rattle.lrs_events.specs.declared.span.Span.{Span}
 use Rattle.lrs_store_tables.specs.Schema.{whole, words, refers, piece_table, mark_table, ref_table, span_table}
 use Rattle.lrs_store_tables.specs.Schema as it
-use Rattle.lrs_store_tables.specs.Stored as stored
-use Rattle.lrs_store_tables.specs.Stored.{IsWriting, Makes, text_in}
-use Rattle.lrs_store_tables.specs.Changing.{is_ref_of, has_key_of, renamed_piece, renamed_mark, renamed_ref, renamed_span, renamed_pieces, renamed_marks, renamed_refs, renamed_spans}
+use Rattle.lrs_store_tables.specs.StoredRows as stored
+use Rattle.lrs_store_tables.specs.StoredRows.{IsWriting, Makes, text_in}
+use Rattle.lrs_store_tables.specs.RowChanges.{is_ref_of, has_key_of, renamed_piece, renamed_mark, renamed_ref, renamed_span, renamed_pieces, renamed_marks, renamed_refs, renamed_spans}
 use Rattle.lrs_store_commit.proofs.Columns.{text_column, whole_column, text_key, suits_whole, suits_text, whole_number}
 use Rattle.lrs_store_tables.proofs.Rows.{cast_row_suits}
 use Rattle.lrs_store_tables.proofs.Answers.{passes}

@@ -8,9 +8,9 @@ use Rattle.lrs_measure.specs.Texts.{Name, same_name}
 use Rattle.lrs_events.specs.declared.span.Span.{Span}
 use Rattle.lrs_machine.proofs.Members.{any_found}
 use Rattle.lrs_image.specs.declared.change.RouteKeys.{RouteKeys}
-use Rattle.lrs_store_rows.specs.Tables.{Tables, PieceRow, MarkRow, RefRow, SpanRow}
-use Rattle.lrs_store_rows.specs.Tables.{AreSame}
-use Rattle.lrs_store_tables.specs.Changing.{is_number, has_key_of, is_ref_of, renamed_piece, renamed_mark, renamed_ref, renamed_span, renamed_route}
+use Rattle.lrs_store_tables.specs.Contents.Tables.{Tables, PieceRow, MarkRow, RefRow, SpanRow}
+use Rattle.lrs_store_tables.specs.Contents.Tables.{AreSame}
+use Rattle.lrs_store_tables.specs.RowChanges.{is_number, has_key_of, is_ref_of, renamed_piece, renamed_mark, renamed_ref, renamed_span, renamed_route}
 use Rattle.lrs_store_tables.proofs.Only.{same_rows}
 
 each_same : {X : Type 0} (f : X → X) → ((x : X) → f x ≡ x) → (xs : List X) → map f xs ≡ xs

@@ -1,9 +1,9 @@
 -- One call after another makes of the rows of a store what the second makes of what the first made.
 
 use Rattle.sqlite.specs.State.{State}
-use Rattle.lrs_store_rows.specs.Tables.{Tables}
-use Rattle.lrs_store_rows.specs.Tables.{AreSame}
-use Rattle.lrs_store_tables.specs.Stored.{stored, IsWriting, Makes}
+use Rattle.lrs_store_tables.specs.Contents.Tables.{Tables}
+use Rattle.lrs_store_tables.specs.Contents.Tables.{AreSame}
+use Rattle.lrs_store_tables.specs.StoredRows.{stored, IsWriting, Makes}
 use Rattle.lrs_store_tables.specs.RowLaws.{same_trans}
 use Rattle.lrs_store_tables.proofs.Steady.{IsSteady}
 

@@ -12,9 +12,9 @@ use Rattle.sqlite_trees.specs.Objects.{catalog_tree}
 use Rattle.sqlite_catalog.specs.Listing.{AreListed}
 use Rattle.sqlite_schema.specs.declared.schema.Schema.{Schema}
 use Rattle.lrs_store_tables.specs.Schema.{inventory}
-use Rattle.lrs_store_tables.specs.Stored.{HasTables}
-use Rattle.lrs_store_tables.specs.Resting.{IsReady}
-use Rattle.lrs_store_commit.specs.Undone.{IsBack, GoesBack, LeavesUndone}
+use Rattle.lrs_store_tables.specs.StoredRows.{HasTables}
+use Rattle.lrs_store_tables.specs.Connections.{IsReady}
+use Rattle.lrs_store_commit.specs.UndoneChanges.{IsBack, GoesBack, LeavesUndone}
 use Rattle.lrs_store_commit.proofs.OneSchema.{one_schema}
 
 -- what holds anyway holds after an error

@@ -24,7 +24,7 @@ use Rattle.sqlite.specs.Listing.{understood}
 use Rattle.sqlite.specs.State.{State, ExecutesInside}
 use Rattle.sqlite.proofs.Callers.{IsPlain, command_of}
 use Rattle.lrs_store_tables.specs.Schema.{table, inventory}
-use Rattle.lrs_store_tables.specs.Stored.{rows_of, IsWriting, AreNumbered}
+use Rattle.lrs_store_tables.specs.StoredRows.{rows_of, IsWriting, AreNumbered}
 use Rattle.lrs_store_tables.proofs.Answers.{passes, shown_of}
 use Rattle.lrs_store_commit.proofs.UpdateRows.{changes, changing, put_all_permutes}
 use Rattle.lrs_store_commit.proofs.Deleting.{filled, IsFilled, numbered_left, map_twice}

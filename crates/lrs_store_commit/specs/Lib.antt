@@ -1,2 +1,3 @@
 pub mod NewAssets
-pub mod Undone
+pub mod UndoneChanges
+pub mod Laws

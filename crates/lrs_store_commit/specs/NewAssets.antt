@@ -9,9 +9,9 @@ use Rattle.lrs_image.specs.declared.change.RouteChange.{RouteChange}
 use Rattle.lrs_image.specs.declared.change.Difference.{Difference}
 use Rattle.lrs_image.specs.declared.change.Change.{Change}
 use Rattle.lrs_image.specs.Change.{no_keys, no_difference}
-use Rattle.lrs_store_rows.specs.Tables.{Tables, AssetRow, OriginRow, SpanRow, EnteredRow}
-use Rattle.lrs_store_rows.specs.Laws.{origin_row}
-use Rattle.lrs_store_rows.specs.Encoding.{asset_row, span_row, entered_row, edit_row, numbered}
+use Rattle.lrs_store_tables.specs.Contents.Tables.{Tables, AssetRow, OriginRow, SpanRow, EnteredRow}
+use Rattle.lrs_store_tables.specs.Contents.Laws.{origin_row}
+use Rattle.lrs_store_tables.specs.Contents.Encoders.{asset_row, span_row, entered_row, edit_row, numbered}
 
 -- a route that gets one span, and stays as it is otherwise
 abbrev pub with_one_span : Name → Span → RouteChange

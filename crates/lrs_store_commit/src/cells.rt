@@ -3,8 +3,8 @@
 ghost use Rattle.std.specs.Prelude.{◌≡◌, length, map, pos, OnOk};
 ghost use Rattle.sqlite_value.specs.declared.value.Value.TheVariants.{Int};
 ghost use Rattle.sqlite.specs.Values.{bound};
-ghost use Rattle.lrs_store_rows.specs.Laws.{origin_row};
-ghost use Rattle.lrs_store_rows.specs.Encoding.{asset_row, span_row, entered_row, gone_row, edit_row};
+ghost use Rattle.lrs_store_tables.specs.Contents.Laws.{origin_row};
+ghost use Rattle.lrs_store_tables.specs.Contents.Encoders.{asset_row, span_row, entered_row, gone_row, edit_row};
 ghost use Rattle.lrs_store_tables.specs.Cells.{asset_cells, origin_cells, span_cells, entered_cells, gone_cells, edit_cells};
 
 use lrs_events::{Asset, Gone, Part, Span};

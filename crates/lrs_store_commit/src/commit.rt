@@ -3,11 +3,11 @@
 ghost use Rattle.std.specs.Prelude.{◌≡◌, ◌+◌, ◌<◌, ◌≤◌, ◌^◌, length, take, IfOk, OnOk, OnErr, IsTrue, false};
 ghost use Rattle.sqlite.specs.State.{HasCleanDisk, Survives};
 ghost use Rattle.sqlite.specs.Held.{state};
-ghost use Rattle.lrs_store_tables.specs.Stored.{IsWriting, Makes, stored, OkDoes, LeavesStore};
-ghost use Rattle.lrs_store_tables.specs.Writing.{MakesOf, Writes, WritesEach, AreWritten, with_some, changed_course, changed_route, new_course, new_route, with_ledgers};
-ghost use Rattle.lrs_store_tables.specs.Changing.{without_route};
-ghost use Rattle.lrs_store_tables.specs.Resting.{IsReady};
-ghost use Rattle.lrs_store_commit.specs.Undone.{GoesBack, LeavesUndone};
+ghost use Rattle.lrs_store_tables.specs.StoredRows.{IsWriting, Makes, stored, OkDoes, LeavesStore};
+ghost use Rattle.lrs_store_tables.specs.Writes.{MakesOf, Writes, WritesEach, AreWritten, with_some, changed_course, changed_route, new_course, new_route, with_ledgers};
+ghost use Rattle.lrs_store_tables.specs.RowChanges.{without_route};
+ghost use Rattle.lrs_store_tables.specs.Connections.{IsReady};
+ghost use Rattle.lrs_store_commit.specs.UndoneChanges.{GoesBack, LeavesUndone};
 
 use crate::insert_assets::insert_new_assets;
 use crate::insert_lists::Ledger;

@@ -2,8 +2,8 @@
 
 ghost use Rattle.std.specs.Prelude.{◌≡◌};
 ghost use Rattle.sqlite.specs.Held.{state};
-ghost use Rattle.lrs_store_tables.specs.Stored.{Makes, OkDoes, LeavesStore};
-ghost use Rattle.lrs_store_tables.specs.Changing.{without_pieces, without_marks, less_spans, less_refs};
+ghost use Rattle.lrs_store_tables.specs.StoredRows.{Makes, OkDoes, LeavesStore};
+ghost use Rattle.lrs_store_tables.specs.RowChanges.{without_pieces, without_marks, less_spans, less_refs};
 ghost use Rattle.lrs_store_tables.specs.RowLaws.{no_less_spans, no_less_refs, less_spans_more, less_refs_more};
 
 use crate::lists::Written;

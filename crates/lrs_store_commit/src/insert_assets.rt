@@ -4,8 +4,8 @@ ghost use Rattle.std.specs.Prelude.{◌≡◌, ◌+◌, ◌<◌, ◌^◌, length
 ghost use Rattle.std.specs.List.{AllByRecursion, flat_map};
 ghost use Rattle.sqlite.specs.State.{HasCleanDisk};
 ghost use Rattle.sqlite.specs.Held.{state};
-ghost use Rattle.lrs_store_rows.specs.Encoding.{edit_row};
-ghost use Rattle.lrs_store_tables.specs.Stored.{IsWriting, Makes, OkDoes, LeavesStore};
+ghost use Rattle.lrs_store_tables.specs.Contents.Encoders.{edit_row};
+ghost use Rattle.lrs_store_tables.specs.StoredRows.{IsWriting, Makes, OkDoes, LeavesStore};
 ghost use Rattle.lrs_store_tables.specs.Cells.{asset_cells, origin_cells, span_cells, entered_cells, edit_cells};
 ghost use Rattle.lrs_store_commit.specs.NewAssets.{IsNewAsset, HasTwoParts, asset_rows, origin_rows, span_rows, first_rows, other_rows, with_assets_of, with_origins_of, with_spans_of, with_firsts_of, with_others_of, with_parts_of, with_edits_of, with_new_assets};
 

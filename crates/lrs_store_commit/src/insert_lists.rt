@@ -1,6 +1,6 @@
 //! Inserted rows of a list: of a route, or of a ledger.
 
-ghost use Rattle.lrs_store_tables.specs.Changing.{with_pieces, with_marks, with_refs, with_spans, with_entered, with_gone};
+ghost use Rattle.lrs_store_tables.specs.RowChanges.{with_pieces, with_marks, with_refs, with_spans, with_entered, with_gone};
 ghost use Rattle.lrs_store_tables.specs.RowLaws.{same_refl, pieces_more, marks_more, refs_more, spans_more, entered_more, gone_more};
 
 use crate::cells::{fill_gone, fill_numbers, fill_part, fill_span};

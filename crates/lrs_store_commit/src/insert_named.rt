@@ -2,9 +2,9 @@
 
 ghost use Rattle.std.specs.Prelude.{◌≡◌};
 ghost use Rattle.sqlite.specs.Held.{state};
-ghost use Rattle.lrs_store_tables.specs.Stored.{Makes, OkDoes, LeavesStore};
-ghost use Rattle.lrs_store_tables.specs.Changing.{with_link, with_class, with_asset};
-ghost use Rattle.lrs_store_tables.specs.Writing.{with_some, with_named};
+ghost use Rattle.lrs_store_tables.specs.StoredRows.{Makes, OkDoes, LeavesStore};
+ghost use Rattle.lrs_store_tables.specs.RowChanges.{with_link, with_class, with_asset};
+ghost use Rattle.lrs_store_tables.specs.Writes.{with_some, with_named};
 
 use lrs_element::Link;
 use lrs_events::{Asset, Class};

@@ -2,9 +2,11 @@
 #![tactic(auto)]
 
 mod cells;
+pub mod change_laws;
 mod commit;
 mod delete;
 mod eight_rows;
+pub mod image_laws;
 mod insert_assets;
 mod insert_lists;
 mod insert_named;
@@ -12,6 +14,7 @@ mod lists;
 mod migration;
 mod new_assets;
 mod routes;
+pub mod texts;
 mod update;
 
 pub use commit::write_changes;

@@ -2,15 +2,15 @@
 
 ghost use Rattle.std.specs.Prelude.{◌≡◌, ℕ, List, [], ◌∷◌};
 ghost use Rattle.sqlite.specs.Held.{state};
-ghost use Rattle.lrs_store_tables.specs.Stored.{Makes, OkDoes, LeavesStore};
+ghost use Rattle.lrs_store_tables.specs.StoredRows.{Makes, OkDoes, LeavesStore};
 
 use sqlite::{Alter, Error, Transaction};
 
 /// A value for which a row is written, beside what else the row says.
 pub trait Written<C> {
     ghost use Rattle.std.specs.Prelude.{◌+◌, ◌++◌, length};
-    ghost use Rattle.lrs_store_rows.specs.Tables.{Tables};
-    ghost use Rattle.lrs_store_rows.specs.Tables.{AreSame};
+    ghost use Rattle.lrs_store_tables.specs.Contents.Tables.{Tables};
+    ghost use Rattle.lrs_store_tables.specs.Contents.Tables.{AreSame};
 
     // What these values, of which the first has this number, make of the rows of a store.
     ghost all: { C → ℕ → List Self → Tables → Tables };

@@ -3,13 +3,13 @@
 ghost use Rattle.std.specs.Prelude.{◌≡◌, OnOk, IsTrue, false};
 ghost use Rattle.sqlite.specs.State.{HasCleanDisk, Survives};
 ghost use Rattle.sqlite.specs.Held.{state};
-ghost use Rattle.lrs_store_rows.specs.Tables.{AreSame};
-ghost use Rattle.lrs_store_rows.specs.Laws.{brought_up};
-ghost use Rattle.lrs_store_tables.specs.Stored.{IsWriting, Makes, stored, OkDoes, LeavesStore};
-ghost use Rattle.lrs_store_tables.specs.Changing.{with_origins, without_version, without_origins};
+ghost use Rattle.lrs_store_tables.specs.Contents.Tables.{AreSame};
+ghost use Rattle.lrs_store_tables.specs.Contents.Laws.{brought_up};
+ghost use Rattle.lrs_store_tables.specs.StoredRows.{IsWriting, Makes, stored, OkDoes, LeavesStore};
+ghost use Rattle.lrs_store_tables.specs.RowChanges.{with_origins, without_version, without_origins};
 ghost use Rattle.lrs_store_tables.specs.RowLaws.{same_refl, origins_more};
-ghost use Rattle.lrs_store_tables.specs.Resting.{IsReady};
-ghost use Rattle.lrs_store_tables.specs.Starting.{BringsUp};
+ghost use Rattle.lrs_store_tables.specs.Connections.{IsReady};
+ghost use Rattle.lrs_store_tables.specs.NewStores.{BringsUp};
 
 use crate::lists::{Written, write_all};
 use lrs_events::Asset;

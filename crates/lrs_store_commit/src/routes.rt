@@ -2,9 +2,9 @@
 
 ghost use Rattle.std.specs.Prelude.{◌≡◌, Some};
 ghost use Rattle.sqlite.specs.Held.{state};
-ghost use Rattle.lrs_store_tables.specs.Stored.{Makes, OkDoes, LeavesStore};
-ghost use Rattle.lrs_store_tables.specs.Changing.{without_route, renamed_route};
-ghost use Rattle.lrs_store_tables.specs.Writing.{MakesOf, with_some, new_pieces, new_marks, changed_refs, changed_spans, changed_line, changed_route, new_route};
+ghost use Rattle.lrs_store_tables.specs.StoredRows.{Makes, OkDoes, LeavesStore};
+ghost use Rattle.lrs_store_tables.specs.RowChanges.{without_route, renamed_route};
+ghost use Rattle.lrs_store_tables.specs.Writes.{MakesOf, with_some, new_pieces, new_marks, changed_refs, changed_spans, changed_line, changed_route, new_route};
 
 use crate::delete::{Going, drop_marks, drop_pieces};
 use crate::insert_lists::Coming;

@@ -2,8 +2,8 @@
 
 ghost use Rattle.std.specs.Prelude.{◌≡◌};
 ghost use Rattle.sqlite.specs.Held.{state};
-ghost use Rattle.lrs_store_tables.specs.Stored.{Makes, OkDoes, LeavesStore};
-ghost use Rattle.lrs_store_tables.specs.Changing.{renamed_pieces, renamed_marks, renamed_refs, renamed_spans};
+ghost use Rattle.lrs_store_tables.specs.StoredRows.{Makes, OkDoes, LeavesStore};
+ghost use Rattle.lrs_store_tables.specs.RowChanges.{renamed_pieces, renamed_marks, renamed_refs, renamed_spans};
 ghost use Rattle.lrs_store_tables.specs.RowLaws.{no_renamed_refs, no_renamed_spans, renamed_refs_more, renamed_spans_more};
 
 use crate::lists::Written;

@@ -4,9 +4,9 @@ use Rattle.std.specs.Prelude.{slice_index_or}
 use Rattle.std.proofs.lemmas.List.{length-take-le}
 use Rattle.sqlite_schema.specs.declared.schema.Schema.{Schema}
 use Rattle.lrs_store_tables.specs.Schema.{inventory}
-use Rattle.lrs_store_tables.specs.Making.{no_schema, first_tables}
+use Rattle.lrs_store_tables.specs.TableCreation.{no_schema, first_tables}
 use Rattle.lrs_store_tables.proofs.MakeLemmas.{AllFrom, one_of}
-use Rattle.lrs_store_files.specs.Opening.{IsKnown}
+use Rattle.lrs_store_files.specs.Openings.{IsKnown}
 use Rattle.lrs_store_files.specs.declared.table_list.Known.{Known}
 use Rattle.lrs_store_files.specs.declared.table_list.Known.TheVariants.{First, Other}
 

@@ -29,11 +29,11 @@ use Rattle.sqlite.specs.declared.file.Leftover.{Leftover}
 use Rattle.sqlite.specs.Held.{Held}
 use Rattle.sqlite_store.specs.declared.store.FileStore.{FileStore}
 use Rattle.sqlite.specs.Files.{AreFoundIn, HoldsDatabase, image_of, IsCleanLeft, LeavesFiles, file_state}
-use Rattle.lrs_store_tables.specs.Stored.{AreNumbered}
+use Rattle.lrs_store_tables.specs.StoredRows.{AreNumbered}
 use Rattle.lrs_store_files.specs.declared.files.Untaken.{Untaken}
 use Rattle.lrs_store_files.specs.declared.files.Untaken.TheVariants as untaken
-use Rattle.lrs_store_files.specs.Opening.{HasNumbers, IsTaken, LeavesFound}
-use Rattle.lrs_store_files.specs.Found.{HasFound, IsLeftOf, LeavesRead}
+use Rattle.lrs_store_files.specs.Openings.{HasNumbers, IsTaken, LeavesFound}
+use Rattle.lrs_store_files.specs.FoundFiles.{HasFound, IsLeftOf, LeavesRead}
 
 -- what a catalog lists that was read
 pub lists_it : (o : Option Schema) (found : Schema) (catalog : List Row) → o ≡ Some found → MatchOption o ((s : Schema) → Lists catalog s → ⊥) (Lists catalog) → Lists catalog found

@@ -12,17 +12,17 @@ use Rattle.sqlite_trees.specs.Tree.{Trees}
 use Rattle.sqlite.specs.Effect.{IsDatabase}
 use Rattle.sqlite.specs.Held.{Held, state}
 use Rattle.sqlite.specs.State.{State, HasCleanDisk, Survives}
-use Rattle.lrs_store_rows.specs.Tables.{AreSame}
+use Rattle.lrs_store_tables.specs.Contents.Tables.{AreSame}
 use Rattle.lrs_store_tables.specs.Schema.{inventory}
-use Rattle.lrs_store_tables.specs.Stored.{stored, AreNumbered}
-use Rattle.lrs_store_tables.specs.Resting.{IsAtRest}
-use Rattle.lrs_store_tables.specs.Making.{no_schema, first_tables, first_rows, tree_at, HasFirst, IsBegun, IsMaking}
-use Rattle.lrs_store_tables.specs.Starting.{new_rows}
-use Rattle.lrs_store_tables.specs.Holding.{HoldsOnly}
+use Rattle.lrs_store_tables.specs.StoredRows.{stored, AreNumbered}
+use Rattle.lrs_store_tables.specs.Connections.{IsAtRest}
+use Rattle.lrs_store_tables.specs.TableCreation.{no_schema, first_tables, first_rows, tree_at, HasFirst, IsBegun, IsMaking}
+use Rattle.lrs_store_tables.specs.NewStores.{new_rows}
+use Rattle.lrs_store_tables.specs.HeldRows.{HoldsOnly}
 use Rattle.lrs_store_tables.proofs.MakeLemmas.{none_made, first_each, each_tree, rows_of_first}
 use Rattle.lrs_store_tables.proofs.Transactions.{survives_transaction}
 use Rattle.lrs_store_files.proofs.FirstTables.{same_count, none_of_some}
-use Rattle.lrs_store_files.specs.Opening.{IsTaken, IsFound, HasNumbers, HasBegun, LeavesFound}
+use Rattle.lrs_store_files.specs.Openings.{IsTaken, IsFound, HasNumbers, HasBegun, LeavesFound}
 
 -- a database of the tables is at rest where it is committed
 pub at_rest : (s : State) → IsDatabase s.now → s.now.schema ≡ inventory → HasNumbers s.now → s.now ≡ s.committed → IsAtRest s

@@ -5,7 +5,7 @@ use Rattle.std.specs.List.{AllByRecursion}
 use Rattle.sqlite_schema.specs.declared.schema.Table.{Table}
 use Rattle.lrs_store_tables.specs.Schema as it
 use Rattle.lrs_store_tables.specs.Schema.{inventory}
-use Rattle.lrs_store_files.specs.Plain.{IsPlainColumn, IsPlainTable}
+use Rattle.lrs_store_files.specs.PlainTables.{IsPlainColumn, IsPlainTable}
 
 -- of every list
 pub all_true : {X : Type 0} (xs : List X) → AllByRecursion (λ _. ⊤) xs

@@ -15,12 +15,12 @@ use Rattle.sqlite.specs.declared.error.Error.{Error}
 use Rattle.sqlite.specs.declared.error.Error.TheVariants.{SqliteFailure}
 use Rattle.sqlite.specs.declared.error.ErrorCode.TheVariants.{OutOfMemory}
 use Rattle.std.proofs.lemmas.Bool.{false≢true}
-use Rattle.lrs_store_tables.specs.Making.{first_tables}
-use Rattle.lrs_store_tables.specs.Failing.{HasFailed, HasReason}
+use Rattle.lrs_store_tables.specs.TableCreation.{first_tables}
+use Rattle.lrs_store_tables.specs.Failures.{HasFailed, HasReason}
 use Rattle.lrs_store_tables.specs.declared.tables.StoreFault.{StoreFault}
 use Rattle.lrs_store_tables.specs.declared.tables.StoreFault.TheVariants as fault
-use Rattle.lrs_store_files.specs.Opening.{IsKnown, LeavesFound}
-use Rattle.lrs_store_files.specs.Refusing.{HasGrounds, HasFailedOn}
+use Rattle.lrs_store_files.specs.Openings.{IsKnown, LeavesFound}
+use Rattle.lrs_store_files.specs.Refusals.{HasGrounds, HasFailedOn}
 use Rattle.lrs_store_files.specs.declared.files.Untaken.{Untaken}
 use Rattle.lrs_store_files.specs.declared.files.Untaken.TheVariants as untaken
 
@@ -30,7 +30,7 @@ disk_failed old new opened unlimited (inl more) = omega (arith, more)
 disk_failed old new opened unlimited (inr (inl shut)) = absurd (false≢true (sym shut ∙ opened))
 disk_failed old new opened unlimited (inr (inr limit)) = absurd (false≢true (subst IsSome unlimited limit))
 
--- a store that fails for a reason, and not for want of memory
+-- a store that fails for a reason, and not for lack of memory
 pub store_failed : (f : StoreFault) (e : Error) (old new : State) → (e ≡ SqliteFailure OutOfMemory → f ≡ fault.Memory) → f ≡ fault.Store → HasReason old new e → HasFailed old new
 store_failed f e old new memory is (inl ran_out) = absurd (let both = sym (memory ran_out) ∙ is in cc)
 store_failed f e old new memory is (inr failed) = failed

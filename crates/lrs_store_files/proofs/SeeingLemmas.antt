@@ -3,7 +3,7 @@ use Rattle.std.proofs.Common.{◌≡◌, ℕ, IsTrue, IfOk, IfErr, IsErrAnd, Res
 use Rattle.sqlite_trees.specs.Tree.{Trees}
 use Rattle.sqlite_trees.specs.View.{View, IsClean}
 use Rattle.sqlite_trees.specs.declared.error.StoreError.{StoreError}
-use Rattle.lrs_store_files.specs.Seeing.{HasSeen, HasStopped, StopsFor, WasLookedAt}
+use Rattle.lrs_store_files.specs.SeenRows.{HasSeen, HasStopped, StopsFor, WasLookedAt}
 
 -- what was read is told of Ok alone, and why it was not of Err alone
 

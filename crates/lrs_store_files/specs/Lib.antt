@@ -1,6 +1,6 @@
-pub mod Plain
-pub mod Opening
-pub mod Found
-pub mod Refusing
-pub mod Seeing
-pub mod Opened
+pub mod PlainTables
+pub mod Openings
+pub mod FoundFiles
+pub mod Refusals
+pub mod SeenRows
+pub mod OpenedFiles

@@ -3,7 +3,7 @@
 ghost use Rattle.std.specs.Prelude.{◌≡◌, ◌↔◌, [], IsTrue, ⊤};
 ghost use Rattle.std.specs.List.{AllByRecursion};
 ghost use Rattle.sqlite_value.specs.declared.value.Value.TheVariants.{Null};
-ghost use Rattle.lrs_store_files.specs.Plain.{IsPlainColumn, IsPlainTable};
+ghost use Rattle.lrs_store_files.specs.PlainTables.{IsPlainColumn, IsPlainTable};
 
 use sqlite_items::Items;
 use sqlite_schema::code::Terms;

@@ -3,13 +3,13 @@
 ghost use Rattle.std.specs.Prelude.{◌≡◌, ◌<◌, OnOk, IfOk, IfErr, IsErrAnd, IsTrue, false};
 ghost use Rattle.sqlite.specs.State.{HasCleanDisk, Survives};
 ghost use Rattle.sqlite.specs.Held.{state};
-ghost use Rattle.lrs_store_rows.specs.Tables.{AreSame};
+ghost use Rattle.lrs_store_tables.specs.Contents.Tables.{AreSame};
 ghost use Rattle.lrs_store_tables.specs.Schema.{inventory};
-ghost use Rattle.lrs_store_tables.specs.Stored.{stored};
-ghost use Rattle.lrs_store_tables.specs.Making.{no_schema, first_tables, first_rows};
-ghost use Rattle.lrs_store_tables.specs.Resting.{IsReady};
-ghost use Rattle.lrs_store_tables.specs.Failing.{HasFailed, ErrHasReason};
-ghost use Rattle.lrs_store_files.specs.Opening.{IsKnown, IsTaken, IsFound, LeavesFound, IsGrown};
+ghost use Rattle.lrs_store_tables.specs.StoredRows.{stored};
+ghost use Rattle.lrs_store_tables.specs.TableCreation.{no_schema, first_tables, first_rows};
+ghost use Rattle.lrs_store_tables.specs.Connections.{IsReady};
+ghost use Rattle.lrs_store_tables.specs.Failures.{HasFailed, ErrHasReason};
+ghost use Rattle.lrs_store_files.specs.Openings.{IsKnown, IsTaken, IsFound, LeavesFound, IsGrown};
 
 use crate::table_list::{Known, wanted, which};
 use lrs_store_tables::{StoreFault, TABLES, TableStore, make_store, make_tables};

@@ -11,10 +11,10 @@ ghost use Rattle.sqlite.specs.Start.{FindsIn};
 ghost use Rattle.sqlite.specs.Files.{file_state, image_of, IsOpened, IsBlankAs};
 ghost use Rattle.sqlite_wal.specs.Recovery.{Image};
 ghost use Rattle.sqlite.specs.Closing.{IsCopied};
-ghost use Rattle.lrs_store_tables.specs.Resting.{IsReady};
-ghost use Rattle.lrs_store_files.specs.Opening.{IsFound};
-ghost use Rattle.lrs_store_files.specs.Found.{HasFound, IsLeftOf, WasRead, LeavesRead};
-ghost use Rattle.lrs_store_files.specs.Refusing.{HasGrounds, HasFailedOn};
+ghost use Rattle.lrs_store_tables.specs.Connections.{IsReady};
+ghost use Rattle.lrs_store_files.specs.Openings.{IsFound};
+ghost use Rattle.lrs_store_files.specs.FoundFiles.{HasFound, IsLeftOf, WasRead, LeavesRead};
+ghost use Rattle.lrs_store_files.specs.Refusals.{HasGrounds, HasFailedOn};
 
 use crate::connection::{fault_of, over};
 use crate::lost::refuse_lost;
@@ -48,7 +48,7 @@ pub struct Refusal<D: Disk> {
 }
 
 /// The tables of a connection that was just opened over files, or why they are not taken: of each image that these files
-/// may have had. It stands by itself, since a call over any store is dear to prove of one in files.
+/// may have had. It stands by itself, since a call over any store is costly to prove of one in files.
 fn taken<D: Disk + Drop>(
     alloc: Global,
     conn: Connection<FileStore<D>>,

@@ -2,7 +2,7 @@
 
 ghost use Rattle.std.specs.Prelude.{◌≡◌, ◌↔◌, ℕ, ◌≤◌, IfOk};
 ghost use Rattle.lrs_store_tables.specs.Schema.{inventory};
-ghost use Rattle.lrs_store_tables.specs.Making.{first_tables};
+ghost use Rattle.lrs_store_tables.specs.TableCreation.{first_tables};
 
 use crate::comparison::has_only;
 use lrs_store_tables::{TABLES, TableStore};

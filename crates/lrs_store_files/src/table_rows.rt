@@ -1,7 +1,7 @@
 //! The rows of tables, read from the trees of a store.
 
 ghost use Rattle.std.specs.Prelude.{IfOk, IfErr};
-ghost use Rattle.lrs_store_files.specs.Seeing.{HasSeen, HasStopped, WasLookedAt, HasNamed, HasRoutes, HasLedgers, HasEdits};
+ghost use Rattle.lrs_store_files.specs.SeenRows.{HasSeen, HasStopped, WasLookedAt, HasNamed, HasRoutes, HasLedgers, HasEdits};
 
 use crate::trees::read_tree;
 use lrs_store_tables::stored_rows::{NamedRows, RouteRows};

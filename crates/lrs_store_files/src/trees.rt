@@ -2,8 +2,8 @@
 
 ghost use Rattle.std.specs.Prelude.{◌≡◌, map, IfOk, IfErr};
 ghost use Rattle.sqlite_value.specs.Order.{column};
-ghost use Rattle.lrs_store_tables.specs.Stored.{rows_of};
-ghost use Rattle.lrs_store_files.specs.Seeing.{HasSeen, HasStopped, WasLookedAt};
+ghost use Rattle.lrs_store_tables.specs.StoredRows.{rows_of};
+ghost use Rattle.lrs_store_files.specs.SeenRows.{HasSeen, HasStopped, WasLookedAt};
 
 use crate::values::take_values;
 use sqlite::Row;
@@ -14,7 +14,7 @@ use sqlite_trees::store::Store;
 use sqlite_value::row;
 use std::alloc::{AllocError, Global};
 
-/// The rows of a tree, as the columns at these places show them. Each row is let go once it is shown.
+/// The rows of a tree, as the columns at these places show them. Each row is dropped once it is shown.
 ///
 /// # Errors
 /// When memory runs out.

@@ -10,11 +10,11 @@ use Rattle.lrs_machine.specs.Sound.{RouteCourse, course_before}
 use Rattle.lrs_machine.proofs.Pairs.{each_two-map}
 use Rattle.lrs_image.specs.declared.keeper.LoadFault.{LoadFault}
 use Rattle.lrs_image.specs.declared.keeper.LoadFault.TheVariants.{Memory, Store, Unsound}
-use Rattle.lrs_store_rows.specs.Content.{◌>>=◌, read}
-use Rattle.lrs_store_image.specs.Loading.{Reads}
-use Rattle.lrs_store_routes.specs.Measuring.{are_route_courses}
-use Rattle.lrs_store_routes.specs.Referring.{courses_of_routes}
-use Rattle.lrs_store_routes.specs.Spans.{named_before}
+use Rattle.lrs_store_tables.specs.Contents.Content.{◌>>=◌, read}
+use Rattle.lrs_store_image.specs.TableReadings.{Reads}
+use Rattle.lrs_store_image.specs.DecodedRoutes.Marks.{are_route_courses}
+use Rattle.lrs_store_image.specs.DecodedRoutes.Referents.{courses_of_routes}
+use Rattle.lrs_store_image.specs.DecodedRoutes.Spans.{named_before}
 
 module _ {A B : Type 0} (w : Result A Table) (f : A → Result B Table) where
   -- what is not read ends the reading

@@ -9,13 +9,13 @@ use Rattle.std.proofs.lemmas.List.Sorted.{IsPermutation-sym}
 use Rattle.lrs_measure.specs.Lists.{each_two}
 use Rattle.lrs_machine.specs.declared.table.Table.{Table}
 use Rattle.lrs_machine.proofs.Members.{all_weaker}
-use Rattle.lrs_store_rows.specs.Decoding.{only_if, each_of, each_sorted, sorted, Numbered, number_before, counted}
-use Rattle.lrs_store_rows.specs.Decoding as option
-use Rattle.lrs_store_rows.specs.Content.{read}
+use Rattle.lrs_store_tables.specs.Contents.Decoders.{only_if, each_of, each_sorted, sorted, Numbered, number_before, counted}
+use Rattle.lrs_store_tables.specs.Contents.Decoders as option
+use Rattle.lrs_store_tables.specs.Contents.Content.{read}
 use Rattle.lrs_store_image.proofs.Mapped.{each_of-map}
-use Rattle.lrs_store_rows.proofs.Orders.{numbers_rank}
-use Rattle.lrs_store_rows.proofs.Sorts.{sort_in_order}
-use Rattle.lrs_store_rows.proofs.Unordered.{sorted_is}
+use Rattle.lrs_store_tables.proofs.Contents.Orders.{numbers_rank}
+use Rattle.lrs_store_tables.proofs.Contents.Sorts.{sort_in_order}
+use Rattle.lrs_store_tables.proofs.Contents.Unordered.{sorted_is}
 
 -- ---- one by one
 

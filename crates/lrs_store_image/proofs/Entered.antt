@@ -8,8 +8,8 @@ use Rattle.lrs_events.specs.declared.class.Asset.{Asset}
 use Rattle.lrs_events.specs.declared.part.Part.{Part}
 use Rattle.lrs_machine.specs.Sound.{asset_before}
 use Rattle.lrs_machine.proofs.Pairs.{each_two-map}
-use Rattle.lrs_store_rows.specs.Content.{with_edit}
-use Rattle.lrs_store_image.specs.Entering.{entered_by, entered_all}
+use Rattle.lrs_store_tables.specs.Contents.Content.{with_edit}
+use Rattle.lrs_store_image.specs.EnteringEdits.{entered_by, entered_all}
 
 module _ (p : Part) where
   entered_as : (a : Asset) (b : Bool) → nat_eq p.asset a.number ≡ b → entered_by p a ≡ record a { entered_by = cond b p.edit a.entered_by }

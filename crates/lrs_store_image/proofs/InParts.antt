@@ -7,16 +7,16 @@ use Rattle.lrs_machine.specs.declared.table.Table.{Table}
 use Rattle.lrs_machine.specs.declared.table.Table.TheVariants as table
 use Rattle.lrs_machine.specs.Sound.{link_before, are_links, class_before, are_classes, asset_before, are_assets, are_courses, are_entered, gone_before, are_gone, are_edits}
 use Rattle.lrs_image_sound.specs.Tables.{route_spans}
-use Rattle.lrs_store_rows.specs.Tables.{Tables}
-use Rattle.lrs_store_rows.specs.Decoding.{each_sorted, link_of, class_of, asset_of, part_of, gone_of}
-use Rattle.lrs_store_rows.specs.Content.{◌>>=◌, read, courses_of, measured_of, routes_of, entries_of, edits_of, inventory_of}
-use Rattle.lrs_store_routes.specs.Measuring.{are_all_measured}
-use Rattle.lrs_store_routes.specs.Referring.{are_all_referred}
-use Rattle.lrs_store_routes.specs.Spans.{are_sound}
+use Rattle.lrs_store_tables.specs.Contents.Tables.{Tables}
+use Rattle.lrs_store_tables.specs.Contents.Decoders.{each_sorted, link_of, class_of, asset_of, part_of, gone_of}
+use Rattle.lrs_store_tables.specs.Contents.Content.{◌>>=◌, read, courses_of, measured_of, routes_of, entries_of, edits_of, inventory_of}
+use Rattle.lrs_store_image.specs.DecodedRoutes.Marks.{are_all_measured}
+use Rattle.lrs_store_image.specs.DecodedRoutes.Referents.{are_all_referred}
+use Rattle.lrs_store_image.specs.DecodedRoutes.Spans.{are_sound}
 use Rattle.lrs_store_image.specs.declared.registers.Named.{Named}
 use Rattle.lrs_store_image.specs.declared.steps.Registers.{Registers}
 use Rattle.lrs_store_image.specs.declared.steps.Ledgers.{Ledgers}
-use Rattle.lrs_store_image.specs.Reading.{named_read, entries_read}
+use Rattle.lrs_store_image.specs.Readings.{named_read, entries_read}
 use Rattle.lrs_store_image.specs.Steps.{whole_image}
 use Rattle.lrs_store_image.proofs.Chained.{alike, in_parts}
 

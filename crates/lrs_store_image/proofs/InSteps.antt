@@ -12,13 +12,13 @@ use Rattle.lrs_machine.specs.Sound.{are_entered, gone_before, are_gone, are_edit
 use Rattle.lrs_image_sound.specs.Tables.{route_spans}
 use Rattle.lrs_image.specs.declared.keeper.LoadFault.{LoadFault}
 use Rattle.lrs_image.specs.declared.keeper.LoadFault.TheVariants.{Unsound}
-use Rattle.lrs_store_rows.specs.Tables.{Tables}
-use Rattle.lrs_store_rows.specs.Decoding.{each_sorted, part_of, gone_of, origin_of}
-use Rattle.lrs_store_rows.specs.Content.{◌>>=◌, read, edits_of, version_of, origin_before, has_origins, inventory_of, image_of}
-use Rattle.lrs_store_image.specs.Loading.{Reads}
+use Rattle.lrs_store_tables.specs.Contents.Tables.{Tables}
+use Rattle.lrs_store_tables.specs.Contents.Decoders.{each_sorted, part_of, gone_of, origin_of}
+use Rattle.lrs_store_tables.specs.Contents.Content.{◌>>=◌, read, edits_of, version_of, origin_before, has_origins, inventory_of, image_of}
+use Rattle.lrs_store_image.specs.TableReadings.{Reads}
 use Rattle.lrs_store_image.specs.declared.registers.Named.{Named}
 use Rattle.lrs_store_image.specs.declared.steps.Registers.{Registers}
-use Rattle.lrs_store_image.specs.Reading.{named_read, entries_read}
+use Rattle.lrs_store_image.specs.Readings.{named_read, entries_read}
 use Rattle.lrs_store_image.specs.Steps.{LedgerTables, EditTables, image_of_registers, image_of_ledgers}
 use Rattle.lrs_store_image.proofs.Chained.{in_parts}
 use Rattle.lrs_store_image.proofs.InParts.{with_routes, with_ledgers, inventory_in_parts}

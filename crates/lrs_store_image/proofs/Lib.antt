@@ -11,3 +11,4 @@ pub mod InParts
 pub mod InSteps
 pub mod OfEntries
 pub mod OfContent
+pub mod DecodedRoutes

@@ -3,10 +3,10 @@ use Rattle.std.proofs.Common.{◌≡◌, Result, Ok, Err, refl, sym, subst}
 use Rattle.std.specs.Prelude.{IfOk}
 use Rattle.lrs_machine.specs.declared.table.Table.{Table}
 use Rattle.lrs_image.specs.declared.keeper.LoadFault.{LoadFault}
-use Rattle.lrs_store_routes.specs.declared.fault.RowsFault.{RowsFault}
-use Rattle.lrs_store_routes.specs.declared.fault.RowsFault.TheVariants.{Memory, Unsound}
-use Rattle.lrs_store_image.specs.Loading.{Reads}
-use Rattle.lrs_store_image.specs.Reading.{of_read}
+use Rattle.lrs_store_image.specs.declared.route_decoder.fault.RowsFault.{RowsFault}
+use Rattle.lrs_store_image.specs.declared.route_decoder.fault.RowsFault.TheVariants.{Memory, Unsound}
+use Rattle.lrs_store_image.specs.TableReadings.{Reads}
+use Rattle.lrs_store_image.specs.Readings.{of_read}
 
 module _ {V A : Type 0} (f : V → A) (wanted : Result A Table) where
   reads_from : (r : Result V RowsFault) → IfOk r (λ x. wanted ≡ Ok (f x)) → ((t : Table) → r ≡ Err (Unsound t) → wanted ≡ Err t) → Reads wanted (of_read f r)

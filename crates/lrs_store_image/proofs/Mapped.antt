@@ -1,6 +1,6 @@
 -- What decoded rows say.
 use Rattle.std.proofs.Common.{◌≡◌, List, [], ◌∷◌, map, Option, refl, sym, ap, ◌∙◌}
-use Rattle.lrs_store_rows.specs.Decoding.{each_of}
+use Rattle.lrs_store_tables.specs.Contents.Decoders.{each_of}
 use Rattle.lrs_store_tables.proofs.SaidRows.{one, each-one}
 
 -- what decoded rows say is what the rows say

@@ -9,12 +9,12 @@ use Rattle.lrs_machine.specs.declared.table.Table.TheVariants as table
 use Rattle.lrs_machine.specs.Image.{nothing}
 use Rattle.lrs_image.specs.declared.keeper.LoadFault.{LoadFault}
 use Rattle.lrs_image.specs.declared.keeper.LoadFault.TheVariants.{Memory, Store, Unsound}
-use Rattle.lrs_store_rows.specs.Tables.{Tables}
-use Rattle.lrs_store_rows.specs.Content.{read, version_of, image_of, has_no_rows, content_of}
-use Rattle.lrs_store_tables.specs.Stored.{version_in, link_in, class_in, asset_in, piece_in, mark_in, ref_in, span_in}
+use Rattle.lrs_store_tables.specs.Contents.Tables.{Tables}
+use Rattle.lrs_store_tables.specs.Contents.Content.{read, version_of, image_of, has_no_rows, content_of}
+use Rattle.lrs_store_tables.specs.StoredRows.{version_in, link_in, class_in, asset_in, piece_in, mark_in, ref_in, span_in}
 use Rattle.lrs_store_tables.specs.declared.stored_rows.NamedRows.{NamedRows}
 use Rattle.lrs_store_tables.specs.declared.stored_rows.RouteRows.{RouteRows}
-use Rattle.lrs_store_image.specs.Loading.{Reads}
+use Rattle.lrs_store_image.specs.TableReadings.{Reads}
 use Rattle.lrs_store_image.proofs.InSteps.{no_version}
 use Rattle.lrs_store_image.specs.declared.steps.Registers.{Registers}
 use Rattle.lrs_store_image.specs.declared.steps.Begun.{Begun}

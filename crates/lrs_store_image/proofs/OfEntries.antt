@@ -17,12 +17,12 @@ use Rattle.lrs_measure.specs.Lists.{each_two}
 use Rattle.lrs_events.specs.declared.part.Part.{Part}
 use Rattle.lrs_image_sound.specs.Tables.{fits_route, route_courses, route_spans}
 use Rattle.lrs_image.specs.declared.keeper.LoadFault.{LoadFault}
-use Rattle.lrs_store_image.specs.Loading.{Reads}
-use Rattle.lrs_store_rows.specs.Tables.{SpanRow}
-use Rattle.lrs_store_rows.specs.Decoding.{span_of}
-use Rattle.lrs_store_rows.specs.Decoding as option
-use Rattle.lrs_store_rows.specs.Content.{read, entries_of, row_with, each_of_known, with_edit}
-use Rattle.lrs_store_routes.specs.Spans.{courses_over, are_sound}
+use Rattle.lrs_store_image.specs.TableReadings.{Reads}
+use Rattle.lrs_store_tables.specs.Contents.Tables.{SpanRow}
+use Rattle.lrs_store_tables.specs.Contents.Decoders.{span_of}
+use Rattle.lrs_store_tables.specs.Contents.Decoders as option
+use Rattle.lrs_store_tables.specs.Contents.Content.{read, entries_of, row_with, each_of_known, with_edit}
+use Rattle.lrs_store_image.specs.DecodedRoutes.Spans.{courses_over, are_sound}
 use Rattle.lrs_store_image.proofs.Chained.{read_passes, read_said}
 
 courses-map : (es : List RouteRow) → courses_over (map (λ e. e.route) es) ≡ route_courses es

@@ -7,8 +7,8 @@ use Rattle.lrs_events.specs.declared.class.Asset.{Asset}
 use Rattle.lrs_events.specs.declared.part.Part.{Part}
 use Rattle.lrs_machine.specs.Sound.{asset_before, are_origins}
 use Rattle.lrs_machine.proofs.Pairs.{each_two-map}
-use Rattle.lrs_store_rows.specs.Decoding.{Origin}
-use Rattle.lrs_store_rows.specs.Content.{origin_before, are_origins_of, has_origins, version_of}
+use Rattle.lrs_store_tables.specs.Contents.Decoders.{Origin}
+use Rattle.lrs_store_tables.specs.Contents.Content.{origin_before, are_origins_of, has_origins, version_of}
 
 abbrev pub is_of : Asset → Origin → Bool
 is_of a o = nat_eq o.asset a.number && nat_eq o.edit a.entered_by

@@ -3,11 +3,11 @@ use Rattle.std.proofs.Common.{◌≡◌, Bool, List, map, Option, Some, None, Re
 use Rattle.lrs_machine.specs.declared.table.Table.{Table}
 use Rattle.lrs_image.specs.declared.keeper.LoadFault.{LoadFault}
 use Rattle.lrs_image.specs.declared.keeper.LoadFault.TheVariants.{Memory}
-use Rattle.lrs_store_rows.specs.Decoding.{each_of, each_sorted, sorted}
-use Rattle.lrs_store_rows.specs.Decoding as option
-use Rattle.lrs_store_rows.specs.Content.{read}
+use Rattle.lrs_store_tables.specs.Contents.Decoders.{each_of, each_sorted, sorted}
+use Rattle.lrs_store_tables.specs.Contents.Decoders as option
+use Rattle.lrs_store_tables.specs.Contents.Content.{read}
 use Rattle.lrs_store_image.proofs.Mapped.{each_of-map}
-use Rattle.lrs_store_image.specs.Loading.{Reads}
+use Rattle.lrs_store_image.specs.TableReadings.{Reads}
 
 module _ {A : Type 0} where
   pub reads_along : (v w : Result A Table) (r : Result A LoadFault) → v ≡ w → Reads v r → Reads w r

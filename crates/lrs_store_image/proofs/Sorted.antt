@@ -6,10 +6,10 @@ use Rattle.std.proofs.lemmas.Bool.{cases_Bool}
 use Rattle.std.proofs.lemmas.List.Sorted.{IsPermutation-sym}
 use Rattle.lrs_measure.specs.Lists.{each_two}
 use Rattle.lrs_machine.specs.declared.table.Table.{Table}
-use Rattle.lrs_store_rows.specs.Decoding.{sorted}
-use Rattle.lrs_store_rows.specs.Content.{read}
-use Rattle.lrs_store_rows.proofs.Unordered.{sorted_is, failed as not_in_order}
-use Rattle.lrs_store_rows.proofs.Sorts.{sort_in_order}
+use Rattle.lrs_store_tables.specs.Contents.Decoders.{sorted}
+use Rattle.lrs_store_tables.specs.Contents.Content.{read}
+use Rattle.lrs_store_tables.proofs.Contents.Unordered.{sorted_is, failed as not_in_order}
+use Rattle.lrs_store_tables.proofs.Contents.Sorts.{sort_in_order}
 
 module _ {X : Type 0} (before : X → X → Bool) (o : IsStrictWeakOrder before) (t : Table) (test : List X → Bool) (asks : (xs : List X) → test xs ≡ true → each_two before xs ≡ true)
     (xs ys : List X) (same : IsPermutation xs ys) (up : IsSortedBy before ys) where

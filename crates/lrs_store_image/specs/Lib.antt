@@ -1,4 +1,5 @@
-pub mod Loading
-pub mod Entering
-pub mod Reading
+pub mod TableReadings
+pub mod EnteringEdits
+pub mod Readings
 pub mod Steps
+pub mod DecodedRoutes

@@ -13,10 +13,10 @@ use Rattle.lrs_machine.specs.Sound.{are_links, are_assets, are_courses, are_ente
 use Rattle.lrs_image_sound.specs.Tables.{fits_route, route_courses, route_spans}
 use Rattle.lrs_image.specs.declared.keeper.LoadFault.{LoadFault}
 use Rattle.lrs_image.specs.declared.keeper.LoadFault.TheVariants.{Memory, Store, Unsound}
-use Rattle.lrs_store_rows.specs.Tables.{Tables, EnteredRow, GoneRow, EditRow, OriginRow}
-use Rattle.lrs_store_rows.specs.Decoding.{each_sorted, part_of, gone_of, origin_of}
-use Rattle.lrs_store_rows.specs.Content.{◌>>=◌, read, edits_of, with_edit, origin_before, has_origins, content_of}
-use Rattle.lrs_store_tables.specs.Stored.{version_in, link_in, class_in, asset_in, piece_in, mark_in, ref_in, span_in, edit_in, origin_in}
+use Rattle.lrs_store_tables.specs.Contents.Tables.{Tables, EnteredRow, GoneRow, EditRow, OriginRow}
+use Rattle.lrs_store_tables.specs.Contents.Decoders.{each_sorted, part_of, gone_of, origin_of}
+use Rattle.lrs_store_tables.specs.Contents.Content.{◌>>=◌, read, edits_of, with_edit, origin_before, has_origins, content_of}
+use Rattle.lrs_store_tables.specs.StoredRows.{version_in, link_in, class_in, asset_in, piece_in, mark_in, ref_in, span_in, edit_in, origin_in}
 use Rattle.lrs_store_tables.specs.declared.stored_rows.NamedRows.{NamedRows}
 use Rattle.lrs_store_tables.specs.declared.stored_rows.RouteRows.{RouteRows}
 use Rattle.lrs_store_image.specs.declared.steps.Registers.{Registers}

@@ -1,9 +1,9 @@
 //! The rows of a table as they were read, cell by cell; their texts are borrowed.
 
 ghost use Rattle.std.specs.Prelude.{◌≡◌, map, IfOk};
-ghost use Rattle.lrs_store_tables.specs.Stored.{piece_in, mark_in, ref_in, span_in};
+ghost use Rattle.lrs_store_tables.specs.StoredRows.{piece_in, mark_in, ref_in, span_in};
 
-use lrs_store_routes::{MarkCells, PieceCells, RefCells, SpanCells};
+use crate::{MarkCells, PieceCells, RefCells, SpanCells};
 use lrs_store_tables::decode::{text_at, whole_at};
 use sqlite::Row;
 use std::alloc::{AllocError, Global};

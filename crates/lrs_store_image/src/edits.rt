@@ -5,8 +5,8 @@ ghost use Rattle.std.specs.Prelude.{◌≡◌, ◌+◌, ◌&&◌, nat_eq, IfOk};
 ghost use Rattle.std.specs.Str.{is_utf8};
 ghost use Rattle.std.specs.Option.{option_map};
 ghost use Rattle.lrs_machine.specs.Keys.{is_key};
-ghost use Rattle.lrs_store_rows.specs.Decoding.{each_of, only_if, edit_of, counted};
-ghost use Rattle.lrs_store_tables.specs.Stored.{edit_in};
+ghost use Rattle.lrs_store_tables.specs.Contents.Decoders.{each_of, only_if, edit_of, counted};
+ghost use Rattle.lrs_store_tables.specs.StoredRows.{edit_in};
 
 use lrs_machine::{Edit, Key, Line};
 use lrs_store_tables::decode::{number_at, text_at};
@@ -23,7 +23,7 @@ pub struct NumberedEdit {
 
 impl Model for NumberedEdit {
     ghost use Rattle.lrs_machine.specs.declared.image.Edit.{Edit};
-    ghost use Rattle.lrs_store_rows.specs.Decoding.{Numbered};
+    ghost use Rattle.lrs_store_tables.specs.Contents.Decoders.{Numbered};
 
     ghost Value = { Numbered Edit };
 

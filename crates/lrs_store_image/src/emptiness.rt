@@ -2,7 +2,7 @@
 
 ghost use Rattle.std.specs.Prelude.{◌≡◌, ◌&&◌, map};
 ghost use Rattle.lrs_measure.specs.Lists.{is_nothing};
-ghost use Rattle.lrs_store_tables.specs.Stored.{entered_in, gone_in};
+ghost use Rattle.lrs_store_tables.specs.StoredRows.{entered_in, gone_in};
 ghost use Rattle.lrs_store_image.specs.Steps.{have_no_first, have_no_ledgers, have_no_edits, edits_in};
 
 use lrs_store_tables::stored_rows::{NamedRows, RouteRows};

@@ -3,8 +3,8 @@
 ghost use Rattle.std.specs.Prelude.{◌≡◌, ◌<◌, [], map, length, get_or, set, true, IfOk};
 ghost use Rattle.lrs_measure.specs.Lists.{each_two};
 ghost use Rattle.lrs_machine.specs.Sound.{asset_before};
-ghost use Rattle.lrs_store_rows.specs.Content.{with_edit};
-ghost use Rattle.lrs_store_image.specs.Entering.{entered_by, entered_all, IsPlaceOf};
+ghost use Rattle.lrs_store_tables.specs.Contents.Content.{with_edit};
+ghost use Rattle.lrs_store_image.specs.EnteringEdits.{entered_by, entered_all, IsPlaceOf};
 
 use lrs_events::{Asset, Part};
 use lrs_measure::Rows;

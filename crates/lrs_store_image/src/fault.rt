@@ -1,11 +1,11 @@
 //! Why nothing is read.
 
 ghost use Rattle.std.specs.Prelude.{◌≡◌};
-ghost use Rattle.lrs_store_image.specs.Reading.{of_read};
+ghost use Rattle.lrs_store_image.specs.Readings.{of_read};
 
+use crate::RowsFault;
 use lrs_image::LoadFault;
 use lrs_measure::Rows;
-use lrs_store_routes::RowsFault;
 
 /// What the rows of a table give, in the terms of a keeper.
 pub(crate) fn as_loaded<T>(found: Result<Vec<T>, RowsFault>) -> Result<Rows<T>, LoadFault>

@@ -10,6 +10,7 @@ mod order;
 pub mod origins;
 mod reader;
 mod registers;
+mod route_decoder;
 mod route_lists;
 mod routes;
 pub mod rows;
@@ -18,4 +19,8 @@ mod table_fault;
 pub mod tests;
 
 pub use reader::Reader;
+pub use route_decoder::{
+    MarkCells, Measured, OfRoute, PieceCells, RefCells, RouteCourse, RowsFault, SpanCells,
+    read_courses, read_marks, read_referents, read_spans, said_of, sort_by_route,
+};
 pub use steps::{Begun, Held, Ledgers, Registers, begin, finish, with_ledgers};

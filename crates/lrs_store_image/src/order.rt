@@ -4,8 +4,8 @@ ghost use Rattle.std.specs.Prelude.{IsPermutation};
 ghost use Rattle.std.specs.List.Sorted.{IsSortedBy};
 ghost use Rattle.lrs_events.specs.Parts.{part_before};
 ghost use Rattle.lrs_machine.specs.Sound.{link_before, class_before, asset_before, gone_before};
-ghost use Rattle.lrs_store_rows.specs.Decoding.{number_before};
-ghost use Rattle.lrs_store_rows.specs.Content.{origin_before};
+ghost use Rattle.lrs_store_tables.specs.Contents.Decoders.{number_before};
+ghost use Rattle.lrs_store_tables.specs.Contents.Content.{origin_before};
 
 use crate::edits::NumberedEdit;
 use crate::origins::Origin;

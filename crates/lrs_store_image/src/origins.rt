@@ -3,7 +3,7 @@
 ghost use Rattle.std.specs.Prelude.{◌≡◌, ◌&&◌, length, nat_eq, true, IfOk};
 ghost use Rattle.lrs_measure.specs.Lists.{each_two, is_nothing};
 ghost use Rattle.lrs_machine.specs.Sound.{asset_before, are_origins};
-ghost use Rattle.lrs_store_rows.specs.Content.{are_origins_of, has_origins};
+ghost use Rattle.lrs_store_tables.specs.Contents.Content.{are_origins_of, has_origins};
 
 use lrs_events::{Asset, Part};
 use lrs_store_tables::decode::{Said, number_at};
@@ -19,7 +19,7 @@ pub struct Origin {
 }
 
 impl Model for Origin {
-    ghost use Rattle.lrs_store_rows.specs.Decoding.{Origin};
+    ghost use Rattle.lrs_store_tables.specs.Contents.Decoders.{Origin};
 
     ghost Value = { Origin };
 
@@ -29,8 +29,8 @@ impl Model for Origin {
 }
 
 impl Said for Origin {
-    ghost use Rattle.lrs_store_rows.specs.Decoding.{origin_of};
-    ghost use Rattle.lrs_store_tables.specs.Stored.{origin_in};
+    ghost use Rattle.lrs_store_tables.specs.Contents.Decoders.{origin_of};
+    ghost use Rattle.lrs_store_tables.specs.StoredRows.{origin_in};
 
     ghost said = { λ r. origin_of (origin_in r) };
 

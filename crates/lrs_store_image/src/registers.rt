@@ -2,9 +2,9 @@
 
 ghost use Rattle.std.specs.Prelude.{◌≡◌, map, true, IfOk};
 ghost use Rattle.lrs_machine.specs.Sound.{are_links, are_classes, are_assets};
-ghost use Rattle.lrs_store_tables.specs.Stored.{link_in, class_in, asset_in};
-ghost use Rattle.lrs_store_image.specs.Loading.{Reads};
-ghost use Rattle.lrs_store_image.specs.Reading.{named_read};
+ghost use Rattle.lrs_store_tables.specs.StoredRows.{link_in, class_in, asset_in};
+ghost use Rattle.lrs_store_image.specs.TableReadings.{Reads};
+ghost use Rattle.lrs_store_image.specs.Readings.{named_read};
 
 use crate::rows;
 use lrs_element::Link;

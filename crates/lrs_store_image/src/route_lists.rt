@@ -4,9 +4,9 @@ ghost use Rattle.std.specs.Prelude.{◌≡◌, map, true, IfOk};
 ghost use Rattle.std.specs.List.{list_all};
 ghost use Rattle.lrs_machine.specs.Sound.{are_links, are_classes, are_assets, are_courses};
 ghost use Rattle.lrs_image_sound.specs.Tables.{fits_route, route_courses};
-ghost use Rattle.lrs_store_tables.specs.Stored.{piece_in, mark_in, ref_in, span_in};
-ghost use Rattle.lrs_store_image.specs.Loading.{Reads};
-ghost use Rattle.lrs_store_image.specs.Reading.{entries_read};
+ghost use Rattle.lrs_store_tables.specs.StoredRows.{piece_in, mark_in, ref_in, span_in};
+ghost use Rattle.lrs_store_image.specs.TableReadings.{Reads};
+ghost use Rattle.lrs_store_image.specs.Readings.{entries_read};
 
 use crate::registers::Named;
 use crate::routes::{courses, measured, routes, spans};
@@ -17,7 +17,7 @@ use lrs_store_tables::stored_rows::RouteRows;
 use std::alloc::Global;
 
 /// The routes in the order of their names, with their courses, marks, referents and spans. The rows of a table
-/// are let go before those of the next are read.
+/// are dropped before those of the next are read.
 ///
 /// # Errors
 /// When one of their tables is unsound, or memory runs out.

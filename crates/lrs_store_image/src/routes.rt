@@ -5,24 +5,21 @@ ghost use Rattle.lrs_measure.specs.Lists.{each_two};
 ghost use Rattle.lrs_element.specs.declared.link.Link.{Link as DeclaredLink};
 ghost use Rattle.lrs_machine.specs.Sound.{are_links, are_courses, class_before, asset_before};
 ghost use Rattle.lrs_machine.specs.declared.table.Table.TheVariants as table;
-ghost use Rattle.lrs_store_rows.specs.Content.{read, courses_of, measured_of, routes_of, entries_of};
-ghost use Rattle.lrs_store_tables.specs.Stored.{piece_in, mark_in, ref_in, span_in};
-ghost use Rattle.lrs_store_image.specs.Loading.{Reads};
-ghost use Rattle.lrs_store_routes.specs.Measuring.{are_route_courses, courses_of_measured, are_all_measured};
-ghost use Rattle.lrs_store_routes.specs.Referring.{are_all_referred, courses_of_routes};
-ghost use Rattle.lrs_store_routes.specs.Spans.{named_before, courses_over, are_sound};
+ghost use Rattle.lrs_store_tables.specs.Contents.Content.{read, courses_of, measured_of, routes_of, entries_of};
+ghost use Rattle.lrs_store_tables.specs.StoredRows.{piece_in, mark_in, ref_in, span_in};
+ghost use Rattle.lrs_store_image.specs.TableReadings.{Reads};
+ghost use Rattle.lrs_store_image.specs.DecodedRoutes.Marks.{are_route_courses, courses_of_measured, are_all_measured};
+ghost use Rattle.lrs_store_image.specs.DecodedRoutes.Referents.{are_all_referred, courses_of_routes};
+ghost use Rattle.lrs_store_image.specs.DecodedRoutes.Spans.{named_before, courses_over, are_sound};
 
-use crate::cells;
 use crate::fault::as_loaded;
+use crate::{Measured, RouteCourse, cells, read_courses, read_marks, read_referents, read_spans};
 use lrs_element::Link;
 use lrs_events::{Asset, Class};
 use lrs_image::LoadFault;
 use lrs_machine::RouteRow;
 use lrs_measure::Rows;
 use lrs_position::Route;
-use lrs_store_routes::{
-    Measured, RouteCourse, read_courses, read_marks, read_referents, read_spans,
-};
 use sqlite::Row;
 use std::alloc::Global;
 

@@ -7,10 +7,10 @@ ghost use Rattle.lrs_events.specs.Parts.{part_before};
 ghost use Rattle.lrs_machine.specs.Sound.{link_before, are_links, class_before, are_classes, asset_before, are_assets, are_courses, are_entered, gone_before, are_gone, are_edits, are_origins};
 ghost use Rattle.lrs_machine.specs.declared.table.Table.TheVariants as table;
 ghost use Rattle.lrs_image_sound.specs.Tables.{fits_route, route_courses, route_spans};
-ghost use Rattle.lrs_store_rows.specs.Decoding.{each_sorted, link_of, class_of, asset_of, part_of, gone_of, origin_of};
-ghost use Rattle.lrs_store_rows.specs.Content.{read, edits_of, version_of, origin_before, has_origins};
-ghost use Rattle.lrs_store_tables.specs.Stored.{link_in, class_in, asset_in, entered_in, gone_in, edit_in, version_in, origin_in};
-ghost use Rattle.lrs_store_image.specs.Loading.{Reads};
+ghost use Rattle.lrs_store_tables.specs.Contents.Decoders.{each_sorted, link_of, class_of, asset_of, part_of, gone_of, origin_of};
+ghost use Rattle.lrs_store_tables.specs.Contents.Content.{read, edits_of, version_of, origin_before, has_origins};
+ghost use Rattle.lrs_store_tables.specs.StoredRows.{link_in, class_in, asset_in, entered_in, gone_in, edit_in, version_in, origin_in};
+ghost use Rattle.lrs_store_image.specs.TableReadings.{Reads};
 
 use crate::edits::all_said;
 use crate::origins::Origin;
@@ -115,7 +115,7 @@ pub fn gone(
     tests::gone(alloc, links, assets, routes, entered, found)
 }
 
-/// The edits of rows, in order. The rows are let go before the edits are put in order, since both have their texts.
+/// The edits of rows, in order. The rows are dropped before the edits are put in order, since both have their texts.
 ///
 /// # Errors
 /// When the table is unsound, or memory runs out.

@@ -1,13 +1,13 @@
 //! The image of the rows of a store, in three steps: what has names and lies on routes, both ledgers, and edits with
-//! origins. The rows of a step are let go in it, so that those of several need not be in memory together.
+//! origins. The rows of a step are dropped in it, so that those of several need not be in memory together.
 
 ghost use Rattle.std.specs.Prelude.{◌≡◌, map, true, IfOk, Err};
 ghost use Rattle.lrs_measure.specs.Lists.{each_two};
 ghost use Rattle.lrs_machine.specs.Sound.{asset_before};
 ghost use Rattle.lrs_machine.specs.declared.table.Table.{Table as DeclaredTable};
-ghost use Rattle.lrs_store_rows.specs.Content.{image_of};
-ghost use Rattle.lrs_store_tables.specs.Stored.{entered_in, gone_in};
-ghost use Rattle.lrs_store_image.specs.Loading.{Reads};
+ghost use Rattle.lrs_store_tables.specs.Contents.Content.{image_of};
+ghost use Rattle.lrs_store_tables.specs.StoredRows.{entered_in, gone_in};
+ghost use Rattle.lrs_store_image.specs.TableReadings.{Reads};
 ghost use Rattle.lrs_store_image.specs.Steps.{LedgerTables, EditTables, Begins, WithLedgers, HavePassed, HasPassed, HasOrder, content_of_held, whole_image, image_of_ledgers, image_of_registers, edits_in, tables_with};
 
 use crate::emptiness::{no_edits, no_first, no_ledgers};
@@ -78,7 +78,7 @@ fn read_registers(
     })
 }
 
-/// Reads the rows of what has a name and lies on routes, which are let go.
+/// Reads the rows of what has a name and lies on routes, which are dropped.
 ///
 /// # Errors
 /// `Unsound` where one of their tables is the first unsound one, whatever the other rows are; or `Memory`.
@@ -129,7 +129,7 @@ fn read_ledgers(
     })
 }
 
-/// Reads the rows of both ledgers beside what was read first. They are let go.
+/// Reads the rows of both ledgers beside what was read first. They are dropped.
 ///
 /// # Errors
 /// `Unsound` where one of their tables is the first unsound one, whatever the other rows are; or `Memory`.

@@ -1,6 +1,6 @@
 //! Why a table is not read.
 
-ghost use Rattle.lrs_store_image.specs.Loading.{Reads};
+ghost use Rattle.lrs_store_image.specs.TableReadings.{Reads};
 
 use lrs_image::LoadFault;
 use lrs_machine::Table;

@@ -8,9 +8,9 @@ ghost use Rattle.lrs_events.specs.Parts.{part_before};
 ghost use Rattle.lrs_machine.specs.Sound.{link_before, are_links, class_before, are_classes, asset_before, are_assets, are_courses, are_entered, gone_before, are_gone, are_edits, are_origins};
 ghost use Rattle.lrs_machine.specs.declared.table.Table.TheVariants as table;
 ghost use Rattle.lrs_image_sound.specs.Tables.{fits_route, route_courses, route_spans};
-ghost use Rattle.lrs_store_rows.specs.Decoding.{sorted, number_before, counted};
-ghost use Rattle.lrs_store_rows.specs.Content.{read, origin_before, has_origins};
-ghost use Rattle.lrs_store_image.specs.Loading.{Reads};
+ghost use Rattle.lrs_store_tables.specs.Contents.Decoders.{sorted, number_before, counted};
+ghost use Rattle.lrs_store_tables.specs.Contents.Content.{read, origin_before, has_origins};
+ghost use Rattle.lrs_store_image.specs.TableReadings.{Reads};
 
 use crate::edits::{NumberedEdit, counted};
 use crate::order::{

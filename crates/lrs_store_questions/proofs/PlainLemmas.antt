@@ -26,7 +26,7 @@ use Rattle.sqlite_store.specs.Joined.{joined}
 use Rattle.sqlite_store.specs.Listing.{listed_from}
 use Rattle.sqlite.specs.Opening.{Binds, IsOwnTable, HasOwnTable, Suits, Meets, shape_of, layout_of, Knows}
 use Rattle.sqlite.proofs.OpenLemmas.{unsorted_code}
-use Rattle.lrs_store_questions.specs.Plain.{plain_shape, plain_layout, plain_row, IsPlain, ListPlain}
+use Rattle.lrs_store_questions.specs.PlainStores.{plain_shape, plain_layout, plain_row, IsPlain, ListPlain}
 
 -- words that differ in their second letter
 differ : (a b : List ℕ) → get_or a 1 0 ≢ get_or b 1 0 → Text a ≡ Text b → ⊥

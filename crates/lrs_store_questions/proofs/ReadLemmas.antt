@@ -6,22 +6,22 @@ use Rattle.sqlite_trees.specs.View.{View, IsClean, IsRolledBack}
 use Rattle.lrs_machine.specs.declared.image.Image.{Image}
 use Rattle.lrs_machine.specs.declared.table.Table.{Table}
 use Rattle.lrs_machine.specs.Sound.{IsSound}
-use Rattle.lrs_image.specs.Keeping.{HoldsSound}
+use Rattle.lrs_image.specs.KeeperCalls.{HoldsSound}
 use Rattle.lrs_image.specs.declared.keeper.LoadFault.{LoadFault}
 use Rattle.lrs_image.specs.declared.keeper.LoadFault.TheVariants.{Memory, Store, Unsound}
-use Rattle.lrs_store_rows.specs.Tables.{Tables}
-use Rattle.lrs_store_rows.specs.Content.{content_of}
-use Rattle.lrs_store_rows.proofs.Contents.{content_is_sound}
-use Rattle.lrs_store_tables.specs.Stored.{stored, rows_of, version_in, link_in, class_in, asset_in, piece_in, mark_in, ref_in, span_in, entered_in, gone_in, edit_in, origin_in, entered_places, gone_places, edit_places, origin_places}
+use Rattle.lrs_store_tables.specs.Contents.Tables.{Tables}
+use Rattle.lrs_store_tables.specs.Contents.Content.{content_of}
+use Rattle.lrs_store_tables.proofs.Contents.Contents.{content_is_sound}
+use Rattle.lrs_store_tables.specs.StoredRows.{stored, rows_of, version_in, link_in, class_in, asset_in, piece_in, mark_in, ref_in, span_in, entered_in, gone_in, edit_in, origin_in, entered_places, gone_places, edit_places, origin_places}
 use Rattle.lrs_store_tables.specs.declared.stored_rows.NamedRows.{NamedRows}
 use Rattle.lrs_store_tables.specs.declared.stored_rows.RouteRows.{RouteRows}
-use Rattle.lrs_store_files.specs.Seeing.{HasSeen, WasLookedAt, HasLedgers, HasEdits}
+use Rattle.lrs_store_files.specs.SeenRows.{HasSeen, WasLookedAt, HasLedgers, HasEdits}
 use Rattle.lrs_store_files.proofs.SeeingLemmas.{seen_so}
-use Rattle.lrs_store_image.specs.Loading.{Reads}
+use Rattle.lrs_store_image.specs.TableReadings.{Reads}
 use Rattle.lrs_store_image.specs.declared.steps.Begun.{Begun}
 use Rattle.lrs_store_image.specs.declared.steps.Held.{Held}
 use Rattle.lrs_store_image.specs.Steps.{LedgerTables, EditTables, edits_in, tables_with, content_of_begun, content_of_held, Begins, WithLedgers}
-use Rattle.lrs_store_questions.specs.Reading.{ListInventory, HasFirst, HasContent, Says, HoldsThere, MayTell, IsTold}
+use Rattle.lrs_store_questions.specs.Readings.{ListInventory, HasFirst, HasContent, Says, HoldsThere, MayTell, IsTold}
 
 -- the rows of the ledgers that a store has, and of edits and origins
 

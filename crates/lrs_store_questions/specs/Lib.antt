@@ -1,5 +1,5 @@
 pub mod Looks
-pub mod Plain
-pub mod Opened
-pub mod Reading
-pub mod Asked
+pub mod PlainStores
+pub mod OpenedFiles
+pub mod Readings
+pub mod FileAnswers

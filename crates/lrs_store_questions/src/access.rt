@@ -7,8 +7,8 @@ ghost use Rattle.sqlite_wal.specs.Files.{image_at};
 ghost use Rattle.sqlite.specs.Files.{image_of, IsCleanLeft, LeavesFiles};
 ghost use Rattle.lrs_machine.specs.declared.image.Image.{Image as ImageRows};
 ghost use Rattle.lrs_machine.specs.declared.table.Table.{Table as DeclaredTable};
-ghost use Rattle.lrs_store_questions.specs.Reading.{MayTell};
-ghost use Rattle.lrs_store_questions.specs.Asked.{HasRead, IsLeftAt};
+ghost use Rattle.lrs_store_questions.specs.Readings.{MayTell};
+ghost use Rattle.lrs_store_questions.specs.FileAnswers.{HasRead, IsLeftAt};
 
 use crate::files::open_store;
 use crate::keeper::Questions;
@@ -29,7 +29,7 @@ pub struct NotOpened<D: Disk> {
 }
 
 impl<D: Disk + Drop> NotOpened<D> {
-    /// Why they are not opened. What is left of them is let go.
+    /// Why they are not opened. What is left of them is dropped.
     pub fn into_fault(self) -> StoreFault
         ensures { result ≡ self.fault }
     {

@@ -7,7 +7,7 @@ ghost use Rattle.sqlite_store.specs.FileStore.{view};
 ghost use Rattle.sqlite_store.specs.Unopened.{state_of, files_of, AreUsable, Opens};
 ghost use Rattle.sqlite.specs.Files.{IsCleanLeft, LeavesFiles, image_of};
 ghost use Rattle.sqlite.specs.Opening.{unrooted, IsListed, IsAttached};
-ghost use Rattle.lrs_store_questions.specs.Opened.{HasListed, IsOpened};
+ghost use Rattle.lrs_store_questions.specs.OpenedFiles.{HasListed, IsOpened};
 
 use crate::look::look;
 use crate::plain::{list_plain, plain_layouts};

@@ -5,8 +5,8 @@ ghost use Rattle.sqlite_trees.specs.View.{IsClean};
 ghost use Rattle.lrs_machine.specs.declared.image.Image.{Image as ImageRows};
 ghost use Rattle.lrs_machine.specs.declared.table.Table.{Table as DeclaredTable};
 ghost use Rattle.lrs_machine.specs.Sound.{IsSound};
-ghost use Rattle.lrs_store_files.specs.Seeing.{HasSeen, WasLookedAt};
-ghost use Rattle.lrs_store_questions.specs.Reading.{ListInventory, HasFirst, HasContent, Says, HoldsThere, IsTold};
+ghost use Rattle.lrs_store_files.specs.SeenRows.{HasSeen, WasLookedAt};
+ghost use Rattle.lrs_store_questions.specs.Readings.{ListInventory, HasFirst, HasContent, Says, HoldsThere, IsTold};
 
 use lrs_image::LoadFault;
 use lrs_machine::Image;
@@ -62,7 +62,7 @@ fn fault_of(error: StoreError) -> LoadFault
     }
 }
 
-/// The image that the tables of a store hold. The rows of a step are let go before those of the next are read.
+/// The image that the tables of a store hold. The rows of a step are dropped before those of the next are read.
 fn read_content<S: Alter>(alloc: Global, store: &mut S) -> Result<Image, LoadFault>
     ensures seen { (c : Result ImageRows DeclaredTable) → Says result c
         → HasSeen S.Store.view S.Store.recovers (HasContent c) store.old store.new }

@@ -1,7 +1,7 @@
 //! An inventory in a store, kept for questions alone.
 
 ghost use Rattle.std.specs.Prelude.{◌≡◌, ◌≤◌};
-ghost use Rattle.lrs_image.specs.Keeping.{HasRisen};
+ghost use Rattle.lrs_image.specs.KeeperCalls.{HasRisen};
 
 use crate::image::read_image;
 use lrs_image::{Change, CommitFault, Keeper, LoadFault};
@@ -32,7 +32,7 @@ fn failures_after(failures: u64, fault: &LoadFault) -> u64
 impl<S: Alter> Keeper for Questions<S> {
     ghost use Rattle.std.specs.Prelude.{[]};
     ghost use Rattle.sqlite_trees.specs.View.{IsClean};
-    ghost use Rattle.lrs_store_questions.specs.Reading.{MayTell, IsTold, finds_told};
+    ghost use Rattle.lrs_store_questions.specs.Readings.{MayTell, IsTold, finds_told};
 
     ghost may_hold = { λ k c. MayTell S.Store.view S.Store.recovers c k.store };
 

@@ -6,9 +6,9 @@ ghost use Rattle.sqlite_wal.specs.Recovery.{Image as FileImage};
 ghost use Rattle.sqlite.specs.Files.{HoldsDatabase, file_state};
 ghost use Rattle.lrs_machine.specs.declared.image.Image.{Image as ImageRows};
 ghost use Rattle.lrs_machine.specs.declared.table.Table.{Table as DeclaredTable};
-ghost use Rattle.lrs_store_tables.specs.Holding.{MayHold};
-ghost use Rattle.lrs_store_files.specs.Opened.{HasOpened};
-ghost use Rattle.lrs_store_questions.specs.Asked.{HasRead};
+ghost use Rattle.lrs_store_tables.specs.HeldRows.{MayHold};
+ghost use Rattle.lrs_store_files.specs.OpenedFiles.{HasOpened};
+ghost use Rattle.lrs_store_questions.specs.FileAnswers.{HasRead};
 
 use sqlite::{Connection, FileStore};
 use sqlite_disk::Disk;

@@ -4,7 +4,7 @@ ghost use Rattle.std.specs.Prelude.{◌≡◌, ◌==◌, map, IfOk, IsTrue};
 ghost use Rattle.sqlite_value.specs.Order.{column};
 ghost use Rattle.std.specs.List.{list_all};
 ghost use Rattle.sqlite_schema.specs.Rules.{table_reals};
-ghost use Rattle.lrs_store_questions.specs.Plain.{plain_shape, plain_layout, plain_row, IsPlain, ListPlain};
+ghost use Rattle.lrs_store_questions.specs.PlainStores.{plain_shape, plain_layout, plain_row, IsPlain, ListPlain};
 
 use sqlite_catalog::load;
 use sqlite_schema::schema::{Index, Schema, Table};

@@ -30,7 +30,7 @@ use Rattle.sqlite.specs.declared.run.Mode.{Mode}
 use Rattle.sqlite.specs.declared.error.Error.{Error}
 use Rattle.sqlite.proofs.Callers.{IsPlain, command_of, statement_of}
 use Rattle.lrs_store_tables.proofs.AloneStatements.{IsAlone}
-use Rattle.lrs_store_tables.specs.Failing.{HasReason}
+use Rattle.lrs_store_tables.specs.Failures.{HasReason}
 use Rattle.lrs_store_tables.proofs.MakeLemmas.{AllFrom, one_of}
 use Rattle.lrs_store_tables.proofs.FailLemmas.{RanFor, fails_for, fails_limited}
 use Rattle.sqlite.specs.Listing.{understood}
@@ -39,7 +39,7 @@ use Rattle.sqlite_value.specs.Order.{value_cmp}
 use lib.Utf8.{encode}
 use lib.Ieee.{is_nan, lt}
 use Rattle.lrs_store_tables.specs.Schema as it
-use Rattle.lrs_store_tables.specs.Making.{first_tables, create_at}
+use Rattle.lrs_store_tables.specs.TableCreation.{first_tables, create_at}
 
 -- a table that a text defines can be made beside those of a schema
 pub record IsFree (schema : Schema) (sql : List ℕ) (t : Table) : Type 0 where

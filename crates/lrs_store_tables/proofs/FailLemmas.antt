@@ -23,8 +23,8 @@ use Rattle.sqlite.specs.Listing.{understood, reads_listing, IsSourceOf}
 use Rattle.sqlite.specs.State.{IsUnchanged, Survives, IsMisplaced, MayChange, State, HasCleanDisk, Fails, IsNoStatement, IsNotRun, FailsToQuery, IsTooLate, store_error, HasCause}
 use Rattle.sqlite.proofs.Callers.{IsPlain, command_of}
 use Rattle.lrs_store_tables.specs.Schema.{inventory}
-use Rattle.lrs_store_tables.specs.Stored.{LeavesStore}
-use Rattle.lrs_store_tables.specs.Failing.{HasReason}
+use Rattle.lrs_store_tables.specs.StoredRows.{LeavesStore}
+use Rattle.lrs_store_tables.specs.Failures.{HasReason}
 use Rattle.lrs_store_tables.proofs.Answers.{over}
 use Rattle.lrs_store_tables.proofs.AloneStatements.{IsAlone}
 

@@ -51,13 +51,13 @@ use Rattle.sqlite.specs.Clock.{timed}
 use Rattle.sqlite.specs.Does.{Does}
 use Rattle.sqlite.specs.State.{State, IsNoStatement, IsNotRun, ExecutesInside, ExecutesIn, EndsScope, Escapes, IsMisplaced, shows_rows, text_of, mode_of}
 use Rattle.sqlite.proofs.Callers.{IsPlain, command_of}
-use Rattle.lrs_store_tables.specs.Failing.{HasReason}
+use Rattle.lrs_store_tables.specs.Failures.{HasReason}
 use Rattle.lrs_store_tables.proofs.FailLemmas.{fails_for}
 use Rattle.lrs_store_tables.proofs.InsertStatements.{insert_version_is}
 use Rattle.lrs_store_tables.proofs.FailLemmas.{RanFor, fails_limited}
 use Rattle.lrs_store_tables.specs.Schema as it
 use Rattle.lrs_store_tables.specs.Schema.{inventory}
-use Rattle.lrs_store_tables.specs.Making.{AreEmpty}
+use Rattle.lrs_store_tables.specs.TableCreation.{AreEmpty}
 
 -- the row, and the edit that puts it
 abbrev row : Row

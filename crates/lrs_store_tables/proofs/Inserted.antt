@@ -5,12 +5,12 @@ use Rattle.sqlite_value.specs.declared.value.Value.TheVariants.{Null, Int, Text}
 use Rattle.sqlite_value.specs.Keys.{plain}
 use Rattle.sqlite_sql.specs.Term.{lit, col}
 use Rattle.sqlite.specs.State.{State, ExecutesInside}
-use Rattle.lrs_store_rows.specs.Tables.{LinkRow, ClassRow, AssetRow, PieceRow, MarkRow, RefRow, SpanRow, EnteredRow, GoneRow, EditRow, OriginRow}
+use Rattle.lrs_store_tables.specs.Contents.Tables.{LinkRow, ClassRow, AssetRow, PieceRow, MarkRow, RefRow, SpanRow, EnteredRow, GoneRow, EditRow, OriginRow}
 use Rattle.lrs_store_tables.specs.Schema.{whole, words, refers}
 use Rattle.lrs_store_tables.specs.Schema as it
 use Rattle.lrs_store_tables.specs.Cells.{version_cells, link_cells, class_cells, asset_cells, piece_cells, mark_cells, ref_cells, span_cells, entered_cells, gone_cells, edit_cells, origin_cells}
-use Rattle.lrs_store_tables.specs.Stored as stored
-use Rattle.lrs_store_tables.specs.Stored.{IsWriting, Makes}
+use Rattle.lrs_store_tables.specs.StoredRows as stored
+use Rattle.lrs_store_tables.specs.StoredRows.{IsWriting, Makes}
 use Rattle.lrs_store_tables.proofs.InsertStatements as statement
 use Rattle.lrs_store_tables.proofs.Inserting.{adds_row}
 use Rattle.lrs_store_tables.proofs.Only as only

@@ -26,7 +26,7 @@ use Rattle.sqlite.specs.Effect.{value_rows}
 use Rattle.sqlite.specs.State.{State, ExecutesInside}
 use Rattle.sqlite.proofs.Callers.{IsPlain, command_of}
 use Rattle.lrs_store_tables.specs.Schema.{table, inventory}
-use Rattle.lrs_store_tables.specs.Stored.{rows_of, IsWriting, AreNumbered}
+use Rattle.lrs_store_tables.specs.StoredRows.{rows_of, IsWriting, AreNumbered}
 use Rattle.lrs_store_tables.proofs.Only.{SparesOthers}
 use Rattle.lrs_store_tables.proofs.Rows.{NeverActs, rows_for, inserts, suits, all_suit, cast_row_suits, more_shown}
 

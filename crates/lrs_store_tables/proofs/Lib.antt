@@ -16,3 +16,4 @@ pub mod FailLemmas
 pub mod CreateFails
 pub mod InsertFails
 pub mod RowLemmas
+pub mod Contents

@@ -18,12 +18,12 @@ use Rattle.sqlite.specs.Effect.{Database}
 use Rattle.sqlite.specs.Does.{lacks_sequence, Tally, MakesTable}
 use Rattle.sqlite.specs.State.{State, Executes, ExecutesInside}
 use Rattle.sqlite.proofs.Callers.{IsPlain, command_of, statement_of, runs_as}
-use Rattle.lrs_store_rows.specs.Tables.{AreSame}
+use Rattle.lrs_store_tables.specs.Contents.Tables.{AreSame}
 use Rattle.lrs_store_tables.specs.Schema as it
 use Rattle.lrs_store_tables.specs.Schema.{inventory}
-use Rattle.lrs_store_tables.specs.Stored as rows
-use Rattle.lrs_store_tables.specs.Stored.{stored}
-use Rattle.lrs_store_tables.specs.Making.{no_schema, first_tables, create_at, tree_at, HasFirst, IsBegun, IsMaking, if_first, first_rows}
+use Rattle.lrs_store_tables.specs.StoredRows as rows
+use Rattle.lrs_store_tables.specs.StoredRows.{stored}
+use Rattle.lrs_store_tables.specs.TableCreation.{no_schema, first_tables, create_at, tree_at, HasFirst, IsBegun, IsMaking, if_first, first_rows}
 use Rattle.lrs_store_tables.proofs.Rows.{went, same_value}
 
 -- none of the tables, and all of them

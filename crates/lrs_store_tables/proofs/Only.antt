@@ -6,11 +6,11 @@ use Rattle.std.proofs.lemmas.List.Sorted.{IsPermutation-refl}
 use Rattle.sqlite_value.specs.Order.{Row, column}
 use Rattle.sqlite_trees.specs.Tree.{Trees}
 use Rattle.sqlite_schema.specs.declared.schema.Table.{Table}
-use Rattle.lrs_store_rows.specs.Tables.{LinkRow, ClassRow, AssetRow, PieceRow, MarkRow, RefRow, SpanRow, EnteredRow, GoneRow, EditRow, OriginRow}
+use Rattle.lrs_store_tables.specs.Contents.Tables.{LinkRow, ClassRow, AssetRow, PieceRow, MarkRow, RefRow, SpanRow, EnteredRow, GoneRow, EditRow, OriginRow}
 use Rattle.lrs_store_tables.specs.Schema.{inventory}
-use Rattle.lrs_store_tables.specs.Stored as it
-use Rattle.lrs_store_rows.specs.Tables.{AreSame}
-use Rattle.lrs_store_tables.specs.Stored.{rows_of, stored}
+use Rattle.lrs_store_tables.specs.StoredRows as it
+use Rattle.lrs_store_tables.specs.Contents.Tables.{AreSame}
+use Rattle.lrs_store_tables.specs.StoredRows.{rows_of, stored}
 
 -- each table but this one is as it was
 abbrev pub SparesOthers : ℕ → Trees → Trees → Type 0

@@ -12,7 +12,7 @@ use Rattle.sqlite.specs.Listing.{understood, reads_listing}
 use Rattle.sqlite.specs.State.{State, Shown, ShowsRows, IsUnchanged}
 use Rattle.sqlite.proofs.Callers.{IsPlain, command_of}
 use Rattle.lrs_store_tables.specs.Schema.{inventory}
-use Rattle.lrs_store_tables.specs.Stored.{rows_of, IsWriting}
+use Rattle.lrs_store_tables.specs.StoredRows.{rows_of, IsWriting}
 use Rattle.lrs_store_tables.proofs.Answers.{shows_found, shown_of, over}
 
 all_pass : {A : Type 0} (xs : List A) → filter (λ _. true) xs ≡ xs

@@ -6,9 +6,9 @@ use Rattle.sqlite.specs.Effect.{Database}
 use Rattle.sqlite.specs.State.{State, HasCleanDisk, IsUnchanged}
 use Rattle.sqlite.proofs.Callers.{unchanged_then}
 use Rattle.sqlite.proofs.StateLemmas.{survives_then}
-use Rattle.lrs_store_rows.specs.Tables.{Tables}
-use Rattle.lrs_store_tables.specs.Stored.{stored, IsWriting, HasTables, LeavesStore}
-use Rattle.lrs_store_tables.specs.Failing.{HasReason}
+use Rattle.lrs_store_tables.specs.Contents.Tables.{Tables}
+use Rattle.lrs_store_tables.specs.StoredRows.{stored, IsWriting, HasTables, LeavesStore}
+use Rattle.lrs_store_tables.specs.Failures.{HasReason}
 use Rattle.lrs_store_tables.specs.Rows.{HasRead}
 use Rattle.lrs_store_tables.proofs.FailLemmas.{reason_after}
 

@@ -38,7 +38,7 @@ use Rattle.sqlite.specs.Does.{Tally, Does, Concludes}
 use Rattle.sqlite.specs.State.{State, mode_of, Executes}
 use Rattle.sqlite.proofs.Callers.{IsPlain, command_of, statement_of, runs_as, one_step}
 use Rattle.lrs_store_tables.specs.Schema.{table}
-use Rattle.lrs_store_tables.specs.Stored.{rows_of}
+use Rattle.lrs_store_tables.specs.StoredRows.{rows_of}
 
 -- ---- values that a strict column takes as they are
 

@@ -4,9 +4,9 @@ use Rattle.std.proofs.Math.Seq.{take-suc, split_at}
 use Rattle.std.specs.Prelude.{IsTrue}
 use Rattle.std.proofs.Math.Bool.{Bool-set}
 use Rattle.lrs_measure.specs.Limits.{is_link}
-use Rattle.lrs_store_rows.specs.Tables.{LinkRow}
-use Rattle.lrs_store_rows.specs.Decoding.{each_of, only_if, if_true, whole, link_of}
-use Rattle.lrs_store_rows.specs.Decoding as option
+use Rattle.lrs_store_tables.specs.Contents.Tables.{LinkRow}
+use Rattle.lrs_store_tables.specs.Contents.Decoders.{each_of, only_if, if_true, whole, link_of}
+use Rattle.lrs_store_tables.specs.Contents.Decoders as option
 
 module _ {Row X : Type 0} (said : Row → Option X) where
   abbrev each : List Row → Option (List X)
@@ -21,7 +21,7 @@ module _ {Row X : Type 0} (said : Row → Option X) where
   pub each-one : (r : Row) (rs : List Row) → each (r ∷ rs) ≡ one (said r) (each rs)
   each-one r rs = go (said r) (each rs)
     where
-      go : (o : Option X) (more : Option (List X)) → Rattle.lrs_store_rows.specs.Decoding.◌>>=◌ o (λ x. Rattle.lrs_store_rows.specs.Decoding.◌>>=◌ more (λ xs. Some (x ∷ xs))) ≡ one o more
+      go : (o : Option X) (more : Option (List X)) → Rattle.lrs_store_tables.specs.Contents.Decoders.◌>>=◌ o (λ x. Rattle.lrs_store_tables.specs.Contents.Decoders.◌>>=◌ more (λ xs. Some (x ∷ xs))) ≡ one o more
       go None more = refl
       go (Some x) None = refl
       go (Some x) (Some xs) = refl

@@ -12,12 +12,12 @@ use Rattle.sqlite_trees.specs.declared.store.Store.{Ghosts}
 use Rattle.sqlite.specs.Held.{Held, state}
 use Rattle.sqlite.specs.State.{State, HasCleanDisk, Survives}
 use Rattle.lrs_store_tables.specs.Schema.{inventory}
-use Rattle.lrs_store_rows.specs.Tables.{AreSame}
-use Rattle.lrs_store_tables.specs.Stored.{stored, AreNumbered, HasTables, IsWriting, Makes}
+use Rattle.lrs_store_tables.specs.Contents.Tables.{AreSame}
+use Rattle.lrs_store_tables.specs.StoredRows.{stored, AreNumbered, HasTables, IsWriting, Makes}
 use Rattle.lrs_store_tables.specs.RowLaws.{same_trans}
-use Rattle.lrs_store_tables.specs.Changing.{with_version}
-use Rattle.lrs_store_tables.specs.Making.{HasFirst, IsBegun, IsMaking, no_schema}
-use Rattle.lrs_store_tables.specs.Starting.{new_rows, IsStarted}
+use Rattle.lrs_store_tables.specs.RowChanges.{with_version}
+use Rattle.lrs_store_tables.specs.TableCreation.{HasFirst, IsBegun, IsMaking, no_schema}
+use Rattle.lrs_store_tables.specs.NewStores.{new_rows, IsStarted}
 use Rattle.lrs_store_tables.proofs.MakeLemmas.{none_made, all_made, each_tree, rows_of_first}
 use Rattle.lrs_store_tables.proofs.Steady.{steady-with_version}
 use Rattle.lrs_store_tables.proofs.Transactions.{survives_transaction}

@@ -20,13 +20,13 @@ use Rattle.lrs_image.specs.declared.change.ReferentChange.{ReferentChange}
 use Rattle.lrs_image.specs.declared.change.RouteChange.{RouteChange}
 use Rattle.lrs_image.specs.declared.change.RouteKeys.{RouteKeys}
 use Rattle.lrs_image.specs.declared.change.Difference.{Difference}
-use Rattle.lrs_store_rows.specs.Tables.{Tables}
-use Rattle.lrs_store_rows.specs.Laws.{origin_row}
-use Rattle.lrs_store_rows.specs.Tables.{AreSame}
-use Rattle.lrs_store_rows.specs.Encoding.{link_row, class_row, asset_row, piece_row, mark_row, ref_row, span_row, entered_row, gone_row, edit_row, numbered}
-use Rattle.lrs_store_tables.specs.Changing as it
-use Rattle.lrs_store_tables.specs.Changing.{has_key_of}
-use Rattle.lrs_store_tables.specs.Writing.{with_some, new_pieces, new_marks, changed_refs, changed_spans, changed_route, new_route, with_ledgers}
+use Rattle.lrs_store_tables.specs.Contents.Tables.{Tables}
+use Rattle.lrs_store_tables.specs.Contents.Laws.{origin_row}
+use Rattle.lrs_store_tables.specs.Contents.Tables.{AreSame}
+use Rattle.lrs_store_tables.specs.Contents.Encoders.{link_row, class_row, asset_row, piece_row, mark_row, ref_row, span_row, entered_row, gone_row, edit_row, numbered}
+use Rattle.lrs_store_tables.specs.RowChanges as it
+use Rattle.lrs_store_tables.specs.RowChanges.{has_key_of}
+use Rattle.lrs_store_tables.specs.Writes.{with_some, new_pieces, new_marks, changed_refs, changed_spans, changed_route, new_route, with_ledgers}
 
 -- what makes the same rows of the same rows
 abbrev pub IsSteady : (Tables → Tables) → Type 0

@@ -8,9 +8,9 @@ use Rattle.sqlite.proofs.StateLemmas.{survives_then}
 use Rattle.sqlite.specs.Steps.{FailsToCommit}
 use Rattle.sqlite.specs.declared.error.Error.{Error}
 use Rattle.sqlite.proofs.Callers.{survives_begin}
-use Rattle.lrs_store_tables.specs.Stored.{LeavesStore}
-use Rattle.lrs_store_tables.specs.Making.{first_tables, IsBegun}
-use Rattle.lrs_store_tables.specs.Failing.{ErrHasReason}
+use Rattle.lrs_store_tables.specs.StoredRows.{LeavesStore}
+use Rattle.lrs_store_tables.specs.TableCreation.{first_tables, IsBegun}
+use Rattle.lrs_store_tables.specs.Failures.{ErrHasReason}
 use Rattle.lrs_store_tables.proofs.FailLemmas.{reason_then, reason_after, reason_begun, commit_fails}
 
 -- it begins, makes something, and is committed

@@ -15,10 +15,10 @@ use Rattle.lrs_events.specs.declared.class.Asset.{Asset}
 use Rattle.lrs_events.specs.declared.span.Span.{Span}
 use Rattle.lrs_events.specs.declared.part.Part.{Part}
 use Rattle.lrs_events.specs.declared.part.Gone.{Gone}
-use Rattle.lrs_store_rows.specs.Tables.{Tables, AreSame, RefRow, SpanRow}
-use Rattle.lrs_store_rows.specs.Laws.{origin_row}
-use Rattle.lrs_store_rows.specs.Encoding.{piece_row, mark_row, ref_row, span_row, entered_row, gone_row, numbered}
-use Rattle.lrs_store_tables.specs.Changing.{with_pieces, with_marks, with_refs, with_spans, with_entered, with_gone, with_origins, has_key_of, less_spans, less_refs, is_ref_of, renamed_refs, renamed_spans}
+use Rattle.lrs_store_tables.specs.Contents.Tables.{Tables, AreSame, RefRow, SpanRow}
+use Rattle.lrs_store_tables.specs.Contents.Laws.{origin_row}
+use Rattle.lrs_store_tables.specs.Contents.Encoders.{piece_row, mark_row, ref_row, span_row, entered_row, gone_row, numbered}
+use Rattle.lrs_store_tables.specs.RowChanges.{with_pieces, with_marks, with_refs, with_spans, with_entered, with_gone, with_origins, has_key_of, less_spans, less_refs, is_ref_of, renamed_refs, renamed_spans}
 
 -- the same rows, as a relation
 pub same_refl : (a : Tables) → AreSame a a

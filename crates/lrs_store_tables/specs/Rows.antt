@@ -4,9 +4,9 @@ use Rattle.sqlite.specs.State.{State, IsUnchanged}
 use Rattle.lrs_machine.specs.declared.image.Image.{Image}
 use Rattle.lrs_image.specs.declared.keeper.LoadFault.{LoadFault}
 use Rattle.lrs_image.specs.declared.keeper.LoadFault.TheVariants.{Memory, Store, Unsound}
-use Rattle.lrs_store_rows.specs.Tables.{Tables}
-use Rattle.lrs_store_rows.specs.Content.{content_of}
-use Rattle.lrs_store_tables.specs.Stored.{stored, version_in, link_in, class_in, asset_in, piece_in, mark_in, ref_in, span_in, entered_in, gone_in, edit_in, origin_in}
+use Rattle.lrs_store_tables.specs.Contents.Tables.{Tables}
+use Rattle.lrs_store_tables.specs.Contents.Content.{content_of}
+use Rattle.lrs_store_tables.specs.StoredRows.{stored, version_in, link_in, class_in, asset_in, piece_in, mark_in, ref_in, span_in, entered_in, gone_in, edit_in, origin_in}
 use Rattle.lrs_store_tables.specs.declared.stored_rows.NamedRows.{NamedRows}
 use Rattle.lrs_store_tables.specs.declared.stored_rows.RouteRows.{RouteRows}
 use Rattle.lrs_store_tables.specs.declared.stored_rows.LedgerRows.{LedgerRows}

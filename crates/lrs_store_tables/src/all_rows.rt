@@ -3,9 +3,9 @@
 ghost use Rattle.std.specs.Prelude.{◌≡◌, IfOk};
 ghost use Rattle.sqlite.specs.State.{HasCleanDisk};
 ghost use Rattle.sqlite.specs.Held.{state};
-ghost use Rattle.lrs_store_rows.specs.Tables.{AreSame};
-ghost use Rattle.lrs_store_tables.specs.Stored.{IsWriting, LeavesStore};
-ghost use Rattle.lrs_store_tables.specs.Failing.{ErrInsideHasReason};
+ghost use Rattle.lrs_store_tables.specs.Contents.Tables.{AreSame};
+ghost use Rattle.lrs_store_tables.specs.StoredRows.{IsWriting, LeavesStore};
+ghost use Rattle.lrs_store_tables.specs.Failures.{ErrInsideHasReason};
 ghost use Rattle.lrs_store_tables.specs.Rows.{HasRead, AreNamed, AreOfRoutes, AreOfLedgers, tables_of};
 
 use crate::select::{

@@ -3,10 +3,10 @@
 ghost use Rattle.std.specs.Prelude.{◌≡◌, ◌<◌, ◌≤◌, OnOk};
 ghost use Rattle.sqlite.specs.State.{HasCleanDisk};
 ghost use Rattle.sqlite.specs.Held.{state};
-ghost use Rattle.lrs_store_tables.specs.Stored.{LeavesStore};
-ghost use Rattle.lrs_store_tables.specs.Failing.{ErrHasReason};
-ghost use Rattle.lrs_store_tables.specs.Making as making;
-ghost use Rattle.lrs_store_tables.specs.Making.{IsBegun, IsMaking};
+ghost use Rattle.lrs_store_tables.specs.StoredRows.{LeavesStore};
+ghost use Rattle.lrs_store_tables.specs.Failures.{ErrHasReason};
+ghost use Rattle.lrs_store_tables.specs.TableCreation as making;
+ghost use Rattle.lrs_store_tables.specs.TableCreation.{IsBegun, IsMaking};
 
 use sqlite::{Alter, Error, Transaction};
 

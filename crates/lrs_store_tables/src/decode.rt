@@ -5,14 +5,14 @@ ghost use Rattle.std.specs.Option.{option_map};
 ghost use Rattle.sqlite_value.specs.Order.{column};
 ghost use Rattle.lrs_measure.specs.Limits.{is_link};
 ghost use Rattle.lrs_events.specs.Names.{is_class_name, is_value};
-ghost use Rattle.lrs_store_rows.specs.Decoding.{each_of, only_if, kind_numbered, link_side_numbered, is_abandoned_numbered};
-ghost use Rattle.lrs_store_rows.specs.Decoding as decoding;
-ghost use Rattle.lrs_store_tables.specs.Stored.{whole_at, text_at};
+ghost use Rattle.lrs_store_tables.specs.Contents.Decoders.{each_of, only_if, kind_numbered, link_side_numbered, is_abandoned_numbered};
+ghost use Rattle.lrs_store_tables.specs.Contents.Decoders as decoding;
+ghost use Rattle.lrs_store_tables.specs.StoredRows.{whole_at, text_at};
 
+use crate::{short, whole};
 use lrs_element::Link;
 use lrs_events::{Asset, Class, ClassName, Gone, Kind, LinkSide, Part, Value};
 use lrs_measure::limits::{GREATEST_LINK, LONGEST_LINK};
-use lrs_store_rows::{short, whole};
 use sqlite::Row;
 use sqlite::types::ValueRef;
 use std::alloc::{AllocError, Global};
@@ -141,8 +141,8 @@ fn is_link(number: u64, length: u64) -> bool
 }
 
 impl Said for Link {
-    ghost use Rattle.lrs_store_rows.specs.Decoding.{link_of};
-    ghost use Rattle.lrs_store_tables.specs.Stored.{link_in};
+    ghost use Rattle.lrs_store_tables.specs.Contents.Decoders.{link_of};
+    ghost use Rattle.lrs_store_tables.specs.StoredRows.{link_in};
 
     ghost said = { λ r. link_of (link_in r) };
 
@@ -160,8 +160,8 @@ impl Said for Link {
 }
 
 impl Said for Class {
-    ghost use Rattle.lrs_store_rows.specs.Decoding.{class_of};
-    ghost use Rattle.lrs_store_tables.specs.Stored.{class_in};
+    ghost use Rattle.lrs_store_tables.specs.Contents.Decoders.{class_of};
+    ghost use Rattle.lrs_store_tables.specs.StoredRows.{class_in};
 
     ghost said = { λ r. class_of (class_in r) };
 
@@ -173,8 +173,8 @@ impl Said for Class {
 }
 
 impl Said for Asset {
-    ghost use Rattle.lrs_store_rows.specs.Decoding.{asset_of};
-    ghost use Rattle.lrs_store_tables.specs.Stored.{asset_in};
+    ghost use Rattle.lrs_store_tables.specs.Contents.Decoders.{asset_of};
+    ghost use Rattle.lrs_store_tables.specs.StoredRows.{asset_in};
 
     ghost said = { λ r. asset_of (asset_in r) };
 
@@ -186,8 +186,8 @@ impl Said for Asset {
 }
 
 impl Said for Part {
-    ghost use Rattle.lrs_store_rows.specs.Decoding.{part_of};
-    ghost use Rattle.lrs_store_tables.specs.Stored.{entered_in};
+    ghost use Rattle.lrs_store_tables.specs.Contents.Decoders.{part_of};
+    ghost use Rattle.lrs_store_tables.specs.StoredRows.{entered_in};
 
     ghost said = { λ r. part_of (entered_in r) };
 
@@ -210,8 +210,8 @@ impl Said for Part {
 }
 
 impl Said for Gone {
-    ghost use Rattle.lrs_store_rows.specs.Decoding.{gone_of};
-    ghost use Rattle.lrs_store_tables.specs.Stored.{gone_in};
+    ghost use Rattle.lrs_store_tables.specs.Contents.Decoders.{gone_of};
+    ghost use Rattle.lrs_store_tables.specs.StoredRows.{gone_in};
 
     ghost said = { λ r. gone_of (gone_in r) };
 

@@ -3,10 +3,10 @@
 ghost use Rattle.std.specs.Prelude.{◌≡◌, OnOk, IsTrue};
 ghost use Rattle.sqlite.specs.State.{HasCleanDisk};
 ghost use Rattle.sqlite.specs.Held.{state};
-ghost use Rattle.lrs_store_tables.specs.Stored.{IsWriting, Makes, OkDoes, LeavesStore};
-ghost use Rattle.lrs_store_tables.specs.Making.{AreEmpty};
-ghost use Rattle.lrs_store_tables.specs.Failing.{ErrInsideHasReason};
-ghost use Rattle.lrs_store_tables.specs.Changing.{with_version, with_link, with_class, with_asset_row, with_origin, with_edit};
+ghost use Rattle.lrs_store_tables.specs.StoredRows.{IsWriting, Makes, OkDoes, LeavesStore};
+ghost use Rattle.lrs_store_tables.specs.TableCreation.{AreEmpty};
+ghost use Rattle.lrs_store_tables.specs.Failures.{ErrInsideHasReason};
+ghost use Rattle.lrs_store_tables.specs.RowChanges.{with_version, with_link, with_class, with_asset_row, with_origin, with_edit};
 
 use crate::number::{kind_number, number};
 use lrs_element::Link;

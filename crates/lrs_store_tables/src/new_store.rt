@@ -3,11 +3,11 @@
 ghost use Rattle.std.specs.Prelude.{◌≡◌, OnOk, IsTrue, false};
 ghost use Rattle.sqlite.specs.State.{HasCleanDisk, Survives};
 ghost use Rattle.sqlite.specs.Held.{state};
-ghost use Rattle.lrs_store_rows.specs.Tables.{AreSame};
-ghost use Rattle.lrs_store_tables.specs.Stored.{stored, LeavesStore};
-ghost use Rattle.lrs_store_tables.specs.Making.{IsBegun, no_schema};
-ghost use Rattle.lrs_store_tables.specs.Failing.{ErrHasReason};
-ghost use Rattle.lrs_store_tables.specs.Starting.{new_rows, IsStarted, IsNew, NewRowsHoldNothing};
+ghost use Rattle.lrs_store_tables.specs.Contents.Tables.{AreSame};
+ghost use Rattle.lrs_store_tables.specs.StoredRows.{stored, LeavesStore};
+ghost use Rattle.lrs_store_tables.specs.TableCreation.{IsBegun, no_schema};
+ghost use Rattle.lrs_store_tables.specs.Failures.{ErrHasReason};
+ghost use Rattle.lrs_store_tables.specs.NewStores.{new_rows, IsStarted, IsNew, NewRowsHoldNothing};
 
 use crate::create::make_tables;
 use crate::insert::put_version;

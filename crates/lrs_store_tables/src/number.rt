@@ -3,7 +3,7 @@
 ghost use Rattle.std.specs.Prelude.{◌≡◌, ◌≤◌, ◌^◌, pos, MatchResult};
 ghost use Rattle.sqlite_value.specs.declared.value.Value.TheVariants.{Int};
 ghost use Rattle.sqlite_value.specs.Value.{owned};
-ghost use Rattle.lrs_store_rows.specs.Encoding as encoding;
+ghost use Rattle.lrs_store_tables.specs.Contents.Encoders as encoding;
 
 use lrs_events::{Kind, LinkSide, Side};
 use sqlite::types::ValueRef;

@@ -3,8 +3,8 @@
 ghost use Rattle.std.specs.Prelude.{◌≡◌, IfOk, IsPermutation, map};
 ghost use Rattle.sqlite.specs.State.{HasCleanDisk, IsUnchanged};
 ghost use Rattle.sqlite.specs.Held.{state};
-ghost use Rattle.lrs_store_tables.specs.Stored.{IsWriting, stored, version_in, link_in, class_in, asset_in, piece_in, mark_in, ref_in, span_in, entered_in, gone_in, edit_in, origin_in, OkDoes, LeavesStore};
-ghost use Rattle.lrs_store_tables.specs.Failing.{ErrInsideHasReason};
+ghost use Rattle.lrs_store_tables.specs.StoredRows.{IsWriting, stored, version_in, link_in, class_in, asset_in, piece_in, mark_in, ref_in, span_in, entered_in, gone_in, edit_in, origin_in, OkDoes, LeavesStore};
+ghost use Rattle.lrs_store_tables.specs.Failures.{ErrInsideHasReason};
 
 use sqlite::{Alter, Error, Row, Transaction};
 

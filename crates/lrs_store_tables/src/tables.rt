@@ -3,9 +3,9 @@
 ghost use Rattle.std.specs.Prelude.{◌≡◌, false, IfOk};
 ghost use Rattle.sqlite.specs.Held.{state};
 ghost use Rattle.sqlite.specs.Steps.{over_memory};
-ghost use Rattle.lrs_store_tables.specs.Resting.{IsReady};
-ghost use Rattle.lrs_store_tables.specs.Holding.{HoldsOnly};
-ghost use Rattle.lrs_store_tables.specs.Starting.{new_rows};
+ghost use Rattle.lrs_store_tables.specs.Connections.{IsReady};
+ghost use Rattle.lrs_store_tables.specs.HeldRows.{HoldsOnly};
+ghost use Rattle.lrs_store_tables.specs.NewStores.{new_rows};
 
 use crate::new_store::make_store;
 use sqlite::{Alter, Connection, Error, ErrorCode, MemStore};

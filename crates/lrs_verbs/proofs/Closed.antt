@@ -14,11 +14,11 @@ use Rattle.lrs_machine.specs.Machine.{abandon, drop_route}
 use Rattle.lrs_machine.specs.State.{Abandoned}
 use Rattle.lrs_machine.proofs.Members.{In, any_found, any_of, all_at, In-map, map_found}
 use Rattle.lrs_image.proofs.Tables.{routes_in_order}
-use Rattle.lrs_image_laws.specs.Running.{is_run_by}
+use Rattle.lrs_image_laws.specs.RoutesOver.{is_run_by}
 use Rattle.lrs_image_laws.proofs.Naming.{found_in, only_one, without_one}
 use Rattle.lrs_image_laws.proofs.Running.{runs_there, moves_ground}
 use Rattle.lrs_image_laws.proofs.Standing.{named_of, found_option}
-use Rattle.lrs_image_laws.specs.Leaving.{with_left}
+use Rattle.lrs_image_laws.specs.Closures.{with_left}
 use Rattle.lrs_image_laws.proofs.Closing.{nothing_fits, same_state, close_makes}
 use Rattle.lrs_image_laws.proofs.Leaving.{stands_on}
 use Rattle.lrs_image_laws.proofs.Named.{AreNamed, named_leave}

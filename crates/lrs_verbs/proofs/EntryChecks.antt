@@ -11,7 +11,7 @@ use Rattle.lrs_machine.specs.declared.answer.Cause.TheVariants as cause
 use Rattle.lrs_machine.specs.declared.command.Command.TheVariants as verb
 use Rattle.lrs_machine.specs.Register.{get}
 use Rattle.lrs_machine.specs.Machine.{refuse_if, route_named, is_wrong_kind, is_empty_extent, first_holder, Wanted, wanted_of, enter_asset, take_away, is_of_class}
-use Rattle.lrs_verbs.specs.Wanted.{is_left_out}
+use Rattle.lrs_verbs.specs.EntryRequests.{is_left_out}
 
 -- ---- a part of a course without millimetres
 

@@ -17,7 +17,7 @@ use Rattle.lrs_machine.specs.declared.command.Command.TheVariants as verb
 use Rattle.lrs_machine.specs.Machine.{refuse_if, set_referent}
 use Rattle.lrs_machine.proofs.Members.{In, any_found, any_of, all_at, In-append_left, In-flat_map, flat_map_found, find_found}
 use Rattle.lrs_machine.proofs.SoundImages.{and_three}
-use Rattle.lrs_events_lanes.proofs.Members.{all-filter, each_two-filter}
+use Rattle.lrs_events.proofs.LaneLists.Members.{all-filter, each_two-filter}
 use Rattle.lrs_image.specs.Change.{refers_to}
 use Rattle.lrs_inventory.specs.Changes.{route_on}
 use Rattle.lrs_inventory.specs.Plans.{IsPlanOf}

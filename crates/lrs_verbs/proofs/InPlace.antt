@@ -12,7 +12,7 @@ use Rattle.lrs_inventory.specs.Prelude.{each_two, insert_by, Name, Millimetre, r
 use Rattle.lrs_measure.specs.Texts.{name_before}
 use Rattle.lrs_machine.proofs.Members.{In, all_at, all_of}
 use Rattle.lrs_machine.proofs.Pairs.{each_two-map}
-use Rattle.lrs_events_lanes.proofs.Members.{filter_all}
+use Rattle.lrs_events.proofs.LaneLists.Members.{filter_all}
 use Rattle.lrs_image.proofs.Named.{name_apart}
 use Rattle.lrs_image.proofs.PutBack.{none_goes, found_passes}
 use Rattle.lrs_inventory.specs.Changes.{route_on}

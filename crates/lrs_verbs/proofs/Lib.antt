@@ -20,3 +20,4 @@ pub mod NewReferent
 pub mod Closed
 pub mod Renumbered
 pub mod TurnedRoute
+pub mod RouteVerbs

@@ -10,7 +10,7 @@ use Rattle.lrs_events.specs.declared.class.Class.{Class}
 use Rattle.lrs_machine.specs.declared.answer.Cause.TheVariants as cause
 use Rattle.lrs_machine.specs.declared.command.Command.TheVariants as verb
 use Rattle.lrs_measure.specs.Limits.{most_assets}
-use Rattle.lrs_machine.specs.Entered.{is_asset_number, is_lateral_offset}
+use Rattle.lrs_machine.specs.EnteredNumbers.{is_asset_number, is_lateral_offset}
 use Rattle.lrs_machine.specs.Register.{insert}
 use Rattle.lrs_machine.specs.Machine.{refuse_if}
 use Rattle.lrs_machine.specs.Sound.{class_before, is_asset, are_assets}

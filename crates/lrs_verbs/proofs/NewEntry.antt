@@ -19,28 +19,28 @@ use Rattle.lrs_events.specs.Changes.{changed}
 use Rattle.lrs_events.specs.Parts.{has_pair, part_before}
 use Rattle.lrs_events.specs.Spans.{is_row, holds_by_span}
 use Rattle.lrs_machine.specs.Segments.{is_exclusive}
-use Rattle.lrs_events_rows.proofs.Changing.{any_insert}
+use Rattle.lrs_events.proofs.Row.Changing.{any_insert}
 use Rattle.lrs_machine.specs.declared.answer.Cause.TheVariants as cause
 use Rattle.lrs_machine.specs.declared.command.Command.TheVariants as verb
 use Rattle.lrs_machine.specs.Machine.{first_holder, enter_asset}
-use Rattle.lrs_machine.specs.Entered.{is_asset_number, is_lateral_offset}
+use Rattle.lrs_machine.specs.EnteredNumbers.{is_asset_number, is_lateral_offset}
 use Rattle.lrs_machine.specs.Sound.{is_asset, are_assets, spans_of, is_part, share_nothing, pairs_of, are_parts, parts_of, is_named_by, are_all_marks, are_all_referents, RouteMarks, RouteReferents}
 use Rattle.lrs_machine.proofs.Members.{In, any_found, any_of, all_at, all_weaker, all_of}
 use Rattle.lrs_machine.proofs.SoundImages.{and_three}
-use Rattle.lrs_measure.specs.Keyed.{numbers_agree}
+use Rattle.lrs_measure.specs.KeyOrder.{numbers_agree}
 use Rattle.lrs_image.specs.Change.{routes_after}
 use Rattle.lrs_image.proofs.Tables.{passes, routes_in_order}
 use Rattle.lrs_image_laws.specs.Orderly.{is_filled, share_nothing_in_an_edit}
 use Rattle.lrs_image_laws.proofs.Found.{each_two_from}
 use Rattle.lrs_image_laws.proofs.Ordering.{sound_is_orderly}
-use Rattle.lrs_verbs.specs.Entering.{asset_of, row_of, with_row, entering, AreInLimits, AreEntered, IsEntering}
-use Rattle.lrs_verbs.specs.Wanted.{IsWanted}
+use Rattle.lrs_verbs.specs.Entries.{asset_of, row_of, with_row, entering, AreInLimits, AreEntered, IsEntering}
+use Rattle.lrs_verbs.specs.EntryRequests.{IsWanted}
 use Rattle.lrs_inventory.specs.Extents.{IsRouteIn}
 use Rattle.lrs_inventory.specs.declared.plan.Plan.{Plan}
 use Rattle.lrs_inventory.specs.Plans.{plan_of, IsPlanOf}
 use Rattle.lrs_verbs.proofs.EntryChecks.{then_held}
 use Rattle.lrs_inventory.proofs.Filed.{is_some-find_row, put-insert_by}
-use Rattle.lrs_events_lanes.proofs.Inserted.{length-insert_by}
+use Rattle.lrs_events.proofs.LaneLists.Inserted.{length-insert_by}
 use Rattle.lrs_image_laws.proofs.InOrder.{and_weaker, all-insert_by, any-insert_by, each_two-insert_by, is_comparable}
 use Rattle.lrs_image_laws.proofs.Apart.{nat_eq-comm}
 use Rattle.lrs_verbs.proofs.NewClass as new_class

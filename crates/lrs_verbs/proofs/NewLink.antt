@@ -21,7 +21,7 @@ use Rattle.lrs_machine.proofs.Members.{all_weaker}
 use Rattle.lrs_image_laws.proofs.Ordering.{sound_is_orderly}
 use Rattle.lrs_inventory.specs.Plans.{plan_of, IsPlanOf}
 use Rattle.lrs_inventory.proofs.Filed.{is_some-find_row, put-insert_by}
-use Rattle.lrs_measure.specs.Keyed.{numbers_agree}
+use Rattle.lrs_measure.specs.KeyOrder.{numbers_agree}
 use Rattle.lrs_image_laws.proofs.InOrder.{and_weaker, any-insert_by, is_comparable, each_two-insert_by}
 use Rattle.lrs_verbs.proofs.Unmoved.{adding, can_differ, tells}
 

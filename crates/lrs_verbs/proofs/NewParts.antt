@@ -18,7 +18,7 @@ use Rattle.lrs_machine.proofs.Pairs.{held, same_side_is, is_same_side}
 use Rattle.lrs_image_laws.proofs.Counted.{is_on_its_link, fewer}
 use Rattle.lrs_image_laws.proofs.Sounding.{has_its_pair}
 use Rattle.lrs_image_laws.proofs.Once.{has_own, had, parts_apart}
-use Rattle.lrs_verbs.specs.Entering.{AreEntered}
+use Rattle.lrs_verbs.specs.Entries.{AreEntered}
 
 -- ---- how many places a row has
 

@@ -13,14 +13,14 @@ use Rattle.std.specs.Cmp.Lexicographic.{nat_list_cmp_total, texts_ties, bytes_de
 use Rattle.lrs_inventory.specs.Prelude.{each_two, insert_by, Name, name_cmp, same_name, Ground, Millimetre, Referent, Alignment, is_route, is_route_course, have_marks, are_referents, referent_before, Cause, Image, RouteRow, state_of, referent_entry, referents_on, attempt, ◌>>◌, ◌>>=◌, IsSound, State, changed_refs}
 use Rattle.lrs_element.specs.Course.{ground_at}
 use Rattle.lrs_position.specs.declared.expression.Expr.{Expr}
-use Rattle.lrs_position.specs.Locating.{cell}
+use Rattle.lrs_position.specs.Locations.{cell}
 use Rattle.lrs_machine.specs.declared.answer.Cause.TheVariants as cause
 use Rattle.lrs_machine.specs.declared.command.Command.TheVariants as verb
 use Rattle.lrs_machine.specs.Machine.{refuse_if, route_named, located_chainage, set_referent}
 use Rattle.lrs_machine.specs.Register.{get}
 use Rattle.lrs_machine.proofs.Members.{In, any_found, all_at, all_of, In-flat_map, flat_map_found, find_known}
 use Rattle.lrs_machine.proofs.SoundImages.{and_three}
-use Rattle.lrs_events_lanes.proofs.Members.{filter_all}
+use Rattle.lrs_events.proofs.LaneLists.Members.{filter_all}
 use Rattle.lrs_inventory.specs.Extents.{located_cell}
 use Rattle.lrs_inventory.specs.Plans.{IsPlanOf}
 use Rattle.lrs_verbs.specs.RouteReferents.{plan_of_referents, with_one, standing_at}

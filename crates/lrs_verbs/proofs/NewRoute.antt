@@ -12,7 +12,7 @@ use Rattle.std.specs.Ordering.{eq_by_cmp}
 use Rattle.std.specs.Cmp.Lexicographic.{nat_list_cmp_total}
 use Rattle.lrs_inventory.specs.Prelude.{each_two, Name, name_cmp, same_name, insert_by, Piece, Ground, Mark, Millimetre, expand, course_of, runs_over, meets, is_too_long, IsFilled, is_route_course, have_marks, are_referents, Referent, Place, differs, holds_by_spans, Cause, Image, RouteRow, contains_key, state_of, route_entry, referent_entry, referents_on, holds_on, State, attempt, ◌>>◌, ◌>>=◌, set_route, RouteCourse, is_on_a_link, are_courses, are_spans_of, route_before, IsSound, no_difference, with_difference, IsOrderly, is_run_once}
 use Rattle.lrs_element.specs.Course.{is_at}
-use Rattle.lrs_events_lanes.proofs.Inserted.{length-insert_by}
+use Rattle.lrs_events.proofs.LaneLists.Inserted.{length-insert_by}
 use Rattle.lrs_machine.specs.declared.answer.Cause.TheVariants as cause
 use Rattle.lrs_machine.specs.declared.command.Command.TheVariants as verb
 use Rattle.lrs_measure.specs.Limits.{most_routes}

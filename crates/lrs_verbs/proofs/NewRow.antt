@@ -5,8 +5,8 @@ use Rattle.std.specs.Prelude.{◌||◌, ◌&&◌, not, nat_eq, nat_lt}
 use Rattle.std.specs.List.{list_all}
 use Rattle.lrs_inventory.specs.Prelude.{each_two, insert_by, same_name, Span, span_before, are_rows}
 use Rattle.lrs_events.specs.Spans.{same_side, are_apart, is_row}
-use Rattle.lrs_events_rows.proofs.Changing.{spans_strict}
-use Rattle.lrs_events_rows.proofs.Rows.{NameCases, name_cases, before, same, behind, begins_class, begins_asset, first_begins}
+use Rattle.lrs_events.proofs.Row.Changing.{spans_strict}
+use Rattle.lrs_events.proofs.Row.Rows.{NameCases, name_cases, before, same, behind, begins_class, begins_asset, first_begins}
 use Rattle.lrs_machine.proofs.Members.{In, all_of}
 use Rattle.lrs_image_laws.proofs.InOrder.{all-insert_by, each_two-insert_by, each_two-insert_among, is_comparable}
 

@@ -11,7 +11,7 @@ use Rattle.lrs_machine.specs.declared.command.Command.TheVariants as verb
 use Rattle.lrs_machine.specs.Machine.{refuse_if, drop_route}
 use Rattle.lrs_machine.proofs.Members.{In}
 use Rattle.lrs_machine.proofs.SoundImages.{and_three}
-use Rattle.lrs_image_laws.specs.Renaming.{HasSame}
+use Rattle.lrs_image_laws.specs.Renames.{HasSame}
 use Rattle.lrs_image_laws.proofs.Alike.{IsAlike, fit, same_state, moves}
 use Rattle.lrs_image_laws.proofs.Renaming.{renumber_makes, own_if_new, alike}
 use Rattle.lrs_image_laws.proofs.Running.{runs_there}

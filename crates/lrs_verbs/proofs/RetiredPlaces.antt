@@ -12,8 +12,8 @@ use Rattle.lrs_element.specs.Course.{is_at}
 use Rattle.lrs_events.specs.declared.side.LinkSide.{LinkSide}
 use Rattle.lrs_events.specs.Members.{is_member}
 use Rattle.lrs_events.specs.Places.{beside, places_at, lies_on}
-use Rattle.lrs_events_rows.specs.OnCourse.{is_held}
-use Rattle.lrs_events_rows.specs.Removals.{Taken}
+use Rattle.lrs_events.specs.Row.CourseMembers.{is_held}
+use Rattle.lrs_events.specs.Row.Removals.{Taken}
 use Rattle.lrs_machine.specs.State as state
 use Rattle.lrs_machine.specs.Register.{get}
 use Rattle.lrs_machine.specs.Machine.{belongs_to}
@@ -23,7 +23,7 @@ use Rattle.lrs_machine.proofs.Pairs.{beside_ground}
 use Rattle.lrs_image.proofs.Tables.{assets_in_order}
 use Rattle.lrs_image_laws.proofs.Halved.{side_at, its_end, filled_in}
 use Rattle.lrs_image_laws.proofs.Parted.{member_held}
-use Rattle.lrs_verbs.specs.Taking.{of_asset_within}
+use Rattle.lrs_verbs.specs.Removals.{of_asset_within}
 use Rattle.lrs_image_laws.proofs.FromReferents.{ground_there}
 use Rattle.lrs_image_laws.proofs.Holding.{alone, rows_held_at}
 use Rattle.lrs_verbs.proofs.TakenInPlace.{IsTakenSo, among_at, on_both_sides, on_stretch, handed_back}

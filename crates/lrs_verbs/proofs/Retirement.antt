@@ -14,7 +14,7 @@ use Rattle.lrs_machine.specs.State as state
 use Rattle.lrs_machine.proofs.Members.{In}
 use Rattle.lrs_inventory.specs.declared.plan.Plan.{Plan}
 use Rattle.lrs_inventory.specs.Plans.{IsPlanOf}
-use Rattle.lrs_verbs.specs.Taking.{of_asset_within, HasAsset, IsTaking}
+use Rattle.lrs_verbs.specs.Removals.{of_asset_within, HasAsset, IsTaking}
 use Rattle.lrs_inventory.proofs.Known.{none_found, route_value}
 use Rattle.lrs_inventory.proofs.Located.{route_in}
 use Rattle.lrs_verbs.proofs.RetireChecks as checks

@@ -7,7 +7,7 @@ use Rattle.std.proofs.lemmas.List.{append-nil}
 use Rattle.std.specs.Prelude.{◌&&◌, not, slice_range}
 use Rattle.std.specs.Cmp.Lexicographic.{bytes_decides}
 use Rattle.lrs_inventory.specs.Prelude.{insert_by, Name, same_name, Ground, Asset, Kind, Part, Gone, Span, Place, is_among, places_on, span_before, holds_by_spans, Removal, is_within, IsRemoval, IsPlan, NewAsset, RouteRow, Image, Retired, state_of, asset_entry, Extent, attempt, route_before, asset_before, IsSound, Difference, is_named, without, with_difference, AreGone, IsOrderly}
-use Rattle.lrs_measure.specs.Ordered.{insert_all}
+use Rattle.lrs_measure.specs.OrderedLists.{insert_all}
 use Rattle.lrs_events.specs.Changes.{changed, changed_rows, without_rows}
 use Rattle.lrs_events.specs.Members.{has_side}
 use Rattle.lrs_machine.specs.declared.command.Command.TheVariants as verb
@@ -17,10 +17,10 @@ use Rattle.lrs_machine.proofs.Members.{In, In-append_right, find_numbered}
 use Rattle.lrs_image.specs.Change.{routes_after}
 use Rattle.lrs_image.proofs.Tables.{routes_in_order, assets_in_order}
 use Rattle.lrs_inventory.specs.declared.plan.Plan.{Plan}
-use Rattle.lrs_verbs.specs.Entering.{asset_of, row_of, with_row, entering, AreInLimits, AreEntered}
+use Rattle.lrs_verbs.specs.Entries.{asset_of, row_of, with_row, entering, AreInLimits, AreEntered}
 use Rattle.lrs_inventory.specs.Plans.{plan_of, IsPlanOf}
-use Rattle.lrs_verbs.specs.Superseding.{of_class_there, with_rows_and_one, superseding, IsSuperseding}
-use Rattle.lrs_verbs.specs.Wanted.{IsWanted}
+use Rattle.lrs_verbs.specs.Supersessions.{of_class_there, with_rows_and_one, superseding, IsSuperseding}
+use Rattle.lrs_verbs.specs.EntryRequests.{IsWanted}
 use Rattle.lrs_verbs.proofs.EntryChecks.{supersede_done}
 use Rattle.lrs_image_laws.proofs.Holding.{alone}
 use Rattle.lrs_verbs.proofs.InPlace.{DifferAt, found_by_name, names_stay}

@@ -17,9 +17,9 @@ use Rattle.lrs_events.specs.Changes.{changed_rows}
 use Rattle.lrs_events.specs.Members.{between, stands_for, has_member, is_member}
 use Rattle.lrs_events.specs.Parts.{has_pair}
 use Rattle.lrs_events.specs.Places.{same_link_side, along_link, beside, lies_on}
-use Rattle.lrs_events_rows.specs.OnCourse.{is_held}
-use Rattle.lrs_events_rows.specs.Removals.{Taken}
-use Rattle.lrs_events_rows.proofs.Picked.{row_holds}
+use Rattle.lrs_events.specs.Row.CourseMembers.{is_held}
+use Rattle.lrs_events.specs.Row.Removals.{Taken}
+use Rattle.lrs_events.proofs.Row.Picked.{row_holds}
 use Rattle.lrs_machine.specs.State.{Reason, same_reason}
 use Rattle.lrs_machine.specs.Image.{reason_of}
 use Rattle.lrs_machine.specs.Machine.{take_away}
@@ -28,7 +28,7 @@ use Rattle.lrs_machine.proofs.Members.{In, any_found, any_of, In-append_right, I
 use Rattle.lrs_machine.proofs.Pairs.{held, each_two-map}
 use Rattle.lrs_image.proofs.Tables.{routes_in_order}
 use Rattle.lrs_image_laws.proofs.Ordering.{sound_is_orderly}
-use Rattle.lrs_image_laws.specs.Gone.{AreInOrder}
+use Rattle.lrs_image_laws.specs.GoneRows.{AreInOrder}
 use Rattle.lrs_image_laws.proofs.GoneInOrder.{gone_stays_in_order}
 use Rattle.lrs_image_laws.proofs.Apart.{nat_eq-comm}
 use Rattle.lrs_image_laws.proofs.Halved.{fewer_have_rows}
@@ -36,7 +36,7 @@ use Rattle.lrs_image_laws.proofs.InOrder.{is_false}
 use Rattle.lrs_image_laws.proofs.Parted.{held_alike}
 use Rattle.lrs_inventory.specs.Extents.{IsRouteIn}
 use Rattle.lrs_inventory.specs.Plans.{plan_of, IsPlanOf}
-use Rattle.lrs_verbs.specs.Taking.{taking}
+use Rattle.lrs_verbs.specs.Removals.{taking}
 use Rattle.lrs_inventory.proofs.FirstHolder.{spans_entry, row_tests, asset_of}
 use Rattle.lrs_image_laws.proofs.FromReferents.{apart_courses}
 use Rattle.lrs_image_laws.proofs.Holding.{IsAlone, alone, picked_at, rows_held_at, held_among}

@@ -1,8 +1,9 @@
 pub mod RouteReferents
-pub mod Entering
-pub mod Wanted
-pub mod Taking
-pub mod Superseding
+pub mod Entries
+pub mod EntryRequests
+pub mod Removals
+pub mod Supersessions
 pub mod Closings
 pub mod Renumberings
 pub mod Turns
+pub mod RouteVerbs

@@ -4,8 +4,8 @@ use Rattle.std.specs.List.{list_all}
 use Rattle.lrs_inventory.specs.Prelude.{each_two, is_too_long, has_row, are_rows, span_before, RouteRow, RouteChange, spans_after}
 use Rattle.lrs_element.specs.Course.{turned}
 use Rattle.lrs_element.specs.Marks.{mirrored}
-use Rattle.lrs_events_rows.specs.Turns.{IsTurned}
-use Rattle.lrs_image_laws.specs.Turning.{from_end}
+use Rattle.lrs_events.specs.Row.Turns.{IsTurned}
+use Rattle.lrs_image_laws.specs.Turns.{from_end}
 
 -- What becomes of the route of an entry: all its referents go, and come where they are from its other end.
 pub record IsTurnedBy (e : RouteRow) (c : RouteChange) : Type 0 where

@@ -3,20 +3,20 @@ use Rattle.std.proofs.Common.{◌≡◌, ℕ, Result, Ok, Err, IfOk, IfErr, inl,
 use Rattle.lrs_machine.specs.declared.image.Image.{Image}
 use Rattle.lrs_machine.specs.declared.question.Question.{Question}
 use Rattle.lrs_machine.specs.Lines.{Text}
-use Rattle.lrs_answers.specs.declared.fault.AskFault.{AskFault}
-use Rattle.lrs_answers.specs.declared.told.Told.{Told}
-use Rattle.lrs_answers.specs.Told.{IsTold}
+use Rattle.lrs_report_answers.specs.declared.fault.AskFault.{AskFault}
+use Rattle.lrs_report_answers.specs.declared.told.Told.{Told}
+use Rattle.lrs_report_answers.specs.ToldAnswers.{IsTold}
 use Rattle.lrs_web_requests.specs.Text.{answer_of}
 use Rattle.lrs_web_requests.specs.declared.paths.Resource.{Resource}
 use Rattle.lrs_web_requests.specs.declared.paths.Resource.TheVariants as path
 use Rattle.lrs_web_requests.specs.declared.response.Response.{Response}
 use Rattle.lrs_web_replies.specs.Questions.{AsksLog, AsksOf, AsksReport, CannotAsk}
 use Rattle.lrs_web_replies.specs.declared.question.QueryFault.{QueryFault}
-use Rattle.lrs_web_replies.specs.Answered.{IsReplyTo}
+use Rattle.lrs_web_replies.specs.QuestionAnswers.{IsReplyTo}
 use Rattle.lrs_web_replies.specs.declared.report.Report.{Report}
 use Rattle.lrs_web_replies.specs.Replies.{unasked}
-use Rattle.lrs_web_replies.specs.Reported.{AnswersReport}
-use Rattle.lrs_web.specs.Asked.{AnswersAsked, log_answer}
+use Rattle.lrs_web_replies.specs.ReportAnswers.{AnswersReport}
+use Rattle.lrs_web.specs.QueryAnswers.{AnswersAsked, log_answer}
 
 pub answered : {E : Type 0} (i : Image) (resource : Resource) (argument : Text) (asked : Result Question QueryFault) (q : Question) (said : Result Told AskFault) (r : Result Response E)
     → asked ≡ Ok q → IfOk asked (AsksOf resource argument) → IsTold i q said → IfOk r (λ reply. IsReplyTo said (answer_of reply))

@@ -6,7 +6,7 @@ use Rattle.lrs_desk.specs.DeskView.{DeskView}
 use Rattle.lrs_web_requests.specs.Request.{Asked, Asks, refused}
 use Rattle.lrs_web_requests.specs.Text.{Answer, empty_answer}
 use Rattle.lrs_web.specs.declared.request.WebFault.{WebFault}
-use Rattle.lrs_web.specs.Serving.{Does, Responds, Serves, Writes}
+use Rattle.lrs_web.specs.RequestAnswers.{Does, Responds, Serves, Writes}
 
 serves : {K : Type 0} (holds : K → Result Image Table → Type 0) (a : Option (List ℕ)) (asked : Asked) (old new : DeskView K) (answer : Answer)
     → IfSome a (λ input. Asks input asked) → Responds holds asked old answer new → IfSome a (λ input. Serves holds input old answer new)
@@ -31,7 +31,7 @@ pub unserved : {K : Type 0} (holds : K → Result Image Table → Type 0) (a : O
 unserved holds None desk = tt
 unserved holds (Some input) desk = (empty_answer 503, inr (refl, refl))
 
--- a refusal for want of memory, as a request that is answered so
+-- a refusal for lack of memory, as a request that is answered so
 pub refused_ok : {K : Type 0} (holds : K → Result Image Table → Type 0) (w v : Option (List ℕ)) (desk : DeskView K) (r : Result ℕ WebFault) → IfOk r (λ status. Writes w v status (empty_answer 503))
     → IfOk r (λ status. (asked : Asked) × (answer : Answer) × Writes w v status answer × Responds holds asked desk answer desk)
 refused_ok holds w v desk (Ok status) writes = (refused 503, empty_answer 503, writes, (empty_answer 503, (refl, refl), inl refl))

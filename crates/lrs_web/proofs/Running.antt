@@ -6,7 +6,7 @@ use Rattle.lrs_machine.specs.declared.image.Image.{Image}
 use Rattle.lrs_machine.specs.declared.table.Table.{Table}
 use Rattle.lrs_sheet_records.specs.declared.fault.SheetFault.{SheetFault}
 use Rattle.lrs_sheet.specs.declared.reply.Tally.{Tally}
-use Rattle.lrs_sheet.specs.Resuming.{BreaksOffResumed, Resumes}
+use Rattle.lrs_sheet.specs.Resumption.{BreaksOffResumed, Resumes}
 use Rattle.lrs_sheet.specs.Sheets.{BreaksOff, Runs}
 use Rattle.lrs_sheet_records.specs.declared.sheet.Sheet.{Sheet}
 use Rattle.lrs_web.specs.Sheets.{BreaksOffSo, RunsSo}

@@ -8,7 +8,7 @@ use Rattle.lrs_desk.specs.DeskView.{DeskView}
 use Rattle.lrs_web_requests.specs.Request.{Asked, Asks}
 use Rattle.lrs_web_requests.specs.Text.{Answer}
 use Rattle.lrs_web.specs.declared.request.WebFault.{WebFault}
-use Rattle.lrs_web.specs.Serving.{Does, Responds, Writes}
+use Rattle.lrs_web.specs.RequestAnswers.{Does, Responds, Writes}
 use Rattle.lrs_web.specs.Door.{Gives, KeepsAll, TakesBack}
 use Rattle.lrs_web.specs.Visits.{Connection, HasVisited, IsCut, IsFull, Visited, Visits, back_as, exchange_of, given_as, nobody, full_visit, cut_visit}
 

@@ -1,6 +1,6 @@
 pub mod Sheets
 pub mod Questions
-pub mod Asked
-pub mod Serving
+pub mod QueryAnswers
+pub mod RequestAnswers
 pub mod Door
 pub mod Visits

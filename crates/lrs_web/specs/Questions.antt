@@ -4,8 +4,8 @@ use Rattle.lrs_machine.specs.Lines.{Text}
 use Rattle.lrs_machine.specs.declared.image.Image.{Image}
 use Rattle.lrs_desk.specs.DeskView.{DeskView}
 use Rattle.lrs_sheet_records.specs.declared.fault.SheetFault.{SheetFault}
-use Rattle.lrs_questions.specs.Answering.{RunsQuestions}
-use Rattle.lrs_questions.specs.declared.tally.QuestionTally.{QuestionTally}
+use Rattle.lrs_sheet_questions.specs.SheetAnswers.{RunsQuestions}
+use Rattle.lrs_sheet_questions.specs.declared.tally.QuestionTally.{QuestionTally}
 use Rattle.lrs_web_requests.specs.Text.{Answer, empty_answer}
 use Rattle.lrs_web.specs.Sheets.{IsAnswerAfter}
 

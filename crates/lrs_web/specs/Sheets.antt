@@ -7,12 +7,12 @@ use Rattle.lrs_machine.specs.declared.answer.Limits.{Limits}
 use Rattle.lrs_machine.specs.declared.image.Image.{Image}
 use Rattle.lrs_machine.specs.declared.table.Table.{Table}
 use Rattle.lrs_desk.specs.DeskView.{DeskView}
-use Rattle.lrs_machine_stops.specs.declared.fault.Fault.TheVariants as stop
+use Rattle.lrs_machine.specs.declared.stops.fault.Fault.TheVariants as stop
 use Rattle.lrs_sheet.specs.declared.reply.Tally.{Tally}
 use Rattle.lrs_sheet_records.specs.declared.fault.SheetFault.{SheetFault}
 use Rattle.lrs_sheet_records.specs.declared.fault.SheetFault.TheVariants as fault
 use Rattle.lrs_sheet_records.specs.declared.sheet.Sheet.{Sheet}
-use Rattle.lrs_sheet.specs.Resuming.{BreaksOffResumed, Resumes}
+use Rattle.lrs_sheet.specs.Resumption.{BreaksOffResumed, Resumes}
 use Rattle.lrs_sheet.specs.Sheets.{Runs, LeavesDesk, BreaksOff, records_together}
 use Rattle.lrs_web_requests.specs.declared.response.ContentType.{ContentType}
 use Rattle.lrs_web_requests.specs.declared.response.ContentType.TheVariants.{Csv}

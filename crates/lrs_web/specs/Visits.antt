@@ -6,7 +6,7 @@ use Rattle.lrs_machine.specs.declared.table.Table.{Table}
 use Rattle.lrs_desk.specs.DeskView.{DeskView}
 use Rattle.lrs_web_requests.specs.Request.{Asked, Asks}
 use Rattle.lrs_web_requests.specs.Text.{Answer}
-use Rattle.lrs_web.specs.Serving.{Does, Writes}
+use Rattle.lrs_web.specs.RequestAnswers.{Does, Writes}
 
 -- What a connection tells: the bytes that its client sent, and those that were written to it, before it was served and after.
 pub record Exchange : Type 0 where

@@ -2,16 +2,16 @@
 
 ghost use Rattle.std.specs.Prelude.{◌≡◌, IfOk};
 ghost use Rattle.lrs_machine.specs.Image.{state_of};
-ghost use Rattle.lrs_image.specs.Kept.{image_of};
-ghost use Rattle.lrs_log.specs.Log.{edits_from, log_text};
+ghost use Rattle.lrs_image.specs.OpenLists.{image_of};
+ghost use Rattle.lrs_sheet_log.specs.Log.{edits_from, log_text};
 ghost use Rattle.lrs_web_requests.specs.Text.{answer_of};
 ghost use Rattle.lrs_web_requests.specs.declared.response.ContentType.TheVariants.{Csv};
 ghost use Rattle.lrs_web_replies.specs.Replies.{answer_with};
-ghost use Rattle.lrs_web.specs.Asked.{log_answer};
+ghost use Rattle.lrs_web.specs.QueryAnswers.{log_answer};
 
 use http::StatusCode;
 use lrs_image::KeptImage;
-use lrs_log::write_log;
+use lrs_sheet_log::write_log;
 use lrs_web_requests::{Content, ContentType, Response};
 use std::alloc::{AllocError, Global};
 

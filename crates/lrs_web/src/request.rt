@@ -4,14 +4,14 @@ ghost use Rattle.std.specs.Prelude.{◌≡◌, ◌⊎◌, IfOk, IfSome, MatchOpt
 ghost use Rattle.lrs_web_requests.specs.Request.{Asked, IsServed, asked_by};
 ghost use Rattle.lrs_web_requests.specs.Text.{Answer, answer_of, empty_answer};
 ghost use Rattle.lrs_web_replies.specs.Questions.{is_reported};
-ghost use Rattle.lrs_web_replies.specs.Reported.{AnswersReport};
+ghost use Rattle.lrs_web_replies.specs.ReportAnswers.{AnswersReport};
 ghost use Rattle.lrs_web_requests.specs.declared.paths.Resource.TheVariants as path;
 ghost use Rattle.lrs_web_requests.specs.Request.{verb_of};
 ghost use Rattle.lrs_web_requests.specs.declared.response.Verb.TheVariants.{Get};
-ghost use Rattle.lrs_web.specs.Asked.{AnswersAsked, log_answer};
+ghost use Rattle.lrs_web.specs.QueryAnswers.{AnswersAsked, log_answer};
 ghost use Rattle.lrs_web.specs.Questions.{AnswersQuestions};
 ghost use Rattle.lrs_web.specs.Sheets.{DoesSheet};
-ghost use Rattle.lrs_web.specs.Serving.{Does, Responds, Serves, Writes, allowed_answer, sheet_at};
+ghost use Rattle.lrs_web.specs.RequestAnswers.{Does, Responds, Serves, Writes, allowed_answer, sheet_at};
 
 use crate::log::log_reply;
 use crate::questions::answer_questions;
@@ -290,7 +290,7 @@ pub(crate) fn respond<W: Write, K: Keeper>(
 ///
 /// # Errors
 /// `Read` if the reader fails before the request is whole: nothing is done. `Write` if the writer fails: what was asked
-/// for is done, or for want of memory nothing; the keys of a sheet make sending it again safe.
+/// for is done, or for lack of memory nothing; the keys of a sheet make sending it again safe.
 pub fn serve_one<R: Read, W: Write, K: Keeper>(
     alloc: Global,
     reader: &mut R,

@@ -4,7 +4,7 @@ ghost use Rattle.std.specs.Prelude.{◌≡◌, ◌⊎◌, Err, Result, Some, fal
 ghost use Rattle.lrs_machine.specs.Image.{state_of};
 ghost use Rattle.lrs_machine.specs.declared.image.Image.{Image as ImageRows};
 ghost use Rattle.lrs_machine.specs.declared.table.Table.{Table};
-ghost use Rattle.lrs_sheet.specs.Resuming.{BreaksOffResumed, Resumes};
+ghost use Rattle.lrs_sheet.specs.Resumption.{BreaksOffResumed, Resumes};
 ghost use Rattle.lrs_sheet.specs.Sheets.{BreaksOff, LeavesDesk, Runs, records_together};
 ghost use Rattle.lrs_web_requests.specs.Text.{answer_of, empty_answer};
 ghost use Rattle.lrs_web.specs.Sheets.{DoesSheet, IsAnswerAfter, fault_answer, lines_answer};

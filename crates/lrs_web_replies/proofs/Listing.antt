@@ -10,11 +10,11 @@ use Rattle.lrs_events.specs.declared.side.Side.{Side}
 use Rattle.lrs_events.specs.Names.{side_text}
 use Rattle.lrs_machine.specs.declared.segment.Segment.{Segment}
 use Rattle.lrs_machine.specs.Lines.{Text}
-use Rattle.lrs_lists.proofs.Chosen.{texts_of_chosen}
+use Rattle.lrs_report_lists.proofs.Chosen.{texts_of_chosen}
 use Rattle.lrs_web_replies.specs.Answers.{segment_data, segments_data}
 use Rattle.lrs_web_replies.specs.Parts.{front_text, item_text, opened_text, segments_end, segments_front}
 use Rattle.lrs_web_replies.specs.Reports.{named_list}
-use Rattle.lrs_web_replies.specs.Shown.{each, list}
+use Rattle.lrs_web_replies.specs.JsonParts.{each, list}
 
 -- what follows the first item
 tail_text : (ds : List Data) → items_text true (items_of ds) ≡ flat_map item_text ds ++ 93 ∷ []

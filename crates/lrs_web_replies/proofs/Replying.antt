@@ -4,16 +4,18 @@ use Rattle.std.specs.Prelude.{MatchResult}
 use Rattle.lrs_machine.specs.declared.image.Image.{Image}
 use Rattle.lrs_web_requests.specs.Text.{Answer, answer_of}
 use Rattle.lrs_web_requests.specs.declared.response.Response.{Response}
-use Rattle.lrs_whereabouts.specs.declared.answer.Whereabouts.{Whereabouts}
-use Rattle.lrs_whereabouts.specs.declared.fault.WhereFault.{WhereFault}
-use Rattle.lrs_whereabouts.specs.declared.fault.WhereFault.TheVariants.{Memory}
-use Rattle.lrs_whereabouts.specs.declared.spot.Spot.{Spot}
-use Rattle.lrs_whereabouts.specs.Answers.{IsThere, IsWhereabouts, UnlessMemory}
-use Rattle.lrs_whereabouts.specs.Places.{Place, place_of}
+use Rattle.lrs_report_answers.specs.declared.places.answer.Whereabouts.{Whereabouts}
+use Rattle.lrs_report_answers.specs.declared.places.fault.WhereFault.{WhereFault}
+use Rattle.lrs_report_answers.specs.declared.places.fault.WhereFault.TheVariants.{Memory}
+use Rattle.lrs_machine.specs.declared.question.Spot.{Spot}
+use Rattle.lrs_report_answers.specs.Place.Answers.{IsThere, IsWhereabouts, UnlessMemory}
+use Rattle.lrs_report_answers.specs.Place.Places.{Place, place_of}
 use Rattle.lrs_web_replies.specs.Replies.{error_answer, json_answer}
-use Rattle.lrs_web_replies.specs.Reported.{AnswersReport, IsShownUnless, ShowsReport, cause_without, missing_for, missing_of, missing_place, status_without}
+use Rattle.lrs_web_replies.specs.ReportAnswers.{AnswersReport, IsShownUnless, ShowsReport, missing_of, missing_place, status_without}
+use Rattle.lrs_machine.specs.Absence.{missing_text}
+use Rattle.lrs_report_answers.specs.Place.Absence.{missing_for}
 use Rattle.lrs_web_replies.specs.Reports.{whereabouts_data}
-use Rattle.lrs_web_replies.specs.declared.absence.Missing.{Missing}
+use Rattle.lrs_machine.specs.declared.absence.Missing.{Missing}
 use Rattle.lrs_web_replies.specs.declared.report.Report.{Report}
 use Rattle.lrs_web_replies.specs.declared.report.Report.TheVariants as report
 
@@ -22,7 +24,7 @@ shown : (i : Image) (r : Report) (answer : Answer) → missing_of i r ≡ None �
 shown i r answer none shows = subst (λ o. IsShownUnless o (ShowsReport i r) answer) (sym none) shows
 
 -- something is missing, and named
-named : (i : Image) (r : Report) (what : Missing) (answer : Answer) → missing_of i r ≡ Some what → answer ≡ error_answer (status_without what) (cause_without what) → AnswersReport i r answer
+named : (i : Image) (r : Report) (what : Missing) (answer : Answer) → missing_of i r ≡ Some what → answer ≡ error_answer (status_without what) (missing_text what) → AnswersReport i r answer
 named i r what answer is names = subst (λ o. IsShownUnless o (ShowsReport i r) answer) (sym is) names
 
 pub listed : {E : Type 0} (i : Image) (r : Report) (missing : Option Missing) (reply : Result Response E) → missing ≡ missing_of i r → missing ≡ None
@@ -31,7 +33,7 @@ listed i r missing (Ok x) is none shows = shown i r (answer_of x) (sym is ∙ no
 listed i r missing (Err e) is none shows = tt
 
 pub lacking : {E : Type 0} (i : Image) (r : Report) (missing : Option Missing) (what : Missing) (reply : Result Response E) → missing ≡ missing_of i r → missing ≡ Some what
-    → IfOk reply (λ x. answer_of x ≡ error_answer (status_without what) (cause_without what)) → IfOk reply (λ x. AnswersReport i r (answer_of x))
+    → IfOk reply (λ x. answer_of x ≡ error_answer (status_without what) (missing_text what)) → IfOk reply (λ x. AnswersReport i r (answer_of x))
 lacking i r missing what (Ok x) is some names = named i r what (answer_of x) (sym is ∙ some) names
 lacking i r missing what (Err e) is some names = tt
 
@@ -47,7 +49,7 @@ one_fault a b r s is other same = cc
 no_fault : (w : Whereabouts) (fault : WhereFault) (r s : Result Whereabouts WhereFault) → r ≡ Ok w → s ≡ Err fault → r ≡ s → ⊥
 no_fault w fault r s is other same = cc
 
--- want of memory names nothing
+-- lack of memory names nothing
 no_memory : (fault : WhereFault) (what : Missing) → fault ≡ Memory → missing_for fault ≡ Some what → ⊥
 no_memory fault what is names = let none : missing_for Memory ≡ Some what = ap missing_for (sym is) ∙ names in cc
 
@@ -70,7 +72,7 @@ there i spot told w (Err e) is by shows = tt
 
 pub nowhere : {E : Type 0} (i : Image) (spot : Spot) (told : Result Whereabouts WhereFault) (fault : WhereFault) (missing : Option Missing) (what : Missing) (reply : Result Response E) → told ≡ Err fault
     → IsWhereabouts i spot told → missing ≡ missing_for fault → missing ≡ Some what
-    → IfOk reply (λ x. answer_of x ≡ error_answer (status_without what) (cause_without what)) → IfOk reply (λ x. AnswersReport i (report.Where spot) (answer_of x))
+    → IfOk reply (λ x. answer_of x ≡ error_answer (status_without what) (missing_text what)) → IfOk reply (λ x. AnswersReport i (report.Where spot) (answer_of x))
 nowhere i spot told fault missing what (Ok x) is by for some names =
     named i (report.Where spot) what (answer_of x) (missed i fault what (place_of i spot) (subst (IsWhereabouts i spot) is by) (sym for ∙ some)) names
 nowhere i spot told fault missing what (Err e) is by for some names = tt

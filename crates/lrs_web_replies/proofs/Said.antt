@@ -23,7 +23,7 @@ pub not_said : {A : Type 0} (Says : Text → A → Type 0) (text : Option Text) 
 not_said Says None none x said = said
 not_said Says (Some text) none x said = none (Some x) said
 
--- what cannot be given is not said, and want of memory stays
+-- what cannot be given is not said, and lack of memory stays
 pub not_given : {A : Type 0} (Says : Text → A → Type 0) (text : Option Text) (fault e : QueryFault) → (e ≡ Memory) ⊎ ((e ≡ fault) × ((o : Option A) → SaidIfGiven Says text o → ⊥))
     → (e ≡ Memory) ⊎ ((e ≡ fault) × ((x : A) → Said Says text x → ⊥))
 not_given Says text fault e (inl memory) = inl memory

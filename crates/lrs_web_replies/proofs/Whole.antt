@@ -11,9 +11,9 @@ use Rattle.lrs_events.specs.declared.part.Gone.{Gone}
 use Rattle.lrs_events.specs.declared.span.Span.{Span}
 use Rattle.lrs_machine.specs.declared.segment.Segment.{Segment}
 use Rattle.lrs_machine.specs.declared.hit.Hit.{Hit}
-use Rattle.lrs_whereabouts.specs.declared.answer.Whereabouts.{Whereabouts}
+use Rattle.lrs_report_answers.specs.declared.places.answer.Whereabouts.{Whereabouts}
 use Rattle.lrs_web_replies.specs.Reports.{gone_data_with, named_list, place_data, row_data_with, whereabouts_data}
-use Rattle.lrs_web_replies.specs.Shown.{each}
+use Rattle.lrs_web_replies.specs.JsonParts.{each}
 use Rattle.lrs_web_replies.specs.Answers.{at_data, hit_data, mark_data, piece_data, referent_data, route_data, ShowsRoute, value_data, segment_data}
 
 neither : (a b : Bool) → a ≡ false → b ≡ false → (a || b) ≡ false

@@ -3,7 +3,7 @@ use Rattle.std.specs.Prelude.{◌≡◌, ℕ, Bool, List, [], ◌∷◌, ◌++�
 use Rattle.std.specs.Fmt.{decimal}
 use Rattle.serde_json.specs.Data.{Data, string}
 use Rattle.lrs_measure.specs.Fraction.{Fraction}
-use Rattle.lrs_measure.specs.Printing.{fraction_text}
+use Rattle.lrs_measure.specs.FractionTexts.{fraction_text}
 use Rattle.lrs_measure.specs.Texts.{Name}
 use Rattle.lrs_element.specs.Course.{course_of, IsFewest}
 use Rattle.lrs_element.specs.declared.link.Ground.{Ground}
@@ -19,9 +19,9 @@ use Rattle.lrs_machine.specs.declared.segment.Segment.{Segment}
 use Rattle.lrs_machine.specs.declared.total.Total.{Total}
 use Rattle.lrs_machine.specs.declared.hit.Hit.{Hit}
 use Rattle.lrs_machine.specs.Lines.{Text, method_text, piece_text}
-use Rattle.lrs_answers.specs.declared.rows.FoundRow.{FoundRow}
-use Rattle.lrs_answers.specs.declared.route_list.RouteLength.{RouteLength}
-use Rattle.lrs_web_replies.specs.Shown.{whole, list, each, with}
+use Rattle.lrs_report_answers.specs.declared.rows.FoundRow.{FoundRow}
+use Rattle.lrs_report_answers.specs.declared.route_list.RouteLength.{RouteLength}
+use Rattle.lrs_web_replies.specs.JsonParts.{whole, list, each, with}
 
 -- ---- where a position stands
 

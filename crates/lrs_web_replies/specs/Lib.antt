@@ -1,10 +1,10 @@
-pub mod Shown
+pub mod JsonParts
 pub mod Members
 pub mod Answers
 pub mod Questions
 pub mod Faults
 pub mod Replies
 pub mod Reports
-pub mod Reported
+pub mod ReportAnswers
 pub mod Parts
-pub mod Answered
+pub mod QuestionAnswers

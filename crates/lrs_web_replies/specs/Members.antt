@@ -3,10 +3,10 @@ use Rattle.std.specs.Prelude.{◌∷◌, ◌++◌, []}
 use Rattle.std.specs.Fmt.{decimal}
 use Rattle.std.specs.Option.{option_map_or}
 use Rattle.serde_json.specs.Data.{Data, Members, null, put, string}
-use Rattle.lrs_measure.specs.Printing.{fraction_text}
+use Rattle.lrs_measure.specs.FractionTexts.{fraction_text}
 use Rattle.lrs_position.specs.Readings.{expression_text}
 use Rattle.lrs_events.specs.Names.{kind_text, side_text}
-use Rattle.lrs_web_replies.specs.Shown.{whole}
+use Rattle.lrs_web_replies.specs.JsonParts.{whole}
 use Rattle.lrs_web_replies.specs.declared.members.Member.{Member}
 use Rattle.lrs_web_replies.specs.declared.members.Scalar.{Scalar}
 use Rattle.lrs_web_replies.specs.declared.members.Scalar.TheVariants as scalar

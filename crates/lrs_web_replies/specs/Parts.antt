@@ -13,8 +13,8 @@ use Rattle.lrs_events.specs.declared.span.Span.{Span}
 use Rattle.lrs_events.specs.Names.{side_text}
 use Rattle.lrs_machine.specs.declared.image.RouteRow.{RouteRow}
 use Rattle.lrs_machine.specs.Lines.{Text}
-use Rattle.lrs_lists.specs.declared.wanted.RowsWanted.{RowsWanted}
-use Rattle.lrs_lists.specs.Wanted.{is_of_edit, is_wanted}
+use Rattle.lrs_report_lists.specs.declared.wanted.RowsWanted.{RowsWanted}
+use Rattle.lrs_report_lists.specs.WantedRows.{is_of_edit, is_wanted}
 use Rattle.lrs_web_replies.specs.Reports.{gone_data, ref_data, refs_of, row_data, rows_of}
 
 -- an object up to the value of its first member

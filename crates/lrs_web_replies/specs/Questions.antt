@@ -11,9 +11,9 @@ use Rattle.lrs_position.specs.Names.{is_route_name}
 use Rattle.lrs_position.specs.Readings.{IsNamed, States, method_text, target_text}
 use Rattle.lrs_events.specs.declared.side.Side.{Side}
 use Rattle.lrs_events.specs.Names.{is_class_name, side_text}
-use Rattle.lrs_lists.specs.declared.wanted.RowsWanted.{RowsWanted}
-use Rattle.lrs_whereabouts.specs.declared.spot.Spot.{Spot}
-use Rattle.lrs_whereabouts.specs.declared.spot.Spot.TheVariants as spot
+use Rattle.lrs_report_lists.specs.declared.wanted.RowsWanted.{RowsWanted}
+use Rattle.lrs_machine.specs.declared.question.Spot.{Spot}
+use Rattle.lrs_machine.specs.declared.question.Spot.TheVariants as spot
 use Rattle.lrs_web_requests.specs.Query.{parameter, parameters}
 use Rattle.lrs_web_requests.specs.declared.paths.Resource.{Resource}
 use Rattle.lrs_web_requests.specs.declared.paths.Resource.TheVariants as path

@@ -3,10 +3,10 @@ use Rattle.std.specs.Prelude.{ℕ, ◌++◌, Option, None, Some, Result, Ok, Err
 use Rattle.serde_json.specs.Data.{Data}
 use Rattle.serde_json.specs.Written.{compact_text}
 use Rattle.lrs_machine.specs.Lines.{Text}
-use Rattle.lrs_answers.specs.declared.fault.AskFault.{AskFault}
-use Rattle.lrs_answers.specs.declared.cause.AskCause.{AskCause}
-use Rattle.lrs_answers.specs.declared.cause.AskCause.TheVariants as cause
-use Rattle.lrs_answers.specs.Causes.{cause_of, cause_text}
+use Rattle.lrs_report_answers.specs.declared.fault.AskFault.{AskFault}
+use Rattle.lrs_report_answers.specs.declared.cause.AskCause.{AskCause}
+use Rattle.lrs_report_answers.specs.declared.cause.AskCause.TheVariants as cause
+use Rattle.lrs_report_answers.specs.Causes.{cause_of, cause_text}
 use Rattle.lrs_web_requests.specs.declared.response.ContentType.{ContentType}
 use Rattle.lrs_web_requests.specs.declared.response.ContentType.TheVariants.{Json, Svg}
 use Rattle.lrs_web_requests.specs.Text.{Answer, empty_answer}

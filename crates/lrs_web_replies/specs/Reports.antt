@@ -17,14 +17,14 @@ use Rattle.lrs_events.specs.Names.{kind_text, side_text}
 use Rattle.lrs_machine.specs.declared.image.Image.{Image}
 use Rattle.lrs_machine.specs.declared.image.RouteRow.{RouteRow}
 use Rattle.lrs_machine.specs.Lines.{Text, method_text}
-use Rattle.lrs_lists.specs.declared.wanted.RowsWanted.{RowsWanted}
-use Rattle.lrs_lists.specs.Lines.{asset_numbered, link_side_text, reason_text}
-use Rattle.lrs_lists.specs.Measures.{measure_text}
-use Rattle.lrs_lists.specs.Wanted.{is_of_edit, is_of_route, is_wanted}
-use Rattle.lrs_lengths.specs.declared.table.ValueLength.{ValueLength}
-use Rattle.lrs_whereabouts.specs.declared.answer.Whereabouts.{Whereabouts}
+use Rattle.lrs_report_lists.specs.declared.wanted.RowsWanted.{RowsWanted}
+use Rattle.lrs_report_lists.specs.Lines.{asset_numbered, link_side_text, reason_text}
+use Rattle.lrs_report_lists.specs.Measures.{measure_text}
+use Rattle.lrs_report_lists.specs.WantedRows.{is_of_edit, is_of_route, is_wanted}
+use Rattle.lrs_report_lists.specs.declared.length_lists.table.ValueLength.{ValueLength}
+use Rattle.lrs_report_answers.specs.declared.places.answer.Whereabouts.{Whereabouts}
 use Rattle.lrs_web_replies.specs.Answers.{direction_text, hit_data}
-use Rattle.lrs_web_replies.specs.Shown.{each, list, whole, with}
+use Rattle.lrs_web_replies.specs.JsonParts.{each, list, whole, with}
 
 -- a list under its name
 abbrev pub named_list : Text → List Data → Data

@@ -12,14 +12,13 @@ ghost use Rattle.lrs_machine.specs.Lines.{method_text};
 use crate::list::Shown;
 use crate::list_text::{add_name, add_segment_list, add_text, add_value, begin};
 use crate::members::{Member, Scalar, members_of, object_of, scalar_value, with_list};
-use lrs_answers::{FoundRow, RouteLength, RouteSegments};
 use lrs_element::Ground;
 use lrs_events::Side;
-use lrs_lengths::ValueLength;
 use lrs_machine::{Hit, Total};
 use lrs_measure::Frac;
 use lrs_position::{Expr, Route, RouteName};
-use lrs_whereabouts::Whereabouts;
+use lrs_report_answers::{FoundRow, RouteLength, RouteSegments, Whereabouts};
+use lrs_report_lists::ValueLength;
 use serde_json::{Map, Value, json};
 use std::alloc::{AllocError, Global};
 

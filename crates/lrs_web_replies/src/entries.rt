@@ -4,19 +4,18 @@ ghost use Rattle.std.specs.Prelude.{◌≡◌, IfOk};
 ghost use Rattle.std.specs.Option.{option_map};
 ghost use Rattle.serde_json.specs.Data.{string};
 ghost use Rattle.serde_json.specs.View.{view};
-ghost use Rattle.lrs_lists.specs.Measures.{measure_text};
+ghost use Rattle.lrs_report_lists.specs.Measures.{measure_text};
 ghost use Rattle.lrs_web_replies.specs.Members.{scalar_data};
 ghost use Rattle.lrs_web_replies.specs.Reports.{gone_data_with, ref_data, row_data_with, said_of};
-ghost use Rattle.lrs_web_replies.specs.Shown.{whole};
+ghost use Rattle.lrs_web_replies.specs.JsonParts.{whole};
 
 use crate::answers::method_of;
 use crate::list::Shown;
 use crate::members::{Member, Scalar, object_of};
 use lrs_element::Link;
 use lrs_events::{Asset, Class, Gone, Span};
-use lrs_lengths::ValueLength;
-use lrs_lists::{link_side_text, measure_on, reason_text};
 use lrs_position::{Expr, Referent, Route};
+use lrs_report_lists::{ValueLength, link_side_text, measure_on, reason_text};
 use serde_json::Value;
 use std::alloc::{AllocError, Global};
 

@@ -2,7 +2,7 @@
 
 ghost use Rattle.std.specs.Prelude.{◌≡◌, ◌++◌, ◌∷◌, [], IfOk, OnOk, map};
 ghost use Rattle.serde_json.specs.View.{view};
-ghost use Rattle.lrs_web_replies.specs.Shown.{each};
+ghost use Rattle.lrs_web_replies.specs.JsonParts.{each};
 
 use serde_json::Value;
 use std::alloc::{AllocError, Global};

@@ -8,12 +8,12 @@ ghost use Rattle.serde_json.specs.Written.{compact_text, has_float};
 ghost use Rattle.lrs_machine.specs.Lines.{Text};
 ghost use Rattle.lrs_web_replies.specs.Answers.{segment_data};
 ghost use Rattle.lrs_web_replies.specs.Parts.{front_text, item_text, name_text, opened_text};
-ghost use Rattle.lrs_web_replies.specs.Shown.{each, list as list_data};
+ghost use Rattle.lrs_web_replies.specs.JsonParts.{each, list as list_data};
 
 use crate::answers::bytes_of;
 use crate::list::Shown;
-use lrs_answers::RouteSegments;
 use lrs_ordered::Chunked;
+use lrs_report_answers::RouteSegments;
 use serde_json::Value;
 use std::alloc::{AllocError, Global};
 

@@ -5,7 +5,7 @@ ghost use Rattle.serde_json.specs.Data.{no_members, object, put as put_data, str
 ghost use Rattle.serde_json.specs.View.{members_view, view};
 ghost use Rattle.lrs_web_replies.specs.Members.{scalar_data, with_member};
 ghost use Rattle.lrs_web_replies.specs.declared.members.Scalar.TheVariants as scalar;
-ghost use Rattle.lrs_web_replies.specs.Shown.{each};
+ghost use Rattle.lrs_web_replies.specs.JsonParts.{each};
 
 use crate::answers::name_of;
 use crate::list::{Shown, list_value};

@@ -6,11 +6,11 @@ ghost use Rattle.lrs_web_replies.specs.Members.{scalar_data};
 
 use crate::list::{Shown, list_value};
 use crate::members::{Member, Scalar, members_of, object_of, scalar_value, with_list};
-use lrs_answers::{FoundRow, RouteLength};
 use lrs_element::{Mark, Piece};
 use lrs_events::Value as AssetValue;
 use lrs_machine::{Hit, Segment, Total, piece_text};
 use lrs_position::Referent;
+use lrs_report_answers::{FoundRow, RouteLength};
 use serde_json::Value;
 use std::alloc::{AllocError, Global};
 
@@ -35,7 +35,7 @@ impl Shown for Hit {
 }
 
 impl Shown for u64 {
-    ghost use Rattle.lrs_web_replies.specs.Shown.{whole};
+    ghost use Rattle.lrs_web_replies.specs.JsonParts.{whole};
 
     ghost shown = { whole };
 

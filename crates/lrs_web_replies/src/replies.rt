@@ -1,10 +1,10 @@
 //! Replies to questions.
 
 ghost use Rattle.std.specs.Prelude.{◌≡◌, IfOk};
-ghost use Rattle.lrs_answers.specs.declared.told.Told.TheVariants as told;
-ghost use Rattle.lrs_diagram.specs.Drawing.{diagram_text};
+ghost use Rattle.lrs_report_answers.specs.declared.told.Told.TheVariants as told;
+ghost use Rattle.lrs_report.specs.Drawings.Pictures.{diagram_text};
 ghost use Rattle.lrs_web_requests.specs.Text.{answer_of};
-ghost use Rattle.lrs_web_replies.specs.Answered.{IsReplyTo, ShowsTold};
+ghost use Rattle.lrs_web_replies.specs.QuestionAnswers.{IsReplyTo, ShowsTold};
 ghost use Rattle.lrs_web_replies.specs.Answers.{segments_data};
 ghost use Rattle.lrs_web_replies.specs.Replies.{json_answer, json_bytes};
 
@@ -14,11 +14,11 @@ use crate::answers::{
 };
 use crate::reply::{json_reply, refusal, svg_reply};
 use http::StatusCode;
-use lrs_answers::{AskFault, AtAnswer, RouteSegments, Told};
-use lrs_diagram::{Diagram, write_diagram};
 use lrs_events::Side;
 use lrs_measure::Frac;
 use lrs_position::{Expr, RouteName};
+use lrs_report::{Diagram, write_diagram};
+use lrs_report_answers::{AskFault, AtAnswer, RouteSegments, Told};
 use lrs_web_requests::Response;
 use std::alloc::{AllocError, Global};
 

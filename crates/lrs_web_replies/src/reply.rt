@@ -7,7 +7,7 @@ ghost use Rattle.lrs_web_replies.specs.Replies as spec;
 use crate::answers::error_json;
 use crate::{Parameter, QueryFault};
 use http::StatusCode;
-use lrs_answers::{AskCause, AskFault, cause_of};
+use lrs_report_answers::{AskCause, AskFault, cause_of};
 use lrs_web_requests::{Content, ContentType, Response};
 use std::alloc::{AllocError, Global};
 

@@ -9,10 +9,10 @@ use crate::parameters::{
     link_in, millimetre_in, route_in, route_or_all_in, to_in,
 };
 use crate::question::QueryFault;
-use lrs_lists::RowsWanted;
+use lrs_machine::Spot;
 use lrs_position::RouteName;
+use lrs_report_lists::RowsWanted;
 use lrs_web_requests::Resource;
-use lrs_whereabouts::Spot;
 use std::alloc::Global;
 
 /// What is reported.

@@ -6,18 +6,19 @@ ghost use Rattle.std.specs.Option.{option_map, option_map_or};
 ghost use Rattle.serde_json.specs.View.{view};
 ghost use Rattle.serde_json.specs.Written.{compact_text};
 ghost use Rattle.lrs_measure.specs.Lists.{each_two};
+ghost use Rattle.lrs_machine.specs.Absence.{missing_text};
 ghost use Rattle.lrs_machine.specs.Sound.{IsSound, asset_before, route_before};
-ghost use Rattle.lrs_image.specs.Kept.{image_of};
-ghost use Rattle.lrs_lists.specs.Wanted.{is_of_route};
+ghost use Rattle.lrs_image.specs.OpenLists.{image_of};
+ghost use Rattle.lrs_report_lists.specs.WantedRows.{is_of_route};
 ghost use Rattle.lrs_web_requests.specs.Text.{answer_of};
 ghost use Rattle.lrs_web_replies.specs.Parts.{gone_part, item_text, ref_part, refs_part, row_part, rows_part};
 ghost use Rattle.lrs_web_replies.specs.Replies.{error_answer, json_answer, json_bytes};
-ghost use Rattle.lrs_web_replies.specs.Reported as spec;
-ghost use Rattle.lrs_web_replies.specs.Reported.{AnswersReport, ShowsReport, is_listed};
+ghost use Rattle.lrs_web_replies.specs.ReportAnswers as spec;
+ghost use Rattle.lrs_web_replies.specs.ReportAnswers.{AnswersReport, ShowsReport, is_listed};
 ghost use Rattle.lrs_web_replies.specs.Reports.{all_gone_data, classes_data, gone_data, health_data, links_data, refs_data, row_data, rows_data, whereabouts_data};
 ghost use Rattle.lrs_web_replies.specs.declared.report.Report.TheVariants as report;
 
-use crate::absence::{Missing, cause_without, missing_for, missing_of, status_without};
+use crate::absence::{missing_of, status_without};
 use crate::answers::{bytes_of, lengths_json, whereabouts_json};
 use crate::entries::{gone_value, ref_value, row_value};
 use crate::list_text::{add_each, add_item, begin, end};
@@ -28,13 +29,12 @@ use http::StatusCode;
 use lrs_events::{Asset, Gone, Span};
 use lrs_image::KeptImage;
 use lrs_inventory::Inventory;
-use lrs_lengths::lengths;
-use lrs_lists::{RowsWanted, asset_numbered, is_of_edit, is_wanted};
-use lrs_machine::RouteRow;
+use lrs_machine::{Missing, RouteRow, Spot, missing_text};
 use lrs_ordered::Chunked;
 use lrs_position::{Referent, Route, RouteName};
+use lrs_report_answers::{Whereabouts, missing_for, whereabouts};
+use lrs_report_lists::{RowsWanted, asset_numbered, is_of_edit, is_wanted, lengths};
 use lrs_web_requests::Response;
-use lrs_whereabouts::{Spot, Whereabouts, whereabouts};
 use serde_json::Value;
 use std::alloc::{AllocError, Global};
 
@@ -374,9 +374,9 @@ fn shown_reply(alloc: Global, kept: &KeptImage, report: &Report) -> Result<Respo
 /// The reply that names what is not there.
 fn missing_reply(alloc: Global, missing: Missing) -> Result<Response, AllocError>
     ensures { IfOk result (λ reply. answer_of reply
-        ≡ error_answer (spec.status_without missing) (spec.cause_without missing)) }
+        ≡ error_answer (spec.status_without missing) (missing_text missing)) }
 {
-    error_reply(alloc, status_without(missing), cause_without(missing))
+    error_reply(alloc, status_without(missing), missing_text(missing))
 }
 
 /// The reply with a report, but one of a place, or with the first of the things that are not there.

@@ -4,7 +4,7 @@ use Rattle.std.proofs.lemmas.List.{take-take, drop-append-le, take-append-drop, 
 use Rattle.std.proofs.Math.Seq.{take-add, take-append_seam}
 use Rattle.std.proofs.Math.ListN.{drop_of_length-le}
 use Rattle.std.specs.Io.KnownBytes.{Consumes}
-use Rattle.lrs_web_requests.specs.Reading.{ReadsOn}
+use Rattle.lrs_web_requests.specs.HeadReadings.{ReadsOn}
 use Rattle.lrs_web_requests.specs.Body.{FilledTo, Fills, body_at}
 
 Consumes-then : (u v w : Option (List ℕ)) (a b : List ℕ) → Consumes u v a → Consumes v w b → Consumes u w (a ++ b)

@@ -8,7 +8,7 @@ use Rattle.httparse.specs.Grammar.{HasNoRequest, RequestHead, print_request}
 use Rattle.httparse.specs.Spans.{RequestExceeds}
 use Rattle.lrs_web_requests.specs.declared.head.Outcome.{Outcome}
 use Rattle.lrs_web_requests.specs.declared.head.Outcome.TheVariants.{Complete, TooLarge, Unreadable}
-use Rattle.lrs_web_requests.specs.Reading.{Finds, IsParsed, Settles, ReadsOn}
+use Rattle.lrs_web_requests.specs.HeadReadings.{Finds, IsParsed, Settles, ReadsOn}
 
 print_request_nonempty : (h : RequestHead) → 0 + 1 ≤ length (print_request h)
 unfolding print_request

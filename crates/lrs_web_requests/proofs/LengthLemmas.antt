@@ -3,7 +3,7 @@ use Rattle.std.proofs.Common.{◌≡◌, ℕ, ◌+◌, ◌*◌, ◌<◌, ◌≤�
 use Rattle.std.specs.List.{list_all}
 use Rattle.std.specs.Char.{is_ascii_digit, digit_value}
 use Rattle.std.specs.Str.Parse.{digits_value, digits_value_after}
-use Rattle.lrs_web_requests.specs.Framing.{is_number, stated_length, most, one_length, is_empty}
+use Rattle.lrs_web_requests.specs.BodyLengths.{is_number, stated_length, most, one_length, is_empty}
 use Rattle.lrs_web_requests.specs.Values.{cap, capped_from, Summary, nothing, several, with_values, length_by, is_nothing}
 
 next_capped : (a b d : ℕ) → min a cap ≡ min b cap → min (a * 10 + d) cap ≡ min (b * 10 + d) cap

@@ -1,6 +1,6 @@
-pub mod Reading
+pub mod HeadReadings
 pub mod Body
-pub mod Framing
+pub mod BodyLengths
 pub mod Values
 pub mod Routes
 pub mod Paths

@@ -3,9 +3,9 @@ use Rattle.std.specs.Prelude.{◌≡◌, ⊤, ℕ, ◌≤◌, ◌⊎◌, Bool, t
 use Rattle.std.specs.List.{before_first, after_first}
 use Rattle.httparse.specs.Grammar.{RequestHead, ReadsRequest, print_request}
 use Rattle.httparse.specs.Spans.{name_and_value}
-use Rattle.lrs_web_requests.specs.Reading.{IsTooLarge, IsUnreadable}
+use Rattle.lrs_web_requests.specs.HeadReadings.{IsTooLarge, IsUnreadable}
 use Rattle.lrs_web_requests.specs.Body.{body_at}
-use Rattle.lrs_web_requests.specs.Framing.{Field, body_length}
+use Rattle.lrs_web_requests.specs.BodyLengths.{Field, body_length}
 use Rattle.lrs_web_requests.specs.Query.{parameter}
 use Rattle.lrs_web_requests.specs.declared.response.Verb.{Verb}
 use Rattle.lrs_web_requests.specs.declared.response.Verb.TheVariants.{Get, Post}

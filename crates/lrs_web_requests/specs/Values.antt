@@ -1,7 +1,7 @@
 -- What is kept of the values of one field name: none, one, or that there are several.
 use Rattle.std.specs.Prelude.{ℕ, ◌+◌, ◌*◌, List, [], ◌∷◌, Bool, true, false, Result, Err, Option, None, Some, min, if◌then◌else◌}
 use Rattle.std.specs.Char.{is_ascii_digit, digit_value}
-use Rattle.lrs_web_requests.specs.Framing.{stated_length}
+use Rattle.lrs_web_requests.specs.BodyLengths.{stated_length}
 use Rattle.lrs_web_requests.specs.declared.framing.Values.{Values}
 use Rattle.lrs_web_requests.specs.declared.framing.Values.TheVariants as values
 

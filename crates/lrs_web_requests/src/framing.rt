@@ -2,7 +2,7 @@
 
 ghost use Rattle.std.specs.Prelude.{◌≡◌, ◌≤◌, length, map, All};
 ghost use Rattle.httparse.specs.Spans.{header_bytes, IsHeaderWithin};
-ghost use Rattle.lrs_web_requests.specs.Framing.{is_named, values_named, stated_length, body_length};
+ghost use Rattle.lrs_web_requests.specs.BodyLengths.{is_named, values_named, stated_length, body_length};
 ghost use Rattle.lrs_web_requests.specs.Values.{summary_of, with_value, with_values, nothing, capped_from};
 
 use http::StatusCode;

@@ -3,7 +3,7 @@
 ghost use Rattle.std.specs.Prelude.{ℕ, ◌≡◌, ◌≤◌, ◌<◌, length, take, IfOk, IfSome, IfNone};
 ghost use Rattle.std.specs.Io.KnownBytes.{Consumes};
 ghost use Rattle.httparse.specs.Grammar.{HasNoRequest};
-ghost use Rattle.lrs_web_requests.specs.Reading.{Finds, IsParsed, Settles, ReadsOn};
+ghost use Rattle.lrs_web_requests.specs.HeadReadings.{Finds, IsParsed, Settles, ReadsOn};
 
 use httparse::spans::{HeaderSpan, RequestSpans, parse_request};
 use httparse::{Error, Status};

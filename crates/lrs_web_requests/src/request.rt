@@ -4,7 +4,7 @@ ghost use Rattle.std.specs.Prelude.{ℕ, List, ◌≡◌, ◌≤◌, ◌++◌, l
 ghost use Rattle.httparse.specs.Grammar.{RequestHead};
 ghost use Rattle.httparse.specs.Spans.{header_bytes, IsHeaderWithin, IsRequestOf, IsRequestWithin};
 ghost use Rattle.lrs_web_requests.specs.Routes.{rows};
-ghost use Rattle.lrs_web_requests.specs.Framing.{body_length};
+ghost use Rattle.lrs_web_requests.specs.BodyLengths.{body_length};
 ghost use Rattle.lrs_web_requests.specs.declared.response.Verb.TheVariants.{Post};
 ghost use Rattle.lrs_web_requests.specs.Request.{asked_by, asked_at, Asks, AsksByHead, most_head, most_fields, path_of, query_of, argument_of, name_in, resumes, verb_of, with_length, by_verb, IsServed};
 

@@ -31,7 +31,7 @@ pub(crate) enum Behind {
     End,
     /// Nothing came in time.
     Late,
-    /// The connection has failed, or memory for more is wanting.
+    /// The connection has failed, or memory for more is missing.
     Failure,
 }
 

@@ -13,7 +13,7 @@ use std::io::{ErrorKind, Read, Write};
 use std::net::TcpStream;
 use std::time::{Duration, Instant};
 
-// Where memory for a reply is wanting, its client is waited for so long, and others wait.
+// Where memory for a reply is missing, its client is waited for so long, and others wait.
 const TAKING_MILLIS: u64 = 4_000;
 
 /// The request of a connection, which has come, so that it is read from memory.

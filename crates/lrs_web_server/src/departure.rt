@@ -16,7 +16,7 @@ const ENDING_MILLIS: u64 = 1_000;
 // So often it is written to in a row before others have their turn.
 const MOST_WRITES: u32 = 64;
 
-// What a client sent beyond its request is read in at most this many pieces, and let go.
+// What a client sent beyond its request is read in at most this many pieces, and dropped.
 const MOST_PIECES: u32 = 1_024;
 
 const PIECE: usize = 4_096;
@@ -26,7 +26,7 @@ const PIECE: usize = 4_096;
 pub(crate) enum Stage {
     /// Some of it is still kept.
     Sending,
-    /// It has been sent. What the client still sends is read and let go.
+    /// It has been sent. What the client still sends is read and dropped.
     Ending,
     Over,
 }
@@ -92,7 +92,7 @@ fn send(stream: &mut TcpStream, rest: &[u8], sent: &mut usize) -> Turn {
     Turn::Goes
 }
 
-// Reads what still comes, and lets it go. A stream that is closed with bytes unread may take the reply back from a client
+// Reads what still comes, and drops it. A stream that is closed with bytes unread may take the reply back from a client
 // that has not read it yet.
 fn linger(stream: &mut TcpStream, pieces: &mut u32) -> Turn {
     let mut piece = [0u8; PIECE];

@@ -30,7 +30,7 @@ const MOST_ACCEPTED: u32 = 64;
 
 const MOST_LOST: u32 = 1_000;
 
-// Where descriptors or memory are wanting, it pauses so long, and for a minute in all.
+// Where descriptors or memory are missing, it pauses so long, and for a minute in all.
 const PAUSE_MILLIS: u64 = 50;
 
 const GIVING_UP_MILLIS: u64 = 60_000;
@@ -86,7 +86,7 @@ fn is_lost(kind: ErrorKind) -> bool {
     )
 }
 
-// Whether descriptors or memory are wanting, which others may give back.
+// Whether descriptors or memory are missing, which others may give back.
 fn is_wanting(error: &io::Error) -> bool {
     matches!(
         error.raw_os_error(),
@@ -291,7 +291,7 @@ impl<'a> Hall<'a> {
         }
     }
 
-    // Descriptors or memory are wanting: it is tried again later, for a minute.
+    // Descriptors or memory are missing: it is tried again later, for a minute.
     fn rest(&mut self, now: Instant) -> io::Result<()> {
         let end = match self.pause {
             Some(pause) => pause.end,

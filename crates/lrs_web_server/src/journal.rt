@@ -80,7 +80,7 @@ fn split_word(line: &[u8]) -> (&[u8], &[u8]) {
 }
 
 impl Entry {
-    /// Of a request that has just become whole; nothing where memory is wanting.
+    /// Of a request that has just become whole; nothing where memory is missing.
     pub(crate) fn new(alloc: Global, request: &[u8], since: Instant) -> Option<Entry> {
         match Vec::from_slice(alloc, first_line(request)) {
             Ok(asked) => Some(Entry {

@@ -53,7 +53,7 @@ pub(crate) enum Finding {
     InBody(usize),
 }
 
-/// What the reader of requests makes of these bytes. Where memory is wanting it asks for nothing more: the reply is to
+/// What the reader of requests makes of these bytes. Where memory is missing it asks for nothing more: the reply is to
 /// say so.
 pub(crate) fn judged(alloc: Global, bytes: &[u8]) -> Finding {
     let mut front = Front {

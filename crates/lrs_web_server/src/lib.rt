@@ -13,4 +13,5 @@ mod service;
 
 pub use connection::{ReplyWriter, RequestReader};
 pub use listener::Listening;
+pub use lrs_web::Served;
 pub use service::{Manner, ServiceFault, serve};

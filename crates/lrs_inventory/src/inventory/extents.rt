@@ -3,7 +3,7 @@
 ghost use Rattle.std.specs.Prelude.{◌≡◌, ◌<◌, ◌≤◌, length, IfOk};
 ghost use Rattle.lrs_inventory.specs.Prelude.{alignment_of, places_on, state_of, extent_of, part_of};
 ghost use Rattle.lrs_measure.specs.Fraction.{IsLowest};
-ghost use Rattle.lrs_position.specs.Translating.{IsOnRoute};
+ghost use Rattle.lrs_position.specs.Translations.{IsOnRoute};
 ghost use Rattle.lrs_machine.specs.Machine.{first_holder, is_empty_extent};
 ghost use Rattle.lrs_inventory.specs.Extents.{cause_of, IsRouteIn, LocatesAs, located_cell, located_end, EndsBy};
 ghost use Rattle.lrs_inventory.specs.Plans.{Answers};

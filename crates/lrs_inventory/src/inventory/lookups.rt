@@ -6,7 +6,7 @@ ghost use Rattle.std.specs.Option.{option_map};
 ghost use Rattle.lrs_inventory.specs.Prelude.{state_of, asset_entry, route_entry, is_named, Name, expand};
 ghost use Rattle.lrs_machine.specs.Machine.{place_of_key, line_at, is_taken};
 ghost use Rattle.lrs_machine.specs.Register.{get};
-ghost use Rattle.lrs_position_index.specs.Met.{IsAmong, RunsBetween};
+ghost use Rattle.lrs_position.specs.Index.MetRoutes.{IsAmong, RunsBetween};
 ghost use Rattle.lrs_inventory.specs.Changes.{route_on};
 ghost use Rattle.lrs_inventory.specs.NewCourses.{new_course};
 ghost use Rattle.lrs_inventory.specs.Plans.{Answers};

@@ -19,7 +19,7 @@ use std::alloc::{AllocError, Global};
 /// What a close of a route would change of an inventory.
 ///
 /// # Errors
-/// The first check of the verb that fails, or want of memory.
+/// The first check of the verb that fails, or lack of memory.
 pub fn plan_close(alloc: Global, inventory: &Inventory, route: RouteName) -> Result<Plan, Stop>
     ensures { Plans (verb.Close route) inventory.now result }
 {

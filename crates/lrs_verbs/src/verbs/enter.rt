@@ -7,15 +7,14 @@ ghost use Rattle.lrs_machine.specs.Segments.{is_exclusive};
 ghost use Rattle.lrs_machine.specs.declared.answer.Cause.TheVariants as cause;
 ghost use Rattle.lrs_machine.specs.declared.command.Command.TheVariants as verb;
 ghost use Rattle.lrs_machine.specs.Machine.{first_holder};
-ghost use Rattle.lrs_verbs.specs.Entering.{asset_of, row_of, with_row, AreInLimits, AreEntered, IsEntering};
+ghost use Rattle.lrs_verbs.specs.Entries.{asset_of, row_of, with_row, AreInLimits, AreEntered, IsEntering};
 ghost use Rattle.lrs_inventory.specs.Extents.{IsRouteIn, EndsBy};
 ghost use Rattle.lrs_inventory.specs.Plans.{Answers, Plans, plan_of};
-ghost use Rattle.lrs_verbs.specs.Wanted.{IsWanted};
+ghost use Rattle.lrs_verbs.specs.EntryRequests.{IsWanted};
 
 use crate::verbs::location::wanted_of;
 use lrs_element::Course;
-use lrs_events::{Asset, Gone, Kind, Part, Span};
-use lrs_events_parts::parts;
+use lrs_events::{Asset, Gone, Kind, Part, Span, parts};
 use lrs_image::{Difference, ReferentChange, RouteChange, RouteKeys};
 use lrs_inventory::{Inventory, Plan, ReferentPlaces, RouteStretch, Stop};
 use lrs_machine::{Cause, NewAsset, RouteRow};

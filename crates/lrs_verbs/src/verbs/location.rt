@@ -2,8 +2,8 @@
 
 ghost use Rattle.std.specs.Prelude.{IfErr, ◌≡◌, ◌||◌, IfOk};
 ghost use Rattle.lrs_machine.specs.Machine.{is_wrong_kind};
-ghost use Rattle.lrs_verbs.specs.Entering.{HasBegun};
-ghost use Rattle.lrs_verbs.specs.Wanted.{is_left_out, IsWanted, IsRefused};
+ghost use Rattle.lrs_verbs.specs.Entries.{HasBegun};
+ghost use Rattle.lrs_verbs.specs.EntryRequests.{is_left_out, IsWanted, IsRefused};
 
 use lrs_events::Kind;
 use lrs_inventory::{Inventory, RouteStretch, Stop, refuse_if};

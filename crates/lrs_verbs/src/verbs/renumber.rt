@@ -18,7 +18,7 @@ use std::alloc::Global;
 /// What another name of a route would change of an inventory.
 ///
 /// # Errors
-/// The first check of the verb that fails, or want of memory.
+/// The first check of the verb that fails, or lack of memory.
 pub fn plan_renumber(
     alloc: Global,
     inventory: &Inventory,

@@ -5,12 +5,12 @@ ghost use Rattle.lrs_inventory.specs.Prelude.{each_two, differs, are_rows, IsRem
 ghost use Rattle.lrs_measure.specs.Lists.{is_nothing};
 ghost use Rattle.lrs_machine.specs.declared.command.Command.TheVariants as verb;
 ghost use Rattle.lrs_inventory.specs.Plans.{Plans};
-ghost use Rattle.lrs_verbs.specs.Taking.{of_asset_within, HasAsset, IsTaking};
+ghost use Rattle.lrs_verbs.specs.Removals.{of_asset_within, HasAsset, IsTaking};
 
 use crate::verbs::enter::asset_plan;
 use crate::verbs::location::is_wrong_kind;
+use lrs_events::rows::removals::Removal;
 use lrs_events::{Asset, Kind, Span};
-use lrs_events_rows::removals::Removal;
 use lrs_image::ReferentChange;
 use lrs_image_laws::taken_away;
 use lrs_inventory::checks::route_named;

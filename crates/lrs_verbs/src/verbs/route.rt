@@ -7,7 +7,7 @@ ghost use Rattle.lrs_inventory.specs.NewRoutes.{IsEntryOf, route_plan};
 ghost use Rattle.lrs_inventory.specs.Plans.{Plans};
 
 use lrs_element::{Course, Mark, Marks, Piece};
-use lrs_events_spans::Spans;
+use lrs_events::Spans;
 use lrs_inventory::checks::{check_free, new_marks};
 use lrs_inventory::route_changes::pieces_of;
 use lrs_inventory::{GroundChange, Inventory, Plan, Stop, refuse_if};

@@ -2,17 +2,16 @@
 
 ghost use Rattle.std.specs.Prelude.{◌≡◌, ◌≤◌, IsTrue, IfOk, map, length};
 ghost use Rattle.lrs_inventory.specs.Prelude.{end_by, longest_route, IsPlan};
-ghost use Rattle.lrs_events_rows.specs.Turns.{IsTurned};
+ghost use Rattle.lrs_events.specs.Row.Turns.{IsTurned};
 ghost use Rattle.lrs_events.specs.Changes.{changed_rows};
 ghost use Rattle.lrs_machine.specs.declared.command.Command.TheVariants as verb;
-ghost use Rattle.lrs_image_laws.specs.Turning.{from_end};
+ghost use Rattle.lrs_image_laws.specs.Turns.{from_end};
 ghost use Rattle.lrs_verbs.specs.Turns.{IsTurnedBy};
 ghost use Rattle.lrs_inventory.specs.Plans.{Plans};
 
-use lrs_events::SpanChange;
-use lrs_events_rows::change::difference;
-use lrs_events_rows::turns::turned;
-use lrs_events_spans::Spans;
+use lrs_events::rows::change::difference;
+use lrs_events::rows::turns::turned;
+use lrs_events::{SpanChange, Spans};
 use lrs_image::{ReferentChange, RouteChange};
 use lrs_inventory::checks::route_named;
 use lrs_inventory::route_changes::{changed, names_of, rerouted};
@@ -25,7 +24,7 @@ use std::alloc::{AllocError, Global};
 /// What a turn of a route would change of an inventory.
 ///
 /// # Errors
-/// The first check of the verb that fails, or want of memory.
+/// The first check of the verb that fails, or lack of memory.
 pub fn plan_turn(alloc: Global, inventory: &Inventory, route: RouteName) -> Result<Plan, Stop>
     ensures { Plans (verb.Turn route) inventory.now result }
 {

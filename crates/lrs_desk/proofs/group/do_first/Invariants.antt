@@ -1,7 +1,7 @@
 use Rattle.std.proofs.Common.{◌≡◌, take, Result}
 use Rattle.lrs_machine.specs.declared.image.Image.{Image}
 use Rattle.lrs_machine.specs.declared.table.Table.{Table}
-use Rattle.lrs_answers_totals.specs.Running.{IsCounted}
+use Rattle.lrs_report_answers.specs.Tally.RunningCounts.{IsCounted}
 use Rattle.lrs_desk.specs.Desk.{records_of}
 use Rattle.lrs_desk.specs.Group.{GoesOn}
 use Rattle.lrs_desk.proofs.group.do_first.Given as goal

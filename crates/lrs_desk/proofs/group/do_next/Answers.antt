@@ -5,8 +5,8 @@ use Rattle.lrs_machine.specs.Machine.{Outcome}
 use Rattle.lrs_machine.specs.Sound.{IsSound}
 use Rattle.lrs_image.specs.Change.{apply, CanMake}
 use Rattle.lrs_inventory.specs.Plans.{change_of}
-use Rattle.lrs_machine_stops.specs.Stopped.{IsAccepted}
-use Rattle.lrs_desk.specs.Decide.{IsDecision}
+use Rattle.lrs_machine.specs.Stop.StoppedRuns.{IsAccepted}
+use Rattle.lrs_desk.specs.Decisions.{IsDecision}
 use Rattle.lrs_desk.proofs.group.do_next.Goals as goal
 
 pub returns-in_ok-answer-in-Make : goal.returns-in_ok-answer-in-Make

@@ -2,7 +2,7 @@ use Rattle.std.proofs.Common.{ap, ◌∙◌}
 use Rattle.lrs_measure.specs.Lists.{each_two}
 use Rattle.lrs_machine.specs.declared.image.Image.{Image}
 use Rattle.lrs_machine.specs.Sound.{route_before}
-use Rattle.lrs_image.specs.Kept.{image_of}
+use Rattle.lrs_image.specs.OpenLists.{image_of}
 use Rattle.lrs_image.proofs.Tables.{routes_in_order}
 use Rattle.lrs_image.proofs.commit.stage_prepared.Goals as goal
 

@@ -2,7 +2,7 @@ use Rattle.std.proofs.Common.{◌≡◌, List, [], ◌∷◌, length, refl, sym,
 use Rattle.std.specs.Prelude.{◌&&◌, nat_lt}
 use Rattle.std.proofs.lemmas.Bool.{and_parts}
 use Rattle.std.specs.List.{list_all, list_any}
-use Rattle.lrs_measure.specs.Ordered.{insert_all}
+use Rattle.lrs_measure.specs.OrderedLists.{insert_all}
 use Rattle.lrs_measure.specs.Texts.{same_name}
 use Rattle.lrs_position.specs.declared.route.Referent.{Referent}
 use Rattle.lrs_measure.specs.Lists.{each_two}

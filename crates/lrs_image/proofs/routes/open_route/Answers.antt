@@ -1,6 +1,6 @@
 use Rattle.std.proofs.Common.{Some, ap, sym, subst, ◌∙◌}
 use Rattle.lrs_measure.specs.Lists.{each_two}
-use Rattle.lrs_measure.specs.Ordered.{insert_by, insert_some}
+use Rattle.lrs_measure.specs.OrderedLists.{insert_by, insert_some}
 use Rattle.lrs_ordered.proofs.Keys.{finds_name, other_names}
 use Rattle.lrs_machine.specs.declared.image.RouteRow.{RouteRow}
 use Rattle.lrs_machine.specs.Sound.{route_before}

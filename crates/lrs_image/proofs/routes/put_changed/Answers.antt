@@ -1,7 +1,7 @@
 use Rattle.std.proofs.Common.{ap, sym, subst, ◌∙◌}
 use Rattle.std.specs.Option.{option_map}
 use Rattle.lrs_image.specs.Change.{CanBecome, CanChangeRoute}
-use Rattle.lrs_image.specs.Kept.{row_of_open, routes_with, HasOpened}
+use Rattle.lrs_image.specs.OpenLists.{row_of_open, routes_with, HasOpened}
 use Rattle.lrs_image.proofs.Named.{same_some}
 use Rattle.lrs_image.proofs.routes.put_changed.Goals as goal
 

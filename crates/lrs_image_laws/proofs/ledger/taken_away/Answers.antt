@@ -2,7 +2,7 @@ use Rattle.std.proofs.Common.{map, sym, ap, subst, ◌∙◌}
 use Rattle.lrs_machine.specs.State.{Abandoned, Retired}
 use Rattle.std.specs.Prelude.{if◌then◌else◌}
 use Rattle.lrs_events.specs.Spans.{holds_by_spans}
-use Rattle.lrs_image_laws.specs.Gone.{AreGone}
+use Rattle.lrs_image_laws.specs.GoneRows.{AreGone}
 use Rattle.lrs_image_laws.proofs.GoneParts.{gone_of, are_gone}
 use Rattle.lrs_image_laws.proofs.ledger.taken_away.Goals as goal
 

@@ -2,7 +2,7 @@ use Rattle.std.proofs.Common.{◌≡◌, ◌++◌, filter, sym, subst}
 use Rattle.std.specs.List.{AllByRecursion}
 use Rattle.std.proofs.lemmas.List.Elements.{filter-append}
 use Rattle.std.proofs.lemmas.Slice.Eq.{slice_eq-Decides}
-use Rattle.lrs_image_sound.specs.Sweeping.{IsFilled}
+use Rattle.lrs_image_sound.specs.SweptParts.{IsFilled}
 use Rattle.lrs_image_sound.specs.Pairs.{is_in, AreHadAlike}
 use Rattle.lrs_image_sound.proofs.Ending.{alike_from_same, same_from_alike, end_eq}
 use Rattle.lrs_image_sound.proofs.Chunked.{alike_in, alike_of, filled_in}

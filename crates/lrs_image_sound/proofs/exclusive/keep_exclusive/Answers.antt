@@ -1,6 +1,6 @@
 use Rattle.std.proofs.Common.{sym, subst, ◌∙◌}
 use Rattle.std.specs.List.{AllByRecursion}
-use Rattle.lrs_image_sound.specs.Sweeping.{IsFilled}
+use Rattle.lrs_image_sound.specs.SweptParts.{IsFilled}
 use Rattle.lrs_image_sound.proofs.Excluding.{exclusive_same}
 use Rattle.lrs_image_sound.proofs.Rearranged.{same_filled, same_held}
 use Rattle.lrs_image_sound.proofs.exclusive.keep_exclusive.Goals as goal

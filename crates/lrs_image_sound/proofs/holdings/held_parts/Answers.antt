@@ -1,6 +1,6 @@
 use Rattle.std.proofs.Common.{ap, subst, ◌++◌, ◌∙◌, arith}
 use Rattle.std.proofs.lemmas.List.{take_all}
-use Rattle.lrs_image_sound.specs.Holding.{AreOfRoutes}
+use Rattle.lrs_image_sound.specs.HeldParts.{AreOfRoutes}
 use Rattle.lrs_image_sound.specs.Tables.{route_spans}
 use Rattle.lrs_image_sound.proofs.Rowed.{made_none, made_more}
 use Rattle.lrs_image_sound.proofs.holdings.held_parts.Goals as goal

@@ -1,6 +1,6 @@
 use Rattle.std.proofs.Common.{List, subst}
 use Rattle.lrs_events.specs.declared.span.Span.{Span}
-use Rattle.lrs_image_sound.specs.Holding.{AreOfRoute}
+use Rattle.lrs_image_sound.specs.HeldParts.{AreOfRoute}
 use Rattle.lrs_image_sound.proofs.Fitting.{ok_so, ok_both}
 use Rattle.lrs_image_sound.proofs.Rowed.{shown, filled_each}
 use Rattle.lrs_image_sound.proofs.holdings.route_parts.Goals as goal

@@ -2,7 +2,7 @@ use Rattle.std.proofs.Common.{true, sym, ap, subst, ◌≡◌, ◌++◌, ◌∙�
 use Rattle.std.specs.List.{AllByRecursion}
 use Rattle.lrs_machine.specs.Sound.{are_parts, are_balanced}
 use Rattle.lrs_image_sound.specs.Balance.{AreHeld, IsLedger}
-use Rattle.lrs_image_sound.specs.Sweeping.{IsFilled}
+use Rattle.lrs_image_sound.specs.SweptParts.{IsFilled}
 use Rattle.lrs_image_sound.specs.Tables.{route_spans}
 use Rattle.lrs_image_sound.proofs.Laid.{all-append}
 use Rattle.lrs_image_sound.proofs.Fitting.{ok_so}

@@ -1,6 +1,6 @@
 use Rattle.std.proofs.Common.{◌≡◌, arith, rules}
 use Rattle.std.proofs.lemmas.List.Sorted.{answers_always}
-use Rattle.lrs_image_sound.specs.Sweeping.{is_right}
+use Rattle.lrs_image_sound.specs.SweptParts.{is_right}
 use Rattle.lrs_image_sound.proofs.sweep.sort_by_line.Goals as goal
 
 pub returns-clause-sorted : goal.returns-clause-sorted

@@ -1,6 +1,6 @@
 use Rattle.std.proofs.Common.{◌≡◌, List, false, ap, subst, ◌∙◌}
 use Rattle.lrs_inventory.specs.Prelude.{Piece, course_of, meets}
-use Rattle.lrs_position_index.specs.Ground.{is_shared, HasGained, AreWhole}
+use Rattle.lrs_position.specs.Index.Ground.{is_shared, HasGained, AreWhole}
 use Rattle.lrs_inventory.proofs.Grounds.{come_free, ready}
 use Rattle.lrs_inventory.proofs.ground.cut_and_add_one.Goals as goal
 

@@ -1,6 +1,6 @@
 use Rattle.std.proofs.Common.{ap, ◌∙◌}
 use Rattle.lrs_inventory.specs.Prelude.{is_run_once}
-use Rattle.lrs_position_index.specs.Ground.{is_shared}
+use Rattle.lrs_position.specs.Index.Ground.{is_shared}
 use Rattle.lrs_inventory.proofs.Grounds.{own_once, own_free, next_ground}
 use Rattle.lrs_inventory.proofs.ground.ground_of_routes.Goals as goal
 

@@ -1,6 +1,6 @@
 use Rattle.std.proofs.Common.{◌≡◌, List, Option, subst}
 use Rattle.lrs_inventory.specs.Prelude.{Name, Piece, Stretches}
-use Rattle.lrs_position_index.specs.Ground.{HasGained}
+use Rattle.lrs_position.specs.Index.Ground.{HasGained}
 use Rattle.lrs_inventory.specs.declared.plan.GroundChange.{GroundChange}
 use Rattle.lrs_inventory.specs.Indexes.{IsReadyFor}
 use Rattle.lrs_inventory.proofs.Grounds.{out_again}

@@ -1,5 +1,5 @@
 use Rattle.std.proofs.Common.{[], ◌∷◌, ◌++◌, append-nil, ap, ◌∙◌}
-use Rattle.lrs_ordered.specs.Ordered.{joined}
+use Rattle.lrs_ordered.specs.SearchedLists.{joined}
 use Rattle.lrs_ordered.proofs.Joins.{joined-append}
 use Rattle.lrs_ordered.proofs.insertion.push_fresh.Goals as goal
 

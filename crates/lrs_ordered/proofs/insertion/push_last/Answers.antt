@@ -1,5 +1,5 @@
 use Rattle.std.proofs.Common.{◌≡◌, ◌+◌, ◌-◌, ◌<◌, [], ◌∷◌, ◌++◌, length, set, refl, append-nil, ap, ◌∙◌, arith}
-use Rattle.lrs_ordered.specs.Ordered.{joined, are_filled, is_filled}
+use Rattle.lrs_ordered.specs.SearchedLists.{joined, are_filled, is_filled}
 use Rattle.lrs_ordered.proofs.Joins.{joined_push, set_between, filled_put}
 use Rattle.lrs_ordered.proofs.Filled.{filled_push}
 use Rattle.lrs_ordered.proofs.insertion.push_last.Goals as goal

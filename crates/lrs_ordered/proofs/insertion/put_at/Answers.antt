@@ -1,6 +1,6 @@
 use Rattle.std.proofs.Common.{◌<◌, ◌∷◌, [], length, refl, ap, ◌∙◌, arith}
-use Rattle.lrs_measure.specs.Ordered.{insert_by}
-use Rattle.lrs_ordered.specs.Ordered.{is_split_by, joined, are_filled}
+use Rattle.lrs_measure.specs.OrderedLists.{insert_by}
+use Rattle.lrs_ordered.specs.SearchedLists.{is_split_by, joined, are_filled}
 use Rattle.lrs_ordered.proofs.Joins.{parted_at, set_between, insert_after_set, joined_put, filled_put}
 use Rattle.lrs_ordered.proofs.insertion.put_at.Goals as goal
 

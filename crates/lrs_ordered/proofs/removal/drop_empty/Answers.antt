@@ -1,5 +1,5 @@
 use Rattle.std.proofs.Common.{◌<◌, length, sym, ap, ◌∙◌, arith}
-use Rattle.lrs_ordered.specs.Ordered.{joined, is_filled}
+use Rattle.lrs_ordered.specs.SearchedLists.{joined, is_filled}
 use Rattle.lrs_ordered.proofs.Filled.{nothing_from, filled_else}
 use Rattle.lrs_ordered.proofs.Removes.{joined_without, filled_of}
 use Rattle.lrs_ordered.proofs.removal.drop_empty.Goals as goal

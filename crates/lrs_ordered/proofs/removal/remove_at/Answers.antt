@@ -3,7 +3,7 @@ use Rattle.std.specs.Prelude.{◌||◌, not}
 use Rattle.std.specs.List.{find}
 use Rattle.std.specs.Ordering.{is_lt, is_gt, is_eq}
 use Rattle.std.proofs.lemmas.List.{take-set, drop-set-lt}
-use Rattle.lrs_ordered.specs.Ordered.{rises_by, is_filled, are_filled}
+use Rattle.lrs_ordered.specs.SearchedLists.{rises_by, is_filled, are_filled}
 use Rattle.lrs_ordered.proofs.Joins.{two_at, all_taken, all_dropped}
 use Rattle.lrs_ordered.proofs.Finds.{found_in}
 use Rattle.lrs_ordered.proofs.Removes.{joined_removed}

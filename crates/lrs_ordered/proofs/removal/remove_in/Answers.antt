@@ -1,6 +1,6 @@
 use Rattle.std.proofs.Common.{◌<◌, length, get_or, Some, sym, ap, ◌∙◌, arith}
 use Rattle.std.specs.Ordering.{is_eq}
-use Rattle.lrs_ordered.specs.Ordered.{none_by}
+use Rattle.lrs_ordered.specs.SearchedLists.{none_by}
 use Rattle.lrs_ordered.proofs.Finds.{find_none}
 use Rattle.lrs_ordered.proofs.Removes.{filter_all, removed, found_there}
 use Rattle.lrs_ordered.proofs.removal.remove_in.Goals as goal

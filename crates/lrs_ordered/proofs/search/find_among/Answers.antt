@@ -2,7 +2,7 @@ use Rattle.std.proofs.Common.{sym, ap, ◌∙◌}
 use Rattle.std.specs.Prelude.{◌||◌}
 use Rattle.std.specs.List.{find}
 use Rattle.std.specs.Ordering.{is_lt, is_gt, is_eq}
-use Rattle.lrs_ordered.specs.Ordered.{rises_by}
+use Rattle.lrs_ordered.specs.SearchedLists.{rises_by}
 use Rattle.lrs_ordered.proofs.Joins.{two_at}
 use Rattle.lrs_ordered.proofs.Finds.{found_in}
 use Rattle.lrs_ordered.proofs.search.find_among.Goals as goal

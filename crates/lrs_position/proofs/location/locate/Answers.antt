@@ -1,5 +1,5 @@
 use Rattle.lrs_position.specs.declared.expression.Expr.TheVariants.{Abs, Rel, Int}
-use Rattle.lrs_position.specs.Translating.{alignment_of, referent_at}
+use Rattle.lrs_position.specs.Translations.{alignment_of, referent_at}
 use Rattle.lrs_position.proofs.Answering.{IsSound-from_route, place_of, found_from, on_route_of}
 use Rattle.lrs_position.proofs.OnLinks.{den_of}
 use Rattle.lrs_position.proofs.location.locate.Goals as goal

@@ -1,5 +1,5 @@
 use Rattle.std.proofs.Common.{arith, sym, ◌∙◌, length}
-use Rattle.lrs_position.specs.Translating.{alignment_of, referent_at}
+use Rattle.lrs_position.specs.Translations.{alignment_of, referent_at}
 use Rattle.lrs_position.proofs.Answering.{IsSound-from_route}
 use Rattle.lrs_position.proofs.Expressing.{difference_bounds, difference_fits, difference_given, difference_in_range, distance_ok}
 use Rattle.lrs_position.proofs.translation.express_distance.Goals as goal

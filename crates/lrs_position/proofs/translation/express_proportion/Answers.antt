@@ -1,6 +1,6 @@
 use Rattle.std.proofs.Common.{arith}
 use Rattle.std.proofs.lemmas.Grind.{common_steps}
-use Rattle.lrs_position.specs.Translating.{alignment_of, referent_at}
+use Rattle.lrs_position.specs.Translations.{alignment_of, referent_at}
 use Rattle.lrs_position.proofs.Answering.{IsSound-from_route}
 use Rattle.lrs_position.proofs.Expressing.{proportion_found}
 use Rattle.lrs_position.proofs.translation.express_proportion.Goals as goal

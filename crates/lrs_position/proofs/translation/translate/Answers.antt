@@ -1,5 +1,5 @@
 use Rattle.std.proofs.Common.{Ok}
-use Rattle.lrs_position.specs.Translating.{alignment_of, referent_at}
+use Rattle.lrs_position.specs.Translations.{alignment_of, referent_at}
 use Rattle.lrs_position.proofs.Answering.{IsSound-from_route}
 use Rattle.lrs_position.proofs.RoundTrips.{RoundTrip-from_translates}
 use Rattle.lrs_position.proofs.translation.translate.Goals as goal

@@ -1,5 +1,5 @@
 use Rattle.std.proofs.Common.{ℕ, Some, Ok, ap, inl, inr, refl, subst, ◌∙◌}
-use Rattle.lrs_web.specs.Serving.{Writes}
+use Rattle.lrs_web.specs.RequestAnswers.{Writes}
 use Rattle.lrs_promises.proofs.Amid.{request_left}
 use Rattle.lrs_promises.proofs.Served.{did_request}
 use Rattle.lrs_promises.proofs.calls.do_request.Goals as goal

@@ -1,6 +1,6 @@
-use Rattle.lrs_machine_stops.proofs.Again.{again_where_kept, all_again_where_kept}
-use Rattle.lrs_machine_stops.proofs.Resuming.{new_keys_go_on}
-use Rattle.lrs_machine_stops.proofs.Stopping.{answers_are_of_fold, none_is_doubled, none_is_lost, stored_is_fold, stored_is_lawful}
+use Rattle.lrs_machine.proofs.Stop.Again.{again_where_kept, all_again_where_kept}
+use Rattle.lrs_machine.proofs.Stop.Resuming.{new_keys_go_on}
+use Rattle.lrs_machine.proofs.Stop.Stopping.{answers_are_of_fold, none_is_doubled, none_is_lost, stored_is_fold, stored_is_lawful}
 use Rattle.lrs_promises.proofs.stop.stops.Goals as goal
 
 pub returns : goal.returns

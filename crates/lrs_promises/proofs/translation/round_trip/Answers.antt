@@ -1,7 +1,7 @@
 use Rattle.std.proofs.Common.{Ok, subst, ap, ◌∙◌}
-use Rattle.lrs_position.specs.Translating.{target_of}
+use Rattle.lrs_position.specs.Translations.{target_of}
 use Rattle.lrs_machine.specs.Image.{state_of}
-use Rattle.lrs_answers.specs.Told.{IsTranslated}
+use Rattle.lrs_report_answers.specs.ToldAnswers.{IsTranslated}
 use Rattle.lrs_promises.proofs.Trips.{leaves, trip}
 use Rattle.lrs_promises.proofs.translation.round_trip.Goals as goal
 

@@ -1,10 +1,10 @@
 use Rattle.std.proofs.Common.{subst, sym}
 use Rattle.lrs_machine.specs.declared.image.Image.{Image}
 use Rattle.lrs_machine.specs.Sound.{IsSound}
-use Rattle.lrs_image.specs.Kept.{image_of}
+use Rattle.lrs_image.specs.OpenLists.{image_of}
 use Rattle.lrs_image.proofs.Tables.{assets_in_order, classes_in_order, routes_in_order}
-use Rattle.lrs_answers.proofs.Asked.{found_known, route_in}
-use Rattle.lrs_answers.proofs.OfState.{rows_exclusive, rows_fit}
+use Rattle.lrs_report_answers.proofs.Asked.{found_known, route_in}
+use Rattle.lrs_report_answers.proofs.OfState.{rows_exclusive, rows_fit}
 use Rattle.lrs_promises_tests.proofs.lists.show.Goals as goal
 
 pub find-requires : goal.find-requires

@@ -1,5 +1,5 @@
 use Rattle.std.proofs.Common.{ap, sym, subst, ◌∙◌, arith}
-use Rattle.lrs_report.specs.Along.{asset_value}
+use Rattle.lrs_report.specs.SideValues.{asset_value}
 use Rattle.lrs_report.specs.Columns.{IsColumn, value_at}
 use Rattle.lrs_report.proofs.Following.{stretches_column, stretches_values}
 use Rattle.lrs_report.proofs.Lanes.{IsLaneAmong, lane_follows, lane_values}

@@ -1,7 +1,7 @@
 use Rattle.std.proofs.Common.{arith}
 use Rattle.std.proofs.lemmas.Grind.{common_steps}
 use Rattle.lrs_machine.specs.Segments.{value_of}
-use Rattle.lrs_report.specs.Along.{is_holder, HasOneHolder}
+use Rattle.lrs_report.specs.SideValues.{is_holder, HasOneHolder}
 use Rattle.lrs_report.specs.Columns.{IsColumn, value_at}
 use Rattle.lrs_report.proofs.Passing.{next_all, next_left, next_read}
 use Rattle.lrs_report.proofs.segmentation.columns_of.Goals as goal

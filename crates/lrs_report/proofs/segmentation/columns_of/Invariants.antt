@@ -1,7 +1,7 @@
 use Rattle.std.proofs.Common.{◌≡◌, ℕ, ◌<◌, take, drop}
 use Rattle.std.specs.List.{AllByRecursion}
 use Rattle.lrs_machine.specs.Segments.{values_of}
-use Rattle.lrs_report.specs.Along.{is_holder, HasOneHolder}
+use Rattle.lrs_report.specs.SideValues.{is_holder, HasOneHolder}
 use Rattle.lrs_report.specs.Columns.{IsColumn, values_at}
 use Rattle.lrs_report.proofs.segmentation.columns_of.Given as goal
 

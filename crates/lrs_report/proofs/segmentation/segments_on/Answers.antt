@@ -2,7 +2,7 @@ use Rattle.std.proofs.Common.{◌≡◌, ◌-◌, ap, ◌∙◌, map, arith}
 use Rattle.std.specs.List.{range_with_len}
 use Rattle.lrs_measure.specs.Runs.{runs_from, runs_of}
 use Rattle.lrs_machine.specs.Segments.{same_values, values_of}
-use Rattle.lrs_report.specs.Along.{is_holder}
+use Rattle.lrs_report.specs.SideValues.{is_holder}
 use Rattle.lrs_report.specs.Columns.{values_at}
 use Rattle.lrs_report.specs.Sweep.{run_of}
 use Rattle.lrs_report.proofs.Faults.{read_along}

@@ -2,7 +2,7 @@ use Rattle.std.proofs.Common.{◌≡◌, ◌≤◌, ◌+◌, ◌-◌, length, ta
 use Rattle.lrs_machine.specs.Image.{state_of}
 use Rattle.lrs_sheet.specs.Replies.{answer_count}
 use Rattle.lrs_sheet.specs.Sheets.{GoesAlong}
-use Rattle.lrs_sheet.specs.Waiting.{DoesAll}
+use Rattle.lrs_sheet.specs.WaitingCommands.{DoesAll}
 use Rattle.lrs_sheet.proofs.queue.do_all.Given as goal
 
 abbrev pub invariant-loop-done : goal.invariant-loop-done

@@ -1,7 +1,7 @@
 use Rattle.std.proofs.Common.{◌≡◌, ◌+◌, take}
 use Rattle.std.specs.Io.KnownBytes.{Appends}
 use Rattle.lrs_sheet.specs.Replies.{answer_count, lines_of}
-use Rattle.lrs_sheet.specs.Waiting.{replies_of, counted_all}
+use Rattle.lrs_sheet.specs.WaitingCommands.{replies_of, counted_all}
 use Rattle.lrs_sheet.proofs.queue.write_answers.Given as goal
 
 abbrev pub invariant-loop-place : goal.invariant-loop-place

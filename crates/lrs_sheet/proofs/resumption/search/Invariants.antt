@@ -1,5 +1,5 @@
 use Rattle.lrs_machine.specs.Image.{state_of}
-use Rattle.lrs_sheet.specs.Resuming.{HasSearched}
+use Rattle.lrs_sheet.specs.Resumption.{HasSearched}
 use Rattle.lrs_sheet.proofs.resumption.search.Given as goal
 
 abbrev pub invariant-loop-turn : goal.invariant-loop-turn

@@ -1,5 +1,5 @@
 use Rattle.std.proofs.Common.{◌<◌, length}
-use Rattle.lrs_sheet.specs.Waiting.{IsWaiting}
+use Rattle.lrs_sheet.specs.WaitingCommands.{IsWaiting}
 use Rattle.lrs_sheet.proofs.run.take_rows.Given as goal
 
 abbrev pub invariant-loop-turn : goal.invariant-loop-turn

@@ -1,7 +1,7 @@
 use Rattle.std.proofs.Common.{◌≡◌, ◌∙◌, ap, refl}
 use Rattle.std.specs.Prelude.{IsTrue}
 use Rattle.lrs_sheet_records.specs.Kinds.{edit_fields}
-use Rattle.lrs_machine.specs.Entered.{are_entered_pieces}
+use Rattle.lrs_machine.specs.EnteredNumbers.{are_entered_pieces}
 use Rattle.lrs_sheet_records.specs.Records.{place_of, text_at, texts_of}
 use Rattle.lrs_sheet_records.specs.Shapes.{PiecesOf}
 use Rattle.lrs_sheet_records.specs.Words.{AreSaid, IsPieceText, words_of}

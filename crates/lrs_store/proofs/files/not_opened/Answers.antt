@@ -1,6 +1,6 @@
 use Rattle.std.proofs.Common.{inl, refl, sym, subst}
 use Rattle.lrs_store.specs.declared.files.Left.TheVariants as left
-use Rattle.lrs_store.specs.Refused.{IsHandedOn}
+use Rattle.lrs_store.specs.Refusals.{IsHandedOn}
 use Rattle.lrs_store.proofs.files.not_opened.Goals as goal
 
 pub returns-in-Store-Some-clause-still : goal.returns-in-Store-Some-clause-still

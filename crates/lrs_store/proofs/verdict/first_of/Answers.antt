@@ -1,5 +1,5 @@
 use Rattle.std.proofs.Common.{nat_lt}
-use Rattle.lrs_store_tables.specs.Stored.{version_in, link_in, class_in, asset_in, piece_in, mark_in, ref_in, span_in, entered_in, gone_in, edit_in, origin_in}
+use Rattle.lrs_store_tables.specs.StoredRows.{version_in, link_in, class_in, asset_in, piece_in, mark_in, ref_in, span_in, entered_in, gone_in, edit_in, origin_in}
 use Rattle.lrs_store.proofs.JudgedLemmas.{said_if}
 use Rattle.lrs_store.proofs.verdict.first_of.Goals as goal
 

@@ -3,7 +3,7 @@ use Rattle.std.proofs.lemmas.List.{length-take-le, length-drop, take_rest}
 use Rattle.std.proofs.Math.Seq.{take-add}
 use Rattle.sqlite.specs.Held.{state}
 use Rattle.sqlite.proofs.StateLemmas.{survives_then}
-use Rattle.lrs_store_tables.specs.Writing.{WritesEach}
+use Rattle.lrs_store_tables.specs.Writes.{WritesEach}
 use Rattle.lrs_store_commit.proofs.CommitLemmas.{writes_behind}
 use Rattle.lrs_store_commit.proofs.Leaves.{leaves_then}
 use Rattle.lrs_store_commit.proofs.commit.write_each.Goals as goal

@@ -1,8 +1,8 @@
 use Rattle.std.proofs.Common.{◌≡◌, ◌≤◌, ◌-◌, length, take}
 use Rattle.sqlite.specs.State.{HasCleanDisk, Survives}
 use Rattle.sqlite.specs.Held.{state}
-use Rattle.lrs_store_tables.specs.Stored.{IsWriting}
-use Rattle.lrs_store_tables.specs.Writing.{WritesEach}
+use Rattle.lrs_store_tables.specs.StoredRows.{IsWriting}
+use Rattle.lrs_store_tables.specs.Writes.{WritesEach}
 use Rattle.lrs_store_commit.proofs.commit.write_each.Given as goal
 
 abbrev pub invariant-loop-done : goal.invariant-loop-done

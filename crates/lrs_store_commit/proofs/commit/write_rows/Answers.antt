@@ -4,11 +4,11 @@ use Rattle.sqlite.specs.Held.{state}
 use Rattle.lrs_measure.specs.Texts.{Name}
 use Rattle.lrs_image.specs.declared.change.RouteChange.{RouteChange}
 use Rattle.lrs_machine.specs.declared.image.RouteRow.{RouteRow}
-use Rattle.lrs_store_tables.specs.Changing.{without_route, with_edit}
-use Rattle.lrs_store_tables.specs.Stored.{Makes}
-use Rattle.lrs_store_tables.specs.Writing.{Writes, with_some, with_named, with_routes, changed_route, new_route, with_ledgers}
+use Rattle.lrs_store_tables.specs.RowChanges.{without_route, with_edit}
+use Rattle.lrs_store_tables.specs.StoredRows.{Makes}
+use Rattle.lrs_store_tables.specs.Writes.{Writes, with_some, with_named, with_routes, changed_route, new_route, with_ledgers}
 use Rattle.lrs_store_tables.proofs.Steady.{steady_some, steady-changed_route, steady-without_route, steady-new_route, steady-with_ledgers, steady-with_edit}
-use Rattle.lrs_store_rows.specs.Tables.{Tables}
+use Rattle.lrs_store_tables.specs.Contents.Tables.{Tables}
 use Rattle.lrs_store_commit.proofs.Then.{makes_on}
 use Rattle.lrs_store_commit.proofs.Leaves.{leaves_then}
 use Rattle.lrs_store_commit.proofs.commit.write_rows.Goals as goal

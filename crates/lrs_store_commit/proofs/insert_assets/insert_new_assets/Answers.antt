@@ -1,7 +1,7 @@
 use Rattle.std.proofs.Common.{arith}
 use Rattle.sqlite.specs.State.{HasCleanDisk}
 use Rattle.sqlite.specs.Held.{state}
-use Rattle.lrs_store_rows.specs.Tables.{Tables}
+use Rattle.lrs_store_tables.specs.Contents.Tables.{Tables}
 use Rattle.lrs_store_commit.specs.NewAssets.{with_assets_of, with_origins_of, with_spans_of, with_parts_of, with_edits_of}
 use Rattle.lrs_store_commit.proofs.EntryRows.{steady-origins, steady-spans, steady-parts, steady-edits}
 use Rattle.lrs_store_commit.proofs.Then.{makes_on}

@@ -5,7 +5,7 @@ use Rattle.sqlite.specs.State.{ExecutesInside}
 use Rattle.sqlite.specs.Held.{state}
 use Rattle.sqlite.specs.Values.{bound}
 use Rattle.lrs_image.specs.declared.change.Change.{Change}
-use Rattle.lrs_store_rows.specs.Encoding.{edit_row, numbered}
+use Rattle.lrs_store_tables.specs.Contents.Encoders.{edit_row, numbered}
 use Rattle.lrs_store_tables.specs.Cells.{edit_cells}
 use Rattle.lrs_store_tables.specs.Schema.{insert_eight_edits}
 use Rattle.lrs_store_commit.proofs.CellLemmas.{cells_of_numbered}

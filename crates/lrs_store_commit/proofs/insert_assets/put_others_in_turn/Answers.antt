@@ -3,7 +3,7 @@ use Rattle.std.proofs.lemmas.List.{take_more}
 use Rattle.sqlite.specs.Held.{state}
 use Rattle.sqlite.proofs.StateLemmas.{survives_then}
 use Rattle.lrs_image.specs.declared.change.Change.{Change}
-use Rattle.lrs_store_tables.specs.Stored.{Makes}
+use Rattle.lrs_store_tables.specs.StoredRows.{Makes}
 use Rattle.lrs_store_commit.specs.NewAssets.{with_others_of}
 use Rattle.lrs_store_commit.proofs.EntryRows.{puts_more_others, others_are}
 use Rattle.lrs_store_commit.proofs.Leaves.{leaves_then}

@@ -1,7 +1,7 @@
 use Rattle.std.proofs.Common.{◌≡◌, take}
 use Rattle.sqlite.specs.State.{HasCleanDisk, Survives}
 use Rattle.sqlite.specs.Held.{state}
-use Rattle.lrs_store_tables.specs.Stored.{IsWriting, Makes}
+use Rattle.lrs_store_tables.specs.StoredRows.{IsWriting, Makes}
 use Rattle.lrs_store_commit.specs.NewAssets.{with_others_of}
 use Rattle.lrs_store_commit.proofs.insert_assets.put_others_in_turn.Given as goal
 

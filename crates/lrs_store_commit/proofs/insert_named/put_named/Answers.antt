@@ -1,10 +1,10 @@
 use Rattle.std.proofs.Common.{arith}
 use Rattle.sqlite.specs.State.{HasCleanDisk}
 use Rattle.sqlite.specs.Held.{state}
-use Rattle.lrs_store_tables.specs.Changing.{with_link, with_class, with_asset}
-use Rattle.lrs_store_tables.specs.Writing.{with_some}
+use Rattle.lrs_store_tables.specs.RowChanges.{with_link, with_class, with_asset}
+use Rattle.lrs_store_tables.specs.Writes.{with_some}
 use Rattle.lrs_store_tables.proofs.Steady.{steady_some, steady-with_class, steady-with_asset}
-use Rattle.lrs_store_rows.specs.Tables.{Tables}
+use Rattle.lrs_store_tables.specs.Contents.Tables.{Tables}
 use Rattle.lrs_store_commit.proofs.Then.{makes_on}
 use Rattle.lrs_store_commit.proofs.Last.{makes_last}
 use Rattle.lrs_store_commit.proofs.Leaves.{leaves_then}

@@ -2,7 +2,7 @@ use Rattle.std.proofs.Common.{◌≡◌, ◌∙◌, ◌+◌, ◌<◌, ◌++◌, 
 use Rattle.std.proofs.lemmas.List.{take_more, length-take-le}
 use Rattle.sqlite.specs.Held.{state}
 use Rattle.sqlite.proofs.StateLemmas.{survives_then}
-use Rattle.lrs_store_tables.specs.Stored.{Makes}
+use Rattle.lrs_store_tables.specs.StoredRows.{Makes}
 use Rattle.lrs_store_commit.proofs.Then.{makes_then}
 use Rattle.lrs_store_commit.proofs.Leaves.{leaves_then}
 use Rattle.lrs_store_commit.proofs.lists.write_all.Goals as goal

@@ -1,7 +1,7 @@
 use Rattle.std.proofs.Common.{◌≡◌, take}
 use Rattle.sqlite.specs.State.{HasCleanDisk, Survives}
 use Rattle.sqlite.specs.Held.{state}
-use Rattle.lrs_store_tables.specs.Stored.{IsWriting, Makes}
+use Rattle.lrs_store_tables.specs.StoredRows.{IsWriting, Makes}
 use Rattle.lrs_store_commit.proofs.lists.write_all.Given as goal
 
 abbrev pub invariant-loop-i : goal.invariant-loop-i

@@ -2,11 +2,11 @@ use Rattle.std.proofs.Common.{Result, Ok, Err, OnOk, map, append-nil, subst, ari
 use Rattle.std.specs.Prelude.{List}
 use Rattle.sqlite.specs.State.{HasCleanDisk}
 use Rattle.sqlite.specs.Held.{state}
-use Rattle.lrs_store_rows.specs.Tables.{Tables, AreSame, OriginRow}
-use Rattle.lrs_store_rows.specs.Laws.{origin_row, brought_up}
-use Rattle.lrs_store_tables.specs.Stored.{stored, Makes}
-use Rattle.lrs_store_tables.specs.Starting.{BringsUp}
-use Rattle.lrs_store_tables.specs.Changing.{with_origins, with_version, without_version, without_origins}
+use Rattle.lrs_store_tables.specs.Contents.Tables.{Tables, AreSame, OriginRow}
+use Rattle.lrs_store_tables.specs.Contents.Laws.{origin_row, brought_up}
+use Rattle.lrs_store_tables.specs.StoredRows.{stored, Makes}
+use Rattle.lrs_store_tables.specs.NewStores.{BringsUp}
+use Rattle.lrs_store_tables.specs.RowChanges.{with_origins, with_version, without_version, without_origins}
 use Rattle.lrs_store_tables.proofs.Steady.{steady-with_origins, steady-without_version, steady-with_version}
 use Rattle.lrs_store_commit.proofs.Then.{makes_on}
 use Rattle.lrs_store_commit.proofs.Leaves.{leaves_then}

@@ -1,7 +1,7 @@
 use Rattle.std.proofs.Common.{arith}
 use Rattle.sqlite.specs.State.{HasCleanDisk}
 use Rattle.sqlite.specs.Held.{state}
-use Rattle.lrs_store_tables.specs.Writing.{with_some, new_pieces, new_marks, changed_line}
+use Rattle.lrs_store_tables.specs.Writes.{with_some, new_pieces, new_marks, changed_line}
 use Rattle.lrs_store_tables.proofs.Steady.{steady_some, steady-new_marks}
 use Rattle.lrs_store_commit.proofs.Last.{makes_last, makes_of_last}
 use Rattle.lrs_store_commit.proofs.Leaves.{leaves_then}

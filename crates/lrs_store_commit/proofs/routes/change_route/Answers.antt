@@ -1,10 +1,10 @@
 use Rattle.std.proofs.Common.{arith}
 use Rattle.sqlite.specs.State.{HasCleanDisk}
 use Rattle.sqlite.specs.Held.{state}
-use Rattle.lrs_store_tables.specs.Changing.{renamed_route}
-use Rattle.lrs_store_tables.specs.Writing.{changed_line, changed_refs, changed_spans, changed_route}
+use Rattle.lrs_store_tables.specs.RowChanges.{renamed_route}
+use Rattle.lrs_store_tables.specs.Writes.{changed_line, changed_refs, changed_spans, changed_route}
 use Rattle.lrs_store_tables.proofs.Steady.{steady-changed_refs, steady-changed_spans, steady-renamed_route}
-use Rattle.lrs_store_rows.specs.Tables.{Tables}
+use Rattle.lrs_store_tables.specs.Contents.Tables.{Tables}
 use Rattle.lrs_store_commit.proofs.Then.{makes_on}
 use Rattle.lrs_store_commit.proofs.Last.{makes_last, makes_of_last}
 use Rattle.lrs_store_commit.proofs.Leaves.{leaves_then}

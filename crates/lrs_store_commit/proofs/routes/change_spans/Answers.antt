@@ -1,7 +1,7 @@
 use Rattle.std.proofs.Common.{arith}
 use Rattle.sqlite.specs.State.{HasCleanDisk}
 use Rattle.sqlite.specs.Held.{state}
-use Rattle.lrs_store_tables.specs.Changing.{less_spans, with_spans}
+use Rattle.lrs_store_tables.specs.RowChanges.{less_spans, with_spans}
 use Rattle.lrs_store_tables.proofs.Steady.{steady-with_spans}
 use Rattle.lrs_store_commit.proofs.Last.{makes_last}
 use Rattle.lrs_store_commit.proofs.Leaves.{leaves_then}

@@ -1,9 +1,9 @@
 use Rattle.std.proofs.Common.{arith}
 use Rattle.sqlite.specs.State.{HasCleanDisk}
 use Rattle.sqlite.specs.Held.{state}
-use Rattle.lrs_store_tables.specs.Changing.{without_pieces, without_marks, less_refs, less_spans}
+use Rattle.lrs_store_tables.specs.RowChanges.{without_pieces, without_marks, less_refs, less_spans}
 use Rattle.lrs_store_tables.proofs.Steady.{steady-without_marks, steady-less_refs, steady-less_spans}
-use Rattle.lrs_store_rows.specs.Tables.{Tables}
+use Rattle.lrs_store_tables.specs.Contents.Tables.{Tables}
 use Rattle.lrs_store_commit.proofs.Then.{makes_on}
 use Rattle.lrs_store_commit.proofs.Last.{makes_last}
 use Rattle.lrs_store_commit.proofs.Leaves.{leaves_then}

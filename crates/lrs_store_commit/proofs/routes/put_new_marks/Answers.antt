@@ -1,7 +1,7 @@
 use Rattle.std.proofs.Common.{arith}
 use Rattle.sqlite.specs.State.{HasCleanDisk}
 use Rattle.sqlite.specs.Held.{state}
-use Rattle.lrs_store_tables.specs.Changing.{without_marks, with_marks}
+use Rattle.lrs_store_tables.specs.RowChanges.{without_marks, with_marks}
 use Rattle.lrs_store_tables.proofs.Steady.{steady-with_marks}
 use Rattle.lrs_store_commit.proofs.Last.{makes_last}
 use Rattle.lrs_store_commit.proofs.Leaves.{leaves_then}

@@ -1,8 +1,8 @@
 use Rattle.std.proofs.Common.{Some, arith}
 use Rattle.sqlite.specs.State.{HasCleanDisk}
 use Rattle.sqlite.specs.Held.{state}
-use Rattle.lrs_store_tables.specs.Changing.{without_pieces, with_pieces}
-use Rattle.lrs_store_tables.specs.Writing.{with_some, new_pieces}
+use Rattle.lrs_store_tables.specs.RowChanges.{without_pieces, with_pieces}
+use Rattle.lrs_store_tables.specs.Writes.{with_some, new_pieces}
 use Rattle.lrs_store_tables.proofs.Steady.{steady-with_pieces}
 use Rattle.lrs_store_commit.proofs.Last.{makes_last, makes_of_last}
 use Rattle.lrs_store_commit.proofs.Leaves.{leaves_then}

@@ -1,10 +1,10 @@
 use Rattle.std.proofs.Common.{Some, arith}
 use Rattle.sqlite.specs.State.{HasCleanDisk}
 use Rattle.sqlite.specs.Held.{state}
-use Rattle.lrs_store_tables.specs.Changing.{with_pieces, with_marks, with_refs, with_spans}
-use Rattle.lrs_store_tables.specs.Writing.{new_route}
+use Rattle.lrs_store_tables.specs.RowChanges.{with_pieces, with_marks, with_refs, with_spans}
+use Rattle.lrs_store_tables.specs.Writes.{new_route}
 use Rattle.lrs_store_tables.proofs.Steady.{steady-with_marks, steady-with_refs, steady-with_spans}
-use Rattle.lrs_store_rows.specs.Tables.{Tables}
+use Rattle.lrs_store_tables.specs.Contents.Tables.{Tables}
 use Rattle.lrs_store_commit.proofs.Then.{makes_on}
 use Rattle.lrs_store_commit.proofs.Last.{makes_last, makes_of_last}
 use Rattle.lrs_store_commit.proofs.Leaves.{leaves_then}

@@ -1,7 +1,7 @@
 use Rattle.std.proofs.Common.{◌≡◌, rules, subst}
 use Rattle.sqlite.specs.Held.{state}
-use Rattle.lrs_store_tables.specs.Changing.{renamed_route}
-use Rattle.lrs_store_tables.specs.Stored.{Makes}
+use Rattle.lrs_store_tables.specs.RowChanges.{renamed_route}
+use Rattle.lrs_store_tables.specs.StoredRows.{Makes}
 use Rattle.lrs_store_commit.proofs.Then.{makes_nothing}
 use Rattle.lrs_store_commit.proofs.SameName.{renamed_itself}
 use Rattle.lrs_store_commit.proofs.routes.rename_if_new.Goals as goal

@@ -1,9 +1,9 @@
 use Rattle.std.proofs.Common.{arith}
 use Rattle.sqlite.specs.State.{HasCleanDisk}
 use Rattle.sqlite.specs.Held.{state}
-use Rattle.lrs_store_tables.specs.Changing.{renamed_pieces, renamed_marks, renamed_refs, renamed_spans}
+use Rattle.lrs_store_tables.specs.RowChanges.{renamed_pieces, renamed_marks, renamed_refs, renamed_spans}
 use Rattle.lrs_store_tables.proofs.Steady.{steady-renamed_marks, steady-renamed_refs, steady-renamed_spans}
-use Rattle.lrs_store_rows.specs.Tables.{Tables}
+use Rattle.lrs_store_tables.specs.Contents.Tables.{Tables}
 use Rattle.lrs_store_commit.proofs.Then.{makes_on}
 use Rattle.lrs_store_commit.proofs.Last.{makes_last}
 use Rattle.lrs_store_commit.proofs.Leaves.{leaves_then}

@@ -3,9 +3,9 @@ use Rattle.sqlite_trees.specs.Tree.{Trees}
 use Rattle.sqlite.specs.Effect.{Database}
 use Rattle.sqlite.specs.Held.{state}
 use Rattle.sqlite.specs.State.{HasCleanDisk}
-use Rattle.lrs_store_rows.specs.Tables.{AreSame}
-use Rattle.lrs_store_tables.specs.Stored.{stored}
-use Rattle.lrs_store_tables.specs.Making.{first_rows}
+use Rattle.lrs_store_tables.specs.Contents.Tables.{AreSame}
+use Rattle.lrs_store_tables.specs.StoredRows.{stored}
+use Rattle.lrs_store_tables.specs.TableCreation.{first_rows}
 use Rattle.lrs_store_tables.proofs.MakeLemmas.{rows_of_first}
 use Rattle.lrs_store_files.proofs.OpenLemmas.{taken_some, at_rest, grown_numbers, left_begun}
 use Rattle.lrs_store_files.proofs.RefusedLemmas.{store_failed}

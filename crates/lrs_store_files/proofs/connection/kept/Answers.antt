@@ -2,8 +2,8 @@ use Rattle.std.proofs.Common.{arith, sym, ap, subst, ◌∙◌}
 use Rattle.sqlite_trees.specs.Tree.{Trees}
 use Rattle.sqlite.specs.Effect.{Database}
 use Rattle.sqlite.specs.Held.{state}
-use Rattle.lrs_store_rows.specs.Tables.{AreSame}
-use Rattle.lrs_store_tables.specs.Stored.{stored}
+use Rattle.lrs_store_tables.specs.Contents.Tables.{AreSame}
+use Rattle.lrs_store_tables.specs.StoredRows.{stored}
 use Rattle.lrs_store_tables.specs.RowLaws.{same_refl}
 use Rattle.lrs_store_files.proofs.OpenLemmas.{taken_some, at_rest}
 use Rattle.lrs_store_tables.proofs.MakeLemmas.{all_made}

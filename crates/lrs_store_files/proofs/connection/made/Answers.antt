@@ -1,8 +1,8 @@
 use Rattle.std.proofs.Common.{inl, sym, subst}
 use Rattle.sqlite_trees.specs.Tree.{Trees}
-use Rattle.lrs_store_rows.specs.Tables.{AreSame}
-use Rattle.lrs_store_tables.specs.Stored.{stored}
-use Rattle.lrs_store_tables.specs.Starting.{new_rows}
+use Rattle.lrs_store_tables.specs.Contents.Tables.{AreSame}
+use Rattle.lrs_store_tables.specs.StoredRows.{stored}
+use Rattle.lrs_store_tables.specs.NewStores.{new_rows}
 use Rattle.sqlite.specs.Held.{state}
 use Rattle.lrs_store_files.proofs.OpenLemmas.{taken_nothing, left_begun}
 use Rattle.lrs_store_files.proofs.RefusedLemmas.{store_failed}

@@ -1,5 +1,5 @@
 use Rattle.std.proofs.Common.{sym, ap, ◌∙◌, arith}
-use Rattle.lrs_store_tables.specs.Making.{first_tables}
+use Rattle.lrs_store_tables.specs.TableCreation.{first_tables}
 use Rattle.lrs_store_tables.proofs.MakeLemmas.{none_made, all_made}
 use Rattle.lrs_store_files.proofs.FirstTables.{other_tables}
 use Rattle.lrs_store_files.proofs.connection.over.Goals as goal

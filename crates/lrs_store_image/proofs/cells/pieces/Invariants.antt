@@ -1,5 +1,5 @@
 use Rattle.std.proofs.Common.{◌≡◌, map, take}
-use Rattle.lrs_store_tables.specs.Stored.{piece_in}
+use Rattle.lrs_store_tables.specs.StoredRows.{piece_in}
 use Rattle.lrs_store_image.proofs.cells.pieces.Given as goal
 
 abbrev pub invariant-loop-row : goal.invariant-loop-row

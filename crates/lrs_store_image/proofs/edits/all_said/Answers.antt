@@ -2,8 +2,8 @@ use Rattle.std.proofs.Common.{arith, ◌≡◌, ◌<◌, ◌+◌, ◌∙◌, len
 use Rattle.std.proofs.lemmas.Grind.{common_steps}
 use Rattle.sqlite_value.specs.Order.{Row as Cells}
 use Rattle.lrs_machine.specs.declared.image.Edit.{Edit}
-use Rattle.lrs_store_rows.specs.Decoding.{each_of, edit_of, Numbered}
-use Rattle.lrs_store_tables.specs.Stored.{edit_in}
+use Rattle.lrs_store_tables.specs.Contents.Decoders.{each_of, edit_of, Numbered}
+use Rattle.lrs_store_tables.specs.StoredRows.{edit_in}
 use Rattle.lrs_store_tables.proofs.SaidRows.{each_of-more, each_of-at}
 use Rattle.lrs_store_image.proofs.edits.all_said.Goals as goal
 

@@ -3,7 +3,7 @@ use Rattle.std.specs.Str.{is_utf8}
 use Rattle.lrs_measure.specs.Texts.{Name}
 use Rattle.lrs_machine.specs.declared.image.Edit.{Edit}
 use Rattle.lrs_machine.specs.Keys.{is_key}
-use Rattle.lrs_store_rows.specs.Decoding.{Numbered}
+use Rattle.lrs_store_tables.specs.Contents.Decoders.{Numbered}
 use Rattle.lrs_store_tables.proofs.SaidRows.{both_only}
 use Rattle.lrs_store_image.proofs.edits.edit.Goals as goal
 

@@ -2,7 +2,7 @@ use Rattle.std.proofs.Common.{◌≡◌, ℕ, List, Some, false, inl, inr, sym, 
 use Rattle.std.specs.Str.{is_utf8, IsUtf8}
 use Rattle.std.proofs.lemmas.Bool.{cases_Bool}
 use Rattle.std.proofs.lemmas.Str.{IsUtf8-from_is_utf8, is_utf8-from_IsUtf8}
-use Rattle.lrs_store_rows.specs.Decoding.{only_if}
+use Rattle.lrs_store_tables.specs.Contents.Decoders.{only_if}
 use Rattle.lrs_store_image.proofs.edits.line_of.Goals as goal
 
 not_text : (p : List ℕ) → (IsUtf8 p → ⊥) → is_utf8 p ≡ false

@@ -1,5 +1,5 @@
 use Rattle.std.proofs.Common.{◌≡◌, drop}
-use Rattle.lrs_store_image.specs.Entering.{entered_all}
+use Rattle.lrs_store_image.specs.EnteringEdits.{entered_all}
 use Rattle.lrs_store_image.proofs.entering_edits.enter_all.Given as goal
 
 abbrev pub invariant-loop-i : goal.invariant-loop-i

@@ -1,7 +1,7 @@
 use Rattle.std.proofs.Common.{ap, ◌∙◌}
 use Rattle.lrs_measure.specs.Lists.{each_two}
 use Rattle.lrs_machine.specs.Sound.{asset_before}
-use Rattle.lrs_store_image.specs.Entering.{entered_all}
+use Rattle.lrs_store_image.specs.EnteringEdits.{entered_all}
 use Rattle.lrs_store_image.proofs.Entered.{all_entered, order_without}
 use Rattle.lrs_store_image.proofs.entering_edits.with_edits.Goals as goal
 

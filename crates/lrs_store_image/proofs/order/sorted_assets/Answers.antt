@@ -1,9 +1,9 @@
 use Rattle.std.proofs.Common.{◌≡◌, ◌∙◌, sym, ap, is_lt, rules}
 use Rattle.std.specs.Ordering.{nat_cmp}
 use Rattle.std.proofs.lemmas.List.Sorted.{answers_always}
-use Rattle.lrs_measure.specs.Keyed.{numbers_agree}
+use Rattle.lrs_measure.specs.KeyOrder.{numbers_agree}
 use Rattle.lrs_machine.specs.Sound.{asset_before}
-use Rattle.lrs_store_rows.proofs.Orders.{assets_rank}
+use Rattle.lrs_store_tables.proofs.Contents.Orders.{assets_rank}
 use Rattle.lrs_store_image.proofs.order.sorted_assets.Goals as goal
 
 pub returns-clause-sorted : goal.returns-clause-sorted

@@ -1,7 +1,7 @@
 use Rattle.std.proofs.Common.{rules}
 use Rattle.std.proofs.lemmas.Fn.{always_returns_same}
 use Rattle.lrs_machine.specs.Sound.{class_before}
-use Rattle.lrs_store_rows.proofs.Orders.{classes_rank}
+use Rattle.lrs_store_tables.proofs.Contents.Orders.{classes_rank}
 use Rattle.lrs_store_image.proofs.order.sorted_classes.Goals as goal
 
 pub returns-clause-sorted : goal.returns-clause-sorted

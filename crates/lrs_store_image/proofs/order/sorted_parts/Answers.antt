@@ -1,7 +1,7 @@
 use Rattle.std.proofs.Common.{rules}
 use Rattle.std.proofs.lemmas.Fn.{always_returns_same}
 use Rattle.lrs_events.specs.Parts.{part_before}
-use Rattle.lrs_store_rows.proofs.Orders.{parts_rank}
+use Rattle.lrs_store_tables.proofs.Contents.Orders.{parts_rank}
 use Rattle.lrs_store_image.proofs.order.sorted_parts.Goals as goal
 
 pub returns-clause-sorted : goal.returns-clause-sorted

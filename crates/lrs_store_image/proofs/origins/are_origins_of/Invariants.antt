@@ -1,5 +1,5 @@
 use Rattle.std.proofs.Common.{◌≡◌, drop}
-use Rattle.lrs_store_rows.specs.Content.{are_origins_of}
+use Rattle.lrs_store_tables.specs.Contents.Content.{are_origins_of}
 use Rattle.lrs_store_image.proofs.origins.are_origins_of.Given as goal
 
 abbrev pub invariant-loop-i : goal.invariant-loop-i

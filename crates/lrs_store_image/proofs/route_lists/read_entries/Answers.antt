@@ -1,10 +1,10 @@
 use Rattle.std.proofs.Common.{◌≡◌, ◌∙◌, Ok, map, ap, ap₂, subst}
 use Rattle.lrs_machine.specs.declared.table.Table.TheVariants as table
 use Rattle.lrs_machine.specs.Sound.{are_courses}
-use Rattle.lrs_store_rows.specs.Content.{read, courses_of, entries_of}
-use Rattle.lrs_store_tables.specs.Stored.{piece_in, span_in}
-use Rattle.lrs_store_routes.specs.Measuring.{are_route_courses}
-use Rattle.lrs_store_routes.specs.Spans.{are_sound}
+use Rattle.lrs_store_tables.specs.Contents.Content.{read, courses_of, entries_of}
+use Rattle.lrs_store_tables.specs.StoredRows.{piece_in, span_in}
+use Rattle.lrs_store_image.specs.DecodedRoutes.Marks.{are_route_courses}
+use Rattle.lrs_store_image.specs.DecodedRoutes.Spans.{are_sound}
 use Rattle.lrs_store_image.proofs.Chained.{named_rise, read_passes, leads}
 use Rattle.lrs_store_image.proofs.Loaded.{reads_along}
 use Rattle.lrs_store_image.proofs.OfEntries.{courses_read, rows_read}

@@ -1,8 +1,8 @@
-use Rattle.lrs_store_tables.specs.Stored.{piece_in}
+use Rattle.lrs_store_tables.specs.StoredRows.{piece_in}
 use Rattle.std.proofs.Common.{map, ap, ◌∙◌}
 use Rattle.lrs_machine.specs.declared.table.Table.TheVariants as table
 use Rattle.lrs_machine.specs.Sound.{are_courses}
-use Rattle.lrs_store_rows.specs.Content.{read, courses_of}
+use Rattle.lrs_store_tables.specs.Contents.Content.{read, courses_of}
 use Rattle.lrs_store_image.proofs.Loaded.{reads_of, reads_along}
 use Rattle.lrs_store_image.proofs.routes.courses.Goals as goal
 

@@ -1,8 +1,8 @@
-use Rattle.lrs_store_tables.specs.Stored.{mark_in}
+use Rattle.lrs_store_tables.specs.StoredRows.{mark_in}
 use Rattle.std.proofs.Common.{map, ap, ◌∙◌}
 use Rattle.lrs_machine.specs.declared.table.Table.TheVariants as table
-use Rattle.lrs_store_rows.specs.Content.{read, measured_of}
-use Rattle.lrs_store_routes.specs.Measuring.{are_all_measured}
+use Rattle.lrs_store_tables.specs.Contents.Content.{read, measured_of}
+use Rattle.lrs_store_image.specs.DecodedRoutes.Marks.{are_all_measured}
 use Rattle.lrs_store_image.proofs.Loaded.{reads_of, reads_along}
 use Rattle.lrs_store_image.proofs.routes.measured.Goals as goal
 

@@ -1,8 +1,8 @@
-use Rattle.lrs_store_tables.specs.Stored.{ref_in}
+use Rattle.lrs_store_tables.specs.StoredRows.{ref_in}
 use Rattle.std.proofs.Common.{map, ap, ◌∙◌}
 use Rattle.lrs_machine.specs.declared.table.Table.TheVariants as table
-use Rattle.lrs_store_rows.specs.Content.{read, routes_of}
-use Rattle.lrs_store_routes.specs.Referring.{are_all_referred}
+use Rattle.lrs_store_tables.specs.Contents.Content.{read, routes_of}
+use Rattle.lrs_store_image.specs.DecodedRoutes.Referents.{are_all_referred}
 use Rattle.lrs_store_image.proofs.Loaded.{reads_of, reads_along}
 use Rattle.lrs_store_image.proofs.routes.routes.Goals as goal
 

@@ -1,9 +1,9 @@
-use Rattle.lrs_store_tables.specs.Stored.{span_in}
+use Rattle.lrs_store_tables.specs.StoredRows.{span_in}
 use Rattle.std.proofs.Common.{◌≡◌, ◌∙◌, true, Ok, map, ap, sym, subst}
 use Rattle.lrs_machine.specs.declared.table.Table.TheVariants as table
 use Rattle.lrs_machine.specs.Sound.{are_courses}
-use Rattle.lrs_store_rows.specs.Content.{read, entries_of}
-use Rattle.lrs_store_routes.specs.Spans.{courses_over, are_sound}
+use Rattle.lrs_store_tables.specs.Contents.Content.{read, entries_of}
+use Rattle.lrs_store_image.specs.DecodedRoutes.Spans.{courses_over, are_sound}
 use Rattle.lrs_store_image.proofs.Loaded.{reads_of, reads_along, ok_at}
 use Rattle.lrs_store_image.proofs.routes.spans.Goals as goal
 

@@ -2,8 +2,8 @@ use Rattle.std.proofs.Common.{◌∙◌, rules}
 use Rattle.lrs_machine.specs.Sound.{asset_before}
 use Rattle.lrs_machine.specs.Sound.{are_assets}
 use Rattle.lrs_machine.specs.declared.table.Table.TheVariants as table
-use Rattle.lrs_store_rows.specs.Decoding.{asset_of}
-use Rattle.lrs_store_tables.specs.Stored.{asset_in}
+use Rattle.lrs_store_tables.specs.Contents.Decoders.{asset_of}
+use Rattle.lrs_store_tables.specs.StoredRows.{asset_in}
 use Rattle.lrs_store_image.proofs.Said.{nothing_said, all_said, reads_along}
 use Rattle.lrs_store_image.proofs.rows.assets.Goals as goal
 

@@ -2,8 +2,8 @@ use Rattle.std.proofs.Common.{◌∙◌, rules}
 use Rattle.lrs_machine.specs.Sound.{class_before}
 use Rattle.lrs_machine.specs.Sound.{are_classes}
 use Rattle.lrs_machine.specs.declared.table.Table.TheVariants as table
-use Rattle.lrs_store_rows.specs.Decoding.{class_of}
-use Rattle.lrs_store_tables.specs.Stored.{class_in}
+use Rattle.lrs_store_tables.specs.Contents.Decoders.{class_of}
+use Rattle.lrs_store_tables.specs.StoredRows.{class_in}
 use Rattle.lrs_store_image.proofs.Said.{nothing_said, all_said, reads_along}
 use Rattle.lrs_store_image.proofs.rows.classes.Goals as goal
 

@@ -1,9 +1,9 @@
 use Rattle.std.proofs.Common.{rules}
 use Rattle.lrs_machine.specs.Sound.{are_edits}
 use Rattle.lrs_machine.specs.declared.table.Table.TheVariants as table
-use Rattle.lrs_store_rows.specs.Decoding.{sorted, number_before, counted, edit_of}
-use Rattle.lrs_store_rows.specs.Content.{read}
-use Rattle.lrs_store_tables.specs.Stored.{edit_in}
+use Rattle.lrs_store_tables.specs.Contents.Decoders.{sorted, number_before, counted, edit_of}
+use Rattle.lrs_store_tables.specs.Contents.Content.{read}
+use Rattle.lrs_store_tables.specs.StoredRows.{edit_in}
 use Rattle.lrs_store_image.proofs.Counted.{nothing_numbered, all_numbered}
 use Rattle.lrs_store_image.proofs.Said.{reads_along}
 use Rattle.lrs_store_image.proofs.rows.edits.Goals as goal

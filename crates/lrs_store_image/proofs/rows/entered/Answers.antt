@@ -2,9 +2,9 @@ use Rattle.std.proofs.Common.{Some, rules}
 use Rattle.lrs_events.specs.Parts.{part_before}
 use Rattle.lrs_machine.specs.Sound.{are_entered}
 use Rattle.lrs_machine.specs.declared.table.Table.TheVariants as table
-use Rattle.lrs_store_rows.specs.Decoding.{sorted, part_of}
-use Rattle.lrs_store_rows.specs.Content.{read}
-use Rattle.lrs_store_tables.specs.Stored.{entered_in}
+use Rattle.lrs_store_tables.specs.Contents.Decoders.{sorted, part_of}
+use Rattle.lrs_store_tables.specs.Contents.Content.{read}
+use Rattle.lrs_store_tables.specs.StoredRows.{entered_in}
 use Rattle.lrs_store_image.proofs.Said.{nothing_said, all_said, reads_along}
 use Rattle.lrs_store_image.proofs.rows.entered.Goals as goal
 

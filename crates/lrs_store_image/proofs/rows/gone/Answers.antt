@@ -3,9 +3,9 @@ use Rattle.lrs_machine.specs.Sound.{gone_before}
 use Rattle.lrs_machine.specs.Sound.{are_gone}
 use Rattle.lrs_image_sound.specs.Tables.{route_spans}
 use Rattle.lrs_machine.specs.declared.table.Table.TheVariants as table
-use Rattle.lrs_store_rows.specs.Decoding.{sorted, gone_of}
-use Rattle.lrs_store_rows.specs.Content.{read}
-use Rattle.lrs_store_tables.specs.Stored.{gone_in}
+use Rattle.lrs_store_tables.specs.Contents.Decoders.{sorted, gone_of}
+use Rattle.lrs_store_tables.specs.Contents.Content.{read}
+use Rattle.lrs_store_tables.specs.StoredRows.{gone_in}
 use Rattle.lrs_store_image.proofs.Said.{nothing_said, all_said, reads_along}
 use Rattle.lrs_store_image.proofs.rows.gone.Goals as goal
 

@@ -2,8 +2,8 @@ use Rattle.std.proofs.Common.{◌∙◌, rules}
 use Rattle.lrs_machine.specs.Sound.{link_before}
 use Rattle.lrs_machine.specs.Sound.{are_links}
 use Rattle.lrs_machine.specs.declared.table.Table.TheVariants as table
-use Rattle.lrs_store_rows.specs.Decoding.{link_of}
-use Rattle.lrs_store_tables.specs.Stored.{link_in}
+use Rattle.lrs_store_tables.specs.Contents.Decoders.{link_of}
+use Rattle.lrs_store_tables.specs.StoredRows.{link_in}
 use Rattle.lrs_store_image.proofs.Said.{nothing_said, all_said, reads_along}
 use Rattle.lrs_store_image.proofs.rows.links.Goals as goal
 

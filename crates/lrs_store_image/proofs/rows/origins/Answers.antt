@@ -2,9 +2,9 @@ use Rattle.std.proofs.Common.{Some, Bool, List, rules}
 use Rattle.std.specs.Prelude.{◌&&◌}
 use Rattle.lrs_machine.specs.Sound.{are_origins}
 use Rattle.lrs_machine.specs.declared.table.Table.TheVariants as table
-use Rattle.lrs_store_rows.specs.Decoding.{sorted, Origin, origin_of}
-use Rattle.lrs_store_rows.specs.Content.{read, origin_before, has_origins}
-use Rattle.lrs_store_tables.specs.Stored.{origin_in}
+use Rattle.lrs_store_tables.specs.Contents.Decoders.{sorted, Origin, origin_of}
+use Rattle.lrs_store_tables.specs.Contents.Content.{read, origin_before, has_origins}
+use Rattle.lrs_store_tables.specs.StoredRows.{origin_in}
 use Rattle.lrs_store_image.proofs.Said.{nothing_said, all_said, reads_along}
 use Rattle.lrs_store_image.proofs.rows.origins.Goals as goal
 

@@ -1,7 +1,7 @@
 use Rattle.std.proofs.Common.{true, sym, ap, rules}
 use Rattle.lrs_machine.specs.declared.table.Table.TheVariants as table
-use Rattle.lrs_store_rows.specs.Content.{read}
-use Rattle.lrs_store_tables.specs.Stored.{version_in}
+use Rattle.lrs_store_tables.specs.Contents.Content.{read}
+use Rattle.lrs_store_tables.specs.StoredRows.{version_in}
 use Rattle.lrs_store_image.proofs.OriginRows.{not_one}
 use Rattle.lrs_store_image.proofs.rows.version.Goals as goal
 

@@ -8,9 +8,9 @@ use Rattle.lrs_events.specs.Parts.{part_before}
 use Rattle.lrs_machine.specs.declared.table.Table.TheVariants as table
 use Rattle.lrs_machine.specs.Sound.{are_entered, gone_before, are_gone}
 use Rattle.lrs_image_sound.specs.Tables.{route_spans}
-use Rattle.lrs_store_rows.specs.Decoding.{each_sorted, part_of, gone_of}
-use Rattle.lrs_store_rows.specs.Content.{read}
-use Rattle.lrs_store_tables.specs.Stored.{entered_in, gone_in}
+use Rattle.lrs_store_tables.specs.Contents.Decoders.{each_sorted, part_of, gone_of}
+use Rattle.lrs_store_tables.specs.Contents.Content.{read}
+use Rattle.lrs_store_tables.specs.StoredRows.{entered_in, gone_in}
 use Rattle.lrs_store_image.proofs.InSteps.{no_gone, is_unsound}
 use Rattle.lrs_store_image.proofs.steps.read_ledgers.Goals as goal
 

@@ -1,9 +1,9 @@
 use Rattle.std.proofs.Common.{rules, ◌≡◌, Ok, Err, sym, subst, ◌∙◌}
 use Rattle.std.specs.Prelude.{map, true}
 use Rattle.lrs_machine.specs.declared.table.Table.TheVariants as table
-use Rattle.lrs_store_rows.specs.Content.{read, version_of}
-use Rattle.lrs_store_tables.specs.Stored.{version_in}
-use Rattle.lrs_store_image.specs.Reading.{entries_read}
+use Rattle.lrs_store_tables.specs.Contents.Content.{read, version_of}
+use Rattle.lrs_store_tables.specs.StoredRows.{version_in}
+use Rattle.lrs_store_image.specs.Readings.{entries_read}
 use Rattle.lrs_store_image.specs.Steps.{tables_with}
 use Rattle.lrs_store_image.proofs.InSteps.{in_steps, no_routes, is_unsound}
 use Rattle.lrs_store_image.proofs.steps.read_registers.Goals as goal

@@ -1,5 +1,5 @@
 use Rattle.std.proofs.Common.{rules, ◌≡◌, Err, map}
-use Rattle.lrs_store_tables.specs.Stored.{entered_in, gone_in}
+use Rattle.lrs_store_tables.specs.StoredRows.{entered_in, gone_in}
 use Rattle.lrs_store_image.proofs.OfContent.{enters_not}
 use Rattle.lrs_store_image.proofs.steps.with_ledgers.Goals as goal
 

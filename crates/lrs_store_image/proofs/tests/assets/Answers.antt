@@ -2,7 +2,7 @@ use Rattle.std.proofs.Common.{Ok, ap, ◌∙◌, rules}
 use Rattle.lrs_machine.specs.Sound.{asset_before}
 use Rattle.lrs_machine.specs.Sound.{are_assets}
 use Rattle.lrs_machine.specs.declared.table.Table.TheVariants as table
-use Rattle.lrs_store_rows.proofs.Orders.{assets_rank}
+use Rattle.lrs_store_tables.proofs.Contents.Orders.{assets_rank}
 use Rattle.lrs_store_image.proofs.Asks.{assets_ask}
 use Rattle.lrs_store_image.proofs.Sorted.{passed, failed}
 use Rattle.lrs_store_image.proofs.tests.assets.Goals as goal

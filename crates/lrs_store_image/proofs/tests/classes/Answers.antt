@@ -2,7 +2,7 @@ use Rattle.std.proofs.Common.{Ok, ap, ◌∙◌, rules}
 use Rattle.lrs_machine.specs.Sound.{class_before}
 use Rattle.lrs_machine.specs.Sound.{are_classes}
 use Rattle.lrs_machine.specs.declared.table.Table.TheVariants as table
-use Rattle.lrs_store_rows.proofs.Orders.{classes_rank}
+use Rattle.lrs_store_tables.proofs.Contents.Orders.{classes_rank}
 use Rattle.lrs_store_image.proofs.Sorted.{passed, failed}
 use Rattle.lrs_store_image.proofs.tests.classes.Goals as goal
 

@@ -2,7 +2,7 @@ use Rattle.std.proofs.Common.{Ok, ap, sym, ◌∙◌, rules}
 use Rattle.lrs_events.specs.Parts.{part_before}
 use Rattle.lrs_machine.specs.Sound.{are_entered}
 use Rattle.lrs_machine.specs.declared.table.Table.TheVariants as table
-use Rattle.lrs_store_rows.proofs.Orders.{parts_rank}
+use Rattle.lrs_store_tables.proofs.Contents.Orders.{parts_rank}
 use Rattle.lrs_store_image.proofs.Asks.{entered_ask}
 use Rattle.lrs_store_image.proofs.Sorted.{passed, failed}
 use Rattle.lrs_store_image.proofs.tests.entered.Goals as goal

@@ -3,7 +3,7 @@ use Rattle.lrs_machine.specs.Sound.{gone_before}
 use Rattle.lrs_machine.specs.Sound.{are_gone}
 use Rattle.lrs_image_sound.specs.Tables.{route_spans}
 use Rattle.lrs_machine.specs.declared.table.Table.TheVariants as table
-use Rattle.lrs_store_rows.proofs.Orders.{gone_rank}
+use Rattle.lrs_store_tables.proofs.Contents.Orders.{gone_rank}
 use Rattle.lrs_store_image.proofs.Asks.{gone_ask}
 use Rattle.lrs_store_image.proofs.Sorted.{passed, failed}
 use Rattle.lrs_store_image.proofs.tests.gone.Goals as goal

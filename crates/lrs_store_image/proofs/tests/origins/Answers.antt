@@ -2,9 +2,9 @@ use Rattle.std.proofs.Common.{Ok, Bool, List, ap, sym, ◌∙◌, rules}
 use Rattle.std.specs.Prelude.{◌&&◌}
 use Rattle.lrs_machine.specs.Sound.{are_origins}
 use Rattle.lrs_machine.specs.declared.table.Table.TheVariants as table
-use Rattle.lrs_store_rows.specs.Decoding.{Origin}
-use Rattle.lrs_store_rows.specs.Content.{origin_before, has_origins}
-use Rattle.lrs_store_rows.proofs.Orders.{origins_rank}
+use Rattle.lrs_store_tables.specs.Contents.Decoders.{Origin}
+use Rattle.lrs_store_tables.specs.Contents.Content.{origin_before, has_origins}
+use Rattle.lrs_store_tables.proofs.Contents.Orders.{origins_rank}
 use Rattle.lrs_store_image.proofs.OriginRows.{origins_ask}
 use Rattle.lrs_store_image.proofs.Sorted.{passed, failed}
 use Rattle.lrs_store_image.proofs.tests.origins.Goals as goal

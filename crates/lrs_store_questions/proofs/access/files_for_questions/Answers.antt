@@ -3,7 +3,7 @@ use Rattle.sqlite_trees.proofs.Doubt.{clean_of}
 use Rattle.sqlite_store.specs.FileStore.{view}
 use Rattle.sqlite_store.specs.Laws.{settled_at}
 use Rattle.sqlite.specs.Files.{AreFound}
-use Rattle.lrs_store_questions.specs.Reading.{HasContent}
+use Rattle.lrs_store_questions.specs.Readings.{HasContent}
 use Rattle.lrs_store_questions.proofs.access.files_for_questions.Goals as goal
 
 pub returns-in-Ok-clause-held : goal.returns-in-Ok-clause-held

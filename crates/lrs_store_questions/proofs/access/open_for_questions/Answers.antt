@@ -2,7 +2,7 @@ use Rattle.std.proofs.Common.{ℕ, Bool, cond, List, ap₂, subst}
 use Rattle.std.proofs.lemmas.Result.{IfOk-weaker}
 use Rattle.sqlite_disk.specs.Events.{Event, replay}
 use Rattle.sqlite_wal.specs.Recovery.{Image}
-use Rattle.lrs_store_questions.specs.Asked.{HasRead}
+use Rattle.lrs_store_questions.specs.FileAnswers.{HasRead}
 use Rattle.lrs_store_questions.proofs.ReadLemmas.{if_err, if_some}
 use Rattle.lrs_store_questions.proofs.access.open_for_questions.Goals as goal
 

@@ -14,7 +14,7 @@ use Rattle.sqlite_store.specs.Unopened.{state_of, wanted_by, image}
 use Rattle.sqlite_store.proofs.AlikeLemmas.{same_file}
 use Rattle.sqlite.specs.Opening.{unrooted, Meets}
 use Rattle.sqlite.proofs.OpenLemmas.{meets}
-use Rattle.lrs_store_questions.specs.Plain.{plain_layout, ListPlain}
+use Rattle.lrs_store_questions.specs.PlainStores.{plain_layout, ListPlain}
 use Rattle.lrs_store_questions.proofs.PlainLemmas.{plain_listed}
 use Rattle.lrs_store_questions.proofs.files.read_schema.Goals as goal
 

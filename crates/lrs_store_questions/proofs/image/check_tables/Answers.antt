@@ -1,7 +1,7 @@
 use Rattle.std.proofs.Common.{◌≡◌, ap, subst, ◌∙◌, arith}
 use Rattle.sqlite_trees.specs.Objects.{catalog_tree}
 use Rattle.sqlite_catalog.specs.Listing.{Lists}
-use Rattle.lrs_store_tables.specs.Making.{first_tables}
+use Rattle.lrs_store_tables.specs.TableCreation.{first_tables}
 use Rattle.lrs_store_tables.proofs.MakeLemmas.{all_made}
 use Rattle.lrs_store_files.proofs.FoundLemmas.{lists_it}
 use Rattle.lrs_store_questions.proofs.image.check_tables.Goals as goal

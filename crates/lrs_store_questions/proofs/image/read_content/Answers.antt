@@ -1,8 +1,8 @@
 use Rattle.std.proofs.Common.{rules, ◌≡◌, Err, ◌∙◌}
 use Rattle.lrs_store_image.specs.Steps.{edits_in, tables_with, content_of_held}
-use Rattle.lrs_store_files.specs.Seeing.{HasLedgers, HasEdits}
+use Rattle.lrs_store_files.specs.SeenRows.{HasLedgers, HasEdits}
 use Rattle.lrs_store_files.proofs.SeeingLemmas.{seen_both}
-use Rattle.lrs_store_questions.specs.Reading.{HasFirst}
+use Rattle.lrs_store_questions.specs.Readings.{HasFirst}
 use Rattle.lrs_store_questions.proofs.ReadLemmas.{ledgers_in, read_is_sound, said_first, said_second, said_third}
 use Rattle.lrs_store_questions.proofs.image.read_content.Goals as goal
 

@@ -1,5 +1,5 @@
 use Rattle.sqlite_trees.specs.View.{IsClean}
-use Rattle.lrs_store_questions.specs.Reading.{IsTold}
+use Rattle.lrs_store_questions.specs.Readings.{IsTold}
 use Rattle.lrs_store_questions.proofs.ReadLemmas.{there, told, told_ok}
 use Rattle.lrs_store_questions.proofs.image.read_image.Goals as goal
 

@@ -8,13 +8,13 @@ use Rattle.sqlite.specs.State.{State}
 use Rattle.sqlite.specs.Files.{HoldsDatabase, file_state}
 use Rattle.lrs_machine.specs.declared.image.Image.{Image}
 use Rattle.lrs_machine.specs.declared.table.Table.{Table}
-use Rattle.lrs_store_rows.specs.Content.{content_of}
+use Rattle.lrs_store_tables.specs.Contents.Content.{content_of}
 use Rattle.lrs_store_tables.specs.Schema.{inventory}
-use Rattle.lrs_store_tables.specs.Stored.{stored}
+use Rattle.lrs_store_tables.specs.StoredRows.{stored}
 use Rattle.lrs_store_tables.proofs.MakeLemmas.{all_made}
-use Rattle.lrs_store_tables.specs.Holding.{MayHold}
-use Rattle.lrs_store_files.specs.Opened.{HasOpened}
-use Rattle.lrs_store_questions.specs.Asked.{HasRead}
+use Rattle.lrs_store_tables.specs.HeldRows.{MayHold}
+use Rattle.lrs_store_files.specs.OpenedFiles.{HasOpened}
+use Rattle.lrs_store_questions.specs.FileAnswers.{HasRead}
 use Rattle.lrs_store_questions.proofs.laws.same_answer.Goals as goal
 
 same : (image : wal.Image) (s : State) (c d : Result Image Table) (db : Trees) → HoldsDatabase image db → HasRead image c → HasOpened image s → MayHold s d → c ≡ d

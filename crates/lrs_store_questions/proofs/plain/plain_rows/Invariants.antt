@@ -1,5 +1,5 @@
 use Rattle.std.proofs.Common.{◌≡◌, map, take}
-use Rattle.lrs_store_questions.specs.Plain.{plain_row}
+use Rattle.lrs_store_questions.specs.PlainStores.{plain_row}
 use Rattle.lrs_store_questions.proofs.plain.plain_rows.Given as goal
 
 abbrev pub invariant-loop-row : goal.invariant-loop-row

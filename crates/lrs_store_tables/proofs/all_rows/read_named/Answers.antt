@@ -1,9 +1,9 @@
 use Rattle.std.proofs.Common.{arith, map, IsPermutation, ◌∙◌}
 use Rattle.sqlite.specs.State.{HasCleanDisk}
 use Rattle.sqlite.specs.Held.{state}
-use Rattle.lrs_store_rows.specs.Tables.{Tables}
-use Rattle.lrs_store_tables.specs.Stored.{version_in, link_in, class_in, asset_in}
-use Rattle.lrs_store_tables.specs.Failing.{HasReason}
+use Rattle.lrs_store_tables.specs.Contents.Tables.{Tables}
+use Rattle.lrs_store_tables.specs.StoredRows.{version_in, link_in, class_in, asset_in}
+use Rattle.lrs_store_tables.specs.Failures.{HasReason}
 use Rattle.lrs_store_tables.specs.Rows.{HasRead}
 use Rattle.lrs_store_tables.proofs.RowLemmas.{reads_then, still, none_read, err_told, leaves_then, fails_after}
 use Rattle.lrs_store_tables.proofs.all_rows.read_named.Goals as goal

@@ -1,7 +1,7 @@
 use Rattle.std.proofs.Common.{arith, ◌∙◌}
 use Rattle.sqlite.specs.State.{HasCleanDisk}
 use Rattle.sqlite.specs.Held.{state}
-use Rattle.lrs_store_tables.specs.Failing.{HasReason}
+use Rattle.lrs_store_tables.specs.Failures.{HasReason}
 use Rattle.lrs_store_tables.specs.Rows.{AreNamed, AreOfRoutes, AreOfLedgers}
 use Rattle.lrs_store_tables.proofs.RowLemmas.{reads_then, still, none_read, err_told, leaves_then, fails_after}
 use Rattle.lrs_store_tables.proofs.all_rows.read_rows.Goals as goal

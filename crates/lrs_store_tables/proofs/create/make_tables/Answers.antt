@@ -2,7 +2,7 @@ use Rattle.std.proofs.Common.{rules, ◌≡◌, [], Ok, Err, subst, ◌∙◌, a
 use Rattle.sqlite.specs.Held.{state}
 use Rattle.sqlite.specs.State.{HasCleanDisk, ExecutesInside}
 use Rattle.sqlite.proofs.StateLemmas.{survives_then}
-use Rattle.lrs_store_tables.specs.Making.{IsMaking}
+use Rattle.lrs_store_tables.specs.TableCreation.{IsMaking}
 use Rattle.lrs_store_tables.proofs.MakeLemmas.{makes_one}
 use Rattle.lrs_store_tables.proofs.FailLemmas.{reason_after}
 use Rattle.lrs_store_tables.proofs.CreateFails.{create_answers}

@@ -1,7 +1,7 @@
 use Rattle.std.proofs.Common.{◌≡◌}
 use Rattle.sqlite.specs.State.{HasCleanDisk, Survives}
 use Rattle.sqlite.specs.Held.{state}
-use Rattle.lrs_store_tables.specs.Making.{IsBegun, IsMaking}
+use Rattle.lrs_store_tables.specs.TableCreation.{IsBegun, IsMaking}
 use Rattle.lrs_store_tables.proofs.create.make_tables.Given as goal
 
 abbrev pub invariant-loop-place : goal.invariant-loop-place

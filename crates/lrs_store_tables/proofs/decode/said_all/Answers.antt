@@ -1,5 +1,5 @@
 use Rattle.std.proofs.Common.{◌≡◌, ◌<◌, ◌+◌, ◌∙◌, length, take, Some, sym, ap, subst, rules}
-use Rattle.lrs_store_rows.specs.Decoding.{each_of}
+use Rattle.lrs_store_tables.specs.Contents.Decoders.{each_of}
 use Rattle.lrs_store_tables.proofs.SaidRows.{each_of-more, each_of-at}
 use Rattle.lrs_store_tables.proofs.decode.said_all.Goals as goal
 

@@ -1,5 +1,5 @@
 use Rattle.std.proofs.Common.{◌≡◌, Some, take}
-use Rattle.lrs_store_rows.specs.Decoding.{each_of}
+use Rattle.lrs_store_tables.specs.Contents.Decoders.{each_of}
 use Rattle.lrs_store_tables.proofs.decode.said_all.Given as goal
 
 abbrev pub invariant-loop-row : goal.invariant-loop-row

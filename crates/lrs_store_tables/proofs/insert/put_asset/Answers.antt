@@ -1,5 +1,5 @@
 use Rattle.sqlite.specs.Held.{state}
-use Rattle.lrs_store_rows.specs.Encoding.{asset_row}
+use Rattle.lrs_store_tables.specs.Contents.Encoders.{asset_row}
 use Rattle.lrs_store_tables.proofs.Inserted.{asset_added}
 use Rattle.lrs_store_tables.proofs.insert.put_asset.Goals as goal
 

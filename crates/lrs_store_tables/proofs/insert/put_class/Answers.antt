@@ -1,5 +1,5 @@
 use Rattle.sqlite.specs.Held.{state}
-use Rattle.lrs_store_rows.specs.Encoding.{class_row}
+use Rattle.lrs_store_tables.specs.Contents.Encoders.{class_row}
 use Rattle.lrs_store_tables.proofs.Inserted.{class_added}
 use Rattle.lrs_store_tables.proofs.insert.put_class.Goals as goal
 

@@ -1,5 +1,5 @@
 use Rattle.sqlite.specs.Held.{state}
-use Rattle.lrs_store_rows.specs.Encoding.{edit_row}
+use Rattle.lrs_store_tables.specs.Contents.Encoders.{edit_row}
 use Rattle.lrs_store_tables.proofs.Inserted.{edit_added}
 use Rattle.lrs_store_tables.proofs.insert.put_edit.Goals as goal
 

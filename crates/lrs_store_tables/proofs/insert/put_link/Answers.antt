@@ -1,5 +1,5 @@
 use Rattle.sqlite.specs.Held.{state}
-use Rattle.lrs_store_rows.specs.Encoding.{link_row}
+use Rattle.lrs_store_tables.specs.Contents.Encoders.{link_row}
 use Rattle.lrs_store_tables.proofs.Inserted.{link_added}
 use Rattle.lrs_store_tables.proofs.insert.put_link.Goals as goal
 

@@ -1,5 +1,5 @@
 use Rattle.sqlite.specs.Held.{state}
-use Rattle.lrs_store_rows.specs.Laws.{origin_row}
+use Rattle.lrs_store_tables.specs.Contents.Laws.{origin_row}
 use Rattle.lrs_store_tables.proofs.Inserted.{origin_added}
 use Rattle.lrs_store_tables.proofs.insert.put_origin.Goals as goal
 

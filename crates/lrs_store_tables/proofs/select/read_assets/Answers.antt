@@ -2,7 +2,7 @@ use Rattle.std.proofs.Common.{rules, [], ◌∷◌, refl, codes}
 use Rattle.std.proofs.lemmas.List.Sorted.{IsPermutation-map}
 use Rattle.sqlite.specs.Held.{state}
 use Rattle.lrs_store_tables.specs.Schema.{select_asset}
-use Rattle.lrs_store_tables.specs.Stored.{asset_in, asset_places}
+use Rattle.lrs_store_tables.specs.StoredRows.{asset_in, asset_places}
 use Rattle.lrs_store_tables.proofs.SelectStatements.{asset_shows, select_asset_is}
 use Rattle.lrs_store_tables.proofs.ReadLemmas.{reads}
 use Rattle.lrs_store_tables.proofs.AloneStatements.{asset_alone, asset_typed}

@@ -2,7 +2,7 @@ use Rattle.std.proofs.Common.{rules, [], ◌∷◌, refl, codes}
 use Rattle.std.proofs.lemmas.List.Sorted.{IsPermutation-map}
 use Rattle.sqlite.specs.Held.{state}
 use Rattle.lrs_store_tables.specs.Schema.{select_class}
-use Rattle.lrs_store_tables.specs.Stored.{class_in, class_places}
+use Rattle.lrs_store_tables.specs.StoredRows.{class_in, class_places}
 use Rattle.lrs_store_tables.proofs.SelectStatements.{class_shows, select_class_is}
 use Rattle.lrs_store_tables.proofs.ReadLemmas.{reads}
 use Rattle.lrs_store_tables.proofs.AloneStatements.{class_alone, class_typed}

@@ -2,7 +2,7 @@ use Rattle.std.proofs.Common.{rules, [], ◌∷◌, refl, codes}
 use Rattle.std.proofs.lemmas.List.Sorted.{IsPermutation-map}
 use Rattle.sqlite.specs.Held.{state}
 use Rattle.lrs_store_tables.specs.Schema.{select_edit}
-use Rattle.lrs_store_tables.specs.Stored.{edit_in, edit_places}
+use Rattle.lrs_store_tables.specs.StoredRows.{edit_in, edit_places}
 use Rattle.lrs_store_tables.proofs.SelectStatements.{edit_shows, select_edit_is}
 use Rattle.lrs_store_tables.proofs.ReadLemmas.{reads}
 use Rattle.lrs_store_tables.proofs.AloneStatements.{edit_alone, edit_typed}

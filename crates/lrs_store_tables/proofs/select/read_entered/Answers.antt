@@ -2,7 +2,7 @@ use Rattle.std.proofs.Common.{rules, [], ◌∷◌, refl, codes}
 use Rattle.std.proofs.lemmas.List.Sorted.{IsPermutation-map}
 use Rattle.sqlite.specs.Held.{state}
 use Rattle.lrs_store_tables.specs.Schema.{select_entered}
-use Rattle.lrs_store_tables.specs.Stored.{entered_in, entered_places}
+use Rattle.lrs_store_tables.specs.StoredRows.{entered_in, entered_places}
 use Rattle.lrs_store_tables.proofs.SelectStatements.{entered_shows, select_entered_is}
 use Rattle.lrs_store_tables.proofs.ReadLemmas.{reads}
 use Rattle.lrs_store_tables.proofs.AloneStatements.{entered_alone, entered_typed}

@@ -2,7 +2,7 @@ use Rattle.std.proofs.Common.{rules, [], ◌∷◌, refl, codes}
 use Rattle.std.proofs.lemmas.List.Sorted.{IsPermutation-map}
 use Rattle.sqlite.specs.Held.{state}
 use Rattle.lrs_store_tables.specs.Schema.{select_gone}
-use Rattle.lrs_store_tables.specs.Stored.{gone_in, gone_places}
+use Rattle.lrs_store_tables.specs.StoredRows.{gone_in, gone_places}
 use Rattle.lrs_store_tables.proofs.SelectStatements.{gone_shows, select_gone_is}
 use Rattle.lrs_store_tables.proofs.ReadLemmas.{reads}
 use Rattle.lrs_store_tables.proofs.AloneStatements.{gone_alone, gone_typed}

@@ -2,7 +2,7 @@ use Rattle.std.proofs.Common.{rules, [], ◌∷◌, refl, codes}
 use Rattle.std.proofs.lemmas.List.Sorted.{IsPermutation-map}
 use Rattle.sqlite.specs.Held.{state}
 use Rattle.lrs_store_tables.specs.Schema.{select_link}
-use Rattle.lrs_store_tables.specs.Stored.{link_in, link_places}
+use Rattle.lrs_store_tables.specs.StoredRows.{link_in, link_places}
 use Rattle.lrs_store_tables.proofs.SelectStatements.{link_shows, select_link_is}
 use Rattle.lrs_store_tables.proofs.ReadLemmas.{reads}
 use Rattle.lrs_store_tables.proofs.AloneStatements.{link_alone, link_typed}

@@ -2,7 +2,7 @@ use Rattle.std.proofs.Common.{rules, [], ◌∷◌, refl, codes}
 use Rattle.std.proofs.lemmas.List.Sorted.{IsPermutation-map}
 use Rattle.sqlite.specs.Held.{state}
 use Rattle.lrs_store_tables.specs.Schema.{select_mark}
-use Rattle.lrs_store_tables.specs.Stored.{mark_in, mark_places}
+use Rattle.lrs_store_tables.specs.StoredRows.{mark_in, mark_places}
 use Rattle.lrs_store_tables.proofs.SelectStatements.{mark_shows, select_mark_is}
 use Rattle.lrs_store_tables.proofs.ReadLemmas.{reads}
 use Rattle.lrs_store_tables.proofs.AloneStatements.{mark_alone, mark_typed}

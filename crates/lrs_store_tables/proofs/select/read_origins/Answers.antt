@@ -2,7 +2,7 @@ use Rattle.std.proofs.Common.{rules, [], ◌∷◌, refl, codes}
 use Rattle.std.proofs.lemmas.List.Sorted.{IsPermutation-map}
 use Rattle.sqlite.specs.Held.{state}
 use Rattle.lrs_store_tables.specs.Schema.{select_origin}
-use Rattle.lrs_store_tables.specs.Stored.{origin_in, origin_places}
+use Rattle.lrs_store_tables.specs.StoredRows.{origin_in, origin_places}
 use Rattle.lrs_store_tables.proofs.SelectStatements.{origin_shows, select_origin_is}
 use Rattle.lrs_store_tables.proofs.ReadLemmas.{reads}
 use Rattle.lrs_store_tables.proofs.AloneStatements.{origin_alone, origin_typed}

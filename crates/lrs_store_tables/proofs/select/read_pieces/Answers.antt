@@ -2,7 +2,7 @@ use Rattle.std.proofs.Common.{rules, [], ◌∷◌, refl, codes}
 use Rattle.std.proofs.lemmas.List.Sorted.{IsPermutation-map}
 use Rattle.sqlite.specs.Held.{state}
 use Rattle.lrs_store_tables.specs.Schema.{select_piece}
-use Rattle.lrs_store_tables.specs.Stored.{piece_in, piece_places}
+use Rattle.lrs_store_tables.specs.StoredRows.{piece_in, piece_places}
 use Rattle.lrs_store_tables.proofs.SelectStatements.{piece_shows, select_piece_is}
 use Rattle.lrs_store_tables.proofs.ReadLemmas.{reads}
 use Rattle.lrs_store_tables.proofs.AloneStatements.{piece_alone, piece_typed}

@@ -2,7 +2,7 @@ use Rattle.std.proofs.Common.{rules, [], ◌∷◌, refl, codes}
 use Rattle.std.proofs.lemmas.List.Sorted.{IsPermutation-map}
 use Rattle.sqlite.specs.Held.{state}
 use Rattle.lrs_store_tables.specs.Schema.{select_ref}
-use Rattle.lrs_store_tables.specs.Stored.{ref_in, ref_places}
+use Rattle.lrs_store_tables.specs.StoredRows.{ref_in, ref_places}
 use Rattle.lrs_store_tables.proofs.SelectStatements.{ref_shows, select_ref_is}
 use Rattle.lrs_store_tables.proofs.ReadLemmas.{reads}
 use Rattle.lrs_store_tables.proofs.AloneStatements.{ref_alone, ref_typed}

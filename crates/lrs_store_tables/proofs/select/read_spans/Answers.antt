@@ -2,7 +2,7 @@ use Rattle.std.proofs.Common.{rules, [], ◌∷◌, refl, codes}
 use Rattle.std.proofs.lemmas.List.Sorted.{IsPermutation-map}
 use Rattle.sqlite.specs.Held.{state}
 use Rattle.lrs_store_tables.specs.Schema.{select_span}
-use Rattle.lrs_store_tables.specs.Stored.{span_in, span_places}
+use Rattle.lrs_store_tables.specs.StoredRows.{span_in, span_places}
 use Rattle.lrs_store_tables.proofs.SelectStatements.{span_shows, select_span_is}
 use Rattle.lrs_store_tables.proofs.ReadLemmas.{reads}
 use Rattle.lrs_store_tables.proofs.AloneStatements.{span_alone, span_typed}

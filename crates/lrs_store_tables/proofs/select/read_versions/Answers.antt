@@ -2,7 +2,7 @@ use Rattle.std.proofs.Common.{rules, [], ◌∷◌, refl, codes}
 use Rattle.std.proofs.lemmas.List.Sorted.{IsPermutation-map}
 use Rattle.sqlite.specs.Held.{state}
 use Rattle.lrs_store_tables.specs.Schema.{select_version}
-use Rattle.lrs_store_tables.specs.Stored.{version_in, version_places}
+use Rattle.lrs_store_tables.specs.StoredRows.{version_in, version_places}
 use Rattle.lrs_store_tables.proofs.SelectStatements.{version_shows, select_version_is}
 use Rattle.lrs_store_tables.proofs.ReadLemmas.{reads}
 use Rattle.lrs_store_tables.proofs.AloneStatements.{version_alone, version_typed}

@@ -3,7 +3,7 @@ use Rattle.std.proofs.lemmas.List.{map_more}
 use Rattle.serde_json.specs.Data.{Data}
 use Rattle.serde_json.proofs.Views.{view-Array}
 use Rattle.serde_json.specs.View.{view}
-use Rattle.lrs_web_replies.specs.Shown.{list}
+use Rattle.lrs_web_replies.specs.JsonParts.{list}
 use Rattle.lrs_web_replies.proofs.list.list_value.Goals as goal
 
 pub loop-one-preserved : goal.loop-one-preserved

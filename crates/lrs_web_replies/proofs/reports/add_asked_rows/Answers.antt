@@ -4,9 +4,9 @@ use Rattle.std.specs.List.{flat_map}
 use Rattle.std.specs.Option.{option_map_or}
 use Rattle.lrs_measure.specs.Texts.{Name}
 use Rattle.lrs_machine.specs.declared.image.RouteRow.{RouteRow}
-use Rattle.lrs_lists.specs.Wanted.{is_of_route}
-use Rattle.lrs_lists.proofs.Chosen.{all_chosen, named_alone, told_alone}
-use Rattle.lrs_lists.proofs.Writing.{as_text}
+use Rattle.lrs_report_lists.specs.WantedRows.{is_of_route}
+use Rattle.lrs_report_lists.proofs.Chosen.{all_chosen, named_alone, told_alone}
+use Rattle.lrs_report_lists.proofs.Writing.{as_text}
 use Rattle.lrs_web_replies.specs.Parts.{rows_part}
 use Rattle.lrs_web_replies.proofs.reports.add_asked_rows.Goals as goal
 

@@ -1,6 +1,6 @@
 use Rattle.std.proofs.Common.{Some, ap}
 use Rattle.std.specs.List.{flat_map}
-use Rattle.lrs_lists.proofs.Writing.{leads_end, leads_next}
+use Rattle.lrs_report_lists.proofs.Writing.{leads_end, leads_next}
 use Rattle.lrs_web_replies.specs.Parts.{rows_part}
 use Rattle.lrs_web_replies.proofs.reports.add_each_row.Goals as goal
 

@@ -1,6 +1,6 @@
 use Rattle.std.proofs.Common.{Some, ap, ◌∙◌}
 use Rattle.serde_json.specs.Written.{has_float}
-use Rattle.lrs_lists.proofs.Writing.{as_text}
+use Rattle.lrs_report_lists.proofs.Writing.{as_text}
 use Rattle.lrs_web_replies.specs.Parts.{item_text}
 use Rattle.lrs_web_replies.specs.Reports.{gone_data, gone_data_with}
 use Rattle.lrs_web_replies.proofs.Whole.{gone_whole}

@@ -1,6 +1,6 @@
 use Rattle.std.proofs.Common.{Some, ap, ◌∙◌}
 use Rattle.std.specs.List.{flat_map}
-use Rattle.lrs_lists.proofs.Writing.{as_text}
+use Rattle.lrs_report_lists.proofs.Writing.{as_text}
 use Rattle.lrs_web_replies.specs.Parts.{ref_part, refs_part}
 use Rattle.lrs_web_replies.specs.Reports.{ref_data}
 use Rattle.lrs_web_replies.proofs.Listing.{of_each}

@@ -1,7 +1,7 @@
 use Rattle.std.proofs.Common.{Some, ap, ◌∙◌}
 use Rattle.std.specs.List.{flat_map}
-use Rattle.lrs_lists.proofs.Writing.{as_text}
-use Rattle.lrs_lists.specs.Wanted.{is_wanted}
+use Rattle.lrs_report_lists.proofs.Writing.{as_text}
+use Rattle.lrs_report_lists.specs.WantedRows.{is_wanted}
 use Rattle.lrs_web_replies.specs.Parts.{row_part, rows_part}
 use Rattle.lrs_web_replies.specs.Reports.{row_data}
 use Rattle.lrs_web_replies.proofs.Listing.{of_chosen}

@@ -1,7 +1,7 @@
 use Rattle.lrs_web_replies.specs.Parts.{row_part}
 use Rattle.std.proofs.Common.{Some, append-nil, ap, sym, take_all, ◌++◌, ◌∙◌}
 use Rattle.std.specs.List.{flat_map}
-use Rattle.lrs_lists.proofs.Writing.{appends_next}
+use Rattle.lrs_report_lists.proofs.Writing.{appends_next}
 use Rattle.lrs_web_replies.proofs.reports.add_rows_on.Goals as goal
 
 pub loop-row-preserved : goal.loop-row-preserved

@@ -1,5 +1,5 @@
 use Rattle.std.proofs.Common.{ℕ, List, length, codes, ap, arith, map}
-use Rattle.lrs_image.specs.Kept.{image_of}
+use Rattle.lrs_image.specs.OpenLists.{image_of}
 use Rattle.lrs_web_replies.specs.Parts.{front_text, item_text}
 use Rattle.std.specs.List.{flat_map}
 use Rattle.lrs_web_replies.specs.Reports.{class_data}

@@ -1,9 +1,9 @@
 use Rattle.std.proofs.Common.{ℕ, List, length, codes, ap, ◌∙◌, arith, filter, map}
-use Rattle.lrs_image.specs.Kept.{image_of}
+use Rattle.lrs_image.specs.OpenLists.{image_of}
 use Rattle.lrs_web_replies.specs.Parts.{front_text, item_text}
 use Rattle.std.specs.List.{flat_map}
 use Rattle.lrs_image.proofs.Tables.{assets_in_order}
-use Rattle.lrs_lists.specs.Wanted.{is_of_edit}
+use Rattle.lrs_report_lists.specs.WantedRows.{is_of_edit}
 use Rattle.lrs_web_replies.specs.Parts.{gone_part}
 use Rattle.lrs_web_replies.specs.Reports.{gone_data}
 use Rattle.lrs_web_replies.proofs.Listing.{behind, named, of_chosen}

@@ -1,6 +1,6 @@
 use Rattle.std.proofs.Common.{◌∙◌, sym, map}
 use Rattle.httparse.specs.Spans.{header_bytes}
-use Rattle.lrs_web_requests.specs.Framing.{values_named, transfer_encoding, content_length}
+use Rattle.lrs_web_requests.specs.BodyLengths.{values_named, transfer_encoding, content_length}
 use Rattle.lrs_web_requests.specs.Values.{nothing, several, one}
 use Rattle.lrs_web_requests.proofs.LengthLemmas.{length_by_summaries}
 use Rattle.lrs_web_requests.proofs.framing.length_of_body.Goals as goal

@@ -1,6 +1,6 @@
 use Rattle.std.proofs.Common.{◌≡◌, map, drop}
 use Rattle.httparse.specs.Spans.{header_bytes}
-use Rattle.lrs_web_requests.specs.Framing.{values_named}
+use Rattle.lrs_web_requests.specs.BodyLengths.{values_named}
 use Rattle.lrs_web_requests.specs.Values.{summary_of, with_values, nothing}
 use Rattle.lrs_web_requests.proofs.framing.values_of.Given as goal
 

@@ -1,6 +1,6 @@
 use Rattle.std.proofs.Common.{subst}
 use Rattle.sqlite.specs.Files.{file_state}
-use Rattle.lrs_store_tables.specs.Holding.{MayHold}
+use Rattle.lrs_store_tables.specs.HeldRows.{MayHold}
 use Rattle.lrs_store.proofs.OpenedLemmas.{content_opened}
 use Rattle.lrs_cli_files.specs.declared.keeper.FileTables.{FileTables}
 use Rattle.lrs_cli_files.proofs.stored.StoredFilesFiles.open.Goals as goal

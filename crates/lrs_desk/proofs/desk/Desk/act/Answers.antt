@@ -5,12 +5,12 @@ use Rattle.lrs_machine.specs.declared.image.Edit.{Edit}
 use Rattle.lrs_machine.specs.Image.{state_of}
 use Rattle.lrs_machine.specs.Machine.{Outcome, step}
 use Rattle.lrs_image.specs.Change.{apply}
-use Rattle.lrs_image.specs.Keeping.{HasRisen}
+use Rattle.lrs_image.specs.KeeperCalls.{HasRisen}
 use Rattle.lrs_inventory.specs.Plans.{change_of}
-use Rattle.lrs_desk.specs.Decide.{IsDecision}
+use Rattle.lrs_desk.specs.Decisions.{IsDecision}
 use Rattle.lrs_desk.specs.Desk.{IsOldOrNext}
 use Rattle.lrs_desk.specs.DeskView.{DeskView}
-use Rattle.lrs_machine_stops.specs.declared.fault.Fault.TheVariants.{Keep}
+use Rattle.lrs_machine.specs.declared.stops.fault.Fault.TheVariants.{Keep}
 use Rattle.lrs_desk.proofs.Deciding.{old_or_next}
 use Rattle.lrs_desk.proofs.Grouping.{kept_after}
 use Rattle.lrs_desk.proofs.Made.{if_ok, on_ok, on_any, kept_then, found_then}

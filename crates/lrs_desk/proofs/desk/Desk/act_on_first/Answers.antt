@@ -1,6 +1,6 @@
 use Rattle.std.proofs.Common.{ℕ, refl, sym, subst, true, ◌∙◌}
-use Rattle.lrs_image.specs.Keeping.{HasRisen}
-use Rattle.lrs_image.specs.Together.{IsChangedBy}
+use Rattle.lrs_image.specs.KeeperCalls.{HasRisen}
+use Rattle.lrs_image.specs.ChangeLists.{IsChangedBy}
 use Rattle.lrs_desk.specs.Desk.{BreaksAmid, records_of}
 use Rattle.lrs_desk.specs.DeskView.{DeskView}
 use Rattle.lrs_desk.proofs.Grouping.{breaks_amid, as_before, none_made, held, same_only, still_only, failed_either}

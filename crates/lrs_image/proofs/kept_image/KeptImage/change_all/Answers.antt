@@ -3,8 +3,8 @@ use Rattle.lrs_machine.specs.declared.image.Image.{Image}
 use Rattle.lrs_machine.specs.Sound.{IsSound}
 use Rattle.lrs_image.specs.declared.change.Change.{Change}
 use Rattle.lrs_image.specs.Change.{apply, CanMake}
-use Rattle.lrs_image.specs.Kept.{image_of}
-use Rattle.lrs_image.specs.Together.{apply_all}
+use Rattle.lrs_image.specs.OpenLists.{image_of}
+use Rattle.lrs_image.specs.ChangeLists.{apply_all}
 use Rattle.lrs_image.proofs.Together.{apply_next, can_next, sound_first}
 use Rattle.lrs_image.proofs.kept_image.KeptImage.change_all.Goals as goal
 

@@ -1,7 +1,7 @@
 use Rattle.std.proofs.Common.{◌≡◌, take}
 use Rattle.lrs_machine.specs.Sound.{IsSound}
-use Rattle.lrs_image.specs.Kept.{image_of}
-use Rattle.lrs_image.specs.Together.{apply_all}
+use Rattle.lrs_image.specs.OpenLists.{image_of}
+use Rattle.lrs_image.specs.ChangeLists.{apply_all}
 use Rattle.lrs_image.proofs.kept_image.KeptImage.change_all.Given as goal
 
 abbrev pub invariant-loop-change : goal.invariant-loop-change

@@ -1,9 +1,9 @@
 use Rattle.std.proofs.Common.{ap, ◌∙◌}
 use Rattle.lrs_measure.specs.Lists.{each_two}
-use Rattle.lrs_measure.specs.Ordered.{insert_some}
+use Rattle.lrs_measure.specs.OrderedLists.{insert_some}
 use Rattle.lrs_machine.specs.Sound.{route_before}
 use Rattle.lrs_image.specs.Change.{apply, without_some}
-use Rattle.lrs_image.specs.Kept.{image_with}
+use Rattle.lrs_image.specs.OpenLists.{image_with}
 use Rattle.lrs_image.proofs.Tables.{links_in_order, classes_in_order, assets_in_order, routes_in_order}
 use Rattle.lrs_image.proofs.kept_image.KeptImage.finish.Goals as goal
 

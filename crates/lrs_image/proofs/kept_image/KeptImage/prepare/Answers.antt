@@ -2,12 +2,12 @@ use Rattle.std.proofs.Common.{ap, sym, subst, ◌∙◌}
 use Rattle.std.specs.List.{find}
 use Rattle.std.specs.Prelude.{◌≤◌}
 use Rattle.lrs_measure.specs.Lists.{each_two}
-use Rattle.lrs_measure.specs.Ordered.{insert_some}
+use Rattle.lrs_measure.specs.OrderedLists.{insert_some}
 use Rattle.lrs_machine.specs.declared.image.Image.{Image}
 use Rattle.lrs_machine.specs.declared.image.RouteRow.{RouteRow}
 use Rattle.lrs_machine.specs.Sound.{route_before}
 use Rattle.lrs_image.specs.Change.{is_named, without}
-use Rattle.lrs_image.specs.Kept.{image_of, HasOpened}
+use Rattle.lrs_image.specs.OpenLists.{image_of, HasOpened}
 use Rattle.lrs_image.proofs.Named.{back_in_place}
 use Rattle.lrs_image.proofs.Tables.{routes_in_order}
 use Rattle.lrs_image.proofs.kept_image.KeptImage.prepare.Goals as goal

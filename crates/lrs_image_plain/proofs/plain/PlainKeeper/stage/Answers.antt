@@ -1,6 +1,6 @@
 use Rattle.std.proofs.Common.{arith, ap, sym, ◌∙◌}
 use Rattle.std.proofs.lemmas.Grind.{common_steps}
-use Rattle.lrs_image_plain.specs.Plain.{PlainView}
+use Rattle.lrs_image_plain.specs.PlainKeeper.{PlainView}
 use Rattle.lrs_image_plain.proofs.Staged.{same_content}
 use Rattle.lrs_image_plain.proofs.plain.PlainKeeper.stage.Goals as goal
 

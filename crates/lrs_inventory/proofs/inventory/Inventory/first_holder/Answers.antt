@@ -1,6 +1,6 @@
 use Rattle.std.proofs.Common.{subst}
 use Rattle.lrs_inventory.specs.Prelude.{Extent}
-use Rattle.lrs_events_spans.specs.Search.{IsOver}
+use Rattle.lrs_events.specs.RouteSpans.Search.{IsOver}
 use Rattle.lrs_inventory.proofs.Located.{route_in}
 use Rattle.lrs_inventory.proofs.FirstHolder.{first_holder_is}
 use Rattle.lrs_inventory.proofs.inventory.Inventory.first_holder.Goals as goal

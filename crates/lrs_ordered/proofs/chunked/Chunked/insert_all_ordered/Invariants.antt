@@ -1,5 +1,5 @@
 use Rattle.std.proofs.Common.{◌≡◌, ◌≤◌, length}
-use Rattle.lrs_measure.specs.Ordered.{insert_all}
+use Rattle.lrs_measure.specs.OrderedLists.{insert_all}
 use Rattle.lrs_ordered.proofs.chunked.Chunked.insert_all_ordered.Given as goal
 
 abbrev pub invariant-loop-row : goal.invariant-loop-row

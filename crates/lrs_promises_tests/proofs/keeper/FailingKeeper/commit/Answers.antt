@@ -1,8 +1,8 @@
 use Rattle.std.proofs.Common.{◌≡◌, inr, OnOk, subst, Result}
 use Rattle.lrs_machine.specs.declared.image.Image.{Image}
 use Rattle.lrs_machine.specs.declared.table.Table.{Table}
-use Rattle.lrs_image.specs.Together.{IsChangedBy}
-use Rattle.lrs_promises_tests.specs.Failing.{FailingView}
+use Rattle.lrs_image.specs.ChangeLists.{IsChangedBy}
+use Rattle.lrs_promises_tests.specs.FailingKeepers.{FailingView}
 use Rattle.lrs_promises_tests.proofs.keeper.FailingKeeper.commit.Goals as goal
 
 pub returns-then-self-gt0-clause-ok : goal.returns-then-self-gt0-clause-ok

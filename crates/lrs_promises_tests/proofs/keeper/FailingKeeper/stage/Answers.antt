@@ -1,5 +1,5 @@
 use Rattle.std.proofs.Common.{ap, sym, ◌∙◌}
-use Rattle.lrs_promises_tests.specs.Failing.{FailingView}
+use Rattle.lrs_promises_tests.specs.FailingKeepers.{FailingView}
 use Rattle.lrs_promises_tests.proofs.keeper.FailingKeeper.stage.Goals as goal
 
 pub returns-clause-content : goal.returns-clause-content

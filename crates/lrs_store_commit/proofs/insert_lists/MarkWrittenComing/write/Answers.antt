@@ -2,7 +2,7 @@ use Rattle.std.proofs.Common.{Ok, subst}
 use Rattle.sqlite_value.specs.Order.{Row}
 use Rattle.sqlite.specs.State.{ExecutesInside}
 use Rattle.sqlite.specs.Held.{state}
-use Rattle.lrs_store_rows.specs.Encoding.{mark_row}
+use Rattle.lrs_store_tables.specs.Contents.Encoders.{mark_row}
 use Rattle.lrs_store_tables.specs.Schema.{insert_mark}
 use Rattle.lrs_store_tables.proofs.Inserted.{mark_added}
 use Rattle.lrs_store_commit.proofs.CellLemmas.{behind_text}

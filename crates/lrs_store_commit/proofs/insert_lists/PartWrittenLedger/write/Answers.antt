@@ -2,7 +2,7 @@ use Rattle.std.proofs.Common.{Ok, subst}
 use Rattle.sqlite_value.specs.Order.{Row}
 use Rattle.sqlite.specs.State.{ExecutesInside}
 use Rattle.sqlite.specs.Held.{state}
-use Rattle.lrs_store_rows.specs.Encoding.{entered_row}
+use Rattle.lrs_store_tables.specs.Contents.Encoders.{entered_row}
 use Rattle.lrs_store_tables.specs.Schema.{insert_entered}
 use Rattle.lrs_store_tables.proofs.Inserted.{entered_added}
 use Rattle.lrs_store_commit.proofs.insert_lists.PartWrittenLedger.write.Goals as goal

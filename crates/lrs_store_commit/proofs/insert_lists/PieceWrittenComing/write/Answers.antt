@@ -3,7 +3,7 @@ use Rattle.sqlite_value.specs.declared.value.Value.TheVariants.{Int}
 use Rattle.sqlite_value.specs.Order.{Row}
 use Rattle.sqlite.specs.State.{ExecutesInside}
 use Rattle.sqlite.specs.Held.{state}
-use Rattle.lrs_store_rows.specs.Encoding.{piece_row}
+use Rattle.lrs_store_tables.specs.Contents.Encoders.{piece_row}
 use Rattle.lrs_store_tables.specs.Schema.{insert_piece}
 use Rattle.lrs_store_tables.proofs.Inserted.{piece_added}
 use Rattle.lrs_store_commit.proofs.CellLemmas.{behind_text}

@@ -1,5 +1,5 @@
 use Rattle.sqlite.specs.Held.{state}
-use Rattle.lrs_store_rows.specs.Encoding.{ref_row}
+use Rattle.lrs_store_tables.specs.Contents.Encoders.{ref_row}
 use Rattle.lrs_store_tables.proofs.Inserted.{ref_added}
 use Rattle.lrs_store_commit.proofs.insert_lists.ReferentWrittenComing.write.Goals as goal
 

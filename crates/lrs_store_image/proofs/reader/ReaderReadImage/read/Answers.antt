@@ -1,5 +1,5 @@
 use Rattle.std.proofs.Common.{rules, ◌≡◌, Err, map, ◌∙◌}
-use Rattle.lrs_store_tables.specs.Stored.{entered_in, gone_in}
+use Rattle.lrs_store_tables.specs.StoredRows.{entered_in, gone_in}
 use Rattle.lrs_store_tables.specs.Rows.{tables_of}
 use Rattle.lrs_store_image.specs.Steps.{LedgerTables, edits_in, content_of_held}
 use Rattle.lrs_store_image.proofs.OfContent.{told, told_first, told_second}

@@ -1,5 +1,5 @@
 use Rattle.std.proofs.Common.{Err, refl, sym, subst, ◌∙◌}
-use Rattle.lrs_store_questions.specs.Reading.{Says}
+use Rattle.lrs_store_questions.specs.Readings.{Says}
 use Rattle.lrs_store_questions.proofs.ReadLemmas.{told_only, told_sound}
 use Rattle.lrs_store_questions.proofs.keeper.QuestionsKeeper.load.Goals as goal
 

@@ -1,4 +1,4 @@
-use Rattle.lrs_store_tables.specs.Stored.{link_in}
+use Rattle.lrs_store_tables.specs.StoredRows.{link_in}
 use Rattle.lrs_store_tables.proofs.SaidRows.{link_said}
 use Rattle.lrs_store_tables.proofs.decode.LinkSaid.said.Goals as goal
 

@@ -2,7 +2,7 @@ use Rattle.std.proofs.Common.{◌+◌, false, length}
 use Rattle.lrs_machine.specs.declared.command.Command.TheVariants as verb
 use Rattle.lrs_inventory.specs.Prelude.{state_of}
 use Rattle.lrs_machine.specs.Machine.{wanted_of}
-use Rattle.lrs_verbs.specs.Wanted.{is_left_out}
+use Rattle.lrs_verbs.specs.EntryRequests.{is_left_out}
 use Rattle.lrs_verbs.proofs.EntryChecks.{enter_refused}
 use Rattle.lrs_inventory.proofs.Stopping.{stopped}
 use Rattle.lrs_verbs.proofs.verbs.enter.plan_enter.Goals as goal

@@ -6,7 +6,7 @@ use Rattle.lrs_inventory.specs.Prelude.{Asset, Image, state_of, asset_entry, con
 use Rattle.lrs_machine.specs.declared.answer.Cause.TheVariants as cause
 use Rattle.lrs_machine.specs.Register.{get}
 use Rattle.lrs_machine.specs.Machine.{wanted_of}
-use Rattle.lrs_verbs.specs.Wanted.{is_left_out}
+use Rattle.lrs_verbs.specs.EntryRequests.{is_left_out}
 use Rattle.lrs_inventory.proofs.Stopping.{answers_refused, passed}
 use Rattle.lrs_inventory.proofs.Known.{none_found, same_known}
 use Rattle.lrs_verbs.proofs.EntryChecks.{refuses_known, refuses_class, refuses_route}

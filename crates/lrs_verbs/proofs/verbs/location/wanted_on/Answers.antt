@@ -4,7 +4,7 @@ use Rattle.std.proofs.lemmas.Result.{err_from_is_err_and}
 use Rattle.lrs_inventory.specs.Prelude.{alignment_of, state_of, extent_of}
 use Rattle.lrs_machine.specs.declared.answer.Cause.TheVariants as cause
 use Rattle.lrs_machine.specs.Machine.{wanted_of}
-use Rattle.lrs_verbs.specs.Wanted.{is_left_out}
+use Rattle.lrs_verbs.specs.EntryRequests.{is_left_out}
 use Rattle.lrs_inventory.proofs.Stopping.{answers_refused, answers_stopped, passed}
 use Rattle.lrs_verbs.proofs.EntryChecks.{refuses_kind, refuses_extent, refuses_empty, wants}
 use Rattle.lrs_verbs.proofs.verbs.location.wanted_on.Goals as goal

@@ -2,7 +2,7 @@ use Rattle.std.proofs.Common.{◌+◌, true, length}
 use Rattle.lrs_machine.specs.declared.command.Command.TheVariants as verb
 use Rattle.lrs_inventory.specs.Prelude.{state_of}
 use Rattle.lrs_machine.specs.Machine.{wanted_of}
-use Rattle.lrs_verbs.specs.Wanted.{is_left_out}
+use Rattle.lrs_verbs.specs.EntryRequests.{is_left_out}
 use Rattle.lrs_verbs.proofs.EntryChecks.{supersede_refused}
 use Rattle.lrs_inventory.proofs.Stopping.{stopped}
 use Rattle.lrs_verbs.proofs.verbs.supersede.plan_supersede.Goals as goal

@@ -2,8 +2,8 @@ use Rattle.std.proofs.Common.{◌≡◌, ℕ, List, Some, map, length, ap, sym, 
 use Rattle.std.specs.List.{list_all}
 use Rattle.lrs_inventory.specs.Prelude.{each_two, is_too_long, Referent, Span, has_row, are_rows, span_before}
 use Rattle.lrs_events.specs.Changes.{changed_rows}
-use Rattle.lrs_events_rows.specs.Turns.{IsTurned}
-use Rattle.lrs_image_laws.specs.Turning.{from_end}
+use Rattle.lrs_events.specs.Row.Turns.{IsTurned}
+use Rattle.lrs_image_laws.specs.Turns.{from_end}
 use Rattle.lrs_inventory.proofs.Going.{plan_there, rows_by}
 use Rattle.lrs_verbs.proofs.verbs.turn.turn_route.Goals as goal
 

@@ -1,6 +1,0 @@
-use Rattle.std.proofs.Common.{◌≡◌, ◌++◌, take}
-use Rattle.lrs_advice.specs.AdviceLines.{shown}
-use Rattle.lrs_advice.proofs.line.AdviceLine.say_bytes.Given as goal
-
-abbrev pub invariant-loop-byte : goal.invariant-loop-byte
-invariant-loop-byte l = l.self ≡ l.initial.self ++ shown (take l.byte-index l.text)

@@ -1,9 +1,0 @@
-use Rattle.std.proofs.Common.{rules}
-use Rattle.std.specs.Prelude.{nat_le}
-use Rattle.std.proofs.lemmas.List.Sorted.{IsPartitionPoint-from_clause, IsPartitionedBy-leb}
-use Rattle.lrs_events.specs.declared.part.Part.{Part}
-use Rattle.lrs_answers.proofs.entered_parts.parts_up_to.Goals as goal
-
-pub returns-clause-point : goal.returns-clause-point
-returns-clause-point c =
-    IsPartitionPoint-from_clause (λ (p : Part). nat_le p.edit c.args.edit) c.args.parts.now c.partition_point.result c.partition_point.ensures.partitioned (IsPartitionedBy-leb (λ (p : Part). p.edit) c.args.parts.now c.args.edit c.requires) (λ a r q k. search rules)

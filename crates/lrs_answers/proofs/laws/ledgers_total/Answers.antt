@@ -1,5 +1,0 @@
-use Rattle.lrs_answers.proofs.Ledgers.{ledgers_total}
-use Rattle.lrs_answers.proofs.laws.ledgers_total.Goals as goal
-
-pub returns : goal.returns
-returns c = ledgers_total

@@ -1,6 +1,0 @@
-use Rattle.std.proofs.Common.{◌≡◌, ◌++◌, map, take}
-use Rattle.lrs_answers.specs.Finding.{row_of_span}
-use Rattle.lrs_answers.proofs.rows.push_rows.Given as goal
-
-abbrev pub invariant-loop-row : goal.invariant-loop-row
-invariant-loop-row l = l.found.items ≡ l.fn.found.items ++ map (row_of_span l.route) (take l.row-index l.rows)

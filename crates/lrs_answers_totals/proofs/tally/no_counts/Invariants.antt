@@ -1,6 +1,0 @@
-use Rattle.std.proofs.Common.{◌≡◌, ◌++◌, map}
-use Rattle.lrs_answers_totals.specs.Counts.{no_count}
-use Rattle.lrs_answers_totals.proofs.tally.no_counts.Given as goal
-
-abbrev pub invariant-loop-class : goal.invariant-loop-class
-invariant-loop-class l = l.counts.items ++ map no_count l.class-iterator ≡ map no_count l.classes.rows

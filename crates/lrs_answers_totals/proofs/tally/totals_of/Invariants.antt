@@ -1,6 +1,0 @@
-use Rattle.std.proofs.Common.{◌≡◌, map, take}
-use Rattle.lrs_answers_totals.specs.Counts.{total_counted}
-use Rattle.lrs_answers_totals.proofs.tally.totals_of.Given as goal
-
-abbrev pub invariant-loop-count : goal.invariant-loop-count
-invariant-loop-count l = l.totals.items ≡ map total_counted (take l.count-index l.counts)

@@ -1,4 +1,0 @@
-pub mod Counts
-pub mod Running
-pub mod ListTotals
-pub mod ListTally

@@ -1,0 +1,20 @@
+//! The web page of an inventory: one file, which stands anywhere and asks a served inventory.
+
+mod text;
+
+ghost use Rattle.std.specs.Prelude.{OnOk};
+ghost use Rattle.std.specs.Io.KnownBytes.{Appends};
+
+use std::io;
+use std::io::Write;
+pub use text::PAGE;
+
+/// Writes the page, byte for byte.
+///
+/// # Errors
+/// Where the writer takes nothing more; then a part of the page may be written.
+pub fn write_page<W: Write>(to: &mut W) -> io::Result<()>
+    ensures { OnOk result (Appends (W.contents to.old) (W.contents to.new) PAGE.now) }
+{
+    to.write_all(PAGE.as_bytes())
+}

@@ -1,5 +1,0 @@
-use Rattle.lrs_desk_laws.proofs.Undone.{split_is_undone}
-use Rattle.lrs_desk_laws.proofs.row_laws.a_split_is_undone.Goals as goal
-
-pub returns : goal.returns
-returns c = split_is_undone

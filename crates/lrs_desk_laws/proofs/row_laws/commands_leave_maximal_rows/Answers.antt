@@ -1,5 +1,0 @@
-use Rattle.lrs_desk_laws.proofs.Left.{commands_leave_maximal_rows}
-use Rattle.lrs_desk_laws.proofs.row_laws.commands_leave_maximal_rows.Goals as goal
-
-pub returns : goal.returns
-returns c = commands_leave_maximal_rows

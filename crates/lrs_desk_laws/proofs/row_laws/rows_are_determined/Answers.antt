@@ -1,5 +1,0 @@
-use Rattle.lrs_desk_laws.proofs.Alike.{rows_are_determined}
-use Rattle.lrs_desk_laws.proofs.row_laws.rows_are_determined.Goals as goal
-
-pub returns : goal.returns
-returns c = rows_are_determined

@@ -1,5 +1,0 @@
-use Rattle.lrs_desk_laws.proofs.Apart.{rows_begin_apart}
-use Rattle.lrs_desk_laws.proofs.row_laws.rows_begin_apart.Goals as goal
-
-pub returns : goal.returns
-returns c = rows_begin_apart

@@ -1,5 +1,0 @@
-use Rattle.lrs_desk_laws.proofs.Witness.{some_differ_by_classes}
-use Rattle.lrs_desk_laws.proofs.row_laws.some_differ_by_classes.Goals as goal
-
-pub returns : goal.returns
-returns c = some_differ_by_classes

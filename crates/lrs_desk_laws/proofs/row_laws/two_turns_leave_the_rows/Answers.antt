@@ -1,5 +1,0 @@
-use Rattle.lrs_desk_laws.proofs.RowsBack.{turns_leave_the_rows}
-use Rattle.lrs_desk_laws.proofs.row_laws.two_turns_leave_the_rows.Goals as goal
-
-pub returns : goal.returns
-returns c = turns_leave_the_rows

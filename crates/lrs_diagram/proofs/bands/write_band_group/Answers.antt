@@ -1,7 +1,0 @@
-use Rattle.std.proofs.Common.{append_assoc}
-use Rattle.lrs_diagram.specs.Bands.{band_group}
-use Rattle.lrs_diagram.proofs.Appending.{as_text}
-use Rattle.lrs_diagram.proofs.bands.write_band_group.Goals as goal
-
-pub returns : goal.returns
-returns g c = as_text c.write.result _ _ _ (band_group c.args.kind c.args.top) c.write.ensures.bytes (simp (append_assoc, c.style_of-style.ensures))

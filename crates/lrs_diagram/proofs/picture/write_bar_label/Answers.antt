@@ -1,7 +1,0 @@
-use Rattle.std.proofs.Common.{append_assoc}
-use Rattle.lrs_diagram.specs.Drawing.{bar_label}
-use Rattle.lrs_diagram.proofs.Appending.{as_text}
-use Rattle.lrs_diagram.proofs.picture.write_bar_label.Goals as goal
-
-pub returns : goal.returns
-returns g c = as_text c.write.result _ _ _ (bar_label c.args.step) c.write.ensures.bytes (simp (append_assoc, c.new-metres.ensures))

@@ -1,7 +1,0 @@
-use Rattle.std.proofs.Common.{map, take}
-use Rattle.std.specs.Io.KnownBytes.{Appends}
-use Rattle.lrs_diagram.specs.Strips.{columns_text, value_text}
-use Rattle.lrs_diagram.proofs.strip_text.write_values.Given as goal
-
-abbrev pub invariant-loop-value : goal.invariant-loop-value
-invariant-loop-value g l = Appends (g.W.Write.contents l.fn.writer) (g.W.Write.contents l.writer) (columns_text (map value_text (take l.value-index l.values)))

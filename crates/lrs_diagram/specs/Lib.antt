@@ -1,8 +1,0 @@
-pub mod Scales
-pub mod Shapes
-pub mod Labels
-pub mod Bands
-pub mod Axis
-pub mod Drawing
-pub mod Laws
-pub mod Strips

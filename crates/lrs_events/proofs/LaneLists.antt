@@ -1,0 +1,7 @@
+pub mod Members
+pub mod Ranks
+pub mod Strict
+pub mod Inserted
+pub mod Fronts
+pub mod Lanes
+pub mod Starts

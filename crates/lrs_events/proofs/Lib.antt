@@ -1,0 +1,4 @@
+pub mod LaneLists
+pub mod Row
+pub mod Ledger
+pub mod RouteSpans

@@ -1,0 +1,11 @@
+pub mod Pushes
+pub mod Putting
+pub mod Holding
+pub mod Tying
+pub mod Loading
+pub mod ClassPlaces
+pub mod Finding
+pub mod SearchFree
+pub mod Behind
+pub mod Gathering
+pub mod Said

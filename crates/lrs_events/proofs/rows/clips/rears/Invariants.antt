@@ -1,0 +1,7 @@
+use Rattle.std.proofs.Common.{◌≡◌, take}
+use Rattle.std.specs.List.{flat_map}
+use Rattle.lrs_events.specs.Row.Clips.{rear}
+use Rattle.lrs_events.proofs.rows.clips.rears.Given as goal
+
+abbrev pub invariant-loop-row : goal.invariant-loop-row
+invariant-loop-row l = l.out.items ≡ flat_map (rear l.at) (take l.row-index l.rows)

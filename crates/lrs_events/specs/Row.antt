@@ -1,0 +1,12 @@
+pub mod Members
+pub mod Order
+pub mod Clips
+pub mod Changes
+pub mod Joins
+pub mod Removals
+pub mod Turns
+pub mod Sides
+pub mod Cuts
+pub mod Inverses
+pub mod CourseMembers
+pub mod RunLaws

@@ -1,7 +1,0 @@
-pub mod Members
-pub mod Ranks
-pub mod Strict
-pub mod Inserted
-pub mod Fronts
-pub mod Lanes
-mod Starts

@@ -1,6 +1,0 @@
-use Rattle.std.proofs.Common.{take}
-use Rattle.lrs_events_lanes.specs.Lane.{is_met, IsLeast}
-use Rattle.lrs_events_lanes.proofs.lane.least_met.Given as goal
-
-abbrev pub invariant-loop-row : goal.invariant-loop-row
-invariant-loop-row l = IsLeast (is_met l.low l.high) (take l.row-index l.rows) l.least

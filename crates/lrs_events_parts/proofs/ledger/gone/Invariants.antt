@@ -1,7 +1,0 @@
-use Rattle.std.proofs.Common.{◌≡◌, map, take}
-use Rattle.lrs_events.specs.declared.part.Gone.{Gone}
-use Rattle.lrs_events.specs.declared.part.Part.{Part}
-use Rattle.lrs_events_parts.proofs.ledger.gone.Given as goal
-
-abbrev pub invariant-loop-part : goal.invariant-loop-part
-invariant-loop-part l = l.gone.items ≡ map (λ (part : Part). let g : Gone = record { part = part; abandoned = l.abandoned } in g) (take l.part-index l.parts)

@@ -1,8 +1,0 @@
-//! The rows of a ledger for what rows of a route hold: parts of links, each on one side.
-#![tactic(auto)]
-
-mod cuts;
-mod ledger;
-mod run;
-
-pub use ledger::{gone, parts};

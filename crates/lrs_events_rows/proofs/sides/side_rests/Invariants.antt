@@ -1,7 +1,0 @@
-use Rattle.std.proofs.Common.{◌≡◌, take}
-use Rattle.std.specs.List.{flat_map}
-use Rattle.lrs_events_rows.specs.Sides.{side_rest}
-use Rattle.lrs_events_rows.proofs.sides.side_rests.Given as goal
-
-abbrev pub invariant-loop-row : goal.invariant-loop-row
-invariant-loop-row l = l.out.items ≡ flat_map (side_rest l.low l.high l.side) (take l.row-index l.rows)

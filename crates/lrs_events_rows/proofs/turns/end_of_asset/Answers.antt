@@ -1,5 +1,0 @@
-use Rattle.lrs_events_rows.proofs.Mirrors.{block_found}
-use Rattle.lrs_events_rows.proofs.turns.end_of_asset.Goals as goal
-
-pub returns-clause-block : goal.returns-clause-block
-returns-clause-block c = block_found c.args.rows.now c.index-rows-start.result c.args.start c.rows_up_to.result c.requires.rows c.requires.within c.index-rows-start.is c.rows_up_to.ensures.point

@@ -1,6 +1,0 @@
-use Rattle.std.proofs.Common.{take}
-use Rattle.lrs_events_spans.proofs.SearchFree.{AreFree}
-use Rattle.lrs_events_spans.proofs.search.is_free.Given as goal
-
-abbrev pub invariant-loop-i : goal.invariant-loop-i
-invariant-loop-i l = AreFree (take l.i l.lanes) l.rows l.span

@@ -1,6 +1,0 @@
-use Rattle.std.proofs.Common.{◌∙◌}
-use Rattle.lrs_events_spans.proofs.Behind.{behind_is}
-use Rattle.lrs_events_spans.proofs.spans.Spans.behind.Goals as goal
-
-pub returns-clause-found : goal.returns-clause-found
-returns-clause-found c = c.in_ok-found.ensures.found ∙ behind_is c.args.at c.args.self.now c.in_ok-found.ensures.canonical

@@ -1,5 +1,0 @@
-pub mod Writing
-pub mod Measured
-pub mod Chosen
-pub mod Plain
-pub mod Stretch

@@ -1,0 +1,5 @@
+use Rattle.lrs_machine.proofs.Stop.Stopping.{stored_is_fold}
+use Rattle.lrs_machine.proofs.stops.laws.what_is_stored_is_a_fold.Goals as goal
+
+pub returns : goal.returns
+returns c = stored_is_fold

@@ -1,0 +1,5 @@
+pub mod KnownEdits
+pub mod StoppedRuns
+pub mod Laws
+pub mod Resumptions
+pub mod WorkedRuns

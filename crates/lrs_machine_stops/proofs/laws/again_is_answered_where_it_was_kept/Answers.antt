@@ -1,5 +1,0 @@
-use Rattle.lrs_machine_stops.proofs.Again.{again_where_kept}
-use Rattle.lrs_machine_stops.proofs.laws.again_is_answered_where_it_was_kept.Goals as goal
-
-pub returns : goal.returns
-returns c = again_where_kept

@@ -1,5 +1,0 @@
-use Rattle.lrs_machine_stops.proofs.Again.{all_again_where_kept}
-use Rattle.lrs_machine_stops.proofs.laws.all_in_flight_are_answered_again_where_they_were_kept.Goals as goal
-
-pub returns : goal.returns
-returns c = all_again_where_kept

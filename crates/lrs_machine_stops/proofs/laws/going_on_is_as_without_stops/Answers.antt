@@ -1,5 +1,0 @@
-use Rattle.lrs_machine_stops.proofs.Resuming.{going_on_is_unstopped}
-use Rattle.lrs_machine_stops.proofs.laws.going_on_is_as_without_stops.Goals as goal
-
-pub returns : goal.returns
-returns c = going_on_is_unstopped

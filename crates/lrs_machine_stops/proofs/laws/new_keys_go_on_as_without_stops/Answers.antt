@@ -1,5 +1,0 @@
-use Rattle.lrs_machine_stops.proofs.Resuming.{new_keys_go_on}
-use Rattle.lrs_machine_stops.proofs.laws.new_keys_go_on_as_without_stops.Goals as goal
-
-pub returns : goal.returns
-returns c = new_keys_go_on

@@ -1,5 +1,0 @@
-use Rattle.lrs_machine_stops.proofs.Stopping.{stops_have_both_outcomes}
-use Rattle.lrs_machine_stops.proofs.laws.stops_have_both_outcomes.Goals as goal
-
-pub returns : goal.returns
-returns c = stops_have_both_outcomes

@@ -1,5 +1,0 @@
-pub mod Known
-pub mod Stopped
-pub mod Laws
-pub mod Resumed
-pub mod Worked

@@ -1,0 +1,4 @@
+pub mod Ground
+pub mod Routes
+pub mod Stretches
+pub mod MetRoutes

@@ -1,6 +1,0 @@
-use Rattle.std.proofs.Common.{take}
-use Rattle.lrs_position_index.specs.Ground.{HasGained}
-use Rattle.lrs_position_index.proofs.ground_index.GroundIndex.add_all.Given as goal
-
-abbrev pub invariant-loop-i : goal.invariant-loop-i
-invariant-loop-i l = HasGained l.fn.self l.self l.route (take l.i l.pieces)

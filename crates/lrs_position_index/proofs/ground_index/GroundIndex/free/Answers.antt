@@ -1,9 +1,0 @@
-use Rattle.std.proofs.Common.{Option, if◌then◌else◌, ap, ◌∙◌}
-use Rattle.lrs_measure.specs.Texts.{Name}
-use Rattle.lrs_element.specs.Course.{course_of, runs_over}
-use Rattle.lrs_position_index.specs.Ground.{route_over}
-use Rattle.lrs_position_index.proofs.Handing.{and_none}
-use Rattle.lrs_position_index.proofs.ground_index.GroundIndex.free.Goals as goal
-
-pub returns-clause-over : goal.returns-clause-over
-returns-clause-over c = λ m. c.change_all.ensures.over m ∙ ap (λ (o : Option Name). if runs_over (course_of c.args.pieces.now) m then o else route_over c.args.self.now m) (and_none (route_over c.args.self.now m))

@@ -1,4 +1,0 @@
-pub mod Ground
-pub mod Routes
-pub mod Stretches
-pub mod Met

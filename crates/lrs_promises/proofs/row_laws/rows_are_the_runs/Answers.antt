@@ -1,0 +1,5 @@
+use Rattle.lrs_promises.proofs.DeskLaws.Runs.{rows_are_the_runs}
+use Rattle.lrs_promises.proofs.row_laws.rows_are_the_runs.Goals as goal
+
+pub returns : goal.returns
+returns c = rows_are_the_runs

@@ -1,4 +1,0 @@
-pub mod Lines
-pub mod Replies
-pub mod Answering
-pub mod Rows

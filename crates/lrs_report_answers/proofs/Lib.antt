@@ -1,0 +1,16 @@
+pub mod Asked
+pub mod Located
+pub mod Joined
+pub mod HeldBy
+pub mod OfState
+pub mod AllRows
+pub mod AskedAt
+pub mod Ledgers
+pub mod Parted
+pub mod Naming
+pub mod Lying
+pub mod Gathering
+pub mod Everywhere
+pub mod Banded
+pub mod Tally
+pub mod Place

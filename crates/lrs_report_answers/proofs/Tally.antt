@@ -1,0 +1,4 @@
+pub mod Counted
+pub mod Summed
+pub mod Standing
+pub mod Growing

@@ -1,0 +1,14 @@
+pub mod Answers
+pub mod Hits
+pub mod AssetStretches
+pub mod RouteSegments
+pub mod Totals
+pub mod Ground
+pub mod NamedRows
+pub mod ToldAnswers
+pub mod Lines
+pub mod Causes
+pub mod DrawnRows
+pub mod RouteList
+pub mod Tally
+pub mod Place

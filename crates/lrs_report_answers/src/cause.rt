@@ -1,0 +1,61 @@
+//! Why a question is refused, as text.
+
+ghost use Rattle.std.specs.Prelude.{◌≡◌};
+ghost use Rattle.lrs_report_answers.specs.Causes.{cause_of};
+
+use crate::AskFault;
+use lrs_machine::SegFault;
+use lrs_position::PlaceFault;
+use std::fmt;
+
+/// Why a question is refused. A number is the index of a class that was asked for, which begins at 0.
+#[derive(Clone, Copy, PartialEq, Eq)]
+pub enum AskCause {
+    NoRoute,
+    NoAsset,
+    NoRef,
+    TooFine,
+    OffRoute,
+    NoClass(u64),
+    NotExclusive(u64),
+    SideB,
+}
+
+/// Its name, and behind a colon its argument where it has one.
+impl fmt::Display for AskCause {
+    ghost use Rattle.std.specs.Prelude.{Some};
+    ghost use Rattle.lrs_report_answers.specs.Causes.{cause_text};
+
+    ghost output = { λ cause. Some (cause_text cause) };
+
+    fn fmt<W: fmt::Write>(&self, f: &mut fmt::Formatter<W>) -> fmt::Result {
+        match *self {
+            AskCause::NoRoute => f.write_str("NoRoute"),
+            AskCause::NoAsset => f.write_str("NoAsset"),
+            AskCause::NoRef => f.write_str("NoRef"),
+            AskCause::TooFine => f.write_str("TooFine"),
+            AskCause::OffRoute => f.write_str("OffRoute"),
+            AskCause::NoClass(class) => write!(f, "NoClass:{class}"),
+            AskCause::NotExclusive(class) => write!(f, "NotExclusive:{class}"),
+            AskCause::SideB => f.write_str("SideB"),
+        }
+    }
+}
+
+/// Why a question is refused; none where it is not the question that failed, but memory ran out or what is kept has to
+/// be opened again.
+pub fn cause_of(fault: AskFault) -> Option<AskCause>
+    ensures { result ≡ cause_of fault }
+{
+    match fault {
+        AskFault::NoRoute => Some(AskCause::NoRoute),
+        AskFault::NoAsset => Some(AskCause::NoAsset),
+        AskFault::Place(PlaceFault::NoRef) => Some(AskCause::NoRef),
+        AskFault::Place(PlaceFault::TooFine) => Some(AskCause::TooFine),
+        AskFault::Place(PlaceFault::OffRoute) => Some(AskCause::OffRoute),
+        AskFault::Seg(SegFault::NoClass(class)) => Some(AskCause::NoClass(class)),
+        AskFault::Seg(SegFault::NotExclusive(class)) => Some(AskCause::NotExclusive(class)),
+        AskFault::Seg(SegFault::SideB) => Some(AskCause::SideB),
+        AskFault::Seg(SegFault::Memory) | AskFault::MustReopen | AskFault::Memory => None,
+    }
+}

@@ -1,0 +1,36 @@
+//! The question what is at a place.
+
+ghost use Rattle.lrs_report_answers.specs.Place.Answers.{IsWhereabouts};
+
+use crate::places::answer::{Whereabouts, answer_at};
+use crate::places::fault::WhereFault;
+use crate::places::place::place_of;
+use lrs_inventory::Inventory;
+use lrs_machine::Spot;
+use std::alloc::{AllocError, Global};
+
+/// What is at a chainage of a route, or at a millimetre of a link, where it is asked for as the route that runs over it: the
+/// millimetre of the route and of the link, who holds it, and the chainage by every method.
+///
+/// Routes and links are found by search, and the route of a millimetre by the index of ground.
+///
+/// # Errors
+/// `NoRoute` where no route has the name, `NoLink` where no link has the number, then `OffRoute` behind the end of the route or
+/// of the link and where no route runs over the millimetre, and `Memory`.
+pub fn whereabouts(
+    alloc: Global,
+    inventory: &Inventory,
+    spot: Spot,
+) -> Result<Whereabouts, WhereFault>
+    ensures { IsWhereabouts inventory.now spot result }
+{
+    // For the prover alone: what its contract says is known from here on.
+    inventory.prove_sound();
+    match place_of(inventory, spot) {
+        Ok((row, chainage)) => match answer_at(alloc, inventory, row, chainage) {
+            Ok(found) => Ok(found),
+            Err(AllocError) => Err(WhereFault::Memory),
+        },
+        Err(fault) => Err(fault),
+    }
+}

@@ -1,0 +1,203 @@
+//! Questions of every kind, by one call: the command line, sheets of questions and HTTP ask the same way.
+
+ghost use Rattle.std.specs.Prelude.{◌≡◌, Err};
+ghost use Rattle.lrs_machine.specs.Image.{state_of};
+ghost use Rattle.lrs_report_answers.specs.declared.told.Told.TheVariants as told;
+ghost use Rattle.lrs_report_answers.specs.Answers.{IsAt};
+ghost use Rattle.lrs_report_answers.specs.AssetStretches.{IsFound};
+ghost use Rattle.lrs_report_answers.specs.DrawnRows.{IsDrawn};
+ghost use Rattle.lrs_report_answers.specs.RouteList.{AreRoutes};
+ghost use Rattle.lrs_report_answers.specs.RouteSegments.{IsSegmented};
+ghost use Rattle.lrs_report_answers.specs.Tally.RunningCounts.{IsCounted};
+ghost use Rattle.lrs_report_answers.specs.ToldAnswers.{AreTotals, IsNamedRoute, IsOnLink, IsTold, IsTranslated, Tells, length_on};
+
+use crate::tallies::Counts;
+use crate::{
+    AskFault, Told, at, diagram, find, length_of, named_route, routes, segments, to_link, translate,
+};
+use lrs_events::{ClassName, Side};
+use lrs_inventory::Inventory;
+use lrs_machine::{Destination, Question};
+use lrs_measure::Rows;
+use lrs_position::{Expr, RouteName, Target};
+use std::alloc::Global;
+
+fn tell_at<'a>(
+    alloc: Global,
+    inventory: &'a Inventory,
+    route: RouteName,
+    position: Expr,
+) -> Result<Told<'a>, AskFault>
+    ensures answer { Tells (IsAt (state_of inventory.now) route position) (told.At route) result }
+    ensures never { result ≡ Err AskFault.MustReopen → ⊥ }
+{
+    let found = at(alloc, inventory.kept(), &route, position)?;
+    Ok(Told::At { route, found })
+}
+
+fn tell_route<'a>(
+    alloc: Global,
+    inventory: &'a Inventory,
+    name: RouteName,
+) -> Result<Told<'a>, AskFault>
+    ensures answer { Tells (IsNamedRoute inventory.now name) told.Route result }
+    ensures never { result ≡ Err AskFault.MustReopen → ⊥ }
+{
+    let route = named_route(alloc, inventory.kept(), &name)?;
+    Ok(Told::Route(route))
+}
+
+fn length_on(inventory: &Inventory, route: &RouteName) -> u64
+    ensures { result ≡ length_on (state_of inventory.now) route.now }
+{
+    inventory.prove_sound();
+    length_of(inventory.kept(), route)
+}
+
+fn tell_segments<'a>(
+    alloc: Global,
+    inventory: &'a Inventory,
+    route: RouteName,
+    side: Side,
+    classes: Rows<ClassName>,
+) -> Result<Told<'a>, AskFault>
+    ensures answer { Tells (IsSegmented (state_of inventory.now) route classes side)
+        (told.Segments route side (length_on (state_of inventory.now) route) classes) result }
+    ensures never { result ≡ Err AskFault.MustReopen → ⊥ }
+{
+    let segments = segments(alloc, inventory.kept(), &route, classes.as_slice(), side)?;
+    let length = length_on(inventory, &route);
+    Ok(Told::Segments {
+        route,
+        side,
+        length,
+        classes,
+        segments,
+    })
+}
+
+fn tell_translated<'a>(
+    inventory: &'a Inventory,
+    route: RouteName,
+    position: Expr,
+    target: Target,
+) -> Result<Told<'a>, AskFault>
+    ensures answer { Tells (IsTranslated (state_of inventory.now) route position target)
+        (told.Translated route) result }
+    ensures never { result ≡ Err AskFault.MustReopen → ⊥ }
+{
+    let position = translate(inventory.kept(), &route, position, target)?;
+    Ok(Told::Translated { route, position })
+}
+
+fn tell_on_link<'a>(
+    inventory: &'a Inventory,
+    route: RouteName,
+    position: Expr,
+) -> Result<Told<'a>, AskFault>
+    ensures answer { Tells (IsOnLink (state_of inventory.now) route position)
+        (λ on. told.OnLink route on.0 on.1) result }
+    ensures never { result ≡ Err AskFault.MustReopen → ⊥ }
+{
+    let (link, distance) = to_link(inventory.kept(), &route, position)?;
+    Ok(Told::OnLink {
+        route,
+        link,
+        distance,
+    })
+}
+
+fn tell_diagram<'a>(
+    alloc: Global,
+    inventory: &'a Inventory,
+    route: RouteName,
+    classes: Rows<ClassName>,
+    from: Option<u64>,
+    to: Option<u64>,
+) -> Result<Told<'a>, AskFault>
+    ensures answer { Tells (IsDrawn inventory.now route classes from to) told.Diagram result }
+    ensures never { result ≡ Err AskFault.MustReopen → ⊥ }
+{
+    let drawn = diagram(
+        alloc,
+        inventory.kept(),
+        &route,
+        classes.as_slice(),
+        from,
+        to,
+    )?;
+    Ok(Told::Diagram(drawn))
+}
+
+fn tell_routes<'a>(alloc: Global, inventory: &'a Inventory) -> Result<Told<'a>, AskFault>
+    ensures answer { Tells (AreRoutes inventory.now) told.Routes result }
+    ensures never { result ≡ Err AskFault.MustReopen → ⊥ }
+{
+    let listed = routes(alloc, inventory.kept())?;
+    Ok(Told::Routes(listed))
+}
+
+fn tell_totals<'a>(
+    alloc: Global,
+    inventory: &'a Inventory,
+    counts: &Counts,
+) -> Result<Told<'a>, AskFault>
+    requires counted { IsCounted inventory.now counts.now }
+    ensures answer { Tells (AreTotals (state_of inventory.now)) told.Totals result }
+    ensures never { result ≡ Err AskFault.MustReopen → ⊥ }
+{
+    inventory.prove_sound();
+    let totals = counts.totals(alloc)?;
+    Ok(Told::Totals(totals))
+}
+
+fn tell_found<'a>(alloc: Global, inventory: &'a Inventory, asset: u64) -> Result<Told<'a>, AskFault>
+    ensures answer { Tells (IsFound (state_of inventory.now) asset) told.Found result }
+    ensures never { result ≡ Err AskFault.MustReopen → ⊥ }
+{
+    let found = find(alloc, inventory, asset)?;
+    Ok(Told::Found(found))
+}
+
+/// Answers a question of any kind. `counts` are those of the inventory.
+///
+/// # Errors
+/// Those of the function for its kind: `at`, `named_route`, `segments`, `translate`, `to_link`, `diagram`, `routes`,
+/// `Counts::totals` or `find`; never `MustReopen`.
+pub fn tell<'a>(
+    alloc: Global,
+    inventory: &'a Inventory,
+    counts: &Counts,
+    question: Question,
+) -> Result<Told<'a>, AskFault>
+    requires counted { IsCounted inventory.now counts.now }
+    ensures answer { IsTold inventory.now question result }
+    ensures never { result ≡ Err AskFault.MustReopen → ⊥ }
+{
+    match question {
+        Question::At { route, position } => tell_at(alloc, inventory, route, position),
+        Question::Route { route } => tell_route(alloc, inventory, route),
+        Question::Segments {
+            route,
+            side,
+            classes,
+        } => tell_segments(alloc, inventory, route, side, classes),
+        Question::Translate {
+            route,
+            position,
+            to,
+        } => match to {
+            Destination::Method(target) => tell_translated(inventory, route, position, target),
+            Destination::Link => tell_on_link(inventory, route, position),
+        },
+        Question::Diagram {
+            route,
+            classes,
+            from,
+            to,
+        } => tell_diagram(alloc, inventory, route, classes, from, to),
+        Question::Routes => tell_routes(alloc, inventory),
+        Question::Totals => tell_totals(alloc, inventory, counts),
+        Question::Find { asset } => tell_found(alloc, inventory, asset),
+    }
+}

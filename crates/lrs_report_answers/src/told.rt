@@ -1,0 +1,48 @@
+//! What is told to a question: its answer, with the words of the question that its text repeats.
+
+use crate::{AtAnswer, FoundRow, RouteLength, RouteSegments};
+use lrs_events::{ClassName, Side};
+use lrs_machine::Total;
+use lrs_measure::{Frac, Rows};
+use lrs_position::{Expr, Route, RouteName};
+use lrs_report::Diagram;
+
+/// What is told to a question: one variant for each kind of answer.
+#[derive(Drop)]
+pub enum Told<'a> {
+    /// Where a position of a route stands, and the assets that hold the place.
+    At {
+        route: RouteName,
+        found: AtAnswer,
+    },
+    /// A route.
+    Route(Route),
+    /// The segments of a side of a route by these classes, which are made where they are taken; the length of the route is
+    /// in millimetres.
+    Segments {
+        route: RouteName,
+        side: Side,
+        length: u64,
+        classes: Rows<ClassName>,
+        segments: RouteSegments<'a>,
+    },
+    /// A position of a route, by another method.
+    Translated {
+        route: RouteName,
+        position: Expr,
+    },
+    /// A position of a route on a link: the distance from the link's start, in millimetres.
+    OnLink {
+        route: RouteName,
+        link: u32,
+        distance: Frac,
+    },
+    /// A straight-line diagram of a route.
+    Diagram(Diagram),
+    /// The routes, and how long each is.
+    Routes(Rows<RouteLength>),
+    /// What there is of each class.
+    Totals(Rows<Total>),
+    /// The stretches that an asset holds.
+    Found(Rows<FoundRow>),
+}

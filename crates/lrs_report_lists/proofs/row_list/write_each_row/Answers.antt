@@ -1,0 +1,14 @@
+use Rattle.std.proofs.Common.{ap}
+use Rattle.std.specs.List.{flat_map}
+use Rattle.lrs_report_lists.specs.Lists.{rows_of}
+use Rattle.lrs_report_lists.proofs.Writing.{leads_end, leads_next}
+use Rattle.lrs_report_lists.proofs.row_list.write_each_row.Goals as goal
+
+pub loop-route_row-preserved : goal.loop-route_row-preserved
+loop-route_row-preserved g c =
+    leads_next (g.W.Write.contents c.args.writer.now) (g.W.Write.contents c.loop-route_row.writer) (g.W.Write.contents c.write_rows_of.new.writer) _ (flat_map (rows_of c.args.wanted.now c.args.assets.now.rows) c.next.new.self) (flat_map (rows_of c.args.wanted.now c.args.assets.now.rows) c.loop-route_row.route_row-iterator)
+    (flat_map (rows_of c.args.wanted.now c.args.assets.now.rows) c.args.routes.now.rows) c.loop-route_row.invariant (ap (flat_map (rows_of c.args.wanted.now c.args.assets.now.rows)) c.in-Some.ensures.steps) c.in_ok-write_rows_of.ensures
+
+pub returns : goal.returns
+returns g c =
+    leads_end (g.W.Write.contents c.args.writer.now) (g.W.Write.contents c.loop-route_row.writer) (flat_map (rows_of c.args.wanted.now c.args.assets.now.rows) c.loop-route_row.route_row-iterator) (flat_map (rows_of c.args.wanted.now c.args.assets.now.rows) c.args.routes.now.rows) c.loop-route_row.invariant (ap (flat_map (rows_of c.args.wanted.now c.args.assets.now.rows)) c.in-None.ensures.steps.0)

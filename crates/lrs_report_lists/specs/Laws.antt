@@ -1,0 +1,57 @@
+-- Laws of lists: a row of a stretch has a millimetre of it, and no field has to be quoted.
+use Rattle.std.specs.Prelude.{◌≡◌, ◌↔◌, ⊤, ℕ, ◌<◌, ◌≤◌, ◌^◌, Bool, true, not, nat_eq, IsTrue, pos, [], ◌∷◌, Option, Some, None}
+use Rattle.std.specs.List.{list_all, list_any}
+use Rattle.std.specs.Fmt.{decimal}
+use Rattle.lrs_measure.specs.FractionTexts.{fraction_text}
+use Rattle.lrs_position.specs.Names.{is_referent_name, is_route_name}
+use Rattle.lrs_events.specs.declared.span.Span.{Span}
+use Rattle.lrs_events.specs.Names.{is_class_name, is_value}
+use Rattle.lrs_machine.specs.Lines.{Text}
+use Rattle.lrs_report_lists.specs.WantedRows.{has_between}
+
+-- the chainage is at or behind the start of the stretch that is asked for
+abbrev pub IsBehind : Option ℕ → ℕ → Type 0
+IsBehind None j = ⊤
+IsBehind (Some from) j = from ≤ j
+
+-- it is before its end
+abbrev pub IsBefore : Option ℕ → ℕ → Type 0
+IsBefore None j = ⊤
+IsBefore (Some to) j = j < to
+
+-- The millimetre is of the row, and of the stretch that is asked for.
+pub record IsOfBoth (from to : Option ℕ) (r : Span) (j : ℕ) : Type 0 where
+  pub start : r.from ≤ j
+  pub end : j < r.to
+  pub behind : IsBehind from j
+  pub before : IsBefore to j
+
+-- A row is of a stretch exactly where they have a millimetre in common.
+abbrev pub RowsHaveAMillimetre : Type 0
+RowsHaveAMillimetre = (from to : Option ℕ) (r : Span) → IsTrue (has_between from to r) ↔ ((j : ℕ) × IsOfBoth from to r j)
+
+-- the byte means nothing in CSV: it is no quotation mark, no comma and no end of a line
+abbrev pub is_plain_byte : ℕ → Bool
+is_plain_byte byte = not (list_any (nat_eq byte) (34 ∷ 44 ∷ 10 ∷ 13 ∷ []))
+
+abbrev pub IsPlain : Text → Type 0
+IsPlain text = list_all is_plain_byte text ≡ true
+
+-- no name and no value has such a byte
+abbrev pub NamesArePlain : Type 0
+NamesArePlain = (text : Text)
+    → (IsTrue (is_route_name text) → IsPlain text) × (IsTrue (is_referent_name text) → IsPlain text) × (IsTrue (is_class_name text) → IsPlain text) × (IsTrue (is_value text) → IsPlain text)
+
+-- no number of 64 bits has
+abbrev pub NumbersArePlain : Type 0
+NumbersArePlain = (n : ℕ) → n < 2 ^ 64 → IsPlain (decimal n)
+
+-- no measure has
+abbrev pub MeasuresArePlain : Type 0
+MeasuresArePlain = (n d : ℕ) → n < 10 ^ 64 → d < 10 ^ 64 → IsPlain (fraction_text (record { num = pos n; den = d }))
+
+-- No field has to be quoted.
+pub record NoFieldNeedsQuotes : Type 0 where
+  pub names : NamesArePlain
+  pub numbers : NumbersArePlain
+  pub measures : MeasuresArePlain

@@ -1,0 +1,90 @@
+-- The lines of lists: fields with a comma between them, and the end of the line.
+use Rattle.std.specs.Prelude.{ℕ, Bool, nat_eq, if◌then◌else◌, List, [], ◌∷◌, ◌++◌, length, codes, Option}
+use Rattle.std.specs.List.{find}
+use Rattle.std.specs.Option.{option_map_or}
+use Rattle.std.specs.Fmt.{decimal}
+use Rattle.lrs_element.specs.declared.link.Link.{Link}
+use Rattle.lrs_element.specs.Marks.{first_mark, last_mark}
+use Rattle.lrs_position.specs.declared.route.Referent.{Referent}
+use Rattle.lrs_position.specs.declared.route.Route.{Route}
+use Rattle.lrs_events.specs.declared.class.Asset.{Asset}
+use Rattle.lrs_events.specs.declared.class.Class.{Class}
+use Rattle.lrs_events.specs.declared.part.Gone.{Gone}
+use Rattle.lrs_events.specs.declared.side.LinkSide.{LinkSide}
+use Rattle.lrs_events.specs.declared.side.LinkSide.TheVariants.{Left, Right}
+use Rattle.lrs_events.specs.declared.span.Span.{Span}
+use Rattle.lrs_events.specs.Names.{kind_text, side_text}
+use Rattle.lrs_machine.specs.Lines.{Text, fields}
+use Rattle.lrs_report_lists.specs.Measures.{measure_text}
+
+abbrev pub csv_line : List Text → Text
+csv_line fs = fields fs ++ 10 ∷ []
+
+-- a route: its name, its length, and the measures at its start and at its end
+abbrev pub route_line : Route → Text
+route_line r = csv_line (r.name ∷ decimal (length r.course) ∷ decimal (first_mark r.marks).measure ∷ decimal (last_mark r.marks).measure ∷ [])
+
+-- a link: its number and its length
+abbrev pub link_line : Link → Text
+link_line l = csv_line (decimal l.number ∷ decimal l.length ∷ [])
+
+-- a class: its name and its kind
+abbrev pub class_line : Class → Text
+class_line c = csv_line (c.name ∷ kind_text c.kind ∷ [])
+
+-- a referent: its name, its route, the chainage of its millimetre, and the measure there
+abbrev pub ref_line : Route → Referent → Text
+ref_line route r = csv_line (r.name ∷ route.name ∷ decimal r.at ∷ measure_text route.marks r.at ∷ [])
+
+-- the asset of a number
+abbrev pub asset_numbered : List Asset → ℕ → Option Asset
+asset_numbered assets n = find (λ a. nat_eq a.number n) assets
+
+-- what a field says of an asset; it is empty where there is none
+abbrev pub said_of : (Asset → Text) → Option Asset → Text
+said_of text a = option_map_or text a []
+
+-- a row of a route: the route, the chainages and measures from and to, the side, and the asset with its class, value, lateral offset and the edit that entered it
+abbrev pub row_line_with : Option Asset → Route → Span → Text
+row_line_with a route r =
+    csv_line
+    (route.name
+    ∷ decimal r.from
+    ∷ decimal r.to
+    ∷ measure_text route.marks r.from
+    ∷ measure_text route.marks r.to
+    ∷ side_text r.side
+    ∷ decimal r.asset
+    ∷ r.class
+    ∷ said_of (λ x. x.value) a
+    ∷ said_of (λ x. decimal x.lateral) a
+    ∷ said_of (λ x. decimal x.entered_by) a
+    ∷ [])
+
+abbrev pub row_line : List Asset → Route → Span → Text
+row_line assets route r = row_line_with (asset_numbered assets r.asset) route r
+
+abbrev pub reason_text : Bool → Text
+reason_text abandoned = if abandoned then codes "abandoned" else codes "retired"
+
+abbrev pub link_side_text : LinkSide → Text
+link_side_text Left = codes "L"
+link_side_text Right = codes "R"
+
+-- a part that is gone: the edit that took it away, why, the asset with its class and value, and the link, the millimetres from and to, and the side of the link
+abbrev pub gone_line_with : Option Asset → Gone → Text
+gone_line_with a g =
+    csv_line
+    (decimal g.part.edit
+    ∷ reason_text g.abandoned
+    ∷ decimal g.part.asset
+    ∷ said_of (λ x. x.class) a
+    ∷ said_of (λ x. x.value) a
+    ∷ decimal g.part.link
+    ∷ decimal g.part.from
+    ∷ decimal g.part.to
+    ∷ link_side_text g.part.side
+    ∷ [])
+
+abbrev pub gone_line : List Asset → Gone → Text
+gone_line assets g = gone_line_with (asset_numbered assets g.part.asset) g

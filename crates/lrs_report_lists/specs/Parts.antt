@@ -1,0 +1,51 @@
+-- Parts of lines, as they are written one behind the other.
+use Rattle.std.specs.Prelude.{ℕ, if◌then◌else◌, List, [], ◌∷◌, ◌++◌, Option}
+use Rattle.std.specs.Fmt.{decimal}
+use Rattle.lrs_measure.specs.Texts.{Name}
+use Rattle.lrs_position.specs.declared.route.Route.{Route}
+use Rattle.lrs_events.specs.declared.class.Asset.{Asset}
+use Rattle.lrs_events.specs.declared.part.Gone.{Gone}
+use Rattle.lrs_events.specs.declared.part.Part.{Part}
+use Rattle.lrs_events.specs.declared.span.Span.{Span}
+use Rattle.lrs_events.specs.Names.{side_text}
+use Rattle.lrs_machine.specs.Lines.{Text}
+use Rattle.lrs_report_lists.specs.declared.wanted.RowsWanted.{RowsWanted}
+use Rattle.lrs_report_lists.specs.Lines.{gone_line, link_side_text, reason_text, row_line, said_of}
+use Rattle.lrs_report_lists.specs.Measures.{measure_text}
+use Rattle.lrs_report_lists.specs.WantedRows.{is_of_edit, is_wanted}
+
+-- of a row: route, from and to
+abbrev pub place_part : Name → Span → Text
+place_part route r = route ++ 44 ∷ (decimal r.from ++ 44 ∷ (decimal r.to ++ 44 ∷ []))
+
+-- the measures from and to
+abbrev pub measures_part : Route → Span → Text
+measures_part route r = measure_text route.marks r.from ++ 44 ∷ measure_text route.marks r.to
+
+-- side, asset and class
+abbrev pub holder_part : Span → Text
+holder_part r = 44 ∷ (side_text r.side ++ 44 ∷ (decimal r.asset ++ 44 ∷ (r.class ++ 44 ∷ [])))
+
+-- value, lateral offset and edit, and the end of the line
+abbrev pub asset_part : Option Asset → Text
+asset_part a = said_of (λ x. x.value) a ++ 44 ∷ (said_of (λ x. decimal x.lateral) a ++ 44 ∷ (said_of (λ x. decimal x.entered_by) a ++ 10 ∷ []))
+
+-- the line of a row where it is asked for
+abbrev pub wanted_line : RowsWanted → List Asset → Route → Span → Text
+wanted_line w assets route r = if is_wanted w r then row_line assets route r else []
+
+-- of a part that is gone: edit, reason and asset
+abbrev pub reason_part : Gone → Text
+reason_part g = decimal g.part.edit ++ 44 ∷ (reason_text g.abandoned ++ 44 ∷ (decimal g.part.asset ++ 44 ∷ []))
+
+-- class and value
+abbrev pub class_part : Option Asset → Text
+class_part a = said_of (λ x. x.class) a ++ 44 ∷ (said_of (λ x. x.value) a ++ 44 ∷ [])
+
+-- link, from, to and side, and the end of the line
+abbrev pub ground_part : Part → Text
+ground_part p = decimal p.link ++ 44 ∷ (decimal p.from ++ 44 ∷ (decimal p.to ++ 44 ∷ (link_side_text p.side ++ 10 ∷ [])))
+
+-- the line of a part where it is asked for
+abbrev pub gone_line_of : Option ℕ → List Asset → Gone → Text
+gone_line_of edit assets g = if is_of_edit edit g then gone_line assets g else []

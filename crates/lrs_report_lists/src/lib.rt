@@ -1,0 +1,29 @@
+//! Lists of an inventory as CSV: a header, and a line for each route, link, class, referent, row or part that is gone. No
+//! field has to be quoted.
+#![tactic(auto)]
+
+mod absence;
+mod assets;
+mod classes;
+pub mod laws;
+mod ledger;
+pub mod length_lists;
+mod links;
+mod measures;
+mod presence;
+mod referents;
+mod route_list;
+mod row_list;
+mod wanted;
+
+pub use absence::{lacks_edit, lacks_route, missing_row};
+pub use assets::asset_numbered;
+pub use classes::write_classes;
+pub use ledger::{link_side_text, reason_text, write_gone};
+pub use length_lists::{ValueLength, lengths, write_lengths};
+pub use links::write_links;
+pub use measures::measure_on;
+pub use referents::write_refs;
+pub use route_list::write_routes;
+pub use row_list::write_rows;
+pub use wanted::{RowsWanted, is_of_edit, is_wanted};

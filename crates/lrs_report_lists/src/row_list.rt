@@ -1,0 +1,222 @@
+//! The list of rows.
+
+ghost use Rattle.std.specs.Prelude.{◌≡◌, [], OnOk, filter, true};
+ghost use Rattle.std.specs.List.{flat_map};
+ghost use Rattle.std.specs.Option.{option_map, option_map_or};
+ghost use Rattle.std.specs.Io.KnownBytes.{Appends};
+ghost use Rattle.lrs_measure.specs.Lists.{each_two};
+ghost use Rattle.lrs_machine.specs.Sound.{IsSound, asset_before, route_before};
+ghost use Rattle.lrs_image.specs.OpenLists.{image_of};
+ghost use Rattle.lrs_report_lists.specs.Lines.{row_line, row_line_with};
+ghost use Rattle.lrs_report_lists.specs.Lists.{rows_of, rows_text};
+ghost use Rattle.lrs_report_lists.specs.Parts.{asset_part, holder_part, measures_part, place_part, wanted_line};
+ghost use Rattle.lrs_report_lists.specs.WantedRows.{is_of_route};
+
+use crate::assets::asset_numbered;
+use crate::measures::write_measure;
+use crate::wanted::{RowsWanted, is_wanted};
+use lrs_events::{Asset, Span};
+use lrs_image::KeptImage;
+use lrs_machine::RouteRow;
+use lrs_ordered::Chunked;
+use lrs_position::{Route, RouteName};
+use std::io;
+use std::io::Write;
+
+fn write_place<W: Write>(writer: &mut W, route: &RouteName, row: &Span) -> io::Result<()>
+    ensures { OnOk result (Appends (W.contents writer.old) (W.contents writer.new)
+        (place_part route.now row.now)) }
+{
+    let from = row.from;
+    let to = row.to;
+    writer.write_all(route.bytes())?;
+    write!(writer, ",{from},{to},")
+}
+
+fn write_measures<W: Write>(writer: &mut W, route: &Route, row: &Span) -> io::Result<()>
+    ensures { OnOk result (Appends (W.contents writer.old) (W.contents writer.new)
+        (measures_part route.now row.now)) }
+{
+    write_measure(writer, route, row.from)?;
+    writer.write_all(b",")?;
+    write_measure(writer, route, row.to)
+}
+
+fn write_holder<W: Write>(writer: &mut W, row: &Span) -> io::Result<()>
+    ensures { OnOk result (Appends (W.contents writer.old) (W.contents writer.new)
+        (holder_part row.now)) }
+{
+    let side = row.side;
+    let asset = row.asset;
+    let class = row.class;
+    write!(writer, ",{side},{asset},{class},")
+}
+
+fn write_asset<W: Write>(writer: &mut W, asset: Option<&Asset>) -> io::Result<()>
+    ensures { OnOk result (Appends (W.contents writer.old) (W.contents writer.new)
+        (asset_part (option_map (λ a. a.now) asset.entry))) }
+{
+    match asset {
+        Some(asset) => {
+            let value = asset.value;
+            let offset = asset.lateral;
+            let edit = asset.entered_by;
+            writeln!(writer, "{value},{offset},{edit}")
+        }
+        None => writer.write_all(b",,\n"),
+    }
+}
+
+/// Writes the line of a row of a known asset, or of none.
+fn write_row_of<W: Write>(
+    writer: &mut W,
+    asset: Option<&Asset>,
+    route: &Route,
+    row: &Span,
+) -> io::Result<()>
+    ensures { OnOk result (Appends (W.contents writer.old) (W.contents writer.new)
+        (row_line_with (option_map (λ a. a.now) asset.entry) route.now row.now)) }
+{
+    write_place(writer, &route.name, row)?;
+    write_measures(writer, route, row)?;
+    write_holder(writer, row)?;
+    write_asset(writer, asset)
+}
+
+fn write_row<W: Write>(
+    writer: &mut W,
+    assets: &Chunked<Asset>,
+    route: &Route,
+    row: &Span,
+) -> io::Result<()>
+    requires order { each_two asset_before assets.now.rows ≡ true }
+    ensures { OnOk result (Appends (W.contents writer.old) (W.contents writer.new)
+        (row_line assets.now.rows route.now row.now)) }
+{
+    write_row_of(writer, asset_numbered(assets, row.asset), route, row)
+}
+
+/// Writes the line of a row where the row is asked for.
+fn write_wanted_row<W: Write>(
+    writer: &mut W,
+    wanted: &RowsWanted,
+    assets: &Chunked<Asset>,
+    route: &Route,
+    row: &Span,
+) -> io::Result<()>
+    requires order { each_two asset_before assets.now.rows ≡ true }
+    ensures { OnOk result (Appends (W.contents writer.old) (W.contents writer.new)
+        (wanted_line wanted.now assets.now.rows route.now row.now)) }
+{
+    if is_wanted(wanted, row) {
+        return write_row(writer, assets, route, row);
+    }
+    Ok(())
+}
+
+fn write_rows_on<W: Write>(
+    writer: &mut W,
+    wanted: &RowsWanted,
+    assets: &Chunked<Asset>,
+    route: &Route,
+    rows: &[Span],
+) -> io::Result<()>
+    requires order { each_two asset_before assets.now.rows ≡ true }
+    ensures { OnOk result (Appends (W.contents writer.old) (W.contents writer.new)
+        (flat_map (wanted_line wanted.now assets.now.rows route.now) rows.now)) }
+{
+    for row in rows {
+        write_wanted_row(writer, wanted, assets, route, row)?;
+    }
+    Ok(())
+}
+
+/// Writes the rows of a route that are asked for.
+fn write_rows_of<W: Write>(
+    writer: &mut W,
+    wanted: &RowsWanted,
+    assets: &Chunked<Asset>,
+    route_row: &RouteRow,
+) -> io::Result<()>
+    requires order { each_two asset_before assets.now.rows ≡ true }
+    ensures { OnOk result (Appends (W.contents writer.old) (W.contents writer.new)
+        (rows_of wanted.now assets.now.rows route_row.now)) }
+{
+    write_rows_on(
+        writer,
+        wanted,
+        assets,
+        &route_row.route,
+        route_row.spans.rows(),
+    )
+}
+
+fn write_each_row<W: Write>(
+    writer: &mut W,
+    wanted: &RowsWanted,
+    assets: &Chunked<Asset>,
+    routes: &Chunked<RouteRow>,
+) -> io::Result<()>
+    requires order { each_two asset_before assets.now.rows ≡ true }
+    ensures { OnOk result (Appends (W.contents writer.old) (W.contents writer.new)
+        (flat_map (rows_of wanted.now assets.now.rows) routes.now.rows)) }
+{
+    for route_row in routes.iter() {
+        write_rows_of(writer, wanted, assets, route_row)?;
+    }
+    Ok(())
+}
+
+/// Writes the rows that are asked for of one route, if there is one.
+fn write_rows_of_some<W: Write>(
+    writer: &mut W,
+    wanted: &RowsWanted,
+    assets: &Chunked<Asset>,
+    route_row: Option<&RouteRow>,
+) -> io::Result<()>
+    requires order { each_two asset_before assets.now.rows ≡ true }
+    ensures { OnOk result (Appends (W.contents writer.old) (W.contents writer.new)
+        (option_map_or (rows_of wanted.now assets.now.rows) (option_map (λ e. e.now) route_row.entry) [])) }
+{
+    match route_row {
+        Some(route_row) => write_rows_of(writer, wanted, assets, route_row),
+        None => Ok(()),
+    }
+}
+
+/// Writes the rows that are asked for. A route that is named is found by search.
+fn write_asked<W: Write>(
+    writer: &mut W,
+    wanted: &RowsWanted,
+    assets: &Chunked<Asset>,
+    routes: &Chunked<RouteRow>,
+) -> io::Result<()>
+    requires assets_order { each_two asset_before assets.now.rows ≡ true }
+    requires routes_order { each_two route_before routes.now.rows ≡ true }
+    ensures { OnOk result (Appends (W.contents writer.old) (W.contents writer.new)
+        (flat_map (rows_of wanted.now assets.now.rows)
+        (filter (is_of_route wanted.now.route) routes.now.rows))) }
+{
+    match &wanted.route {
+        Some(name) => write_rows_of_some(writer, wanted, assets, routes.find(name)),
+        None => write_each_row(writer, wanted, assets, routes),
+    }
+}
+
+/// Writes each row that is asked for, by route, and then as the route keeps them, by class, asset and start. The header says
+/// what a line has: `route,from,to,from_measure,to_measure,side,asset,class,value,offset,entered_by`. From and to are chainages
+/// in millimetres; a point's `to` is `from + 1`. The measures there are exact. The lateral offset is in millimetres, and
+/// `entered_by` is the number of an edit. It takes no memory beyond the writer's, and does not flush the writer.
+///
+/// # Errors
+/// That of the writer. Part of the list may be written then. A route, a class or an asset that is not known has no rows.
+pub fn write_rows<W: Write>(writer: &mut W, kept: &KeptImage, wanted: &RowsWanted) -> io::Result<()>
+    requires sound { IsSound (image_of kept.now) }
+    ensures { OnOk result (Appends (W.contents writer.old) (W.contents writer.new)
+        (rows_text wanted.now (image_of kept.now))) }
+{
+    writer.write_all(
+        b"route,from,to,from_measure,to_measure,side,asset,class,value,offset,entered_by\n",
+    )?;
+    write_asked(writer, wanted, &kept.assets, &kept.routes)
+}

@@ -1,0 +1,19 @@
+//! The laws of the log.
+
+ghost use Rattle.lrs_sheet_log.specs.Differences.{TablesMakeImages};
+ghost use Rattle.lrs_sheet_log.specs.Laws.{LogReadsAsRecords, LogRecordsSay};
+
+/// The record of an edit says the command that was accepted, under its key.
+pub fn log_records_say_their_commands()
+    ensures { LogRecordsSay }
+{}
+
+/// By the rules of `csv`, the records of a log are the header and the record of each edit.
+pub fn a_log_reads_as_its_records()
+    ensures { LogReadsAsRecords }
+{}
+
+/// Images that have the same rows in all tables are the same.
+pub fn same_tables_make_the_same_image()
+    ensures { TablesMakeImages }
+{}

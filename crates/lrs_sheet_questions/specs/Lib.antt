@@ -1,0 +1,4 @@
+pub mod Lines
+pub mod Replies
+pub mod SheetAnswers
+pub mod Rows

@@ -1,0 +1,23 @@
+use Rattle.std.proofs.Common.{arith, ◌≡◌, ◌<◌, ◌+◌, ◌∙◌, length, take, Some, sym, ap, subst, rules}
+use Rattle.std.proofs.lemmas.Grind.{common_steps}
+use Rattle.lrs_store_tables.specs.Contents.Decoders.{each_of, piece_of}
+use Rattle.lrs_store_image.proofs.DecodedRoutes.Each.{each_of-more, each_of-at}
+use Rattle.lrs_store_image.proofs.route_decoder.decode.pieces_said.Goals as goal
+
+pub returns-in_default : goal.returns-in_default
+returns-in_default c =
+    let rows = c.args.rows.now in
+    let i = c.loop-row.row-index in
+    let bound : i < length rows = search rules in
+    sym (each_of-at piece_of rows i c.row-item.result bound (ap piece_of (sym c.row-item.is) ∙ sym c.piece_of.ensures ∙ c.in_default.is))
+
+pub loop-row-preserved : goal.loop-row-preserved
+loop-row-preserved c =
+    let rows = c.args.rows.now in
+    let i = c.loop-row.row-index in
+    let bound : i < length rows = search rules in
+    let more = each_of-more piece_of rows i c.row-item.result c.in-Some.said c.loop-row.found.items bound c.loop-row.invariant (ap piece_of (sym c.row-item.is) ∙ sym c.piece_of.ensures ∙ c.in-Some.is) in
+    subst (λ zs. each_of piece_of (take (i + 1) rows) ≡ Some zs) (sym c.in_ok-push.ensures.items) more
+
+pub returns : goal.returns
+returns c = grind (arith, common_steps)

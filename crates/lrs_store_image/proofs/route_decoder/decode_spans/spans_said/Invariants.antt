@@ -1,0 +1,7 @@
+use Rattle.std.proofs.Common.{◌≡◌, Some, take}
+use Rattle.lrs_store_tables.specs.Contents.Decoders.{each_of}
+use Rattle.lrs_store_image.specs.DecodedRoutes.Spans.{known_span}
+use Rattle.lrs_store_image.proofs.route_decoder.decode_spans.spans_said.Given as goal
+
+abbrev pub invariant-loop-row : goal.invariant-loop-row
+invariant-loop-row l = each_of (known_span l.assets l.routes) (take l.row-index l.rows) ≡ Some l.found.items

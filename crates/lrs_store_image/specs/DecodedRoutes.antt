@@ -1,0 +1,5 @@
+pub mod Groups
+pub mod Courses
+pub mod Marks
+pub mod Referents
+pub mod Spans

@@ -1,5 +1,0 @@
-use Rattle.lrs_store_laws.proofs.Named.{content_has_texts}
-use Rattle.lrs_store_laws.proofs.image_laws.texts_of_the_content_are_of_their_kinds.Goals as goal
-
-pub returns : goal.returns
-returns c = content_has_texts

@@ -1,6 +1,0 @@
-use Rattle.std.proofs.Common.{take}
-use Rattle.lrs_store_laws.specs.Texts.{AreNames}
-use Rattle.lrs_store_laws.proofs.texts.prove_referents.Given as goal
-
-abbrev pub invariant-loop-referent : goal.invariant-loop-referent
-invariant-loop-referent l = AreNames (take l.referent-index l.refs)

@@ -1,7 +1,0 @@
-use Rattle.std.proofs.Common.{◌≡◌, Some, take}
-use Rattle.lrs_store_rows.specs.Decoding.{each_of}
-use Rattle.lrs_store_routes.specs.Spans.{known_span}
-use Rattle.lrs_store_routes.proofs.decode_spans.spans_said.Given as goal
-
-abbrev pub invariant-loop-row : goal.invariant-loop-row
-invariant-loop-row l = each_of (known_span l.assets l.routes) (take l.row-index l.rows) ≡ Some l.found.items

@@ -1,5 +1,0 @@
-pub mod Grouping
-pub mod Courses
-pub mod Measuring
-pub mod Referring
-pub mod Spans

@@ -1,5 +1,0 @@
-use Rattle.lrs_store_rows.proofs.BroughtUp.{brought_up_holds_the_same}
-use Rattle.lrs_store_rows.proofs.laws.brought_up_holds_the_same.Goals as goal
-
-pub returns : goal.returns
-returns c = brought_up_holds_the_same

@@ -1,5 +1,0 @@
-use Rattle.lrs_store_rows.proofs.Contents.{content_is_sound}
-use Rattle.lrs_store_rows.proofs.laws.contents_are_sound.Goals as goal
-
-pub returns : goal.returns
-returns c = content_is_sound

@@ -1,5 +1,0 @@
-use Rattle.lrs_store_rows.proofs.Stored.{content_is_of_rows}
-use Rattle.lrs_store_rows.proofs.order_laws.content_is_of_rows.Goals as goal
-
-pub returns : goal.returns
-returns c = content_is_of_rows

@@ -1,8 +1,0 @@
--- What a store holds hangs on its rows alone.
-use Rattle.std.specs.Prelude.{◌≡◌}
-use Rattle.lrs_store_rows.specs.Tables.{Tables, AreSame}
-use Rattle.lrs_store_rows.specs.Content.{content_of}
-
--- Stores with the same rows, in any order, hold the same: one image, or one first table that is unsound.
-abbrev pub ContentIsOfRows : Type 0
-ContentIsOfRows = (a b : Tables) → AreSame a b → content_of a ≡ content_of b

@@ -1,0 +1,7 @@
+use Rattle.std.proofs.Common.{refl}
+use Rattle.lrs_store_tables.specs.Contents.Content.{content_of}
+use Rattle.lrs_store_tables.proofs.laws.empty_store_holds_nothing.Goals as goal
+
+pub returns : goal.returns
+unfolding content_of
+returns c = refl

@@ -1,6 +1,0 @@
-use Rattle.std.proofs.Common.{◌≡◌, ◌++◌, drop, map}
-use Rattle.lrs_verbs_routes.specs.Realignments.{refs_on}
-use Rattle.lrs_verbs_routes.proofs.realign.names_on.Given as goal
-
-abbrev pub invariant-loop-referent : goal.invariant-loop-referent
-invariant-loop-referent l = l.out.items ++ map (λ q. q.name) (refs_on l.from l.to (drop l.referent-index l.refs)) ≡ map (λ q. q.name) (refs_on l.from l.to l.refs)

@@ -1,7 +1,0 @@
-use Rattle.std.proofs.Common.{◌≡◌, ◌++◌, drop, map}
-use Rattle.lrs_verbs_routes.specs.Realignments.{on_from}
-use Rattle.lrs_verbs_routes.specs.Splits.{refs_behind}
-use Rattle.lrs_verbs_routes.proofs.realign.refs_from.Given as goal
-
-abbrev pub invariant-loop-referent : goal.invariant-loop-referent
-invariant-loop-referent l = l.out.items ++ map (on_from l.to l.at) (refs_behind l.to (drop l.referent-index l.refs)) ≡ map (on_from l.to l.at) (refs_behind l.to l.refs)

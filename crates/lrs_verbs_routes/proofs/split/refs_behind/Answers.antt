@@ -1,6 +1,0 @@
-use Rattle.std.proofs.Common.{arith}
-use Rattle.std.proofs.lemmas.Grind.{common_steps}
-use Rattle.lrs_verbs_routes.proofs.split.refs_behind.Goals as goal
-
-pub loop-referent-preserved : goal.loop-referent-preserved
-loop-referent-preserved c = grind (arith, common_steps)

@@ -1,7 +1,0 @@
-use Rattle.std.proofs.Common.{◌≡◌, ◌++◌, drop, map}
-use Rattle.lrs_image_laws.specs.Splitting.{back_by}
-use Rattle.lrs_verbs_routes.specs.Splits.{refs_behind}
-use Rattle.lrs_verbs_routes.proofs.split.refs_behind.Given as goal
-
-abbrev pub invariant-loop-referent : goal.invariant-loop-referent
-invariant-loop-referent l = l.out.items ++ map (back_by l.at) (refs_behind l.at (drop l.referent-index l.refs)) ≡ map (back_by l.at) (refs_behind l.at l.refs)

@@ -1,0 +1,51 @@
+-- What a request is answered, and what it leaves of the desk.
+use Rattle.std.specs.Prelude.{◌≡◌, ◌⊎◌, ℕ, [], Some, None, Option, Result, MatchOption, true}
+use Rattle.std.specs.Io.KnownBytes.{Appends}
+use Rattle.lrs_machine.specs.Lines.{Text}
+use Rattle.lrs_machine.specs.declared.image.Image.{Image}
+use Rattle.lrs_machine.specs.declared.table.Table.{Table}
+use Rattle.lrs_desk.specs.DeskView.{DeskView}
+use Rattle.lrs_sheet_records.specs.declared.sheet.Sheet.{Sheet}
+use Rattle.lrs_sheet_records.specs.declared.sheet.Sheet.TheVariants.{Edits, Survey}
+use Rattle.lrs_web_requests.specs.declared.paths.Resource.{Resource}
+use Rattle.lrs_web_requests.specs.declared.paths.Resource.TheVariants as path
+use Rattle.lrs_web_requests.specs.declared.response.Verb.{Verb}
+use Rattle.lrs_web_requests.specs.Request.{Asked, Asks, refused, not_allowed, query, sheet}
+use Rattle.lrs_web_requests.specs.Text.{Answer, answer_text, empty_answer}
+use Rattle.lrs_web.specs.QueryAnswers.{AnswersAsked}
+use Rattle.lrs_web.specs.Sheets.{DoesSheet}
+use Rattle.lrs_web.specs.Questions.{AnswersQuestions}
+
+-- the kind of sheet that a resource does; none where it answers questions
+abbrev pub sheet_at : Resource → Option Sheet
+sheet_at path.Questions = None
+sheet_at path.Surveys = Some Survey
+sheet_at _ = Some Edits
+
+-- another method is wanted
+abbrev pub allowed_answer : Verb → Answer
+allowed_answer verb = record { status = 405; content_type = None; allow = Some verb; body = [] }
+
+-- What is asked for is done at the desk, and answered: a sheet is done, or its questions are answered. A query leaves the desk as it is. It has an empty 503 where memory runs out, and once a commit of several commands has failed: the image may be ahead of what is kept then. The health has an empty 503 once any commit has failed: no command is done then.
+abbrev pub Does : {K : Type 0} → (K → Result Image Table → Type 0) → Asked → DeskView K → Answer → DeskView K → Type 0
+Does holds (refused status) old answer new = (new ≡ old) × (answer ≡ empty_answer status)
+Does holds (not_allowed verb) old answer new = (new ≡ old) × (answer ≡ allowed_answer verb)
+Does holds (query resource argument) old answer new =
+    (new ≡ old) × (AnswersAsked old.image resource argument answer ⊎ (answer ≡ empty_answer 503)) × (old.is_ahead ≡ true → answer ≡ empty_answer 503)
+    × (resource ≡ path.Health → old.must_reopen ≡ true → answer ≡ empty_answer 503)
+Does holds (sheet resource resumes bytes) old answer new =
+    MatchOption (sheet_at resource) (AnswersQuestions bytes old answer new) (λ kind. DoesSheet holds kind resumes bytes old answer new)
+
+-- What is asked for is done; the answer, or for lack of memory an empty 503, is given.
+abbrev pub Responds : {K : Type 0} → (K → Result Image Table → Type 0) → Asked → DeskView K → Answer → DeskView K → Type 0
+Responds holds asked old answer new = (due : Answer) × Does holds asked old due new × ((answer ≡ due) ⊎ (answer ≡ empty_answer 503))
+
+-- The request at the front of the input is done; or for lack of memory it is not looked at.
+abbrev pub Serves : {K : Type 0} → (K → Result Image Table → Type 0) → Text → DeskView K → Answer → DeskView K → Type 0
+Serves holds input old answer new =
+    ((asked : Asked) × Asks input asked × Responds holds asked old answer new)
+    ⊎ ((answer ≡ empty_answer 503) × (new ≡ old))
+
+-- an answer with this status is written
+abbrev pub Writes : Option Text → Option Text → ℕ → Answer → Type 0
+Writes old new status answer = (status ≡ answer.status) × Appends old new (answer_text answer)

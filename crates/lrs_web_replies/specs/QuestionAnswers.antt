@@ -1,0 +1,34 @@
+-- What a question is answered over HTTP, for the image that is kept.
+use Rattle.std.specs.Prelude.{◌≡◌, Result, Ok, Err}
+use Rattle.serde_json.specs.Data.{Data}
+use Rattle.lrs_machine.specs.declared.image.Image.{Image}
+use Rattle.lrs_machine.specs.declared.question.Question.{Question}
+use Rattle.lrs_report_answers.specs.declared.fault.AskFault.{AskFault}
+use Rattle.lrs_report_answers.specs.declared.told.Told.{Told}
+use Rattle.lrs_report_answers.specs.declared.told.Told.TheVariants as told
+use Rattle.lrs_report_answers.specs.ToldAnswers.{IsTold}
+use Rattle.lrs_report.specs.Drawings.Pictures.{diagram_text}
+use Rattle.lrs_web_requests.specs.Text.{Answer}
+use Rattle.lrs_web_replies.specs.Answers.{at_data, ShowsRoute, segments_data, translated_data, on_link_data, routes_data, totals_data, found_data}
+use Rattle.lrs_web_replies.specs.Replies.{json_answer, svg_answer, refusal}
+
+-- The table: the reply to each answer. A diagram is a picture, and any other answer is JSON.
+abbrev pub ShowsTold : Told → Answer → Type 0
+ShowsTold (told.At route found) answer = answer ≡ json_answer 200 (at_data route found.at found.ground found.hits)
+ShowsTold (told.Route route) answer = (d : Data) × ShowsRoute route d × (answer ≡ json_answer 200 d)
+ShowsTold (told.Segments route side len classes segments) answer = answer ≡ json_answer 200 (segments_data route side segments)
+ShowsTold (told.Translated route e) answer = answer ≡ json_answer 200 (translated_data route e)
+ShowsTold (told.OnLink route link distance) answer = answer ≡ json_answer 200 (on_link_data route (link, distance))
+ShowsTold (told.Diagram diagram) answer = answer ≡ svg_answer (diagram_text diagram)
+ShowsTold (told.Routes routes) answer = answer ≡ json_answer 200 (routes_data routes)
+ShowsTold (told.Totals totals) answer = answer ≡ json_answer 200 (totals_data totals)
+ShowsTold (told.Found rows) answer = answer ≡ json_answer 200 (found_data rows)
+
+-- What is told is shown, or why nothing is told.
+abbrev pub IsReplyTo : Result Told AskFault → Answer → Type 0
+IsReplyTo (Ok t) answer = ShowsTold t answer
+IsReplyTo (Err fault) answer = answer ≡ refusal fault
+
+-- What the inventory of this image tells to a question is the reply.
+abbrev pub AnswersQuestion : Image → Question → Answer → Type 0
+AnswersQuestion i q answer = (said : Result Told AskFault) × IsTold i q said × IsReplyTo said answer

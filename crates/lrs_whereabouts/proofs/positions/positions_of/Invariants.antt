@@ -1,5 +1,0 @@
-use Rattle.lrs_whereabouts.proofs.Targets.{ArePositions}
-use Rattle.lrs_whereabouts.proofs.positions.positions_of.Given as goal
-
-abbrev pub invariant-loop-referent : goal.invariant-loop-referent
-invariant-loop-referent l = ArePositions l.route l.chainage l.referent-index l.positions.items

@@ -1,5 +1,0 @@
-pub mod Places
-pub mod Answers
-pub mod Lines
-pub mod Middles
-pub mod Laws

@@ -1,8 +1,0 @@
-//! A law of places.
-
-ghost use Rattle.lrs_whereabouts.specs.Laws.{LinksLeadBack};
-
-/// A millimetre that a route runs over, asked for on its link, is at its chainage on that route.
-pub fn links_lead_back()
-    ensures { LinksLeadBack }
-{}

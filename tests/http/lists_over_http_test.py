@@ -1,0 +1,323 @@
+"""Lists, reports and places over HTTP, as JSON: the same as what the program prints of the same file; and the health of the service."""
+
+import csv
+import io
+import json
+import random
+
+import pytest
+
+from program import FIRST, FIRST_REPLIES, run, sheet_of, with_files_up_to
+from sent_sheets import random_record
+from serving import by_curl, by_http_client, by_socket, answer, error, reply, request, serving, started
+from stores import MORE, edit, is_whole, make, rows_of
+
+# the fields that are numbers as JSON, of whichever list; all others are texts
+NUMBERS = {"length", "left", "right", "link", "chainage", "asset", "from", "to", "offset", "entered_by", "edit"}
+
+# what is asked for over HTTP, and the words for it on the command line
+ASKED = {
+    "/v1/links": ("list", "links"),
+    "/v1/classes": ("list", "classes"),
+    "/v1/refs": ("list", "refs"),
+    "/v1/rows": ("rows",),
+    "/v1/rows?route=A1": ("rows", "--route", "A1"),
+    "/v1/rows?route=A2&from=500&to=1000": ("rows", "--route", "A2", "--from", "500", "--to", "1000"),
+    "/v1/rows?class=RAIL": ("rows", "--class", "RAIL"),
+    "/v1/rows?asset=10": ("rows", "--asset", "10"),
+    "/v1/rows?from=1000": ("rows", "--from", "1000"),
+    "/v1/rows?to=1000": ("rows", "--to", "1000"),
+    "/v1/rows?to=0": ("rows", "--to", "0"),
+    "/v1/rows?class=RAIL&asset=12": ("rows", "--class", "RAIL", "--asset", "12"),
+    "/v1/rows?asset=10&class=SPEED&to=8000&from=0&route=A1": ("rows", "--route", "A1", "--from", "0", "--to", "8000", "--class", "SPEED", "--asset", "10"),
+    "/v1/lengths": ("lengths",),
+    "/v1/lengths?route=A2": ("lengths", "--route", "A2"),
+    "/v1/gone": ("gone",),
+    "/v1/gone?edit=12": ("gone", "--edit", "12"),
+    "/v1/gone?edit=11": ("gone", "--edit", "11"),
+}
+
+
+def name_of(target):
+    """The name of the list."""
+    return target.partition("?")[0].rpartition("/")[2]
+
+
+def number(text):
+    """Metres are printed with three decimals, and are millimetres over HTTP."""
+    return int(text.replace(".", ""))
+
+
+def as_json(target, ended):
+    """The reply with what a run printed: compact, the members of each entry in the order of their names."""
+    assert (ended.stderr, ended.status) == (b"", 0), ended
+    rows = csv.DictReader(io.StringIO(ended.stdout.decode()))
+    shown = [{field: number(text) if field in NUMBERS else text for field, text in row.items()} for row in rows]
+    return reply(200, json.dumps({name_of(target): shown}, separators=(",", ":"), sort_keys=True).encode())
+
+
+def printed(path, words):
+    return run(words[0], str(path), *words[1:])
+
+
+def gets(server, target, expected):
+    server.answers(request(f"GET {target}"), expected)
+
+
+@pytest.fixture(scope="module")
+def desk(tmp_path_factory):
+    """A server of a file, and the replies that are due by what the program prints of it."""
+    path = tmp_path_factory.mktemp("lists") / "roads.db"
+    make(path, *MORE)
+    due = {target: as_json(target, printed(path, words)) for target, words in ASKED.items()}
+    kept = rows_of(path)
+    with started(db=path) as server:
+        yield server, due
+    assert rows_of(path) == kept
+    is_whole(path)
+
+
+@pytest.mark.parametrize("target", ASKED)
+def test_it_is_what_the_program_prints(desk, target):
+    server, due = desk
+    gets(server, target, due[target])
+
+
+@pytest.mark.parametrize("target", ["/v1/links", "/v1/classes", "/v1/refs", "/v1/rows", "/v1/lengths", "/v1/gone"])
+def test_none_of_them_is_empty(desk, target):
+    assert b":[]" not in desk[1][target] and desk[1][target].count(b'"') > 4
+
+
+def test_all_bytes_of_a_reply(desk):
+    body = b'{"classes":[{"class":"RAIL","kind":"stretch"},{"class":"SIGN","kind":"point"},{"class":"SPEED","kind":"exclusive"}]}'
+    head = b"HTTP/1.1 200 OK\r\nContent-Type: application/json\r\nContent-Length: %d\r\nConnection: close\r\n\r\n" % len(body)
+    desk[0].answers(request("GET /v1/classes"), head + body)
+
+
+@pytest.mark.parametrize("client", [by_socket, by_curl, by_http_client])
+def test_over_each_client(desk, client):
+    server, due = desk
+    for target in ["/v1/links", "/v1/rows?route=A1"]:
+        assert client(server.port, f"GET {target}", None) == due[target]
+
+
+def test_measures_may_be_fractions(desk):
+    shown = json.loads(desk[1]["/v1/rows"].partition(b"\r\n\r\n")[2])["rows"]
+    assert any("/" in row["from_measure"] + row["to_measure"] for row in shown), shown
+    assert all(isinstance(row["from_measure"], str) and isinstance(row["from"], int) for row in shown)
+
+
+def test_an_empty_inventory():
+    with serving(7) as server:
+        for name in ["links", "classes", "refs", "rows", "lengths", "gone"]:
+            gets(server, f"/v1/{name}", reply(200, b'{"%s":[]}' % name.encode()))
+        gets(server, "/health", reply(200, b'{"edits":0}'))
+
+
+def test_inventories_of_chance(tmp_path):
+    drawn = random.Random(17)
+    for seed in range(8):
+        path = tmp_path / f"{seed}.db"
+        edit(path, sheet_of(*(random_record(drawn, n) for n in range(1, 80))))
+        asked = {target: words for target, words in ASKED.items() if "?" not in target}
+        due = {target: as_json(target, printed(path, words)) for target, words in asked.items()}
+        with serving(len(due), path) as server:
+            for target, expected in due.items():
+                gets(server, target, expected)
+
+
+def test_many_rows(tmp_path):
+    """As many as a body of megabytes has: each is written for itself."""
+    count = 5_000
+    path = tmp_path / "roads.db"
+    texts = ["m1,link,4,1000000", "m2,class,V,stretch", "m3,route,L1,4:0:1000000:+,0:0 1000000:333333"]
+    edit(path, sheet_of(*texts, *(f"v{n},enter,{n},V,L1,B,abs,{n},{n + 1},x,0" for n in range(1, count + 1))))
+    target = "/v1/rows?route=L1"
+    expected = as_json(target, printed(path, ("rows", "--route", "L1")))
+    assert expected.count(b'"asset"') == count
+    with serving(1, path) as server:
+        gets(server, target, expected)
+
+
+# ---- what cannot be answered
+
+
+REFUSED = {
+    "/v1/rows?route=B9": (404, "NoRoute"),
+    "/v1/rows?class=NONE": (422, "NoClass"),
+    "/v1/rows?asset=99": (422, "NoAsset"),
+    "/v1/rows?asset=99&route=B9": (404, "NoRoute"),
+    "/v1/rows?class=NONE&route=B9": (404, "NoRoute"),
+    "/v1/rows?asset=99&class=NONE": (422, "NoClass"),
+    "/v1/lengths?route=B9": (404, "NoRoute"),
+    "/v1/lengths?route=": (400, "Malformed:route"),
+    "/v1/lengths?route=a1&route=A1": (400, "Malformed:route"),
+    "/v1/gone?edit=14": (422, "NoEdit"),
+    "/v1/gone?edit=10000000": (422, "NoEdit"),
+    "/v1/rows?route=": (400, "Malformed:route"),
+    "/v1/rows?route=a1": (400, "Malformed:route"),
+    "/v1/rows?route=B9&from=x": (400, "Malformed:from"),
+    "/v1/rows?from=-1": (400, "Malformed:from"),
+    "/v1/rows?from=10000000001": (400, "Malformed:from"),
+    "/v1/rows?to=": (400, "Malformed:to"),
+    "/v1/rows?class=": (400, "Malformed:class"),
+    "/v1/rows?class=speed": (400, "Malformed:class"),
+    "/v1/rows?class=a&class=SPEED": (400, "Malformed:class"),
+    "/v1/rows?asset=0": (400, "Malformed:asset"),
+    "/v1/rows?asset=1000000000001": (400, "Malformed:asset"),
+    "/v1/rows?asset=x&class=x&to=x&from=x&route=x": (400, "Malformed:route"),
+    "/v1/rows?asset=x&class=x&to=x&from=x": (400, "Malformed:from"),
+    "/v1/rows?asset=x&class=x&to=x": (400, "Malformed:to"),
+    "/v1/rows?asset=x&class=x": (400, "Malformed:class"),
+    "/v1/gone?edit=0": (400, "Malformed:edit"),
+    "/v1/gone?edit=x": (400, "Malformed:edit"),
+    "/v1/gone?edit=10000001": (400, "Malformed:edit"),
+}
+
+
+@pytest.mark.parametrize("target", REFUSED)
+def test_what_is_refused(desk, target):
+    gets(desk[0], target, error(*REFUSED[target]))
+
+
+@pytest.mark.parametrize("target", ["/v1/links?link=x", "/v1/classes?class=x", "/v1/refs?route=x", "/v1/lengths?class=x&from=x", "/v1/rows?edit=x&side=x", "/v1/gone?asset=x", "/v1/rows?class=RAIL&class=x"])
+def test_other_parameters_are_passed_over(desk, target):
+    server, due = desk
+    gets(server, target, due["/v1/rows?class=RAIL" if "RAIL" in target else target.partition("?")[0]])
+
+
+@pytest.mark.parametrize("path", ["/v1/links", "/v1/classes", "/v1/refs", "/v1/rows", "/v1/lengths", "/v1/gone", "/v1/where", "/health"])
+def test_another_method(desk, path):
+    for method in ["POST", "HEAD", "PUT", "DELETE"]:
+        desk[0].answers(request(f"{method} {path}"), reply(405, allow="GET"))
+
+
+@pytest.mark.parametrize("path", ["/v1/links/", "/v1/link", "/v1/length", "/v1/where/A1", "/v1/row", "/v1/Rows", "/v1/rows/A1", "/v1/health", "/health/", "/healthz", "/", "/v1/gone/12"])
+def test_another_path(desk, path):
+    gets(desk[0], path, reply(404))
+
+
+# ---- places
+
+# what is asked for over HTTP, and the words for it on the command line; of a link, its route is of no account
+PLACES = {
+    "route=A1&chainage=0": ("A1", "0"),
+    "route=A1&chainage=2500": ("A1", "2500"),
+    "route=A1&chainage=5000": ("A1", "5000"),
+    "chainage=700&route=A2": ("A2", "700"),
+    "link=1&mm=0": ("link", "1", "0"),
+    "link=1&mm=4999": ("link", "1", "4999"),
+    "link=1&mm=5000": ("link", "1", "5000"),
+    "mm=100&link=2&route=x&chainage=x": ("link", "2", "100"),
+}
+
+
+def place_as_json(ended):
+    """The reply with what a run of `where` printed."""
+    assert (ended.stderr, ended.status) == (b"", 0), ended
+    first, *rest = ended.stdout.decode().splitlines()
+    route, at, link, mm, direction = first.split()
+    hits = [line.split() for line in rest if len(line.split()) == 6]
+    places = [line.split() for line in rest if len(line.split()) == 2]
+    assert len(hits) + len(places) == len(rest)
+    shown = {
+        "at": int(at),
+        "dir": direction,
+        "hits": [
+            {"asset": int(asset), "class": name, "entry": int(entry), "offset": int(offset), "side": side, "value": value}
+            for asset, name, side, offset, value, entry in hits
+        ],
+        "link": int(link),
+        "mm": int(mm),
+        "positions": [{"method": method, "pos": position} for method, position in places],
+        "route": route,
+    }
+    return reply(200, json.dumps(shown, separators=(",", ":")).encode())
+
+
+@pytest.mark.parametrize("query", PLACES)
+def test_a_place_is_what_the_program_prints(places, query):
+    server, due = places
+    gets(server, f"/v1/where?{query}", due[query])
+
+
+@pytest.fixture(scope="module")
+def places(tmp_path_factory):
+    path = tmp_path_factory.mktemp("places") / "roads.db"
+    make(path, *MORE)
+    due = {query: place_as_json(printed(path, ("where", *words))) for query, words in PLACES.items()}
+    assert any(b'"hits":[{' in shown for shown in due.values()) and any(b'"rel"' in shown for shown in due.values())
+    with started(db=path) as server:
+        yield server, due
+
+
+NOWHERE = {
+    "route=B9&chainage=0": (404, "NoRoute"),
+    "route=A1&chainage=5001": (422, "OffRoute"),
+    "route=A1&chainage=10000000000": (422, "OffRoute"),
+    "link=9&mm=0": (422, "NoLink"),
+    "link=1&mm=5001": (422, "OffRoute"),
+    "": (400, "Malformed:route"),
+    "route=A1": (400, "Malformed:chainage"),
+    "chainage=1": (400, "Malformed:route"),
+    "route=a&chainage=1": (400, "Malformed:route"),
+    "route=A1&chainage=": (400, "Malformed:chainage"),
+    "route=A1&chainage=-1": (400, "Malformed:chainage"),
+    "route=A1&chainage=2.5": (400, "Malformed:chainage"),
+    "route=A1&chainage=10000000001": (400, "Malformed:chainage"),
+    "link=&route=A1&chainage=1": (400, "Malformed:link"),
+    "link=0&mm=1": (400, "Malformed:link"),
+    "link=1000000&mm=1": (400, "Malformed:link"),
+    "link=1": (400, "Malformed:mm"),
+    "link=1&mm=x&route=A1&chainage=1": (400, "Malformed:mm"),
+    "link=1&mm=1000000001": (400, "Malformed:mm"),
+}
+
+
+@pytest.mark.parametrize("query", NOWHERE)
+def test_a_place_that_is_not_there(places, query):
+    gets(places[0], f"/v1/where?{query}", error(*NOWHERE[query]))
+
+
+def test_a_millimetre_that_no_route_runs_over():
+    with serving(2) as server:
+        server.does("edits", sheet_of("w1,link,4,1000", "w2,route,L1,4:0:400:+,0:0 400:400"), b"w1,done,1\nw2,done,2\n")
+        gets(server, "/v1/where?link=4&mm=400", error(422, "OffRoute"))
+
+
+# ---- the health
+
+
+def test_the_health_counts_accepted_edits():
+    with serving(5) as server:
+        server.does("edits", FIRST, FIRST_REPLIES)
+        gets(server, "/health", reply(200, b'{"edits":7}'))
+        server.does("edits", sheet_of("x1,link,1,7", "x2,link,4,7"), b"x1,refused,LinkKnown\nx2,done,8\n")
+        gets(server, "/health", reply(200, b'{"edits":8}'))
+        gets(server, "/health?edits=x", reply(200, b'{"edits":8}'))
+
+
+def test_behind_a_failed_commit_of_one_command_questions_go_on_and_the_health_does_not(tmp_path):
+    path = tmp_path / "roads.db"
+    make(path)
+    count = 0
+    with started(db=path, **with_files_up_to(400_000)) as server:
+        gets(server, "/health", reply(200, b'{"edits":7}'))
+        while answer(server.port, request("POST /v1/edits", sheet_of(f"k{count},class,C{count},point"))) != reply(503):
+            count += 1
+        for target in ["/health", "/health?x=1"]:
+            gets(server, target, reply(503))
+        classes = answer(server.port, request("GET /v1/classes"))
+        assert classes.startswith(b"HTTP/1.1 200 OK\r\n") and classes.count(b'"class"') == 3 + count, classes[:500]
+        gets(server, "/health", reply(503))
+
+
+def test_behind_a_failed_commit_of_several_commands_nothing_is_told(tmp_path):
+    path = tmp_path / "roads.db"
+    make(path)
+    with started(db=path, **with_files_up_to(400_000)) as server:
+        sheet = sheet_of(*(f"k{n},class,C{n},point" for n in range(1, 10_001)))
+        server.answers(request("POST /v1/edits", sheet), reply(503))
+        for target in ["/health", "/v1/links", "/v1/classes", "/v1/refs", "/v1/rows", "/v1/rows?from=x", "/v1/gone", "/v1/gone?edit=x"]:
+            gets(server, target, reply(503))
+    is_whole(path)

@@ -1,0 +1,73 @@
+"""What `check` says on standard error about each record that would be refused: the cases of advice_cases.txt."""
+
+import pathlib
+import re
+import tempfile
+
+import pytest
+
+from program import HEADER, run, sheet_of
+from stores import edit
+
+SURVEY_HEADER = b"key,asset,class,route,side,method,from,to,value,offset\n"
+CASES = pathlib.Path(__file__).with_name("advice_cases.txt")
+
+
+def bytes_of(text):
+    """The bytes of a text, in which \\n is a line feed and \\r a carriage return."""
+    return text.replace("\\n", "\n").replace("\\r", "\r").encode()
+
+
+def cases():
+    """Each case: its kind, its sheet, the reply or the name of its fault, and the lines of advice."""
+    for block in CASES.read_text().split("\n\n"):
+        lines = [line for line in block.splitlines() if line and not line.startswith("#")]
+        said = [line.partition(": ")[::2] for line in lines if ": " in line or line.endswith(":")]
+        facts = {name: text for name, text in said if name != "advice"}
+        if not facts:
+            continue
+        sheet = bytes_of(facts["sheet"]) if "sheet" in facts else (SURVEY_HEADER if facts["kind"] == "survey" else HEADER) + bytes_of(facts["record"].lstrip()) + b"\n"
+        if "record" in facts and facts["record"].startswith(" "):
+            sheet = HEADER + bytes_of(facts["record"]) + b"\n"
+        replies = bytes_of(facts["replies"]) if "replies" in facts else (facts["reply"] + "\n").encode() if "reply" in facts else b""
+        yield facts["kind"], sheet, replies, facts.get("fault"), [text for name, text in said if name == "advice"]
+
+
+@pytest.fixture(scope="module")
+def db():
+    with tempfile.TemporaryDirectory() as folder:
+        path = pathlib.Path(folder) / "roads.db"
+        begun = [line.lstrip("# ") for line in CASES.read_text().splitlines() if re.match(r"#   b\d,", line)]
+        assert len(begun) == 9
+        assert edit(path, sheet_of(*begun)).status == 0
+        yield path
+
+
+@pytest.mark.parametrize("kind, sheet, replies, fault, advice", list(cases()))
+def test_advice(db, kind, sheet, replies, fault, advice):
+    ended = run("check", str(db), "stdin", *(["--survey"] if kind == "survey" else []), given=sheet)
+    said = ended.stderr.decode().splitlines()
+    if fault:
+        assert (ended.stdout, ended.status, said) == (replies, 3, [*advice, f"roadlrs: fault {fault}"]), ended
+        return
+    count = replies.count(b"\n")
+    summary = f"{count} record{'' if count == 1 else 's'}: 0 would be done, 0 again, {count} refused"
+    assert (ended.stdout, ended.status, said) == (replies, 1, [*advice, summary]), ended
+
+
+def test_there_are_cases():
+    assert len(list(cases())) > 75
+
+
+def test_a_sheet_that_would_be_done_has_a_summary(db):
+    ended = run("check", str(db), "stdin", given=sheet_of("n1,link,77,5", "b8,link,3,1000"))
+    assert (ended.stdout, ended.status, ended.stderr) == (b"n1,done,10\nb8,again,8\n", 0, b"2 records: 1 would be done, 1 again, 0 refused\n"), ended
+
+
+def test_all_says_what_keeps_a_sheet_from_being_done(db):
+    """Records that are passed over are counted: the line is that of the sheet."""
+    sheet = sheet_of("b8,link,3,1000", "n1,link,77,5", "n2,close,A9")
+    ended = run("edit", str(db), "stdin", "--all", "--resume", given=sheet)
+    advice = b"line 4, key n2: column C (a, the route): no route has this name: mend it, or put the record that makes the route before this one\n"
+    said = b"resumes behind record 1, key b8\n" + advice + b"2 records: 1 would be done, 0 again, 1 refused\n"
+    assert (ended.stdout, ended.status, ended.stderr) == (b"", 1, said), ended
