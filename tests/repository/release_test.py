@@ -5,6 +5,7 @@ import lzma
 import os
 import pathlib
 import re
+import resource
 import shutil
 import subprocess
 import tempfile
@@ -102,9 +103,11 @@ def test_a_fresh_clone_answers_within_seconds(clone):
     sheet, replies = first_sheet()
     (clone / "first.csv").write_text(sheet)
     command = ["./roadlrs", "edit", ":memory:", "first.csv"]
-    started = time.monotonic()
+    before = resource.getrusage(resource.RUSAGE_CHILDREN)
     done = subprocess.run(command, cwd=clone, env={"PATH": OTHER_COMMANDS}, capture_output=True, timeout=PATIENCE)
-    assert time.monotonic() - started < 5
+    after = resource.getrusage(resource.RUSAGE_CHILDREN)
+    # seconds of a processor: how long a crowded machine keeps it waiting says nothing of the clone
+    assert after.ru_utime + after.ru_stime - before.ru_utime - before.ru_stime < 5
     assert (done.stdout, done.stderr, done.returncode) == (replies.encode(), b"", 1)
 
 
